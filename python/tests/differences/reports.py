@@ -21,7 +21,7 @@ EXAMPLE = ROOT / "examples/two-maps"
 LEAFLET = Path("/usr/share/javascript/leaflet")
 KINDS = ("in the first alone", "in the second alone", "changed")
 
-WORDS_HEADING = re.compile(rf"(chain|landmark|polygon|feature name)s ({'|'.join(KINDS)}): ([\d,]+)")
+WORDS_HEADING = re.compile(rf"(?m)^(chain|landmark|polygon|feature name)s ({'|'.join(KINDS)}): ([\d,]+)$")
 DEGREES = re.compile(r"(\d+)\.(\d{6})° ([NS]), (\d+)\.(\d{6})° ([WE])")
 PROGRESS = re.compile(r"tigercanon-tools: (normalising|reading|comparing|finding|writing) .*\n")
 
@@ -47,26 +47,13 @@ def sets_of(first: bytes, second: bytes) -> Sets:
 def told_in_words(text: str) -> set[Difference]:
     """The differences in a printed report. It has only the ends of a chain."""
     found = set()
-    heading: tuple[str, str] = ("", "")
-    place: Place = ()
-    fields: list[str] = []
-
-    def add() -> None:
-        if place:
-            found.add(Difference(*heading, place, frozenset(fields)))
-
-    for line in text.splitlines():
-        opened = WORDS_HEADING.fullmatch(line)
-        if opened or re.match(r" {2}\S", line):
-            add()
-            place, fields = (), []
-        if opened:
-            heading = (opened[1], opened[2])
-        elif re.match(r" {2}\S", line):
-            place = tuple(map(point_of_words, DEGREES.findall(line)))
-        elif re.match(r" {6}\S", line):
-            fields.append(re.split(r" {2,}", line.strip())[0])
-    add()
+    _, *sections = re.split(WORDS_HEADING, text)
+    for what, kind, listed in zip(sections[::4], sections[1::4], sections[3::4]):
+        for title, table in re.findall(r"(?m)^ {2}(\S.*)\n?((?: {6}.*\n?)*)", listed):
+            place = tuple(map(point_of_words, DEGREES.findall(title)))
+            if place:
+                fields = re.findall(r"(?m)^ {6}(\S.*?)(?: {2}|$)", table)
+                found.add(Difference(what, kind, place, frozenset(fields)))
     return found
 
 

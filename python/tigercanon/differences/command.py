@@ -21,7 +21,7 @@ from .numbers import own_numbers
 from .outputs import new_files
 from .page import find_leaflet, write_page
 from .reading import NotCanonical, read_county
-from .sets import Program, Sets, is_of_a_set, opened
+from .sets import Canonical, Sets, is_of_a_set, opened, printed
 from .things import KINDS, SUBJECTS
 from .words import told
 
@@ -44,29 +44,15 @@ class Progress:
 
     def __init__(self) -> None:
         self.step = ""
-        self.is_late = False
-        self.lock = threading.Lock()
-        self.timer = threading.Timer(PATIENCE, self.begin)
+        self.timer = threading.Timer(PATIENCE, self.report)
         self.timer.daemon = True
-
-    def __enter__(self) -> Progress:
         self.timer.start()
-        return self
-
-    def __exit__(self, *_: object) -> None:
-        self.timer.cancel()
-
-    def begin(self) -> None:
-        with self.lock:
-            self.is_late = True
-            self.report()
 
     def at(self, step: str) -> None:
         """Notes what is done next."""
-        with self.lock:
-            self.step = step
-            if self.is_late:
-                self.report()
+        self.step = step
+        if self.timer.finished.is_set():
+            self.report()
 
     def report(self) -> None:
         if self.step:
@@ -117,14 +103,15 @@ def check_options(options: argparse.Namespace) -> None:
 def compared(options: argparse.Namespace) -> int:
     """Compares the sets and writes what was asked for."""
     leaflet = find_leaflet(options.leaflet) if options.page is not None else None
-    program = Program(find_program(options.program))
+    program, masks = find_program(options.program), flags_of(options)
     with contextlib.ExitStack() as stack:
-        progress = stack.enter_context(Progress())
+        progress = Progress()
+        stack.callback(progress.timer.cancel)
         page, geojson = stack.enter_context(new_files([options.page, options.geojson]))
-        names = (options.first, options.second)
-        sources = [stack.enter_context(opened(name, options.stem)) for name in names]
+        sources = [stack.enter_context(opened(name, options.stem)) for name in (options.first, options.second)]
         progress.at("normalising both sets")
-        sets = program.normalised(sources, flags_of(options))
+        texts = printed(program, ("normalise", *masks), sources)
+        sets = Sets(Canonical(options.first, texts[0]), Canonical(options.second, texts[1]), masks)
         progress.at("reading the canonical texts")
         first, second = read_county(sets.first.text), read_county(sets.second.text)
         progress.at(f"comparing {len(first.chains):,} chains with {len(second.chains):,}")
@@ -132,8 +119,8 @@ def compared(options: argparse.Namespace) -> int:
         numbers: BothOwn = ()
         if geojson or options.json:
             progress.at("finding the sets' own numbers")
-            texts = zip(program.respelled(sources), (first, second))
-            numbers = [own_numbers(read_county(text), county, sets.masks) for text, county in texts]
+            texts = printed(program, ["respell"], sources)
+            numbers = [own_numbers(read_county(text), county, masks) for text, county in zip(texts, (first, second))]
         if page and leaflet:
             progress.at("writing the page")
             write_page(page, comparison, sets, leaflet)

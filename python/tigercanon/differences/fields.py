@@ -182,11 +182,6 @@ def rows(first: Fields | None, second: Fields | None) -> list[Row]:
     return table
 
 
-def fields_of(tell: Callable[[T], Fields], thing: T | None) -> Fields | None:
-    """The fields of a thing, if there is one."""
-    return None if thing is None else tell(thing)
-
-
 def differ(one: Text | None, other: Text | None) -> bool:
     """Whether a field says something else in the two maps. One that isn't there says as little as a blank one."""
     return mark_of(one) != mark_of(other)

@@ -133,7 +133,8 @@ def read_county(text: bytes) -> County:
     """The county of a canonical text, or of respelled records."""
     records = records_of(text)
     names = {line[10:18]: Name(line[10:18], NAME.content(line)) for line in records["5"]}
-    polygons = {polygon.key: polygon for polygon in map(read_polygon, records["P"])}
+    keys = {PolygonKey(line[10:15], line[15:25]): line for line in records["P"]}
+    polygons = {key: Polygon(key, POLYGON.content(line)) for key, line in keys.items()}
     landmarks = read_landmarks(records)
     try:
         chains = read_chains(records)
@@ -212,11 +213,6 @@ def without_unused(places: str) -> str:
     while places.endswith(UNUSED_PLACE):
         places = places[:-POINT_WIDTH]
     return places
-
-
-def read_polygon(line: str) -> Polygon:
-    """The polygon of a record of type P."""
-    return Polygon(PolygonKey(line[10:15], line[15:25]), POLYGON.content(line))
 
 
 def read_landmarks(records: Records) -> list[Landmark]:

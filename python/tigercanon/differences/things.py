@@ -11,7 +11,6 @@ from .fields import (
     Row,
     chain_title,
     degrees,
-    fields_of,
     landmark_points,
     landmark_rows,
     landmark_title,
@@ -85,7 +84,7 @@ class ChainThing(Thing):
     @property
     def rows(self) -> list[Row]:
         first, second = self.comparison.first, self.comparison.second
-        return rows(fields_of(first.chain, self.one), fields_of(second.chain, self.other))
+        return rows(self.one and first.chain(self.one), self.other and second.chain(self.other))
 
 
 class LandmarkThing(Thing):
@@ -132,7 +131,7 @@ class PolygonThing(Thing):
 
     @property
     def rows(self) -> list[Row]:
-        return rows(fields_of(polygon_fields, self.one), fields_of(polygon_fields, self.other))
+        return rows(self.one and polygon_fields(self.one), self.other and polygon_fields(self.other))
 
 
 class NameThing(Thing):
