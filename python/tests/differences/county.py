@@ -296,10 +296,8 @@ def written(county: County, seed: int | None = None) -> bytes:
 def lines(county: County, hand: Hand) -> Iterator[str]:
     """The records, type by type."""
     most = 9 * len(county.chains) + 99
-    tlids = hand.numbers(len(county.chains), most)
-    feats = hand.numbers(len(county.names), most)
-    lands = hand.numbers(len(county.landmarks), most)
-    polyids = hand.numbers(len(county.polygons), most)
+    numbered: list[list[Any]] = [county.chains, county.names, county.landmarks, county.polygons]
+    tlids, feats, lands, polyids = (hand.numbers(len(things), most) for things in numbered)
     nodes = sorted({node for chain in county.chains for node in (chain.start, chain.end) if node is not None})
     node_numbers: dict[int | None, Any] = {None: "", **dict(zip(nodes, hand.numbers(len(nodes), most)))}
 

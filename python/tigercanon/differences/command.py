@@ -8,7 +8,7 @@ import gc
 import json
 import os
 import threading
-from typing import Any, Iterator
+from typing import Any
 
 from ..errors import Failure
 from ..manifest import flags_of
@@ -110,8 +110,8 @@ def compared(options: argparse.Namespace) -> int:
         page, geojson = stack.enter_context(new_files([options.page, options.geojson]))
         sources = [stack.enter_context(opened(name, options.stem)) for name in (options.first, options.second)]
         progress.at("normalising both sets")
-        texts = printed(program, ("normalise", *masks), sources)
-        sets = Sets(Canonical(options.first, texts[0]), Canonical(options.second, texts[1]), masks)
+        one, other = printed(program, ("normalise", *masks), sources)
+        sets = Sets(Canonical(options.first, one), Canonical(options.second, other), masks)
         progress.at("reading the canonical texts")
         first, second = read_county(sets.first.text), read_county(sets.second.text)
         progress.at(f"comparing {len(first.chains):,} chains with {len(second.chains):,}")
@@ -119,24 +119,21 @@ def compared(options: argparse.Namespace) -> int:
         numbers: BothOwn = ()
         if geojson or options.json:
             progress.at("finding the sets' own numbers")
-            texts = printed(program, ["respell"], sources)
-            numbers = [own_numbers(read_county(text), county, masks) for text, county in zip(texts, (first, second))]
+            texts = zip(printed(program, ["respell"], sources), (first, second))
+            numbers = [own_numbers(read_county(text), county, masks) for text, county in texts]
         if page and leaflet:
             progress.at("writing the page")
             write_page(page, comparison, sets, leaflet)
         if geojson and numbers:
             progress.at("writing GeoJSON")
             write_geojson(geojson, comparison, sets, numbers, options.all)
-    if options.json and numbers:
-        print_lines(as_json(comparison, sets, numbers))
-    else:
-        print_lines(told(comparison, sets, options.summary))
+    print_lines(as_json(comparison, sets, numbers) if options.json else told(comparison, sets, options.summary))
     return int(not sets.are_one_map)
 
 
-def as_json(comparison: Comparison, sets: Sets, own: BothOwn) -> Iterator[str]:
+def as_json(comparison: Comparison, sets: Sets, own: BothOwn) -> list[str]:
     """The counts and the differences, as one JSON object."""
     answer: dict[str, Any] = head(comparison, sets)
     answer["counts"] = {f"{subject.what}s": dict(zip(KINDS, part.counts)) for subject, part in zip(SUBJECTS, comparison.parts)}
     answer["differences"] = [feature.properties for feature in features(comparison, own)]
-    yield json.dumps(answer, ensure_ascii=False, indent=1)
+    return [json.dumps(answer, ensure_ascii=False, indent=1)]
