@@ -63,10 +63,8 @@ def main(library: Path, program: Path, is_quick: bool) -> int:
         in_c.run_all(tests)
         run_pytest(tests)
         in_guide.run_all(tests)
-        if is_quick:
-            pass
-        elif not program.exists():
-            tests.skip(f"there is no program to compare with: {program}")
-        else:
+        if not is_quick and program.exists():
             large.run_all(tests)
+        elif not is_quick:
+            tests.skip(f"there is no program to compare with: {program}")
         return tests.close()
