@@ -1,14 +1,12 @@
 """The crates of the repository as crates.txt has them, and what the libraries were proved from that scripts/prove left."""
 
-from __future__ import annotations
-
 import functools
 import hashlib
 import os
 import re
 import shutil
 from pathlib import Path
-from typing import Dict, List, Optional, Set
+from typing import Optional
 
 ROOT = Path(__file__).resolve().parent.parent
 PARTS = ("src", "specs", "proofs")
@@ -23,7 +21,7 @@ def is_program(crate: str) -> bool:
 
 
 @functools.lru_cache(maxsize=None)
-def sources_of(crate: str) -> List[os.stat_result]:
+def sources_of(crate: str) -> list[os.stat_result]:
     """What the system reports of each of a crate's sources, and of their folders."""
     parts = (folder_of(crate) / part for part in PARTS)
     return [file.stat() for part in parts if part.is_dir() for file in (part, *part.rglob("*")) if file.exists()]
@@ -41,15 +39,15 @@ class Crates:
 
     def __init__(self, text: str) -> None:
         rows = filter(None, (line.partition("#")[0].strip() for line in text.splitlines()))
-        self.rows: Dict[str, str] = {re.split(r"[\s:]", row)[0]: row for row in rows}
+        self.rows: dict[str, str] = {re.split(r"[\s:]", row)[0]: row for row in rows}
         words = {name: re.split(r"[\s,]+", row.partition(":")[2].strip()) for name, row in self.rows.items()}
         self.named = {name: self.rows.keys() & set(named) for name, named in words.items()}
         self.of_kit = {name: [it for it in named if it and it not in self.rows] for name, named in words.items()}
         self.statics = {name for name, row in self.rows.items() if re.match(r"\S+\s+staticlib\b", row)}
 
-    def below(self, crate: str) -> Set[str]:
+    def below(self, crate: str) -> set[str]:
         """All crates that this one depends on."""
-        found: Set[str] = set()
+        found: set[str] = set()
         left = [*self.named[crate]]
         while left:
             it = left.pop()
@@ -72,10 +70,10 @@ class Crates:
                 return f"there is no folder crates/{it}/src"
         return ""
 
-    def by_urgency(self, crates: Set[str]) -> List[str]:
+    def by_urgency(self, crates: set[str]) -> list[str]:
         """These crates, those first that have most to be proved one after the other, from them up. How long that takes is taken to go with
         the bytes of their sources."""
-        ways: Dict[str, int] = {}
+        ways: dict[str, int] = {}
         for crate in sorted(crates, key=lambda it: -len(self.below(it))):
             above = (ways[it] for it in crates if crate in self.named[it])
             ways[crate] = sum(it.st_size for it in sources_of(crate)) + max(above, default=0)
@@ -126,7 +124,7 @@ class Notes:
         if proved_from == self.proved_from(crate):
             self.note(crate).write_text(proved_from)
 
-    def libraries(self) -> List[str]:
+    def libraries(self) -> list[str]:
         return [it for it in self.crates.rows if self.crates.makes_library(it)]
 
     def remove_stale(self) -> None:
@@ -135,11 +133,11 @@ class Notes:
             if not self.is_of_rt(it) and not self.is_current(it):
                 shutil.rmtree(self.library(it).parent, ignore_errors=True)
 
-    def lacking(self) -> Dict[str, str]:
+    def lacking(self) -> dict[str, str]:
         """The libraries that aren't there, with what each would be proved from now."""
         return {it: self.proved_from(it) for it in self.libraries() if not self.library(it).parent.exists()}
 
-    def write_for_built(self, proved_from: Dict[str, str]) -> None:
+    def write_for_built(self, proved_from: dict[str, str]) -> None:
         """Notes what these libraries were proved from, of those that were built meanwhile."""
         for it, was in proved_from.items():
             if self.library(it).exists() and not self.is_of_rt(it):

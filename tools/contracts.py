@@ -16,6 +16,8 @@ SIGN = re.compile(r"[^\w\s(){}\[\].,;:λ◌]+")
 # What a type makes of a ghost member of a trait, as a clause quotes it.
 QUOTED = re.compile(r"⟦<(\w+)[^⟧]*? as (\w+)>⟧\.(\w+)")
 TEXT_IN_QUOTES = re.compile(r"\"(?:\\.|[^\"\\])*\"")
+# Comments and quoted texts.
+COMMENT_OR_TEXT = re.compile(r"//[^\n]*|b?\"(?:\\[\s\S]|[^\"\\])*\"|'(?:\\[^']+|[^'\\\n])'")
 DEFINITION = re.compile(
     r"^(?:(?:  )?(?:abbrev|unfoldable)\s+(?:pub\s+)?|pub\s+(?:record\s+|data\s+)?|(?:record|data)\s+)"
     r"(?!mod\s)(◌[^\s:]+◌|[^\W\d][\w-]*)(?=\s)"
@@ -91,10 +93,14 @@ def end_of_block(text, at):
     return len(text)
 
 
+def blank(text):
+    """Blanks in place of a text, each line as long as it is."""
+    return re.sub(r"[^\n]", " ", text)
+
+
 def blanked(text):
     """The text with blanks in place of comments and quoted texts."""
-    quoted = r"//[^\n]*|\"(?:\\[\s\S]|[^\"\\])*\"|'(?:\\[^']+|[^'\\\n])'"
-    return re.sub(quoted, lambda match: re.sub(r"[^\n]", " ", match.group()), text)
+    return COMMENT_OR_TEXT.sub(lambda found: blank(found[0]), text)
 
 
 class Block:
@@ -102,9 +108,6 @@ class Block:
 
     def __init__(self, owner, kind, trait=None):
         self.owner, self.kind, self.trait = owner, kind, trait
-
-    def is_of_trait(self):
-        return self.kind == "trait" or self.trait is not None
 
 
 class CodeFile:
@@ -179,7 +182,7 @@ class CodeFile:
         if block is None:
             item.is_public |= is_open and name in self.exported
         else:
-            item.of_trait = block.is_of_trait()
+            item.of_trait = block.kind == "trait" or block.trait is not None
             is_open |= block.kind == "trait" or (block.trait is not None and bool(clauses))
             item.is_public |= is_open and block.owner in self.exported
         return end
@@ -271,9 +274,6 @@ class Sources:
         for path in paths:
             file = CodeFile(self, crate, path, exported)
             file.scan(0, len(file.text))
-
-    def public_items(self):
-        return [item for _, item in sorted(self.items.items()) if item.is_public]
 
     def cited(self, text, scope, word=None):
         """What a text cites in this scope. If it is the text of a word, it can also cite the words of that file."""

@@ -6,13 +6,11 @@ In each the chains are a street from west to east, so that their points put them
 pieces of many lines at a time, which is as fast as Python gets.
 """
 
-from __future__ import annotations
-
 import math
 from itertools import chain as joined
 from itertools import islice
 from pathlib import Path
-from typing import Callable, Dict, Iterable, Iterator, List, NamedTuple, Sequence, Tuple
+from typing import Callable, Iterable, Iterator, NamedTuple, Sequence
 
 from testing import LENGTHS
 
@@ -32,7 +30,7 @@ def masked(text: bytes, flags: Sequence[str]) -> bytes:
     return text.translate(bytes.maketrans(b"".join(MASKS[flag] for flag in flags), b" " * len(flags)))
 
 
-def laid_out(rtype: str, fields: Dict[int, bytes], is_cut: bool = False) -> bytes:
+def laid_out(rtype: str, fields: dict[int, bytes], is_cut: bool = False) -> bytes:
     """A line with these contents at their columns, in which numbers are left open; its trailing blanks may be cut."""
     line, column = rtype.encode() + b"2006", 6
     for first, content in sorted(fields.items()):
@@ -63,7 +61,7 @@ POLYID, NODE = numbering(3_267_000_013, 9_999_999_967), numbering(1_500_450_271,
 FEAT = numbering(61_803_399, 99_999_989)
 
 
-def strewn(count: int) -> List[int]:
+def strewn(count: int) -> list[int]:
     """The numbers below this one in another order."""
     step = next(step for step in range(count * 5 // 8, 2 * count + 2) if math.gcd(step, count) == 1)
     return [place * step % count for place in range(count)]
@@ -113,7 +111,7 @@ def chain_line(name: bytes = b"Main") -> bytes:
     return laid_out("1", {6: b"%10d", 17: SOURCE, 20: name, 56: b"A41", 129: RESERVED * 2, 191: points})
 
 
-def halves(count: int) -> Sequence[List[int]]:
+def halves(count: int) -> Sequence[list[int]]:
     """The chains that run as they do in the canonical text, and those that are turned, in another order."""
     places = strewn(count)
     return [place for place in places if place % 2 == 0], [place for place in places if place % 2 == 1]
@@ -134,12 +132,12 @@ def crowded() -> County:
     return County(crowded_text, crowded_otherwise)
 
 
-def long_points() -> List[int]:
+def long_points() -> list[int]:
     """Longitudes and latitudes of the long chain's shape points, one after the other."""
     return list(joined.from_iterable((WEST + STEP * LONG + place % 5, 32_300_000 + place) for place in range(POINTS)))
 
 
-def long_names() -> List[int]:
+def long_names() -> list[int]:
     """The places of the long chain's further names; some come twice."""
     return [place * 37 % NAMES for place in range(FURTHER_NAMES)]
 
@@ -184,7 +182,7 @@ def crowded_otherwise() -> Pieces:
     kept, turned = halves(CHAINS)
     yield from lines(polygon_line(), cenids(polygons), map(POLYID, polygons), longitudes(polygons))
     yield from lines(link_line(), *ends(kept), *sides(kept, 0), *sides(kept, 1))
-    yield from lines(link_line(), *reversed_ends(turned), *sides(turned, 1), *sides(turned, 0))
+    yield from lines(link_line(), *ends(turned, is_turned=True), *sides(turned, 1), *sides(turned, 0))
     places, contents = laid_out("8", {6: FILE, 11: b"%05X%10d%10d"}, is_cut=True), strewn(CONTENTS)
     yield from lines(places, cenids(contents), map(POLYID, contents), [LAND(0)] * CONTENTS)
     yield from lines(places, cenids(lands), map(POLYID, lands), map(LAND, following(lands)))
@@ -224,21 +222,18 @@ def shared(tlid: int, count: int, first: int = 1) -> Sequence[Iterable[int]]:
     return [tlid] * count, range(first, first + count)
 
 
-def dealt(items: List[int], size: int) -> Sequence[List[int]]:
+def dealt(items: list[int], size: int) -> Sequence[list[int]]:
     """The columns of records with this many items each."""
     return [items[place::size] for place in range(size)]
 
 
-def ends(places: List[int]) -> Sequence[Iterator[int]]:
+def ends(places: list[int], is_turned: bool = False) -> Sequence[Iterator[int]]:
     """The TLID and the nodes of chains, in other numbers."""
-    return map(TLID, places), map(NODE, places), map(NODE, following(places))
+    nodes = [map(NODE, places), map(NODE, following(places))]
+    return [map(TLID, places), *(nodes[::-1] if is_turned else nodes)]
 
 
-def reversed_ends(places: List[int]) -> Sequence[Iterator[int]]:
-    return map(TLID, places), map(NODE, following(places)), map(NODE, places)
-
-
-def sides(places: List[int], side: int) -> Sequence[Iterator[int]]:
+def sides(places: list[int], side: int) -> Sequence[Iterator[int]]:
     """The CENID and the POLYID on a side of chains, 0 for the left, in other numbers."""
     return cenids(2 * place + side for place in places), (POLYID(2 * place + side) for place in places)
 
@@ -274,7 +269,7 @@ def twins(count: int = 2_000) -> County:
     return County(lambda: twins_text(placed), lambda: twins_otherwise(placed))
 
 
-def twins_text(placed: List[Tuple[int, bytes, int]]) -> Pieces:
+def twins_text(placed: list[tuple[int, bytes, int]]) -> Pieces:
     for tlid, (place, name, _) in enumerate(placed, 1):
         yield chain_line(name) % (tlid, *longitudes((place, place + 1)))
     for tlid, (place, _, twin) in enumerate(placed, 1):
@@ -285,7 +280,7 @@ def twins_text(placed: List[Tuple[int, bytes, int]]) -> Pieces:
         yield laid_out("I", {6: FILE, 11: b"%10d%10d%10d", 71: SOURCE, 98: RESERVED}) % (tlid, place + 1, place + 2)
 
 
-def twins_otherwise(placed: List[Tuple[int, bytes, int]]) -> Pieces:
+def twins_otherwise(placed: list[tuple[int, bytes, int]]) -> Pieces:
     for number in strewn(len(placed)):
         place, name, twin = placed[number]
         start, end = (place, place + 1) if number % 2 else (place + 1, place)

@@ -1,7 +1,5 @@
 """What the measurements share: what a process takes, and runs that follow each other in turn."""
 
-from __future__ import annotations
-
 import os
 import re
 import subprocess
@@ -9,7 +7,7 @@ import sys
 import tempfile
 import time
 from pathlib import Path
-from typing import Callable, Dict, List, NamedTuple, Sequence, Tuple
+from typing import Callable, NamedTuple, Sequence
 
 from testing import Answer, make_county
 
@@ -51,16 +49,16 @@ def must_spend(words: Sequence[object], **how: object) -> Spent:
     return spent
 
 
-def in_turn(runs: int, ways: Dict[str, Callable[[], Spent]]) -> Dict[str, List[Spent]]:
+def in_turn(runs: int, ways: dict[str, Callable[[], Spent]]) -> dict[str, list[Spent]]:
     """Runs each way `runs` times. The ways alternate, so that other work of the machine is shared out."""
-    found: Dict[str, List[Spent]] = {way: [] for way in ways}
+    found: dict[str, list[Spent]] = {way: [] for way in ways}
     for _ in range(runs):
         for way, run in ways.items():
             found[way].append(run())
     return found
 
 
-def two_spellings(room: str, count: int) -> Tuple[str, str]:
+def two_spellings(room: str, count: int) -> tuple[str, str]:
     """A county of `count` chains, and a file that describes the same map in other numbers, directions and order."""
     county, other = f"{room}/county.txt", f"{room}/other.txt"
     make_county(count, county)

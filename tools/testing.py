@@ -1,15 +1,12 @@
 """What the tests in .ci/ and scripts/ and the checks in tools/ share: a count of what passed, runs of programs, and scripts as modules."""
 
-from __future__ import annotations
-
 import hashlib
-import importlib.machinery
-import importlib.util
 import subprocess
 import threading
+from importlib.machinery import SourceFileLoader
 from pathlib import Path
 from types import ModuleType
-from typing import NamedTuple, Sequence
+from typing import Any, NamedTuple, Sequence
 
 ROOT = Path(__file__).resolve().parent.parent
 PROGRAM = ROOT / "crates/tigercanon_main/out/tigercanon_main"
@@ -88,6 +85,14 @@ def make_county(*words: object) -> bytes:
     return made.stdout
 
 
+def files_of(root: Path) -> set[str]:
+    """The files of a repository; without git all that are there."""
+    done = run(["git", "ls-files", "--cached", "--others", "--exclude-standard"], cwd=root)
+    if done.status == 0:
+        return set(done.out.decode().splitlines())
+    return {str(path.relative_to(root)) for path in root.rglob("*") if path.is_file()}
+
+
 def sources_line(root: Path) -> str:
     """The line with which the launcher compares the sources of a tree."""
     files = [root / "crates.txt", root / "HANDLES"]
@@ -97,9 +102,10 @@ def sources_line(root: Path) -> str:
     return f"{hashlib.sha256(''.join(lines).encode()).hexdigest()}  -"
 
 
-def script(path: str) -> ModuleType:
+def script(path: str) -> Any:
     """A script of this repository as a module."""
-    loader = importlib.machinery.SourceFileLoader(Path(path).name.replace("-", "_"), str(ROOT / path))
-    module = importlib.util.module_from_spec(importlib.util.spec_from_loader(loader.name, loader))
+    loader = SourceFileLoader(Path(path).name.replace("-", "_"), str(ROOT / path))
+    module = ModuleType(loader.name)
+    module.__file__ = loader.path
     loader.exec_module(module)
     return module

@@ -9,13 +9,10 @@ from typing import Iterator
 import pytest
 
 HERE = Path(__file__).resolve().parent
-sys.path[:0] = [str(HERE.parent), str(HERE)]
+sys.path[:0] = [str(HERE.parent), str(HERE), str(HERE.parent.parent / "tools")]
 sys.dont_write_bytecode = True
 
-from support import STAND_IN, built_program  # noqa: E402
-
-
-PROGRAM = built_program()
+from support import PROGRAM, STAND_IN  # noqa: E402
 
 
 @pytest.fixture

@@ -4,9 +4,10 @@ from __future__ import annotations
 
 import zipfile
 from pathlib import Path
-from typing import Callable, NamedTuple
+from typing import NamedTuple
 
-from support import ROOT, TYPES
+from support import put
+from testing import ROOT, TYPES
 
 EXAMPLES = ROOT / "examples"
 
@@ -86,24 +87,19 @@ def counties(count: int = COUNTIES) -> list[Made]:
     return made
 
 
-def put_files(room: Path, county: Made, ending: Callable[[str], str] = ".RT{}".format) -> None:
+def put_files(room: Path, county: Made) -> None:
     """A county as single files."""
     for kind, text in county.parts.items():
-        path = room / (county.stem + ending(kind))
-        path.parent.mkdir(parents=True, exist_ok=True)
-        path.write_bytes(text)
+        put(room / f"{county.stem}.RT{kind}", text)
 
 
-def put_zip(room: Path, county: Made, is_small: bool = False) -> Path:
+def put_zip(room: Path, county: Made, is_small: bool) -> None:
     """A county as a zip, in which other types lie too; with all names in lower case, or in capitals."""
-    path = room / f"{county.stem}{'.zip' if is_small else '.ZIP'}"
-    path.parent.mkdir(parents=True, exist_ok=True)
-    name = Path(county.stem).name
-    members = {f"{name}.RT{kind}": text for kind, text in [*county.parts.items(), ("A", b"A2006\r\n"), ("Z", b"Z2006\r\n")]}
+    path = put(room / f"{county.stem}{'.zip' if is_small else '.ZIP'}")
     with zipfile.ZipFile(path, "w", zipfile.ZIP_DEFLATED) as packed:
-        for member, text in members.items():
+        for kind, text in {**county.parts, "A": b"A2006\r\n", "Z": b"Z2006\r\n"}.items():
+            member = f"{Path(county.stem).name}.RT{kind}"
             packed.writestr(member.lower() if is_small else member, text)
-    return path
 
 
 def put_archive(room: Path, made: list[Made]) -> None:
@@ -112,8 +108,3 @@ def put_archive(room: Path, made: list[Made]) -> None:
             put_zip(room, county, number % 2 == 1)
         else:
             put_files(room, county)
-
-
-def put_unpacked(room: Path, made: list[Made]) -> None:
-    for county in made:
-        put_files(room, county)

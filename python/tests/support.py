@@ -5,21 +5,27 @@ from __future__ import annotations
 import ctypes
 import hashlib
 import os
+import resource
 import shutil
 import signal
 import subprocess
 import sys
 import tempfile
 import time
-from importlib.machinery import SourceFileLoader
-from importlib.util import module_from_spec, spec_from_loader
+from contextlib import suppress
 from pathlib import Path
 from typing import Any, Callable, Iterator, NamedTuple
 
-PACKAGE = Path(__file__).resolve().parent.parent
-ROOT = PACKAGE.parent
-TYPES = "1245678IP"
+from testing import PROGRAM as BUILT
+from testing import ROOT, TYPES
+
+PACKAGE = ROOT / "python"
+NAMED = os.path.abspath(os.environ.get("TIGERCANON") or BUILT)
+PROGRAM = NAMED if os.access(NAMED, os.X_OK) else None
+"""The program that TIGERCANON names, or that was built last."""
+
 NAME = "tigercanon-tools: "
+HEAD = "# tigercanon form 1\n"
 PATIENCE = 300.0
 """No call takes longer than this many seconds."""
 
@@ -53,25 +59,14 @@ esac
 """
 
 
-def script(place: str) -> Any:
-    """A script of the repository as a module."""
-    loader = SourceFileLoader(Path(place).name.replace("-", "_"), str(ROOT / place))
-    spec = spec_from_loader(loader.name, loader)
-    assert spec
-    module = module_from_spec(spec)
-    loader.exec_module(module)
-    return module
-
-
 def digest(text: bytes, flags: str = "") -> str:
     """The fingerprint that the stand-in prints."""
     return hashlib.sha256((f"{flags} " if flags else "").encode() + text).hexdigest()
 
 
-def built_program() -> str | None:
-    """The program that TIGERCANON names, or that was built last."""
-    named = os.environ.get("TIGERCANON") or str(ROOT / "crates/tigercanon_main/out/tigercanon_main")
-    return os.path.abspath(named) if os.access(named, os.X_OK) else None
+def line(name: str, text: bytes) -> str:
+    """The line of a manifest that the stand-in leads to."""
+    return f"{digest(text)}  {name}\n"
 
 
 class Ended(NamedTuple):
@@ -98,6 +93,11 @@ def die_with_the_test() -> None:
     ctypes.CDLL(None).prctl(PR_SET_PDEATHSIG, signal.SIGKILL)
 
 
+def limit_files(size: int) -> Callable[[], None]:
+    """Has the process that starts here write at most this many bytes to each file."""
+    return lambda: resource.setrlimit(resource.RLIMIT_FSIZE, (size, size))
+
+
 def environment(**more: str) -> dict[str, str]:
     return {**os.environ, "PYTHONPATH": str(PACKAGE), "PYTHONDONTWRITEBYTECODE": "1", **more}
 
@@ -106,23 +106,16 @@ def words_of(*words: object) -> list[str]:
     return [sys.executable, "-m", "tigercanon", *map(str, words)]
 
 
-def call(*words: object, env: dict[str, str] | None = None, **options: Any) -> Ended:
+def call(*words: object, **options: Any) -> Ended:
     """Calls the tools in the current folder."""
-    options = {"stdout": subprocess.PIPE, "stderr": subprocess.PIPE, "preexec_fn": die_with_the_test, **options}
-    run = subprocess.run(words_of(*words), env=environment(**(env or {})), stdin=subprocess.DEVNULL, timeout=PATIENCE, **options)
-    return ended(run.returncode, run.stdout, run.stderr)
-
-
-def ended(status: int, out: bytes | None, err: bytes | None) -> Ended:
-    return Ended(status, os.fsdecode(out or b""), os.fsdecode(err or b""))
+    return end(begin(*words, **options))
 
 
 def begin(*words: object, env: dict[str, str] | None = None, **options: Any) -> "subprocess.Popen[bytes]":
     """Starts the tools in the current folder."""
-    options = {"stdout": subprocess.PIPE, "stderr": subprocess.PIPE, "preexec_fn": die_with_the_test, **options}
-    return subprocess.Popen(
-        words_of(*words), env=environment(**(env or {})), stdin=subprocess.DEVNULL, start_new_session=True, **options
-    )
+    streams = {"stdin": subprocess.DEVNULL, "stdout": subprocess.PIPE, "stderr": subprocess.PIPE}
+    options = {"start_new_session": True, "preexec_fn": die_with_the_test, **streams, **options}
+    return subprocess.Popen(words_of(*words), env=environment(**(env or {})), **options)
 
 
 def end(run: "subprocess.Popen[bytes]", seconds: float = PATIENCE) -> Ended:
@@ -131,14 +124,12 @@ def end(run: "subprocess.Popen[bytes]", seconds: float = PATIENCE) -> Ended:
         out, err = run.communicate(timeout=seconds)
     finally:
         kill_group(run)
-    return ended(run.returncode, out, err)
+    return Ended(run.returncode, os.fsdecode(out or b""), os.fsdecode(err or b""))
 
 
 def kill_group(run: "subprocess.Popen[bytes]") -> None:
-    try:
+    with suppress(ProcessLookupError):
         os.killpg(run.pid, signal.SIGKILL)
-    except ProcessLookupError:
-        pass
     run.wait()
 
 
@@ -157,8 +148,8 @@ def count_of_lines(name: str) -> int:
     return Path(name).read_bytes().count(b"\n") if os.path.exists(name) else 0
 
 
-def put(name: str, text: bytes = b"") -> Path:
-    """Writes a file in the current folder."""
+def put(name: str | Path, text: bytes = b"") -> Path:
+    """Writes a file, and the folders that it is in."""
     path = Path(name)
     path.parent.mkdir(parents=True, exist_ok=True)
     path.write_bytes(text)
@@ -171,28 +162,16 @@ def complete(stem: str, first: bytes) -> None:
         put(f"{stem}.RT{kind}", first if kind == "1" else b"x\n")
 
 
-def processes_with(word: str) -> list[int]:
-    """The processes with this word in their command lines that haven't ended."""
-    found = []
+def processes() -> Iterator[tuple[int, int, bytes]]:
+    """The processes that haven't ended: the number of each, that of its parent, and its command line."""
     for status in Path("/proc").glob("[0-9]*/stat"):
         try:
-            state = status.read_text().rpartition(")")[2].split()[0]
+            state, parent = status.read_text().rpartition(")")[2].split()[:2]
             command = (status.parent / "cmdline").read_bytes()
         except OSError:
             continue
-        if state != "Z" and word.encode() in command:
-            found.append(int(status.parent.name))
-    return found
-
-
-def children_of(parents: list[int]) -> Iterator[int]:
-    for status in Path("/proc").glob("[0-9]*/stat"):
-        try:
-            words = status.read_text().rpartition(")")[2].split()
-        except OSError:
-            continue
-        if words[0] != "Z" and int(words[1]) in parents:
-            yield int(status.parent.name)
+        if state != "Z":
+            yield int(status.parent.name), int(parent), command
 
 
 def left_behind() -> list[str]:
@@ -204,7 +183,7 @@ def left_behind() -> list[str]:
 class Engine:
     """A Dask scheduler and workers on 127.0.0.1, each a process as a cluster starts it. The package isn't installed on the workers."""
 
-    def __init__(self, room: Path, workers: int = 3, threads: int = 1) -> None:
+    def __init__(self, room: Path, workers: int = 3) -> None:
         self.room = Path(tempfile.mkdtemp(dir=room))
         self.file = self.room / "scheduler.json"
         self.workers: list["subprocess.Popen[bytes]"] = []
@@ -213,10 +192,10 @@ class Engine:
             self.close()
             raise AssertionError("the scheduler doesn't start")
         for _ in range(workers):
-            self.start_worker(threads)
+            self.start_worker()
 
-    def start_worker(self, threads: int = 1) -> None:
-        words = f"--nthreads {threads} --memory-limit 2GB --no-dashboard --local-directory".split()
+    def start_worker(self) -> None:
+        words = "--nthreads 1 --memory-limit 2GB --no-dashboard --local-directory".split()
         self.workers.append(self.begin("worker", *words, str(self.room)))
 
     def begin(self, kind: str, *words: str) -> "subprocess.Popen[bytes]":
@@ -224,15 +203,13 @@ class Engine:
         command = [sys.executable, "-m", module, "--scheduler-file", str(self.file), "--host", "127.0.0.1", *words]
         kept = {key: text for key, text in os.environ.items() if key != "PYTHONPATH"}
         with open(self.room / f"{kind}.log", "ab") as log:
-            streams: dict[str, Any] = {"stdin": subprocess.DEVNULL, "stdout": log, "stderr": log}
-            return subprocess.Popen(
-                command, cwd=self.room, env=kept, start_new_session=True, preexec_fn=die_with_the_test, **streams
-            )
+            how: dict[str, Any] = {"stdin": subprocess.DEVNULL, "stdout": log, "stderr": log, "cwd": self.room, "env": kept}
+            return subprocess.Popen(command, start_new_session=True, preexec_fn=die_with_the_test, **how)
 
     def worker_processes(self) -> list[int]:
         """The processes that run tasks: the children of the workers' nannies."""
         nannies = [worker.pid for worker in self.workers]
-        return [pid for pid in children_of(nannies) if b"spawn_main" in Path(f"/proc/{pid}/cmdline").read_bytes()]
+        return [number for number, parent, command in processes() if parent in nannies and b"spawn_main" in command]
 
     def close(self) -> None:
         for run in (*self.workers, self.scheduler):

@@ -13,8 +13,8 @@ from typing import Iterator, NamedTuple
 
 import made
 import pytest
-from conftest import PROGRAM
-from support import TYPES, Engine, await_that, begin, call, count_of_lines, end, left_behind, put
+from support import PROGRAM, Engine, await_that, begin, call, count_of_lines, end, left_behind, put
+from testing import TYPES
 
 from tigercanon.judge import endings
 
@@ -234,7 +234,5 @@ def test_a_scheduler_without_dask(room: Path, stand_in: Path) -> None:
     put("in/a.RT1", b"x\n")
     path = f"{room}/hidden:{Path(__file__).parent.parent}"
     ended = call("fingerprint", "--scheduler", "a:1", "in", env={"PYTHONPATH": path})
-    assert ended.status == 2
-    assert ended.lines == [
-        "--scheduler needs the Python packages distributed and fsspec (Debian: python3-distributed and python3-fsspec): hidden"
-    ]
+    needed = "distributed and fsspec (Debian: python3-distributed and python3-fsspec)"
+    assert (ended.status, ended.lines) == (2, [f"--scheduler needs the Python packages {needed}: hidden"])

@@ -5,7 +5,8 @@ from __future__ import annotations
 from pathlib import Path
 
 import pytest
-from support import ROOT, call, put
+from support import call, put
+from testing import ROOT
 
 from tigercanon.explain import explained, page, sections
 from tigercanon.hints import hint

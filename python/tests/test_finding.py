@@ -28,12 +28,12 @@ def archive(room: Path) -> Path:
     return room
 
 
-def found(*sources: str, known: str = "") -> list[County]:
-    return Finder().counties(sources, known.split().__contains__)[0]
+def found(*sources: str) -> list[County]:
+    return Finder().counties(sources)[0]
 
 
-def stems(*sources: str, known: str = "") -> list[str]:
-    return sorted(county.stem for county in found(*sources, known=known) if not county.trouble)
+def stems(*sources: str) -> list[str]:
+    return sorted(county.stem for county in found(*sources) if not county.trouble)
 
 
 @pytest.mark.parametrize(

@@ -8,13 +8,8 @@ import subprocess
 from pathlib import Path
 
 import pytest
-from support import TYPES, begin, call, complete, digest, end, left_behind, put, words_of
-
-HEAD = "# tigercanon form 1\n"
-
-
-def line(name: str, text: bytes, flags: str = "") -> str:
-    return f"{digest(text, flags)}  {name}\n"
+from support import HEAD, begin, call, complete, digest, end, left_behind, limit_files, line, put
+from testing import TYPES
 
 
 def calls() -> list[str]:
@@ -41,9 +36,8 @@ def test_a_manifest(four: dict[str, bytes]) -> None:
     complete("in/aa", b"more\n")
     more = call("fingerprint", "-o", "m", "in")
     assert more.lines[0].startswith("5 counties: 4 in the manifest already, 1 new, 0 refused, 0 failed; ")
-    assert Path("m").read_text() == wanted.replace(
-        line("in/b", four["in/b"]), line("in/aa", b"more\n") + line("in/b", four["in/b"])
-    )
+    last = line("in/b", four["in/b"])
+    assert Path("m").read_text() == wanted.replace(last, line("in/aa", b"more\n") + last)
     assert len(calls()) == 5
 
 
@@ -207,20 +201,13 @@ def test_a_name_that_is_no_utf8(room: Path, stand_in: Path) -> None:
     assert call("verify", "m").out == "in/\udcc4 \udce4: OK\n"
 
 
-def limited(*words: object) -> "subprocess.CompletedProcess[bytes]":
-    """Calls the tools with a limit of 1,024 bytes for each file that they write."""
-    shell = ["bash", "-c", 'trap "" XFSZ; ulimit -f 1; exec "$@"', "-"]
-    env = {**os.environ, "PYTHONPATH": str(Path(__file__).parent.parent)}
-    return subprocess.run([*shell, *words_of(*words)], env=env, capture_output=True)
-
-
 @pytest.mark.parametrize("count, added", [(12, 1), (14, 0)])
 def test_a_manifest_that_takes_no_more(four: dict[str, bytes], count: int, added: int) -> None:
     """The run ends with 2, whole lines stay, and the same command goes on."""
     before = HEAD + "".join(f"{number:064}  a/no-{number:02}\n" for number in range(count))
     put("m", before.encode())
-    run = limited("fingerprint", "--jobs", "1", "-o", "m", "in")
-    assert (run.returncode, b"m: can't be written: File too large" in run.stderr) == (2, True)
+    ended = call("fingerprint", "--jobs", "1", "-o", "m", "in", preexec_fn=limit_files(1024))
+    assert (ended.status, "m: can't be written: File too large" in ended.lines) == (2, True)
     lines = Path("m").read_text().splitlines()
     assert lines[: count + 1] == before.splitlines()
     assert len(lines) == count + 1 + added and all(len(text) > 66 for text in lines[1:])
@@ -233,9 +220,9 @@ def test_no_room_for_a_zip(four: dict[str, bytes]) -> None:
     """It is reported, and the others are done."""
     put("in/b.RT1", b"x" * 3000)
     subprocess.run(["zip", "-qmj", "in/b.zip", *sorted(map(str, Path("in").glob("b.RT?")))], check=True)
-    run = limited("fingerprint", "in")
-    assert b"in/b: can't be read or unpacked: File too large\n" in run.stderr
-    assert (run.returncode, len(run.stdout.splitlines()), left_behind()) == (1, 4, [])
+    ended = call("fingerprint", "in", preexec_fn=limit_files(1024))
+    assert ended.reports == {"in/b": "can't be read or unpacked: File too large"}
+    assert (ended.status, len(ended.out.splitlines()), left_behind()) == (1, 4, [])
 
 
 def test_a_reader_that_is_gone(four: dict[str, bytes]) -> None:

@@ -12,10 +12,10 @@ import subprocess
 import sys
 import zipfile
 from pathlib import Path
-from typing import Any, Callable, Iterator, NamedTuple
+from typing import Any, Callable, Iterator
 
 import pytest
-from support import ROOT, TYPES, script
+from testing import ROOT, TYPES, Answer, script
 
 import tigercanon
 from tigercanon import _library
@@ -40,14 +40,6 @@ def loaded() -> Iterator[Path]:
     _library.library.cache_clear()
     yield made
     _library.library.cache_clear()
-
-
-class Answer(NamedTuple):
-    """What the program prints on both streams, and its status."""
-
-    status: int
-    out: bytes
-    err: bytes
 
 
 def answer(words: list[str], files: dict[str, bytes]) -> Answer:

@@ -12,6 +12,7 @@ from support import begin, await_that, call, complete, digest, end, put
 
 A, B, C = ("a" * 64, "b" * 64, "c" * 64)
 HEAD = b"# tigercanon form 1\n"
+OVERWRITTEN = "has the name of a county's file, and isn't overwritten by a manifest"
 
 
 def lines(*pairs: str) -> bytes:
@@ -55,14 +56,8 @@ def test_names_that_are_no_files(room: Path, stand_in: Path, name: str) -> None:
 @pytest.mark.parametrize(
     "words, why",
     [
-        (
-            ["fingerprint", "-o", "in/b.RT1", "in/c"],
-            "in/b.RT1: has the name of a county's file, and isn't overwritten by a manifest",
-        ),
-        (
-            ["fingerprint", "-o", "in/b.zip", "in/c"],
-            "in/b.zip: has the name of a county's file, and isn't overwritten by a manifest",
-        ),
+        (["fingerprint", "-o", "in/b.RT1", "in/c"], f"in/b.RT1: {OVERWRITTEN}"),
+        (["fingerprint", "-o", "in/b.zip", "in/c"], f"in/b.zip: {OVERWRITTEN}"),
         (["fingerprint", "-o", "no/m", "in/c"], "no/m: can't be written: there is no folder {room}/no"),
         (["verify", "nowhere"], "nowhere: No such file or directory"),
         (["verify", "empty"], "empty: the manifest is empty"),

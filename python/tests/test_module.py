@@ -18,7 +18,7 @@ from pathlib import Path
 from typing import Any, Callable, Iterator
 
 import pytest
-from support import ROOT, TYPES
+from testing import ROOT, TYPES
 
 import tigercanon
 from tigercanon import _library

@@ -5,30 +5,15 @@ from __future__ import annotations
 import os
 import random
 import signal
-import subprocess
 import time
 import zipfile
 from pathlib import Path
 
 import pytest
-from support import (
-    TYPES,
-    await_that,
-    begin,
-    call,
-    complete,
-    count_of_lines,
-    digest,
-    end,
-    environment,
-    left_behind,
-    processes_with,
-    put,
-    words_of,
-)
+from support import HEAD, await_that, begin, call, complete, count_of_lines, end, left_behind, limit_files, line, processes, put
+from testing import TYPES
 
 SIGNALS = [signal.SIGINT, signal.SIGTERM, signal.SIGHUP, signal.SIGQUIT, signal.SIGUSR1, signal.SIGXCPU]
-HEAD = "# tigercanon form 1\n"
 
 
 @pytest.fixture
@@ -44,14 +29,15 @@ def archive(room: Path, stand_in: Path) -> Path:
 
 def wanted() -> str:
     texts = [b"waits\n", *(b"county %d\n" % number for number in range(1, 10))]
-    return HEAD + "".join(f"{digest(text)}  in/TGR{number}\n" for number, text in enumerate(texts))
+    return HEAD + "".join(line(f"in/TGR{number}", text) for number, text in enumerate(texts))
 
 
 def assert_nothing_is_left(room: Path) -> None:
     assert left_behind() == []
     assert os.listdir(room / "tmp") == []
     assert not [name for name in os.listdir(room) if name.startswith("m.")]
-    assert await_that(lambda: not processes_with(str(room / "program")), 1)
+    program = bytes(room / "program")
+    assert await_that(lambda: not any(program in command for _, _, command in processes()), 1)
 
 
 @pytest.mark.parametrize("number", SIGNALS)
@@ -143,9 +129,7 @@ def test_a_command_that_can_not_go_on(archive: Path) -> None:
     """It ends at once, and doesn't wait for the counties that are being judged: here the manifest takes only one more line."""
     put("waits")
     put("m", "".join([HEAD, *(f"{number:064}  a/no-{number:02}\n" for number in range(12))]).encode())
-    limited = ["bash", "-c", 'trap "" XFSZ; ulimit -f 1; exec "$@"', "-", *words_of("fingerprint", "--jobs", "3", "-o", "m", "in")]
-    run = subprocess.Popen(limited, env=environment(), stderr=subprocess.PIPE, start_new_session=True)
-    ended = end(run, 30)
+    ended = end(begin("fingerprint", "--jobs", "3", "-o", "m", "in", preexec_fn=limit_files(1024)), 30)
     assert (ended.status, ended.lines[-1]) == (2, "m: can't be written: File too large")
     assert Path("m").read_text().count("\n") == 14
     assert_nothing_is_left(archive)

@@ -14,7 +14,8 @@ from pathlib import Path
 from typing import Iterator
 
 import pytest
-from support import TYPES, call, complete, digest, left_behind, put
+from support import call, complete, digest, left_behind, put
+from testing import TYPES
 
 from tigercanon import storage
 

@@ -35,19 +35,8 @@ from ._parts import Part, Set
 from ._refusal import OutOfMemory, Refusal
 from .version import VERSION as __version__
 
-__all__ = [
-    "FORM",
-    "OutOfMemory",
-    "Part",
-    "Refusal",
-    "Set",
-    "__version__",
-    "check",
-    "compare",
-    "fingerprint",
-    "normalise",
-    "respell",
-]
+__all__ = ["FORM", "OutOfMemory", "Part", "Refusal", "Set", "__version__"]
+__all__ += ["check", "compare", "fingerprint", "normalise", "respell"]
 
 FORM = "tigercanon form 1"
 """The name of the form of the canonical texts. Cite it with a fingerprint."""

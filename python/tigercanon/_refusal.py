@@ -19,12 +19,6 @@ class Refusal(Exception):
     line    the line that the program prints, without its line ending: "refused 4 BadNumber 1 4 6"
     """
 
-    number: int
-    name: str
-    places: Places
-    set: int | None
-    line: str
-
     def __init__(self, number: int, name: str, places: Places = (), set: int | None = None) -> None:
         super().__init__(number, name, places, set)
         self.number, self.name, self.places, self.set = number, name, places, set

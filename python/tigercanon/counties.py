@@ -26,7 +26,6 @@ class Names:
 
     zips: list[Entry] = field(default_factory=list)
     files: dict[str, list[Entry]] = field(default_factory=dict)
-    others: list[Entry] = field(default_factory=list)
 
     def add(self, entry: Entry) -> None:
         ending = RECORD_FILE.fullmatch(entry.name)
@@ -34,8 +33,6 @@ class Names:
             self.zips.append(entry)
         elif ending[3].upper() in TYPES:
             self.files.setdefault(ending[3].upper(), []).append(entry)
-        else:
-            self.others.append(entry)
 
 
 class Finder:
@@ -150,7 +147,7 @@ class Finder:
             if word == "**" and rest:
                 if entry.is_folder:
                     yield from self.matches(path, words)
-            elif is_match(entry.name, word):
+            elif fnmatchcase(entry.name, word) and (word.startswith(".") or not entry.name.startswith(".")):
                 if not rest:
                     yield path, entry.is_folder
                 elif entry.is_folder:
@@ -205,10 +202,6 @@ def place_of(county: County) -> str:
 def ending_of(name: str) -> str:
     """The ending under which a file that is passed over is counted."""
     return ".tar.gz" if name.lower().endswith(".tar.gz") else os.path.splitext(name)[1] or "without an ending"
-
-
-def is_match(name: str, word: str) -> bool:
-    return fnmatchcase(name, word) and (word.startswith(".") or not name.startswith("."))
 
 
 def whole(path: str) -> County:

@@ -8,6 +8,7 @@ import time
 import warnings
 from collections import deque
 from concurrent.futures import FIRST_COMPLETED, Future, ThreadPoolExecutor, wait
+from contextlib import suppress
 from dataclasses import astuple, replace
 from itertools import islice
 from queue import Empty, SimpleQueue
@@ -82,9 +83,6 @@ class LocalEngine:
         finally:
             pool.shutdown(wait=False, cancel_futures=True)
 
-    def close(self) -> None:
-        """There is nothing to close."""
-
 
 class DaskEngine:
     """Judges counties by the workers of a scheduler that is running."""
@@ -138,7 +136,7 @@ class DaskEngine:
         self.attempts += 1
         futures = self.client.map(
             judging.judge_on_a_worker,
-            [judging.plain(counties[number]) for number in numbers],
+            [astuple(counties[number]) for number in numbers],
             [astuple(order)] * count,
             key=[f"tigercanon-{self.run}-{self.attempts}-{number}" for number in numbers],
             pure=False,
@@ -185,10 +183,8 @@ class DaskEngine:
             raise Gone(f"{self.name} has had no worker for {int(PATIENCE_FOR_WORKERS / 60)} minutes")
 
     def close(self) -> None:
-        try:
+        with suppress(Exception):  # the rest of it ends with this process
             self.client.close(timeout=2)
-        except Exception:
-            pass  # the rest of it ends with this process
 
 
 def client_of(address: str) -> Any:

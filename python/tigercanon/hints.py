@@ -61,9 +61,5 @@ def bytes_hint(file: str, line: int) -> str:
 
 def count_lines(file: str) -> int:
     """How many lines a file has."""
-    count, last = 0, b"\n"
     with open(file, "rb") as opened:
-        while piece := opened.read(1 << 20):
-            count += piece.count(b"\n")
-            last = piece[-1:]
-    return count + (last != b"\n")
+        return sum(1 for _ in opened)

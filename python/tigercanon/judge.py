@@ -10,8 +10,8 @@ import os
 import re
 import shutil
 from contextlib import contextmanager
-from dataclasses import astuple, dataclass, field, replace
-from typing import Any, Iterable, Iterator, Optional
+from dataclasses import dataclass, field, replace
+from typing import Any, Iterable, Iterator, Mapping, Optional
 
 from .errors import printable, reason
 from .hints import hint
@@ -19,7 +19,7 @@ from .layout import TYPES, file_name
 from .own import Ended, Own, remove_stale_folders
 from .program import TUNABLES
 from .storage import Broken, fetch, is_url
-from .zips import BadZip, members_of, opened, unpack, unpacked_size
+from .zips import BadZip, members_of, opened, unpack
 
 DIGITS = re.compile(rb"[0-9a-f]{64}\n")
 STEM = "county"
@@ -161,8 +161,9 @@ def unzipped(file: File, order: Order, own: Own, notes: list[str]) -> Iterator[s
     """The county in a zip as single files."""
     with local(file, own) as place, opened(place) as archive:
         members = members_of(archive)
-        note_files({kind: member.file_size for kind, member in members.items()}, order, notes)
-        size = unpacked_size(members)
+        sizes = {kind: member.file_size for kind, member in members.items()}
+        note_files(sizes, order, notes)
+        size = sum(sizes.values())
         if size > order.largest:
             raise BadZip(f"the zip unpacks to {size} bytes, more than --largest {order.largest}")
         with own.folder(size) as folder:
@@ -171,7 +172,7 @@ def unzipped(file: File, order: Order, own: Own, notes: list[str]) -> Iterator[s
             yield stem
 
 
-def note_files(sizes: dict[str, int | None], order: Order, notes: list[str]) -> None:
+def note_files(sizes: Mapping[str, int | None], order: Order, notes: list[str]) -> None:
     """Notes which of the nine files are missing or empty. Raises Rejected if strict mode doesn't allow it."""
     missing = [kind for kind in TYPES if kind not in sizes]
     empty = [kind for kind, size in sizes.items() if size == 0]
@@ -226,22 +227,10 @@ def kind_of(line: str, status: int) -> str:
     return "refused" if line.startswith("refused ") else "failed"
 
 
-def plain(county: County) -> tuple[Any, ...]:
-    """A county without the classes of this package, which workers don't know."""
-    singles = [file and astuple(file) for file in (county.whole, county.zip)]
-    files = {kind: astuple(file) for kind, file in county.files.items()}
-    return (county.stem, files, *singles, county.notes, county.readable_stem)
-
-
-def from_plain(stem: str, files: Any, whole: Any, packed: Any, notes: Any, readable: Any) -> County:
-    """The inverse of `plain`."""
+def from_plain(stem: str, files: Any, whole: Any, packed: Any, *rest: Any) -> County:
+    """The county of a plain tuple, as `astuple` makes it: the client's classes aren't known to workers."""
     return County(
-        stem,
-        {kind: File(*file) for kind, file in files.items()},
-        whole=whole and File(*whole),
-        zip=packed and File(*packed),
-        notes=tuple(notes),
-        readable_stem=readable,
+        stem, {kind: File(*file) for kind, file in files.items()}, whole and File(*whole), packed and File(*packed), *rest
     )
 
 

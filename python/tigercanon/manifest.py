@@ -14,7 +14,7 @@ import shutil
 import socket
 import stat
 import time
-from contextlib import contextmanager
+from contextlib import contextmanager, suppress
 from typing import Iterator, NamedTuple, Sequence
 
 from .errors import Failure, reason
@@ -236,10 +236,8 @@ def write_all(handle: int, text: bytes) -> None:
 
 
 def discard(path: str) -> None:
-    try:
+    with suppress(OSError):
         os.unlink(path)
-    except OSError:
-        pass
 
 
 def see_that_it_may_be_a_manifest(name: str) -> None:
@@ -285,8 +283,9 @@ class Lock:
             try:
                 self.see_that_it_is_a_lock(handle)
                 self.lock(handle, fcntl.LOCK_EX, PATIENCE_FOR_LOCK)
-                if self.is_of_this_name(handle):
-                    self.handle = handle
+                with suppress(FileNotFoundError):  # another run may have removed it meanwhile
+                    if os.path.samestat(os.stat(self.path), os.fstat(handle)):
+                        self.handle = handle
             finally:
                 if self.handle is None:
                     os.close(handle)
@@ -325,11 +324,10 @@ class Lock:
                 raise Failure(f"{self.name}.lock: can't be locked: {reason(error)}") from None
 
     def holder(self) -> str:
-        try:
-            with open(self.path, encoding="utf-8", errors="replace") as file:
-                return file.readline().strip() or "an unknown process"
-        except OSError:
-            return "an unknown process"
+        line = ""
+        with suppress(OSError), open(self.path, encoding="utf-8", errors="replace") as file:
+            line = file.readline().strip()
+        return line or "an unknown process"
 
     def see_that_it_is_a_lock(self, handle: int) -> None:
         """Leaves a file of the user's that has such a name alone."""
@@ -337,9 +335,3 @@ class Lock:
         lines = os.pread(handle, status.st_size, 0).splitlines() if stat.S_ISREG(status.st_mode) else [b""]
         if not all(map(LOCK_LINE.match, lines)):
             raise Failure(f"{self.name}.lock: isn't the lock of {self.name} but another file: move it away")
-
-    def is_of_this_name(self, handle: int) -> bool:
-        try:
-            return os.path.samestat(os.stat(self.path), os.fstat(handle))
-        except FileNotFoundError:
-            return False

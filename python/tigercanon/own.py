@@ -10,7 +10,7 @@ import subprocess
 import tempfile
 import threading
 import time
-from contextlib import contextmanager
+from contextlib import contextmanager, suppress
 from dataclasses import dataclass
 from typing import Callable, Iterator, Sequence
 
@@ -92,7 +92,8 @@ class Own:
         """Ends the processes and removes the folders. Nothing can be started or made afterwards."""
         self.lock.acquire(timeout=PATIENCE)
         for child in self.children:
-            kill(child)
+            with suppress(ProcessLookupError, PermissionError):
+                os.killpg(child.pid, signal.SIGKILL)
         for path in list(self.folders):
             remove(path)
         for action in reversed(self.last):
@@ -101,14 +102,6 @@ class Own:
 
 PROCESS = Own()
 """What belongs to this process. Tasks on the workers of a cluster have some of their own."""
-
-
-def kill(child: subprocess.Popen[bytes]) -> None:
-    """Kills a process and all that it started."""
-    try:
-        os.killpg(child.pid, signal.SIGKILL)
-    except (ProcessLookupError, PermissionError):
-        pass
 
 
 def remove(path: str) -> None:
@@ -155,10 +148,7 @@ def remove_if_stale(path: str) -> None:
         handle = os.open(path, os.O_RDONLY | os.O_DIRECTORY | os.O_NOFOLLOW)
     except OSError:
         return
-    try:
+    with suppress(OSError):  # a run may hold it
         fcntl.flock(handle, fcntl.LOCK_EX | fcntl.LOCK_NB)
         remove(path)
-    except OSError:
-        pass  # a run holds it
-    finally:
-        os.close(handle)
+    os.close(handle)

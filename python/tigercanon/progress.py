@@ -6,6 +6,7 @@ import logging
 import sys
 import time
 from collections import Counter
+from contextlib import suppress
 from typing import Any
 
 from .errors import printable
@@ -23,14 +24,12 @@ class Lines(logging.Handler):
 
     def emit(self, record: logging.LogRecord) -> None:
         text = f"tigercanon-tools: {record.getMessage()}"
-        try:
+        with suppress(OSError, ValueError, AttributeError):
             if Lines.bar is not None:
                 Lines.bar.write(text, file=sys.stderr)
             else:
                 sys.stderr.write(text + "\n")
                 sys.stderr.flush()
-        except (OSError, ValueError, AttributeError):
-            pass
 
 
 def report(text: str) -> None:

@@ -47,10 +47,10 @@ def order_of(options: argparse.Namespace, flags: tuple[str, ...], is_strict: boo
 @contextmanager
 def engine_of(options: argparse.Namespace) -> Iterator[DaskEngine | LocalEngine]:
     remove_stale_folders()
-    engine: DaskEngine | LocalEngine = LocalEngine(options.jobs, PROCESS)
-    if options.scheduler:
-        engine = DaskEngine(options.scheduler)
-    with closing(engine):
+    if not options.scheduler:
+        yield LocalEngine(options.jobs, PROCESS)
+        return
+    with closing(DaskEngine(options.scheduler)) as engine:
         yield engine
 
 
@@ -127,20 +127,25 @@ def report_finds(finder: Finder) -> None:
         report(f"passed over: {counted(sum(finder.passed_over.values()), 'file', 'files')} ({found})")
 
 
-class InOrder:
-    """Prints lines in the order of their numbers, each as soon as those before it are there. None prints nothing."""
+class Printer:
+    """Prints results in the order of their numbers: lines, each as soon as those before it are there, or a list in JSON at the end."""
 
-    def __init__(self) -> None:
-        self.waiting: dict[int, str | None] = {}
-        self.next = 0
+    def __init__(self, is_json: bool) -> None:
+        self.is_json, self.next = is_json, 0
+        self.waiting: dict[int, Any] = {}
 
-    def put(self, number: int, line: str | None) -> None:
-        self.waiting[number] = line
-        ready: list[str | None] = []
-        while self.next in self.waiting:
+    def put(self, number: int, line: str | None, row: dict[str, Any] | None) -> None:
+        """Takes a result as a line and as an object of JSON. None prints nothing."""
+        self.waiting[number] = row if self.is_json else line
+        ready = []
+        while not self.is_json and self.next in self.waiting:
             ready.append(self.waiting.pop(self.next))
             self.next += 1
-        print_lines(line for line in ready if line is not None)
+        print_lines(each for each in ready if each is not None)
+
+    def end(self) -> None:
+        if self.is_json:
+            print_json([row for _, row in sorted(self.waiting.items()) if row is not None])
 
 
 class Fingerprints:
@@ -149,8 +154,7 @@ class Fingerprints:
     def __init__(self, options: argparse.Namespace) -> None:
         self.options, self.flags = options, flags_of(options)
         self.manifest: Manifest | None = None
-        self.rows: dict[int, dict[str, Any]] = {}
-        self.printer = InOrder()
+        self.printer = Printer(options.json)
         self.run = Run(options, self.take)
 
     def __call__(self) -> int:
@@ -175,22 +179,17 @@ class Fingerprints:
         report_finds(finder)
         del finder  # and what it has listed
         self.run.judge(counties, lambda: order_of(self.options, self.flags, self.options.strict))
-        if self.options.json:
-            print_json([self.rows[number] for number in sorted(self.rows)])
+        self.printer.end()
         self.report_end(before)
         return int(self.run.missing > 0 or self.run.tally.failed > 0 or bool(self.run.tally.refused))
 
     def take(self, number: int, result: Result) -> str:
-        line = None
-        if result.answer.kind == "made":
+        line = Line(result.answer.text, result.county.stem) if result.answer.kind == "made" else None
+        if line:
             self.run.tally.good += 1
-            line = Line(result.answer.text, result.county.stem)
         if line and self.manifest:
             self.manifest.add(line)
-        if self.options.json:
-            self.rows[number] = self.described(result)
-        elif not self.manifest:
-            self.printer.put(number, line and str(line))
+        self.printer.put(number, None if self.manifest else line and str(line), self.described(result))
         return result.remarks
 
     def described(self, result: Result) -> dict[str, Any]:
@@ -224,8 +223,7 @@ class Verification:
     def __init__(self, options: argparse.Namespace) -> None:
         self.options = options
         self.lines: list[Line] = []
-        self.rows: dict[int, dict[str, str]] = {}
-        self.printer = InOrder()
+        self.printer = Printer(options.json)
         self.counts = {"OK": 0, "FAILED": 0, "MISSING": 0, "NEW": 0}
         self.run = Run(options, self.take)
 
@@ -239,7 +237,7 @@ class Verification:
         self.lines = content.lines
         finder = Finder()
         counties = [finder.of_name(self.place(line.stem)) for line in self.lines]
-        counties += self.new_counties(finder, {tidy(county.stem) for county in counties})
+        counties += self.new_counties({tidy(county.stem) for county in counties})
         self.run.judge(counties, lambda: order_of(self.options, content.flags or ()))
         return self.finish()
 
@@ -247,7 +245,7 @@ class Verification:
         """Where a county of the manifest lies."""
         return joined(self.options.root, stem) if self.options.root else stem
 
-    def new_counties(self, finder: Finder, known: "set[str]") -> list[County]:
+    def new_counties(self, known: "set[str]") -> list[County]:
         """The counties of the sources that the manifest doesn't have. They aren't judged."""
         found, _ = Finder().counties(self.options.sources, known.__contains__)
         new = [county for county in found if not county.trouble]
@@ -263,10 +261,8 @@ class Verification:
         self.counts[kind] += 1
         name = self.lines[number].stem if number < len(self.lines) else result.county.stem
         is_shown = kind != "OK" or not self.options.quiet
-        if not self.options.json:
-            self.printer.put(number, f"{name}: {kind}" if is_shown else None)
-        elif is_shown:
-            self.rows[number] = {"county": name, "verdict": kind, "remarks": remarks}
+        row = {"county": name, "verdict": kind, "remarks": remarks}
+        self.printer.put(number, f"{name}: {kind}" if is_shown else None, row if is_shown else None)
         return remarks
 
     def verdict(self, number: int, result: Result) -> tuple[str, str]:
@@ -279,8 +275,7 @@ class Verification:
         return "FAILED", result.remarks if result.answer.kind != "made" else "another map"
 
     def finish(self) -> int:
-        if self.options.json:
-            print_json([self.rows[number] for number in sorted(self.rows)])
+        self.printer.end()
         counts = ", ".join(f"{count:,} {kind}" for kind, count in self.counts.items() if count or kind == "OK")
         report(f"{counted(sum(self.counts.values()))}: {counts}; {self.run.tally.took}")
         self.run.report_refusals()

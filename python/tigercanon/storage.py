@@ -23,7 +23,6 @@ class Entry(NamedTuple):
     is_folder: bool
     size: int | None
     trouble: str = ""
-    is_link: bool = False
 
 
 def is_url(path: str) -> bool:
@@ -72,11 +71,11 @@ def local_entry(item: os.DirEntry[str]) -> Entry:
     try:
         status = item.stat()
     except OSError as error:
-        return Entry(item.name, False, None, f"can't be read: {reason(error)}", item.is_symlink())
+        return Entry(item.name, False, None, f"can't be read: {reason(error)}")
     if stat.S_ISDIR(status.st_mode):
         return Entry(item.name, True, None)
     trouble = "" if stat.S_ISREG(status.st_mode) else "isn't a regular file"
-    return Entry(item.name, False, status.st_size, trouble, item.is_symlink())
+    return Entry(item.name, False, status.st_size, trouble)
 
 
 def system_of(url: str) -> tuple[Any, str]:

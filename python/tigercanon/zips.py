@@ -60,11 +60,6 @@ def members_of(archive: zipfile.ZipFile) -> Members:
     return {kind: members[kind][0] for kind in TYPES if kind in members}
 
 
-def unpacked_size(members: Members) -> int:
-    """The bytes that the files have according to the zip's directory."""
-    return sum(member.file_size for member in members.values())
-
-
 def unpack(archive: zipfile.ZipFile, members: Members, stem: str) -> None:
     """Unpacks the files under the names of a stem. Raises BadZip, and OSError if they can't be written."""
     for kind, member in members.items():

@@ -1,17 +1,15 @@
 """The library by a caller in C."""
 
-from __future__ import annotations
-
 import concurrent.futures
 import os
 import re
 import resource
 import shutil
 from pathlib import Path
-from typing import List
 
 from library_tests import in_header
-from library_tests.support import ROOT, WARNINGS, Answer, Tests, cases_of, compiled, in_library, judge_cases, make_county, run, script, tools
+from library_tests.support import WARNINGS, Tests, compiled, tools
+from testing import ROOT, Answer, make_county, run, script
 
 CALLS = ["check", "compare", "fingerprint", "normalise", "respell"]
 AUTAUGA = ROOT / "examples/autauga/all.txt"
@@ -49,32 +47,32 @@ def compile_callers(tests: Tests) -> None:
     """The caller with the archive and with the shared library, by each compiler that is installed."""
     include, archive = ["-I", tests.library / "include"], tests.library / "lib/libtigercanon.a"
     for compiler in tools("gcc", "clang"):
-        made = compiled(tests, f"by-{compiler}", [compiler, *include, archive])
-        if made:
-            tests.callers[compiler] = [str(made)]
+        tests.callers[compiler] = compiled(tests, f"by-{compiler}", [compiler, *include, archive])
     if tools("gcc", "pkg-config"):
         found = run(["pkg-config", "--cflags", "--libs", "tigercanon"],
                     env={**os.environ, "PKG_CONFIG_PATH": str(tests.library / "lib/pkgconfig")})
-        made = compiled(tests, "by-pkg-config", ["gcc", *found.out.decode().split()])
-        if made:
-            tests.callers["shared"] = [str(made)]
+        tests.callers["shared"] = compiled(tests, "by-pkg-config", ["gcc", *found.out.decode().split()])
     else:
         tests.skip("pkg-config isn't installed")
+    tests.callers = {name: words for name, words in tests.callers.items() if words}
 
 
-def try_vectors(tests: Tests, name: str, words: List[str]) -> None:
-    """The cases of vectors/ that need no device, by a caller."""
+def try_vectors(tests: Tests) -> None:
+    """The cases of vectors/ about the bytes of sets: each file can be read, and the arguments are right."""
     vectors = script("vectors/run")
+    cases = [case for case in vectors.cases_of("") if case.get("status") not in (2, 4) and None not in case["files"].values()]
     with concurrent.futures.ThreadPoolExecutor(2 * (os.cpu_count() or 1)) as pool:
-        judge_cases(tests, name, lambda case: vectors.judge(words, case), cases_of(vectors), pool.map)
+        for case, told in zip(cases, pool.map(lambda case: vectors.judge(tests.callers["gcc"], case), cases)):
+            tests.count(not told, f"C, {case['name']}: {case['shows']}" + "".join(f"\n  {line}" for line in told))
 
 
 def try_shared(tests: Tests) -> None:
     """Every example of a refusal and the worked set, by the shared library."""
+    in_library = {**os.environ, "LD_LIBRARY_PATH": str(tests.library / "lib")}
     for path in [AUTAUGA, RENUMBERED, ROOT / "examples/broken.txt", *sorted((ROOT / "examples/refused").iterdir())]:
         for command in CALLS[:1] + CALLS[2:]:
             by_archive = run([*tests.callers["gcc"], command, path])
-            tests.equal(f"shared, {command} {path.name}", by_archive, run([*tests.callers["shared"], command, path], env=in_library(tests)))
+            tests.equal(f"shared, {command} {path.name}", by_archive, run([*tests.callers["shared"], command, path], env=in_library))
 
 
 def try_empty(tests: Tests) -> None:
@@ -137,15 +135,15 @@ def try_checked(tests: Tests) -> None:
     include, archive = ["-I", tests.library / "include"], tests.library / "lib/libtigercanon.a"
     trial = run(["gcc", "-fsanitize=address,undefined", "-x", "c", "-", "-o", tests.room / "trial"], input=b"int main(void) { return 0; }")
     if trial.status == 0:
-        made = compiled(tests, "sanitized", ["gcc", "-g", "-fsanitize=address,undefined", "-fno-sanitize-recover=all", *include, archive])
-        checkers += [("gcc's checkers", [str(made)])] if made else []
+        flags = ["-g", "-fsanitize=address,undefined", "-fno-sanitize-recover=all"]
+        checkers.append(("gcc's checkers", compiled(tests, "sanitized", ["gcc", *flags, *include, archive])))
     else:
         tests.skip("gcc has no checker of addresses here")
     if tools("valgrind"):
         checkers.append(("valgrind", ["valgrind", "-q", "--leak-check=full", "--error-exitcode=99", *tests.callers["gcc"]]))
     else:
         tests.skip("valgrind isn't installed")
-    for name, words in checkers:
+    for name, words in filter(all, checkers):
         for call in examples:
             tests.equal(f"{name}, {' '.join(map(str, call))}", run([*tests.callers["gcc"], *call]), run([*words, *call]))
         tests.equal(f"{name}, two threads", run([*tests.callers["gcc"], "normalise", AUTAUGA]),
@@ -164,7 +162,7 @@ def run_all(tests: Tests) -> None:
         return
     county = tests.room / "county.txt"
     make_county(2000, county)
-    try_vectors(tests, "C", tests.callers["gcc"])
+    try_vectors(tests)
     if "shared" in tests.callers:
         try_shared(tests)
     try_empty(tests)

@@ -1,20 +1,18 @@
 """The examples of the guide's pages on C and Python, word for word, in a folder where a reader of the page would call them."""
 
-from __future__ import annotations
-
 import os
 import re
 import zipfile
 from pathlib import Path
-from typing import List
 
-from library_tests.support import ROOT, SUFFIXES, Answer, Tests, run, tools
+from library_tests.support import SUFFIXES, Tests, tools
+from testing import ROOT, Answer, run
 
 STEM = ROOT / "examples/autauga/TGR01001"
 REFUSED = ROOT / "examples/broken.txt"
 
 
-def blocks(heading: str) -> List[str]:
+def blocks(heading: str) -> list[str]:
     """The blocks of code below a heading of the guide, without their indent."""
     guide = (ROOT / "docs/guide.md").read_text(encoding="utf-8")
     page = guide.partition(f"\n## {heading}\n")[2].partition("\n## ")[0]

@@ -1,12 +1,10 @@
 """The header for C alone: its constants against the guide, the lines that it makes, and how it frees a text."""
 
-from __future__ import annotations
-
 import re
 from pathlib import Path
-from typing import Dict
 
-from library_tests.support import ROOT, WARNINGS, Answer, Tests, run, tools
+from library_tests.support import WARNINGS, Tests, tools
+from testing import ROOT, Answer, run
 
 SOURCE = Path(__file__).resolve().parent / "header.c"
 # What only the row of each status says in the guide's table of exit statuses.
@@ -55,7 +53,7 @@ LONGEST = [f"{number} 2 - - {MOST} {MOST} {MOST} = refused {number} {name} {MOST
            for number, name in ((3, "BadByte"), (6, "GapInRecord"))]
 
 
-def guide_constants() -> Dict[str, str]:
+def guide_constants() -> dict[str, str]:
     """The constants that the guide asks for, with their values."""
     guide = (ROOT / "docs/guide.md").read_text(encoding="utf-8")
     page = guide.partition("\n## Exit statuses\n")[2].partition("\n## ")[0]

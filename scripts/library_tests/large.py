@@ -1,22 +1,20 @@
 """The library on a county of 100,000 chains, compared with the program's answers; and by C on the counties of .ci/test-large."""
 
-from __future__ import annotations
-
 import importlib
 import mmap
 import os
 import resource
 import sys
 from pathlib import Path
-from typing import List, Tuple
 
-from library_tests.support import SUFFIXES, Answer, Tests, make_county, run, script
+from library_tests.support import SUFFIXES, Tests
 from measuring import use_large_pages
+from testing import Answer, make_county, run, script
 
 CHAINS = 100_000
 
 
-def make_counties(room: Path) -> Tuple[Path, Path]:
+def make_counties(room: Path) -> tuple[Path, Path]:
     """One file of a county, and the stem of nine files of it under other numbers."""
     whole, stem = room / "large.txt", room / "large"
     make_county(CHAINS, whole)
@@ -26,7 +24,7 @@ def make_counties(room: Path) -> Tuple[Path, Path]:
 
 def try_c(tests: Tests, whole: Path, stem: Path) -> None:
     """The same bytes as the program's."""
-    words: List[List[object]] = [[command, whole] for command in ("check", "respell", "normalise", "fingerprint")]
+    words: list[list[object]] = [[command, whole] for command in ("check", "respell", "normalise", "fingerprint")]
     words += [[command, "--stem", stem] for command in ("respell", "normalise", "fingerprint")]
     words += [["fingerprint", "--no-sources", "--no-reserved", whole], ["compare", whole, f"{stem}.RT1"], ["compare", whole, whole]]
     for call in words:

@@ -1,18 +1,16 @@
 """What the tests of the library share: the library and the program, the cases of vectors/, and compiled callers."""
 
-from __future__ import annotations
-
 import os
 import re
 import shutil
 import sys
 import tempfile
 from pathlib import Path
-from typing import Callable, Dict, List, Optional, Sequence
+from typing import Sequence
 
 sys.path.insert(0, str(Path(__file__).resolve().parent.parent.parent / "tools"))
 
-from testing import ROOT, Answer, Tally, make_county, run, script  # noqa: E402, F401
+from testing import ROOT, Tally, run  # noqa: E402
 
 CALLER = Path(__file__).resolve().parent / "caller.c"
 SUFFIXES = [f".RT{letter}" for letter in "1245678IP"]
@@ -25,37 +23,20 @@ class Tests(Tally):
     def __init__(self, library: Path, program: Path, room: Path):
         super().__init__("library, ")
         self.library, self.program, self.room = library, program, room
-        self.callers: Dict[str, List[str]] = {}
+        self.callers: dict[str, list[str]] = {}
 
 
-def compiled(tests: Tests, name: str, words: Sequence[object]) -> Optional[Path]:
-    """The caller by this compiler, with these arguments after its file; None if it can't be compiled."""
+def compiled(tests: Tests, name: str, words: Sequence[object]) -> list[str]:
+    """The command that calls the caller by this compiler, with these arguments after its file; nothing if it can't be compiled."""
     made = tests.room / name
     compiler, *flags = words
     # The caller uses the threads and the clock of POSIX.
     done = run([compiler, "-std=c11", "-D_GNU_SOURCE", "-O2", "-pthread", *WARNINGS, "-o", made, CALLER, *flags])
-    return made if tests.count(done.status == 0, f"{name}: {done.err.decode()[:2000]}") else None
+    return [str(made)] if tests.count(done.status == 0, f"{name}: {done.err.decode()[:2000]}") else []
 
 
-def cases_of(reference) -> List[dict]:
-    """The cases of vectors/ about the bytes of sets: each file can be read, and the arguments are right."""
-    cases = reference.cases_of("")
-    return [case for case in cases if case.get("status") not in (2, 4) and None not in case["files"].values()]
-
-
-def judge_cases(tests: Tests, name: str, judge: Callable[[dict], List[str]], cases: List[dict], runs: Callable) -> None:
-    """Counts the cases that a caller answers rightly."""
-    for case, told in zip(cases, runs(judge, cases)):
-        tests.count(not told, f"{name}, {case['name']}: {case['shows']}" + "".join(f"\n  {line}" for line in told))
-
-
-def tools(*names: str) -> List[str]:
+def tools(*names: str) -> list[str]:
     return [name for name in names if shutil.which(name)]
-
-
-def in_library(tests: Tests, **more: str) -> Dict[str, str]:
-    """The environment in which a caller finds the shared library."""
-    return {**os.environ, "LD_LIBRARY_PATH": str(tests.library / "lib"), **more}
 
 
 def run_pytest(tests: Tests) -> None:
@@ -82,10 +63,8 @@ def main(library: Path, program: Path, is_quick: bool) -> int:
         in_c.run_all(tests)
         run_pytest(tests)
         in_guide.run_all(tests)
-        if is_quick:
-            pass
-        elif not program.exists():
-            tests.skip(f"there is no program to compare with: {program}")
-        else:
+        if not is_quick and program.exists():
             large.run_all(tests)
+        elif not is_quick:
+            tests.skip(f"there is no program to compare with: {program}")
         return tests.close()

@@ -37,16 +37,9 @@ class Browser:
 
         options = webdriver.ChromeOptions()
         options.binary_location = shutil.which("chromium")
-        for word in (
-            "--headless=new",
-            "--no-sandbox",
-            "--disable-gpu",
-            "--disable-dev-shm-usage",
-            "--hide-scrollbars",
-            "--disable-lcd-text",
-            "--host-resolver-rules=MAP * ~NOTFOUND",
-        ):
-            options.add_argument(word)
+        words = "headless=new no-sandbox disable-gpu disable-dev-shm-usage hide-scrollbars disable-lcd-text".split()
+        for word in [*words, "host-resolver-rules=MAP * ~NOTFOUND"]:
+            options.add_argument(f"--{word}")
         options.set_capability("goog:loggingPrefs", {"browser": "ALL", "performance": "ALL"})
         self.driver = webdriver.Chrome(service=Service(shutil.which("chromedriver")), options=options)
         self.driver.set_script_timeout(300)
@@ -87,10 +80,8 @@ class Browser:
         from selenium.webdriver.common.by import By
 
         chart = self.driver.find_element(By.ID, "map")
-        middle = chart.size
-        ActionChains(self.driver).move_to_element_with_offset(
-            chart, x - middle["width"] / 2, y - middle["height"] / 2
-        ).click().perform()
+        from_middle = x - chart.size["width"] / 2, y - chart.size["height"] / 2
+        ActionChains(self.driver).move_to_element_with_offset(chart, *from_middle).click().perform()
 
     def click_at_changed(self, value: str) -> str:
         """Clicks at a chain that changed to this value, and returns its title."""

@@ -6,12 +6,13 @@ import pickle
 import random
 from collections import Counter
 from dataclasses import dataclass, field
-from typing import FrozenSet
+from typing import Sequence, TypeVar
 
 from tigercanon.differences.columns import CHAIN
 
 from .county import Chain, County, Landmark, Point, Polygon, addresses
 
+T = TypeVar("T")
 Place = tuple[Point, ...]
 """The points of something, in the direction of canonical texts: a chain runs so that its points come before their
 reverse."""
@@ -24,7 +25,7 @@ class Difference:
     what: str
     kind: str
     place: Place
-    fields: FrozenSet[str] = frozenset()
+    fields: frozenset[str] = frozenset()
 
 
 @dataclass
@@ -43,6 +44,14 @@ class Changing:
 
     def tell(self, what: str, kind: str, points: list[Point], *fields: str) -> None:
         self.differences.add(Difference(what, kind, tuple(min(points, points[::-1])), frozenset(fields)))
+
+    def counts(self, before: County) -> dict[tuple[str, str], int]:
+        """How many chains, landmarks and polygons there are of each kind, if the county was this one before."""
+        told = Counter((difference.what, difference.kind) for difference in self.differences)
+        parts: dict[str, Sequence[object]] = {"chain": before.chains, "landmark": before.landmarks, "polygon": before.polygons}
+        for what, things in parts.items():
+            told[what, "alike"] = len(things) - told[what, "in the first alone"] - told[what, "changed"]
+        return told
 
     def some_chains(self, count: int) -> list[Chain]:
         """Streets that no change has touched yet. Each polygon beside them has enough other chains."""
@@ -72,9 +81,8 @@ class Changing:
             begin, inside = chain.points[0], place_of(self.county.polygons[chain.left or 0])
             points = [begin, (begin[0] + (inside[0] - begin[0]) // 3 + 7, begin[1] + (inside[1] - begin[1]) // 3 + 9)]
             fields = {"SOURCE": "L", "FENAME": f"{self.chance.choice(('Quail', 'Heron', 'Wren'))}", "FETYPE": "Ct", "CFCC": "A41"}
-            court = Chain(
-                fields, points, chain.start, 10**6 + len(self.county.chains), chain.left, chain.left, link=dict(chain.link)
-            )
+            end = 10**6 + len(self.county.chains)
+            court = Chain(fields, points, chain.start, end, chain.left, chain.left, link=dict(chain.link))
             self.county.chains.append(court)
             self.touched.add(id(court))
             self.tell("chain", "in the second alone", points)
@@ -132,29 +140,25 @@ class Changing:
 
     # Polygons, landmarks and names
 
-    def some_polygons(self, count: int) -> list[Polygon]:
-        """Polygons with records that no change has touched."""
-        free = [polygon for polygon in self.county.polygons if id(polygon) not in self.touched]
-        chosen = self.chance.sample(free, count)
+    def some(self, things: list[T], count: int) -> list[T]:
+        """Of these things some that no change has touched."""
+        chosen = self.chance.sample([thing for thing in things if id(thing) not in self.touched], count)
         self.touched.update(map(id, chosen))
         return chosen
 
     def flood(self, count: int) -> None:
-        for polygon in self.some_polygons(count):
+        for polygon in self.some(self.county.polygons, count):
             polygon.fields["WATER"] = "" if polygon.fields["WATER"] else "1"
             self.tell("polygon", "changed", [place_of(polygon)], "WATER")
 
     def move_inner_points(self, count: int) -> None:
-        for polygon in self.some_polygons(count):
+        for polygon in self.some(self.county.polygons, count):
             self.tell("polygon", "changed", [place_of(polygon)], "POLYLONG, POLYLAT")
             longitude, latitude = place_of(polygon)
             polygon.point = (longitude + 11, latitude + 13)
 
     def some_landmarks(self, count: int) -> list[Landmark]:
-        free = [landmark for landmark in self.county.landmarks if id(landmark) not in self.touched and landmark.point]
-        chosen = self.chance.sample(free, count)
-        self.touched.update(map(id, chosen))
-        return chosen
+        return self.some([landmark for landmark in self.county.landmarks if landmark.point], count)
 
     def rename_landmarks(self, count: int) -> None:
         for landmark in self.some_landmarks(count):
@@ -170,9 +174,8 @@ class Changing:
     def add_landmarks(self, count: int) -> None:
         for number in range(count):
             point = (-86_470_001 - 977 * number, 32_461_003 + 613 * number)
-            self.county.landmarks.append(
-                Landmark({"FILE": "01001", "SOURCE": "L", "CFCC": "D57", "LANAME": f"Air Field {number}"}, point)
-            )
+            fields = {"FILE": "01001", "SOURCE": "L", "CFCC": "D57", "LANAME": f"Air Field {number}"}
+            self.county.landmarks.append(Landmark(fields, point))
             self.touched.add(id(self.county.landmarks[-1]))
             self.tell("landmark", "in the second alone", [point])
 

@@ -195,7 +195,7 @@ def points_between(town: Town, edge: tuple[int, int, bool]) -> list[Point]:
 def named_fields(town: Town, edge: tuple[int, int, bool]) -> Values:
     """The fields of a chain of type 1."""
     column, row, is_across = edge
-    fields: Values = {"SOURCE": "A", **{f"{name}{hand}": value for hand in "LR" for name, value in codes(column, row)}}
+    fields: Values = {"SOURCE": "A", **{f"{name}{hand}": value for hand in "LR" for name, value in codes(column, row).items()}}
     if is_across and row == town.river:
         return {**fields, "SOURCE": "B", "FENAME": "Autauga Creek", "CFCC": "H11"}
     if not is_across and column == town.railroad:
@@ -203,12 +203,8 @@ def named_fields(town: Town, edge: tuple[int, int, bool]) -> Values:
     if row in (0, town.rows) and is_across or column in (0, town.columns) and not is_across:
         return {**fields, "SIDE1": "1", "CFCC": "F10"}
     if is_across and row == town.highway:
-        return {
-            **fields,
-            "FENAME": "US Highway 82",
-            "CFCC": "A21",
-            **addresses(100 * column + 1, 100 * column + 99, "36067", "36067"),
-        }
+        numbers = addresses(100 * column + 1, 100 * column + 99, "36067", "36067")
+        return {**fields, "FENAME": "US Highway 82", "CFCC": "A21", **numbers}
     number = row if is_across else column
     listed = PEOPLE if is_across else TREES
     name = listed[number % len(listed)]
@@ -218,27 +214,14 @@ def named_fields(town: Town, edge: tuple[int, int, bool]) -> Values:
     name = name if beyond < 5 else f"{name} {beyond}"
     block = 100 * ((column if is_across else row) + 1)
     postal = "36067" if row > town.river else "36066"
-    return {
-        **fields,
-        "FEDIRP": part,
-        "FENAME": name,
-        "FETYPE": way,
-        "CFCC": "A41",
-        **addresses(block + 1, block + 99, postal, postal),
-    }
+    numbers = addresses(block + 1, block + 99, postal, postal)
+    return {**fields, "FEDIRP": part, "FENAME": name, "FETYPE": way, "CFCC": "A41", **numbers}
 
 
-def codes(column: int, row: int) -> list[tuple[str, str]]:
+def codes(column: int, row: int) -> Values:
     tract = 20100 + 100 * (column // 12) + row // 12
     block = 1000 + (column % 12) * 12 + row % 12
-    return [
-        ("STATE", "01"),
-        ("COUNTY", "001"),
-        ("COUSUB", "92106"),
-        ("PLACE", "62328"),
-        ("TRACT", f"{tract:06}"),
-        ("BLOCK", str(block)),
-    ]
+    return {"STATE": "01", "COUNTY": "001", "COUSUB": "92106", "PLACE": "62328", "TRACT": f"{tract:06}", "BLOCK": str(block)}
 
 
 def addresses(first: int, last: int, left: str, right: str) -> Values:
@@ -313,10 +296,8 @@ def written(county: County, seed: int | None = None) -> bytes:
 def lines(county: County, hand: Hand) -> Iterator[str]:
     """The records, type by type."""
     most = 9 * len(county.chains) + 99
-    tlids = hand.numbers(len(county.chains), most)
-    feats = hand.numbers(len(county.names), most)
-    lands = hand.numbers(len(county.landmarks), most)
-    polyids = hand.numbers(len(county.polygons), most)
+    numbered: list[list[Any]] = [county.chains, county.names, county.landmarks, county.polygons]
+    tlids, feats, lands, polyids = (hand.numbers(len(things), most) for things in numbered)
     nodes = sorted({node for chain in county.chains for node in (chain.start, chain.end) if node is not None})
     node_numbers: dict[int | None, Any] = {None: "", **dict(zip(nodes, hand.numbers(len(nodes), most)))}
 

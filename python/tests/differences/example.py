@@ -1,6 +1,6 @@
 """Makes the example of two maps in examples/two-maps: a town, and the same town some years later, written in another way.
 
-    cd python/tests; PYTHONPATH=.. /usr/bin/python3 -m differences.example [--picture]
+    cd python/tests; PYTHONPATH=..:../../tools /usr/bin/python3 -m differences.example [--picture]
 
 writes its files again, and with --picture also the picture of its page, docs/differences.png. That needs Debian's python3-pil.
 """
@@ -44,13 +44,6 @@ def texts() -> tuple[bytes, bytes]:
     return written(town), written(later.county, SEED)
 
 
-def write_example(folder: Path) -> None:
-    """Writes both files into a folder."""
-    folder.mkdir(parents=True, exist_ok=True)
-    for name, text in zip(("first.txt", "second.txt"), texts()):
-        (folder / name).write_bytes(text)
-
-
 def write_picture(picture: Path) -> None:
     """Writes the picture of the example's page."""
     from PIL import Image
@@ -74,6 +67,7 @@ def write_picture(picture: Path) -> None:
 
 if __name__ == "__main__":
     root = Path(__file__).resolve().parent.parent.parent.parent
-    write_example(root / "examples/two-maps")
+    for name, text in zip(("first.txt", "second.txt"), texts()):
+        (root / "examples/two-maps" / name).write_bytes(text)
     if "--picture" in sys.argv:
         write_picture(root / "docs/differences.png")

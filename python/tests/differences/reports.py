@@ -4,11 +4,13 @@ from __future__ import annotations
 
 import json
 import re
+from dataclasses import replace
 from pathlib import Path
 from typing import Any
 
 import pytest
-from support import ROOT, Ended, built_program, call
+from support import PROGRAM, Ended, call
+from testing import ROOT
 
 from tigercanon.differences.sets import Canonical, Sets
 
@@ -19,10 +21,9 @@ EXAMPLE = ROOT / "examples/two-maps"
 LEAFLET = Path("/usr/share/javascript/leaflet")
 KINDS = ("in the first alone", "in the second alone", "changed")
 
-WORDS_HEADING = re.compile(rf"(chain|landmark|polygon|feature name)s ({'|'.join(KINDS)}): ([\d,]+)")
+WORDS_HEADING = re.compile(rf"(?m)^(chain|landmark|polygon|feature name)s ({'|'.join(KINDS)}): ([\d,]+)$")
 DEGREES = re.compile(r"(\d+)\.(\d{6})° ([NS]), (\d+)\.(\d{6})° ([WE])")
 PROGRESS = re.compile(r"tigercanon-tools: (normalising|reading|comparing|finding|writing) .*\n")
-PROGRAM = built_program()
 
 needs_leaflet = pytest.mark.skipif(not (LEAFLET / "leaflet.css").exists(), reason="libjs-leaflet isn't installed")
 
@@ -40,39 +41,19 @@ def sets_of(first: bytes, second: bytes) -> Sets:
     return Sets(Canonical("one", first), Canonical("other", second))
 
 
-def put_in(folder: Path, name: str, text: bytes) -> Path:
-    """A file in a folder."""
-    path = folder / name
-    path.write_bytes(text)
-    return path
-
-
 # Reading reports
 
 
 def told_in_words(text: str) -> set[Difference]:
     """The differences in a printed report. It has only the ends of a chain."""
     found = set()
-    heading: tuple[str, str] = ("", "")
-    place: Place = ()
-    fields: list[str] = []
-
-    def add() -> None:
-        if place:
-            found.add(Difference(*heading, place, frozenset(fields)))
-
-    for line in text.splitlines():
-        opened = WORDS_HEADING.fullmatch(line)
-        if opened or re.match(r" {2}\S", line):
-            add()
-            place, fields = (), []
-        if opened:
-            heading = (opened[1], opened[2])
-        elif re.match(r" {2}\S", line):
-            place = tuple(map(point_of_words, DEGREES.findall(line)))
-        elif re.match(r" {6}\S", line):
-            fields.append(re.split(r" {2,}", line.strip())[0])
-    add()
+    _, *sections = re.split(WORDS_HEADING, text)
+    for what, kind, listed in zip(sections[::4], sections[1::4], sections[3::4]):
+        for title, table in re.findall(r"(?m)^ {2}(\S.*)\n?((?: {6}.*\n?)*)", listed):
+            place = tuple(map(point_of_words, DEGREES.findall(title)))
+            if place:
+                fields = re.findall(r"(?m)^ {6}(\S.*?)(?: {2}|$)", table)
+                found.add(Difference(what, kind, place, frozenset(fields)))
     return found
 
 
@@ -85,9 +66,7 @@ def point_of_words(parts: tuple[str, ...]) -> Point:
 def in_words(difference: Difference) -> Difference:
     """A difference as a printed report has it."""
     place = difference.place
-    return Difference(
-        difference.what, difference.kind, (place[0], place[-1]) if difference.what == "chain" else place, difference.fields
-    )
+    return replace(difference, place=(place[0], place[-1])) if difference.what == "chain" else difference
 
 
 def counts_in_words(text: str) -> dict[str, list[str]]:

@@ -5,7 +5,7 @@ from __future__ import annotations
 import re
 
 import pytest
-from support import ROOT
+from testing import ROOT
 
 from tigercanon.differences.columns import CHAIN, LANDMARK, LENGTHS, LINK, NAME, POLYGON, RANGE, Layout
 

@@ -4,7 +4,6 @@ from __future__ import annotations
 
 import json
 import os
-import resource
 import signal
 import stat
 import subprocess
@@ -13,7 +12,7 @@ from pathlib import Path
 from typing import Any
 
 import pytest
-from support import NAME, Ended, begin, end, environment, put, words_of
+from support import NAME, Ended, begin, end, environment, limit_files, put, words_of
 
 from .county import made_county, written
 from .reports import diff
@@ -229,11 +228,8 @@ def test_files_that_are_in_use(words: list[str], line: str) -> None:
 def test_a_full_disk() -> None:
     """A file that can't be written to its end isn't left behind, and an older file of its name is unchanged."""
     put("geojson", b"older")
-    limit = (20_000, 20_000)
-    assert_fails(
-        *("geojson: can't be written: File too large", "--geojson", "geojson", "--all", "one", "other"),
-        preexec_fn=lambda: resource.setrlimit(resource.RLIMIT_FSIZE, limit),
-    )
+    words = ("--geojson", "geojson", "--all", "one", "other")
+    assert_fails("geojson: can't be written: File too large", *words, preexec_fn=limit_files(20_000))
     assert Path("geojson").read_bytes() == b"older"
 
 

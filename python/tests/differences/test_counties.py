@@ -6,24 +6,16 @@ import re
 from collections import Counter
 from copy import deepcopy
 from pathlib import Path
-from typing import Any, NamedTuple
+from typing import NamedTuple
 
 import pytest
+from support import put
 
 from .changes import Changing, much_changed
 from .county import County, made_county, written
-from .reports import (
-    KINDS,
-    counts_in_words,
-    diff,
-    in_words,
-    needs_leaflet,
-    page_data,
-    put_in,
-    told_in_geojson,
-    told_in_page,
-    told_in_words,
-)
+from .reports import KINDS, counts_in_words, diff, in_words, needs_leaflet, page_data, told_in_geojson, told_in_page, told_in_words
+
+SUBJECTS = ("chain", "landmark", "polygon")
 
 
 class Made(NamedTuple):
@@ -37,19 +29,10 @@ class Made(NamedTuple):
 
     def counts(self) -> dict[str, list[str]]:
         """The table of counts, as it follows from the changes."""
-        told = Counter((difference.what, difference.kind) for difference in self.changing.differences)
-        subjects: dict[str, list[Any]] = {
-            "chain": self.county.chains,
-            "landmark": self.county.landmarks,
-            "polygon": self.county.polygons,
-        }
-        names = {KINDS[0]: "0", KINDS[1]: str(len(self.changing.names)), KINDS[2]: "-"}
-        alike = [len(parts) - told[what, KINDS[0]] - told[what, KINDS[2]] for what, parts in subjects.items()]
-        return {
-            "": ["chains", "landmarks", "polygons", "feature", "names"],
-            **{kind: [*(str(told[what, kind]) for what in subjects), names[kind]] for kind in KINDS},
-            "alike": [*(f"{count:,}" for count in alike), str(len(self.county.names))],
-        }
+        told = self.changing.counts(self.county)
+        names = dict(zip((*KINDS, "alike"), ("0", str(len(self.changing.names)), "-", str(len(self.county.names)))))
+        table = {kind: [*(f"{told[what, kind]:,}" for what in SUBJECTS), count] for kind, count in names.items()}
+        return {"": ["chains", "landmarks", "polygons", "feature", "names"], **table}
 
 
 @pytest.fixture(scope="module")
@@ -57,8 +40,8 @@ def made(tmp_path_factory: pytest.TempPathFactory) -> Made:
     folder = tmp_path_factory.mktemp("counties")
     county = made_county(56, 52, 1)
     changing = much_changed(county, 2)
-    first, copy = put_in(folder, "first.txt", written(county, 3)), put_in(folder, "copy.txt", written(county, 4))
-    return Made(county, changing, first, copy, put_in(folder, "second.txt", written(changing.county, 5)))
+    first, copy = put(folder / "first.txt", written(county, 3)), put(folder / "copy.txt", written(county, 4))
+    return Made(county, changing, first, copy, put(folder / "second.txt", written(changing.county, 5)))
 
 
 def test_size(made: Made) -> None:
@@ -107,17 +90,17 @@ def test_all(made: Made, room: Path) -> None:
     """With --all there is a feature for each chain, landmark and polygon of both maps."""
     diff("--geojson", "all.geojson", "--all", made.first, made.second)
     features = Counter((told.what, told.kind) for told in told_in_geojson(room / "all.geojson"))
-    counts = made.counts()
-    for place, what in enumerate(("chain", "landmark", "polygon")):
+    counts = made.changing.counts(made.county)
+    for what in SUBJECTS:
         for kind in (*KINDS, "alike"):
-            assert features[what, kind] == int(counts[kind][place].replace(",", "")), (what, kind)
+            assert features[what, kind] == counts[what, kind], (what, kind)
 
 
 def test_masks(made: Made, room: Path) -> None:
     """A flag hides the differences in the fields that it leaves out, and no others."""
     other = deepcopy(made.county)
     other.chains[0].fields["SOURCE"] = "Z"
-    second = put_in(room, "sources.txt", written(other, 8))
+    second = put(room / "sources.txt", written(other, 8))
     for flags, status in (((), 1), (("--no-reserved",), 1), (("--no-sources",), 0)):
         assert diff(*flags, made.first, second).status == status, flags
 
@@ -126,7 +109,7 @@ def test_ties(made: Made, room: Path) -> None:
     """If nothing differs except how things are tied, the report names the places."""
     changing = Changing.begin(made.county, 6)
     points = changing.split_nodes(2)
-    ended = diff(made.first, put_in(room, "tied.txt", written(changing.county, 7)))
+    ended = diff(made.first, put(room / "tied.txt", written(changing.county, 7)))
     assert ended.status == 1
     assert "What differs is how they are tied" in ended.out
     assert ended.out.count("one node in the first, 2 in the second:") == 2

@@ -8,10 +8,11 @@ import subprocess
 from pathlib import Path
 
 import pytest
+from support import put
 
 from .changes import much_changed
 from .county import made_county, written
-from .reports import KINDS, diff, put_in
+from .reports import KINDS, diff
 
 
 def ogrinfo(path: Path, *words: str) -> str:
@@ -30,7 +31,7 @@ def count(text: str) -> int:
 def test_ogrinfo(room: Path) -> None:
     county = made_county(20, 20, 8)
     changing = much_changed(county, 9)
-    first, second = put_in(room, "first.txt", written(county, 10)), put_in(room, "second.txt", written(changing.county, 11))
+    first, second = put(room / "first.txt", written(county, 10)), put(room / "second.txt", written(changing.county, 11))
     geojson = room / "differences.geojson"
     assert diff("--geojson", geojson, first, second).status == 1
     text = ogrinfo(geojson)

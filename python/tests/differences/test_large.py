@@ -8,7 +8,7 @@ import time
 from pathlib import Path
 
 import pytest
-from support import environment, words_of
+from support import PROGRAM, environment, put, words_of
 
 from tigercanon.differences import page as page_module
 from tigercanon.differences.matching import compare
@@ -18,7 +18,7 @@ from tigercanon.differences.reading import read_county
 from .browser import Browser, needs_browser
 from .changes import much_changed
 from .county import made_county, written
-from .reports import PROGRAM, put_in, sets_of, told_in_page
+from .reports import sets_of, told_in_page
 
 CHAINS = 100_000
 
@@ -50,14 +50,14 @@ def test_page(room: Path) -> None:
     county = made_county(266, 240, 12)
     assert len(county.chains) > CHAINS
     changing = much_changed(county, 13)
-    first, second = put_in(room, "first.txt", written(county, 14)), put_in(room, "second.txt", written(changing.county, 15))
+    first, second = put(room / "first.txt", written(county, 14)), put(room / "second.txt", written(changing.county, 15))
     unit = time.process_time() - began
     page = room / "page.html"
     seconds, megabytes = measured("--page", page, first, second)
     assert told_in_page(page) == changing.differences
     small = made_county(20, 20, 12)
     measured(
-        "--page", "small.html", put_in(room, "one", written(small)), put_in(room, "other", written(much_changed(small, 13).county))
+        "--page", "small.html", put(room / "one", written(small)), put(room / "other", written(much_changed(small, 13).county))
     )
     browser = Browser()
     try:

@@ -8,10 +8,11 @@ from pathlib import Path
 from typing import Any, NamedTuple
 
 import pytest
+from support import put
 
 from .changes import Changing, much_changed
 from .county import FILE, Landmark, Point, Values, made_county, written
-from .reports import diff, put_in
+from .reports import diff
 
 Features = list[dict[str, Any]]
 
@@ -81,7 +82,7 @@ def made(room: Path) -> Made:
     county = made_county(12, 12, 40)
     county.landmarks += [Landmark(same_place(kind), (-86_470_001, 32_460_001)) for kind in range(60, 68)]
     changing = much_changed(county, 41)
-    first, second = put_in(room, "first", written(county, 42)), put_in(room, "second", written(changing.county, 43))
+    first, second = put(room / "first", written(county, 42)), put(room / "second", written(changing.county, 43))
     return Made(first, second, {"first": records(first), "second": records(second)})
 
 
@@ -125,7 +126,7 @@ def test_ties(room: Path) -> None:
     county = made_county(8, 8, 44)
     changing = Changing.begin(county, 45)
     (split,) = changing.split_nodes(1)
-    one, tied = put_in(room, "one", written(county, 46)), put_in(room, "tied", written(changing.county, 47))
+    one, tied = put(room / "one", written(county, 46)), put(room / "tied", written(changing.county, 47))
     (tie,) = features_of(one, tied)
     found = [tie["properties"][name] for name in ("what", "differs", "first_count", "second_count")]
     assert found == ["tie", "node", 1, 2]

@@ -6,24 +6,24 @@ import base64
 import re
 import shutil
 import subprocess
-from collections import Counter
 from pathlib import Path
-from typing import Any, Iterator, NamedTuple
+from typing import Iterator, NamedTuple
 
 import pytest
-from support import ROOT
+from support import put
+from testing import ROOT
 
 from .browser import Browser, needs_browser
 from .changes import Changing, much_changed
 from .county import County, made_county, written
 from .example import example
-from .reports import EXAMPLE, diff, put_in
+from .reports import EXAMPLE, diff
 
 SCRIPT = "<script>alert(1)</script>"
 PICTURE = "<img src=x onerror=alert(1)>"
 
 pytestmark = [pytest.mark.browser, needs_browser]
-NAMES_OF_KINDS = {"in the first alone": "first", "in the second alone": "second", "changed": "changed"}
+NAMES_OF_KINDS = {"in the first alone": "first", "in the second alone": "second", "changed": "changed", "alike": "alike"}
 
 COVERED_BUTTONS = """
 const { map } = window.differences;
@@ -79,7 +79,7 @@ def browser(window: Browser) -> Iterator[Browser]:
 
 def page_of(folder: Path, name: str, first: bytes, second: bytes) -> Path:
     """A page of two sets."""
-    one, other = put_in(folder, f"{name}-<b>first", first), put_in(folder, f"{name}-<b>second", second)
+    one, other = put(folder / f"{name}-<b>first", first), put(folder / f"{name}-<b>second", second)
     ended = diff("--page", folder / f"{name}.html", one, other)
     assert ended.err == ""
     return folder / f"{name}.html"
@@ -110,16 +110,10 @@ class TestPage:
         assert "all fields" in head
 
     def test_counts(self, browser: Browser, town: Town) -> None:
-        told = Counter((difference.what, NAMES_OF_KINDS[difference.kind]) for difference in town.changing.differences)
-        parts: dict[str, list[Any]] = {
-            "chain": town.county.chains,
-            "landmark": town.county.landmarks,
-            "polygon": town.county.polygons,
-        }
-        for what, things in parts.items():
-            told[what, "alike"] = len(things) - told[what, "first"] - told[what, "changed"]
-            for kind in ("first", "second", "changed", "alike"):
-                shown = browser.texts(f'#legend [data-kind="{kind}"][data-subject="{what}"]')[0]
+        told = town.changing.counts(town.county)
+        for what in ("chain", "landmark", "polygon"):
+            for kind, name in NAMES_OF_KINDS.items():
+                shown = browser.texts(f'#legend [data-kind="{name}"][data-subject="{what}"]')[0]
                 assert int(shown.replace(",", "")) == told[what, kind], (what, kind)
         assert browser.listed() == len(town.changing.differences) + len(town.changing.names)
 

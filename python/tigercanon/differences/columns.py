@@ -6,9 +6,10 @@ among them.
 
 from __future__ import annotations
 
-from dataclasses import dataclass, field, replace
+from dataclasses import dataclass, replace
+from functools import cached_property
 from itertools import accumulate
-from typing import Iterable
+from typing import Collection
 
 
 @dataclass(frozen=True)
@@ -37,16 +38,24 @@ class Layout:
     """The columns of a record type. Joined they are a record's content, which is kept as one text."""
 
     record_type: str
-    length: int
     columns: tuple[Column, ...]
-    runs: tuple[slice, ...] = field(init=False)
-    places: dict[str, slice] = field(init=False)
 
-    def __post_init__(self) -> None:
-        ends = list(accumulate(column.width for column in self.columns))
-        places = {column.name: slice(end - column.width, end) for column, end in zip(self.columns, ends)}
-        object.__setattr__(self, "runs", tuple(runs_of(self.columns)))
-        object.__setattr__(self, "places", places)
+    @cached_property
+    def runs(self) -> list[slice]:
+        """The slices of a line that hold the columns: columns that stand side by side are one slice."""
+        runs: list[slice] = []
+        for column in self.columns:
+            if runs and runs[-1].stop == column.first - 1:
+                runs[-1] = slice(runs[-1].start, column.last)
+            else:
+                runs.append(slice(column.first - 1, column.last))
+        return runs
+
+    @cached_property
+    def places(self) -> dict[str, slice]:
+        """Where each field is in the content."""
+        ends = accumulate(column.width for column in self.columns)
+        return {column.name: slice(end - column.width, end) for column, end in zip(self.columns, ends)}
 
     def content(self, line: str) -> str:
         """The content of a record."""
@@ -62,27 +71,13 @@ class Layout:
         """The content's fields, in the order of the columns."""
         return [content[place] for place in self.places.values()]
 
-    def blanked(self, content: str, names: Iterable[str]) -> str:
+    def blanked(self, content: str, names: Collection[str]) -> str:
         """The content with blanks in these fields."""
-        hidden = [self.places[name] for name in names]
-        return "".join(
-            value if place not in hidden else " " * len(value) for place, value in zip(self.places.values(), self.values(content))
-        )
+        return "".join(" " * len(value) if name in names else value for name, value in zip(self.places, self.values(content)))
 
     def turned(self, content: str) -> str:
         """The content as seen from the chain's other end."""
         return "".join(self.value(content, column.partner or column.name) for column in self.columns)
-
-
-def runs_of(columns: tuple[Column, ...]) -> list[slice]:
-    """The slices of a line that hold these columns: columns that stand side by side are one slice."""
-    runs: list[slice] = []
-    for column in columns:
-        if runs and runs[-1].stop == column.first - 1:
-            runs[-1] = slice(runs[-1].start, column.last)
-        else:
-            runs.append(slice(column.first - 1, column.last))
-    return runs
 
 
 def on_both_sides(name: str, first: int, width: int, holds: str) -> tuple[Column, Column]:
@@ -96,6 +91,8 @@ def moved(columns: tuple[Column, ...], by: int) -> tuple[Column, ...]:
     """The same fields, `by` columns further to the right."""
     return tuple(replace(column, first=column.first + by, last=column.last + by) for column in columns)
 
+
+FILE = Column("FILE", 6, 10, "state and county")
 
 FEATURE_NAME = (
     Column("FEDIRP", 18, 19, "direction before the name"),
@@ -118,7 +115,6 @@ ADDRESSES = (
 
 CHAIN = Layout(
     "1",
-    228,
     (
         Column("SIDE1", 16, 16, "mark of a chain with one side alone"),
         Column("SOURCE", 17, 17, "where the chain comes from"),
@@ -139,15 +135,14 @@ CHAIN = Layout(
     ),
 )
 
-NAME = Layout("5", 56, (Column("FILE", 6, 10, "state and county"), *moved(FEATURE_NAME, 1)))
+NAME = Layout("5", (FILE, *moved(FEATURE_NAME, 1)))
 
-RANGE = Layout("6", 76, moved(ADDRESSES, -40))
+RANGE = Layout("6", moved(ADDRESSES, -40))
 
 LANDMARK = Layout(
     "7",
-    74,
     (
-        Column("FILE", 6, 10, "state and county"),
+        FILE,
         Column("SOURCE", 21, 21, "where it comes from"),
         Column("CFCC", 22, 24, "class of the feature"),
         Column("LANAME", 25, 54, "name"),
@@ -157,9 +152,8 @@ LANDMARK = Layout(
 
 LINK = Layout(
     "I",
-    127,
     (
-        Column("FILE", 6, 10, "state and county"),
+        FILE,
         Column("SOURCE", 71, 80, "where the link comes from"),
         Column("FTSEG", 81, 97, "segment of the feature"),
         Column("RS_I1", 98, 107, "reserved"),
@@ -168,15 +162,7 @@ LINK = Layout(
     ),
 )
 
-POLYGON = Layout(
-    "P",
-    45,
-    (
-        Column("FILE", 6, 10, "state and county"),
-        Column("POLYLONG, POLYLAT", 26, 44, "a point inside it"),
-        Column("WATER", 45, 45, "mark of water"),
-    ),
-)
+POLYGON = Layout("P", (FILE, Column("POLYLONG, POLYLAT", 26, 44, "a point inside it"), Column("WATER", 45, 45, "mark of water")))
 
 LENGTHS = {"1": 228, "2": 208, "4": 58, "5": 56, "6": 76, "7": 74, "8": 36, "I": 127, "P": 45}
 """The length of each record type's lines, without their ends."""

@@ -8,11 +8,10 @@ import gc
 import json
 import os
 import threading
-from typing import Any, Iterator
+from typing import Any
 
 from ..errors import Failure
 from ..manifest import flags_of
-from ..own import PROCESS
 from ..printing import print_lines
 from ..program import find_program
 from ..progress import report
@@ -22,7 +21,7 @@ from .numbers import own_numbers
 from .outputs import new_files
 from .page import find_leaflet, write_page
 from .reading import NotCanonical, read_county
-from .sets import Program, Sets, is_of_a_set, opened
+from .sets import Canonical, Sets, is_of_a_set, opened, printed
 from .things import KINDS, SUBJECTS
 from .words import told
 
@@ -45,29 +44,15 @@ class Progress:
 
     def __init__(self) -> None:
         self.step = ""
-        self.is_late = False
-        self.lock = threading.Lock()
-        self.timer = threading.Timer(PATIENCE, self.begin)
+        self.timer = threading.Timer(PATIENCE, self.report)
         self.timer.daemon = True
-
-    def __enter__(self) -> Progress:
         self.timer.start()
-        return self
-
-    def __exit__(self, *_: object) -> None:
-        self.timer.cancel()
-
-    def begin(self) -> None:
-        with self.lock:
-            self.is_late = True
-            self.report()
 
     def at(self, step: str) -> None:
         """Notes what is done next."""
-        with self.lock:
-            self.step = step
-            if self.is_late:
-                self.report()
+        self.step = step
+        if self.timer.finished.is_set():
+            self.report()
 
     def report(self) -> None:
         if self.step:
@@ -94,15 +79,11 @@ def add_arguments(parser: argparse.ArgumentParser) -> None:
 def run(options: argparse.Namespace) -> int:
     """Runs the subcommand and returns its exit status."""
     check_options(options)
-    is_collecting = gc.isenabled()
     gc.disable()  # the counties are kept until the end, and looking for garbage in them takes a third of the time
     try:
         return compared(options)
     except NotCanonical as fault:
         raise Failure(f"the program doesn't print a canonical text: {fault}") from None
-    finally:
-        if is_collecting:
-            gc.enable()
 
 
 def check_options(options: argparse.Namespace) -> None:
@@ -122,14 +103,15 @@ def check_options(options: argparse.Namespace) -> None:
 def compared(options: argparse.Namespace) -> int:
     """Compares the sets and writes what was asked for."""
     leaflet = find_leaflet(options.leaflet) if options.page is not None else None
-    program = Program(find_program(options.program))
+    program, masks = find_program(options.program), flags_of(options)
     with contextlib.ExitStack() as stack:
-        progress = stack.enter_context(Progress())
+        progress = Progress()
+        stack.callback(progress.timer.cancel)
         page, geojson = stack.enter_context(new_files([options.page, options.geojson]))
-        names = (options.first, options.second)
-        sources = [stack.enter_context(opened(name, options.stem)) for name in names]
+        sources = [stack.enter_context(opened(name, options.stem)) for name in (options.first, options.second)]
         progress.at("normalising both sets")
-        sets = program.normalised(sources, flags_of(options))
+        one, other = printed(program, ("normalise", *masks), sources)
+        sets = Sets(Canonical(options.first, one), Canonical(options.second, other), masks)
         progress.at("reading the canonical texts")
         first, second = read_county(sets.first.text), read_county(sets.second.text)
         progress.at(f"comparing {len(first.chains):,} chains with {len(second.chains):,}")
@@ -137,24 +119,21 @@ def compared(options: argparse.Namespace) -> int:
         numbers: BothOwn = ()
         if geojson or options.json:
             progress.at("finding the sets' own numbers")
-            texts = zip(program.respelled(sources), (first, second))
-            numbers = [own_numbers(read_county(text), county, sets.masks) for text, county in texts]
+            texts = zip(printed(program, ["respell"], sources), (first, second))
+            numbers = [own_numbers(read_county(text), county, masks) for text, county in texts]
         if page and leaflet:
             progress.at("writing the page")
             write_page(page, comparison, sets, leaflet)
         if geojson and numbers:
             progress.at("writing GeoJSON")
             write_geojson(geojson, comparison, sets, numbers, options.all)
-    if options.json and numbers:
-        print_lines(as_json(comparison, sets, numbers))
-    else:
-        print_lines(told(comparison, sets, options.summary))
+    print_lines(as_json(comparison, sets, numbers) if options.json else told(comparison, sets, options.summary))
     return int(not sets.are_one_map)
 
 
-def as_json(comparison: Comparison, sets: Sets, own: BothOwn) -> Iterator[str]:
+def as_json(comparison: Comparison, sets: Sets, own: BothOwn) -> list[str]:
     """The counts and the differences, as one JSON object."""
     answer: dict[str, Any] = head(comparison, sets)
     answer["counts"] = {f"{subject.what}s": dict(zip(KINDS, part.counts)) for subject, part in zip(SUBJECTS, comparison.parts)}
     answer["differences"] = [feature.properties for feature in features(comparison, own)]
-    yield json.dumps(answer, ensure_ascii=False, indent=1)
+    return [json.dumps(answer, ensure_ascii=False, indent=1)]

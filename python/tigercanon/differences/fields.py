@@ -8,7 +8,7 @@ from functools import lru_cache
 from typing import Callable, Hashable, NamedTuple, Sequence, TypeVar
 
 from .columns import CHAIN, LANDMARK, LINK, NAME, POLYGON, RANGE, Layout
-from .reading import NO_POINT, POINT_WIDTH, Chain, County, Landmark, Name, Place, Polygon, PolygonKey
+from .reading import NO_POINT, POINT_WIDTH, Chain, County, Landmark, Place, Polygon, PolygonKey
 
 NONE = "(none)"
 BLANK = "(blank)"
@@ -37,6 +37,9 @@ class Text(NamedTuple):
     exact: str
     mark: Hashable
 
+
+NOTHING = Text("", "", "")
+"""A field that isn't there."""
 
 Fields = dict[FieldName, Text]
 
@@ -168,52 +171,35 @@ def aligned(first: Sequence[T], second: Sequence[T], mark: Callable[[T], Hashabl
 
 def rows(first: Fields | None, second: Fields | None) -> list[Row]:
     """The fields of what both maps have or one of them alone, in the order of the first, without those that are blank in both."""
-    is_alone = first is None or second is None
-    first, second = first or {}, second or {}
     table = []
-    for name in {**first, **second}:
-        one, other = first.get(name), second.get(name)
-        if not ((one and one.plain) or (other and other.plain)):
-            continue
-        if is_alone:
-            table.append(Row(name, one and one.plain, other and other.plain, False, exact(one), exact(other)))
+    for name in {**(first or {}), **(second or {})}:
+        one, other = (first or {}).get(name, NOTHING), (second or {}).get(name, NOTHING)
+        if first is None or second is None:
+            plain = (None, other.plain) if first is None else (one.plain, None)
+            row = Row(name, *plain, False, one.exact, other.exact)
         else:
-            table.append(Row(name, shown(name, one, other), shown(name, other, one), differ(one, other), exact(one), exact(other)))
+            row = Row(name, shown(name, one, other), shown(name, other, one), differ(one, other), one.exact, other.exact)
+        table += [row] if one.plain or other.plain else []
     return table
 
 
-def fields_of(tell: Callable[[T], Fields], thing: T | None) -> Fields | None:
-    """The fields of a thing, if there is one."""
-    return None if thing is None else tell(thing)
-
-
-def differ(one: Text | None, other: Text | None) -> bool:
+def differ(one: Text, other: Text) -> bool:
     """Whether a field says something else in the two maps. One that isn't there says as little as a blank one."""
-    return mark_of(one) != mark_of(other)
+    return (one.plain and one.mark) != (other.plain and other.mark)
 
 
-def mark_of(text: Text | None) -> Hashable | None:
-    return text.mark if text is not None and text.plain else None
-
-
-def exact(text: Text | None) -> str:
-    return text.exact if text is not None else ""
-
-
-def shown(name: FieldName, text: Text | None, other: Text | None) -> str:
+def shown(name: FieldName, text: Text, other: Text) -> str:
     """A field in words. If it would read like the other map's, which is another, it is shown byte for byte."""
     if name.kind == "flag":
-        return YES if text is not None and text.plain else NO
-    if text is None or not text.exact:
+        return YES if text.plain else NO
+    if not text.exact:
         return NONE
-    if other is not None and text.plain == other.plain and text.exact != other.exact:
-        return f'"{text.exact}"'
-    return text.plain or BLANK
+    return f'"{text.exact}"' if text.plain == other.plain and text.exact != other.exact else text.plain or BLANK
 
 
 def count_of_differing(first: Fields, second: Fields) -> int:
     """In how many fields two chains differ."""
-    return sum(differ(first.get(name), second.get(name)) for name in {**first, **second})
+    return sum(differ(first.get(name, NOTHING), second.get(name, NOTHING)) for name in {**first, **second})
 
 
 def text_of(is_there: bool) -> Text:

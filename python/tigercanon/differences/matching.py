@@ -93,14 +93,9 @@ def compare(first: County, second: County) -> Comparison:
     polygons = match_polygons(first, second, certain)
     one, other = marks_of(polygons)
     tellers = Teller(first, one), Teller(second, other)
-    return Comparison(
-        *tellers,
-        certain,
-        chains=match_chains(groups, *tellers),
-        landmarks=match_landmarks(*tellers),
-        polygons=polygons,
-        names=match_names(first, second),
-    )
+    same_names, ones, others = pair_by(first.names.values(), second.names.values(), lambda name: name.body)
+    names = Matched(ones, others, [], same_names)
+    return Comparison(*tellers, certain, match_chains(groups, *tellers), match_landmarks(*tellers), polygons, names)
 
 
 def pair_by(first: Iterable[T], second: Iterable[T], key: Callable[[T], Hashable | None]) -> tuple[list[Pair[T]], list[T], list[T]]:
@@ -218,7 +213,7 @@ def lesser_turn(chain: Chain, teller: Teller) -> Chain:
     return min(ways_to_see(chain), key=lambda seen: repr(says(seen, teller)))
 
 
-# Polygons, landmarks and names
+# Polygons and landmarks
 
 
 def match_polygons(first: County, second: County, certain: list[Pair[Chain]]) -> Matched[Polygon]:
@@ -246,15 +241,12 @@ def match_polygons(first: County, second: County, certain: list[Pair[Chain]]) ->
 
 def first_sides(certain: list[Pair[Chain]]) -> Pair[dict[PolygonKey, tuple[int, str]]]:
     """Of each map's polygons the first side, among the chains that both maps have, on which it lies."""
-    one_sides: dict[PolygonKey, tuple[int, str]] = {}
-    other_sides: dict[PolygonKey, tuple[int, str]] = {}
-    for place, (chain, twin) in enumerate(certain):
-        left, right = (place, "left"), (place, "right")
-        one_sides.setdefault(chain.left, left)
-        one_sides.setdefault(chain.right, right)
-        other_sides.setdefault(twin.left, left)
-        other_sides.setdefault(twin.right, right)
-    return one_sides, other_sides
+    found: Pair[dict[PolygonKey, tuple[int, str]]] = ({}, {})
+    for place, pair in enumerate(certain):
+        for sides, chain in zip(found, pair):
+            sides.setdefault(chain.left, (place, "left"))
+            sides.setdefault(chain.right, (place, "right"))
+    return found
 
 
 def marks_of(polygons: Matched[Polygon]) -> Pair[PolygonMarks]:
@@ -300,12 +292,6 @@ def match_landmarks(first: Teller, second: Teller) -> Matched[Landmark]:
     return Matched(ones, others, changed, alike)
 
 
-def match_names(first: County, second: County) -> Matched[Name]:
-    """Matches feature names by their content."""
-    alike, ones, others = pair_by(first.names.values(), second.names.values(), lambda name: name.body)
-    return Matched(ones, others, [], alike)
-
-
 # Ties
 
 
@@ -347,21 +333,18 @@ def find_ties(certain: list[Pair[Chain]], first: Teller, second: Teller) -> list
 def tied_nodes(certain: list[Pair[Chain]]) -> Iterator[Tied]:
     """The nodes at both ends of chains."""
     for chain, twin in certain:
-        if not (chain.start_node.isspace() or twin.start_node.isspace()):
-            yield Tied(chain.start_node, twin.start_node, chain, "start")
-        if not (chain.end_node.isspace() or twin.end_node.isspace()):
-            yield Tied(chain.end_node, twin.end_node, chain, "end")
+        for place, one, other in (("start", chain.start_node, twin.start_node), ("end", chain.end_node, twin.end_node)):
+            if not (one.isspace() or other.isspace()):
+                yield Tied(one, other, chain, place)
 
 
 def tied_polygons(certain: list[Pair[Chain]], first: Teller, second: Teller) -> Iterator[Tied]:
     """The polygons on sides with the same content in both maps."""
     for chain, twin in certain:
-        mark = first.marks.get(chain.left)
-        if mark is not None and mark == second.marks.get(twin.left):
-            yield Tied(chain.left, twin.left, chain, "left side")
-        mark = first.marks.get(chain.right)
-        if mark is not None and mark == second.marks.get(twin.right):
-            yield Tied(chain.right, twin.right, chain, "right side")
+        for place, one, other in (("left side", chain.left, twin.left), ("right side", chain.right, twin.right)):
+            mark = first.marks.get(one)
+            if mark is not None and mark == second.marks.get(other):
+                yield Tied(one, other, chain, place)
 
 
 def tied_names(certain: list[Pair[Chain]], first: Teller, second: Teller) -> Iterator[Tied]:

@@ -12,7 +12,7 @@ from typing import Hashable, Sequence
 
 from .columns import LANDMARK
 from .matching import compare, turned
-from .reading import Chain, County, comes_after_its_reverse
+from .reading import County, comes_after_its_reverse
 
 OwnNumbers = dict[Hashable, int]
 """The number in the user's files of each chain, landmark and polygon, by its key in the canonical text."""
@@ -21,11 +21,7 @@ OwnNumbers = dict[Hashable, int]
 def own_numbers(records: County, canonical: County, masks: Sequence[str] = ()) -> OwnNumbers:
     """The numbers in these records of the things in their canonical text, which was printed with these masks."""
     found = compare(as_in_a_canonical_text(records, masks), canonical)
-    numbers: OwnNumbers = {}
-    numbers.update((other.key, one.number) for one, other in found.chains.pairs)
-    numbers.update((other.key, one.number) for one, other in found.landmarks.pairs)
-    numbers.update((other.key, one.number) for one, other in found.polygons.pairs)
-    return numbers
+    return {other.key: one.number for part in found.parts[:3] for one, other in part.pairs}
 
 
 def as_in_a_canonical_text(county: County, masks: Sequence[str]) -> County:
@@ -35,8 +31,5 @@ def as_in_a_canonical_text(county: County, masks: Sequence[str]) -> County:
     landmarks = [
         replace(landmark, bodies=[LANDMARK.blanked(body, hidden) for body in landmark.bodies]) for landmark in county.landmarks
     ]
-    return replace(county, chains=list(map(canonical_turn, county.chains)), landmarks=landmarks)
-
-
-def canonical_turn(chain: Chain) -> Chain:
-    return turned(chain) if comes_after_its_reverse(chain.points) else chain
+    chains = [turned(chain) if comes_after_its_reverse(chain.points) else chain for chain in county.chains]
+    return replace(county, chains=chains, landmarks=landmarks)

@@ -45,10 +45,6 @@ class NewFile:
             os.fsync(self.file.fileno())
             self.file.close()
 
-    def take_place(self) -> None:
-        with self.told():
-            os.replace(self.path, self.place)
-
     def discard(self) -> None:
         """Leaves nothing behind. A file that has taken its place stays."""
         with suppress(OSError):
@@ -90,4 +86,5 @@ def new_files(names: Sequence[str | None]) -> Iterator[list[NewFile | None]]:
         for file in filter(None, files):
             file.finish()
         for file in filter(None, files):
-            file.take_place()
+            with file.told():
+                os.replace(file.path, file.place)

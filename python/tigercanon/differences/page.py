@@ -104,28 +104,25 @@ class PageData:
             return [label, row.first]
         return [label, row.first, row.second, int(row.differs)]
 
-    def alike_chains(self) -> list[list[int]]:
-        """The points of the chains that are alike. Each chain's first point is a distance from the first point of the chain before it."""
+    def alike(self, with_chains: bool) -> dict[str, list[Any]]:
+        """What is alike: chains and the numbers of their titles, landmarks that have a place, each as the number of its title and its
+        points, and the points inside polygons. Each chain's first point is a distance from the first point of the chain before it.
+        """
+        found, county = self.comparison, self.comparison.first.county
+        chains = [chain for chain, _ in found.chains.alike if with_chains]
         lines: list[list[int]] = []
         begin = (0, 0)
-        for chain, _ in self.comparison.chains.alike:
+        for chain in chains:
             lines.append(self.line(chain.points, begin))
             begin = (begin[0] + lines[-1][0], begin[1] + lines[-1][1])
-        return lines
-
-    def alike_titles(self) -> list[int]:
-        """The numbers of these chains' titles."""
-        return [self.title(chain_title(chain)) for chain, _ in self.comparison.chains.alike]
-
-    def alike_landmarks(self) -> list[list[Any]]:
-        """The landmarks that are alike and have a place, each as the number of its title and its points."""
-        county = self.comparison.first.county
-        places = ((landmark, landmark_points(landmark, county)) for landmark, _ in self.comparison.landmarks.alike)
-        return [[self.title(landmark_title(landmark)), *self.points(points)] for landmark, points in places if points]
-
-    def alike_polygons(self) -> list[list[int]]:
-        """The internal points of the polygons that are alike."""
-        return self.points([polygon.point for polygon, _ in self.comparison.polygons.alike if polygon.point != NO_POINT])
+        places = ((landmark, landmark_points(landmark, county)) for landmark, _ in found.landmarks.alike)
+        inside = [polygon.point for polygon, _ in found.polygons.alike if with_chains and polygon.point != NO_POINT]
+        return {
+            "chains": lines,
+            "chain_titles": [self.title(chain_title(chain)) for chain in chains],
+            "landmarks": [[self.title(landmark_title(landmark)), *self.points(points)] for landmark, points in places if points],
+            "polygons": self.points(inside),
+        }
 
     def title(self, title: str) -> int:
         return self.titles.setdefault(title, len(self.titles))
@@ -177,12 +174,7 @@ def page_data(comparison: Comparison, sets: Sets) -> dict[str, Any]:
         "counts": {subject.what: part.counts for subject, part in zip(SUBJECTS, comparison.parts)},
         "entries": data.differences(),
         "bare": {"chains": data.bare_chains, "polygons": data.bare_polygons},
-        "alike": {
-            "chains": [] if is_too_large else data.alike_chains(),
-            "chain_titles": [] if is_too_large else data.alike_titles(),
-            "landmarks": data.alike_landmarks(),
-            "polygons": [] if is_too_large else data.alike_polygons(),
-        },
+        "alike": data.alike(not is_too_large),
         "titles": list(data.titles),
         "labels": [[name.label, name.holds] for name in data.labels],
     }

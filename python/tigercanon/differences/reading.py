@@ -9,6 +9,7 @@ from __future__ import annotations
 
 from collections import defaultdict
 from dataclasses import dataclass, field
+from functools import lru_cache
 from typing import NamedTuple
 
 from .columns import CHAIN, LANDMARK, LENGTHS, LINK, NAME, POLYGON, RANGE
@@ -133,7 +134,8 @@ def read_county(text: bytes) -> County:
     """The county of a canonical text, or of respelled records."""
     records = records_of(text)
     names = {line[10:18]: Name(line[10:18], NAME.content(line)) for line in records["5"]}
-    polygons = {polygon.key: polygon for polygon in map(read_polygon, records["P"])}
+    keys = {PolygonKey(line[10:15], line[15:25]): line for line in records["P"]}
+    polygons = {key: Polygon(key, POLYGON.content(line)) for key, line in keys.items()}
     landmarks = read_landmarks(records)
     try:
         chains = read_chains(records)
@@ -163,35 +165,22 @@ def records_of(text: bytes) -> Records:
 
 
 def read_chains(records: Records) -> list[Chain]:
-    """The chains, in the order of their records of type 1. What belongs to a chain is in the order of its RTSQs."""
-    inner: dict[str, list[str]] = defaultdict(list)
-    for line in sorted(records["2"], key=sequence):
-        inner[line[5:15]].append(without_unused(line[18:]))
-    feats: dict[str, list[str]] = defaultdict(list)
-    for line in sorted(records["4"], key=sequence):
-        feats[line[5:15]] += [line[at : at + 8] for at in range(18, 58, 8) if not line[at : at + 8].isspace()]
-    ranges: dict[str, list[str]] = defaultdict(list)
-    for line in sorted(records["6"], key=sequence):
-        ranges[line[5:15]].append(RANGE.content(line))
+    """The chains, in the order of their records of type 1."""
+    inner, names, ranges = (by_chain(records[record_type]) for record_type in "246")
     links = {line[10:20]: line for line in records["I"]}
-    sides: dict[str, PolygonKey] = {}
-
-    def side(columns: str) -> PolygonKey:
-        """A side's key. Most polygons are on several sides, and share one."""
-        found = sides.get(columns)
-        if found is None:
-            found = sides[columns] = PolygonKey(columns[:5], columns[5:])
-        return found
+    # Most polygons are on several sides, and share one key.
+    side = lru_cache(maxsize=None)(lambda columns: PolygonKey(columns[:5], columns[5:]))
 
     def chain(line: str) -> Chain:
         tlid = line[5:15]
         link = links[tlid]
+        feats = [each[at : at + 8] for each in names.get(tlid, ()) for at in range(18, 58, 8)]
         return Chain(
             tlid=int(tlid),
             body=CHAIN.content(line),
-            points=line[190:209] + "".join(inner.get(tlid, ())) + line[209:],
-            feats=tuple(feats.get(tlid, ())),
-            ranges=tuple(ranges.get(tlid, ())),
+            points=line[190:209] + "".join([without_unused(each[18:]) for each in inner.get(tlid, ())]) + line[209:],
+            feats=tuple([feat for feat in feats if not feat.isspace()]),
+            ranges=tuple([RANGE.content(each) for each in ranges.get(tlid, ())]),
             link_body=LINK.content(link),
             start_node=link[20:30],
             end_node=link[30:40],
@@ -202,9 +191,12 @@ def read_chains(records: Records) -> list[Chain]:
     return [chain(line) for line in records["1"]]
 
 
-def sequence(line: str) -> str:
-    """The columns that order the records of a chain: its TLID and RTSQ."""
-    return line[5:18]
+def by_chain(lines: list[str]) -> dict[str, list[str]]:
+    """The records of each chain, by its TLID, in the order of their RTSQs."""
+    found: dict[str, list[str]] = defaultdict(list)
+    for line in sorted(lines, key=lambda line: line[5:18]):
+        found[line[5:15]].append(line)
+    return found
 
 
 def without_unused(places: str) -> str:
@@ -212,11 +204,6 @@ def without_unused(places: str) -> str:
     while places.endswith(UNUSED_PLACE):
         places = places[:-POINT_WIDTH]
     return places
-
-
-def read_polygon(line: str) -> Polygon:
-    """The polygon of a record of type P."""
-    return Polygon(PolygonKey(line[10:15], line[15:25]), POLYGON.content(line))
 
 
 def read_landmarks(records: Records) -> list[Landmark]:

@@ -100,37 +100,22 @@ def copied(name: str, target: str) -> str:
     return target
 
 
-@dataclass(frozen=True)
-class Program:
-    """The program, run for both sets at once."""
+def printed(program: str, command: Sequence[str], sources: Sequence[Source]) -> list[bytes]:
+    """What the program prints for each set, all at once. The first set that is rejected is reported."""
 
-    path: str
-
-    def normalised(self, sources: Sequence[Source], masks: tuple[str, ...] = ()) -> Sets:
-        """The canonical texts of two sets."""
-        first, second = self.printed(("normalise", *masks), sources)
-        return Sets(Canonical(sources[0].name, first), Canonical(sources[1].name, second), masks)
-
-    def respelled(self, sources: Sequence[Source]) -> list[bytes]:
-        """The records of both sets in canonical spelling, with their own numbers."""
-        return self.printed(("respell",), sources)
-
-    def printed(self, command: Sequence[str], sources: Sequence[Source]) -> list[bytes]:
-        """What the program prints for each set. The first set that is rejected is reported."""
-        with ThreadPoolExecutor() as threads:
-            return list(threads.map(lambda source: self.printed_for(source, command), sources))
-
-    def printed_for(self, source: Source, command: Sequence[str]) -> bytes:
-        words = [self.path, *command, *source.words]
+    def printed_for(source: Source) -> bytes:
         try:
-            ended = PROCESS.run(words, environment(), None)
+            ended = PROCESS.run([program, *command, *source.words], environment(), None)
         except OSError as error:
-            raise Failure(f"the program {self.path} can't be run: {reason(error)}") from None
+            raise Failure(f"the program {program} can't be run: {reason(error)}") from None
         if ended.status != 0:
             line = complaint(ended)
             more = hint(line, source.files)
             raise Failure(f"{printable(source.name)}: {line}{f'; {more}' if more else ''}")
         return ended.out
+
+    with ThreadPoolExecutor() as threads:
+        return list(threads.map(printed_for, sources))
 
 
 def is_of_a_set(output: str, names: Sequence[str]) -> bool:

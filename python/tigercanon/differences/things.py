@@ -11,7 +11,6 @@ from .fields import (
     Row,
     chain_title,
     degrees,
-    fields_of,
     landmark_points,
     landmark_rows,
     landmark_title,
@@ -21,7 +20,7 @@ from .fields import (
     rows,
 )
 from .matching import Comparison, Matched
-from .reading import NO_POINT, POINT_WIDTH, County
+from .reading import NO_POINT, POINT_WIDTH
 
 KINDS = ("in the first alone", "in the second alone", "changed", "alike")
 
@@ -43,11 +42,6 @@ class Thing:
     def either(self) -> Any:
         """The thing as the first map has it, or else the second."""
         return self.other if self.one is None else self.one
-
-    @property
-    def county(self) -> County:
-        """The map that `either` is of."""
-        return (self.comparison.second if self.one is None else self.comparison.first).county
 
     @property
     def name(self) -> str:
@@ -90,7 +84,7 @@ class ChainThing(Thing):
     @property
     def rows(self) -> list[Row]:
         first, second = self.comparison.first, self.comparison.second
-        return rows(fields_of(first.chain, self.one), fields_of(second.chain, self.other))
+        return rows(self.one and first.chain(self.one), self.other and second.chain(self.other))
 
 
 class LandmarkThing(Thing):
@@ -108,7 +102,8 @@ class LandmarkThing(Thing):
 
     @property
     def points(self) -> list[str]:
-        return landmark_points(self.either, self.county)
+        teller = self.comparison.second if self.one is None else self.comparison.first
+        return landmark_points(self.either, teller.county)
 
     @property
     def rows(self) -> list[Row]:
@@ -136,7 +131,7 @@ class PolygonThing(Thing):
 
     @property
     def rows(self) -> list[Row]:
-        return rows(fields_of(polygon_fields, self.one), fields_of(polygon_fields, self.other))
+        return rows(self.one and polygon_fields(self.one), self.other and polygon_fields(self.other))
 
 
 class NameThing(Thing):
