@@ -5,17 +5,13 @@ use Rattle.std.specs.Prelude.{MatchResult, OnOk, if◌then◌else◌, is_ok}
 use Rattle.tl_write.specs.declared.fault.WriteFault.{WriteFault}
 use Rattle.tl_layout.specs.RecordText.{text_of}
 use Rattle.tl_layout.specs.declared.record_type.Record.{Record}
-use Rattle.tl_load.specs.Choice.{tiger}
-use Rattle.tl_load.specs.Outcome.{SpellsWithin}
 use Rattle.tl_county.specs.County.{County, county_of}
 use Rattle.tl_county.specs.CountyRules.{IsCounty}
 use Rattle.tl_county.specs.Packing.{packed}
 use Rattle.tl_county.specs.Renumbering.{Renumbering, Carries}
 use Rattle.tl_county.proofs.Packing.PackedCounty.{packed_county}
-use Rattle.tl_number.specs.Accepted.{IsCanonicalThrough}
 use Rattle.tl_number.specs.Sights.{IsSight}
 use Rattle.tigercanon.specs.Normalising.{GoesOut, IsOnlyTextThrough, StopsShort}
-use Rattle.tigercanon.specs.Respelling.{record_limit}
 use Rattle.tigercanon.specs.Sets.{CarriesSetThrough, IsAcceptedSet, IsCanonSetThrough, IsCanonicalTextThrough}
 use Rattle.tigercanon.specs.Sets.{IsOneCanonicalTextThrough}
 use Rattle.tigercanon.proofs.Sets.{one_text, only_text, text_accepted, text_itself}
@@ -34,10 +30,6 @@ ok_holds P r x e h = subst (λ s. IfOk s P) e h
 
 pub err_holds : {T E : Type 0} (P : E → Type 0) (r : Result T E) (f : E) → r ≡ Err f → IfErr r P → P f
 err_holds P r f e h = subst (λ s. IfErr s P) e h
-
-pub if_ok_both : {T E : Type 0} {P Q R : T → Type 0} (r : Result T E) → ((x : T) → P x → Q x → R x) → IfOk r P → IfOk r Q → IfOk r R
-if_ok_both (Ok x) f h k = f x h k
-if_ok_both (Err e) f h k = tt
 
 pub on_ok_by : {T E P Q : Type 0} (r : Result T E) → (P → Q) → OnOk r P → OnOk r Q
 on_ok_by (Ok x) f h = f h
@@ -67,27 +59,6 @@ goes_out failed holds old new text (Err f) long short failures bytes = ((short, 
 
 -- canonical texts through a view
 module _ (seen : County → County) (sight : IsSight seen) where
-  module _ (parts : List (List ℕ)) (records canonical : List Record) (spelled : SpellsWithin tiger record_limit parts records)
-      (of : IsCanonicalThrough seen records canonical) where
-    pub is_text : (text : List ℕ) → text ≡ text_of canonical → IsCanonicalTextThrough seen parts text
-    is_text text e = record { records = records; canonical = canonical; spelled = spelled; canonical_of = of; text_is = sym e }
-
-    pub is_only : (text : List ℕ) → text ≡ text_of canonical → IsOnlyTextThrough seen parts text
-    is_only text e = only_text seen sight parts text (is_text text e)
-
-    -- the renaming onto the canonical county carries the set onto its text
-    pub is_carried : (text : List ℕ) → text ≡ text_of canonical → (renaming : Renumbering) (a b : County)
-        → a ≡ seen (county_of records) → county_of canonical ≡ b → Carries renaming a b
-        → CarriesSetThrough seen renaming parts (text ∷ [])
-    unfolding is_text
-    is_carried text e renaming a b old new carries = record {
-      records = records;
-      other_records = canonical;
-      accepted = record { spelled = spelled; accepted = of.accepted };
-      other_accepted = text_accepted seen sight parts text (is_text text e);
-      carries = subst (Carries renaming (seen (county_of records))) (sym (of.own ∙ new)) (subst (λ c. Carries renaming c b) old carries);
-    }
-
   -- a canonical text is its own canonical text
   pub again : (parts : List (List ℕ)) (answer : List ℕ) → IsCanonicalTextThrough seen parts answer → (text : List ℕ)
       → IsOneCanonicalTextThrough seen parts text → answer ≡ text
@@ -106,14 +77,26 @@ module _ (seen : County → County) (sight : IsSight seen) where
 
   -- products of a set's canonical county
   module _ (parts : List (List ℕ)) (a canon : County) (set : IsCanonSetThrough seen parts a canon) where
-    pub text_of_set : (text : List ℕ) → text ≡ text_of (packed canon) → IsCanonicalTextThrough seen parts text
-    text_of_set = is_text parts set.records (packed canon) set.accepted.spelled set.canonical
+    abbrev pub text_of_set : (text : List ℕ) → text ≡ text_of (packed canon) → IsCanonicalTextThrough seen parts text
+    text_of_set text e = record {
+      records = set.records;
+      canonical = packed canon;
+      spelled = set.accepted.spelled;
+      canonical_of = set.canonical;
+      text_is = sym e;
+    }
 
     pub only_of_set : (text : List ℕ) → text ≡ text_of (packed canon) → IsOnlyTextThrough seen parts text
-    only_of_set = is_only parts set.records (packed canon) set.accepted.spelled set.canonical
+    only_of_set text e = only_text seen sight parts text (text_of_set text e)
 
+    -- the renaming onto the canonical county carries the set onto its text
     pub carried_of_set : IsCounty canon → (text : List ℕ) → text ≡ text_of (packed canon) → (renaming : Renumbering)
         → Carries renaming a canon → CarriesSetThrough seen renaming parts (text ∷ [])
-    carried_of_set is text e renaming =
-        is_carried parts set.records (packed canon) set.accepted.spelled set.canonical text e renaming a canon set.county_is
-        (packed_county canon is)
+    carried_of_set is text e renaming carries = record {
+      records = set.records;
+      other_records = packed canon;
+      accepted = set.accepted;
+      other_accepted = text_accepted seen sight parts text (text_of_set text e);
+      carries = subst (Carries renaming (seen (county_of set.records))) (sym (set.canonical.own ∙ packed_county canon is))
+          (subst (λ c. Carries renaming c canon) set.county_is carries);
+    }

@@ -20,14 +20,7 @@ taken_all (Some all) (Some rest) taken c e = sym (c ∙ ap (λ (l : List ℕ). t
 
 pub no_device_reported : (f : LoadFault) → (f ≡ faults.Device → ⊥) → is_device_fault f ≡ false
 no_device_reported faults.Device h = absurd (h refl)
-no_device_reported (faults.UnknownType a b) h = refl
-no_device_reported (faults.LineTooLong a b) h = refl
-no_device_reported (faults.BadByte a b c) h = refl
-no_device_reported (faults.BadNumber a b c) h = refl
-no_device_reported (faults.BadPoint a b c) h = refl
-no_device_reported (faults.GapInRecord a b c) h = refl
-no_device_reported (faults.TooManyRecords a) h = refl
-no_device_reported faults.Memory h = refl
+no_device_reported f h = refl
 
 pub none_device : (o : Option LoadFault) → o ≡ None → IfSome o IsNotDevice
 none_device None e = tt

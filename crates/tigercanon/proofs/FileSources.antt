@@ -69,10 +69,7 @@ module _ {S R : Type 0} (left : S → Option (List ℕ)) (given : S → ℕ) (re
   )
   read_held [] (b ∷ bs) after parts s r = absurd cc
   read_held (f ∷ fs) [] after parts s r = absurd cc
-  read_held [] [] (n ∷ ns) parts s r = absurd r
-  read_held [] [] [] (p ∷ ps) s r = absurd r
-  read_held (f ∷ fs) (b ∷ bs) [] parts s r = absurd r
-  read_held (f ∷ fs) (b ∷ bs) (n ∷ ns) [] s r = absurd r
+  read_held files before after parts s r = absurd r
 
   -- some parts that the files contain
   some_parts : (files : List (Opened R)) → (parts : List (List ℕ)) × AreHeld remaining files parts
@@ -105,9 +102,7 @@ module _ {S R : Type 0} (left : S → Option (List ℕ)) (given : S → ℕ) (re
       behind (inr h) = inr (h.0, (here, h.1))
   going_on [] (b ∷ bs) after closed bytes s r = absurd cc
   going_on (f ∷ fs) [] after closed bytes s r = absurd cc
-  going_on [] [] (n ∷ ns) closed bytes s r = absurd r
-  going_on [] [] [] (p ∷ ps) bytes s r = absurd r
-  going_on (f ∷ fs) (b ∷ bs) [] closed bytes s r = absurd r
+  going_on files before after closed bytes s r = absurd r
 
   module _ (files : List (Opened R)) (before after : List S) (sources : AreSourcesOf left before remaining files) where
     -- the files are refused for a fault in the bytes that were read

@@ -1,5 +1,5 @@
 -- The final contents of a lent writer.
-use Rattle.std.proofs.Common.{◌≡◌, ◌⊎◌, ◌+◌, ◌∙◌, inl, inr, ℕ, List, ◌∷◌, ◌++◌, Option, Some, None, Result, Ok, Err, length, take}
+use Rattle.std.proofs.Common.{◌≡◌, ◌+◌, ◌∙◌, inl, inr, ℕ, List, ◌∷◌, ◌++◌, Option, Some, None, Result, Ok, Err, length, take}
 use Rattle.std.proofs.Common.{refl, sym, ap, subst}
 use Rattle.std.proofs.Math.Seq.{take-length}
 use Rattle.std.specs.Prelude.{IfErr, OnOk}
@@ -53,18 +53,6 @@ lent_out contents start first last final name later bytes is took ends =
         (ends (lent_same name later (contents first) (contents last) bytes took xs e))
         (lent_appends name later (contents first) (contents last) bytes took)
 
--- facts about the sink hold for the writer that was lent to it
-module _ {W X : Type 0} (contents : W → Option (List ℕ)) (failed name : X → ℕ) (writer : X → W) (start final : W) (first last : X)
-    (lent : writer first ≡ start) (ends : name last ≡ name first → writer last ≡ final) where
-  pub printed_to_writer : IsPrintedTo (to_sink failed (λ s. HoldsUnderName (name s) (contents (writer s))) first last)
-      (to_writer (contents start) (contents final))
-  printed_to_writer = record {
-    got = λ bytes took. lent_out contents start (writer first) (writer last) final (name first) (name last) bytes lent took ends;
-    kept = λ same. subst (λ w. Keeps (contents start) (contents w)) (sym lent ∙ sym (ap writer same) ∙ ends (ap name same))
-        (kept (contents start));
-    failed = λ rose. tt;
-  }
-
 -- a sink that got a line has it, or it failed and has a beginning of it
 pub line_reported : {E : Type 0} (failed : E → ℕ) (holds : E → List ℕ → Type 0) (old new : E) (line : List ℕ)
     (outcome : Result (Unit {0}) WriteFault)
@@ -74,17 +62,24 @@ pub line_reported : {E : Type 0} (failed : E → ℕ) (holds : E → List ℕ �
 line_reported failed holds old new line (Ok done) whole none stopped rose = inl (none, whole)
 line_reported failed holds old new line (Err f) whole none stopped rose = inr (rose, f.written, stopped.1)
 
--- and the same for the writer that was lent to the sink
-pub line_by : {W : Type 0} (contents : W → Option (List ℕ)) (start first last final : W) (name later : ℕ) → first ≡ start
-    → (later ≡ name → last ≡ final) → (was count : ℕ) (line : List ℕ)
-    → ((count ≡ was) × ((held : List ℕ) → HoldsUnderName name (contents first) held → HoldsUnderName later (contents last) (held ++ line)))
-    ⊎ ((count ≡ was + 1) × (written : ℕ)
-    × ((held : List ℕ) → HoldsUnderName name (contents first) held → HoldsUnderName later (contents last) (held ++ take written line)))
-    → ReportsLine (contents start) (contents final) line
-line_by contents start first last final name later is ends was count line (inl h) = (
-  length line,
-  subst (Appends (contents start) (contents final)) (sym (take-length line))
-      (lent_out contents start first last final name later line is h.1 ends),
-)
-line_by contents start first last final name later is ends was count line (inr h) =
-    (h.1, lent_out contents start first last final name later (take h.1 line) is h.2 ends)
+-- facts about the sink hold for the writer that was lent to it
+module _ {W X : Type 0} (contents : W → Option (List ℕ)) (failed name : X → ℕ) (writer : X → W) (start final : W) (first last : X)
+    (lent : writer first ≡ start) (ends : name last ≡ name first → writer last ≡ final) where
+  got : (bytes : List ℕ) → Took (λ s. HoldsUnderName (name s) (contents (writer s))) first last bytes
+      → Appends (contents start) (contents final) bytes
+  got bytes took = lent_out contents start (writer first) (writer last) final (name first) (name last) bytes lent took ends
+
+  pub printed_to_writer : IsPrintedTo (to_sink failed (λ s. HoldsUnderName (name s) (contents (writer s))) first last)
+      (to_writer (contents start) (contents final))
+  printed_to_writer = record {
+    got = got;
+    kept = λ same. subst (λ w. Keeps (contents start) (contents w)) (sym lent ∙ sym (ap writer same) ∙ ends (ap name same))
+        (kept (contents start));
+    failed = λ rose. tt;
+  }
+
+  pub line_to_writer : (line : List ℕ) → ReportsLineTo failed (λ s. HoldsUnderName (name s) (contents (writer s))) first last line
+      → ReportsLine (contents start) (contents final) line
+  line_to_writer line (inl h) =
+      (length line, subst (Appends (contents start) (contents final)) (sym (take-length line)) (got line h.1))
+  line_to_writer line (inr h) = (h.1, got (take h.1 line) h.2)

@@ -15,8 +15,7 @@ module _ {R : Type 0} (remaining : R → Option (List ℕ)) (given : R → ℕ) 
   abbrev pub GaveParts : List R → List R → List (List ℕ) → Type 0
   GaveParts before after [] = after ≡ before
   GaveParts (b ∷ bs) (n ∷ ns) (part ∷ parts) = Gave remaining given b n part × IsAtEnd (remaining n) × GaveParts bs ns parts
-  GaveParts [] after (part ∷ parts) = ⊥
-  GaveParts (b ∷ bs) [] (part ∷ parts) = ⊥
+  GaveParts _ _ _ = ⊥
 
   -- this many of the sources were read, and the loader was fed their bytes
   abbrev pub HasRead : {K : Type 0} → (K → List Record → Type 0) → List R → List R → ℕ → LoadedInto K → Type 0
@@ -28,8 +27,7 @@ module _ {R : Type 0} (remaining : R → Option (List ℕ)) (given : R → ℕ) 
       → get_or ns (length parts) d ≡ get_or bs (length parts) d
   next_untouched bs ns [] d g = ap (λ (rs : List R). get_or rs 0 d) g
   next_untouched (b ∷ bs) (n ∷ ns) (part ∷ parts) d g = next_untouched bs ns parts d g.2
-  next_untouched [] ns (part ∷ parts) d g = absurd g
-  next_untouched (b ∷ bs) [] (part ∷ parts) d g = absurd g
+  next_untouched bs ns parts d g = absurd g
 
   -- the next source was read to its end too
   pub one_more : (bs ns : List R) (parts : List (List ℕ)) (d x : R) (part : List ℕ) → GaveParts bs ns parts → length parts < length bs
@@ -40,8 +38,7 @@ module _ {R : Type 0} (remaining : R → Option (List ℕ)) (given : R → ℕ) 
       subst (λ (rs : List R). GaveParts (b ∷ bs) (set rs 0 x) (part ∷ [])) (sym g) (gave, end, refl)
   one_more (b ∷ bs) (n ∷ ns) (p ∷ parts) d x part g l gave end =
       (g.0, g.1, one_more bs ns parts d x part g.2 (omega arith) gave end)
-  one_more [] ns (p ∷ parts) d x part g l gave end = absurd g
-  one_more (b ∷ bs) [] (p ∷ parts) d x part g l gave end = absurd g
+  one_more bs ns parts d x part g l gave end = absurd g
 
   -- or it returned these bytes, and reading stopped
   pub up_to_next : (bs ns : List R) (parts : List (List ℕ)) (d x : R) (bytes : List ℕ) → GaveParts bs ns parts
@@ -52,8 +49,7 @@ module _ {R : Type 0} (remaining : R → Option (List ℕ)) (given : R → ℕ) 
       subst (λ (rs : List R). AreReadUpTo remaining given (b ∷ bs) (set rs 0 x) [] bytes) (sym g) (gave, refl)
   up_to_next (b ∷ bs) (n ∷ ns) (p ∷ parts) d x bytes g l gave =
       (g.0, g.1, up_to_next bs ns parts d x bytes g.2 (omega arith) gave)
-  up_to_next [] ns (p ∷ parts) d x bytes g l gave = absurd g
-  up_to_next (b ∷ bs) [] (p ∷ parts) d x bytes g l gave = absurd g
+  up_to_next bs ns parts d x bytes g l gave = absurd g
 
   -- a source that wasn't read returned nothing
   none_taken : (known : Option (List ℕ)) → Consumes known known []
@@ -69,8 +65,7 @@ module _ {R : Type 0} (remaining : R → Option (List ℕ)) (given : R → ℕ) 
   nothing_more (b ∷ bs) ns [] g =
       subst (λ (rs : List R). AreReadUpTo remaining given (b ∷ bs) rs [] []) (sym g) (gave_nothing b, refl)
   nothing_more (b ∷ bs) (n ∷ ns) (part ∷ parts) g = (g.0, g.1, nothing_more bs ns parts g.2)
-  nothing_more [] ns (part ∷ parts) g = absurd g
-  nothing_more (b ∷ bs) [] (part ∷ parts) g = absurd g
+  nothing_more bs ns parts g = absurd g
 
   -- as many parts as sources are all
   pub all_read : (bs ns : List R) (parts : List (List ℕ)) → GaveParts bs ns parts → length parts ≡ length bs
@@ -78,8 +73,7 @@ module _ {R : Type 0} (remaining : R → Option (List ℕ)) (given : R → ℕ) 
   all_read [] ns [] g e = subst (λ (rs : List R). AreRead remaining given [] rs []) (sym g) tt
   all_read (b ∷ bs) ns [] g e = absurd (omega arith)
   all_read (b ∷ bs) (n ∷ ns) (part ∷ parts) g e = (g.0, g.1, all_read bs ns parts g.2 (omega arith))
-  all_read [] ns (part ∷ parts) g e = absurd g
-  all_read (b ∷ bs) [] (part ∷ parts) g e = absurd g
+  all_read bs ns parts g e = absurd g
 
   -- the same if the number of parts is a place
   module _ (bs ns : List R) (parts : List (List ℕ)) (i : ℕ) (d x : R) (g : GaveParts bs ns parts) (e : length parts ≡ i)

@@ -1,5 +1,5 @@
 -- A set is refused for the fault of its records.
-use Rattle.std.proofs.Common.{◌≡◌, ◌≢◌, ◌⊎◌, ℕ, List, Option, inl, inr, refl, subst}
+use Rattle.std.proofs.Common.{◌≢◌, ℕ, List, Option, subst}
 use Rattle.tl_layout.specs.declared.record_type.Record.{Record}
 use Rattle.tl_load.specs.Choice.{tiger}
 use Rattle.tl_layout.specs.Tables.{HoldsByType}
@@ -8,13 +8,6 @@ use Rattle.tl_load.specs.Outcome.{SpellsWithin}
 use Rattle.tl_load.specs.declared.fault.LoadFault.TheVariants.{Device}
 use Rattle.tl_load.proofs.RecordLines.{spelled_fit, accepted_within}
 use Rattle.tl_county.specs.Limits.{HoldsWithinLimits}
-use Rattle.tl_county.specs.declared.fault.LinkFault.{LinkFault}
-use Rattle.tl_county.specs.declared.fault.LinkFault.TheVariants.{ChainTwice, NoChain, SequenceBroken, LinkMissing, LinkTwice}
-use Rattle.tl_county.specs.declared.fault.LinkFault.TheVariants.{NameTwice, NameUnknown, PolygonTwice, LandUnknown, PolygonUnknown}
-use Rattle.tl_county.specs.declared.fault.LinkFault.TheVariants.{Memory as LinkMemory}
-use Rattle.tl_profile.specs.declared.fault.ProfileFault.{ProfileFault}
-use Rattle.tl_profile.specs.declared.fault.ProfileFault.TheVariants.{PolygonWithoutChain, TooSymmetric}
-use Rattle.tl_profile.specs.declared.fault.ProfileFault.TheVariants.{Memory as ProfileMemory}
 use Rattle.tigercanon.specs.declared.fault.Fault.{Fault}
 use Rattle.tigercanon.specs.declared.fault.Fault.TheVariants.{Load, Link, Profile, Write, Memory}
 use Rattle.tl_county.specs.Packing.{Typed}
@@ -23,25 +16,6 @@ use Rattle.tigercanon.specs.Linked.{AreLinkedAs, IsLinkedSet}
 use Rattle.tigercanon.specs.Normalising.{ReportsRead}
 use Rattle.tigercanon.specs.Reading.{AreRead}
 use Rattle.tigercanon.specs.Respelling.{record_limit}
-
--- a fault of linking or of admission is out of memory or not
-pub link_memory_or_not : (f : LinkFault) → (f ≡ LinkMemory) ⊎ (f ≢ LinkMemory)
-link_memory_or_not LinkMemory = inl refl
-link_memory_or_not (ChainTwice t) = inr (λ e. cc)
-link_memory_or_not (NoChain r t) = inr (λ e. cc)
-link_memory_or_not (SequenceBroken r t) = inr (λ e. cc)
-link_memory_or_not (LinkMissing t) = inr (λ e. cc)
-link_memory_or_not (LinkTwice t) = inr (λ e. cc)
-link_memory_or_not (NameTwice n) = inr (λ e. cc)
-link_memory_or_not (NameUnknown t n) = inr (λ e. cc)
-link_memory_or_not (PolygonTwice c p) = inr (λ e. cc)
-link_memory_or_not (LandUnknown l) = inr (λ e. cc)
-link_memory_or_not (PolygonUnknown c p) = inr (λ e. cc)
-
-pub profile_memory_or_not : (f : ProfileFault) → (f ≡ ProfileMemory) ⊎ (f ≢ ProfileMemory)
-profile_memory_or_not ProfileMemory = inl refl
-profile_memory_or_not (PolygonWithoutChain c p) = inr (λ e. cc)
-profile_memory_or_not TooSymmetric = inr (λ e. cc)
 
 -- parts are refused for the fault of their records
 pub set_refused : (parts : List (List ℕ)) (records : List Record) → SpellsWithin tiger record_limit parts records → (f : Fault)

@@ -1,5 +1,5 @@
 -- Faults reported for parts that were read, as faults reported for parts and for two sets.
-use Rattle.std.proofs.Common.{◌≡◌, ◌≢◌, ◌⊎◌, ℕ, List, Result, Err, IfErr, inl, inr, refl, sym, ap, subst}
+use Rattle.std.proofs.Common.{◌≢◌, ℕ, List, Result, Err, IfErr, inl, inr, refl, ap}
 use Rattle.tl_layout.specs.declared.record_type.Record.{Record}
 use Rattle.tl_load.specs.Loaded.{IsNotDevice}
 use Rattle.tl_load.specs.declared.fault.LoadFault.{LoadFault}
@@ -14,35 +14,21 @@ use Rattle.tigercanon.specs.declared.fault.Fault.TheVariants.{Load, Link, Profil
 use Rattle.tigercanon.specs.declared.library.comparing.CompareFault.{CompareFault}
 use Rattle.tigercanon.specs.declared.library.comparing.CompareFault.TheVariants.{In, Memory as NoMemory}
 use Rattle.tigercanon.proofs.CanonicalTexts.{err_holds, if_err_by}
-use Rattle.tigercanon.proofs.Refusing.{link_memory_or_not, profile_memory_or_not}
 use Rattle.tigercanon.proofs.Sets.{accepted_set_not_refused}
 use Rattle.tigercanon.proofs.Succeeding.{memory_alone}
 
 is_not_device : (f : LoadFault) → f ≢ faults.Device → IsNotDevice f
 is_not_device faults.Device other = other refl
-is_not_device (faults.UnknownType p l) other = tt
-is_not_device (faults.LineTooLong p l) other = tt
-is_not_device (faults.BadByte p l c) other = tt
-is_not_device (faults.BadNumber p l c) other = tt
-is_not_device (faults.BadPoint p l c) other = tt
-is_not_device (faults.GapInRecord p l c) other = tt
-is_not_device (faults.TooManyRecords t) other = tt
-is_not_device faults.Memory other = tt
+is_not_device f other = tt
 
 -- for an accepted set only out of memory can be reported
 module _ (parts : List (List ℕ)) (records : List Record) (accepted : IsAcceptedSet parts records) where
   pub accepted_wants_memory : (f : Fault) → ReportsRefusalOfRead parts f → IsWantOfMemory f
   accepted_wants_memory (Load f) reported = memory_alone parts records f accepted.spelled reported.0 (is_not_device f (λ e. reported.1 (ap Load e)))
-  accepted_wants_memory (Link f) reported = go (link_memory_or_not f)
-    where
-      go : (f ≡ LinkMemory) ⊎ (f ≢ LinkMemory) → IsWantOfMemory (Link f)
-      go (inl e) = subst (λ g. IsWantOfMemory (Link g)) (sym e) tt
-      go (inr other) = absurd (accepted_set_not_refused parts records (Link f) accepted (reported.0 other))
-  accepted_wants_memory (Profile f) reported = go (profile_memory_or_not f)
-    where
-      go : (f ≡ ProfileMemory) ⊎ (f ≢ ProfileMemory) → IsWantOfMemory (Profile f)
-      go (inl e) = subst (λ g. IsWantOfMemory (Profile g)) (sym e) tt
-      go (inr other) = absurd (accepted_set_not_refused parts records (Profile f) accepted (reported.0 other))
+  accepted_wants_memory (Link LinkMemory) reported = tt
+  accepted_wants_memory (Link f) reported = absurd (accepted_set_not_refused parts records (Link f) accepted (reported.0 (λ e. cc)))
+  accepted_wants_memory (Profile ProfileMemory) reported = tt
+  accepted_wants_memory (Profile f) reported = absurd (accepted_set_not_refused parts records (Profile f) accepted (reported.0 (λ e. cc)))
   accepted_wants_memory (Write f) reported = reported.0
   accepted_wants_memory Memory reported = tt
 

@@ -101,12 +101,8 @@ one_set_refusal parts (Profile f) (Profile g) h k =
     (subst (λ (rs : List Record). IsFirstBrokenClause (county_of rs) f) (one_list parts h.0 k.0 h.1 k.1) h.3) k.3)
 one_set_refusal parts (Write f) g h k = absurd h
 one_set_refusal parts Memory g h k = absurd h
-one_set_refusal parts (Load f) (Write g) h k = absurd k
-one_set_refusal parts (Link f) (Write g) h k = absurd k
-one_set_refusal parts (Profile f) (Write g) h k = absurd k
-one_set_refusal parts (Load f) Memory h k = absurd k
-one_set_refusal parts (Link f) Memory h k = absurd k
-one_set_refusal parts (Profile f) Memory h k = absurd k
+one_set_refusal parts f (Write g) h k = absurd k
+one_set_refusal parts f Memory h k = absurd k
 
 -- canonical texts through a view
 module _ (seen : County → County) (sight : IsSight seen) where
@@ -214,6 +210,3 @@ module _ (seen : County → County) (sight : IsSight seen) where
 module _ (parts : List (List ℕ)) (text : List ℕ) where
   pub only_as_it_is : IsOnlyTextThrough plain parts text → IsOnlyText parts text
   only_as_it_is only = λ records canonical accepted is same. only records canonical accepted is refl same
-
-  pub only_through_plain : IsOnlyText parts text → IsOnlyTextThrough plain parts text
-  only_through_plain only = λ records canonical accepted is own same. only records canonical accepted is same

@@ -7,8 +7,7 @@ use Rattle.tl_load.specs.Choice.{tiger}
 use Rattle.tl_load.specs.Loaded.{IsOfLines, IsNotDevice}
 use Rattle.tl_load.specs.Outcome.{SpellsWithin}
 use Rattle.tl_load.specs.declared.fault.LoadFault.{LoadFault}
-use Rattle.tl_load.specs.declared.fault.LoadFault.TheVariants.{UnknownType, LineTooLong, BadByte, BadNumber, BadPoint}
-use Rattle.tl_load.specs.declared.fault.LoadFault.TheVariants.{GapInRecord, TooManyRecords, Device}
+use Rattle.tl_load.specs.declared.fault.LoadFault.TheVariants.{Device}
 use Rattle.tl_load.specs.declared.fault.LoadFault.TheVariants.{Memory as LoadMemory}
 use Rattle.tigercanon.specs.declared.fault.Fault.TheVariants.{Load}
 use Rattle.tigercanon.specs.Respelling.{record_limit, IsFirstFault}
@@ -18,17 +17,5 @@ pub memory_alone : (parts : List (List ℕ)) (records : List Record) (f : LoadFa
     → (IsOfLines f → IsFirstFault parts f) → IsNotDevice f → IsWantOfMemory (Load f)
 memory_alone parts records Device accepts first other = other
 memory_alone parts records LoadMemory accepts first other = tt
-memory_alone parts records (UnknownType p l) accepts first other =
-    absurd (accepted_no_fault tiger tiger_is_sound record_limit parts records _ accepts (first tt))
-memory_alone parts records (LineTooLong p l) accepts first other =
-    absurd (accepted_no_fault tiger tiger_is_sound record_limit parts records _ accepts (first tt))
-memory_alone parts records (BadByte p l c) accepts first other =
-    absurd (accepted_no_fault tiger tiger_is_sound record_limit parts records _ accepts (first tt))
-memory_alone parts records (BadNumber p l c) accepts first other =
-    absurd (accepted_no_fault tiger tiger_is_sound record_limit parts records _ accepts (first tt))
-memory_alone parts records (BadPoint p l c) accepts first other =
-    absurd (accepted_no_fault tiger tiger_is_sound record_limit parts records _ accepts (first tt))
-memory_alone parts records (GapInRecord p l c) accepts first other =
-    absurd (accepted_no_fault tiger tiger_is_sound record_limit parts records _ accepts (first tt))
-memory_alone parts records (TooManyRecords t) accepts first other =
+memory_alone parts records f accepts first other =
     absurd (accepted_no_fault tiger tiger_is_sound record_limit parts records _ accepts (first tt))

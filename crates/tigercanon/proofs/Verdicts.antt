@@ -11,7 +11,8 @@ use Rattle.tl_number.proofs.CanonicalLists.Accepted.{one_canonical_same}
 use Rattle.tigercanon.specs.Comparing.{AreDifferentThrough, AreOneMapThrough, IsAcceptable}
 use Rattle.tigercanon.specs.Findings.{Finding, IsFound, IsFoundOfCounties}
 use Rattle.tigercanon.specs.Findings.Finding.{Carried, NoMemory, OneMap, TwoMaps}
-use Rattle.tigercanon.specs.Sets.{CarriesSetThrough, IsCanonSetThrough, IsCanonicalTextThrough}
+use Rattle.tigercanon.specs.Sets.{CarriesSetThrough, IsCanonSetThrough}
+use Rattle.tigercanon.proofs.CanonicalTexts.{text_of_set}
 use Rattle.tigercanon.proofs.Sets.{one_text_one_list, same_one_text}
 
 -- counties with one packing are one county
@@ -30,29 +31,12 @@ module _ (seen : County → County) (sight : IsSight seen) (parts others : List 
     carries = subst (λ c. Carries r c (seen (county_of second.records))) first.county_is (subst (Carries r a) second.county_is carries);
   }
 
-  abbrev first_text : IsCanonicalTextThrough seen parts (text_of (packed a'))
-  first_text = record {
-    records = first.records;
-    canonical = packed a';
-    spelled = first.accepted.spelled;
-    canonical_of = first.canonical;
-    text_is = refl;
-  }
-
-  abbrev second_text : IsCanonicalTextThrough seen others (text_of (packed b'))
-  second_text = record {
-    records = second.records;
-    canonical = packed b';
-    spelled = second.accepted.spelled;
-    canonical_of = second.canonical;
-    text_is = refl;
-  }
-
   -- the canonical lists have one text, and are one list, if the counties are the same
   one_packing : AreSame (seen (county_of first.records)) (seen (county_of second.records)) → packed a' ≡ packed b'
   one_packing same =
-      one_text_one_list seen sight parts others (text_of (packed a')) (text_of (packed b')) first_text second_text
-      (same_one_text seen sight parts others (text_of (packed a')) (text_of (packed b')) first_text second_text same)
+      let text = text_of_set seen sight parts a a' first (text_of (packed a')) refl in
+      let other = text_of_set seen sight others b b' second (text_of (packed b')) refl in
+      one_text_one_list seen sight parts others _ _ text other (same_one_text seen sight parts others _ _ text other same)
 
   pub sets_different : packed a' ≢ packed b' → AreDifferentThrough seen parts others
   sets_different other = record {

@@ -1,12 +1,13 @@
 -- What the program's jobs do with sources and a sink that count their failures.
-use Rattle.std.specs.Prelude.{ℕ, ◌≡◌, ◌≢◌, ◌+◌, List, Option, Result, IfErr, ◌⊎◌}
+use Rattle.std.specs.Prelude.{ℕ, ◌≡◌, ◌≢◌, ◌+◌, List, Option, None, Result, Ok, Err, IfErr, ◌⊎◌}
 use Rattle.tigercanon.specs.declared.program.ending.Ending.{Ending}
 use Rattle.tigercanon.specs.declared.program.ending.Stopped.{Stopped}
 use Rattle.tl_load.specs.declared.fault.LoadFault.{LoadFault}
 use Rattle.tl_load.specs.declared.fault.LoadFault.TheVariants.{Device}
+use Rattle.tl_write.specs.declared.fault.WriteFault.{WriteFault}
 use Rattle.tigercanon.specs.declared.fault.Fault.{Fault}
-use Rattle.tigercanon.specs.declared.fault.Fault.TheVariants.{Load, Memory}
-use Rattle.tigercanon.specs.Normalising.{AreRefusedParts, Took}
+use Rattle.tigercanon.specs.declared.fault.Fault.TheVariants.{Load, Write, Memory}
+use Rattle.tigercanon.specs.Normalising.{AreRefusedParts, StopsShort, Took}
 use Rattle.tigercanon.specs.Outcomes.{GivenOutput, GivenSet}
 use Rattle.tigercanon.specs.Reading.{AreRead, IsFaultOfRead, SomeUnread}
 
@@ -39,3 +40,10 @@ StopsReading unread fault = ((fault ≡ Load Device) × unread) ⊎ (fault ≡ M
 -- a job that stopped reported another fault than a device's
 abbrev pub ReportsNoDevice : Result Ending Stopped → Type 0
 ReportsNoDevice result = IfErr result (λ stopped. stopped.fault ≢ Load Device)
+
+-- a job printed a text to a sink and ended in this way: the sink took the whole text, or it failed, once, and took a beginning
+abbrev pub PrintsTo : {W : Type 0} → (W → ℕ) → (W → List ℕ → Type 0) → W → W → List ℕ → Ending → Result Ending Stopped → Type 0
+PrintsTo failed holds old new text ending (Ok ended) = (ended ≡ ending) × Took holds old new text
+PrintsTo failed holds old new text ending (Err stopped) = (fault : WriteFault)
+    × (stopped ≡ record { fault = Write fault; set = None }) × (failed new ≡ failed old + 1)
+    × StopsShort holds old new text fault.written

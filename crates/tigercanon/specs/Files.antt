@@ -1,5 +1,5 @@
 -- What the files of a set hold.
-use Rattle.std.specs.Prelude.{◌≡◌, ℕ, List, [], ◌∷◌, Option, Some, None, IfSome, slice_get, map, Contains, ◌⊎◌}
+use Rattle.std.specs.Prelude.{◌≡◌, ℕ, List, [], ◌∷◌, Option, Some, None, IfSome, slice_get, map, All, Contains, ◌⊎◌}
 use Rattle.tigercanon.specs.declared.program.files.Opened.{Opened}
 use Rattle.tigercanon.specs.declared.program.files.Opened.TheVariants.{Found, Absent, Failed}
 
@@ -23,3 +23,7 @@ AreHeld remaining (file ∷ files) (part ∷ parts) = IfSome (bytes_of remaining
 -- each source gives what its file holds, if that is known
 abbrev pub AreSourcesOf : {S R : Type 0} → (S → Option (List ℕ)) → List S → (R → Option (List ℕ)) → List (Opened R) → Type 0
 AreSourcesOf left sources remaining files = map left sources ≡ map (bytes_of remaining) files
+
+-- and none has failed
+abbrev pub AreOpened : {S R : Type 0} → (S → Option (List ℕ)) → (S → ℕ) → List S → (R → Option (List ℕ)) → List (Opened R) → Type 0
+AreOpened left failed sources remaining files = AreSourcesOf left sources remaining files × All (λ source. failed source ≡ 0) sources

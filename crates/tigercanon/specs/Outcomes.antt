@@ -4,7 +4,6 @@ use Rattle.std.specs.Prelude.{ℕ, ◌≡◌, ◌<◌, ◌+◌, ◌≢◌, List,
 use Rattle.std.specs.Io.KnownBytes.{Appends}
 use Rattle.tl_layout.specs.declared.record_type.Record.{Record}
 use Rattle.tl_load.specs.Loaded.{IsOfLines}
-use Rattle.tl_load.specs.declared.fault.LoadFault.{LoadFault}
 use Rattle.tl_load.specs.declared.fault.LoadFault.TheVariants.{Device}
 use Rattle.tl_county.specs.declared.fault.LinkFault.TheVariants.{Memory as LinkMemory}
 use Rattle.tl_profile.specs.declared.fault.ProfileFault.TheVariants.{Memory as ProfileMemory}
@@ -64,13 +63,6 @@ pub record PrintsFront (IsText : List ℕ → Type 0) (written : ℕ) (out : Giv
   pub printed : out.got (take written text)
   pub short : written < length text
 
--- the answer to what the set holds was printed, or a beginning of it
-abbrev pub PrintsWhole : Answer → GivenSet → GivenOutput → Type 0
-PrintsWhole answer set = Prints (IsAnswered answer set)
-
-abbrev pub PrintsBeginning : Answer → GivenSet → ℕ → GivenOutput → Type 0
-PrintsBeginning answer set = PrintsFront (IsAnswered answer set)
-
 -- what the set holds is accepted
 pub record HoldsAccepted (set : GivenSet) : Type 0 where
   pub parts : List (List ℕ)
@@ -78,58 +70,31 @@ pub record HoldsAccepted (set : GivenSet) : Type 0 where
   pub records : List Record
   pub accepted : IsAcceptedSet parts records
 
--- if the fault is one of the set's lines, the set is refused for it, and if it is a device's, the set couldn't be read
-abbrev pub ReportsLoad : GivenSet → LoadFault → Type 0
-ReportsLoad set fault = (IsOfLines fault → set.refused (Load fault)) × (fault ≡ Device → set.unread)
-
--- for a set of which only the lines are judged, the only other fault is a failed allocation
-abbrev pub ReportsLines : GivenSet → Fault → Type 0
-ReportsLines set (Load fault) = ReportsLoad set fault
-ReportsLines set (Link _) = ⊥
-ReportsLines set (Profile _) = ⊥
-ReportsLines set (Write _) = ⊥
-ReportsLines set Memory = Unit {0}
-
--- unless the fault is a failed allocation, the set is refused for it, or it couldn't be read
+-- unless the fault is a failed allocation, the set is refused for it, or, if it is a device's, it couldn't be read
 abbrev pub ReportsSet : GivenSet → Fault → Type 0
-ReportsSet set (Load fault) = ReportsLoad set fault
+ReportsSet set (Load fault) = (IsOfLines fault → set.refused (Load fault)) × (fault ≡ Device → set.unread)
 ReportsSet set (Link fault) = fault ≢ LinkMemory → set.refused (Link fault)
 ReportsSet set (Profile fault) = fault ≢ ProfileMemory → set.refused (Profile fault)
 ReportsSet set (Write _) = ⊥
 ReportsSet set Memory = Unit {0}
 
--- the faults that a job reports for a set without an answer
-abbrev pub Reports : Job → GivenSet → Fault → Type 0
-Reports Respell = ReportsLines
-Reports Normalise = ReportsSet
-Reports Check = ReportsSet
-Reports Fingerprint = ReportsSet
-Reports Compare = λ set fault. ⊥
-
--- what a job that stopped leaves: nothing if the set has no answer, and the beginning of the answer if the output failed
-abbrev pub LeavesOf : Answer → (GivenSet → Fault → Type 0) → GivenSet → GivenOutput → Fault → Type 0
-LeavesOf answer reports set out (Write fault) = out.failed × PrintsBeginning answer set fault.written out
-LeavesOf answer reports set out fault = out.kept × reports set fault
-
-abbrev pub Leaves : Mask → Job → GivenSet → GivenOutput → Fault → Type 0
-Leaves mask job = LeavesOf (IsAnswer mask job) (Reports job)
-
--- whether a job can refuse a set for this fault: respelling checks only lines
+-- whether a job over one set can report this fault: respelling checks only lines
 abbrev pub IsReportedBy : Job → Fault → Type 0
-IsReportedBy Respell (Load _) = Unit {0}
-IsReportedBy Respell _ = ⊥
+IsReportedBy Respell (Link _) = ⊥
+IsReportedBy Respell (Profile _) = ⊥
+IsReportedBy Respell _ = Unit {0}
 IsReportedBy Normalise _ = Unit {0}
 IsReportedBy Check _ = Unit {0}
 IsReportedBy Fingerprint _ = Unit {0}
 IsReportedBy Compare _ = ⊥
 
+-- the faults that a job over one set reports for a set without an answer
+abbrev pub Reports : Job → GivenSet → Fault → Type 0
+Reports job set fault = ReportsSet set fault × IsReportedBy job fault
+
 -- the set is refused for something that the job checks
 abbrev pub Refuses : Job → GivenSet → Type 0
 Refuses job set = (fault : Fault) × IsReportedBy job fault × set.refused fault
-
--- nothing was printed, or a beginning of the answer that isn't all of it
-abbrev pub PrintsPart : Answer → GivenSet → GivenOutput → Type 0
-PrintsPart answer set out = out.kept ⊎ ((written : ℕ) × PrintsBeginning answer set written out)
 
 -- the writer got the line, or a beginning of it
 abbrev pub ReportsLine : Option (List ℕ) → Option (List ℕ) → List ℕ → Type 0

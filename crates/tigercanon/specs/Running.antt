@@ -5,6 +5,7 @@ use Rattle.tl_load.specs.declared.fault.LoadFault.TheVariants.{Device}
 use Rattle.tl_layout.specs.declared.mask.Mask.{Mask}
 use Rattle.command_line.specs.declared.plans.Job.{Job}
 use Rattle.command_line.specs.declared.plans.Job.TheVariants.{Compare}
+use Rattle.tigercanon.specs.declared.program.ending.Stopped.{Stopped}
 use Rattle.tigercanon.specs.declared.program.files.Opened.{Opened}
 use Rattle.tigercanon.specs.declared.fault.Fault.{Fault}
 use Rattle.tigercanon.specs.declared.fault.Fault.TheVariants.{Load}
@@ -70,6 +71,10 @@ abbrev pub NamesMissing : {R : Type 0} → Job → List (Opened R) → List (Ope
 NamesMissing Compare first second set =
     ((set ≡ Some 1) × IsMissing first) ⊎ ((set ≡ Some 2) × ¬ IsMissing first × IsMissing second)
 NamesMissing job first second set = (set ≡ None) × IsMissing first
+
+-- a job stopped because a file is missing, and names the set that lacks it
+abbrev pub IsOfMissing : {R : Type 0} → Job → List (Opened R) → List (Opened R) → Stopped → Type 0
+IsOfMissing job first second stopped = (stopped.fault ≡ Load Device) × NamesMissing job first second stopped.set
 
 -- the reported line says that a file is missing, and which of two sets lacks it
 abbrev pub ReportsMissing : {R : Type 0} → Job → List (Opened R) → List (Opened R) → (List ℕ → Type 0) → Type 0

@@ -1,10 +1,13 @@
 -- The exit status for a job that stopped, and for a command line that isn't a plan.
-use Rattle.std.specs.Prelude.{ℕ}
+use Rattle.std.specs.Prelude.{ℕ, Result, Ok, Err}
 use Rattle.command_line.specs.declared.plans.PlanFault.{PlanFault}
 use Rattle.command_line.specs.declared.plans.PlanFault.TheVariants.{Usage}
 use Rattle.command_line.specs.declared.plans.PlanFault.TheVariants.{Memory as PlanMemory}
 use Rattle.tigercanon.specs.declared.fault.Fault.{Fault}
 use Rattle.tigercanon.specs.declared.fault.Fault.TheVariants.{Load, Link, Profile, Write, Memory}
+use Rattle.tigercanon.specs.declared.program.ending.Ending.{Ending}
+use Rattle.tigercanon.specs.declared.program.ending.Ending.TheVariants.{Done, Different}
+use Rattle.tigercanon.specs.declared.program.ending.Stopped.{Stopped}
 use Rattle.tl_county.specs.declared.fault.LinkFault.TheVariants.{Memory as LinkMemory}
 use Rattle.tl_load.specs.declared.fault.LoadFault.TheVariants.{Device}
 use Rattle.tl_load.specs.declared.fault.LoadFault.TheVariants.{Memory as LoadMemory}
@@ -21,6 +24,12 @@ status_of (Profile ProfileMemory) = 5
 status_of (Profile _) = 3
 status_of (Write _) = 4
 status_of Memory = 5
+
+-- the status of a job: 0 if it is done, 1 if it found two sets to be different maps, and otherwise that of its fault
+abbrev pub status_of_outcome : Result Ending Stopped → ℕ
+status_of_outcome (Ok Done) = 0
+status_of_outcome (Ok Different) = 1
+status_of_outcome (Err stopped) = status_of stopped.fault
 
 -- 2 for the usage, 5 for a failed allocation
 abbrev pub plan_status_of : PlanFault → ℕ

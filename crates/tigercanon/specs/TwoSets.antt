@@ -1,17 +1,18 @@
 -- What a job did with the sets that it was given; a comparison has two.
-use Rattle.std.specs.Prelude.{ℕ, ◌≡◌, ◌++◌, ◌∷◌, [], List, Option, Some, None, ◌⊎◌, codes}
+use Rattle.std.specs.Prelude.{ℕ, ◌≡◌, ◌++◌, ◌∷◌, [], List, Option, Some, None, Result, Ok, Err, ◌⊎◌, codes}
 use Rattle.command_line.specs.declared.plans.Job.{Job}
 use Rattle.command_line.specs.declared.plans.Job.TheVariants.{Compare}
 use Rattle.tigercanon.specs.declared.program.ending.Ending.{Ending}
 use Rattle.tigercanon.specs.declared.program.ending.Ending.TheVariants.{Done, Different}
+use Rattle.tigercanon.specs.declared.program.ending.Stopped.{Stopped}
 use Rattle.tigercanon.specs.declared.fault.Fault.{Fault}
 use Rattle.tigercanon.specs.declared.fault.Fault.TheVariants.{Write}
 use Rattle.tl_cert.specs.MaskedCounty.{masked}
 use Rattle.tl_layout.specs.declared.mask.Mask.{Mask}
 use Rattle.tigercanon.specs.Comparing.{SaysSameThrough, SaysDifferentThrough}
 use Rattle.tigercanon.specs.Faults.{IsOfNoLines}
-use Rattle.tigercanon.specs.Outcomes.{GivenOutput, GivenSet, HoldsAccepted, IsAnswer, Leaves}
-use Rattle.tigercanon.specs.Outcomes.{Prints, PrintsFront, PrintsPart, PrintsWhole, Refuses, ReportsSet}
+use Rattle.tigercanon.specs.Outcomes.{GivenOutput, GivenSet, HoldsAccepted, IsAnswer, IsAnswered, Prints, PrintsFront, Refuses, Reports}
+use Rattle.tigercanon.specs.Outcomes.{ReportsSet}
 use Rattle.tigercanon.specs.Refusals.{fault_line}
 use Rattle.tigercanon.specs.Statuses.{status_of}
 
@@ -30,14 +31,16 @@ IsLineSame mask first second text = OfTwoSets (λ a b. SaysSameThrough (masked m
 abbrev pub IsLineDifferent : Mask → GivenSet → GivenSet → List ℕ → Type 0
 IsLineDifferent mask first second text = OfTwoSets (λ a b. SaysDifferentThrough (masked mask) a b text) first second
 
-abbrev pub IsLineOfVerdict : Mask → GivenSet → GivenSet → List ℕ → Type 0
-IsLineOfVerdict mask first second text = IsLineSame mask first second text ⊎ IsLineDifferent mask first second text
+-- the text that a job prints if it ends in this way; only a comparison can find its sets to be different maps
+abbrev pub IsTextOf : Mask → Job → GivenSet → GivenSet → Ending → List ℕ → Type 0
+IsTextOf mask Compare first second Done = IsLineSame mask first second
+IsTextOf mask Compare first second Different = IsLineDifferent mask first second
+IsTextOf mask job first second Done = IsAnswered (IsAnswer mask job) first
+IsTextOf mask job first second Different = λ text. ⊥
 
--- the first fact if the job's result was printed, or, for a comparison, that the sets are one map; the second if it was printed
--- that two sets are different maps
-abbrev pub where_ended : Ending → Type 0 → Type 0 → Type 0
-where_ended Done same different = same
-where_ended Different same different = different
+-- a text that a job prints, however it ends
+abbrev pub IsText : Mask → Job → GivenSet → GivenSet → List ℕ → Type 0
+IsText mask job first second text = (ending : Ending) × IsTextOf mask job first second ending text
 
 -- the line that a comparison prints
 abbrev pub line_of_ending : Ending → List ℕ
@@ -54,27 +57,25 @@ ReportsOne first second fault set = ((set ≡ Some 1) × ReportsSet first fault)
 abbrev pub IsOneRefused : GivenSet → GivenSet → Type 0
 IsOneRefused first second = (fault : Fault) × (first.refused fault ⊎ (HoldsAccepted first × second.refused fault))
 
--- what a completed job did: a comparison printed the line that its sets are one map
+-- what a completed job did: it printed its answer, and a comparison the line that its sets are one map
 abbrev pub IsDone : Mask → Job → GivenSet → GivenSet → GivenOutput → Type 0
-IsDone mask Compare first second = Prints (IsLineSame mask first second)
-IsDone mask job first second = PrintsWhole (IsAnswer mask job) first
+IsDone mask job first second = Prints (IsTextOf mask job first second Done)
 
 -- what a comparison did that found its sets to be different maps; no other job ends like this
 abbrev pub IsDifferent : Mask → Job → GivenSet → GivenSet → GivenOutput → Type 0
-IsDifferent mask Compare first second = Prints (IsLineDifferent mask first second)
-IsDifferent mask job first second = λ out. ⊥
+IsDifferent mask job first second = Prints (IsTextOf mask job first second Different)
 
--- what a comparison that stopped leaves, and the set that it names: nothing if a set is refused or couldn't be read, and, if the
--- output failed, the beginning of the line and no named set
-abbrev pub LeavesComparison : Mask → GivenSet → GivenSet → GivenOutput → Fault → Option ℕ → Type 0
-LeavesComparison mask first second out (Write fault) set =
-    (set ≡ None) × out.failed × PrintsFront (IsLineOfVerdict mask first second) fault.written out
-LeavesComparison mask first second out fault set = out.kept × ReportsOne first second fault set
+-- the faults that a job reports, with the set that it names; a job that reads one set names none
+abbrev pub ReportsFor : Job → GivenSet → GivenSet → Fault → Option ℕ → Type 0
+ReportsFor Compare first second fault set = ReportsOne first second fault set
+ReportsFor job first second fault set = (set ≡ None) × Reports job first fault
 
--- the same for any job; a job that reads one set names none
+-- what a job that stopped leaves, and the set that it names: nothing if a set is refused or couldn't be read, and, if the output
+-- failed, the beginning of the text and no named set
 abbrev pub LeavesStopped : Mask → Job → GivenSet → GivenSet → GivenOutput → Fault → Option ℕ → Type 0
-LeavesStopped mask Compare first second out fault set = LeavesComparison mask first second out fault set
-LeavesStopped mask job first second out fault set = (set ≡ None) × Leaves mask job first out fault
+LeavesStopped mask job first second out (Write fault) set =
+    (set ≡ None) × out.failed × PrintsFront (IsText mask job first second) fault.written out
+LeavesStopped mask job first second out fault set = out.kept × ReportsFor job first second fault set
 
 -- a set is refused for something that the job checks
 abbrev pub RefusesOne : Job → GivenSet → GivenSet → Type 0
@@ -83,9 +84,16 @@ RefusesOne job first second = Refuses job first
 
 -- nothing was printed, or a beginning of the job's output that isn't all of it
 abbrev pub IsPartOnly : Mask → Job → GivenSet → GivenSet → GivenOutput → Type 0
-IsPartOnly mask Compare first second out =
-    out.kept ⊎ ((written : ℕ) × PrintsFront (IsLineOfVerdict mask first second) written out)
-IsPartOnly mask job first second out = PrintsPart (IsAnswer mask job) first out
+IsPartOnly mask job first second out = out.kept ⊎ ((written : ℕ) × PrintsFront (IsText mask job first second) written out)
+
+-- what a job did, by its result
+abbrev pub Does : Mask → Job → GivenSet → GivenSet → GivenOutput → Result Ending Stopped → Type 0
+Does mask job first second out (Ok ending) = Prints (IsTextOf mask job first second ending) out
+Does mask job first second out (Err stopped) = LeavesStopped mask job first second out stopped.fault stopped.set
+
+-- the same for a job that reads one set
+abbrev pub DoesAlone : Mask → Job → GivenSet → GivenOutput → Result Ending Stopped → Type 0
+DoesAlone mask job set = Does mask job set set
 
 -- Why a job stopped: a fault, which determines the exit status, and which of two sets is at fault; the sets and what was printed
 -- for them are as the fault says, and the reported line has both.

@@ -162,6 +162,7 @@ pub(crate) fn compare_unlinked<A: UnlinkedSet, B: UnlinkedSet, V: Conclusion>(
 ///
 /// [`CompareFault::In`] with what a set is refused for, as [`crate::check`] reports it, or with a memory fault if an allocation
 /// failed for that set. [`CompareFault::Memory`] if an allocation failed for the verdict.
+#[tactic(auto, using(crate::proofs::Masking::none_is_plain))]
 pub fn compare(alloc: Global, a: &[&[u8]], b: &[&[u8]]) -> Result<Verdict, CompareFault>
     // The sets are one map only if both are accepted and this renaming carries the first onto the second,
     ensures same { (r : Renumbering) → result ≡ Ok (Verdict.Same r) → CarriesSet r (bytes_of_parts a.now) (bytes_of_parts b.now) }
@@ -209,6 +210,7 @@ pub fn compare_masked(
 /// # Errors
 ///
 /// As for [`compare`].
+#[tactic(auto, using(crate::proofs::Masking::none_is_plain))]
 pub fn are_one_map(alloc: Global, a: &[&[u8]], b: &[&[u8]]) -> Result<bool, CompareFault>
     // The sets are one map only if both are accepted and some renaming carries the first onto the second,
     ensures same { result ≡ Ok true → AreOneMap (bytes_of_parts a.now) (bytes_of_parts b.now) }

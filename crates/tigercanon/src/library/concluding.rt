@@ -24,14 +24,6 @@ pub(crate) trait Conclusion: Drop + Sized {
             (arranged_county a.now) (arranged_county b.now) (finding result) };
 }
 
-/// The renaming of a canonical county onto the county that it was made from.
-fn renaming_back<C: Chart>(alloc: Global, canon: &CanonCounty<C>) -> Result<Renaming, AllocError>
-    ensures { IfOk result (λ r. Carries r (arranged_county canon.now) (C.county (source_of canon.now))) }
-{
-    let onto = canon.renaming(alloc)?;
-    onto.inverse()
-}
-
 /// The renaming onto the county that `b` was made from, of the county that `a` was made from. The two canonical counties have the
 /// same records.
 fn renaming_between<A: Chart, B: Chart>(
@@ -43,7 +35,8 @@ fn renaming_between<A: Chart, B: Chart>(
     ensures { IfOk result (λ r. Carries r (A.county (source_of a.now)) (B.county (source_of b.now))) }
 {
     let there = a.renaming(alloc)?;
-    let back = renaming_back(alloc, b)?;
+    let onto = b.renaming(alloc)?;
+    let back = onto.inverse()?;
     there.then(&back)
 }
 

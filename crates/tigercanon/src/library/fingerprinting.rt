@@ -21,6 +21,7 @@ use tl_load::LoadFault;
 /// # Errors
 ///
 /// What the set is refused for, as for [`normalise`](crate::normalise); each refusal can also report a failed allocation.
+#[tactic(auto, using(crate::proofs::Masking::none_is_plain))]
 pub fn fingerprint(alloc: Global, parts: &[&[u8]]) -> Result<[u8; 32], Fault>
     ensures fingerprint { IfOk result (IsFingerprint (bytes_of_parts parts.now)) }
     ensures refused { IfErr result (ReportsRefusal (bytes_of_parts parts.now)) }

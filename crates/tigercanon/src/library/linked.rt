@@ -46,20 +46,6 @@ fn county_of_linked<'a>(
     }
 }
 
-/// Admits the county of linked records.
-fn admit_county<'a>(
-    alloc: Global,
-    county: CountyOver<'a>,
-    linked: &LinkedRecords,
-) -> Result<Admitted<CountyOver<'a>>, Fault>
-    requires { ⟦<CountyOver<'a> as Chart>⟧.county county ≡ county_of (type_after_type linked.now) }
-    ensures accepted { IfOk result (λ admitted. (records : List Record) →
-        AreLinkedAs linked.now records → IsAccepted records × (⟦<CountyOver<'a> as Chart>⟧.county admitted ≡ county_of records)) }
-    ensures refused { IfErr result (λ fault. (records : List Record) → AreLinkedAs linked.now records → RefusesRecords records fault) }
-{
-    Ok(admit_linked(alloc, county, linked.polygon_without_chain())?)
-}
-
 /// The admitted county of linked records. It is kept in their tables and an arena, which outlive it.
 pub(crate) fn admitted_county<'a>(
     alloc: Global,
@@ -71,17 +57,7 @@ pub(crate) fn admitted_county<'a>(
     ensures refused { IfErr result (λ fault. (records : List Record) → AreLinkedAs linked.now records → RefusesRecords records fault) }
 {
     let county = county_of_linked(alloc, arena, linked)?;
-    admit_county(alloc, county, linked)
-}
-
-/// Whether linked records are accepted.
-fn judge_linked(alloc: Global, linked: &LinkedRecords) -> Result<(), Fault>
-    ensures accepted { OnOk result ((parts : List (List ℕ)) → IsLinkedSet parts linked.now → IsAcceptable parts) }
-    ensures refused { IfErr result (λ fault. (records : List Record) → AreLinkedAs linked.now records → RefusesRecords records fault) }
-{
-    let arena = Bump::new(alloc);
-    admitted_county(alloc, &arena, linked)?;
-    Ok(())
+    Ok(admit_linked(alloc, county, linked.polygon_without_chain())?)
 }
 
 /// Whether a set is accepted.
@@ -91,5 +67,7 @@ pub(crate) fn judge<S: UnlinkedSet>(alloc: Global, set: S) -> Result<(), Fault>
     ensures refused { (parts : List (List ℕ)) → S.Says set parts → IfErr result (ReportsRefusalOfRead parts) }
 {
     let linked = set.link(alloc)?;
-    judge_linked(alloc, &linked)
+    let arena = Bump::new(alloc);
+    admitted_county(alloc, &arena, &linked)?;
+    Ok(())
 }

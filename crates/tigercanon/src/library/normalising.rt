@@ -32,6 +32,7 @@ use tl_write::Sink;
 /// What the set is refused for: [`Fault::Load`] has the first faulty line, [`Fault::Link`] the first rule that the records break,
 /// and [`Fault::Profile`] the first clause of the profile that the county breaks. Each of them, and [`Fault::Memory`], can also
 /// report a failed allocation.
+#[tactic(auto, using(crate::proofs::Masking::none_is_plain))]
 pub fn normalise(alloc: Global, parts: &[&[u8]]) -> Result<Vec<u8>, Fault>
     ensures canonical { IfOk result (λ text. IsCanonicalText (bytes_of_parts parts.now) text.items) }
     // No canonical list of the same map has another text.
@@ -80,6 +81,7 @@ pub fn normalise_masked(alloc: Global, parts: &[&[u8]], mask: Mask) -> Result<Ve
 /// # Errors
 ///
 /// As for [`normalise`].
+#[tactic(auto, using(crate::proofs::Masking::none_is_plain))]
 pub fn normalise_with_renaming(alloc: Global, parts: &[&[u8]]) -> Result<(Vec<u8>, Renaming), Fault>
     ensures canonical { IfOk result (λ answer. IsCanonicalText (bytes_of_parts parts.now) answer.0.items) }
     // No canonical list of the same map has another text.
@@ -141,6 +143,7 @@ fn link_sources<R: Source>(alloc: Global, parts: &mut [R]) -> Result<LinkedRecor
 /// What the set is refused for, as for [`normalise`]; a faulty line is reported before the sources after it are read.
 /// [`LoadFault::Device`] if a source failed, and [`Fault::Write`] if the sink failed, after exactly the first `written` bytes of
 /// the text.
+#[tactic(auto, using(crate::proofs::Masking::none_is_plain))]
 pub fn normalise_to<R: Source, W: Sink>(
     alloc: Global,
     parts: &mut [R],

@@ -7,9 +7,8 @@ ghost use Rattle.tigercanon.specs.Normalising.{IsWrittenThrough};
 ghost use Rattle.tigercanon.specs.Sets.{CarriesSetThrough, IsCanonicalTextThrough};
 ghost use Rattle.tl_cert.specs.MaskedCounty.{masked};
 ghost use Rattle.tl_county.specs.Packing.{packed};
-ghost use Rattle.tl_county.specs.Renumbering.{Carries};
 ghost use Rattle.tl_layout.specs.RecordText.{text_of};
-ghost use Rattle.tl_number.specs.Views.{arranged_county, source_of};
+ghost use Rattle.tl_number.specs.Views.{arranged_county};
 
 use crate::library::hashing::Hashing;
 use crate::library::making::Product;
@@ -48,19 +47,6 @@ fn text_in_memory<C: Chart>(alloc: Global, county: &CanonCounty<C>) -> Result<Ve
         // A vector fails only if it can't grow.
         Err(_) => Err(AllocError),
     }
-}
-
-/// The text of a canonical county, in memory, and the renaming onto it from the county that it was made from.
-fn text_and_renaming<C: Chart>(
-    alloc: Global,
-    county: &CanonCounty<C>,
-) -> Result<(Vec<u8>, Renaming), AllocError>
-    ensures text { IfOk result (λ reported. reported.0.items ≡ text_of (packed (arranged_county county.now))) }
-    ensures carries { IfOk result (λ reported. Carries reported.1 (C.county (source_of county.now)) (arranged_county county.now)) }
-{
-    let renaming = county.renaming(alloc)?;
-    let text = text_in_memory(alloc, county)?;
-    Ok((text, renaming))
 }
 
 /// The SHA-256 hash of the text of a canonical county. The text is hashed as it is written, and isn't kept.
@@ -114,7 +100,9 @@ impl Product<()> for TextAndRenaming {
         _device: &mut (),
         _mask: Mask,
     ) -> Result<(Vec<u8>, Renaming), AllocError> {
-        text_and_renaming(alloc, county)
+        let renaming = county.renaming(alloc)?;
+        let text = text_in_memory(alloc, county)?;
+        Ok((text, renaming))
     }
 }
 

@@ -5,9 +5,8 @@
 
 ghost use Rattle.std.specs.Io.KnownBytes.{IsAtEnd};
 ghost use Rattle.std.specs.Prelude.{◌≡◌, ◌≢◌, ◌<◌, ◌≤◌, ◌+◌, Err, ℕ, List, [], length, vec_len, All, OnOk, IfOk, IfErr, IfSome};
-ghost use Rattle.tigercanon.specs.Devices.{StopsReading, set_of_sources};
+ghost use Rattle.tigercanon.specs.Devices.{StopsReading};
 ghost use Rattle.tigercanon.specs.LentParts.{bytes_of_parts};
-ghost use Rattle.tigercanon.specs.Outcomes.{ReportsLines};
 ghost use Rattle.tigercanon.specs.Reading.{AreRead, IsFaultOfRead, IsUnread, NoneFailed, OneFailed, SomeUnread, TakesPart};
 ghost use Rattle.tigercanon.specs.Respelling.{record_limit, IsFirstFault};
 ghost use Rattle.tl_layout.specs.declared.record_type.Record.{Record};
@@ -43,28 +42,6 @@ fn read_buffer(alloc: Global) -> Result<Vec<u8>, AllocError>
     vec![in alloc; 0u8; 65536]
 }
 
-/// Collects the records of the parts that the sources give. Reads each source to its end, in order, through this buffer, but no
-/// further than the read that brings a fault.
-fn load_through<K: Collector, R: Source>(
-    alloc: Global,
-    sources: &mut [R],
-    buffer: &mut [u8],
-) -> Result<K, LoadFault>
-    requires some_room { 0 < length buffer.old }
-    requires failures { All (λ source. R.failed source < u64.MAX) sources.old }
-    ensures loaded { IfOk result (λ kept. (parts : List (List ℕ)) × AreRead R.remaining R.given sources.old sources.new parts
-        × (records : List Record) × K.holds kept records × SpellsWithin tiger record_limit parts records) }
-    ensures faulty { IfErr result (λ f. IsOfLines f → IsFaultOfRead R.remaining R.given sources.old sources.new f) }
-    ensures device { result ≡ Err LoadFault.Device → OneFailed R.failed sources.old sources.new }
-    ensures no_device { result ≢ Err LoadFault.Device → NoneFailed R.failed sources.old sources.new }
-{
-    let mut loader = LoaderFor::<K>::new(alloc);
-    for source in sources.iter_mut() {
-        loader.read_part_by(source, buffer)?;
-    }
-    loader.finish()
-}
-
 /// Collects the records of the parts that the sources give. Reads each source to its end, in order, but no further than the read
 /// that brings a fault.
 pub(crate) fn load_sources<K: Collector, R: Source>(
@@ -78,10 +55,16 @@ pub(crate) fn load_sources<K: Collector, R: Source>(
     ensures device { result ≡ Err LoadFault.Device → OneFailed R.failed sources.old sources.new }
     ensures no_device { result ≢ Err LoadFault.Device → NoneFailed R.failed sources.old sources.new }
 {
-    match read_buffer(alloc) {
-        Ok(mut buffer) => load_through(alloc, sources, &mut buffer),
-        Err(_) => Err(LoadFault::Memory),
+    let mut buffer = match read_buffer(alloc) {
+        Ok(buffer) => buffer,
+        Err(_) => return Err(LoadFault::Memory),
+    };
+    let buffer = buffer.as_mut_slice();
+    let mut loader = LoaderFor::<K>::new(alloc);
+    for source in sources.iter_mut() {
+        loader.read_part_by(source, buffer)?;
     }
+    loader.finish()
 }
 
 /// Reads a source to its end as the next part, even if its lines are faulty: the loader then keeps the fault. A source that has no
@@ -118,29 +101,6 @@ fn read_to_end<K: Collector, R: Source>(
     Err(LoadFault::Device)
 }
 
-/// Reads sources to their ends, in order.
-fn read_each<K: Collector, R: Source>(
-    loader: &mut LoaderFor<K>,
-    sources: &mut [R],
-    buffer: &mut [u8],
-) -> Result<(), LoadFault>
-    requires new { loader.old.parts ≡ 0 }
-    requires fed { WasFedInto K.holds record_limit loader.old [] [] }
-    requires no_device { IfSome loader.old.fault IsNotDevice }
-    requires some_room { 0 < length buffer.old }
-    requires failures { All (λ source. R.failed source < u64.MAX) sources.old }
-    ensures fed { OnOk result ((parts : List (List ℕ)) × AreRead R.remaining R.given sources.old sources.new parts
-        × WasFedInto K.holds record_limit loader.new parts []) }
-    ensures no_device { OnOk result (IfSome loader.new.fault IsNotDevice) }
-    ensures none_failed { OnOk result (NoneFailed R.failed sources.old sources.new) }
-    ensures device { IfErr result (λ f. (f ≡ LoadFault.Device) × SomeUnread R.failed R.reads sources.old sources.new) }
-{
-    for source in sources.iter_mut() {
-        read_to_end(loader, source, buffer)?;
-    }
-    Ok(())
-}
-
 /// A loader that was fed what the sources give, each read to its end, in order. The loader reports faults in the lines when it
 /// finishes.
 pub(crate) fn read_to_ends<K: Collector, R: Source>(
@@ -155,23 +115,10 @@ pub(crate) fn read_to_ends<K: Collector, R: Source>(
     ensures stopped { IfErr result (StopsReading (SomeUnread R.failed R.reads sources.old sources.new)) }
 {
     let mut buffer = read_buffer(alloc)?;
+    let buffer = buffer.as_mut_slice();
     let mut loader = LoaderFor::<K>::new(alloc);
-    read_each(&mut loader, sources, &mut buffer)?;
+    for source in sources.iter_mut() {
+        read_to_end(&mut loader, source, buffer)?;
+    }
     Ok(loader)
-}
-
-/// Collects the records of the parts that the sources give, each read to its end, in order. Reports a source that can't be read
-/// before a fault in the lines.
-pub(crate) fn load_to_ends<K: Collector, R: Source>(
-    alloc: Global,
-    sources: &mut [R],
-) -> Result<K, Fault>
-    requires { All (λ source. R.failed source < u64.MAX) sources.old }
-    ensures loaded { IfOk result (λ kept. (parts : List (List ℕ)) × AreRead R.remaining R.given sources.old sources.new parts
-        × (records : List Record) × K.holds kept records × SpellsWithin tiger record_limit parts records) }
-    ensures stopped { IfErr result (ReportsLines (set_of_sources R.remaining R.given R.failed R.reads sources.old sources.new)) }
-    ensures no_device { result ≢ Err (Fault.Load LoadFault.Device) → NoneFailed R.failed sources.old sources.new }
-{
-    let loader = read_to_ends::<K, R>(alloc, sources)?;
-    Ok(loader.finish()?)
 }

@@ -1,6 +1,7 @@
 //! How jobs end, and how the program reports it.
 
-ghost use Rattle.std.specs.Prelude.{◌≡◌, ◌<◌, Ok, Err, MatchResult, None};
+ghost use Rattle.std.specs.Prelude.{◌≡◌, ◌<◌, None};
+ghost use Rattle.tigercanon.specs.Devices.{PrintsTo};
 ghost use Rattle.tigercanon.specs.Outcomes.{ReportsLineTo};
 ghost use Rattle.tigercanon.specs.Refusals.{fault_line};
 ghost use Rattle.tigercanon.specs.Statuses.{status_of};
@@ -46,13 +47,12 @@ impl From<CompareFault> for Stopped {
     }
 }
 
-/// The ending of a job over one set.
-pub(crate) fn ending_of(outcome: Result<(), Fault>) -> Result<Ending, Stopped>
-    ensures { MatchResult outcome (λ _. result ≡ Ok Ending.Done) (λ fault. result ≡ Err (record { fault = fault; set = None })) }
-{
-    match outcome {
-        Ok(()) => Ok(Ending::Done),
-        Err(fault) => Err(Stopped { fault, set: None }),
+/// A fault of a job's only set, which needs no number.
+impl From<Fault> for Stopped {
+    ghost from_gives = { λ fault made. made ≡ record { fault = fault; set = None } };
+
+    fn from(fault: Fault) -> Stopped {
+        Stopped { fault, set: None }
     }
 }
 
@@ -89,4 +89,22 @@ pub(crate) fn report_stopped<E: Sink>(stopped: Stopped, err: &mut E) -> u8
     let line = refusal_line_of(stopped);
     write_line(line.as_slice(), err);
     Refusal(stopped.fault).status()
+}
+
+/// Prints the text of a job that ends in this way.
+pub(crate) fn print_text<W: Sink>(
+    text: &[u8],
+    ending: Ending,
+    out: &mut W,
+) -> Result<Ending, Stopped>
+    requires { W.failed out.old < u64.MAX }
+    ensures { PrintsTo W.failed W.holds out.old out.new text.now ending result }
+{
+    match write_text(text, out) {
+        Ok(()) => Ok(ending),
+        Err(fault) => Err(Stopped {
+            fault: Fault::Write(fault),
+            set: None,
+        }),
+    }
 }

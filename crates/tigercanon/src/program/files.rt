@@ -1,8 +1,8 @@
 //! The files of a set: the outcomes of opening them, and the files as sources.
 
 ghost use Rattle.std.specs.IoError.{error_kind};
-ghost use Rattle.std.specs.Prelude.{◌≡◌, ◌≢◌, IfOk, IfErr, All, IsTrue, ◌↔◌};
-ghost use Rattle.tigercanon.specs.Files.{IsMissing, AreSourcesOf, bytes_of};
+ghost use Rattle.std.specs.Prelude.{◌≡◌, ◌≢◌, IfOk, IfErr, IsTrue, ◌↔◌};
+ghost use Rattle.tigercanon.specs.Files.{AreOpened, IsMissing, bytes_of};
 
 use std::alloc::{AllocError, Global};
 use std::io::{self, Error, ErrorKind, Read};
@@ -64,8 +64,8 @@ pub(crate) fn open_files<R: Read + Drop>(
     alloc: Global,
     files: Vec<Opened<R>>,
 ) -> Result<Vec<OpenFile<R>>, AllocError>
-    ensures bytes { IfOk result (λ sources. AreSourcesOf ⟦<OpenFile<R> as Source>⟧.remaining sources.items R.remaining files.items) }
-    ensures failures { IfOk result (λ sources. All (λ source. ⟦<OpenFile<R> as Source>⟧.failed source ≡ 0) sources.items) }
+    ensures { IfOk result (λ sources. AreOpened ⟦<OpenFile<R> as Source>⟧.remaining ⟦<OpenFile<R> as Source>⟧.failed sources.items
+        R.remaining files.items) }
 {
     let mut sources = Vec::with_capacity(alloc, files.len())?;
     for file in files {

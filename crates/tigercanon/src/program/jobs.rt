@@ -4,50 +4,57 @@
 //! that the whole result was written if the sink didn't fail.
 
 ghost use Rattle.hex.specs.Hex.{encode_lower};
-ghost use Rattle.std.specs.Prelude.{◌≡◌, ◌≢◌, ◌<◌, ◌++◌, ◌∷◌, [], All, Err, IfErr, IfOk, List, Ok, OnOk, string_bytes, ℕ};
+ghost use Rattle.std.specs.Prelude.{◌≡◌, ◌≢◌, ◌<◌, ◌++◌, ◌∷◌, [], All, Err, IfErr, IfOk, string_bytes};
 ghost use Rattle.tigercanon.specs.Devices.{ReportsNoDevice, set_of_sources, to_sink};
-ghost use Rattle.tigercanon.specs.Fingerprints.{IsFingerprintThrough, SaysFingerprintThrough};
-ghost use Rattle.tigercanon.specs.Outcomes.{HoldsAccepted, IsAnswered, Leaves, PrintsWhole, ReportsSet};
-ghost use Rattle.tigercanon.specs.Reading.{AreRead, NoneFailed};
-ghost use Rattle.tigercanon.specs.Respelling.{IsRespelt, record_limit};
-ghost use Rattle.tigercanon.specs.Sets.{IsCanonicalTextThrough, SaysAccepted};
-ghost use Rattle.tigercanon.specs.TwoSets.{IsDifferent, IsDone, LeavesStopped};
-ghost use Rattle.tl_cert.specs.MaskedCounty.{masked};
-ghost use Rattle.tl_layout.specs.declared.record_type.Record.{Record};
+ghost use Rattle.tigercanon.specs.Outcomes.{IsAnswered, Reports};
+ghost use Rattle.tigercanon.specs.Reading.{NoneFailed};
+ghost use Rattle.tigercanon.specs.Respelling.{IsRespelt};
+ghost use Rattle.tigercanon.specs.TwoSets.{Does, DoesAlone};
 ghost use Rattle.tl_layout.specs.Masked.{no_mask};
-ghost use Rattle.tl_layout.specs.Tables.{HoldsByType};
-ghost use Rattle.tl_load.specs.Choice.{tiger};
-ghost use Rattle.tl_load.specs.Outcome.{SpellsWithin};
 
 use crate::fault::Fault;
 use crate::library::linked::judge;
 use crate::library::making::make_of;
 use crate::library::normalising::normalise_to_masked;
 use crate::library::products::Hash;
-use crate::library::reading::{load_to_ends, read_to_ends};
-use crate::program::ending::{Ending, Stopped, ending_of};
+use crate::library::reading::read_to_ends;
+use crate::program::ending::{Ending, Stopped, print_text};
 use crate::program::two_sets::compare_sets;
-use crate::program::writing::write_text;
 use command_line::Job;
-use std::alloc::{AllocError, Global};
+use std::alloc::Global;
 use tl_layout::{Mask, Tables};
 use tl_load::{CanonicalText, LoadFault, Source};
 use tl_write::Sink;
 
-/// Prints the records of a set in canonical spelling, once all of it is read and judged.
-fn respell_set<R: Source, W: Sink>(alloc: Global, set: &mut [R], out: &mut W) -> Result<(), Fault>
-    requires set { All (λ part. R.failed part < u64.MAX) set.old }
-    requires out { W.failed out.old < u64.MAX }
-    ensures done { OnOk result (PrintsWhole IsRespelt (set_of_sources R.remaining R.given R.failed R.reads set.old set.new)
-        (to_sink W.failed W.holds out.old out.new)) }
-    ensures stopped { IfErr result (Leaves no_mask Job.Respell (set_of_sources R.remaining R.given R.failed R.reads set.old set.new)
-        (to_sink W.failed W.holds out.old out.new)) }
+/// The records of a set in canonical spelling, once all of it is read. Reports a source that can't be read before a fault in the
+/// lines.
+fn spelling_of<R: Source>(alloc: Global, set: &mut [R]) -> Result<CanonicalText, Fault>
+    requires { All (λ part. R.failed part < u64.MAX) set.old }
+    ensures respelt { IfOk result (λ text. IsAnswered IsRespelt
+        (set_of_sources R.remaining R.given R.failed R.reads set.old set.new) text.bytes.items) }
+    ensures stopped { IfErr result (Reports Job.Respell (set_of_sources R.remaining R.given R.failed R.reads set.old set.new)) }
     // If the fault isn't a device's, no source has failed.
     ensures no_device { result ≢ Err (Fault.Load LoadFault.Device) → NoneFailed R.failed set.old set.new }
 {
-    let text: CanonicalText = load_to_ends(alloc, set)?;
-    write_text(&text.bytes, out)?;
-    Ok(())
+    let loader = read_to_ends::<CanonicalText, R>(alloc, set)?;
+    Ok(loader.finish()?)
+}
+
+/// Prints the records of a set in canonical spelling, once all of it is read and judged.
+fn respell_set<R: Source, W: Sink>(
+    alloc: Global,
+    set: &mut [R],
+    out: &mut W,
+) -> Result<Ending, Stopped>
+    requires set { All (λ part. R.failed part < u64.MAX) set.old }
+    requires out { W.failed out.old < u64.MAX }
+    ensures did { DoesAlone no_mask Job.Respell (set_of_sources R.remaining R.given R.failed R.reads set.old set.new)
+        (to_sink W.failed W.holds out.old out.new) result }
+    // If the fault isn't a device's, no source has failed.
+    ensures no_device { ReportsNoDevice result → NoneFailed R.failed set.old set.new }
+{
+    let text = spelling_of(alloc, set)?;
+    print_text(&text.bytes, Ending::Done, out)
 }
 
 /// Prints the canonical text of a set under a mask, once it is accepted. Reads no further than the read that brings a fault.
@@ -56,65 +63,40 @@ fn normalise_set<R: Source, W: Sink>(
     set: &mut [R],
     out: &mut W,
     mask: Mask,
-) -> Result<(), Fault>
+) -> Result<Ending, Stopped>
     requires set { All (λ part. R.failed part < u64.MAX) set.old }
     requires out { W.failed out.old < u64.MAX }
-    ensures done { OnOk result (PrintsWhole (IsCanonicalTextThrough (masked mask))
-        (set_of_sources R.remaining R.given R.failed R.reads set.old set.new)
-        (to_sink W.failed W.holds out.old out.new)) }
-    ensures stopped { IfErr result (Leaves mask Job.Normalise (set_of_sources R.remaining R.given R.failed R.reads set.old set.new)
-        (to_sink W.failed W.holds out.old out.new)) }
+    ensures did { DoesAlone mask Job.Normalise (set_of_sources R.remaining R.given R.failed R.reads set.old set.new)
+        (to_sink W.failed W.holds out.old out.new) result }
     // If the fault isn't a device's, no source has failed.
-    ensures no_device { result ≢ Err (Fault.Load LoadFault.Device) → NoneFailed R.failed set.old set.new }
+    ensures no_device { ReportsNoDevice result → NoneFailed R.failed set.old set.new }
 {
     normalise_to_masked(alloc, set, out, mask)?;
-    Ok(())
-}
-
-/// Reads a set, and judges it.
-fn judge_set<R: Source>(alloc: Global, set: &mut [R]) -> Result<(), Fault>
-    requires { All (λ part. R.failed part < u64.MAX) set.old }
-    ensures accepted { OnOk result (HoldsAccepted (set_of_sources R.remaining R.given R.failed R.reads set.old set.new)) }
-    ensures refused { IfErr result (ReportsSet (set_of_sources R.remaining R.given R.failed R.reads set.old set.new)) }
-    // If the fault isn't a device's, no source has failed.
-    ensures no_device { result ≢ Err (Fault.Load LoadFault.Device) → NoneFailed R.failed set.old set.new }
-{
-    let loader = read_to_ends::<Tables, R>(alloc, set)?;
-    judge(alloc, loader)
+    Ok(Ending::Done)
 }
 
 /// Prints that a set is accepted, once all of it is read and judged.
-fn check_set<R: Source, W: Sink>(alloc: Global, set: &mut [R], out: &mut W) -> Result<(), Fault>
+fn check_set<R: Source, W: Sink>(
+    alloc: Global,
+    set: &mut [R],
+    out: &mut W,
+) -> Result<Ending, Stopped>
     requires set { All (λ part. R.failed part < u64.MAX) set.old }
     requires out { W.failed out.old < u64.MAX }
-    ensures done { OnOk result (PrintsWhole SaysAccepted (set_of_sources R.remaining R.given R.failed R.reads set.old set.new)
-        (to_sink W.failed W.holds out.old out.new)) }
-    ensures stopped { IfErr result (Leaves no_mask Job.Check (set_of_sources R.remaining R.given R.failed R.reads set.old set.new)
-        (to_sink W.failed W.holds out.old out.new)) }
+    ensures did { DoesAlone no_mask Job.Check (set_of_sources R.remaining R.given R.failed R.reads set.old set.new)
+        (to_sink W.failed W.holds out.old out.new) result }
     // If the fault isn't a device's, no source has failed.
-    ensures no_device { result ≢ Err (Fault.Load LoadFault.Device) → NoneFailed R.failed set.old set.new }
-{
-    judge_set(alloc, set)?;
-    write_text(b"accepted\n", out)?;
-    Ok(())
-}
-
-/// The fingerprint of a set under a mask, once all of it is read and judged.
-fn hash_set<R: Source>(alloc: Global, set: &mut [R], mask: Mask) -> Result<[u8; 32], Fault>
-    requires { All (λ part. R.failed part < u64.MAX) set.old }
-    ensures accepted { IfOk result (IsAnswered (IsFingerprintThrough (masked mask))
-        (set_of_sources R.remaining R.given R.failed R.reads set.old set.new)) }
-    ensures refused { IfErr result (ReportsSet (set_of_sources R.remaining R.given R.failed R.reads set.old set.new)) }
-    // If the fault isn't a device's, no source has failed.
-    ensures no_device { result ≢ Err (Fault.Load LoadFault.Device) → NoneFailed R.failed set.old set.new }
+    ensures no_device { ReportsNoDevice result → NoneFailed R.failed set.old set.new }
 {
     let loader = read_to_ends::<Tables, R>(alloc, set)?;
-    make_of(alloc, loader, Hash, &mut (), mask)
+    judge(alloc, loader)?;
+    print_text(b"accepted\n", Ending::Done, out)
 }
 
 /// The line of these bytes: two lowercase hexadecimal digits per byte, and LF.
-fn line_of_digits(alloc: Global, bytes: &[u8]) -> Result<String, AllocError>
-    ensures { IfOk result (λ line. string_bytes line ≡ encode_lower bytes.now ++ 10 ∷ []) }
+fn line_of_digits(alloc: Global, bytes: &[u8]) -> Result<String, Fault>
+    ensures digits { IfOk result (λ line. string_bytes line ≡ encode_lower bytes.now ++ 10 ∷ []) }
+    ensures memory { IfErr result (λ fault. fault ≡ Fault.Memory) }
 {
     let mut line = hex::encode(alloc, bytes)?;
     line.push('\n')?;
@@ -127,21 +109,18 @@ fn fingerprint_set<R: Source, W: Sink>(
     set: &mut [R],
     out: &mut W,
     mask: Mask,
-) -> Result<(), Fault>
+) -> Result<Ending, Stopped>
     requires set { All (λ part. R.failed part < u64.MAX) set.old }
     requires out { W.failed out.old < u64.MAX }
-    ensures done { OnOk result (PrintsWhole (SaysFingerprintThrough (masked mask))
-        (set_of_sources R.remaining R.given R.failed R.reads set.old set.new)
-        (to_sink W.failed W.holds out.old out.new)) }
-    ensures stopped { IfErr result (Leaves mask Job.Fingerprint (set_of_sources R.remaining R.given R.failed R.reads set.old set.new)
-        (to_sink W.failed W.holds out.old out.new)) }
+    ensures did { DoesAlone mask Job.Fingerprint (set_of_sources R.remaining R.given R.failed R.reads set.old set.new)
+        (to_sink W.failed W.holds out.old out.new) result }
     // If the fault isn't a device's, no source has failed.
-    ensures no_device { result ≢ Err (Fault.Load LoadFault.Device) → NoneFailed R.failed set.old set.new }
+    ensures no_device { ReportsNoDevice result → NoneFailed R.failed set.old set.new }
 {
-    let bytes = hash_set(alloc, set, mask)?;
-    let line = line_of_digits(alloc, &bytes)?;
-    write_text(line.as_bytes(), out)?;
-    Ok(())
+    let loader = read_to_ends::<Tables, R>(alloc, set)?;
+    let hash = make_of(alloc, loader, Hash, &mut (), mask)?;
+    let line = line_of_digits(alloc, &hash)?;
+    print_text(line.as_bytes(), Ending::Done, out)
 }
 
 /// Does a job over the sources of its sets. The mask applies to the jobs that print or compare maps; respelling and checking read
@@ -157,23 +136,16 @@ pub(crate) fn do_job<R: Source, W: Sink>(
     requires first { All (λ part. R.failed part < u64.MAX) first.old }
     requires second { All (λ part. R.failed part < u64.MAX) second.old }
     requires out { W.failed out.old < u64.MAX }
-    ensures done { result ≡ Ok Ending.Done → IsDone mask job (set_of_sources R.remaining R.given R.failed R.reads first.old first.new)
-        (set_of_sources R.remaining R.given R.failed R.reads second.old second.new) (to_sink W.failed W.holds out.old out.new) }
-    ensures different { result ≡ Ok Ending.Different → IsDifferent mask job
-        (set_of_sources R.remaining R.given R.failed R.reads first.old first.new)
-        (set_of_sources R.remaining R.given R.failed R.reads second.old second.new) (to_sink W.failed W.holds out.old out.new) }
-    ensures stopped { IfErr result (λ stopped. LeavesStopped mask job
-        (set_of_sources R.remaining R.given R.failed R.reads first.old first.new)
-        (set_of_sources R.remaining R.given R.failed R.reads second.old second.new)
-        (to_sink W.failed W.holds out.old out.new) stopped.fault stopped.set) }
+    ensures did { Does mask job (set_of_sources R.remaining R.given R.failed R.reads first.old first.new)
+        (set_of_sources R.remaining R.given R.failed R.reads second.old second.new) (to_sink W.failed W.holds out.old out.new) result }
     // If the fault isn't a device's, no source has failed.
     ensures no_device { ReportsNoDevice result → NoneFailed R.failed first.old first.new × NoneFailed R.failed second.old second.new }
 {
     match job {
-        Job::Respell => ending_of(respell_set(alloc, first, out)),
-        Job::Normalise => ending_of(normalise_set(alloc, first, out, mask)),
-        Job::Check => ending_of(check_set(alloc, first, out)),
-        Job::Fingerprint => ending_of(fingerprint_set(alloc, first, out, mask)),
+        Job::Respell => respell_set(alloc, first, out),
+        Job::Normalise => normalise_set(alloc, first, out, mask),
+        Job::Check => check_set(alloc, first, out),
+        Job::Fingerprint => fingerprint_set(alloc, first, out, mask),
         Job::Compare => compare_sets(alloc, first, second, out, mask),
     }
 }

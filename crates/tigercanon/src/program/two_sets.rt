@@ -1,33 +1,18 @@
 //! Compares two sets that sources give.
 
-ghost use Rattle.std.specs.Prelude.{◌≡◌, ◌<◌, All, Ok, IfOk, IfErr, if◌then◌else◌};
-ghost use Rattle.tigercanon.specs.Comparing.{AreDifferentThrough, AreOneMapThrough};
+ghost use Rattle.std.specs.Prelude.{◌≡◌, ◌<◌, All, IfOk, IfErr};
 ghost use Rattle.tigercanon.specs.Devices.{ReportsNoDevice, set_of_sources, to_sink};
-ghost use Rattle.tigercanon.specs.Outcomes.{Prints};
 ghost use Rattle.tigercanon.specs.Reading.{NoneFailed};
-ghost use Rattle.tigercanon.specs.TwoSets.{IsLineDifferent, IsLineSame, LeavesComparison, OfTwoSets, ReportsOne, line_of_ending, where_ended};
-ghost use Rattle.tl_cert.specs.MaskedCounty.{masked};
+ghost use Rattle.tigercanon.specs.TwoSets.{Does, IsTextOf, ReportsOne, line_of_ending};
 
-use crate::fault::Fault;
 use crate::library::comparing::{FIRST, SECOND, compare_unlinked, tag_set};
 use crate::library::reading::read_to_ends;
-use crate::program::ending::{Ending, Stopped};
-use crate::program::writing::write_text;
+use crate::program::ending::{Ending, Stopped, print_text};
+use command_line::Job;
 use std::alloc::Global;
 use tl_layout::{Mask, Tables};
 use tl_load::Source;
 use tl_write::Sink;
-
-/// How a comparison ends that finds whether two sets are one map.
-fn ending_of_finding(is_one_map: bool) -> Ending
-    ensures { result ≡ (if is_one_map then Ending.Done else Ending.Different) }
-{
-    if is_one_map {
-        Ending::Done
-    } else {
-        Ending::Different
-    }
-}
 
 /// Reads two sets, each part to its end, and compares them under a mask once both are read.
 fn compare_sources<R: Source>(
@@ -38,11 +23,9 @@ fn compare_sources<R: Source>(
 ) -> Result<Ending, Stopped>
     requires first { All (λ part. R.failed part < u64.MAX) first.old }
     requires second { All (λ part. R.failed part < u64.MAX) second.old }
-    ensures verdict { IfOk result (λ ending. where_ended ending
-        (OfTwoSets (AreOneMapThrough (masked mask)) (set_of_sources R.remaining R.given R.failed R.reads first.old first.new)
-        (set_of_sources R.remaining R.given R.failed R.reads second.old second.new))
-        (OfTwoSets (AreDifferentThrough (masked mask)) (set_of_sources R.remaining R.given R.failed R.reads first.old first.new)
-        (set_of_sources R.remaining R.given R.failed R.reads second.old second.new))) }
+    ensures verdict { IfOk result (λ ending. IsTextOf mask Job.Compare
+        (set_of_sources R.remaining R.given R.failed R.reads first.old first.new)
+        (set_of_sources R.remaining R.given R.failed R.reads second.old second.new) ending (line_of_ending ending)) }
     ensures refused { IfErr result (λ stopped. ReportsOne (set_of_sources R.remaining R.given R.failed R.reads first.old first.new)
         (set_of_sources R.remaining R.given R.failed R.reads second.old second.new) stopped.fault stopped.set) }
     // If the fault isn't a device's, no source has failed.
@@ -51,7 +34,11 @@ fn compare_sources<R: Source>(
     let one = tag_set(FIRST, read_to_ends::<Tables, R>(alloc, first))?;
     let other = tag_set(SECOND, read_to_ends::<Tables, R>(alloc, second))?;
     let is_one_map = compare_unlinked(alloc, one, other, mask)?;
-    Ok(ending_of_finding(is_one_map))
+    if is_one_map {
+        Ok(Ending::Done)
+    } else {
+        Ok(Ending::Different)
+    }
 }
 
 /// The line that a comparison prints.
@@ -76,25 +63,11 @@ pub(crate) fn compare_sets<R: Source, W: Sink>(
     requires first { All (λ part. R.failed part < u64.MAX) first.old }
     requires second { All (λ part. R.failed part < u64.MAX) second.old }
     requires out { W.failed out.old < u64.MAX }
-    ensures done { result ≡ Ok Ending.Done → Prints (IsLineSame mask
-        (set_of_sources R.remaining R.given R.failed R.reads first.old first.new)
-        (set_of_sources R.remaining R.given R.failed R.reads second.old second.new)) (to_sink W.failed W.holds out.old out.new) }
-    ensures different { result ≡ Ok Ending.Different → Prints (IsLineDifferent mask
-        (set_of_sources R.remaining R.given R.failed R.reads first.old first.new)
-        (set_of_sources R.remaining R.given R.failed R.reads second.old second.new)) (to_sink W.failed W.holds out.old out.new) }
-    ensures stopped { IfErr result (λ stopped. LeavesComparison mask
-        (set_of_sources R.remaining R.given R.failed R.reads first.old first.new)
-        (set_of_sources R.remaining R.given R.failed R.reads second.old second.new)
-        (to_sink W.failed W.holds out.old out.new) stopped.fault stopped.set) }
+    ensures did { Does mask Job.Compare (set_of_sources R.remaining R.given R.failed R.reads first.old first.new)
+        (set_of_sources R.remaining R.given R.failed R.reads second.old second.new) (to_sink W.failed W.holds out.old out.new) result }
     // If the fault isn't a device's, no source has failed.
     ensures no_device { ReportsNoDevice result → NoneFailed R.failed first.old first.new × NoneFailed R.failed second.old second.new }
 {
     let ending = compare_sources(alloc, first, second, mask)?;
-    match write_text(answer_line_of(ending), out) {
-        Ok(()) => Ok(ending),
-        Err(fault) => Err(Stopped {
-            fault: Fault::Write(fault),
-            set: None,
-        }),
-    }
+    print_text(answer_line_of(ending), ending, out)
 }

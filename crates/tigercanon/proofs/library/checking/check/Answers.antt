@@ -2,9 +2,6 @@ use Rattle.std.proofs.Common.{refl}
 use Rattle.tigercanon.proofs.Reported.{reported_no_device, reported_refused, reported_succeeds}
 use Rattle.tigercanon.proofs.library.checking.check.Goals as goal
 
-pub returns-clause-accepted : goal.returns-clause-accepted
-returns-clause-accepted c = c.judge.ensures.accepted _ refl
-
 pub returns-clause-refused : goal.returns-clause-refused
 returns-clause-refused c = reported_refused _ c.judge.result (c.judge.ensures.refused _ refl)
 

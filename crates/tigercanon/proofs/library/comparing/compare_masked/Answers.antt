@@ -23,13 +23,6 @@ returns-clause-different c = λ reported.
     subst (λ found. IsFound (masked c.args.mask) (bytes_of_parts c.args.a.now) (bytes_of_parts c.args.b.now) (finding_of found))
     (c.in_ok-verdict.was ∙ ap (λ v. Ok v) is) (c.in_ok-found.ensures.found _ _ refl refl)
 
-pub returns-in_err-verdict-clause-refused : goal.returns-in_err-verdict-clause-refused
-returns-in_err-verdict-clause-refused c =
-    let p = err_from_is_err_and c.from_residual-in_err-verdict.result c.from_residual-in_err-verdict.ensures.1 in
-    rw (p.1, p.2)
-    (subst (λ found. IsFound (masked c.args.mask) (bytes_of_parts c.args.a.now) (bytes_of_parts c.args.b.now) (finding_of found))
-    c.in_err-verdict.was (c.in_ok-found.ensures.found _ _ refl refl))
-
 pub returns-in_err-found-clause-refused : goal.returns-in_err-found-clause-refused
 returns-in_err-found-clause-refused c =
     let p = err_from_is_err_and c.from_residual.result c.from_residual.ensures.1 in

@@ -12,7 +12,9 @@ returns g c =
     let canon = stepped a c.args.a.now.steps.items in
     let other = stepped b c.args.b.now.steps.items in
     let one : canon ≡ other = one_county canon other c.args.a.now.whole.is_county c.args.b.now.whole.is_county c.requires in
+    let back : Carries c.in_ok-back.back other b = c.in_ok-back.ensures.carries_back b other (g.met.B.Chart.is_county c.args.b.now.chart)
+    c.args.b.now.whole.is_county c.in_ok-onto.ensures.carries in
     IfOk-weaker c.then.result _ _
     (λ r on. on a canon b (g.met.A.Chart.is_county c.args.a.now.chart) c.args.a.now.whole.is_county
-    c.in_ok-there.ensures.carries (subst (λ county. Carries c.in_ok-back.back county b) (sym one) c.in_ok-back.ensures))
+    c.in_ok-there.ensures.carries (subst (λ county. Carries c.in_ok-back.back county b) (sym one) back))
     c.then.ensures.carries_on

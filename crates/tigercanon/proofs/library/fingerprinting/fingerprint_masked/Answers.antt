@@ -2,9 +2,6 @@ use Rattle.std.proofs.Common.{refl}
 use Rattle.tigercanon.proofs.Reported.{reported_no_device, reported_refused, reported_succeeds}
 use Rattle.tigercanon.proofs.library.fingerprinting.fingerprint_masked.Goals as goal
 
-pub returns-clause-fingerprint : goal.returns-clause-fingerprint
-returns-clause-fingerprint c = c.make_of.ensures.made _ refl
-
 pub returns-clause-refused : goal.returns-clause-refused
 returns-clause-refused c = reported_refused _ c.make_of.result (c.make_of.ensures.refused _ refl)
 

@@ -1,14 +1,27 @@
-use Rattle.tigercanon.proofs.CanonicalTexts.{if_ok_by}
+use Rattle.std.proofs.Common.{◌∙◌, rules, subst, sym}
+use Rattle.std.proofs.lemmas.Result.{err_from_is_err_and}
+use Rattle.tl_county.specs.County.{County}
+use Rattle.tl_county.specs.CountyRules.{is_without_chain}
+use Rattle.tl_county.specs.Keyed.{IsLeastPassing}
+use Rattle.tl_county.specs.PolygonKeys.{key_cmp}
+use Rattle.tl_profile.specs.Profile.{IsFirstBrokenClause}
 use Rattle.tigercanon.proofs.library.linked.admitted_county.Goals as goal
 
+pub admit_linked-requires : goal.admit_linked-requires
+admit_linked-requires c =
+    subst (λ (county : County). IsLeastPassing key_cmp (is_without_chain county) c.polygon_without_chain.result)
+    (sym c.in_ok-county.ensures.county) c.polygon_without_chain.ensures
+
+pub returns-in_err-admit_linked-clause-refused : goal.returns-in_err-admit_linked-clause-refused
+returns-in_err-admit_linked-clause-refused c =
+    let p = err_from_is_err_and c.from_residual-in_err-admit_linked.result c.from_residual-in_err-admit_linked.ensures.1 in
+    rw (p.1, p.2) (λ records linked ne. (
+      linked.0,
+      subst (λ (county : County). IsFirstBrokenClause county c.in_err-admit_linked.field-0.0) (c.in_ok-county.ensures.county ∙ linked.1)
+          (c.in_err-admit_linked.ensures.broken ne),
+    ))
+
 pub returns-clause-seen : goal.returns-clause-seen
-returns-clause-seen c =
-    if_ok_by c.admit_county.result
-    (λ admitted accepted parts set.
-    let a = accepted set.0 set.2 in
-    record {
-      records = set.0;
-      accepted = record { spelled = set.1; accepted = a.0 };
-      county_is = a.1;
-    })
-    c.admit_county.ensures.accepted
+returns-clause-seen c = λ parts set.
+    let is = c.in_ok-county.ensures.county ∙ set.2.1 in
+    record { records = set.0; accepted = record { spelled = set.1; accepted = search rules }; county_is = search rules }

@@ -1,16 +1,10 @@
 use Rattle.tigercanon.specs.LentParts.{bytes_of_parts}
 use Rattle.tigercanon.specs.Normalising.{IsOnlyTextThrough}
-use Rattle.tigercanon.specs.Sets.{IsCanonicalTextThrough, IsOneCanonicalTextThrough}
+use Rattle.tigercanon.specs.Sets.{IsOneCanonicalTextThrough}
 use Rattle.tigercanon.proofs.CanonicalTexts.{if_ok_by}
 use Rattle.tigercanon.proofs.Masking.{as_it_is, under_none}
 use Rattle.tigercanon.proofs.Sets.{only_as_it_is}
 use Rattle.tigercanon.proofs.library.normalising.normalise.Goals as goal
-
-pub returns-clause-canonical : goal.returns-clause-canonical
-returns-clause-canonical c =
-    let parts = bytes_of_parts c.args.parts.now in
-    if_ok_by c.normalise_masked.result (λ text. as_it_is (λ seen. IsCanonicalTextThrough seen parts text.items))
-    c.normalise_masked.ensures.canonical
 
 pub returns-clause-only : goal.returns-clause-only
 returns-clause-only c =
@@ -19,12 +13,7 @@ returns-clause-only c =
     (λ text only. only_as_it_is parts text.items (as_it_is (λ seen. IsOnlyTextThrough seen parts text.items) only))
     c.normalise_masked.ensures.only
 
-pub returns-clause-again : goal.returns-clause-again
-returns-clause-again c = λ text one.
-    let parts = bytes_of_parts c.args.parts.now in
-    c.normalise_masked.ensures.again text (under_none (λ seen. IsOneCanonicalTextThrough seen parts text) one)
-
 pub returns-clause-again_succeeds : goal.returns-clause-again_succeeds
 returns-clause-again_succeeds c = λ text one.
-    let parts = bytes_of_parts c.args.parts.now in
-    c.normalise_masked.ensures.again_succeeds text (under_none (λ seen. IsOneCanonicalTextThrough seen parts text) one)
+    c.normalise_masked.ensures.again_succeeds text
+    (under_none (λ seen. IsOneCanonicalTextThrough seen (bytes_of_parts c.args.parts.now) text) one)

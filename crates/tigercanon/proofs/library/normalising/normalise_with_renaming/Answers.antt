@@ -1,17 +1,9 @@
-use Rattle.std.proofs.Common.{[], ◌∷◌}
 use Rattle.tigercanon.specs.LentParts.{bytes_of_parts}
 use Rattle.tigercanon.specs.Normalising.{IsOnlyTextThrough}
-use Rattle.tigercanon.specs.Sets.{CarriesSetThrough, IsCanonicalTextThrough}
 use Rattle.tigercanon.proofs.CanonicalTexts.{if_ok_by}
 use Rattle.tigercanon.proofs.Masking.{as_it_is}
 use Rattle.tigercanon.proofs.Sets.{only_as_it_is}
 use Rattle.tigercanon.proofs.library.normalising.normalise_with_renaming.Goals as goal
-
-pub returns-clause-canonical : goal.returns-clause-canonical
-returns-clause-canonical c =
-    let parts = bytes_of_parts c.args.parts.now in
-    if_ok_by c.normalise_with_renaming_masked.result (λ answer. as_it_is (λ seen. IsCanonicalTextThrough seen parts answer.0.items))
-    c.normalise_with_renaming_masked.ensures.canonical
 
 pub returns-clause-only : goal.returns-clause-only
 returns-clause-only c =
@@ -19,10 +11,3 @@ returns-clause-only c =
     if_ok_by c.normalise_with_renaming_masked.result
     (λ answer only. only_as_it_is parts answer.0.items (as_it_is (λ seen. IsOnlyTextThrough seen parts answer.0.items) only))
     c.normalise_with_renaming_masked.ensures.only
-
-pub returns-clause-carries : goal.returns-clause-carries
-returns-clause-carries c =
-    let parts = bytes_of_parts c.args.parts.now in
-    if_ok_by c.normalise_with_renaming_masked.result
-    (λ answer. as_it_is (λ seen. CarriesSetThrough seen answer.1 parts (answer.0.items ∷ [])))
-    c.normalise_with_renaming_masked.ensures.carries

@@ -1,35 +1,38 @@
-use Rattle.std.proofs.Common.{refl, subst}
-use Rattle.tigercanon.specs.Devices.{to_sink}
-use Rattle.tigercanon.specs.Outcomes.{ReportsLineTo}
-use Rattle.tigercanon.specs.Refusals.{fault_line}
-use Rattle.tigercanon.specs.declared.fault.Fault.{Fault}
-use Rattle.tigercanon.proofs.Refused.{status_is_one}
-use Rattle.tigercanon.proofs.Unstarted.{missing_left}
+use Rattle.std.proofs.Common.{◌∙◌, rules}
+use Rattle.std.proofs.lemmas.Result.{err_from_is_err_and}
+use Rattle.tigercanon.specs.Files.{bytes_of}
+use Rattle.tigercanon.specs.Running.{set_of_files, to_writer}
+use Rattle.tigercanon.proofs.FileSources.{below_most, known_of_files}
+use Rattle.tigercanon.proofs.GivenSets.{does_of}
+use Rattle.tigercanon.proofs.Leaving.{kept, printed_to_writer}
+use Rattle.tigercanon.proofs.SourceSets.{left_untouched}
 use Rattle.tigercanon.proofs.program.running.run_files.Goals as goal
 
-pub returns-in-Err-clause-statuses : goal.returns-in-Err-clause-statuses
-returns-in-Err-clause-statuses g c = rw c.report_stopped.ensures.status (status_is_one c.in-Err.stopped.fault)
+pub returns-in_err-first-clause-did : goal.returns-in_err-first-clause-did
+returns-in_err-first-clause-did g c =
+    let p = err_from_is_err_and c.from_residual.result c.from_residual.ensures.1 in
+    let written = g.W.Write.contents c.args.out.now in
+    let stopped = c.in_err-first.field-0.0 in
+    rw (p.1, p.2) (left_untouched c.args.mask (set_of_files g.R.Read.remaining c.args.first.items)
+    (set_of_files g.R.Read.remaining c.args.second.items) (to_writer written written) (kept written) c.args.job stopped.fault stopped.set
+    c.in_err-first.ensures.stopped)
 
-pub returns-in-Err-clause-reported : goal.returns-in-Err-clause-reported
-returns-in-Err-clause-reported g c = λ some.
-    let m = c.in-Err.ensures.missing in
-    let names = rw (c.deref.ensures.value, c.deref-2.ensures.value) at m.1 in
-    record {
-      fault = c.in-Err.stopped.fault;
-      set = c.in-Err.stopped.set;
-      status_is = c.report_stopped.ensures.status;
-      left = missing_left c.args.mask g.R.Read.remaining c.args.first.items c.args.second.items
-          (to_sink g.W.Sink.failed g.W.Sink.holds c.args.out.now c.args.out.now) refl c.args.job c.in-Err.stopped.fault
-          c.in-Err.stopped.set m.0 names;
-      line = c.report_stopped.ensures.reported;
-    }
+pub do_job-outcome-requires-clause-first : goal.do_job-outcome-requires-clause-first
+do_job-outcome-requires-clause-first g c = below_most (λ s. s.failures) _ _ c.deref_mut.ensures.value c.in_ok-first.ensures.first.1
 
-pub returns-in-Err-clause-missing_reported : goal.returns-in-Err-clause-missing_reported
-returns-in-Err-clause-missing_reported g c = λ missing.
-    let m = c.in-Err.ensures.missing in
-    let names = rw (c.deref.ensures.value, c.deref-2.ensures.value) at m.1 in (
-      c.in-Err.stopped.set,
-      names,
-      subst (λ (fault : Fault). ReportsLineTo g.E.Sink.failed g.E.Sink.holds c.args.err.now c.report_stopped.new.err
-          (fault_line fault c.in-Err.stopped.set)) m.0 c.report_stopped.ensures.reported,
-    )
+pub do_job-outcome-requires-clause-second : goal.do_job-outcome-requires-clause-second
+do_job-outcome-requires-clause-second g c = below_most (λ s. s.failures) _ _ c.deref_mut-2.ensures.value c.in_ok-first.ensures.second.1
+
+pub returns-clause-did : goal.returns-clause-did
+returns-clause-did g c =
+    let sets = c.in_ok-first.ensures in
+    does_of _ _ _ _
+    (known_of_files (λ s. bytes_of g.R.Read.remaining s.inner) (λ s. s.given) g.R.Read.remaining c.args.first.items c.deref_mut.result.now
+    c.do_job-outcome.new.first (rw c.deref_mut.ensures.value sets.first.0) (λ s. s.failures) (λ s. s.reads))
+    (known_of_files (λ s. bytes_of g.R.Read.remaining s.inner) (λ s. s.given) g.R.Read.remaining c.args.second.items
+    c.deref_mut-2.result.now c.do_job-outcome.new.second (rw c.deref_mut-2.ensures.value sets.second.0) (λ s. s.failures) (λ s. s.reads))
+    c.args.mask c.args.job _ _
+    (printed_to_writer g.W.Write.contents (λ s. s.failures) (λ s. s.writer.ghost_name) (λ s. s.writer.now) c.args.out.now _
+    c.new-text.result c.do_job-outcome.new.out c.new-text.ensures.now
+    (λ same. let name = c.give_back.ensures.same ∙ same ∙ c.new-text.ensures.same in let now = c.give_back.ensures.now in search rules))
+    c.do_job-outcome.result c.do_job-outcome.ensures.did

@@ -1,14 +1,13 @@
-use Rattle.std.proofs.Common.{◌≡◌, ◌+◌, ◌∙◌, ◌<◌, ℕ, [], ◌∷◌, ◌++◌, Err, IfErr, inl, inr, refl, sym, ap, arith, subst}
+use Rattle.std.proofs.Common.{◌≡◌, ◌+◌, ◌∙◌, ◌<◌, ℕ, [], ◌∷◌, ◌++◌, Err, inl, inr, refl, sym, ap, arith, subst}
 use Rattle.std.proofs.lemmas.List.{length-append}
 use Rattle.std.proofs.lemmas.Result.{err_from_is_err_and}
 use Rattle.std.below.core.specs.declared.int.u64.TheConstants.{MAX}
-use Rattle.tl_load.specs.Loaded.{IsNotDevice}
 use Rattle.tl_load.specs.declared.fault.LoadFault.TheVariants as faults
 use Rattle.tigercanon.specs.Respelling.{record_limit}
 use Rattle.tigercanon.proofs.CanonicalTexts.{if_ok_by, if_err_by}
 use Rattle.tigercanon.proofs.ReadParts.{all_read, nothing_more, none_more, one_failed, one_more_at, untouched_at, up_to_at}
 use Rattle.tigercanon.proofs.Standing.{counted_device, counted_none, none_standing, standing_fault}
-use Rattle.tigercanon.proofs.library.reading.load_through.Goals as goal
+use Rattle.tigercanon.proofs.library.reading.load_sources.Goals as goal
 
 pub loop-source-init : goal.loop-source-init
 loop-source-init g c = record {
@@ -18,16 +17,13 @@ loop-source-init g c = record {
   counted = c.new-loader.ensures.parts;
 }
 
-pub read_part_by-requires-clause-parts : goal.read_part_by-requires-clause-parts
-read_part_by-requires-clause-parts g c = omega arith
-
 pub read_part_by-requires-clause-failures : goal.read_part_by-requires-clause-failures
 read_part_by-requires-clause-failures g c =
     let i = c.loop-source.source-index in
     let d = c.source-item.result in
     let r = c.loop-source.invariant.read in
     let same = untouched_at g.R.Source.remaining g.R.Source.given _ _ r.0 i d d r.1 r.2 c.loop-source-test.true in
-    subst (λ s. g.R.Source.failed s < MAX) (sym same) (c.requires.failures i d c.loop-source-test.true)
+    subst (λ s. g.R.Source.failed s < MAX) (sym same) (c.requires i d c.loop-source-test.true)
 
 pub returns-in_err-read_part_by-clause-faulty : goal.returns-in_err-read_part_by-clause-faulty
 returns-in_err-read_part_by-clause-faulty g c =
@@ -112,10 +108,3 @@ returns-clause-faulty g c =
     if_err_by c.finish.result (λ f at. λ lines.
     absurd (none_standing g.K.Collector.holds c.loop-source.loader f r.0 c.loop-source.invariant.no_fault r.3 (at lines)))
     (c.finish.ensures.fault record_limit r.0 [] r.3)
-
-pub returns-clause-device : goal.returns-clause-device
-returns-clause-device g c = λ reported.
-    absurd (subst (λ result. IfErr result IsNotDevice) reported (c.finish.ensures.device c.loop-source.invariant.no_fault))
-
-pub returns-clause-no_device : goal.returns-clause-no_device
-returns-clause-no_device g c = λ other. c.loop-source.invariant.none_failed

@@ -1,13 +1,15 @@
-use Rattle.std.proofs.Common.{◌≡◌, None}
+use Rattle.std.proofs.Common.{◌≤◌}
+use Rattle.std.specs.Prelude.{IfSome}
+use Rattle.tl_load.specs.Loaded.{IsNotDevice}
 use Rattle.tigercanon.proofs.ReadParts.{HasRead}
 use Rattle.tigercanon.specs.Reading.{NoneFailed}
-use Rattle.tigercanon.proofs.library.reading.load_through.Given as goal
+use Rattle.tigercanon.proofs.library.reading.read_to_ends.Given as goal
 
 -- the sources so far were read to their ends, none has failed, and the loader was fed their bytes
 abbrev pub invariant-loop-source : goal.invariant-loop-source
 invariant-loop-source g l = record {
   read : HasRead g.R.Source.remaining g.R.Source.given g.K.Collector.holds l.initial.sources l.sources l.source-index l.loader;
   none_failed : NoneFailed g.R.Source.failed l.initial.sources l.sources;
-  no_fault : l.loader.fault ≡ None;
-  counted : l.loader.parts ≡ l.source-index;
+  no_device : IfSome l.loader.fault IsNotDevice;
+  counted : l.loader.parts ≤ l.source-index;
 }

@@ -1,21 +1,20 @@
-use Rattle.std.proofs.Common.{◌+◌, ◌∙◌, ◌<◌, ℕ, [], ◌∷◌, ◌++◌, refl, sym, ap, arith, subst}
+use Rattle.std.proofs.Common.{◌+◌, ◌∙◌, ◌<◌, ℕ, [], ◌∷◌, ◌++◌, inl, refl, sym, ap, arith, subst}
 use Rattle.std.proofs.lemmas.List.{length-append}
 use Rattle.std.proofs.lemmas.Result.{err_from_is_err_and}
 use Rattle.std.below.core.specs.declared.int.u64.TheConstants.{MAX}
+use Rattle.tigercanon.specs.declared.fault.Fault.TheVariants.{Load}
 use Rattle.tigercanon.specs.Reading.{IsUnread}
+use Rattle.tigercanon.proofs.FileParts.{none_device}
 use Rattle.tigercanon.proofs.ReadParts.{all_read, none_more, one_more_at, unread_at, untouched_at}
-use Rattle.tigercanon.proofs.library.reading.read_each.Goals as goal
+use Rattle.tigercanon.proofs.library.reading.read_to_ends.Goals as goal
 
 pub loop-source-init : goal.loop-source-init
 loop-source-init g c = record {
-  read = ([], refl, refl, c.requires.fed);
+  read = ([], refl, refl, c.new-loader.ensures.fed);
   none_failed = refl;
-  no_device = c.requires.no_device;
-  counted = omega (arith, c.requires.new);
+  no_device = none_device _ c.new-loader.ensures.fault;
+  counted = omega (arith, c.new-loader.ensures.parts);
 }
-
-pub read_to_end-requires-clause-parts : goal.read_to_end-requires-clause-parts
-read_to_end-requires-clause-parts g c = omega arith
 
 pub read_to_end-requires-clause-failures : goal.read_to_end-requires-clause-failures
 read_to_end-requires-clause-failures g c =
@@ -23,22 +22,22 @@ read_to_end-requires-clause-failures g c =
     let d = c.source-item.result in
     let r = c.loop-source.invariant.read in
     let same = untouched_at g.R.Source.remaining g.R.Source.given _ _ r.0 i d d r.1 r.2 c.loop-source-test.true in
-    subst (λ s. g.R.Source.failed s < MAX) (sym same) (c.requires.failures i d c.loop-source-test.true)
+    subst (λ s. g.R.Source.failed s < MAX) (sym same) (c.requires i d c.loop-source-test.true)
 
-pub returns-in_err-read_to_end-clause-device : goal.returns-in_err-read_to_end-clause-device
-returns-in_err-read_to_end-clause-device g c =
-    let p = err_from_is_err_and c.from_residual.result c.from_residual.ensures.1 in
+pub returns-in_err-read_to_end-clause-stopped : goal.returns-in_err-read_to_end-clause-stopped
+returns-in_err-read_to_end-clause-stopped g c =
+    let p = err_from_is_err_and c.from_residual-in_err-read_to_end.result c.from_residual-in_err-read_to_end.ensures.1 in
     let i = c.loop-source.source-index in
     let d = c.source-item.result in
     let r = c.loop-source.invariant.read in
     let same = untouched_at g.R.Source.remaining g.R.Source.given _ _ r.0 i d d r.1 r.2 c.loop-source-test.true in
     let device = c.in_err-read_to_end.ensures.device in
-    rw (p.1, p.2) (
-      device.0,
+    rw (p.1, p.2) (inl (
+      ap Load device.0,
       unread_at g.R.Source.failed g.R.Source.reads _ _ i d c.read_to_end.new.source c.loop-source.invariant.none_failed
           c.loop-source-test.true
           (subst (λ s. IsUnread g.R.Source.failed g.R.Source.reads s c.read_to_end.new.source) same device.1),
-    )
+    ))
 
 pub loop-source-preserved : goal.loop-source-preserved
 loop-source-preserved g c =
