@@ -31,10 +31,6 @@ ok_holds P r x e h = subst (λ s. IfOk s P) e h
 pub err_holds : {T E : Type 0} (P : E → Type 0) (r : Result T E) (f : E) → r ≡ Err f → IfErr r P → P f
 err_holds P r f e h = subst (λ s. IfErr s P) e h
 
-pub on_ok_by : {T E P Q : Type 0} (r : Result T E) → (P → Q) → OnOk r P → OnOk r Q
-on_ok_by (Ok x) f h = f h
-on_ok_by (Err e) f h = tt
-
 -- properties of an answer and of a fault together
 pub match_of : {T E : Type 0} (P : T → Type 0) (Q : E → Type 0) (r : Result T E) → IfOk r P → IfErr r Q → MatchResult r P Q
 match_of P Q (Ok x) p q = p

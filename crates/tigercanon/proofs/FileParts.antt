@@ -40,12 +40,6 @@ still_no_device fault_of before after (Err f) was ok reported device stood =
     go None e was stood = device e
     go (Some g) e was stood = let same : f ≡ g = cc in subst IsNotDevice (sym same) was
 
--- the result of a loader is not a device's fault if none is recorded
-pub no_device_answered : {K : Type 0} (fault : Option LoadFault) (r : Result K LoadFault) → IfSome fault IsNotDevice
-    → (fault ≡ None → IfErr r IsNotDevice) → IfSome fault (λ f. r ≡ Err f) → IfErr r IsNotDevice
-no_device_answered None r was device stood = device refl
-no_device_answered (Some f) r was device stood = subst (λ s. IfErr s IsNotDevice) (sym stood) was
-
 pub not_device : (f : LoadFault) → IsNotDevice f → f ≢ faults.Device
 not_device f h e = subst IsNotDevice e h
 

@@ -118,10 +118,6 @@ unreported (Err stopped) kept most = let above = (status_above stopped.fault).0 
 
 -- a missing file
 module _ {R : Type 0} (job : Job) (first second : List (Opened R)) where
-  pub missing_status : (r : Result Ending Stopped) → MatchResult r (λ _. ⊥) (IsOfMissing job first second) → status_of_outcome r ≡ 4
-  missing_status (Ok ending) missing = absurd missing
-  missing_status (Err stopped) missing = subst (λ (fault : Fault). status_of fault ≡ 4) (sym missing.0) refl
-
   pub missing_reported : (reported : List ℕ → Type 0) (r : Result Ending Stopped) → MatchResult r (λ _. ⊥) (IsOfMissing job first second)
       → IfErr r (λ stopped. reported (fault_line stopped.fault stopped.set)) → ReportsMissing job first second reported
   missing_reported reported (Ok ending) missing line = absurd missing

@@ -39,13 +39,6 @@ pub record SaysDifferentThrough (seen : County → County) (a b : List (List ℕ
   pub different : AreDifferentThrough seen a b
   pub text_is : text ≡ codes "different" ++ 10 ∷ []
 
--- the text is the line that says that the sets are one map, or the line that says that they are different maps
-abbrev pub SaysSame : List (List ℕ) → List (List ℕ) → List ℕ → Type 0
-SaysSame = SaysSameThrough plain
-
-abbrev pub SaysDifferent : List (List ℕ) → List (List ℕ) → List ℕ → Type 0
-SaysDifferent = SaysDifferentThrough plain
-
 -- the set is accepted
 abbrev pub IsAcceptable : List (List ℕ) → Type 0
 IsAcceptable parts = (records : List Record) × IsAcceptedSet parts records

@@ -24,7 +24,3 @@ pub record SaysFingerprintThrough (seen : County → County) (parts : List (List
   pub bytes : List ℕ
   pub fingerprint : IsFingerprintThrough seen parts bytes
   pub text_is : text ≡ encode_lower bytes ++ 10 ∷ []
-
--- the text is the line of the fingerprint of the parts, in lowercase hexadecimal digits
-abbrev pub SaysFingerprint : List (List ℕ) → List ℕ → Type 0
-SaysFingerprint = SaysFingerprintThrough plain

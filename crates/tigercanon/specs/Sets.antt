@@ -93,7 +93,3 @@ pub record IsCanonSetThrough (seen : County → County) (parts : List (List ℕ)
   pub accepted : IsAcceptedSet parts records
   pub county_is : county ≡ seen (county_of records)
   pub canonical : IsCanonicalThrough seen records (packed canon)
-
--- the set is accepted, the first county is that of its records, and the second county has their canonical records
-abbrev pub IsCanonSet : List (List ℕ) → County → County → Type 0
-IsCanonSet = IsCanonSetThrough plain
