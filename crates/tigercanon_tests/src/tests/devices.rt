@@ -86,25 +86,25 @@ impl Read for SlowReader<'_> {
     }
 }
 
-/// Takes at most `step` bytes at a time, and counts its writes. Only the write after it holds `room` bytes fails.
+/// Takes at most `step` bytes at a time, and counts its writes. Only the write after it holds `capacity` bytes fails.
 #[derive(Drop)]
 pub(super) struct SlowWriter {
     pub(super) held: Vec<u8>,
     pub(super) writes: usize,
     step: usize,
-    buffer: Option<usize>,
+    capacity: Option<usize>,
     kind: ErrorKind,
 }
 
 impl Write for SlowWriter {
     fn write(&mut self, buf: &[u8]) -> io::Result<usize> {
         self.writes = self.writes.saturating_add(1);
-        let left = match self.room {
-            Some(buffer) => buffer.saturating_sub(self.held.len()),
+        let left = match self.capacity {
+            Some(capacity) => capacity.saturating_sub(self.held.len()),
             None => buf.len(),
         };
         if left == 0 && !buf.is_empty() {
-            self.room = None;
+            self.capacity = None;
             return Err(Error::from(self.kind));
         }
         let count = self.step.min(buf.len()).min(left);
@@ -139,19 +139,19 @@ pub(super) fn reader(
 pub(super) fn failing_writer(
     alloc: Global,
     step: usize,
-    buffer: usize,
+    capacity: usize,
     kind: ErrorKind,
 ) -> SlowWriter {
     SlowWriter {
         held: Vec::new(alloc),
         writes: 0,
         step,
-        buffer: Some(buffer),
+        capacity: Some(capacity),
         kind,
     }
 }
 
 /// A writer that holds nothing yet, and is interrupted.
-pub(super) fn writer(alloc: Global, step: usize, buffer: usize) -> SlowWriter {
-    failing_writer(alloc, step, buffer, ErrorKind::Interrupted)
+pub(super) fn writer(alloc: Global, step: usize, capacity: usize) -> SlowWriter {
+    failing_writer(alloc, step, capacity, ErrorKind::Interrupted)
 }

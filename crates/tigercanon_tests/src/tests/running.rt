@@ -33,7 +33,7 @@ struct Row {
     /// How many bytes a read returns and a write takes at most.
     step: usize,
     /// The capacity of standard output, and of standard error.
-    buffer: [usize; 2],
+    capacity: [usize; 2],
     status: u8,
     /// The lines of the full output, and how many of its bytes are written.
     lines: &'static [&'static str],
@@ -72,8 +72,8 @@ fn ends(rt: &impl Abort, alloc: Global, row: &Row, kind: ErrorKind) {
     let count = Cell::new(0);
     let first = opened(rt, alloc, row.files[0], row.step.max(1), kind, &count);
     let second = opened(rt, alloc, row.files[1], row.step.max(1), kind, &count);
-    let mut out = failing_writer(alloc, row.step, row.room[0], kind);
-    let mut err = failing_writer(alloc, 7, row.room[1], kind);
+    let mut out = failing_writer(alloc, row.step, row.capacity[0], kind);
+    let mut err = failing_writer(alloc, 7, row.capacity[1], kind);
     let status = run(
         alloc,
         row.job,

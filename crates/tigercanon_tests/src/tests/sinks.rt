@@ -11,31 +11,31 @@ use tl_write::{CountedOut, Sink, SlowSink, WriteFault, write_bytes};
 
 /// Writes the text to a sink of this capacity, which takes at most `most` bytes a write. The result and the content of the sink are
 /// right.
-fn writes(rt: &impl Abort, text: &[u8], buffer: usize, most: usize) {
+fn writes(rt: &impl Abort, text: &[u8], capacity: usize, most: usize) {
     let mut place = [0; 400];
-    assert!(rt; buffer <= 400 && 0 < most);
-    let mut sink = SlowSink::new(&mut place[..room], most);
+    assert!(rt; capacity <= 400 && 0 < most);
+    let mut sink = SlowSink::new(&mut place[..capacity], most);
     let answer = write_bytes(text, &mut sink);
-    let is_whole = text.len() <= buffer;
+    let is_whole = text.len() <= capacity;
     let wanted = if is_whole {
         Ok(text.len() as u64)
     } else {
         Err(WriteFault {
-            written: buffer as u64,
+            written: capacity as u64,
         })
     };
-    let found = (buffer, most, answer, sink.failures());
+    let found = (capacity, most, answer, sink.failures());
     same(
         rt,
         "answer",
         &found,
-        &(buffer, most, wanted, u64::from(!is_whole)),
+        &(capacity, most, wanted, u64::from(!is_whole)),
     );
     same_items(
         rt,
         "what is held",
         sink.held(),
-        text.get(..room).unwrap_or(text),
+        text.get(..capacity).unwrap_or(text),
     );
 }
 
@@ -43,8 +43,8 @@ fn writes(rt: &impl Abort, text: &[u8], buffer: usize, most: usize) {
 fn a_beginning_goes_out_before_a_failure(rt: HostRuntime) {
     let text = lines_of(&rt, rt.alloc(), street_text());
     same(&rt, "bytes", &text.len(), &357);
-    for buffer in 0..=357 {
-        writes(&rt, &text, buffer, 7);
+    for capacity in 0..=357 {
+        writes(&rt, &text, capacity, 7);
     }
     for most in [1, 100, 356, 357, 4096] {
         writes(&rt, &text, 300, most);
@@ -67,8 +67,8 @@ fn few() -> &'static [(usize, usize, Result<u64, WriteFault>, u64)] {
 /// A write that takes nothing is a failure, unless there are no bytes to write.
 #[test]
 fn a_write_of_nothing_is_a_failure(rt: HostRuntime) {
-    for (step, buffer, wanted, failures) in few() {
-        let mut sink = CountedOut::new(writer(rt.alloc(), *step, *buffer));
+    for (step, capacity, wanted, failures) in few() {
+        let mut sink = CountedOut::new(writer(rt.alloc(), *step, *capacity));
         let answer = write_bytes(b"ab", &mut sink);
         same(
             &rt,

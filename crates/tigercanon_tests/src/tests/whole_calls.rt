@@ -158,8 +158,8 @@ fn passing() -> &'static [Passing] {
 
 /// Reads the set by 100 bytes and writes it by 7. As much of the text is written as in the row.
 fn passes(rt: &impl Abort, alloc: Global, row: &Passing, set: &[u8], text: &[u8]) {
-    let (name, failing, buffer, wanted, failures) = *row;
-    let mut place = vec![in alloc; 0u8; buffer].expect(rt, name);
+    let (name, failing, capacity, wanted, failures) = *row;
+    let mut place = vec![in alloc; 0u8; capacity].expect(rt, name);
     let mut sink = SlowSink::new(&mut place, 7);
     let mut sources = [
         SlowSource::new(set, 100, failing[0]),

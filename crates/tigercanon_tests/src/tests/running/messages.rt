@@ -46,16 +46,16 @@ fn is_reported(
     fault: &PlanFault,
     text: &str,
     status: u8,
-    buffer: usize,
+    capacity: usize,
 ) {
     for kind in kinds() {
-        let mut err = CountedOut::new(failing_writer(alloc, 7, buffer, *kind));
+        let mut err = CountedOut::new(failing_writer(alloc, 7, capacity, *kind));
         same(rt, text, &report(fault, &mut err), &status);
-        let failed = u64::from(buffer < text.len());
+        let failed = u64::from(capacity < text.len());
         same(rt, text, &err.failures(), &failed);
         let bytes = text.as_bytes();
         let held = err.into_inner().held;
-        same_items(rt, text, &held, bytes.get(..room).unwrap_or(bytes));
+        same_items(rt, text, &held, bytes.get(..capacity).unwrap_or(bytes));
     }
 }
 
@@ -67,16 +67,16 @@ fn a_usage_is_reported_whole(rt: HostRuntime) {
     let alloc = rt.alloc();
     let text = String::from_str(alloc, USAGE).expect(&rt, USAGE);
     let fault = PlanFault::Usage(text);
-    for buffer in [0, 37, 38, 61, 62, 100] {
-        is_reported(&rt, alloc, &fault, USAGE, 2, buffer);
+    for capacity in [0, 37, 38, 61, 62, 100] {
+        is_reported(&rt, alloc, &fault, USAGE, 2, capacity);
     }
 }
 
 #[test]
 fn want_of_memory_is_reported(rt: HostRuntime) {
     let line = "refused 9 Memory\n";
-    for buffer in [0, 16, 17] {
-        is_reported(&rt, rt.alloc(), &PlanFault::Memory, line, 5, buffer);
+    for capacity in [0, 16, 17] {
+        is_reported(&rt, rt.alloc(), &PlanFault::Memory, line, 5, capacity);
     }
 }
 
