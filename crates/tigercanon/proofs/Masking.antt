@@ -3,8 +3,8 @@ use Rattle.std.proofs.Common.{◌≡◌, ◌∙◌, ℕ, List, sym, ap, subst}
 use Rattle.tl_layout.specs.Masked.{no_mask}
 use Rattle.tl_layout.specs.declared.mask.Mask.{Mask}
 use Rattle.tl_county.specs.County.{County, county_of}
-use Rattle.tl_cert.specs.MaskedCounty.{masked}
-use Rattle.tl_cert.proofs.MaskedCounties.{masked_by_none}
+use Rattle.tl_county.specs.MaskedCounty.{masked}
+use Rattle.tl_county.proofs.Masks.MaskedCounties.{masked_by_none}
 use Rattle.tl_number.specs.Sights.{plain}
 use Rattle.tigercanon.specs.Comparing.{IsAcceptable}
 use Rattle.tigercanon.specs.Sets.{IsSeenSet}

@@ -3,7 +3,7 @@ use Rattle.std.proofs.Common.{◌≡◌, ◌+◌, inl, inr, ℕ, List, ◌∷◌
 use Rattle.std.specs.Prelude.{true, false}
 use Rattle.tl_write.specs.declared.fault.WriteFault.{WriteFault}
 use Rattle.tl_load.specs.declared.fault.LoadFault.TheVariants.{Device}
-use Rattle.tl_cert.specs.MaskedCounty.{masked}
+use Rattle.tl_county.specs.MaskedCounty.{masked}
 use Rattle.tl_layout.specs.declared.mask.Mask.{Mask}
 use Rattle.command_line.specs.declared.plans.Job.{Job}
 use Rattle.command_line.specs.declared.plans.Job.TheVariants.{Compare, Normalise, Respell}

@@ -3,7 +3,7 @@ use Rattle.std.proofs.Common.{◌≡◌, inl, inr, ℕ, List, Option, Some, refl
 use Rattle.command_line.specs.declared.plans.Job.TheVariants.{Compare}
 use Rattle.tigercanon.specs.declared.program.ending.Ending.TheVariants.{Done, Different}
 use Rattle.tigercanon.specs.declared.fault.Fault.{Fault}
-use Rattle.tl_cert.specs.MaskedCounty.{masked}
+use Rattle.tl_county.specs.MaskedCounty.{masked}
 use Rattle.tl_layout.specs.declared.mask.Mask.{Mask}
 use Rattle.tigercanon.specs.Comparing.{AreDifferentThrough, AreOneMapThrough, ReportsRefusalOfOneRead}
 use Rattle.tigercanon.specs.Devices.{StopsReading}

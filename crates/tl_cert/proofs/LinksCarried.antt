@@ -14,7 +14,7 @@ use Rattle.tl_county.proofs.ByKey.Keys.{Known, nat_keys, apart_from_sorted}
 use Rattle.tl_county.proofs.Lists.Elements.{all_weaker, map-map, map_itself}
 use Rattle.tl_county.proofs.Lists.Permutations.{groups-permutation}
 use Rattle.tl_cert.specs.LinkFields.{LinkFields, link_fields}
-use Rattle.tl_cert.proofs.Places.{decides_same}
+use Rattle.tl_county.proofs.Lists.ByPlace.{decides_same}
 
 -- the links of the landmarks with these LANDs, landmark by landmark
 abbrev pub under_lands : List Fields8 → List ℕ → List Fields8

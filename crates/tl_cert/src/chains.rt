@@ -7,9 +7,8 @@ ghost use Rattle.tl_cert.specs.PartsThere.{HaveSameContent, HaveSameEnds, HaveSa
 ghost use Rattle.tl_county.specs.ChartWords.{chain_at, feats_of, points_of, ranges_of};
 ghost use Rattle.tl_county.specs.Renumbering.{image, renumbered_side};
 
-use crate::listed::{Listed, Same, Tested, are_same};
 use crate::renaming_tables::RenamingTables;
-use tl_county::Chart;
+use tl_county::{Chart, Listed, Same, Tested, are_same};
 use tl_layout::{Body1, Point, Ranges, Side, Turn};
 
 /// The content of the type 1 record of the chain at a place, which may be turned.

@@ -2,11 +2,10 @@
 
 ghost use Rattle.std.specs.Prelude.{◌≡◌, ◌<◌, IfOk, Some, length, slice_get};
 
-use crate::listed::{Listed, push_all};
 use crate::renaming::Renaming;
 use std::alloc::{AllocError, Global};
 use std::marker::PhantomData;
-use tl_county::{Chart, Key, PolygonKey};
+use tl_county::{Chart, Key, Listed, PolygonKey, push_all};
 
 /// A kind of numbers of a county, such as TLIDs.
 pub(crate) trait NumberKind<K: Key> {

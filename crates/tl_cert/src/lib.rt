@@ -4,9 +4,7 @@
 //! renaming after another, and `check` decides whether a renaming carries one county onto another. `check` accepts any counties and any
 //! renaming: it returns `false` if the renaming doesn't pair their numbers. Numbers are sorted and looked up in tables, never searched
 //! along a list. `citing.rt` of the crate `uses` has a proved caller.
-//!
-//! A `Masked` county is a chart in which the fields that a mask leaves out are blank. `check_masked` compares two counties under a mask. A
-//! `Lent` chart reads a county through a reference to its chart.
+//! `check_masked` compares two counties under a mask.
 #![tactic(auto)]
 
 mod carrying;
@@ -14,12 +12,7 @@ mod chains;
 mod composing;
 mod county_numbers;
 mod images;
-mod joined_lists;
-mod lent;
 mod links;
-mod listed;
-mod masked;
-mod masked_bodies;
 mod number_set;
 mod numbers_paired;
 mod pairing;
@@ -30,6 +23,4 @@ mod renaming_tables;
 mod turning;
 
 pub use carrying::{check, check_masked};
-pub use lent::Lent;
-pub use masked::Masked;
 pub use renaming::{PolygonKey, Renaming, RenamingParts};

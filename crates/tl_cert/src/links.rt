@@ -5,11 +5,10 @@ ghost use Rattle.std.specs.Prelude.{◌≡◌, IfOk, IsPermutation, map};
 ghost use Rattle.tl_cert.specs.LinkFields.{link_fields};
 ghost use Rattle.tl_county.specs.Renumbering.{carried_link};
 
-use crate::listed::{Listed, push_all};
 use crate::pairing::are_reordered;
 use crate::renaming_tables::RenamingTables;
 use std::alloc::{AllocError, Global};
-use tl_county::Chart;
+use tl_county::{Chart, Listed, push_all};
 use tl_layout::Rec8;
 
 /// The fields of a link in the order in which links are compared: LAND, POLYID, CENID, FILE.

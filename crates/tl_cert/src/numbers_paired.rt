@@ -9,12 +9,11 @@ ghost use Rattle.tl_county.specs.Orders.{has_repeat, stands_in};
 ghost use Rattle.tl_county.specs.Renumbering.{ArePaired, NumbersArePaired};
 
 use crate::county_numbers::{Feats, Lands, Nodes, NumberKind, PolygonKeys, Tlids, numbers_of};
-use crate::listed::{Tested, all_hold};
 use crate::number_set::NumberSet;
 use crate::pairing::{are_known, new_numbers, old_numbers};
 use crate::renaming::Renaming;
 use std::alloc::{AllocError, Global};
-use tl_county::{Chart, Key, PolygonKey};
+use tl_county::{Chart, Key, PolygonKey, Tested, all_hold};
 
 /// Whether the numbers are a permutation of those of one kind of a county.
 fn are_numbers_of<K: Key, N: NumberKind<K>, C: Chart>(

@@ -2,10 +2,8 @@
 
 ghost use Rattle.std.specs.Prelude.{◌≡◌};
 
-use crate::listed::{Listed, Same, Tested, are_same};
 use crate::renaming_tables::RenamingTables;
-use tl_county::Chart;
-use tl_layout::Body7;
+use tl_county::{Chart, LandmarkBodies, Same, Tested, are_same};
 
 /// The names of `a`, each looked for in `b` under its new FEAT.
 #[derive(Drop)]
@@ -69,29 +67,6 @@ impl<'a, A: Chart, B: Chart> Tested for Polygons<'a, A, B> {
         self.b
             .polygon_body_at(other)
             .is_same(self.a.polygon_body_at(place))
-    }
-}
-
-/// The contents of the landmark at a place, as a list that is read by place.
-#[derive(Drop)]
-pub(crate) struct LandmarkBodies<'a, C> {
-    pub(crate) chart: &'a C,
-    pub(crate) place: usize,
-}
-
-impl<'a, C: Chart> Listed for LandmarkBodies<'a, C> {
-    ghost use Rattle.tl_county.specs.ChartWords.{bodies_at};
-
-    type Item = Body7;
-
-    ghost items = { λ l. bodies_at (C.county l.chart.now) l.place };
-
-    fn count(&self) -> usize {
-        self.chart.body_count_at(self.place)
-    }
-
-    fn item(&self, place: usize) -> Body7 {
-        self.chart.landmark_body_there(self.place, place)
     }
 }
 

@@ -5,3 +5,4 @@ pub mod Rules
 pub mod Samples
 pub mod Packing
 pub mod Limits
+pub mod Masks

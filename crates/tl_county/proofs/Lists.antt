@@ -9,3 +9,4 @@ pub mod Counted
 pub mod Permutations
 pub mod FreePlaces
 pub mod Groups
+pub mod ByPlace

@@ -27,3 +27,9 @@ pub mod Packing
 pub mod Limits
 pub mod LimitsProps
 pub mod Reports
+pub mod JoinedLists
+pub mod MaskedCounty
+pub mod MaskedLaws
+pub mod MaskedLimits
+pub mod MaskedProps
+pub mod MaskedTables

@@ -8,14 +8,21 @@
 
 mod body_order;
 mod chart;
+mod chart_lists;
 mod fault;
+mod joined_lists;
 mod kept;
 mod keys;
 mod laws;
+mod lent;
 mod linking;
+mod listed;
+mod masked;
+mod masked_bodies;
 
 pub use body_order::cmp_landmark_bodies;
 pub use chart::Chart;
+pub use chart_lists::LandmarkBodies;
 pub use fault::{LinkFault, LinkedType, SequencedType};
 pub use kept::{County, CountyIn, CountyOver};
 pub use keys::key_set::KeySet;
@@ -26,5 +33,8 @@ pub use laws::{
     linked_records_have_a_county_within_limits, linked_records_have_a_well_formed_county,
     renamings_compose, sameness_is_an_equivalence, the_county_is_what_the_records_say,
 };
+pub use lent::Lent;
 pub use linking::linked_records::{LinkedRecords, link_in_order};
 pub use linking::{link, link_in};
+pub use listed::{Listed, Same, Tested, all_hold, are_same, push_all};
+pub use masked::Masked;

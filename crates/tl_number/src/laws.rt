@@ -2,7 +2,7 @@
 
 ghost use Rattle.std.specs.List.{AllByRecursion};
 ghost use Rattle.std.specs.Prelude.{◌<◌, ◌≡◌, ◌≤◌, ◌⊎◌, List, ℕ};
-ghost use Rattle.tl_cert.specs.MaskedCounty.{masked};
+ghost use Rattle.tl_county.specs.MaskedCounty.{masked};
 ghost use Rattle.tl_county.specs.County.{County, county_of};
 ghost use Rattle.tl_county.specs.CountyRules.{AllKeysStandIn, IsCounty, polygon_keys, polygons_along};
 ghost use Rattle.tl_county.specs.Limits.{most_records};

@@ -33,8 +33,7 @@ use crate::type_1_order::compare_ones;
 use std::alloc::{AllocError, Global};
 use std::cmp::Ordering;
 use std::mem::swap;
-use tl_cert::Lent;
-use tl_county::Chart;
+use tl_county::{Chart, Lent};
 use tl_profile::{DirectedChain, ShapeOrder};
 
 /// The steps of the choice with this number.

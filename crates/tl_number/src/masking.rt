@@ -1,7 +1,7 @@
 //! Admitted counties under a mask, and their canonical counties.
 
 ghost use Rattle.std.specs.Prelude.{◌≡◌, IfErr, IfOk, true};
-ghost use Rattle.tl_cert.specs.MaskedCounty.{masked};
+ghost use Rattle.tl_county.specs.MaskedCounty.{masked};
 ghost use Rattle.tl_county.specs.Renumbering.{Carries};
 ghost use Rattle.tl_number.specs.Arrangement.{arranged, renaming_of};
 ghost use Rattle.tl_number.specs.CanonCounties.{IsCanonCounty};
@@ -11,8 +11,8 @@ ghost use Rattle.tl_number.specs.Views.{arranged_county, arrangement_in};
 use crate::arranging::canonise;
 use crate::canon_county::CanonCounty;
 use std::alloc::{AllocError, Global};
-use tl_cert::{Masked, Renaming};
-use tl_county::{Chart, CountyIn};
+use tl_cert::Renaming;
+use tl_county::{Chart, CountyIn, Masked};
 use tl_layout::Mask;
 use tl_profile::{Admitted, AdmittedIn};
 

@@ -9,7 +9,7 @@ ghost use Rattle.tigercanon.specs.Faults.{ReportsRefusalOfRead};
 ghost use Rattle.tigercanon.specs.Findings.{IsFound};
 ghost use Rattle.tigercanon.specs.LentParts.{bytes_of_parts};
 ghost use Rattle.tigercanon.specs.Sets.{CarriesSet, CarriesSetThrough, IsCanonSetThrough};
-ghost use Rattle.tl_cert.specs.MaskedCounty.{masked};
+ghost use Rattle.tl_county.specs.MaskedCounty.{masked};
 ghost use Rattle.tl_county.specs.Renumbering.{Renumbering};
 ghost use Rattle.tl_number.specs.Views.{arranged_county, source_of};
 

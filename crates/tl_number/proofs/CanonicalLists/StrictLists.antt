@@ -7,7 +7,7 @@ use Rattle.tl_layout.specs.declared.mask.Mask.{Mask}
 use Rattle.tl_layout.specs.declared.record_type.Record.{Record}
 use Rattle.tl_shape.specs.Chain.{Chain}
 use Rattle.tl_shape.specs.PointOrder.{points_cmp}
-use Rattle.tl_cert.specs.MaskedCounty.{masked_chain, masked}
+use Rattle.tl_county.specs.MaskedCounty.{masked_chain, masked}
 use Rattle.tl_county.specs.County.{County, county_of}
 use Rattle.tl_county.specs.CountyRules.{IsCounty}
 use Rattle.tl_county.specs.Orders.{has_repeat}

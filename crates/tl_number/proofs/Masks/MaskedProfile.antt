@@ -12,9 +12,9 @@ use Rattle.tl_county.specs.County.{County}
 use Rattle.tl_county.specs.CountyRules.{has_body}
 use Rattle.tl_county.specs.Orders.{IsInOrder, stands_in}
 use Rattle.tl_county.specs.PolygonKeys.{key_cmp}
-use Rattle.tl_cert.specs.MaskedCounty.{masked_chain, masked}
-use Rattle.tl_cert.specs.MaskedLaws.{sides_masked}
-use Rattle.tl_cert.proofs.MaskedReads.{chain_count_masked, points_masked}
+use Rattle.tl_county.specs.MaskedCounty.{masked_chain, masked}
+use Rattle.tl_county.specs.MaskedLaws.{sides_masked}
+use Rattle.tl_county.proofs.Masks.MaskedReads.{chain_count_masked, points_masked}
 use Rattle.tl_profile.specs.Profile.{is_clause_broken, IsInProfile}
 use Rattle.tl_profile.specs.Choices.{choices, is_either_way, most_choices, open_places, running}
 use Rattle.tl_profile.specs.ShapeOrder.{least_walk, least_walks, points_along, walk_cmp, AreWalksInOrder, IsShapeOrder, OrderOfShapes}

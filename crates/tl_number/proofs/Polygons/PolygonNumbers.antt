@@ -23,7 +23,7 @@ use Rattle.tl_county.proofs.ByKey.Keys.{nat_keys, images-lefts, IsApart, rights,
 use Rattle.tl_county.proofs.Lists.Elements.{map-map}
 use Rattle.tl_county.proofs.Lists.EntryLists.{in_order-strict, value-at_place}
 use Rattle.tl_county.proofs.Lists.Permutations.{in_order-is_permutation}
-use Rattle.tl_cert.proofs.Places.{all_at}
+use Rattle.tl_county.proofs.Lists.ByPlace.{all_at}
 use Rattle.tl_profile.proofs.PlacedOrder.{all_permuted}
 use Rattle.tl_number.specs.Arrangement.{Arrangement, Arranges, polygons_in_order, placed, renaming_of, arranged, under_cenid}
 use Rattle.tl_number.specs.ByNumber.{entry_polyid, polygons_by_number, under_number}

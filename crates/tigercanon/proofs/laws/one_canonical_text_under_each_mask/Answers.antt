@@ -1,4 +1,4 @@
-use Rattle.tl_cert.specs.MaskedCounty.{masked}
+use Rattle.tl_county.specs.MaskedCounty.{masked}
 use Rattle.tl_number.proofs.Masks.MaskedSights.{masked_sight}
 use Rattle.tigercanon.specs.Sets.{IsCanonicalTextThrough}
 use Rattle.tigercanon.proofs.Masking.{as_it_is, under_none}

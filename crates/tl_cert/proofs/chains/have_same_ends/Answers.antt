@@ -2,7 +2,7 @@ use Rattle.std.proofs.Common.{◌≡◌, true, rules, sym, ap, refl, ◌∙◌, 
 use Rattle.tl_shape.specs.Chain.{Chain}
 use Rattle.tl_county.specs.Renumbering.{image, renumbered_side}
 use Rattle.tl_cert.specs.PartsThere.{chain_towards}
-use Rattle.tl_cert.proofs.Places.{decides_same}
+use Rattle.tl_county.proofs.Lists.ByPlace.{decides_same}
 use Rattle.tl_cert.proofs.Towards.{read_renumbered}
 use Rattle.tl_cert.proofs.chains.have_same_ends.Goals as goal
 

@@ -1,5 +1,5 @@
 use Rattle.std.proofs.Common.{arith}
-use Rattle.tl_cert.specs.MaskedCounty.{masked}
+use Rattle.tl_county.specs.MaskedCounty.{masked}
 use Rattle.tl_county.specs.Limits.{most_records}
 use Rattle.tl_number.proofs.Arrangements.ArrangedNumbers.{canonical_counts, canonical_within, canonical_low}
 use Rattle.tl_number.proofs.Masks.MaskedSights.{masked_shows_no_more, masked_sight}

@@ -1,6 +1,6 @@
 use Rattle.std.proofs.Common.{◌≡◌, ◌∙◌, Ok, ap, refl, subst}
 use Rattle.std.proofs.lemmas.Result.{err_from_is_err_and}
-use Rattle.tl_cert.specs.MaskedCounty.{masked}
+use Rattle.tl_county.specs.MaskedCounty.{masked}
 use Rattle.tl_load.specs.declared.fault.LoadFault.TheVariants.{Device}
 use Rattle.tigercanon.specs.Comparing.{ReportsRefusalOfOneRead}
 use Rattle.tigercanon.specs.Findings.{IsFound, finding_of}

@@ -1,5 +1,5 @@
 use Rattle.std.proofs.Common.{◌∙◌, ap, subst, sym}
-use Rattle.tl_cert.specs.MaskedCounty.{masked}
+use Rattle.tl_county.specs.MaskedCounty.{masked}
 use Rattle.tl_county.specs.County.{County}
 use Rattle.tl_county.specs.Packing.{packed}
 use Rattle.tl_number.specs.Accepted.{IsCanonicalThrough}

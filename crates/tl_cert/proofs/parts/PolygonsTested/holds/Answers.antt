@@ -3,7 +3,8 @@ use Rattle.tl_county.specs.ChartWords.{polygon_under}
 use Rattle.tl_county.specs.Entries.{entry_values}
 use Rattle.tl_county.specs.PolygonKeys.{key_cmp}
 use Rattle.tl_county.specs.Renumbering.{image}
-use Rattle.tl_cert.proofs.Places.{decides_entry, decides_over}
+use Rattle.tl_county.proofs.Lists.ByPlace.{decides_over}
+use Rattle.tl_cert.proofs.Places.{decides_entry}
 use Rattle.tl_cert.proofs.parts.PolygonsTested.holds.Goals as goal
 
 pub returns : goal.returns

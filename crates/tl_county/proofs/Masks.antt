@@ -1,0 +1,3 @@
+pub mod MaskedReads
+pub mod MaskedCounties
+pub mod JoinedPieces

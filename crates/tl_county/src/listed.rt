@@ -1,0 +1,179 @@
+//! Lists that are read by place: one loop for each question that is asked of all their items.
+
+ghost use Rattle.std.specs.Bool.{Decides};
+ghost use Rattle.std.specs.List.{AllByRecursion};
+ghost use Rattle.std.specs.Prelude.{◌≡◌, ◌++◌, OnOk};
+
+use std::alloc::AllocError;
+use tl_layout::{Body1, Body5, Body7, BodyI, BodyP, Point, Ranges};
+
+/// A value that can be compared with another of its type.
+pub trait Same: Copy + Drop {
+    ghost use Rattle.std.specs.Bool.{Decides};
+    ghost use Rattle.std.specs.Prelude.{◌≡◌};
+
+    /// Whether the two values are equal.
+    fn is_same(self, other: Self) -> bool
+        ensures { Decides result (self ≡ other) };
+}
+
+impl Same for u32 {
+    fn is_same(self, other: u32) -> bool {
+        self == other
+    }
+}
+
+impl Same for u64 {
+    fn is_same(self, other: u64) -> bool {
+        self == other
+    }
+}
+
+impl Same for Point {
+    fn is_same(self, other: Point) -> bool {
+        self == other
+    }
+}
+
+impl Same for Ranges {
+    fn is_same(self, other: Ranges) -> bool {
+        self == other
+    }
+}
+
+impl Same for Body1 {
+    fn is_same(self, other: Body1) -> bool {
+        self == other
+    }
+}
+
+impl Same for Body5 {
+    fn is_same(self, other: Body5) -> bool {
+        self == other
+    }
+}
+
+/// Whether two contents of type 7 records are equal.
+fn are_same_contents(one: &Body7, other: &Body7) -> bool
+    ensures { Decides result (one.now ≡ other.now) }
+{
+    one == other
+}
+
+impl Same for Body7 {
+    fn is_same(self, other: Body7) -> bool {
+        are_same_contents(&self, &other)
+    }
+}
+
+impl Same for BodyI {
+    fn is_same(self, other: BodyI) -> bool {
+        self == other
+    }
+}
+
+impl Same for BodyP {
+    fn is_same(self, other: BodyP) -> bool {
+        self == other
+    }
+}
+
+impl<T: Same> Same for Option<T> {
+    fn is_same(self, other: Option<T>) -> bool {
+        match self {
+            Some(one) => match other {
+                Some(other) => one.is_same(other),
+                None => false,
+            },
+            None => other.is_none(),
+        }
+    }
+}
+
+/// A list that is read by place.
+pub trait Listed {
+    ghost use Rattle.std.specs.Prelude.{◌≡◌, ◌<◌, List, Some, length, slice_get};
+
+    /// An item.
+    type Item;
+
+    /// The items.
+    ghost items: { Self → List Self.Item };
+
+    /// The number of items.
+    fn count(&self) -> usize
+        ensures { result ≡ length (items self.now) };
+
+    /// The item at a place, which is below their number.
+    fn item(&self, place: usize) -> Self::Item
+        requires { place < length (items self.now) }
+        ensures { Some result ≡ slice_get (items self.now) place };
+}
+
+/// Whether two lists have the same items in the same order.
+pub fn are_same<A: Listed, B: Listed<Item = A::Item>>(a: &A, b: &B) -> bool
+where
+    A::Item: Same,
+    ensures { Decides result (B.items b.now ≡ A.items a.now) }
+{
+    let count = a.count();
+    if b.count() != count {
+        return false;
+    }
+    for place in 0..count {
+        let same = b.item(place).is_same(a.item(place));
+        if !same {
+            return false;
+        }
+    }
+    true
+}
+
+/// Appends the items of a list.
+pub fn push_all<L: Listed>(items: &mut Vec<L::Item>, list: &L) -> Result<(), AllocError>
+where
+    L::Item: Drop,
+    ensures { OnOk result (items.new.items ≡ items.old.items ++ L.items list.now) }
+{
+    for place in 0..list.count() {
+        items.push(list.item(place))?;
+    }
+    Ok(())
+}
+
+/// A list whose entries are tested one by one.
+pub trait Tested {
+    ghost use Rattle.std.specs.Bool.{Decides};
+    ghost use Rattle.std.specs.Prelude.{◌≡◌, ◌<◌, IfSome, List, length, slice_get};
+
+    /// An entry.
+    ghost Entry: { Type 0 };
+
+    /// The entries.
+    ghost entries: { Self → List Entry };
+
+    /// The property that is tested.
+    ghost Holds: { Self → Entry → Type 0 };
+
+    /// The number of entries.
+    fn count(&self) -> usize
+        ensures { result ≡ length (entries self.now) };
+
+    /// Whether the entry at a place, which is below their number, has the property.
+    fn holds(&self, place: usize) -> bool
+        requires { place < length (entries self.now) }
+        ensures { Decides result (IfSome (slice_get (entries self.now) place) (Holds self.now)) };
+}
+
+/// Whether all entries have the property.
+pub fn all_hold<T: Tested>(tested: &T) -> bool
+    ensures { Decides result (AllByRecursion (T.Holds tested.now) (T.entries tested.now)) }
+{
+    for place in 0..tested.count() {
+        let holds = tested.holds(place);
+        if !holds {
+            return false;
+        }
+    }
+    true
+}
