@@ -9,12 +9,12 @@ use Rattle.tl_layout.specs.Fields.{Fields8}
 use Rattle.tl_county.specs.ChartWords.{links_with}
 use Rattle.tl_county.specs.County.{County, eight_land}
 use Rattle.tl_county.specs.CountyRules.{IsCounty, lands}
-use Rattle.tl_county.specs.Orders.{times, stands_in}
-use Rattle.tl_county.proofs.ByKey.Keys.{Known, nat_keys, apart_from_sorted}
-use Rattle.tl_county.proofs.Lists.Elements.{all_weaker, map-map, map_itself}
-use Rattle.tl_county.proofs.Lists.Permutations.{groups-permutation}
+use Rattle.ordered_lists.specs.Orders.{times, stands_in}
+use Rattle.ordered_lists.proofs.ByKey.Keys.{Known, nat_keys, apart_from_sorted}
+use Rattle.ordered_lists.proofs.Lists.Elements.{all_weaker, map-map, map_itself}
+use Rattle.tl_county.proofs.Lists.OfNumber.{groups-permutation}
 use Rattle.tl_cert.specs.LinkFields.{LinkFields, link_fields}
-use Rattle.tl_county.proofs.Lists.ByPlace.{decides_same}
+use Rattle.ordered_lists.proofs.Lists.ByPlace.{decides_same}
 
 -- the links of the landmarks with these LANDs, landmark by landmark
 abbrev pub under_lands : List Fields8 → List ℕ → List Fields8

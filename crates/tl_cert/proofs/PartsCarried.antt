@@ -9,15 +9,16 @@ use Rattle.tl_layout.specs.declared.type_p.BodyP.{BodyP}
 use Rattle.tl_shape.specs.Turned.{turned_if}
 use Rattle.tl_county.specs.County.{County}
 use Rattle.tl_county.specs.CountyRules.{IsCounty, tlids, feats, polygon_keys, lands}
-use Rattle.tl_county.specs.Entries.{entry_keys, value_under}
+use Rattle.ordered_lists.specs.Entries.{entry_keys, value_under}
 use Rattle.tl_county.specs.PolygonKeys.{PolygonKey}
-use Rattle.tl_county.specs.Renumbering.{Renumbering, image, turns, renumbered, carried_link, ArePaired, NumbersArePaired, Carries}
-use Rattle.tl_county.proofs.ByKey.Keys.{IsKeyOrder, IsApart, Known, nat_keys, lefts, same_or_not, same-itself, times-yes, apart_tail}
-use Rattle.tl_county.proofs.ByKey.Keys.{apart-permutation, images-lefts, apart_from_sorted}
-use Rattle.tl_county.proofs.ByKey.KeyOrders.{key_keys}
-use Rattle.tl_county.proofs.Lists.Elements.{all_weaker, all_both, all_map, all_unmap, map-map}
-use Rattle.tl_county.proofs.Rules.FirstFault.{Among, all_among}
-use Rattle.tl_county.proofs.Lists.Members.{among-permutation}
+use Rattle.tl_county.specs.Renumbering.{Renumbering, turns, renumbered, carried_link, NumbersArePaired, Carries}
+use Rattle.ordered_lists.specs.Pairs.{image, ArePaired}
+use Rattle.ordered_lists.proofs.ByKey.Keys.{IsKeyOrder, IsApart, Known, nat_keys, lefts, same_or_not, same-itself, times-yes, apart_tail}
+use Rattle.ordered_lists.proofs.ByKey.Keys.{apart-permutation, images-lefts, apart_from_sorted}
+use Rattle.tl_county.specs.Laws.KeyOrders.{key_keys}
+use Rattle.ordered_lists.proofs.Lists.Elements.{all_weaker, all_both, all_map, all_unmap, map-map}
+use Rattle.ordered_lists.proofs.Lists.Among.{Among, all_among}
+use Rattle.ordered_lists.proofs.Lists.Members.{among-permutation}
 use Rattle.tl_county.proofs.Sameness.Equivalence.{keys_known}
 use Rattle.tl_cert.specs.PartsThere.{IsLandmarkThere, ArePartsThere}
 

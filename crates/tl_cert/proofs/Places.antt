@@ -6,26 +6,14 @@ use Rattle.std.proofs.lemmas.Bool.{le-ltb}
 use Rattle.std.proofs.lemmas.List.Sorted.{IsPermutation-sym, IsPermutation-trans}
 use Rattle.std.specs.Bool.{Decides}
 use Rattle.std.specs.Cmp.Lexicographic.{slice_cmp}
-use Rattle.tl_county.specs.Orders.{IsInOrder, times, has_repeat}
-use Rattle.tl_county.specs.Entries.{entry_keys, entry_values}
-use Rattle.tl_county.specs.Renumbering.{ArePaired}
-use Rattle.tl_county.proofs.Lists.ByPlace.{decides_same}
-use Rattle.tl_county.proofs.Lists.InOrder.{in_order-permutation}
-use Rattle.tl_county.proofs.ByKey.KeyOrders.{lists_keys}
-use Rattle.tl_county.proofs.ByKey.Keys.{
-  IsKeyOrder,
-  Known,
-  nat_keys,
-  same-true,
-  same-itself,
-  lefts,
-  rights,
-  known_all,
-  order_itself,
-  order_antisymm,
-  apart-permutation,
-}
-use Rattle.tl_county.proofs.Lists.Distinct.{has_repeat-apart, apart_from_no_repeat}
+use Rattle.ordered_lists.specs.Orders.{IsInOrder, times, has_repeat}
+use Rattle.ordered_lists.specs.Entries.{entry_keys, entry_values}
+use Rattle.ordered_lists.specs.Pairs.{ArePaired}
+use Rattle.ordered_lists.proofs.Lists.ByPlace.{decides_same}
+use Rattle.ordered_lists.proofs.Lists.InOrder.{in_order-permutation}
+use Rattle.ordered_lists.proofs.ByKey.KeyOrders.{lists_keys}
+use Rattle.ordered_lists.proofs.ByKey.Keys.{IsKeyOrder, Known, nat_keys, same-true, same-itself, lefts, rights, known_all, order_itself, order_antisymm, apart-permutation}
+use Rattle.ordered_lists.proofs.Lists.Distinct.{has_repeat-apart, apart_from_no_repeat}
 
 -- the key and the value of an entry are at the same place
 module _ {K V : Type 0} where

@@ -5,9 +5,9 @@ use Rattle.std.proofs.Common.{Less, Equal, Greater}
 use Rattle.std.proofs.lemmas.Bool.{lt-ltb}
 use Rattle.std.specs.List.{cons_option}
 use Rattle.std.specs.Ordering.{ordering_reverse}
-use Rattle.tl_county.specs.Entries.{value_under}
-use Rattle.tl_county.specs.Renumbering.{image, is_named, composed}
-use Rattle.tl_county.proofs.ByKey.Keys.{IsKeyOrder, lefts}
+use Rattle.ordered_lists.specs.Entries.{value_under}
+use Rattle.ordered_lists.specs.Pairs.{image, is_named, composed}
+use Rattle.ordered_lists.proofs.ByKey.Keys.{IsKeyOrder, lefts}
 use Rattle.tl_cert.specs.Images.{named_images, pair_on}
 
 is_eq-reverse : (a : Ordering) → is_eq (ordering_reverse a) ≡ is_eq a

@@ -3,7 +3,8 @@ use Rattle.std.proofs.Common.{◌≡◌, Bool, true, false, Option, Some, None, 
 use Rattle.tl_shape.specs.Chain.{Chain}
 use Rattle.tl_shape.specs.Turned.{turned_if}
 use Rattle.tl_county.specs.ChartWords.{points_of, feats_of, ranges_of}
-use Rattle.tl_county.specs.Renumbering.{Renumbering, image, renumbered}
+use Rattle.tl_county.specs.Renumbering.{Renumbering, renumbered}
+use Rattle.ordered_lists.specs.Pairs.{image}
 use Rattle.tl_cert.specs.PartsThere.{points_towards, ranges_towards, HaveSameContent, HaveSameEnds, HaveSameLists}
 
 -- a field of a chain under its new numbers, if there is such a chain

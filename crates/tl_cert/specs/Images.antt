@@ -2,9 +2,10 @@
 use Rattle.std.specs.Prelude.{ℕ, Bool, List, Option, option_map, filter_map}
 use Rattle.std.specs.declared.cmp.Ordering.{Ordering}
 use Rattle.std.specs.Ordering.{nat_cmp}
-use Rattle.tl_county.specs.Entries.{value_under}
-use Rattle.tl_county.specs.Orders.{stands_in}
-use Rattle.tl_county.specs.Renumbering.{exactly_one, image}
+use Rattle.ordered_lists.specs.Entries.{value_under}
+use Rattle.ordered_lists.specs.Orders.{stands_in}
+use Rattle.tl_county.specs.Renumbering.{exactly_one}
+use Rattle.ordered_lists.specs.Pairs.{image}
 
 -- the new numbers of the old ones that pairs name
 abbrev pub named_images : {K : Type 0} → (K → K → Ordering) → List (K × K) → List K → List K

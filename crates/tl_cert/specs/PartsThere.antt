@@ -13,7 +13,8 @@ use Rattle.tl_shape.specs.Turned.{turned_if}
 use Rattle.tl_county.specs.ChartWords.{chain_at, points_of, feats_of, ranges_of, chain_under, name_under, polygon_under, bodies_under}
 use Rattle.tl_county.specs.County.{County}
 use Rattle.tl_county.specs.PolygonKeys.{PolygonKey, key_cmp}
-use Rattle.tl_county.specs.Renumbering.{Renumbering, image, turns, renumbered}
+use Rattle.tl_county.specs.Renumbering.{Renumbering, turns, renumbered}
+use Rattle.ordered_lists.specs.Pairs.{image}
 
 -- the chain at a place, which may be turned
 abbrev pub chain_towards : County → ℕ → Bool → Option Chain

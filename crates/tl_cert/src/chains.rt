@@ -5,7 +5,8 @@ ghost use Rattle.std.specs.Ordering.{nat_cmp};
 ghost use Rattle.std.specs.Prelude.{◌≡◌, map, option_map};
 ghost use Rattle.tl_cert.specs.PartsThere.{HaveSameContent, HaveSameEnds, HaveSameLists, chain_carried, chain_towards};
 ghost use Rattle.tl_county.specs.ChartWords.{chain_at, feats_of, points_of, ranges_of};
-ghost use Rattle.tl_county.specs.Renumbering.{image, renumbered_side};
+ghost use Rattle.ordered_lists.specs.Pairs.{image};
+ghost use Rattle.tl_county.specs.Renumbering.{renumbered_side};
 
 use crate::renaming_tables::RenamingTables;
 use tl_county::{Chart, Listed, Same, Tested, are_same};
@@ -213,7 +214,7 @@ impl<'a, C: Chart> Listed for NewFeats<'a, C> {
     ghost use Rattle.std.specs.Ordering.{nat_cmp};
     ghost use Rattle.std.specs.Prelude.{map};
     ghost use Rattle.tl_county.specs.ChartWords.{chain_at, feats_of};
-    ghost use Rattle.tl_county.specs.Renumbering.{image};
+    ghost use Rattle.ordered_lists.specs.Pairs.{image};
 
     type Item = u32;
 

@@ -3,16 +3,17 @@
 ghost use Rattle.std.specs.Prelude.{◌≡◌, ◌<◌, IfOk, Some, length, slice_get};
 
 use crate::renaming::Renaming;
+use ordered_lists::Key;
 use std::alloc::{AllocError, Global};
 use std::marker::PhantomData;
-use tl_county::{Chart, Key, Listed, PolygonKey, push_all};
+use tl_county::{Chart, Listed, PolygonKey, push_all};
 
 /// A kind of numbers of a county, such as TLIDs.
 pub(crate) trait NumberKind<K: Key> {
     ghost use Rattle.std.specs.Prelude.{List};
     ghost use Rattle.tl_county.specs.County.{County};
     ghost use Rattle.tl_county.specs.CountyRules.{IsCounty};
-    ghost use Rattle.tl_county.specs.Orders.{IsInOrder};
+    ghost use Rattle.ordered_lists.specs.Orders.{IsInOrder};
     ghost use Rattle.tl_county.specs.Renumbering.{Renumbering};
 
     /// The numbers of this kind.
@@ -43,7 +44,7 @@ pub(crate) struct Tlids;
 
 impl NumberKind<u64> for Tlids {
     ghost use Rattle.std.specs.Ordering.{nat_cmp};
-    ghost use Rattle.tl_county.proofs.Lists.EntryLists.{in_order-strict};
+    ghost use Rattle.ordered_lists.proofs.Lists.EntryLists.{in_order-strict};
     ghost use Rattle.tl_county.specs.CountyRules.{tlids};
 
     ghost numbers = { tlids };
@@ -70,7 +71,7 @@ pub(crate) struct Feats;
 
 impl NumberKind<u32> for Feats {
     ghost use Rattle.std.specs.Ordering.{nat_cmp};
-    ghost use Rattle.tl_county.proofs.Lists.EntryLists.{in_order-strict};
+    ghost use Rattle.ordered_lists.proofs.Lists.EntryLists.{in_order-strict};
     ghost use Rattle.tl_county.specs.CountyRules.{feats};
 
     ghost numbers = { feats };
@@ -96,7 +97,7 @@ impl NumberKind<u32> for Feats {
 pub(crate) struct PolygonKeys;
 
 impl NumberKind<PolygonKey> for PolygonKeys {
-    ghost use Rattle.tl_county.proofs.Lists.EntryLists.{in_order-strict};
+    ghost use Rattle.ordered_lists.proofs.Lists.EntryLists.{in_order-strict};
     ghost use Rattle.tl_county.specs.CountyRules.{polygon_keys};
     ghost use Rattle.tl_county.specs.PolygonKeys.{key_cmp};
 
@@ -124,7 +125,7 @@ pub(crate) struct Lands;
 
 impl NumberKind<u64> for Lands {
     ghost use Rattle.std.specs.Ordering.{nat_cmp};
-    ghost use Rattle.tl_county.proofs.Lists.EntryLists.{in_order-strict};
+    ghost use Rattle.ordered_lists.proofs.Lists.EntryLists.{in_order-strict};
     ghost use Rattle.tl_county.specs.CountyRules.{lands};
 
     ghost numbers = { lands };
@@ -151,9 +152,9 @@ pub(crate) struct Nodes;
 
 impl NumberKind<u64> for Nodes {
     ghost use Rattle.std.specs.Ordering.{nat_cmp};
-    ghost use Rattle.tl_county.proofs.ByKey.Keys.{nat_keys};
-    ghost use Rattle.tl_county.proofs.ByKey.Numbers.{distinct-strict};
-    ghost use Rattle.tl_county.proofs.Lists.EntryLists.{in_order-strict};
+    ghost use Rattle.ordered_lists.proofs.ByKey.Keys.{nat_keys};
+    ghost use Rattle.ordered_lists.proofs.ByKey.Numbers.{distinct-strict};
+    ghost use Rattle.ordered_lists.proofs.Lists.EntryLists.{in_order-strict};
     ghost use Rattle.tl_county.specs.CountyRules.{nodes, nodes_along};
 
     ghost numbers = { nodes };

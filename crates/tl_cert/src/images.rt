@@ -1,14 +1,14 @@
 //! The new numbers that pairs of an old and a new number give.
 
 ghost use Rattle.std.specs.Prelude.{◌≡◌, IfOk};
-ghost use Rattle.tl_county.specs.Entries.{value_under};
-ghost use Rattle.tl_county.specs.Renumbering.{image};
+ghost use Rattle.ordered_lists.specs.Entries.{value_under};
+ghost use Rattle.ordered_lists.specs.Pairs.{image};
 
 use indexmap::IndexMap;
+use ordered_lists::Key;
 use std::alloc::{AllocError, Global};
 use std::hash::Hash;
 use std::marker::Model;
-use tl_county::Key;
 
 /// Pairs of an old and a new number, with a table of the new number of each old one. If several pairs have the same old number, the
 /// first counts.
@@ -21,7 +21,7 @@ pub(crate) struct Images<'a, K: Key + Hash> {
 impl<'a, K: Key + Hash> Model for Images<'a, K> {
     ghost use Rattle.std.specs.Prelude.{◌≡◌, List};
     ghost use Rattle.indexmap.specs.IndexMap.{get};
-    ghost use Rattle.tl_county.specs.Entries.{value_under};
+    ghost use Rattle.ordered_lists.specs.Entries.{value_under};
 
     ghost Value = { List (K × K) };
 

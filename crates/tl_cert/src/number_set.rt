@@ -3,11 +3,11 @@
 ghost use Rattle.std.specs.Bool.{Decides};
 ghost use Rattle.std.specs.Ordering.{nat_cmp};
 ghost use Rattle.std.specs.Prelude.{◌≡◌, IfOk, false};
-ghost use Rattle.tl_county.specs.Orders.{IsInOrder, has_repeat, stands_in};
+ghost use Rattle.ordered_lists.specs.Orders.{IsInOrder, has_repeat, stands_in};
 
+use ordered_lists::place_of;
 use std::alloc::{AllocError, Global};
 use std::marker::Model;
-use tl_county::place_of;
 
 /// A list of numbers, with a sorted copy that is searched.
 #[derive(Drop)]
@@ -19,7 +19,7 @@ pub(crate) struct NumberSet<'a> {
 impl<'a> Model for NumberSet<'a> {
     ghost use Rattle.std.specs.Ordering.{nat_cmp};
     ghost use Rattle.std.specs.Prelude.{IsPermutation, List, ℕ};
-    ghost use Rattle.tl_county.specs.Orders.{IsInOrder};
+    ghost use Rattle.ordered_lists.specs.Orders.{IsInOrder};
 
     ghost Value = { List ℕ };
 

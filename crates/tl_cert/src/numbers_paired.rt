@@ -5,15 +5,17 @@ ghost use Rattle.std.specs.List.{AllByRecursion};
 ghost use Rattle.std.specs.Ordering.{nat_cmp};
 ghost use Rattle.std.specs.Prelude.{◌≡◌, IfOk, IsPermutation, IsTrue, false};
 ghost use Rattle.tl_county.specs.CountyRules.{feats, lands, nodes, polygon_keys, tlids};
-ghost use Rattle.tl_county.specs.Orders.{has_repeat, stands_in};
-ghost use Rattle.tl_county.specs.Renumbering.{ArePaired, NumbersArePaired};
+ghost use Rattle.ordered_lists.specs.Orders.{has_repeat, stands_in};
+ghost use Rattle.ordered_lists.specs.Pairs.{ArePaired};
+ghost use Rattle.tl_county.specs.Renumbering.{NumbersArePaired};
 
 use crate::county_numbers::{Feats, Lands, Nodes, NumberKind, PolygonKeys, Tlids, numbers_of};
 use crate::number_set::NumberSet;
 use crate::pairing::{are_known, new_numbers, old_numbers};
 use crate::renaming::Renaming;
+use ordered_lists::Key;
 use std::alloc::{AllocError, Global};
-use tl_county::{Chart, Key, PolygonKey, Tested, all_hold};
+use tl_county::{Chart, PolygonKey, Tested, all_hold};
 
 /// Whether the numbers are a permutation of those of one kind of a county.
 fn are_numbers_of<K: Key, N: NumberKind<K>, C: Chart>(

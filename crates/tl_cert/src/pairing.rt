@@ -2,10 +2,10 @@
 
 ghost use Rattle.std.specs.Bool.{Decides};
 ghost use Rattle.std.specs.Prelude.{◌≡◌, IfOk, IsPermutation, map};
-ghost use Rattle.tl_county.specs.Orders.{IsInOrder};
+ghost use Rattle.ordered_lists.specs.Orders.{IsInOrder};
 
+use ordered_lists::Key;
 use std::alloc::{AllocError, Global};
-use tl_county::Key;
 
 /// The numbers on the left of pairs.
 pub(crate) fn old_numbers<K: Key>(alloc: Global, pairs: &[(K, K)]) -> Result<Vec<K>, AllocError>

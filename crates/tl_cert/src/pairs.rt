@@ -2,12 +2,12 @@
 
 ghost use Rattle.std.specs.Prelude.{◌≡◌, IfOk, filter_map};
 ghost use Rattle.tl_cert.specs.Images.{named_images, pair_on};
-ghost use Rattle.tl_county.specs.Renumbering.{composed, swapped};
+ghost use Rattle.ordered_lists.specs.Pairs.{composed, swapped};
 
 use crate::images::Images;
+use ordered_lists::Key;
 use std::alloc::{AllocError, Global};
 use std::hash::Hash;
-use tl_county::Key;
 
 /// The pairs with their numbers swapped.
 pub(crate) fn swap_pairs<K: Key>(alloc: Global, pairs: &[(K, K)]) -> Result<Vec<(K, K)>, AllocError>

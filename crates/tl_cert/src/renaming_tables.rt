@@ -3,7 +3,8 @@
 ghost use Rattle.std.specs.Ordering.{nat_cmp};
 ghost use Rattle.std.specs.Prelude.{◌≡◌, IfOk};
 ghost use Rattle.tl_county.specs.PolygonKeys.{key_cmp};
-ghost use Rattle.tl_county.specs.Renumbering.{image, turns};
+ghost use Rattle.ordered_lists.specs.Pairs.{image};
+ghost use Rattle.tl_county.specs.Renumbering.{turns};
 
 use crate::images::Images;
 use crate::number_set::NumberSet;

@@ -3,7 +3,7 @@
 ghost use Rattle.std.specs.Ordering.{nat_cmp};
 ghost use Rattle.std.specs.Prelude.{◌≡◌, IfOk, filter, map};
 ghost use Rattle.tl_cert.specs.Images.{is_turned_once};
-ghost use Rattle.tl_county.specs.Renumbering.{image, is_named};
+ghost use Rattle.ordered_lists.specs.Pairs.{image, is_named};
 
 use crate::images::Images;
 use crate::number_set::NumberSet;

@@ -1,12 +1,4 @@
-pub mod Keys
-pub mod KeyOrders
-pub mod Numbers
-pub mod NumberSets
 pub mod KeySets
-pub mod KeysInOrder
-pub mod KeyedLists
-pub mod KeysAscend
-pub mod SortedKeys
-pub mod PlacesOfCenids
 pub mod PolygonSets
 pub mod MarkedNames
+pub mod PlacesOfCenids

@@ -1,12 +1,3 @@
-pub mod Elements
-pub mod Distinct
-pub mod Members
-pub mod InOrder
-pub mod Reordered
-pub mod EntryLists
-pub mod Places
-pub mod Counted
-pub mod Permutations
-pub mod FreePlaces
+pub mod OfNumber
+pub mod LinkPlaces
 pub mod Groups
-pub mod ByPlace

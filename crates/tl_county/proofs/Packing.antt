@@ -1,10 +1,9 @@
 pub mod Repacking
 pub mod Splitting
-pub mod PackedTypes
 pub mod PackedNumbers
 pub mod PackedChains
 pub mod PackedNamed
 pub mod PackedLinked
 pub mod PackedCounty
-pub mod TypeCounts
 pub mod PackedGroups
+pub mod Pieces

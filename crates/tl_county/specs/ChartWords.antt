@@ -10,7 +10,7 @@ use Rattle.tl_shape.specs.Chain.{Chain}
 use Rattle.tl_layout.specs.ByType.{of_number}
 use Rattle.tl_county.specs.County.{County, eight_land}
 use Rattle.tl_county.specs.CountyRules.{lands}
-use Rattle.tl_county.specs.Entries.{entry_values, value_under}
+use Rattle.ordered_lists.specs.Entries.{entry_values, value_under}
 use Rattle.tl_county.specs.PolygonKeys.{PolygonKey, key_cmp}
 use Rattle.std.specs.Ordering.{nat_cmp}
 

@@ -12,7 +12,7 @@ use Rattle.tl_county.specs.BodyOrder.{landmark_body_cmp, link_cmp}
 use Rattle.tl_layout.specs.ByType.{of_type_1, of_type_2, of_type_4, of_type_5, of_type_6, of_type_7, of_type_8, of_type_i}
 use Rattle.tl_layout.specs.ByType.{of_type_p, of_number}
 use Rattle.tl_shape.specs.Chain.{Chain}
-use Rattle.tl_county.specs.Orders.{in_order, distinct}
+use Rattle.ordered_lists.specs.Orders.{in_order, distinct}
 use Rattle.tl_county.specs.PolygonKeys.{PolygonKey, key_cmp, key_on}
 
 -- A county. Each of its lists is in the order of its numbers. Two counties are equal exactly if their lists are.

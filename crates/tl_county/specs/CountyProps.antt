@@ -6,7 +6,7 @@ use Rattle.tl_county.specs.County.{County}
 use Rattle.tl_county.specs.CountyRules.{IsCounty}
 use Rattle.tl_county.specs.KeptCounty.{LinksUnderLands}
 use Rattle.tl_county.specs.LandmarkParts.{LandmarkParts}
-use Rattle.tl_county.specs.Orders.{IsInOrder}
+use Rattle.ordered_lists.specs.Orders.{IsInOrder}
 
 pub IsInOrder-prop : {X : Type 0} (cmp : X → X → Ordering) (xs : List X) → IsProp (IsInOrder cmp xs)
 IsInOrder-prop cmp [] = hlevel props

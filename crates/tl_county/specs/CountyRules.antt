@@ -6,7 +6,7 @@ use Rattle.std.specs.Ordering.{is_eq, nat_cmp}
 use Rattle.tl_county.specs.BodyOrder.{landmark_body_cmp, link_cmp}
 use Rattle.tl_shape.specs.Chain.{Chain}
 use Rattle.tl_county.specs.County.{County, link_key}
-use Rattle.tl_county.specs.Orders.{IsInOrder, stands_in, distinct}
+use Rattle.ordered_lists.specs.Orders.{IsInOrder, stands_in, distinct}
 use Rattle.tl_county.specs.PolygonKeys.{PolygonKey, key_cmp, key_on}
 
 -- the county's TLIDs, FEATs, polygons and LANDs, each in order

@@ -1,12 +1,8 @@
-pub mod Orders
-pub mod Keyed
 pub mod SequenceKeys
 pub mod Marks
 pub mod RepeatedKeys
 pub mod RuleOrder
 pub mod OrderedTables
-pub mod PutInOrder
-pub mod Entries
 pub mod LandmarkParts
 pub mod KeptCounty
 pub mod Building
@@ -14,7 +10,6 @@ pub mod ChartWords
 pub mod CountyProps
 pub mod PolygonKeys
 pub mod PolygonSets
-pub mod NumberSets
 pub mod BodyOrder
 pub mod County
 pub mod CountyRules
@@ -29,7 +24,6 @@ pub mod LimitsProps
 pub mod Reports
 pub mod JoinedLists
 pub mod MaskedCounty
-pub mod MaskedLaws
-pub mod MaskedLimits
 pub mod MaskedProps
 pub mod MaskedTables
+pub mod Laws

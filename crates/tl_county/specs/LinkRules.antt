@@ -17,7 +17,7 @@ use Rattle.tl_county.specs.County.{one_tlid, two_tlid, two_rtsq, four_tlid, four
 use Rattle.tl_county.specs.County.{eight_land, link_key, i_tlid, p_key, side_keys}
 use Rattle.tl_county.specs.FirstOf.{IsFirst}
 use Rattle.tl_county.specs.LinkedTypes.{linked_type}
-use Rattle.tl_county.specs.Orders.{times, stands_in, has_repeat}
+use Rattle.ordered_lists.specs.Orders.{times, stands_in, has_repeat}
 use Rattle.tl_county.specs.PolygonKeys.{key_cmp}
 
 -- the TLIDs of the type 1 records

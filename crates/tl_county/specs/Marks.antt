@@ -1,13 +1,9 @@
 -- Marks by number, and type 4 records whose FEATs all have names.
-use Rattle.std.specs.Prelude.{◌≡◌, ◌<◌, ℕ, Bool, true, List, length, Some, slice_get}
+use Rattle.std.specs.Prelude.{◌≡◌, ℕ, true, List}
 use Rattle.std.specs.List.{AllByRecursion}
 use Rattle.std.specs.Ordering.{nat_cmp}
 use Rattle.tl_layout.specs.Fields.{Fields4}
-use Rattle.tl_county.specs.Orders.{stands_in}
-
--- each number that has a place in the marks is marked exactly if it is in the list
-abbrev pub AreMarksOf : List ℕ → List Bool → Type 0
-AreMarksOf numbers marks = (number : ℕ) → number < length marks → slice_get marks number ≡ Some (stands_in nat_cmp number numbers)
+use Rattle.ordered_lists.specs.Orders.{stands_in}
 
 -- each of these FEATs is one of the names
 abbrev pub AreNamed : List ℕ → List ℕ → Type 0

@@ -6,8 +6,8 @@ use Rattle.tl_layout.specs.declared.type7.Body7.{Body7}
 use Rattle.tl_shape.specs.Chain.{Chain}
 use Rattle.tl_county.specs.BodyOrder.{landmark_body_cmp}
 use Rattle.tl_county.specs.County.{County}
-use Rattle.tl_county.specs.Entries.{map_values}
-use Rattle.tl_county.specs.Orders.{in_order}
+use Rattle.ordered_lists.specs.Entries.{map_values}
+use Rattle.ordered_lists.specs.Orders.{in_order}
 
 -- the chain with the contents of its records of types 1 and I under the mask
 abbrev pub masked_chain : Mask → Chain → Chain

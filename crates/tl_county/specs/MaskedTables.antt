@@ -3,7 +3,7 @@ use Rattle.std.specs.Prelude.{◌≡◌, List, true}
 use Rattle.tl_layout.specs.declared.mask.Mask.{Mask}
 use Rattle.tl_layout.specs.declared.type7.Body7.{Body7}
 use Rattle.tl_county.specs.County.{County}
-use Rattle.tl_county.specs.Entries.{entry_values}
+use Rattle.ordered_lists.specs.Entries.{entry_values}
 use Rattle.tl_county.specs.MaskedCounty.{masked}
 
 -- if the mask leaves out SOURCE, these are the contents of each landmark under the mask

@@ -6,7 +6,7 @@ use Rattle.tl_layout.specs.declared.tables.Tables.{Tables}
 use Rattle.tl_layout.specs.Fields.{Fields7}
 use Rattle.tl_county.specs.BodyOrder.{landmark_body_cmp, link_cmp}
 use Rattle.tl_county.specs.County.{one_tlid, five_feat, i_tlid, p_key}
-use Rattle.tl_county.specs.Orders.{IsInOrder}
+use Rattle.ordered_lists.specs.Orders.{IsInOrder}
 use Rattle.tl_county.specs.Packing.{Typed}
 use Rattle.tl_county.specs.PolygonKeys.{key_cmp}
 use Rattle.tl_county.specs.SequenceKeys.{sequence_cmp, two_sequence, four_sequence, six_sequence}

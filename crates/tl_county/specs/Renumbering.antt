@@ -1,9 +1,8 @@
 -- Renamings of a county's numbers, and the county that each carries a county onto.
-use Rattle.std.specs.Prelude.{ℕ, ◌≡◌, List, [], ◌∷◌, map, filter, Bool, cond, not, false, Option, Some, None, option_map, IsTrue}
+use Rattle.std.specs.Prelude.{ℕ, ◌≡◌, List, [], map, filter, Bool, cond, not, false, Option, Some, None, option_map, IsTrue}
 use Rattle.std.specs.Prelude.{IsPermutation}
 use Rattle.std.specs.List.{AllByRecursion}
-use Rattle.std.specs.declared.cmp.Ordering.{Ordering}
-use Rattle.std.specs.Ordering.{is_eq, nat_cmp}
+use Rattle.std.specs.Ordering.{nat_cmp}
 use Rattle.tl_layout.specs.Fields.{Fields8}
 use Rattle.tl_layout.specs.PolygonSide.{PolygonSide}
 use Rattle.tl_layout.specs.declared.type5.Body5.{Body5}
@@ -12,9 +11,10 @@ use Rattle.tl_layout.specs.declared.type_p.BodyP.{BodyP}
 use Rattle.tl_shape.specs.Chain.{Chain}
 use Rattle.tl_county.specs.County.{County, link_key}
 use Rattle.tl_county.specs.CountyRules.{tlids, feats, polygon_keys, lands, nodes}
-use Rattle.tl_county.specs.Orders.{stands_in, has_repeat}
+use Rattle.ordered_lists.specs.Orders.{stands_in, has_repeat}
 use Rattle.tl_county.specs.PolygonKeys.{PolygonKey, key_cmp}
 use Rattle.tl_shape.specs.Turned.{turned_if}
+use Rattle.ordered_lists.specs.Pairs.{image, ArePaired, to_itself, swapped, is_named, composed}
 
 -- Each old number with its new one, kind by kind, and the old TLIDs of the chains that are turned.
 pub record Renumbering : Type 0 where
@@ -24,11 +24,6 @@ pub record Renumbering : Type 0 where
   pub lands : List (ℕ × ℕ)
   pub nodes : List (ℕ × ℕ)
   pub turned : List ℕ
-
--- the new number of an old one, or the old one itself if no pair names it
-abbrev pub image : {K : Type 0} → (K → K → Ordering) → List (K × K) → K → K
-image cmp [] x = x
-image cmp (pair ∷ pairs) x = cond (is_eq (cmp x pair.0)) pair.1 (image cmp pairs x)
 
 -- whether the renaming turns the chain of this old TLID
 abbrev pub turns : Renumbering → ℕ → Bool
@@ -81,11 +76,6 @@ carried_link r link = record {
   land = image nat_cmp r.lands link.land;
 }
 
--- the pairs name each old number once on the left and each new number once on the right, and no other
-pub record ArePaired {K : Type 0} (pairs : List (K × K)) (olds news : List K) : Type 0 where
-  pub left : IsPermutation (map (λ pair. pair.0) pairs) olds
-  pub right : IsPermutation (map (λ pair. pair.1) pairs) news
-
 -- each number of one county is paired with its number in the other; a polygon keeps its CENID; each turned TLID is listed once
 pub record NumbersArePaired (r : Renumbering) (a b : County) : Type 0 where
   pub chains : ArePaired r.chains (tlids a) (tlids b)
@@ -111,10 +101,6 @@ pub record AreSame (a b : County) : Type 0 where
   pub by : Renumbering
   pub carries : Carries by a b
 
--- each number is its own new number, and no chain is turned
-abbrev pub to_itself : {K : Type 0} → List K → List (K × K)
-to_itself = map (λ n. (n, n))
-
 abbrev pub identity : County → Renumbering
 identity a = record {
   chains = to_itself (tlids a);
@@ -124,14 +110,6 @@ identity a = record {
   nodes = to_itself (nodes a);
   turned = [];
 }
-
--- each pair reversed
-abbrev pub swapped : {K : Type 0} → List (K × K) → List (K × K)
-swapped = map (λ pair. (pair.1, pair.0))
-
--- whether a pair names the number on its left
-abbrev pub is_named : {K : Type 0} → (K → K → Ordering) → List (K × K) → K → Bool
-is_named cmp pairs x = stands_in cmp x (map (λ pair. pair.0) pairs)
 
 -- back from the new numbers to the old ones; it turns the images of the chains that were turned, and leaves out a turned TLID
 -- without an image
@@ -144,10 +122,6 @@ inverse r = record {
   nodes = swapped r.nodes;
   turned = map (image nat_cmp r.chains) (filter (is_named nat_cmp r.chains) r.turned);
 }
-
--- first by some pairs and then by others; a number whose image the others don't name is left out
-abbrev pub composed : {K : Type 0} → (K → K → Ordering) → List (K × K) → List (K × K) → List (K × K)
-composed cmp firsts nexts = map (λ pair. (pair.0, image cmp nexts pair.1)) (filter (λ pair. is_named cmp nexts pair.1) firsts)
 
 -- one of the two, and not both
 abbrev pub exactly_one : Bool → Bool → Bool

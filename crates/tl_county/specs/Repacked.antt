@@ -10,7 +10,7 @@ use Rattle.tl_county.specs.declared.fault.SequencedType.TheVariants as sequenced
 use Rattle.tl_layout.specs.ByType.{of_type_2, of_type_4, of_number}
 use Rattle.tl_county.specs.County.{two_tlid, two_rtsq, four_tlid, four_rtsq}
 use Rattle.tl_county.specs.LinkRules.{rtsqs}
-use Rattle.tl_county.specs.Orders.{stands_in}
+use Rattle.ordered_lists.specs.Orders.{stands_in}
 
 -- A record of a chain is cut into two: it holds the items of the first and then those of the second, the first keeps its RTSQ, the
 -- second has a later one, and no other record of the chain has an RTSQ from the first to the second.

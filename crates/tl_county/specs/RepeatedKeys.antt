@@ -2,7 +2,7 @@
 use Rattle.std.specs.Prelude.{map}
 use Rattle.tl_county.specs.declared.linking.table_order.Repeated.{Repeated}
 use Rattle.tl_county.specs.County.{p_key}
-use Rattle.tl_county.specs.Keyed.{IsLeastPassing, is_repeated}
+use Rattle.ordered_lists.specs.Keyed.{IsLeastPassing, is_repeated}
 use Rattle.tl_county.specs.Packing.{Typed}
 use Rattle.tl_county.specs.PolygonKeys.{key_cmp}
 use Rattle.tl_county.specs.SequenceKeys.{sequence_cmp, two_sequence, four_sequence, six_sequence}

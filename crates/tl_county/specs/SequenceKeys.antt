@@ -4,7 +4,7 @@ use Rattle.std.specs.declared.cmp.Ordering.{Ordering}
 use Rattle.std.specs.Ordering.{nat_cmp, ordering_then}
 use Rattle.tl_layout.specs.Coordinates.{Coordinates}
 use Rattle.tl_layout.specs.Fields.{Fields2, Fields4, Fields6, Fields7, Fields8}
-use Rattle.tl_county.specs.Orders.{stands_in}
+use Rattle.ordered_lists.specs.Orders.{stands_in}
 
 -- the TLID, then the RTSQ
 abbrev pub two_sequence : Fields2 → ℕ × ℕ

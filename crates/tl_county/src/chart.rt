@@ -7,7 +7,7 @@ ghost use Rattle.tl_county.specs.ChartWords.{bodies_at, chain_at, feats_of, link
 ghost use Rattle.tl_county.specs.County.{County};
 ghost use Rattle.tl_county.specs.CountyRules.{IsCounty, feats, lands, nodes, polygon_keys, tlids};
 ghost use Rattle.tl_county.specs.Limits.{IsWithinLimits, most_records};
-ghost use Rattle.tl_county.specs.Orders.{stands_in};
+ghost use Rattle.ordered_lists.specs.Orders.{stands_in};
 ghost use Rattle.tl_county.specs.PolygonKeys.{key_cmp};
 ghost use Rattle.tl_layout.specs.Columns.{joined};
 ghost use Rattle.tl_layout.specs.Turned.{body_towards};

@@ -7,7 +7,7 @@ ghost use Rattle.tl_county.specs.ChartWords.{bodies_at, chain_at, links_at};
 ghost use Rattle.tl_county.specs.County.{eight_land};
 ghost use Rattle.tl_county.specs.CountyProps.{IsCounty-prop, LinksUnderLands-prop};
 ghost use Rattle.tl_county.specs.CountyRules.{IsCounty, feats, lands, nodes as nodes_in_order, polygon_keys, tlids};
-ghost use Rattle.tl_county.specs.Entries.{map_values, value_under};
+ghost use Rattle.ordered_lists.specs.Entries.{map_values, value_under};
 ghost use Rattle.tl_county.specs.KeptCounty.{county_with, LinksUnderLands};
 ghost use Rattle.tl_county.specs.Limits.{IsWithinLimits, most_records};
 ghost use Rattle.tl_county.specs.LimitsProps.{IsWithinLimits-prop};

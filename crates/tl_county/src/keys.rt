@@ -3,7 +3,5 @@
 pub(crate) mod by_number;
 pub(crate) mod key_set;
 pub(crate) mod keyed;
-pub(crate) mod marks;
-pub(crate) mod number_set;
 pub(crate) mod polygon_set;
 pub(crate) mod record_keys;

@@ -26,7 +26,7 @@ pub use chart_lists::LandmarkBodies;
 pub use fault::{LinkFault, LinkedType, SequencedType};
 pub use kept::{County, CountyIn, CountyOver};
 pub use keys::key_set::KeySet;
-pub use keys::keyed::{Key, Keyed, least_unknown, place_of, put_in_order, sort_keys, split_group};
+pub use keys::keyed::{Keyed, least_unknown, put_in_order, split_group};
 pub use keys::record_keys::PolygonKey;
 pub use laws::{
     counties_within_limits_are_packed_into_records_that_fit, linked_or_one_first_broken_rule,

@@ -9,12 +9,12 @@ ghost use Rattle.std.specs.Prelude.{◌≡◌, ◌≢◌, ◌++◌, List, map, f
 ghost use Rattle.tl_county.specs.Building.{county_along, landmarks_along, link_nodes};
 ghost use Rattle.tl_county.specs.County.{county_of, five_feat, i_tlid, link_key, one_tlid, p_key, side_keys};
 ghost use Rattle.tl_county.specs.declared.fault.LinkFault.TheVariants.{Memory};
-ghost use Rattle.tl_county.specs.Entries.{map_values};
-ghost use Rattle.tl_county.specs.Keyed.{IsLeastPassing, is_unknown};
+ghost use Rattle.ordered_lists.specs.Entries.{map_values};
+ghost use Rattle.ordered_lists.specs.Keyed.{IsLeastPassing, is_unknown};
 ghost use Rattle.tl_county.specs.Limits.{HoldsWithinLimits, IsWithinLimits, most_records};
 ghost use Rattle.tl_county.specs.LinkRules.{IsFirstBrokenRule, IsLinked};
 ghost use Rattle.tl_county.specs.OrderedTables.{typed_of, AreInOrder, ArePermuted};
-ghost use Rattle.tl_county.specs.Orders.{IsInOrder, distinct};
+ghost use Rattle.ordered_lists.specs.Orders.{IsInOrder, distinct};
 ghost use Rattle.tl_county.specs.Packing.{by_type, type_after_type};
 ghost use Rattle.tl_county.specs.PolygonKeys.{key_cmp};
 ghost use Rattle.tl_county.specs.RepeatedKeys.{AreLeastRepeated};

@@ -5,8 +5,8 @@
 
 ghost use Rattle.std.specs.Prelude.{◌≡◌, IfErr, IfOk, true};
 ghost use Rattle.tl_county.specs.MaskedCounty.{masked};
-ghost use Rattle.tl_county.specs.MaskedLaws.{masked_is_county};
-ghost use Rattle.tl_county.specs.MaskedLimits.{masked_within_limits};
+ghost use Rattle.tl_county.specs.Laws.MaskedCounties.{masked_is_county};
+ghost use Rattle.tl_county.specs.Laws.MaskedLimits.{masked_within_limits};
 ghost use Rattle.tl_county.specs.MaskedProps.{MatchesBodies-prop};
 ghost use Rattle.tl_county.specs.MaskedTables.{MatchesBodies};
 ghost use Rattle.tl_county.specs.ChartWords.{bodies_at};
@@ -81,12 +81,12 @@ impl<C: Chart> Chart for Masked<C> {
         self.chart.chain_count()
     }
 
-    #[tactic(auto, using(crate::specs::MaskedLaws::tlids_masked))]
+    #[tactic(auto, using(crate::specs::Laws::MaskedCounties::tlids_masked))]
     fn tlid_at(&self, place: usize) -> Option<u64> {
         self.chart.tlid_at(place)
     }
 
-    #[tactic(auto, using(crate::specs::MaskedLaws::tlids_masked))]
+    #[tactic(auto, using(crate::specs::Laws::MaskedCounties::tlids_masked))]
     fn chain_place(&self, tlid: u64) -> Option<usize> {
         self.chart.chain_place(tlid)
     }
@@ -120,27 +120,27 @@ impl<C: Chart> Chart for Masked<C> {
         self.chart.landmark_count()
     }
 
-    #[tactic(auto, using(crate::specs::MaskedLaws::lands_masked))]
+    #[tactic(auto, using(crate::specs::Laws::MaskedCounties::lands_masked))]
     fn land_at(&self, place: usize) -> Option<u64> {
         self.chart.land_at(place)
     }
 
-    #[tactic(auto, using(crate::specs::MaskedLaws::lands_masked))]
+    #[tactic(auto, using(crate::specs::Laws::MaskedCounties::lands_masked))]
     fn landmark_place(&self, land: u64) -> Option<usize> {
         self.chart.landmark_place(land)
     }
 
-    #[tactic(auto, using(crate::specs::MaskedLaws::nodes_masked))]
+    #[tactic(auto, using(crate::specs::Laws::MaskedCounties::nodes_masked))]
     fn node_count(&self) -> usize {
         self.chart.node_count()
     }
 
-    #[tactic(auto, using(crate::specs::MaskedLaws::nodes_masked))]
+    #[tactic(auto, using(crate::specs::Laws::MaskedCounties::nodes_masked))]
     fn node_at(&self, place: usize) -> Option<u64> {
         self.chart.node_at(place)
     }
 
-    #[tactic(auto, using(crate::specs::MaskedLaws::nodes_masked))]
+    #[tactic(auto, using(crate::specs::Laws::MaskedCounties::nodes_masked))]
     fn node_place(&self, node: u64) -> Option<usize> {
         self.chart.node_place(node)
     }

@@ -4,8 +4,8 @@ ghost use Rattle.std.specs.Prelude.{◌≡◌, IfOk, OnOk, map, true};
 ghost use Rattle.tl_county.specs.MaskedCounty.{masked, masked_bodies};
 ghost use Rattle.tl_county.specs.BodyOrder.{landmark_body_cmp};
 ghost use Rattle.tl_county.specs.ChartWords.{bodies_at};
-ghost use Rattle.tl_county.specs.Entries.{entry_values};
-ghost use Rattle.tl_county.specs.Orders.{in_order};
+ghost use Rattle.ordered_lists.specs.Entries.{entry_values};
+ghost use Rattle.ordered_lists.specs.Orders.{in_order};
 ghost use Rattle.tl_layout.specs.Masked.{masked_body_7};
 
 use crate::body_order::cmp_landmark_bodies;

@@ -6,7 +6,7 @@ use Rattle.tl_layout.specs.Coordinates.{Coordinates}
 use Rattle.tl_shape.specs.Chain.{Chain}
 use Rattle.tl_county.specs.County.{County}
 use Rattle.tl_county.specs.CountyRules.{tlids, feats, lands, polygon_keys, nodes_along, polygons_along, AllKeysStandIn}
-use Rattle.tl_county.specs.Orders.{IsInOrder}
+use Rattle.ordered_lists.specs.Orders.{IsInOrder}
 use Rattle.tl_shape.specs.PointOrder.{points_cmp}
 use Rattle.tl_county.specs.PolygonKeys.{PolygonKey}
 use Rattle.tl_number.specs.Growth.{Grows, up_to}

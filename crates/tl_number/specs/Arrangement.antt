@@ -12,10 +12,11 @@ use Rattle.tl_shape.specs.Turned.{turned_if}
 use Rattle.tl_county.specs.BodyOrder.{link_cmp}
 use Rattle.tl_county.specs.County.{County, link_key}
 use Rattle.tl_county.specs.CountyRules.{tlids, nodes_along, polygons_along}
-use Rattle.tl_county.specs.Orders.{in_order}
+use Rattle.ordered_lists.specs.Orders.{in_order}
 use Rattle.tl_county.specs.Packing.{numbered_from}
 use Rattle.tl_county.specs.PolygonKeys.{PolygonKey, key_cmp}
-use Rattle.tl_county.specs.Renumbering.{Renumbering, image, carried_chain, carried_name, carried_polygon, carried_landmark, carried_link}
+use Rattle.tl_county.specs.Renumbering.{Renumbering, carried_chain, carried_name, carried_polygon, carried_landmark, carried_link}
+use Rattle.ordered_lists.specs.Pairs.{image}
 use Rattle.std.specs.Ordering.{nat_cmp}
 use Rattle.tl_profile.specs.Shapes.{least_points}
 use Rattle.tl_number.specs.Growth.{first_seen, numbered}

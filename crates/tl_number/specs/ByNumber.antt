@@ -5,7 +5,7 @@ use Rattle.std.specs.Ordering.{nat_cmp, on}
 use Rattle.tl_layout.specs.declared.type_p.BodyP.{BodyP}
 use Rattle.tl_county.specs.ChartWords.{polygon_under}
 use Rattle.tl_county.specs.County.{County}
-use Rattle.tl_county.specs.Orders.{in_order}
+use Rattle.ordered_lists.specs.Orders.{in_order}
 use Rattle.tl_county.specs.PolygonKeys.{PolygonKey}
 
 -- the POLYID of a polygon

@@ -4,7 +4,8 @@ use Rattle.std.specs.Ordering.{nat_cmp}
 use Rattle.tl_layout.specs.PolygonSide.{PolygonSide}
 use Rattle.tl_shape.specs.Chain.{Chain}
 use Rattle.tl_county.specs.PolygonKeys.{PolygonKey, key_cmp, key_on}
-use Rattle.tl_county.specs.Renumbering.{image, side_of}
+use Rattle.ordered_lists.specs.Pairs.{image}
+use Rattle.tl_county.specs.Renumbering.{side_of}
 use Rattle.tl_number.specs.Arrangement.{under_cenid}
 use Rattle.tl_number.specs.Growth.{numbered}
 

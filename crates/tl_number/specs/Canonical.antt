@@ -11,11 +11,12 @@ use Rattle.tl_layout.specs.ByType.{of_type_p, of_number}
 use Rattle.tl_layout.specs.RecordText.{text_of}
 use Rattle.std.specs.List.{AllByRecursion}
 use Rattle.tl_county.specs.CountyRules.{tlids}
-use Rattle.tl_county.specs.Renumbering.{Renumbering, AreSame, image}
+use Rattle.tl_county.specs.Renumbering.{Renumbering, AreSame}
+use Rattle.ordered_lists.specs.Pairs.{image}
 use Rattle.tl_county.specs.County.{County, county_of, one_tlid, two_tlid, two_rtsq, four_tlid, four_rtsq, five_feat, six_tlid}
 use Rattle.tl_county.specs.County.{six_rtsq, i_tlid}
 use Rattle.tl_county.specs.LinkRules.{IsLinked}
-use Rattle.tl_county.specs.Orders.{IsInOrder}
+use Rattle.ordered_lists.specs.Orders.{IsInOrder}
 use Rattle.tl_number.specs.Growth.{up_to}
 use Rattle.tl_county.specs.Packing.{by_type, type_after_type, p_polyid}
 use Rattle.tl_number.specs.ArrangedCounty.{IsArranged, IsTidy}

@@ -2,7 +2,7 @@
 use Rattle.std.specs.Prelude.{ℕ, ◌+◌, ◌≤◌, max, List, [], ◌∷◌, ◌++◌, map, cond, ⊤}
 use Rattle.std.specs.List.{range_with_len}
 use Rattle.std.specs.declared.cmp.Ordering.{Ordering}
-use Rattle.tl_county.specs.Orders.{stands_in}
+use Rattle.ordered_lists.specs.Orders.{stands_in}
 use Rattle.tl_county.specs.Packing.{numbered_from}
 
 -- the numbers up to greatest have occurred; each further number has occurred before or is the next one

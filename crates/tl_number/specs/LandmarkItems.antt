@@ -8,9 +8,9 @@ use Rattle.tl_county.specs.BodyOrder.{landmark_body_cmp, link_cmp, link_part, li
 use Rattle.tl_county.specs.ChartWords.{bodies_at, links_with}
 use Rattle.tl_county.specs.County.{County, link_key}
 use Rattle.tl_county.specs.CountyRules.{lands}
-use Rattle.tl_county.specs.Orders.{in_order}
+use Rattle.ordered_lists.specs.Orders.{in_order}
 use Rattle.tl_county.specs.PolygonKeys.{PolygonKey, key_cmp}
-use Rattle.tl_county.specs.Renumbering.{image}
+use Rattle.ordered_lists.specs.Pairs.{image}
 use Rattle.tl_number.specs.Arrangement.{under_cenid}
 use Rattle.tl_number.specs.Growth.{numbered, up_to}
 

@@ -2,7 +2,7 @@
 use Rattle.std.specs.Prelude.{ℕ, zero, suc, ◌/◌, ◌%◌, List, [], ◌∷◌, ◌++◌, map, take, drop, Bool, cond}
 use Rattle.std.specs.List.{insert}
 use Rattle.std.specs.declared.cmp.Ordering.{Ordering}
-use Rattle.tl_county.specs.Orders.{times}
+use Rattle.ordered_lists.specs.Orders.{times}
 use Rattle.tl_profile.specs.declared.open_places.OpenPlace.{OpenPlace}
 
 -- the element itself for the digit 0, and turned for any other

@@ -5,7 +5,7 @@ use Rattle.tl_layout.specs.Coordinates.{Coordinates}
 use Rattle.tl_layout.specs.declared.record_type.Record.{Record}
 use Rattle.tl_shape.specs.PointOrder.{points_cmp}
 use Rattle.tl_county.specs.County.{County}
-use Rattle.tl_county.specs.Orders.{has_repeat}
+use Rattle.ordered_lists.specs.Orders.{has_repeat}
 use Rattle.tl_county.specs.Packing.{packed}
 use Rattle.tl_profile.specs.Choices.{is_either_way, shapes}
 use Rattle.tl_number.specs.ArrangedCounty.{IsTidy}

@@ -5,9 +5,9 @@ use Rattle.std.specs.Ordering.{nat_cmp}
 use Rattle.tl_layout.specs.Fields.{Fields8}
 use Rattle.tl_county.specs.County.{County}
 use Rattle.tl_county.specs.CountyRules.{IsCounty, tlids, polygon_keys}
-use Rattle.tl_county.specs.Entries.{entry_keys, entry_values}
+use Rattle.ordered_lists.specs.Entries.{entry_keys, entry_values}
 use Rattle.tl_county.specs.Limits.{IsWithinLimits, most_records}
-use Rattle.tl_county.specs.Orders.{times}
+use Rattle.ordered_lists.specs.Orders.{times}
 use Rattle.tl_number.specs.Arrangement.{Arrangement, arranged_tlids, nodes_in_order, polygons_in_order, names_in_order}
 use Rattle.tl_number.specs.Arrangement.{landmarks_in_order, arranged}
 use Rattle.tl_number.specs.ByStep.{ends_of, sides_of}

@@ -5,7 +5,7 @@
 
 ghost use Rattle.std.specs.Ordering.{nat_cmp};
 ghost use Rattle.std.specs.Prelude.{◌≡◌, IfSome, Some, is_some, slice_get};
-ghost use Rattle.tl_county.specs.Orders.{stands_in};
+ghost use Rattle.ordered_lists.specs.Orders.{stands_in};
 ghost use Rattle.tl_number.specs.Growth.{up_to};
 
 use crate::arranged::{Arranged, Evidence, old_place};
@@ -14,7 +14,8 @@ use crate::step_readers::{
     body_of_step, feat_count_of_step, feat_of_step, link_body_of_step, point_count_of_step,
     put_body_of_step, range_count_of_step, range_of_step,
 };
-use tl_county::{Chart, PolygonKey, place_of};
+use ordered_lists::place_of;
+use tl_county::{Chart, PolygonKey};
 use tl_layout::{Body1, Body5, Body7, BodyI, BodyP, Point, Ranges, Rec8, Side};
 use tl_profile::point_along;
 

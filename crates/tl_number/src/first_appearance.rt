@@ -6,7 +6,7 @@
 
 ghost use Rattle.std.specs.Ordering.{nat_cmp};
 ghost use Rattle.std.specs.Prelude.{◌≡◌, [], ◌<◌, ◌^◌, ℕ, List, Some, IfOk, OnOk, flat_map, length, map, option_map, option_to_list};
-ghost use Rattle.tl_county.specs.Entries.{entry_values};
+ghost use Rattle.ordered_lists.specs.Entries.{entry_values};
 ghost use Rattle.tl_county.specs.PolygonKeys.{PolygonKey, key_cmp, key_on};
 ghost use Rattle.tl_number.specs.Arrangement.{polygons_in_order};
 ghost use Rattle.tl_number.specs.ByStep.{ends_among, ends_of, node_among, nodes_at, polygons_at, side_among, sides_among, sides_of};

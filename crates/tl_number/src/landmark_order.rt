@@ -10,7 +10,7 @@ ghost use Rattle.tl_county.specs.ChartWords.{bodies_at};
 ghost use Rattle.tl_county.specs.County.{eight_land};
 ghost use Rattle.tl_county.specs.CountyProps.{IsInOrder-prop};
 ghost use Rattle.tl_county.specs.CountyRules.{lands};
-ghost use Rattle.tl_county.specs.Orders.{IsInOrder, has_repeat};
+ghost use Rattle.ordered_lists.specs.Orders.{IsInOrder, has_repeat};
 ghost use Rattle.tl_number.specs.Arrangement.{polygons_in_order};
 ghost use Rattle.tl_number.specs.Growth.{first_seen_after};
 ghost use Rattle.tl_number.specs.LandmarkItems.{landmark_place_cmp, lands_at, numbered_links, own_links, place_cmp_under};

@@ -10,7 +10,7 @@ ghost use Rattle.std.specs.Prelude.{◌≡◌, ◌<◌, ◌^◌, IfOk, OnOk, fal
 ghost use Rattle.tl_county.specs.BodyOrder.{name_body_cmp};
 ghost use Rattle.tl_county.specs.ChartWords.{feats_of};
 ghost use Rattle.tl_county.specs.CountyRules.{feats};
-ghost use Rattle.tl_county.specs.Orders.{has_repeat};
+ghost use Rattle.ordered_lists.specs.Orders.{has_repeat};
 ghost use Rattle.tl_number.specs.Arrangement.{names_in_order};
 ghost use Rattle.tl_number.specs.Growth.{first_seen, first_seen_after};
 ghost use Rattle.tl_number.specs.NameItems.{feats_along_steps, rank_of, ranked_at, ranked_cmp, ranked_place};

@@ -1,7 +1,7 @@
 //! The renaming that carries a county onto its arrangement.
 
 ghost use Rattle.std.specs.Prelude.{◌≡◌, ◌<◌, ◌^◌, ℕ, List, IfOk, length, map};
-ghost use Rattle.tl_county.specs.Entries.{entry_keys};
+ghost use Rattle.ordered_lists.specs.Entries.{entry_keys};
 ghost use Rattle.tl_county.specs.Renumbering.{Carries};
 ghost use Rattle.tl_layout.specs.declared.type7.Body7.{Body7};
 ghost use Rattle.tl_number.specs.Arrangement.{arranged_tlids, renaming_of, turned_tlids, under_cenid};

@@ -9,15 +9,16 @@ ghost use Rattle.std.specs.BTreeMap.{get as found_in_order};
 ghost use Rattle.std.specs.List.{position};
 ghost use Rattle.std.specs.Ordering.{is_eq};
 ghost use Rattle.std.specs.Prelude.{◌≡◌, ◌∷◌, [], ◌++◌, ◌+◌, ◌%◌, ◌<◌, ◌^◌, ◌↔◌, ℕ, false, length, is_some, IfSome, Some, IfOk, IsTrue, OnOk, OnErr, slice_get, slice_index};
-ghost use Rattle.tl_county.specs.Orders.{stands_in};
+ghost use Rattle.ordered_lists.specs.Orders.{stands_in};
 ghost use Rattle.tl_number.specs.Growth.{first_seen_after};
 ghost use Rattle.tl_number.specs.PlacedKeys.{AreApart, ArePlaced, found_by_either};
 
 use crate::other_places::OtherPlaces;
+use ordered_lists::Key;
 use std::alloc::{AllocError, Global};
 use std::hash::Hash;
 use std::marker::Model;
-use tl_county::{Key, PolygonKey};
+use tl_county::PolygonKey;
 
 /// The most keys that a list can hold: each takes at least a byte.
 const MOST_KEYS: usize = isize::MAX as usize;

@@ -6,10 +6,10 @@ ghost use Rattle.std.specs.Prelude.{◌≡◌, None, OnOk, Some, IsTrue};
 ghost use Rattle.tl_number.specs.PlacedKeys.{found_by_either};
 
 use indexmap::IndexMap;
+use ordered_lists::Key;
 use std::alloc::{AllocError, Global};
 use std::collections::BTreeMap;
 use std::hash::Hash;
-use tl_county::Key;
 
 /// How many keys are found by hash. Their hashes may all collide, since the author of a file chooses its numbers, and then each of
 /// these few is compared.

@@ -3,7 +3,7 @@
 ghost use Rattle.std.specs.Ordering.{nat_cmp};
 ghost use Rattle.std.specs.Prelude.{◌≡◌, ◌<◌, ◌^◌, length, map};
 ghost use Rattle.tl_county.specs.PolygonKeys.{key_cmp};
-ghost use Rattle.tl_county.specs.Renumbering.{image};
+ghost use Rattle.ordered_lists.specs.Pairs.{image};
 ghost use Rattle.tl_layout.specs.Numbers.{IsNumber};
 ghost use Rattle.tl_number.specs.Arrangement.{under_cenid};
 ghost use Rattle.tl_number.specs.Growth.{numbered};

@@ -3,9 +3,9 @@ use Rattle.std.proofs.Common.{◌≡◌, ◌⊎◌, ◌<◌, ◌≤◌, ◌+◌,
 use Rattle.std.proofs.Common.{Ordering, is_eq, refl, ap, ◌∙◌, inl, inr, arith}
 use Rattle.std.proofs.lemmas.List.{reverse-append}
 use Rattle.std.specs.List.{AllByRecursion}
-use Rattle.tl_county.specs.Orders.{times, IsInOrder}
-use Rattle.tl_county.proofs.ByKey.Keys.{IsKeyOrder, same_or_not, same-true, times-yes, times-no}
-use Rattle.tl_county.proofs.ByKey.KeyedLists.{before_all, less_from}
+use Rattle.ordered_lists.specs.Orders.{times, IsInOrder}
+use Rattle.ordered_lists.proofs.ByKey.Keys.{IsKeyOrder, same_or_not, same-true, times-yes, times-no}
+use Rattle.ordered_lists.proofs.ByKey.KeyedLists.{before_all, less_from}
 use Rattle.tl_profile.specs.Choices.{alike_first, is_first, is_settled, open_places, place_of, running, ways_at}
 use Rattle.tl_profile.specs.declared.open_places.OpenPlace.{OpenPlace}
 

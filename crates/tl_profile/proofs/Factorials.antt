@@ -4,10 +4,10 @@ use Rattle.std.proofs.Common.{◌≡◌, ◌⊎◌, ◌<◌, ◌≤◌, ◌*◌,
 use Rattle.std.proofs.Common.{Ordering, is_eq, is_gt, sym, refl, ap, ◌∙◌, subst, inl, inr, arith}
 use Rattle.std.proofs.lemmas.Bool.{ltb-true, ltb-false}
 use Rattle.std.proofs.Math.Nat.{pow-succ'}
-use Rattle.tl_county.specs.Orders.{times, stands_in, put_in_order, distinct}
-use Rattle.tl_county.proofs.ByKey.Keys.{IsKeyOrder, IsApart, Known, times-yes, times-no, apart_tail, known_cases, map_agree, differ}
-use Rattle.tl_county.proofs.Lists.Distinct.{apart-distinct, known-distinct, known_from_distinct}
-use Rattle.tl_county.proofs.Lists.Reordered.{SameElements, times-same, distinct_same}
+use Rattle.ordered_lists.specs.Orders.{times, stands_in, put_in_order, distinct}
+use Rattle.ordered_lists.proofs.ByKey.Keys.{IsKeyOrder, IsApart, Known, times-yes, times-no, apart_tail, known_cases, map_agree, differ}
+use Rattle.ordered_lists.proofs.Lists.Distinct.{apart-distinct, known-distinct, known_from_distinct}
+use Rattle.ordered_lists.proofs.Lists.Reordered.{SameElements, times-same, distinct_same}
 use Rattle.tl_profile.specs.Choices.{factorial, product, running}
 
 module _ {K : Type 0} {cmp : K → K → Ordering} (o : IsKeyOrder cmp) where

@@ -5,7 +5,7 @@ use Rattle.std.proofs.lemmas.Bool.{false≢true}
 use Rattle.tl_county.specs.County.{County}
 use Rattle.tl_county.specs.CountyRules.{is_without_chain}
 use Rattle.tl_county.specs.FirstOf.{place_cmp}
-use Rattle.tl_county.specs.Keyed.{IsLeastPassing}
+use Rattle.ordered_lists.specs.Keyed.{IsLeastPassing}
 use Rattle.tl_county.specs.PolygonKeys.{PolygonKey, key_cmp}
 use Rattle.tl_county.proofs.Rules.RuleTests.{keyed}
 use Rattle.tl_profile.specs.declared.fault.ProfileFault.{ProfileFault}

@@ -10,8 +10,8 @@ use Rattle.std.proofs.lemmas.List.Sorted.{length_permutation}
 use Rattle.tl_shape.specs.PointOrder.{points_cmp}
 use Rattle.tl_county.specs.County.{County}
 use Rattle.tl_county.specs.Limits.{IsWithinLimits, most_records}
-use Rattle.tl_county.specs.Orders.{IsInOrder}
-use Rattle.tl_county.proofs.Lists.Elements.{map-map}
+use Rattle.ordered_lists.specs.Orders.{IsInOrder}
+use Rattle.ordered_lists.proofs.Lists.Elements.{map-map}
 use Rattle.tl_profile.specs.Choices.{choices, counted_choices, is_either_way, is_settled, most_choices, open_places, place_of, running, ways_at}
 use Rattle.tl_profile.specs.PlacedShapes.{placed_walk, whole_shape}
 use Rattle.tl_profile.specs.ShapeOrder.{AreWalksInOrder, least_walk, least_walks, points_along, walk_cmp}

@@ -8,12 +8,12 @@ use Rattle.std.proofs.lemmas.Cmp.{int_cmp_total, nat_cmp_total, then_total, on_t
 use Rattle.std.proofs.lemmas.List.Sorted.{IsPermutation-map, IsPermutation-sym}
 use Rattle.tl_shape.specs.PointOrder.{point_cmp, points_cmp}
 use Rattle.tl_county.specs.County.{County}
-use Rattle.tl_county.specs.Orders.{IsInOrder}
-use Rattle.tl_county.proofs.ByKey.KeyOrders.{points_keys}
-use Rattle.tl_county.proofs.ByKey.Numbers.{all_themselves}
-use Rattle.tl_county.proofs.Lists.Elements.{all_weaker}
-use Rattle.tl_county.proofs.Lists.Members.{among-permutation}
-use Rattle.tl_county.proofs.Rules.FirstFault.{Among, all_among}
+use Rattle.ordered_lists.specs.Orders.{IsInOrder}
+use Rattle.tl_county.specs.Laws.KeyOrders.{points_keys}
+use Rattle.ordered_lists.proofs.ByKey.Numbers.{all_themselves}
+use Rattle.ordered_lists.proofs.Lists.Elements.{all_weaker}
+use Rattle.ordered_lists.proofs.Lists.Members.{among-permutation}
+use Rattle.ordered_lists.proofs.Lists.Among.{Among, all_among}
 use Rattle.tl_profile.proofs.PointRanks.{as_points}
 use Rattle.tl_profile.specs.ShapeOrder.{AreWalksInOrder, least_walks, walk_cmp}
 use Rattle.tl_profile.specs.PlacedShapes.{HasHead, placed_cmp, placed_key_cmp, placed_walk, whole_shape}

@@ -12,7 +12,7 @@ use Rattle.tl_shape.specs.PointOrder.{points_cmp}
 use Rattle.tl_county.specs.ChartWords.{chain_at, points_of}
 use Rattle.tl_county.specs.County.{County}
 use Rattle.tl_county.specs.CountyRules.{IsCounty}
-use Rattle.tl_county.proofs.Rules.FirstFault.{Among, all_among}
+use Rattle.ordered_lists.proofs.Lists.Among.{Among, all_among}
 use Rattle.tl_profile.specs.Shapes.{least_points, points_at, points_from}
 
 -- an item, and the lists before and after it

@@ -6,13 +6,14 @@ use Rattle.tl_layout.specs.declared.type_p.BodyP.{BodyP}
 use Rattle.tl_county.specs.CountyRules.{has_body}
 use Rattle.tl_county.specs.County.{County}
 use Rattle.tl_county.specs.CountyRules.{polygons_along}
-use Rattle.tl_county.specs.Orders.{stands_in}
+use Rattle.ordered_lists.specs.Orders.{stands_in}
 use Rattle.tl_county.specs.PolygonKeys.{PolygonKey, key_cmp}
-use Rattle.tl_county.proofs.Rules.FirstFault.{Among, first_or_none, not_first, one_first, none_there}
+use Rattle.ordered_lists.proofs.Lists.Among.{Among}
+use Rattle.tl_county.proofs.Rules.FirstFault.{first_or_none, not_first, one_first, none_there}
 use Rattle.tl_county.proofs.Rules.FirstFault.{least_there, none_computed, first_computed}
-use Rattle.tl_county.proofs.ByKey.KeyOrders.{key_keys}
-use Rattle.tl_county.proofs.ByKey.Keys.{same-true}
-use Rattle.tl_county.proofs.Lists.Members.{any_among, among-map}
+use Rattle.tl_county.specs.Laws.KeyOrders.{key_keys}
+use Rattle.ordered_lists.proofs.ByKey.Keys.{same-true}
+use Rattle.ordered_lists.proofs.Lists.Members.{any_among, among-map}
 use Rattle.tl_profile.specs.declared.fault.ProfileFault.{ProfileFault}
 use Rattle.tl_profile.specs.declared.fault.ProfileFault.TheVariants.{PolygonWithoutChain, TooSymmetric, Memory}
 use Rattle.tl_profile.specs.Profile.{is_clause_broken, profile_fault_place, IsInProfile, IsFirstBrokenClause}

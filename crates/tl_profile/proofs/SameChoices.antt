@@ -7,9 +7,9 @@ use Rattle.tl_shape.specs.Turned.{turned_if}
 use Rattle.tl_shape.specs.PointOrder.{points_cmp}
 use Rattle.tl_county.specs.County.{County}
 use Rattle.tl_county.specs.Renumbering.{Renumbering, Carries, AreSame, carried_chain, turns}
-use Rattle.tl_county.proofs.ByKey.KeyOrders.{points_keys}
-use Rattle.tl_county.proofs.Lists.Elements.{map-map, map_agree_everywhere}
-use Rattle.tl_county.proofs.Lists.Reordered.{SameElements, from_permutation, same-map}
+use Rattle.tl_county.specs.Laws.KeyOrders.{points_keys}
+use Rattle.ordered_lists.proofs.Lists.Elements.{map-map, map_agree_everywhere}
+use Rattle.ordered_lists.proofs.Lists.Reordered.{SameElements, from_permutation, same-map}
 use Rattle.tl_profile.specs.Choices.{choices, is_either_way, running, shapes}
 use Rattle.tl_profile.specs.Shapes.{least_points}
 use Rattle.tl_profile.specs.ShapeOrder.{AreWalksInOrder, least_walks, points_along}

@@ -8,16 +8,17 @@ use Rattle.tl_shape.specs.Chain.{Chain}
 use Rattle.tl_county.specs.CountyRules.{has_body}
 use Rattle.tl_county.specs.County.{County}
 use Rattle.tl_county.specs.CountyRules.{IsCounty, polygons_along, chain_polygons}
-use Rattle.tl_county.specs.Orders.{stands_in, times}
+use Rattle.ordered_lists.specs.Orders.{stands_in, times}
 use Rattle.tl_county.specs.PolygonKeys.{PolygonKey, key_cmp}
-use Rattle.tl_county.specs.Renumbering.{Renumbering, Carries, AreSame, image, turns, carried_chain, carried_polygon, renumbered}
+use Rattle.tl_county.specs.Renumbering.{Renumbering, Carries, AreSame, turns, carried_chain, carried_polygon, renumbered}
+use Rattle.ordered_lists.specs.Pairs.{image}
 use Rattle.tl_shape.specs.Turned.{turned_if}
 use Rattle.tl_county.proofs.Sameness.Carried.{chain_polygons-renumbered, among-unpieces, among-turned}
-use Rattle.tl_county.proofs.Rules.FirstFault.{Among}
-use Rattle.tl_county.proofs.ByKey.KeyOrders.{key_keys}
-use Rattle.tl_county.proofs.ByKey.Keys.{Known, same-itself}
+use Rattle.ordered_lists.proofs.Lists.Among.{Among}
+use Rattle.tl_county.specs.Laws.KeyOrders.{key_keys}
+use Rattle.ordered_lists.proofs.ByKey.Keys.{Known, same-itself}
 use Rattle.tl_county.proofs.Sameness.Equivalence.{same-symmetric}
-use Rattle.tl_county.proofs.Lists.Members.{among-permutation, among-map, among-unmap, among-pieces, among_any, among_known, known_is_among}
+use Rattle.ordered_lists.proofs.Lists.Members.{among-permutation, among-map, among-unmap, among-pieces, among_any, among_known, known_is_among}
 use Rattle.tl_profile.specs.declared.fault.ProfileFault.TheVariants.{PolygonWithoutChain, TooSymmetric, Memory}
 use Rattle.tl_profile.specs.Choices.{most_choices}
 use Rattle.tl_profile.specs.Profile.{AreAllOnSides, IsInProfile}

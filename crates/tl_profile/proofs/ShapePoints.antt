@@ -4,7 +4,7 @@ use Rattle.std.specs.Ordering.{ordering_reverse}
 use Rattle.std.proofs.lemmas.List.{reverse-reverse}
 use Rattle.tl_layout.specs.Coordinates.{Coordinates}
 use Rattle.tl_shape.specs.PointOrder.{points_cmp}
-use Rattle.tl_county.proofs.ByKey.KeyOrders.{points_keys}
+use Rattle.tl_county.specs.Laws.KeyOrders.{points_keys}
 use Rattle.tl_profile.specs.Choices.{is_either_way}
 use Rattle.tl_profile.specs.Shapes.{least_points, points_from}
 

@@ -6,7 +6,7 @@ use Rattle.std.proofs.lemmas.Option.{slice_get-map}
 use Rattle.tl_shape.specs.Chain.{Chain}
 use Rattle.tl_county.specs.ChartWords.{points_of}
 use Rattle.tl_county.specs.County.{County}
-use Rattle.tl_county.proofs.Lists.Elements.{map-map}
+use Rattle.ordered_lists.proofs.Lists.Elements.{map-map}
 use Rattle.tl_profile.specs.Choices.{shapes}
 use Rattle.tl_profile.specs.Shapes.{least_points}
 use Rattle.tl_profile.specs.ShapeOrder.{least_walk, least_walks, points_along}

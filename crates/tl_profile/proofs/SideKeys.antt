@@ -15,13 +15,13 @@ use Rattle.tl_county.specs.ChartWords.{chain_at}
 use Rattle.tl_county.specs.CountyRules.{has_body}
 use Rattle.tl_county.specs.County.{County}
 use Rattle.tl_county.specs.CountyRules.{IsCounty, chain_polygons, polygons_along}
-use Rattle.tl_county.specs.Keyed.{is_unknown}
-use Rattle.tl_county.specs.Orders.{IsInOrder, distinct, stands_in}
+use Rattle.ordered_lists.specs.Keyed.{is_unknown}
+use Rattle.ordered_lists.specs.Orders.{IsInOrder, distinct, stands_in}
 use Rattle.tl_county.specs.PolygonKeys.{PolygonKey, key_cmp, key_on}
-use Rattle.tl_county.proofs.Lists.EntryLists.{in_order-strict}
-use Rattle.tl_county.proofs.Lists.InOrder.{strict-map, in_order-map}
-use Rattle.tl_county.proofs.ByKey.KeyedLists.{in_order-filter}
-use Rattle.tl_county.proofs.ByKey.KeyOrders.{key_keys}
+use Rattle.ordered_lists.proofs.Lists.EntryLists.{in_order-strict}
+use Rattle.ordered_lists.proofs.Lists.InOrder.{strict-map, in_order-map}
+use Rattle.ordered_lists.proofs.ByKey.KeyedLists.{in_order-filter}
+use Rattle.tl_county.specs.Laws.KeyOrders.{key_keys}
 use Rattle.tl_county.proofs.ByKey.KeySets.{stands_in-distinct}
 use Rattle.tl_profile.specs.Sides.{key_if_bodied, keys_on, keys_with_body}
 use Rattle.tl_profile.proofs.Places.{StandsAt, stands_at, ChainStands, chain_stands}

@@ -7,7 +7,7 @@ use Rattle.std.specs.Ordering.{is_eq}
 use Rattle.tl_layout.specs.Coordinates.{Coordinates}
 use Rattle.tl_shape.specs.PointOrder.{points_cmp}
 use Rattle.tl_county.specs.County.{County}
-use Rattle.tl_county.specs.Orders.{distinct, times}
+use Rattle.ordered_lists.specs.Orders.{distinct, times}
 use Rattle.tl_profile.specs.Shapes.{least_points}
 use Rattle.tl_profile.specs.declared.open_places.OpenPlace.{OpenPlace}
 

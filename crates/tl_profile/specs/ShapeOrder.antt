@@ -6,7 +6,7 @@ use Rattle.std.specs.Ordering.{is_lt, nat_cmp, ordering_then}
 use Rattle.tl_layout.specs.Coordinates.{Coordinates}
 use Rattle.tl_shape.specs.PointOrder.{points_cmp}
 use Rattle.tl_county.specs.County.{County}
-use Rattle.tl_county.specs.Orders.{IsInOrder}
+use Rattle.ordered_lists.specs.Orders.{IsInOrder}
 use Rattle.tl_profile.specs.Choices.{choices, counted_choices, is_either_way, most_choices, open_places}
 use Rattle.tl_profile.specs.Shapes.{points_at, points_from}
 use Rattle.tl_profile.specs.declared.directed_chain.DirectedChain.{DirectedChain}

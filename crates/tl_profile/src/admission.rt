@@ -2,7 +2,7 @@
 
 ghost use Rattle.std.specs.Prelude.{◌≡◌, ◌≢◌, IfOk, IfErr};
 ghost use Rattle.tl_county.specs.CountyRules.{is_without_chain};
-ghost use Rattle.tl_county.specs.Keyed.{IsLeastPassing};
+ghost use Rattle.ordered_lists.specs.Keyed.{IsLeastPassing};
 ghost use Rattle.tl_county.specs.PolygonKeys.{key_cmp};
 ghost use Rattle.tl_profile.specs.declared.fault.ProfileFault.TheVariants.{Memory};
 ghost use Rattle.tl_profile.specs.Profile.{AreAllOnSides, IsFirstBrokenClause, IsInProfile};

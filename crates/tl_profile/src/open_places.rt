@@ -5,7 +5,7 @@
 
 ghost use Rattle.std.specs.List.{AllByRecursion};
 ghost use Rattle.std.specs.Prelude.{◌≡◌, ◌<◌, ◌≤◌, ◌+◌, ◌*◌, ◌^◌, [], ◌∷◌, ◌++◌, cond, length, map, min, reverse, suc, IfOk, OnOk};
-ghost use Rattle.tl_county.specs.Orders.{IsInOrder};
+ghost use Rattle.ordered_lists.specs.Orders.{IsInOrder};
 ghost use Rattle.tl_profile.specs.Choices.{alike_first, choices, counted_choices, is_either_way, is_first, is_settled, most_choices, open_places, place_of, ways_at};
 ghost use Rattle.tl_profile.specs.PlacedShapes.{HasHead, placed_walk, whole_shape};
 ghost use Rattle.tl_profile.specs.ShapeOrder.{AreWalksInOrder};

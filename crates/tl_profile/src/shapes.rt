@@ -5,7 +5,7 @@
 
 ghost use Rattle.std.specs.List.{AllByRecursion};
 ghost use Rattle.std.specs.Prelude.{◌≡◌, ◌<◌, length, map, IfOk, IsPermutation};
-ghost use Rattle.tl_county.specs.Orders.{IsInOrder};
+ghost use Rattle.ordered_lists.specs.Orders.{IsInOrder};
 ghost use Rattle.tl_profile.specs.PlacedShapes.{HasHead, beyond_first_cmp, placed_cmp, placed_key_cmp, placed_walk};
 ghost use Rattle.tl_profile.specs.ShapeOrder.{AreWalksInOrder, least_walk, least_walks};
 

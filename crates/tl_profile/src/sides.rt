@@ -3,8 +3,8 @@
 ghost use Rattle.std.specs.Prelude.{◌≡◌, ◌≢◌, ◌++◌, IfOk, IfErr, OnOk, option_to_list, slice_get};
 ghost use Rattle.tl_county.specs.County.{County};
 ghost use Rattle.tl_county.specs.CountyRules.{is_without_chain, polygons_along};
-ghost use Rattle.tl_county.specs.Keyed.{IsLeastPassing};
-ghost use Rattle.tl_county.specs.Orders.{distinct};
+ghost use Rattle.ordered_lists.specs.Keyed.{IsLeastPassing};
+ghost use Rattle.ordered_lists.specs.Orders.{distinct};
 ghost use Rattle.tl_county.specs.PolygonKeys.{key_cmp};
 ghost use Rattle.tl_profile.specs.declared.fault.ProfileFault.TheVariants.{Memory};
 ghost use Rattle.tl_profile.specs.Profile.{AreAllOnSides, IsFirstBrokenClause};

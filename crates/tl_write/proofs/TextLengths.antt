@@ -11,8 +11,8 @@ use Rattle.tl_county.specs.CountyRules.{IsCounty}
 use Rattle.tl_county.specs.Limits.{IsWithinLimits, most_records}
 use Rattle.tl_county.specs.Packing.{Typed, packed, packed_by_type, type_after_type}
 use Rattle.tl_county.proofs.Limits.FitsPacked.{packed-fits}
-use Rattle.tl_county.proofs.Packing.PackedTypes.{by_type_of}
-use Rattle.tl_county.proofs.Packing.TypeCounts.{HasAtMost, by_type_within}
+use Rattle.tl_county.specs.Laws.PackedTypes.{by_type_of}
+use Rattle.tl_county.specs.Laws.TypeCounts.{HasAtMost, by_type_within}
 
 line_length : (r : Record) → len_of r ≤ 228
 unfolding len_of

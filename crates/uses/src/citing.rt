@@ -6,7 +6,7 @@ ghost use Rattle.std.specs.Prelude.{◌≡◌, ◌∷◌, [], Some, IfOk, IfSome
 ghost use Rattle.tigercanon.specs.Sets.{CarriesSet};
 ghost use Rattle.tl_county.specs.County.{County};
 ghost use Rattle.tl_county.specs.CountyRules.{IsCounty};
-ghost use Rattle.tl_county.specs.Entries.{value_under};
+ghost use Rattle.ordered_lists.specs.Entries.{value_under};
 ghost use Rattle.tl_county.specs.Renumbering.{Carries, Renumbering};
 
 use std::alloc::{AllocError, Global};

@@ -1,62 +1,15 @@
 -- Marks by number, and uses whose FEATs all have names.
-use Rattle.std.proofs.Common.{◌≡◌, ◌≢◌, ◌⊎◌, ◌<◌, ◌≤◌, ◌&&◌, ◌++◌, ◌∷◌, [], not, ℕ, Bool, true, false, List, length, set, get_or, slice_get, nat_lt, replicate}
-use Rattle.std.proofs.Common.{Some, None}
-use Rattle.std.proofs.Common.{flat_map, is_eq, nat_cmp, sym, ap, ◌∙◌, subst, inl, inr, refl, arith}
-use Rattle.std.proofs.lemmas.Bool.{false≢true, lt-ltb, ltb-true}
-use Rattle.std.proofs.lemmas.List.{get_or-replicate, get_or-set_other, get_or-set_same, length-set, length-replicate}
-use Rattle.std.proofs.lemmas.Option.{slice_get-get_or}
+use Rattle.std.proofs.Common.{◌≡◌, ◌&&◌, not, ℕ, Bool, true, false, List, None, flat_map, nat_cmp, ap, refl}
+use Rattle.std.proofs.lemmas.Bool.{ltb-true}
 use Rattle.std.specs.List.{AllByRecursion}
 use Rattle.tl_layout.specs.Fields.{Fields4}
-use Rattle.tl_county.specs.Keyed.{IsLeastPassing}
-use Rattle.tl_county.specs.Marks.{AreMarksOf, AreNamed, AllNamed}
-use Rattle.tl_county.specs.Orders.{times, stands_in}
+use Rattle.ordered_lists.specs.Keyed.{IsLeastPassing}
+use Rattle.tl_county.specs.Marks.{AreNamed, AllNamed}
+use Rattle.ordered_lists.specs.Orders.{times, stands_in}
 use Rattle.tl_county.specs.SequenceKeys.{is_unnamed, sequence_cmp, uses_of}
-use Rattle.tl_county.proofs.ByKey.Keys.{differ, known_all, known-here, known-right, nat_keys, same-itself, same_or_not, times-append, times-no}
-use Rattle.tl_county.proofs.Lists.Elements.{all_joined, all_map, all_weaker}
+use Rattle.ordered_lists.proofs.ByKey.Keys.{known_all}
+use Rattle.ordered_lists.proofs.Lists.Elements.{all_joined, all_map, all_weaker}
 use Rattle.tl_county.proofs.Rules.RuleTests.{sequence_keys}
-
--- at first no place is marked
-pub none_marked : (n : ℕ) → AreMarksOf [] (replicate n false)
-none_marked n number within =
-    slice_get-get_or (replicate n false) number false within
-    ∙ ap Some (get_or-replicate n number false false (omega (arith, within, length-replicate n false)))
-
--- one more number is in the list at its own place, and no other place changes
-stands_in-end : (numbers : List ℕ) (place number : ℕ) → is_eq (nat_cmp number place) ≡ false
-    → stands_in nat_cmp number (numbers ++ (place ∷ [])) ≡ stands_in nat_cmp number numbers
-stands_in-end numbers place number ne = ap (nat_lt 0) (omega (arith, times-append nat_keys number numbers (place ∷ []), times-no nat_keys number place [] ne))
-
-known-end : (numbers : List ℕ) (place : ℕ) → stands_in nat_cmp place (numbers ++ (place ∷ [])) ≡ true
-known-end numbers place =
-    lt-ltb 0 (times nat_cmp place (numbers ++ (place ∷ []))) (known-right nat_keys place numbers (place ∷ []) (known-here nat_keys place []))
-
-apart : (number place : ℕ) → is_eq (nat_cmp number place) ≡ false → number ≢ place
-apart number place ne same =
-    false≢true (sym ne ∙ subst (λ n. is_eq (nat_cmp number n) ≡ true) same (same-itself nat_keys number))
-
--- one more number of the list is marked, if it has a place
-pub marked_more : (numbers : List ℕ) (marks : List Bool) (place : ℕ) → AreMarksOf numbers marks → place < length marks
-    → AreMarksOf (numbers ++ (place ∷ [])) (set marks place true)
-marked_more numbers marks place known room number within = go (same_or_not nat_keys number place)
-  where
-    inside : number < length marks
-    inside = omega (arith, within, length-set marks place true)
-
-    read : slice_get (set marks place true) number ≡ Some (get_or (set marks place true) number false)
-    read = slice_get-get_or (set marks place true) number false within
-
-    go : (number ≡ place) ⊎ (is_eq (nat_cmp number place) ≡ false)
-        → slice_get (set marks place true) number ≡ Some (stands_in nat_cmp number (numbers ++ (place ∷ [])))
-    go (inl same) = read ∙ ap Some (ap (λ n. get_or (set marks place true) n false) same ∙ get_or-set_same marks place true false room
-        ∙ sym (ap (λ n. stands_in nat_cmp n (numbers ++ (place ∷ []))) same ∙ known-end numbers place))
-    go (inr ne) = read ∙ ap Some (get_or-set_other marks place number true false (apart number place ne))
-        ∙ sym (slice_get-get_or marks number false inside) ∙ known number inside ∙ ap Some (sym (stands_in-end numbers place number ne))
-
--- a number without a place changes no mark
-pub marked_without : (numbers : List ℕ) (marks : List Bool) (place : ℕ) → AreMarksOf numbers marks → length marks ≤ place
-    → AreMarksOf (numbers ++ (place ∷ [])) marks
-marked_without numbers marks place known none number within =
-    known number within ∙ ap Some (sym (stands_in-end numbers place number (differ nat_keys number place (λ same. omega (arith, same, none, within)))))
 
 -- the FEAT of a use is one of the names
 abbrev IsNamed : List ℕ → ℕ × ℕ → Type 0

@@ -6,7 +6,7 @@ use Rattle.std.proofs.lemmas.Option.{slice_get_read}
 use Rattle.std.specs.Cmp.Lexicographic.{same_text}
 use Rattle.std.specs.Option.{option_eq}
 use lib.Pointwise.{pointwise}
-use Rattle.tl_county.proofs.ByKey.Keys.{IsKeyOrder, Known, known-here, known-later}
+use Rattle.ordered_lists.proofs.ByKey.Keys.{IsKeyOrder, Known, known-here, known-later}
 
 -- a look-up that finds the wanted bytes returns their place
 pub stands_at : {B : Type 0} (now : B → List ℕ) (xs : List (List ℕ)) (i : ℕ) (found : Option B) (wanted : B)

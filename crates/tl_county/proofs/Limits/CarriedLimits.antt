@@ -26,16 +26,17 @@ use Rattle.tl_county.specs.Packing.{pieces, in_pieces, numbered_from, without_la
 use Rattle.tl_county.specs.Packing.{packed_fours, packed_five, packed_sixes, packed_sevens, packed_i, packed_body, packed_p}
 use Rattle.tl_county.specs.Packing.{p_polyid, packed_by_type}
 use Rattle.tl_county.specs.PolygonKeys.{PolygonKey}
-use Rattle.tl_county.specs.Renumbering.{Renumbering, image, turns, renumbered_polygon, renumbered, carried_chain, carried_name}
+use Rattle.tl_county.specs.Renumbering.{Renumbering, turns, renumbered_polygon, renumbered, carried_chain, carried_name}
+use Rattle.ordered_lists.specs.Pairs.{image}
 use Rattle.tl_county.specs.Renumbering.{carried_polygon, carried_landmark, carried_link, Carries}
-use Rattle.tl_county.proofs.Lists.Counted.{length-numbered_from}
+use Rattle.tl_county.proofs.Packing.Pieces.{length-numbered_from}
 use Rattle.tl_county.proofs.Limits.FieldsFit.{link_content_turned}
-use Rattle.tl_county.proofs.Rules.FirstFault.{Among, all_among}
-use Rattle.tl_county.proofs.Rules.LinkedCounty.{each_from, length-in_order}
-use Rattle.tl_county.proofs.Lists.Elements.{all_weaker, all_map}
-use Rattle.tl_county.proofs.Lists.Members.{among-permutation, among-unmap}
+use Rattle.ordered_lists.proofs.Lists.Among.{Among, all_among}
+use Rattle.ordered_lists.proofs.ByKey.Numbers.{each_from, length-in_order}
+use Rattle.ordered_lists.proofs.Lists.Elements.{all_weaker, all_map}
+use Rattle.ordered_lists.proofs.Lists.Members.{among-permutation, among-unmap}
 use Rattle.tl_county.proofs.Sameness.Equivalence.{image-keeps}
-use Rattle.tl_county.proofs.Packing.TypeCounts.{HasAsMany, HasWithin}
+use Rattle.tl_county.specs.Laws.TypeCounts.{HasAsMany, HasWithin}
 
 all_reversed : {X : Type 0} (Q : X → Type 0) (xs : List X) → AllByRecursion Q xs → AllByRecursion Q (reverse xs)
 all_reversed Q xs a =

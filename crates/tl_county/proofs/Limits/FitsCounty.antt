@@ -30,28 +30,31 @@ use Rattle.tl_county.specs.CountyRules.{tlids}
 use Rattle.tl_county.specs.Limits.{FitsNameBody, FitsLandmark, FitsPolygon, FitsChain, FitsLink, FitsNumbers, HasRoom, ContentsFit}
 use Rattle.tl_county.specs.Limits.{NumbersFit, IsWithinLimits, greatest_rtsq}
 use Rattle.tl_county.specs.LinkRules.{IsLinked, chain_tlids}
-use Rattle.tl_county.specs.Orders.{in_order, distinct, has_repeat}
+use Rattle.ordered_lists.specs.Orders.{in_order, distinct, has_repeat}
 use Rattle.tl_county.specs.Packing.{in_pieces, numbered_from, without_last, inner_points, packed_one, packed_twos, packed_fours}
 use Rattle.tl_county.specs.Packing.{packed_five, packed_sixes, packed_sevens, packed_i, packed_body, packed_p, p_polyid, by_type}
 use Rattle.tl_county.specs.Packing.{packed_by_type}
 use Rattle.tl_county.specs.PolygonKeys.{PolygonKey, key_cmp, key_under}
 use Rattle.tl_county.specs.declared.fault.LinkFault.TheVariants.{SequenceBroken}
 use Rattle.tl_county.specs.declared.fault.SequencedType.TheVariants as sequenced
-use Rattle.tl_county.proofs.Lists.Counted.{few_in_groups, hits_once, filter-agree, shorter_pieces, few_numbers, few_pieces}
-use Rattle.tl_county.proofs.Lists.Counted.{all_selected, length-numbered_from}
-use Rattle.tl_county.proofs.Packing.TypeCounts.{HasWithin, by_type_within, packed_within}
-use Rattle.tl_county.proofs.Lists.Distinct.{apart-distinct, apart_from_no_repeat, known_from_distinct}
+use Rattle.ordered_lists.proofs.Lists.Counted.{few_in_groups, hits_once, filter-agree, shorter_pieces, few_numbers}
+use Rattle.tl_county.proofs.Packing.Pieces.{few_pieces}
+use Rattle.ordered_lists.proofs.Lists.Counted.{all_selected}
+use Rattle.tl_county.proofs.Packing.Pieces.{length-numbered_from}
+use Rattle.tl_county.specs.Laws.TypeCounts.{HasWithin, by_type_within, packed_within}
+use Rattle.ordered_lists.proofs.Lists.Distinct.{apart-distinct, apart_from_no_repeat, known_from_distinct}
 use Rattle.tl_county.proofs.Limits.FieldsFit.{Fit1, Fit2, Fit4, Fit5, Fit6, Fit7, Fit8, FitI, FitP, named_1, named_2, named_4, named_5}
 use Rattle.tl_county.proofs.Limits.FieldsFit.{named_6, named_7, named_8, named_i, named_p, left_cenid_fits, right_cenid_fits}
 use Rattle.tl_county.proofs.Limits.FieldsFit.{polygon_cenid_fits}
-use Rattle.tl_county.proofs.Rules.FirstFault.{all_among}
-use Rattle.tl_county.proofs.ByKey.KeyOrders.{key_keys}
-use Rattle.tl_county.proofs.ByKey.Keys.{IsApart, nat_keys, apart_from_sorted, all_known, known_all, Known, same_or_not, same-true}
-use Rattle.tl_county.proofs.ByKey.Keys.{differ, differ_apart}
-use Rattle.tl_county.proofs.Rules.LinkedCounty.{chains_all, length-in_order, the_link, tlids-county, county-is_county}
-use Rattle.tl_county.proofs.Lists.Elements.{all_weaker, all_map, all_append, all_joined, all_filter, all_everywhere}
-use Rattle.tl_county.proofs.Lists.Members.{among-map, among_known}
-use Rattle.tl_county.proofs.ByKey.Numbers.{all-in_order, count-map}
+use Rattle.ordered_lists.proofs.Lists.Among.{all_among}
+use Rattle.tl_county.specs.Laws.KeyOrders.{key_keys}
+use Rattle.ordered_lists.proofs.ByKey.Keys.{IsApart, nat_keys, apart_from_sorted, all_known, known_all, Known, same_or_not, same-true}
+use Rattle.ordered_lists.proofs.ByKey.Keys.{differ, differ_apart}
+use Rattle.tl_county.proofs.Rules.LinkedCounty.{chains_all, the_link, tlids-county, county-is_county}
+use Rattle.ordered_lists.proofs.ByKey.Numbers.{length-in_order}
+use Rattle.ordered_lists.proofs.Lists.Elements.{all_weaker, all_map, all_append, all_joined, all_filter, all_everywhere}
+use Rattle.ordered_lists.proofs.Lists.Members.{among-map, among_known}
+use Rattle.ordered_lists.proofs.ByKey.Numbers.{all-in_order, count-map}
 
 flat_map-one : {X Y : Type 0} (f : X → Y) (xs : List X) → flat_map (λ x. f x ∷ []) xs ≡ map f xs
 flat_map-one f [] = refl
@@ -131,10 +134,6 @@ key_fits cenid (Some polyid) t n = ((t, n), tt)
 first_of : {X : Type 0} (Q : X → Type 0) (xs : List X) → AllByRecursion Q xs → IfSome (first xs) Q
 first_of Q [] a = tt
 first_of Q (x ∷ xs) a = a.0
-
-pub flat_map-map : {X Y Z : Type 0} (f : Y → List Z) (g : X → Y) (xs : List X) → flat_map f (map g xs) ≡ flat_map (λ x. f (g x)) xs
-flat_map-map f g [] = refl
-flat_map-map f g (x ∷ xs) = ap (λ zs. f (g x) ++ zs) (flat_map-map f g xs)
 
 -- at most one of several distinct keys belongs to a record
 once : (found : List PolygonKey) → IsApart key_cmp found → (r : FieldsP) → length (filter (λ key. is_eq (key_cmp key (p_key r))) found) ≤ 1

@@ -19,16 +19,17 @@ use Rattle.tl_county.specs.County.{County}
 use Rattle.tl_county.specs.CountyRules.{IsWhole}
 use Rattle.tl_county.specs.Limits.{FitsNameBody, FitsLandmark, FitsPolygon, FitsChain, FitsLink, FitsNumbers, HasRoom, ContentsFit}
 use Rattle.tl_county.specs.Limits.{NumbersFit, greatest_rtsq}
-use Rattle.tl_county.specs.Orders.{in_order}
+use Rattle.ordered_lists.specs.Orders.{in_order}
 use Rattle.tl_county.specs.Packing.{in_pieces, numbered_from, first_point, last_point, without_last, inner_points, packed_one}
 use Rattle.tl_county.specs.Packing.{packed_twos, packed_fours, packed_five, packed_sixes, packed_sevens, packed_i, packed_body}
 use Rattle.tl_county.specs.Packing.{packed_p, p_polyid, packed}
 use Rattle.tl_county.specs.PolygonKeys.{PolygonKey}
-use Rattle.tl_county.proofs.Lists.Counted.{few_pieces, short_pieces, all_in_pieces, all_numbered_from, all_selected}
+use Rattle.tl_county.proofs.Packing.Pieces.{few_pieces, short_pieces, all_in_pieces, all_numbered_from}
+use Rattle.ordered_lists.proofs.Lists.Counted.{all_selected}
 use Rattle.tl_county.proofs.Limits.FieldsFit.{Fit1, Fit2, Fit4, Fit5, Fit6, Fit7, Fit8, FitI, FitP, columns_1, columns_2, columns_4}
 use Rattle.tl_county.proofs.Limits.FieldsFit.{columns_5, columns_6, columns_7, columns_8, columns_i, columns_p}
-use Rattle.tl_county.proofs.Lists.Elements.{all_weaker, all_both, all_map, all_append, all_joined}
-use Rattle.tl_county.proofs.ByKey.Numbers.{all-in_order}
+use Rattle.ordered_lists.proofs.Lists.Elements.{all_weaker, all_both, all_map, all_append, all_joined}
+use Rattle.ordered_lists.proofs.ByKey.Numbers.{all-in_order}
 
 first_holds : (Q : Coordinates → Type 0) (points : List Coordinates) → 1 ≤ length points → AllByRecursion Q points → Q (first_point points)
 first_holds Q [] h a = absurd (omega (arith, h))

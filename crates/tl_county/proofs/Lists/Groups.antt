@@ -1,10 +1,8 @@
 -- Groups of records with one number, taken in turn from records in the order of their numbers.
-use Rattle.std.proofs.Common.{◌≡◌, ◌⊎◌, ◌==◌, ℕ, List, [], ◌∷◌, ◌++◌, map, filter, Bool, true, false, cond, Ordering, Less, Equal}
-use Rattle.std.proofs.Common.{Greater, is_eq, is_gt, sym, refl, ap, ◌∙◌, subst, inl, inr, nat_cmp, append_assoc, Option}
-use Rattle.std.proofs.lemmas.Bool.{false≢true}
+use Rattle.std.proofs.Common.{◌≡◌, ◌==◌, ℕ, List, [], ◌∷◌, ◌++◌, map, filter, Less, is_eq, is_gt, sym, refl, ap, ◌∙◌, subst}
+use Rattle.std.proofs.Common.{nat_cmp, Option}
 use Rattle.std.specs.List.{AllByRecursion}
 use Rattle.std.specs.List.Sorted.{IsStrictlySortedBy}
-use Rattle.std.specs.Ordering.{ordering_reverse}
 use Rattle.tl_layout.specs.ByType.{of_number}
 use Rattle.tl_layout.specs.Fields.{Fields1, Fields2, Fields4, Fields6, Fields7, Fields8, FieldsI, FieldsP}
 use Rattle.tl_layout.specs.declared.type7.Body7.{Body7}
@@ -14,48 +12,10 @@ use Rattle.tl_county.specs.LandmarkParts.{LandmarkParts}
 use Rattle.tl_county.specs.Building.{chain_with, chains_along, landmark_of, polygon_body_of}
 use Rattle.tl_county.specs.County.{one_tlid, two_tlid, four_tlid, six_tlid, seven_land, eight_land, p_key, first}
 use Rattle.tl_county.specs.PolygonKeys.{PolygonKey, key_cmp}
-use Rattle.tl_county.proofs.Lists.Counted.{filter-agree, eq_test}
-use Rattle.tl_county.proofs.ByKey.KeyOrders.{key_keys}
-use Rattle.tl_county.proofs.ByKey.Keys.{IsKeyOrder, nat_keys, same_or_not}
-
-eq_reversed : (a b : Ordering) → a ≡ ordering_reverse b → is_eq a ≡ is_eq b
-eq_reversed a Less e = ap is_eq e
-eq_reversed a Equal e = ap is_eq e
-eq_reversed a Greater e = ap is_eq e
-
-module _ {X K : Type 0} {cmp : K → K → Ordering} (o : IsKeyOrder cmp) (key : X → K) where
-  -- the items with a key, whichever way it is compared
-  pub group-flipped : (k : K) (xs : List X) → filter (λ x. is_eq (cmp (key x) k)) xs ≡ filter (λ x. is_eq (cmp k (key x))) xs
-  group-flipped k xs = filter-agree (λ x. is_eq (cmp (key x) k)) (λ x. is_eq (cmp k (key x)))
-      (λ x. eq_reversed (cmp (key x) k) (cmp k (key x)) (o.total.antisymm (key x) k)) xs
-
-  -- later groups are among the later items
-  pub group-later : (k j : K) → cmp k j ≡ Less → (xs : List X)
-      → filter (λ x. is_eq (cmp (key x) j)) (filter (λ x. is_gt (cmp (key x) k)) xs) ≡ filter (λ x. is_eq (cmp (key x) j)) xs
-  group-later k j less [] = refl
-  group-later k j less (x ∷ xs) = go (is_gt (cmp (key x) k)) refl (group-later k j less xs)
-    where
-      above : key x ≡ j → is_gt (cmp (key x) k) ≡ true
-      above e = subst (λ i. is_gt (cmp i k) ≡ true) (sym e) (at (cmp j k) (cmp k j) (o.total.antisymm j k) less)
-        where
-          at : (a b : Ordering) → a ≡ ordering_reverse b → b ≡ Less → is_gt a ≡ true
-          at a b f g = ap is_gt (f ∙ ap ordering_reverse g)
-
-      apart : is_gt (cmp (key x) k) ≡ false → is_eq (cmp (key x) j) ≡ false
-      apart f = at (same_or_not o (key x) j)
-        where
-          at : (key x ≡ j) ⊎ (is_eq (cmp (key x) j) ≡ false) → is_eq (cmp (key x) j) ≡ false
-          at (inl e) = absurd (false≢true (sym f ∙ above e))
-          at (inr n) = n
-
-      go : (b : Bool) → is_gt (cmp (key x) k) ≡ b → filter (λ y. is_eq (cmp (key y) j)) (filter (λ y. is_gt (cmp (key y) k)) xs) ≡ filter
-          (λ y. is_eq (cmp (key y) j)) xs
-          → filter (λ y. is_eq (cmp (key y) j))
-          (cond b (x ∷ filter (λ y. is_gt (cmp (key y) k)) xs) (filter (λ y. is_gt (cmp (key y) k)) xs)) ≡ filter
-          (λ y. is_eq (cmp (key y) j)) (x ∷ xs)
-      go true e ih = ap (λ l. cond (is_eq (cmp (key x) j)) (x ∷ l) l) ih
-      go false e ih = ih ∙ ap (λ b. cond b (x ∷ filter (λ y. is_eq (cmp (key y) j)) xs) (filter (λ y. is_eq (cmp (key y) j)) xs))
-          (sym (apart e))
+use Rattle.ordered_lists.proofs.Lists.Counted.{filter-agree, eq_test}
+use Rattle.tl_county.specs.Laws.KeyOrders.{key_keys}
+use Rattle.ordered_lists.proofs.ByKey.Keys.{nat_keys}
+use Rattle.ordered_lists.proofs.Lists.Groups.{group-later, later_than, group-flipped, one_done, strict_head}
 
 -- by numbers
 module _ {X : Type 0} (number : X → ℕ) where
@@ -66,10 +26,6 @@ module _ {X : Type 0} (number : X → ℕ) where
       → of_number number j (filter (λ x. is_gt (nat_cmp (number x) k)) xs) ≡ of_number number j xs
   number-later k j less xs = sym (group-of_number j (filter (λ x. is_gt (nat_cmp (number x) k)) xs))
       ∙ group-later nat_keys number k j less xs ∙ group-of_number j xs
-
--- the records with numbers greater than this one
-abbrev pub later_than : {X : Type 0} → (X → ℕ) → ℕ → List X → List X
-later_than number n xs = filter (λ x. is_gt (nat_cmp (number x) n)) xs
 
 -- the chains of later TLIDs don't need the records of earlier ones
 pub chains_along-later : (n : ℕ) (twos : List Fields2) (fours : List Fields4) (sixes : List Fields6) (rs : List Fields1)
@@ -100,20 +56,6 @@ polygons-later key points (j ∷ keys) h =
     let same = sym (group-flipped key_keys p_key j (filter (λ r. is_gt (key_cmp (p_key r) key)) points))
     ∙ group-later key_keys p_key key j h.0 points ∙ group-flipped key_keys p_key j points in
     λ i. first (map (λ (r : FieldsP). r.body) (same i)) ∷ polygons-later key points keys h.1 i
-
--- one more element of a walk is done
-pub one_done : {X : Type 0} (done : List X) (x y : X) (ahead others whole : List X) → done ++ (x ∷ ahead) ≡ whole → y ≡ x → others ≡ ahead
-    → (done ++ (y ∷ [])) ++ others ≡ whole
-one_done done x y ahead others whole e f g = append_assoc done (y ∷ []) others ∙ (λ i. done ++ (f i ∷ g i)) ∙ e
-
-pub strict_head : {K : Type 0} (cmp : K → K → Ordering) (k : K) (ks : List K) → IsStrictlySortedBy cmp (k ∷ ks)
-    → AllByRecursion (λ j. cmp k j ≡ Less) ks
-unfolding IsStrictlySortedBy
-strict_head cmp k ks h = h.0
-
-pub strict_tail : {K : Type 0} (cmp : K → K → Ordering) (k : K) (ks : List K) → IsStrictlySortedBy cmp (k ∷ ks) → IsStrictlySortedBy cmp ks
-unfolding IsStrictlySortedBy
-strict_tail cmp k ks h = h.1
 
 -- the chain made from the groups of its TLID
 pub chain-of_groups : (head : Fields1) (link : FieldsI) (twos shape : List Fields2) (fours named : List Fields4)

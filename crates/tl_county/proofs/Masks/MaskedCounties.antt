@@ -11,17 +11,17 @@ use Rattle.tl_shape.specs.Chain.{Chain}
 use Rattle.tl_shape.specs.Turned.{turned_if}
 use Rattle.tl_county.specs.BodyOrder.{landmark_body_cmp}
 use Rattle.tl_county.specs.County.{County}
-use Rattle.tl_county.specs.Entries.{map_values}
-use Rattle.tl_county.specs.Orders.{in_order}
+use Rattle.ordered_lists.specs.Entries.{map_values}
+use Rattle.ordered_lists.specs.Orders.{in_order}
 use Rattle.tl_county.specs.Renumbering.{Renumbering, turns, renumbered, carried_chain, carried_landmark, Carries}
 use Rattle.tl_county.specs.MaskedCounty.{masked_chain, masked_bodies, masked}
-use Rattle.tl_county.proofs.ByKey.KeyOrders.{landmark_body_keys}
-use Rattle.tl_county.proofs.ByKey.Numbers.{all-in_order}
-use Rattle.tl_county.proofs.Lists.Elements.{map_itself, all_everywhere, all_map, all_weaker}
-use Rattle.tl_county.proofs.Lists.InOrder.{in_order-itself, in_order-in_order}
-use Rattle.tl_county.proofs.Lists.Members.{among-permutation}
-use Rattle.tl_county.proofs.Rules.FirstFault.{all_among}
-use Rattle.tl_county.proofs.Rules.LinkedCounty.{each_from}
+use Rattle.tl_county.specs.Laws.KeyOrders.{landmark_body_keys}
+use Rattle.ordered_lists.proofs.ByKey.Numbers.{all-in_order}
+use Rattle.ordered_lists.proofs.Lists.Elements.{map_itself, all_everywhere, all_map, all_weaker}
+use Rattle.ordered_lists.proofs.Lists.InOrder.{in_order-itself, in_order-in_order}
+use Rattle.ordered_lists.proofs.Lists.Members.{among-permutation}
+use Rattle.ordered_lists.proofs.Lists.Among.{all_among}
+use Rattle.ordered_lists.proofs.ByKey.Numbers.{each_from}
 
 -- a mask that leaves nothing out changes nothing
 pub masked_by_none : (county : County) → masked no_mask county ≡ county

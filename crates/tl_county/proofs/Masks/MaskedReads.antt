@@ -10,11 +10,11 @@ use Rattle.tl_shape.specs.Chain.{Chain}
 use Rattle.tl_county.specs.BodyOrder.{landmark_body_cmp}
 use Rattle.tl_county.specs.ChartWords.{chain_at, points_of, feats_of, ranges_of, bodies_at, links_with, links_at}
 use Rattle.tl_county.specs.County.{County}
-use Rattle.tl_county.specs.Entries.{entry_values, map_values}
-use Rattle.tl_county.specs.Orders.{in_order}
+use Rattle.ordered_lists.specs.Entries.{entry_values, map_values}
+use Rattle.ordered_lists.specs.Orders.{in_order}
 use Rattle.tl_county.specs.MaskedCounty.{masked_chain, masked_bodies, masked}
-use Rattle.tl_county.specs.MaskedLaws.{lands_masked, length_masked_bodies}
-use Rattle.tl_county.proofs.Lists.EntryLists.{values-map_values}
+use Rattle.tl_county.specs.Laws.MaskedCounties.{lands_masked, length_masked_bodies}
+use Rattle.ordered_lists.proofs.Lists.EntryLists.{values-map_values}
 
 -- the value at a place after all values are mapped
 value_at_place : {K V W : Type 0} (f : V → W) (entries : List (K × V)) (place : ℕ)

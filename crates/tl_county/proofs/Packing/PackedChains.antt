@@ -9,20 +9,20 @@ use Rattle.tl_shape.specs.Chain.{Chain}
 use Rattle.tl_county.specs.County.{County, two_tlid, two_rtsq, four_tlid, four_rtsq, six_tlid, six_rtsq}
 use Rattle.tl_county.specs.CountyRules.{IsCounty, tlids}
 use Rattle.tl_county.specs.LinkRules.{linked_tlids, rtsqs}
-use Rattle.tl_county.specs.Orders.{has_repeat}
+use Rattle.ordered_lists.specs.Orders.{has_repeat}
 use Rattle.tl_county.specs.Packing.{in_pieces, numbered_from, inner_points, packed_twos, packed_fours, packed_sixes}
 use Rattle.tl_county.specs.Packing.{packed}
 use Rattle.tl_county.specs.declared.fault.LinkedType.{LinkedType}
 use Rattle.tl_county.specs.declared.fault.LinkedType.TheVariants.{Two, Four, Six, I}
 use Rattle.tl_county.specs.declared.fault.SequencedType.{SequencedType}
 use Rattle.tl_county.specs.declared.fault.SequencedType.TheVariants as sequenced
-use Rattle.tl_county.proofs.Lists.Distinct.{has_repeat-apart}
+use Rattle.ordered_lists.proofs.Lists.Distinct.{has_repeat-apart}
 use Rattle.tl_county.proofs.Packing.PackedGroups.{group_holds}
-use Rattle.tl_county.proofs.ByKey.Keys.{Known, nat_keys}
-use Rattle.tl_county.proofs.ByKey.Keys.{apart_from_sorted}
-use Rattle.tl_county.proofs.Rules.LinkedCounty.{each_from}
-use Rattle.tl_county.proofs.Lists.Elements.{map-map, map_agree_everywhere, all_weaker, all_map, all_joined, all_everywhere}
-use Rattle.tl_county.proofs.Lists.Members.{among_known}
+use Rattle.ordered_lists.proofs.ByKey.Keys.{Known, nat_keys}
+use Rattle.ordered_lists.proofs.ByKey.Keys.{apart_from_sorted}
+use Rattle.ordered_lists.proofs.ByKey.Numbers.{each_from}
+use Rattle.ordered_lists.proofs.Lists.Elements.{map-map, map_agree_everywhere, all_weaker, all_map, all_joined, all_everywhere}
+use Rattle.ordered_lists.proofs.Lists.Members.{among_known}
 use Rattle.tl_county.proofs.Sameness.Equivalence.{keys_known}
 use Rattle.tl_county.proofs.Packing.PackedNumbers.{four_own, six_own, two_own, numbered_strict, fours, link_numbers, sixes, tlids_apart, twos}
 

@@ -21,23 +21,23 @@ use Rattle.tl_county.specs.County.{County, one_tlid, two_tlid, two_rtsq, four_tl
 use Rattle.tl_county.specs.County.{seven_land, i_tlid, p_key, side_keys, shape_points, further_names, further_ranges}
 use Rattle.tl_county.specs.County.{chain_of, chains_of, names_of, polygon_body, polygons_of, landmarks_of, county_of}
 use Rattle.tl_county.specs.CountyRules.{IsCounty, polygon_keys, lands, polygons_along, chain_polygons}
-use Rattle.tl_county.specs.Orders.{times, stands_in, IsInOrder, in_order, distinct}
+use Rattle.ordered_lists.specs.Orders.{times, stands_in, IsInOrder, in_order, distinct}
 use Rattle.tl_county.specs.Packing.{pieces, in_pieces, numbered_from, first_point, last_point, without_last, inner_points}
 use Rattle.tl_county.specs.Packing.{packed_one, packed_twos, packed_fours, packed_sixes, packed_five, packed_sevens, packed_i}
 use Rattle.tl_county.specs.Packing.{packed_body, packed_p, p_polyid, packed}
 use Rattle.tl_county.specs.PolygonKeys.{PolygonKey, key_cmp}
 use Rattle.tl_county.proofs.Sameness.Carried.{among-unpieces}
-use Rattle.tl_county.proofs.Lists.Counted.{rights-numbered_from}
-use Rattle.tl_county.proofs.Lists.Distinct.{known-distinct, known_from_distinct}
-use Rattle.tl_county.proofs.Rules.FirstFault.{Among, all_among}
+use Rattle.tl_county.proofs.Packing.Pieces.{rights-numbered_from}
+use Rattle.ordered_lists.proofs.Lists.Distinct.{known-distinct, known_from_distinct}
+use Rattle.ordered_lists.proofs.Lists.Among.{Among, all_among}
 use Rattle.tl_county.proofs.Packing.PackedGroups.{group_of}
-use Rattle.tl_county.proofs.Lists.InOrder.{in_order-itself, in_order-from_strict, strict-equal}
-use Rattle.tl_county.proofs.ByKey.KeyOrders.{key_keys}
-use Rattle.tl_county.proofs.ByKey.Keys.{Known, nat_keys, known_all, known-append, apart_from_sorted}
-use Rattle.tl_county.proofs.Rules.LinkedCounty.{each_from}
-use Rattle.tl_county.proofs.Lists.Elements.{map-map, map_agree_all, map_agree_everywhere, all_joined}
-use Rattle.tl_county.proofs.Lists.Members.{among_known, known_is_among, among-map, among-unmap, in_filter_map, to_filter_map, one_entry}
-use Rattle.tl_county.proofs.ByKey.Numbers.{all_themselves, to_in_order, from_in_order, distinct-strict}
+use Rattle.ordered_lists.proofs.Lists.InOrder.{in_order-itself, in_order-from_strict, strict-equal}
+use Rattle.tl_county.specs.Laws.KeyOrders.{key_keys}
+use Rattle.ordered_lists.proofs.ByKey.Keys.{Known, nat_keys, known_all, known-append, apart_from_sorted}
+use Rattle.ordered_lists.proofs.ByKey.Numbers.{each_from}
+use Rattle.ordered_lists.proofs.Lists.Elements.{map-map, map_agree_all, map_agree_everywhere, all_joined}
+use Rattle.ordered_lists.proofs.Lists.Members.{among_known, known_is_among, among-map, among-unmap, in_filter_map, to_filter_map, one_entry}
+use Rattle.ordered_lists.proofs.ByKey.Numbers.{all_themselves, to_in_order, from_in_order, distinct-strict}
 use Rattle.tl_county.proofs.Packing.PackedNumbers.{two_own, four_own, six_own, seven_own, numbered_strict, tlids_apart, ones, twos, fours}
 use Rattle.tl_county.proofs.Packing.PackedNumbers.{fives, sixes, sevens, eights, links_of_chains, polygons_packed}
 use Rattle.tl_county.proofs.Packing.PackedNamed.{few_polygons, key_stands, land_stands, sides_along}

@@ -9,22 +9,11 @@ use Rattle.std.specs.List.{AllByRecursion, cons_option}
 use Rattle.std.specs.List.Sorted.{IsStrictlySortedBy}
 use Rattle.std.specs.Ordering.{ordering_then}
 use Rattle.tl_layout.specs.ByType.{of_number}
-use Rattle.tl_county.specs.Orders.{times, IsInOrder}
-use Rattle.tl_county.proofs.Rules.FirstFault.{Among}
-use Rattle.tl_county.proofs.ByKey.Keys.{IsApart, nat_keys, same_or_not, times-yes, times-no, apart_tail, differ_apart, filter_all}
-use Rattle.tl_county.proofs.Lists.Elements.{all_weaker, all_append}
-use Rattle.tl_county.proofs.Lists.Members.{among_known, among-map}
-
--- selecting from wrapped values returns the values
-pub selected_own : {X Y : Type 0} (h : X → Option Y) (wrap : Y → X) → ((y : Y) → h (wrap y) ≡ Some y) → (ys : List Y)
-    → filter_map h (map wrap ys) ≡ ys
-selected_own h wrap e [] = refl
-selected_own h wrap e (y ∷ ys) = λ i. cons_option (e y i) (selected_own h wrap e ys i)
-
-pub selected_none : {X Y Z : Type 0} (h : X → Option Y) (wrap : Z → X) → ((z : Z) → h (wrap z) ≡ None) → (zs : List Z)
-    → filter_map h (map wrap zs) ≡ []
-selected_none h wrap e [] = refl
-selected_none h wrap e (z ∷ zs) = λ i. cons_option (e z i) (selected_none h wrap e zs i)
+use Rattle.ordered_lists.specs.Orders.{times, IsInOrder}
+use Rattle.ordered_lists.proofs.Lists.Among.{Among}
+use Rattle.ordered_lists.proofs.ByKey.Keys.{IsApart, nat_keys, same_or_not, times-yes, times-no, apart_tail, differ_apart, filter_all}
+use Rattle.ordered_lists.proofs.Lists.Elements.{all_weaker, all_append}
+use Rattle.ordered_lists.proofs.Lists.Members.{among_known, among-map}
 
 -- two joined lists in order are in order if nothing in the first is greater than anything in the second
 pub in_order-append : {X : Type 0} (by : X → X → Ordering) (xs ys : List X) → IsInOrder by xs → IsInOrder by ys

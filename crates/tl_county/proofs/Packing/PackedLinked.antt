@@ -9,16 +9,16 @@ use Rattle.tl_county.specs.County.{County, five_feat}
 use Rattle.tl_county.specs.County.{seven_land, eight_land, link_key, i_tlid, p_key, side_keys}
 use Rattle.tl_county.specs.CountyRules.{IsCounty, tlids, feats, polygon_keys, lands}
 use Rattle.tl_county.specs.LinkRules.{IsLinked, chain_tlids, linked_tlids, named_feats}
-use Rattle.tl_county.specs.Orders.{times, stands_in}
+use Rattle.ordered_lists.specs.Orders.{times, stands_in}
 use Rattle.tl_county.specs.Packing.{packed}
 use Rattle.tl_county.specs.PolygonKeys.{key_cmp}
 use Rattle.tl_county.specs.declared.fault.LinkFault.TheVariants.{ChainTwice, NoChain, SequenceBroken, LinkMissing, LinkTwice}
 use Rattle.tl_county.specs.declared.fault.LinkFault.TheVariants.{NameTwice, NameUnknown, PolygonTwice, LandUnknown}
 use Rattle.tl_county.specs.declared.fault.LinkFault.TheVariants.{PolygonUnknown, Memory}
-use Rattle.tl_county.proofs.ByKey.KeyOrders.{key_keys}
-use Rattle.tl_county.proofs.ByKey.Keys.{IsApart, Known, nat_keys, known_all}
-use Rattle.tl_county.proofs.ByKey.Keys.{apart_from_sorted}
-use Rattle.tl_county.proofs.Lists.Elements.{all_map}
+use Rattle.tl_county.specs.Laws.KeyOrders.{key_keys}
+use Rattle.ordered_lists.proofs.ByKey.Keys.{IsApart, Known, nat_keys, known_all}
+use Rattle.ordered_lists.proofs.ByKey.Keys.{apart_from_sorted}
+use Rattle.ordered_lists.proofs.Lists.Elements.{all_map}
 use Rattle.tl_county.proofs.Packing.PackedNumbers.{chain_numbers, eights, link_numbers, name_numbers, tlids_apart}
 use Rattle.tl_county.proofs.Packing.PackedChains.{all_linked, sequence}
 use Rattle.tl_county.proofs.Packing.PackedNamed.{few_polygons, key_stands, land_stands, named}

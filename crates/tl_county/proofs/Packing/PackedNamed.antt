@@ -15,19 +15,19 @@ use Rattle.tl_county.specs.County.{County, four_tlid}
 use Rattle.tl_county.specs.County.{seven_land, p_key, side_keys}
 use Rattle.tl_county.specs.CountyRules.{IsCounty, feats, polygon_keys, lands, polygons_along, AllStandIn}
 use Rattle.tl_county.specs.LinkRules.{named_feats}
-use Rattle.tl_county.specs.Orders.{times, stands_in, in_order}
+use Rattle.ordered_lists.specs.Orders.{times, stands_in, in_order}
 use Rattle.tl_county.specs.Packing.{in_pieces, numbered_from, packed_fours}
 use Rattle.tl_county.specs.Packing.{packed_sevens, packed_i, packed_body, packed_p, p_polyid, packed}
 use Rattle.tl_county.specs.PolygonKeys.{PolygonKey, key_cmp}
-use Rattle.tl_county.proofs.Lists.Counted.{all_in_pieces, all_numbered_from}
-use Rattle.tl_county.proofs.Rules.FirstFault.{Among, all_among}
+use Rattle.tl_county.proofs.Packing.Pieces.{all_in_pieces, all_numbered_from}
+use Rattle.ordered_lists.proofs.Lists.Among.{Among, all_among}
 use Rattle.tl_county.proofs.Packing.PackedGroups.{group_holds}
-use Rattle.tl_county.proofs.ByKey.KeyOrders.{key_keys}
-use Rattle.tl_county.proofs.ByKey.Keys.{IsApart, Known, nat_keys, known-left, known-right, times-yes, times-no}
-use Rattle.tl_county.proofs.ByKey.Keys.{times-cons, same_or_not, apart_from_sorted}
-use Rattle.tl_county.proofs.Lists.Elements.{all_weaker, all_map, all_joined}
-use Rattle.tl_county.proofs.Lists.Members.{among_known, known_is_among, among-map, among-unmap, among-pieces, to_filter_map}
-use Rattle.tl_county.proofs.ByKey.Numbers.{times-in_order, to_in_order}
+use Rattle.tl_county.specs.Laws.KeyOrders.{key_keys}
+use Rattle.ordered_lists.proofs.ByKey.Keys.{IsApart, Known, nat_keys, known-left, known-right, times-yes, times-no}
+use Rattle.ordered_lists.proofs.ByKey.Keys.{times-cons, same_or_not, apart_from_sorted}
+use Rattle.ordered_lists.proofs.Lists.Elements.{all_weaker, all_map, all_joined}
+use Rattle.ordered_lists.proofs.Lists.Members.{among_known, known_is_among, among-map, among-unmap, among-pieces, to_filter_map}
+use Rattle.ordered_lists.proofs.ByKey.Numbers.{times-in_order, to_in_order}
 use Rattle.tl_county.proofs.Packing.PackedNumbers.{four_own, fours, links_of_chains, polygons_packed, sevens, tlids_apart}
 
 -- the keys of polygons with content

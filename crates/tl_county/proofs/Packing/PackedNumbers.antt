@@ -15,13 +15,13 @@ use Rattle.tl_county.specs.County.{County, one_tlid, two_tlid, four_tlid, five_f
 use Rattle.tl_county.specs.County.{seven_land, i_tlid}
 use Rattle.tl_county.specs.CountyRules.{IsCounty, tlids, feats}
 use Rattle.tl_county.specs.LinkRules.{chain_tlids}
-use Rattle.tl_county.specs.Orders.{in_order}
+use Rattle.ordered_lists.specs.Orders.{in_order}
 use Rattle.tl_county.specs.Packing.{in_pieces, numbered_from, inner_points, packed_one, packed_twos, packed_fours, packed_sixes}
 use Rattle.tl_county.specs.Packing.{packed_five, packed_sevens, packed_i, packed_p, p_polyid, packed_by_type, packed}
-use Rattle.tl_county.proofs.ByKey.Keys.{IsApart, nat_keys}
-use Rattle.tl_county.proofs.ByKey.Keys.{apart_from_sorted}
-use Rattle.tl_county.proofs.Lists.Elements.{map-map, all_map, all_everywhere}
-use Rattle.tl_county.proofs.Packing.PackedTypes.{type_1, type_2, type_4, type_5, type_6, type_7, type_8, type_i, type_p}
+use Rattle.ordered_lists.proofs.ByKey.Keys.{IsApart, nat_keys}
+use Rattle.ordered_lists.proofs.ByKey.Keys.{apart_from_sorted}
+use Rattle.ordered_lists.proofs.Lists.Elements.{map-map, all_map, all_everywhere}
+use Rattle.tl_county.specs.Laws.PackedTypes.{type_1, type_2, type_4, type_5, type_6, type_7, type_8, type_i, type_p}
 
 -- each record of an entry has its number
 pub two_own : (e : ℕ × Chain) → AllByRecursion (λ x. two_tlid x ≡ e.0) (packed_twos e)

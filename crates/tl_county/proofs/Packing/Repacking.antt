@@ -24,14 +24,15 @@ use Rattle.tl_county.specs.County.{eight_land, link_key}
 use Rattle.tl_county.specs.County.{i_tlid, p_key, shape_points, further_names, further_ranges, chain_of, chains_of, side_keys, first}
 use Rattle.tl_county.specs.County.{polygons_of, county_of}
 use Rattle.tl_county.specs.LinkRules.{linked_tlids, rtsqs, named_feats, is_rule_broken, IsLinked}
-use Rattle.tl_county.specs.Orders.{times, stands_in, has_repeat, put_in_order, in_order, distinct}
+use Rattle.ordered_lists.specs.Orders.{times, stands_in, has_repeat, put_in_order, in_order, distinct}
 use Rattle.tl_county.specs.Packing.{Typed, by_type}
 use Rattle.tl_county.specs.PolygonKeys.{key_cmp}
 use Rattle.tl_county.specs.Repacked.{Sequence, resequenced, KeepsSequence}
-use Rattle.tl_county.proofs.ByKey.Keys.{nat_keys, all_known}
-use Rattle.tl_county.proofs.Lists.Elements.{map-map, map_agree_all, map_agree_everywhere, all_both, all_map, all_unmap}
+use Rattle.ordered_lists.proofs.ByKey.Keys.{nat_keys, all_known}
+use Rattle.ordered_lists.proofs.Lists.Elements.{map-map, map_agree_all, map_agree_everywhere, all_both, all_map, all_unmap}
 use Rattle.tl_county.proofs.Sameness.SameChains.{chains_alike}
-use Rattle.tl_county.proofs.ByKey.Numbers.{all-in_order, of_number-all}
+use Rattle.ordered_lists.proofs.ByKey.Numbers.{all-in_order}
+use Rattle.tl_county.proofs.Lists.OfNumber.{of_number-all}
 
 -- the records of the types that aren't ordered by RTSQ
 abbrev pub unsequenced : List Record → Typed

@@ -12,15 +12,15 @@ use Rattle.tl_layout.specs.declared.record_type.Record.{Record}
 use Rattle.tl_layout.specs.declared.record_type.Record.TheVariants.{Two, Four}
 use Rattle.tl_county.specs.County.{two_tlid, two_rtsq, four_tlid, four_rtsq, county_of}
 use Rattle.tl_county.specs.LinkRules.{chain_tlids, is_rule_broken, IsLinked}
-use Rattle.tl_county.specs.Orders.{stands_in, has_repeat, put_in_order, in_order}
+use Rattle.ordered_lists.specs.Orders.{stands_in, has_repeat, put_in_order, in_order}
 use Rattle.tl_county.specs.Repacked.{IsCut, AreCut, IsSplit, IsEmpty, LeavesEmptyOut}
 use Rattle.tl_county.specs.declared.fault.LinkFault.{LinkFault}
 use Rattle.tl_county.specs.declared.fault.LinkFault.TheVariants.{NoChain, SequenceBroken}
 use Rattle.tl_county.specs.declared.fault.LinkFault.TheVariants.{NameUnknown}
 use Rattle.tl_county.specs.declared.fault.LinkedType.TheVariants.{Two as Type2, Four as Type4}
 use Rattle.tl_county.specs.declared.fault.SequencedType.TheVariants as sequenced_types
-use Rattle.tl_county.proofs.ByKey.Keys.{nat_keys, times-no}
-use Rattle.tl_county.proofs.ByKey.Numbers.{all-in_order}
+use Rattle.ordered_lists.proofs.ByKey.Keys.{nat_keys, times-no}
+use Rattle.ordered_lists.proofs.ByKey.Numbers.{all-in_order}
 use Rattle.tl_county.proofs.Packing.Repacking.{AreRepacked, less, greater, repacked-county}
 use Rattle.tl_county.proofs.Sameness.SameCounty.{reordered-linked, reordered-county}
 

@@ -15,17 +15,18 @@ use Rattle.tl_layout.specs.declared.record_type.Record.{Record}
 use Rattle.tl_layout.specs.declared.tables.Tables.{Tables}
 use Rattle.tl_county.specs.Building.{chains_along, county_along, landmark_of, landmarks_along, link_nodes}
 use Rattle.tl_county.specs.ChartWords.{links_with}
-use Rattle.tl_county.specs.Entries.{entry_keys, entry_values, value_under}
-use Rattle.tl_county.proofs.Lists.EntryLists.{value-at_place, values-zip}
+use Rattle.ordered_lists.specs.Entries.{entry_keys, entry_values, value_under}
+use Rattle.ordered_lists.proofs.Lists.EntryLists.{value-at_place, values-zip}
 use Rattle.tl_county.specs.KeptCounty.{LinksUnderLands, landmark_entry}
 use Rattle.tl_county.specs.LandmarkParts.{LandmarkParts}
 use Rattle.tl_layout.specs.ByType.{of_number}
 use Rattle.tl_shape.specs.Chain.{Chain}
-use Rattle.tl_county.proofs.Limits.FitsCounty.{county-within_limits, flat_map-map}
-use Rattle.tl_county.proofs.Lists.Groups.{strict_head, strict_tail}
-use Rattle.tl_county.proofs.ByKey.Keys.{nat_keys, same_or_not, same-itself}
-use Rattle.tl_county.proofs.Lists.Elements.{all_places, map-map}
-use Rattle.tl_county.proofs.ByKey.Numbers.{of_number-all}
+use Rattle.tl_county.proofs.Limits.FitsCounty.{county-within_limits}
+use Rattle.ordered_lists.proofs.Lists.Elements.{flat_map-map}
+use Rattle.ordered_lists.proofs.Lists.Groups.{strict_head, strict_tail}
+use Rattle.ordered_lists.proofs.ByKey.Keys.{nat_keys, same_or_not, same-itself}
+use Rattle.ordered_lists.proofs.Lists.Elements.{all_places, map-map}
+use Rattle.tl_county.proofs.Lists.OfNumber.{of_number-all}
 use Rattle.tl_county.specs.BodyOrder.{landmark_body_cmp, link_part, link_part_cmp}
 use Rattle.tl_county.specs.County.{one_tlid, two_tlid, two_rtsq, four_tlid, four_rtsq, five_feat, six_tlid, six_rtsq}
 use Rattle.tl_county.specs.County.{seven_land, eight_land, i_tlid, county_of}
@@ -35,11 +36,11 @@ use Rattle.tl_layout.specs.RecordText.{FitsRecord}
 use Rattle.tl_county.specs.Limits.{HoldsWithinLimits, IsWithinLimits, most_records}
 use Rattle.tl_county.specs.LinkRules.{IsLinked, IsFirstBrokenRule}
 use Rattle.tl_county.specs.OrderedTables.{typed_of, AreInOrder, ArePermuted}
-use Rattle.tl_county.specs.Orders.{IsInOrder, distinct}
+use Rattle.ordered_lists.specs.Orders.{IsInOrder, distinct}
 use Rattle.tl_county.specs.Packing.{Typed, by_type, type_after_type}
 use Rattle.tl_county.proofs.Rules.LinkedCounty.{county-is_county}
 use Rattle.tl_county.proofs.Rules.LinkedTables.{tlids-strict, feats-strict, side_by_side, county-built}
-use Rattle.tl_county.proofs.Lists.Reordered.{SameElements, from_permutation}
+use Rattle.ordered_lists.proofs.Lists.Reordered.{SameElements, from_permutation}
 use Rattle.tl_county.proofs.Rules.RuleTests.{in_order-first}
 use Rattle.tl_county.proofs.Sameness.SameCounty.{reordered-county}
 use Rattle.tl_county.proofs.Sameness.SameRules.{same-sym, same-linked, same-first}

@@ -1,44 +1,15 @@
 -- If all faults are in a finite list, either there is none or exactly one is the first.
-use Rattle.std.proofs.Common.{◌≡◌, ◌⊎◌, ℕ, List, [], ◌∷◌, ◌++◌, map, Bool, true, false, not, ◌&&◌, ◌||◌, is_eq, is_gt, sym, refl}
-use Rattle.std.proofs.Common.{ap, ◌∙◌, subst, inl, inr}
+use Rattle.std.proofs.Common.{◌≡◌, ◌⊎◌, ℕ, List, [], ◌∷◌, Bool, true, false, not, ◌&&◌, ◌||◌, is_gt, sym, refl, ap, ◌∙◌, inl, inr}
 use Rattle.std.proofs.lemmas.Bool.{false≢true, and_parts, or_cases, not-true}
 use Rattle.std.proofs.lemmas.Cmp.{upto}
 use Rattle.std.specs.List.{AllByRecursion, list_all}
 use Rattle.tl_county.specs.FirstOf.{IsFirst, place_cmp}
-use Rattle.tl_county.proofs.ByKey.Keys.{IsKeyOrder, Known, known_cases, order_antisymm, order_total, order_itself}
-use Rattle.tl_county.proofs.ByKey.KeyOrders.{bytes_keys, lists_keys}
-use Rattle.std.proofs.Common.{Ordering, arith}
+use Rattle.ordered_lists.proofs.ByKey.Keys.{IsKeyOrder, order_antisymm, order_total, order_itself}
+use Rattle.ordered_lists.proofs.ByKey.KeyOrders.{bytes_keys, lists_keys}
+use Rattle.ordered_lists.proofs.Lists.Among.{Among, all_among}
 
 pub place_keys : IsKeyOrder place_cmp
 place_keys = lists_keys bytes_keys
-
--- x is in the list
-abbrev pub Among : {X : Type 0} → X → List X → Type 0
-Among x [] = ⊥
-Among x (y ∷ ys) = (x ≡ y) ⊎ Among x ys
-
-pub all_among : {X : Type 0} (P : X → Type 0) (x : X) (ys : List X) → AllByRecursion P ys → Among x ys → P x
-all_among P x [] a h = absurd h
-all_among P x (y ∷ ys) a (inl e) = subst P (sym e) a.0
-all_among P x (y ∷ ys) a (inr h) = all_among P x ys a.1 h
-
-pub among_left : {X : Type 0} (x : X) (ys zs : List X) → Among x ys → Among x (ys ++ zs)
-among_left x [] zs h = absurd h
-among_left x (y ∷ ys) zs (inl e) = inl e
-among_left x (y ∷ ys) zs (inr h) = inr (among_left x ys zs h)
-
-pub among_right : {X : Type 0} (x : X) (ys zs : List X) → Among x zs → Among x (ys ++ zs)
-among_right x [] zs h = h
-among_right x (y ∷ ys) zs h = inr (among_right x ys zs h)
-
-pub known_among : {K X : Type 0} {cmp : K → K → Ordering} (o : IsKeyOrder cmp) (f : K → X) (k : K) (ks : List K) → Known cmp ks k
-    → Among (f k) (map f ks)
-known_among o f k [] h = absurd (omega (arith, h))
-known_among {cmp = cmp} o f k (j ∷ ks) h = go (known_cases o k j ks h) (known_among o f k ks)
-  where
-    go : (k ≡ j) ⊎ (Known cmp ks k × (is_eq (cmp k j) ≡ false)) → (Known cmp ks k → Among (f k) (map f ks)) → Among (f k) (f j ∷ map f ks)
-    go (inl e) ih = inl (ap f e)
-    go (inr r) ih = inr (ih r.0)
 
 module _ {F : Type 0} (there : F → Bool) (place : F → List (List ℕ)) where
   -- f is present, and no fault in the list comes before it

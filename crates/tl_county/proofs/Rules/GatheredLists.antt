@@ -10,12 +10,12 @@ use Rattle.tl_layout.specs.Fields.{Fields7}
 use Rattle.tl_shape.specs.PointOrder.{point_cmp}
 use Rattle.tl_county.specs.BodyOrder.{bytes_cmp, optional_point_cmp}
 use Rattle.tl_county.specs.OrderedTables.{landmark_cmp}
-use Rattle.tl_county.specs.Orders.{times, stands_in, IsInOrder, put_in_order, distinct}
-use Rattle.tl_county.proofs.Lists.Distinct.{known_from_distinct}
-use Rattle.tl_county.proofs.ByKey.Keys.{IsKeyOrder, times-yes, times-permutation, times-cons, same-itself, same_or_not, all_known}
-use Rattle.tl_county.proofs.ByKey.KeyedLists.{before_all, first_least, less_from}
-use Rattle.tl_county.proofs.Lists.Elements.{all_weaker}
-use Rattle.tl_county.proofs.Lists.Reordered.{distinct_same}
+use Rattle.ordered_lists.specs.Orders.{times, stands_in, IsInOrder, put_in_order, distinct}
+use Rattle.ordered_lists.proofs.Lists.Distinct.{known_from_distinct}
+use Rattle.ordered_lists.proofs.ByKey.Keys.{IsKeyOrder, times-yes, times-permutation, times-cons, same-itself, same_or_not, all_known}
+use Rattle.ordered_lists.proofs.ByKey.KeyedLists.{before_all, first_least, less_from}
+use Rattle.ordered_lists.proofs.Lists.Elements.{all_weaker}
+use Rattle.ordered_lists.proofs.Lists.Reordered.{distinct_same}
 
 module _ {K : Type 0} {cmp : K → K → Ordering} (o : IsKeyOrder cmp) where
   -- a list in order without its repetitions has each key once

@@ -6,13 +6,13 @@ use Rattle.tl_layout.specs.Fields.{Fields5}
 use Rattle.tl_layout.specs.declared.type5.Body5.{Body5}
 use Rattle.tl_county.specs.Building.{county_along}
 use Rattle.tl_county.specs.County.{eight_land, five_feat}
-use Rattle.tl_county.specs.Entries.{entry_keys, entry_values, map_values, value_under}
+use Rattle.ordered_lists.specs.Entries.{entry_keys, entry_values, map_values, value_under}
 use Rattle.tl_county.specs.KeptCounty.{landmark_entry, LinksUnderLands}
 use Rattle.tl_county.specs.LandmarkParts.{LandmarkParts}
 use Rattle.tl_county.specs.Packing.{Typed}
 use Rattle.tl_county.proofs.Rules.BuiltTables.{bodies-under, lands-kept, links-under}
-use Rattle.tl_county.proofs.Lists.EntryLists.{entries-equal, keys-map_values, map_values-id, values-map_values}
-use Rattle.tl_county.proofs.Lists.Elements.{map-map}
+use Rattle.ordered_lists.proofs.Lists.EntryLists.{entries-equal, keys-map_values, map_values-id, values-map_values}
+use Rattle.ordered_lists.proofs.Lists.Elements.{map-map}
 
 pub keys-kept : {K V W : Type 0} (f : V → W) (xs : List (K × V)) → entry_keys xs ≡ entry_keys (map_values f xs)
 keys-kept f xs = sym (keys-map_values f xs)

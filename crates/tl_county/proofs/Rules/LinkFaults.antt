@@ -26,12 +26,13 @@ use Rattle.tl_county.specs.LinkRules.{
   IsLinked,
   IsFirstBrokenRule,
 }
-use Rattle.tl_county.specs.Orders.{times, stands_in, has_repeat}
+use Rattle.ordered_lists.specs.Orders.{times, stands_in, has_repeat}
 use Rattle.tl_county.specs.PolygonKeys.{key_cmp}
-use Rattle.tl_county.proofs.Rules.FirstFault.{Among, among_left, among_right, known_among, first_or_none, not_first, one_first}
+use Rattle.ordered_lists.proofs.Lists.Among.{Among, among_left, among_right, known_among}
+use Rattle.tl_county.proofs.Rules.FirstFault.{first_or_none, not_first, one_first}
 use Rattle.tl_county.proofs.Rules.FirstFault.{none_there, least_there, none_computed, first_computed}
-use Rattle.tl_county.proofs.ByKey.Keys.{Known, nat_keys, times-yes, times-no, same_or_not, differ_apart, known-append}
-use Rattle.tl_county.proofs.ByKey.KeyOrders.{key_keys}
+use Rattle.ordered_lists.proofs.ByKey.Keys.{Known, nat_keys, times-yes, times-no, same_or_not, differ_apart, known-append}
+use Rattle.tl_county.specs.Laws.KeyOrders.{key_keys}
 
 -- the fault at a place
 abbrev pub part : List (List ℕ) → ℕ → List ℕ

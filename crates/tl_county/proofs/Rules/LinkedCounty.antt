@@ -1,64 +1,48 @@
 -- The county of a linked list of records: its numbers ascend, and each number that it names exists.
-use Rattle.std.proofs.Common.{◌≡◌, ◌⊎◌, ◌<◌, ◌≤◌, ◌+◌, ◌==◌, ◌||◌, ℕ, suc, nat_lt, length, length-append, filter, cond, is_eq}
-use Rattle.std.proofs.Common.{is_gt, is_some, inl, inr, Ordering, Option, List, [], ◌∷◌, ◌++◌, map, flat_map, Bool, true, false}
-use Rattle.std.proofs.Common.{not, ◌&&◌, IsTrue, sym, refl, ap, ◌∙◌, subst, arith, nat_cmp, map-id}
+use Rattle.std.proofs.Common.{◌≡◌, ◌⊎◌, ◌<◌, ◌≤◌, ◌+◌, ◌==◌, ◌||◌, ℕ, nat_lt, length, length-append, filter, cond, is_eq, is_some}
+use Rattle.std.proofs.Common.{inl, inr, Option, List, [], ◌∷◌, ◌++◌, map, flat_map, Bool, true, false, not, ◌&&◌, IsTrue, sym}
+use Rattle.std.proofs.Common.{refl, ap, ◌∙◌, subst, arith, nat_cmp, map-id}
 use Rattle.std.proofs.lemmas.Bool.{false≢true, ltb-true, ltb-false, lt-ltb, or_left, or_right, eq-eqb}
 use Rattle.std.proofs.lemmas.Cmp.{nat_cmp_total, on_total}
 use Rattle.std.proofs.lemmas.List.{length-map}
 use Rattle.std.specs.List.{AllByRecursion}
 use Rattle.std.specs.List.Sorted.{IsStrictlySortedBy}
 use Rattle.std.specs.Ordering.{on}
-use Rattle.tl_layout.specs.Fields.{Fields1, Fields4, Fields5, Fields7, Fields8, FieldsI}
+use Rattle.tl_layout.specs.Fields.{Fields1, Fields4, Fields5, Fields7, Fields8, FieldsI, FieldsP}
 use Rattle.tl_layout.specs.declared.record_type.Record.{Record}
 use Rattle.tl_county.specs.declared.fault.LinkFault.TheVariants.{ChainTwice, NoChain, LinkMissing, LinkTwice, NameTwice}
 use Rattle.tl_county.specs.declared.fault.LinkFault.TheVariants.{NameUnknown, LandUnknown, PolygonUnknown}
 use Rattle.tl_county.specs.declared.fault.LinkedType.TheVariants.{I}
-use Rattle.tl_layout.specs.Fields.{FieldsP}
 use Rattle.tl_layout.specs.declared.type7.Body7.{Body7}
 use Rattle.tl_layout.specs.declared.type_p.BodyP.{BodyP}
 use Rattle.tl_county.specs.BodyOrder.{landmark_body_cmp, link_cmp}
 use Rattle.tl_layout.specs.ByType.{of_type_1, of_type_4, of_type_5, of_type_7, of_type_8, of_type_i, of_type_p, of_number}
 use Rattle.tl_shape.specs.Chain.{Chain}
-use Rattle.tl_county.specs.County.{one_tlid, four_tlid, four_rtsq, five_feat, seven_land, eight_land, link_key, i_tlid, p_key, link_key}
+use Rattle.tl_county.specs.County.{one_tlid, four_tlid, four_rtsq, five_feat, seven_land, eight_land, link_key, i_tlid, p_key}
 use Rattle.tl_county.specs.County.{first, shape_points, further_names, chain_of, chains_of, side_keys, polygon_body, county_of}
 use Rattle.tl_county.specs.CountyRules.{IsCounty, IsWhole, tlids, feats, polygon_keys, lands, chain_polygons, polygons_along}
 use Rattle.tl_county.specs.CountyRules.{AllStandIn, AllKeysStandIn}
 use Rattle.tl_county.specs.LinkRules.{IsLinked, chain_tlids, named_feats}
-use Rattle.tl_county.specs.Orders.{times, stands_in, put_in_order, in_order, distinct}
+use Rattle.ordered_lists.specs.Orders.{times, stands_in, in_order, distinct}
 use Rattle.tl_county.specs.PolygonKeys.{PolygonKey, key_cmp}
 use Rattle.tl_county.proofs.Sameness.Carried.{among-unpieces}
-use Rattle.tl_county.proofs.Lists.Distinct.{known-distinct, known_from_distinct}
-use Rattle.tl_county.proofs.Rules.FirstFault.{Among}
-use Rattle.tl_county.proofs.Lists.InOrder.{in_order-in_order, in_order-map}
-use Rattle.tl_county.proofs.ByKey.KeyOrders.{key_keys, landmark_body_keys, link_keys}
-use Rattle.tl_county.proofs.ByKey.Keys.{Known, IsApart, nat_keys, known-left, known-append, all_known, times-no}
-use Rattle.tl_county.proofs.Lists.Elements.{map-map, all_weaker, all_everywhere, all_map, all_joined}
-use Rattle.tl_county.proofs.Lists.Members.{among-map, among-unmap, among-pieces, among_known, known_is_among}
-use Rattle.tl_county.proofs.Lists.Reordered.{to_filter}
-use Rattle.tl_county.proofs.ByKey.Numbers.{all_themselves, times-of_number, only_one, of_number-among, times-in_order, all-in_order}
-use Rattle.tl_county.proofs.ByKey.Numbers.{from_in_order, to_in_order, strict_from_order, distinct-strict}
+use Rattle.ordered_lists.proofs.Lists.Distinct.{known-distinct, known_from_distinct}
+use Rattle.ordered_lists.proofs.Lists.Among.{Among}
+use Rattle.ordered_lists.proofs.Lists.InOrder.{in_order-in_order, in_order-map}
+use Rattle.tl_county.specs.Laws.KeyOrders.{key_keys, landmark_body_keys, link_keys}
+use Rattle.ordered_lists.proofs.ByKey.Keys.{Known, IsApart, nat_keys, known-left, known-append, all_known, times-no}
+use Rattle.ordered_lists.proofs.Lists.Elements.{map-map, all_weaker, all_everywhere, all_map, all_joined}
+use Rattle.ordered_lists.proofs.Lists.Members.{among-map, among-unmap, among-pieces, among_known, known_is_among}
+use Rattle.ordered_lists.proofs.Lists.Reordered.{to_filter}
+use Rattle.ordered_lists.proofs.ByKey.Numbers.{only_one, times-in_order, all-in_order, from_in_order, to_in_order}
+use Rattle.ordered_lists.proofs.ByKey.Numbers.{strict_from_order, distinct-strict, each_from, length-in_order}
+use Rattle.tl_county.proofs.Lists.OfNumber.{times-of_number, of_number-among}
 
 -- if a test never holds without another, the other holds whenever it does
 pub needed : (a b : Bool) → (a && not b) ≡ false → a ≡ true → b ≡ true
 needed a true e t = refl
 needed true false e t = absurd (false≢true (sym e))
 needed false false e t = absurd (false≢true t)
-
-pub each_from : {X : Type 0} (P : X → Type 0) (xs : List X) → ((x : X) → Among x xs → P x) → AllByRecursion P xs
-each_from P xs h = all_weaker (λ x. Among x xs) P h xs (all_themselves xs)
-
-length-put : {X : Type 0} (by : X → X → Ordering) (x : X) (ys : List X) → length (put_in_order by x ys) ≡ suc (length ys)
-length-put by x [] = refl
-length-put {X} by x (y ∷ ys) = go (is_gt (by x y)) (length-put by x ys)
-  where
-    go : (b : Bool) → length (put_in_order by x ys) ≡ suc (length ys)
-        → length (cond b (y ∷ put_in_order by x ys) (x ∷ y ∷ ys)) ≡ suc (suc (length ys))
-    go true ih = ap suc ih
-    go false ih = refl
-
-pub length-in_order : {X : Type 0} (by : X → X → Ordering) (xs : List X) → length (in_order by xs) ≡ length xs
-length-in_order by [] = refl
-length-in_order by (x ∷ xs) = length-put by x (in_order by xs) ∙ ap suc (length-in_order by xs)
 
 -- a polygon that has a type P record has content
 some_body : (key : PolygonKey) (rs : List FieldsP) → Known key_cmp (map p_key rs) key

@@ -22,20 +22,22 @@ use Rattle.tl_county.specs.County.{one_tlid, two_tlid, two_rtsq, four_tlid, four
 use Rattle.tl_county.specs.County.{eight_land, i_tlid, chain_of, chains_of, county_of}
 use Rattle.tl_county.specs.LinkRules.{IsLinked, chain_tlids, linked_tlids}
 use Rattle.tl_county.specs.OrderedTables.{AreInOrder}
-use Rattle.tl_county.specs.Orders.{times, stands_in, IsInOrder, in_order, distinct}
+use Rattle.ordered_lists.specs.Orders.{times, stands_in, IsInOrder, in_order, distinct}
 use Rattle.tl_county.specs.Packing.{by_type}
-use Rattle.tl_county.proofs.Lists.Distinct.{known-distinct}
-use Rattle.tl_county.proofs.Lists.EntryLists.{in_order-strict}
-use Rattle.tl_county.proofs.Rules.FirstFault.{Among}
-use Rattle.tl_county.proofs.Lists.Groups.{group-of_number, number-later, later_than, strict_head, strict_tail}
-use Rattle.tl_county.proofs.Lists.InOrder.{in_order-itself, in_order-map, strict-equal}
-use Rattle.tl_county.proofs.ByKey.KeyedLists.{first_least, in_order-filter, group-and_later, lt_reversed}
-use Rattle.tl_county.proofs.ByKey.Keys.{Known, nat_keys, known_cases, filter_all}
+use Rattle.ordered_lists.proofs.Lists.Distinct.{known-distinct}
+use Rattle.ordered_lists.proofs.Lists.EntryLists.{in_order-strict}
+use Rattle.ordered_lists.proofs.Lists.Among.{Among}
+use Rattle.tl_county.proofs.Lists.Groups.{group-of_number, number-later}
+use Rattle.ordered_lists.proofs.Lists.Groups.{later_than, strict_head, strict_tail}
+use Rattle.ordered_lists.proofs.Lists.InOrder.{in_order-itself, in_order-map, strict-equal}
+use Rattle.ordered_lists.proofs.ByKey.KeyedLists.{first_least, in_order-filter, group-and_later, lt_reversed}
+use Rattle.ordered_lists.proofs.ByKey.Keys.{Known, nat_keys, known_cases, filter_all}
 use Rattle.tl_county.proofs.Rules.LinkedCounty.{apart_chains, one_link, the_link, needed}
-use Rattle.tl_county.proofs.Lists.Elements.{all_weaker}
-use Rattle.tl_county.proofs.Lists.Members.{among_known, known_is_among, among-map}
-use Rattle.tl_county.proofs.ByKey.Numbers.{all_themselves, of_number-all, strict_from_order, distinct-strict}
-use Rattle.tl_county.proofs.Lists.Reordered.{to_filter}
+use Rattle.ordered_lists.proofs.Lists.Elements.{all_weaker}
+use Rattle.ordered_lists.proofs.Lists.Members.{among_known, known_is_among, among-map}
+use Rattle.ordered_lists.proofs.ByKey.Numbers.{all_themselves, strict_from_order, distinct-strict}
+use Rattle.tl_county.proofs.Lists.OfNumber.{of_number-all}
+use Rattle.ordered_lists.proofs.Lists.Reordered.{to_filter}
 
 -- in a group with one number, an order by the number and something else is an order by the other
 pub group_order : {X : Type 0} (number : X → ℕ) (next : X → X → Ordering) (n : ℕ) (xs : List X) → AllByRecursion (λ x. number x ≡ n) xs

@@ -4,12 +4,12 @@ use Rattle.std.proofs.Common.{◌∙◌, subst, inl, inr, arith}
 use Rattle.tl_layout.specs.Fields.{FieldsP}
 use Rattle.tl_layout.specs.declared.type_p.BodyP.{BodyP}
 use Rattle.tl_county.specs.County.{p_key, first}
-use Rattle.tl_county.specs.Orders.{times}
+use Rattle.ordered_lists.specs.Orders.{times}
 use Rattle.tl_county.specs.PolygonKeys.{PolygonKey, key_cmp}
-use Rattle.tl_county.proofs.Rules.FirstFault.{Among}
-use Rattle.tl_county.proofs.ByKey.KeyOrders.{key_keys}
-use Rattle.tl_county.proofs.ByKey.Keys.{IsApart, Known, times-yes, apart_tail, same-true, same-itself, same_or_not}
-use Rattle.tl_county.proofs.Lists.Members.{among_known, among-map}
+use Rattle.ordered_lists.proofs.Lists.Among.{Among}
+use Rattle.tl_county.specs.Laws.KeyOrders.{key_keys}
+use Rattle.ordered_lists.proofs.ByKey.Keys.{IsApart, Known, times-yes, apart_tail, same-true, same-itself, same_or_not}
+use Rattle.ordered_lists.proofs.Lists.Members.{among_known, among-map}
 
 pub first_body : (key : PolygonKey) (b : BodyP) (rs : List FieldsP)
     → first (map (λ (r : FieldsP). r.body) (filter (λ r. is_eq (key_cmp key (p_key r))) rs)) ≡ Some b

@@ -14,12 +14,12 @@ use Rattle.tl_county.specs.declared.fault.LinkFault.TheVariants.{PolygonUnknown,
 use Rattle.tl_county.specs.declared.fault.LinkedType.TheVariants.{Two, Four, Six, I}
 use Rattle.tl_county.specs.declared.fault.SequencedType.TheVariants as sequenced
 use Rattle.tl_county.specs.FirstOf.{place_cmp}
-use Rattle.tl_county.specs.Keyed.{IsLeastPassing}
+use Rattle.ordered_lists.specs.Keyed.{IsLeastPassing}
 use Rattle.tl_county.specs.LinkRules.{is_rule_broken, link_fault_place, IsLinked, IsFirstBrokenRule}
 use Rattle.tl_county.specs.RuleOrder.{rule_place, RulesHold, IsFirstFrom}
-use Rattle.tl_county.proofs.Rules.FirstFault.{Among}
+use Rattle.ordered_lists.proofs.Lists.Among.{Among}
 use Rattle.tl_county.proofs.Rules.LinkFaults.{part, number}
-use Rattle.tl_county.proofs.Lists.Members.{any_among}
+use Rattle.ordered_lists.proofs.Lists.Members.{any_among}
 
 -- a fault's place begins with the place of its rule and ends with its key
 abbrev head_of_rule : ℕ → List (List ℕ)

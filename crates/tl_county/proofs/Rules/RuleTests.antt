@@ -19,20 +19,21 @@ use Rattle.tl_county.specs.BodyOrder.{bytes_cmp}
 use Rattle.tl_county.specs.County.{one_tlid, two_tlid, two_rtsq, four_tlid, four_rtsq, five_feat, six_tlid, six_rtsq, seven_land}
 use Rattle.tl_county.specs.County.{eight_land, link_key, i_tlid, p_key, side_keys}
 use Rattle.tl_county.specs.FirstOf.{place_cmp}
-use Rattle.tl_county.specs.Keyed.{IsLeastPassing, is_repeated, is_unknown}
+use Rattle.ordered_lists.specs.Keyed.{IsLeastPassing, is_repeated, is_unknown}
 use Rattle.tl_county.specs.LinkRules.{is_rule_broken, link_fault_place}
-use Rattle.tl_county.specs.Orders.{times, stands_in, has_repeat, IsInOrder, distinct}
+use Rattle.ordered_lists.specs.Orders.{times, stands_in, has_repeat, IsInOrder, distinct}
 use Rattle.tl_county.specs.Packing.{Typed, by_type}
 use Rattle.tl_county.specs.PolygonKeys.{PolygonKey, key_cmp}
 use Rattle.tl_county.specs.RuleOrder.{rule_place}
 use Rattle.tl_county.specs.SequenceKeys.{uses_of, is_unnamed, sequence_cmp}
-use Rattle.tl_county.proofs.Lists.Distinct.{apart_from_no_repeat, times-distinct, bit}
-use Rattle.tl_county.proofs.ByKey.KeyOrders.{key_keys, pair_keys}
-use Rattle.tl_county.proofs.ByKey.Keys.{IsKeyOrder, nat_keys, times-yes, times-no, same_or_not, times-permutation, times-append}
-use Rattle.tl_county.proofs.ByKey.Keys.{times-cons, same-itself, known-here}
-use Rattle.tl_county.proofs.ByKey.KeyedLists.{first_least}
+use Rattle.ordered_lists.proofs.Lists.Distinct.{apart_from_no_repeat, times-distinct, bit}
+use Rattle.tl_county.specs.Laws.KeyOrders.{key_keys}
+use Rattle.ordered_lists.proofs.ByKey.KeyOrders.{pair_keys}
+use Rattle.ordered_lists.proofs.ByKey.Keys.{IsKeyOrder, nat_keys, times-yes, times-no, same_or_not, times-permutation, times-append}
+use Rattle.ordered_lists.proofs.ByKey.Keys.{times-cons, same-itself, known-here}
+use Rattle.ordered_lists.proofs.ByKey.KeyedLists.{first_least}
 use Rattle.tl_county.proofs.Rules.LinkFaults.{part, number}
-use Rattle.tl_county.proofs.Lists.Elements.{all_weaker}
+use Rattle.ordered_lists.proofs.Lists.Elements.{all_weaker}
 use Rattle.tl_county.proofs.Rules.RuleOrders.{IsRule, fault_of_rule}
 
 -- orders of lists of one or two numbers

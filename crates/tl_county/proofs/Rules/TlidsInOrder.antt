@@ -2,9 +2,9 @@
 use Rattle.std.proofs.Common.{◌≡◌, ℕ, List, map, sym, subst, nat_cmp}
 use Rattle.tl_county.specs.County.{one_tlid, i_tlid}
 use Rattle.tl_county.specs.OrderedTables.{AreInOrder}
-use Rattle.tl_county.specs.Orders.{IsInOrder}
+use Rattle.ordered_lists.specs.Orders.{IsInOrder}
 use Rattle.tl_county.specs.Packing.{Typed}
-use Rattle.tl_county.proofs.Lists.InOrder.{in_order-map}
+use Rattle.ordered_lists.proofs.Lists.InOrder.{in_order-map}
 
 -- those of the type 1 records
 pub tlids_in_order : {tlids : List ℕ} (t : Typed) → AreInOrder t → tlids ≡ map one_tlid t.of_type_1 → IsInOrder nat_cmp tlids

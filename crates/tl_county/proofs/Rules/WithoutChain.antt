@@ -10,19 +10,20 @@ use Rattle.tl_layout.specs.declared.record_type.Record.{Record}
 use Rattle.tl_shape.specs.Chain.{Chain}
 use Rattle.tl_county.specs.County.{chain_of, chains_of, county_of, first, p_key, polygon_body, side_keys}
 use Rattle.tl_county.specs.CountyRules.{chain_polygons, has_body, is_without_chain, polygons_along}
-use Rattle.tl_county.specs.Keyed.{IsLeastPassing, is_unknown}
+use Rattle.ordered_lists.specs.Keyed.{IsLeastPassing, is_unknown}
 use Rattle.tl_county.specs.LinkRules.{IsLinked}
-use Rattle.tl_county.specs.Orders.{distinct, stands_in, times}
+use Rattle.ordered_lists.specs.Orders.{distinct, stands_in, times}
 use Rattle.tl_county.specs.PolygonKeys.{PolygonKey, key_cmp}
 use Rattle.tl_county.proofs.Sameness.Carried.{among-unpieces}
-use Rattle.tl_county.proofs.Rules.FirstFault.{Among, all_among}
-use Rattle.tl_county.proofs.ByKey.KeyOrders.{key_keys}
+use Rattle.ordered_lists.proofs.Lists.Among.{Among, all_among}
+use Rattle.tl_county.specs.Laws.KeyOrders.{key_keys}
 use Rattle.tl_county.proofs.ByKey.KeySets.{stands_in-distinct}
-use Rattle.tl_county.proofs.ByKey.Keys.{IsKeyOrder, Known, known-append, known-left, known-right, same-true}
-use Rattle.tl_county.proofs.Rules.LinkedCounty.{chains_all, each_from, linked_chain, needed}
-use Rattle.tl_county.proofs.Lists.Members.{among-pieces, among_known, known_is_among}
-use Rattle.tl_county.proofs.ByKey.Numbers.{count-map}
-use Rattle.tl_county.proofs.Lists.Reordered.{distinct_same, stands_alike}
+use Rattle.ordered_lists.proofs.ByKey.Keys.{IsKeyOrder, Known, known-append, known-left, known-right, same-true}
+use Rattle.tl_county.proofs.Rules.LinkedCounty.{chains_all, linked_chain, needed}
+use Rattle.ordered_lists.proofs.ByKey.Numbers.{each_from}
+use Rattle.ordered_lists.proofs.Lists.Members.{among-pieces, among_known, known_is_among}
+use Rattle.ordered_lists.proofs.ByKey.Numbers.{count-map}
+use Rattle.ordered_lists.proofs.Lists.Reordered.{distinct_same, stands_alike}
 
 -- a list has a first element exactly if it isn't empty
 first_there : {X Y : Type 0} (f : X → Y) (xs : List X) → is_some (first (map f xs)) ≡ nat_lt 0 (length xs)

@@ -5,9 +5,10 @@ use Rattle.std.proofs.lemmas.List.{map-append}
 use Rattle.tl_shape.specs.Chain.{Chain}
 use Rattle.tl_county.specs.CountyRules.{chain_nodes, chain_polygons}
 use Rattle.tl_county.specs.PolygonKeys.{PolygonKey, key_cmp, key_on, key_under}
-use Rattle.tl_county.specs.Renumbering.{Renumbering, image, renumbered_polygon, renumbered}
+use Rattle.tl_county.specs.Renumbering.{Renumbering, renumbered_polygon, renumbered}
+use Rattle.ordered_lists.specs.Pairs.{image}
 use Rattle.tl_shape.specs.Turned.{turned_if}
-use Rattle.tl_county.proofs.Rules.FirstFault.{Among, among_left, among_right}
+use Rattle.ordered_lists.proofs.Lists.Among.{Among, among_left, among_right}
 
 pub key_on-renumbered : (r : Renumbering) (cenid : List ℕ) (polyid : Option ℕ)
     → key_on (renumbered_polygon r cenid polyid) ≡ map (image key_cmp r.polygons) (key_under cenid polyid)

@@ -13,16 +13,18 @@ use Rattle.tl_shape.specs.Turned.{turned_if}
 use Rattle.tl_county.specs.County.{County, link_key}
 use Rattle.tl_county.specs.CountyRules.{IsClosed, IsWhole, feats, polygon_keys, lands, polygons_along}
 use Rattle.tl_county.specs.CountyRules.{chain_polygons, chain_nodes, AllStandIn, AllKeysStandIn}
-use Rattle.tl_county.specs.Orders.{times, stands_in}
+use Rattle.ordered_lists.specs.Orders.{times, stands_in}
 use Rattle.tl_county.specs.PolygonKeys.{PolygonKey, key_cmp, key_on}
-use Rattle.tl_county.specs.Renumbering.{Renumbering, image, turns, carried_chain, carried_polygon, carried_landmark}
-use Rattle.tl_county.specs.Renumbering.{carried_link, ArePaired, Carries}
+use Rattle.tl_county.specs.Renumbering.{Renumbering, turns, carried_chain, carried_polygon, carried_landmark}
+use Rattle.ordered_lists.specs.Pairs.{image}
+use Rattle.tl_county.specs.Renumbering.{carried_link, Carries}
+use Rattle.ordered_lists.specs.Pairs.{ArePaired}
 use Rattle.tl_county.proofs.Sameness.Carried.{among-swapped, among-turned, among-unpieces, chain_polygons-renumbered}
-use Rattle.tl_county.proofs.Rules.FirstFault.{Among, all_among}
-use Rattle.tl_county.proofs.ByKey.KeyOrders.{key_keys}
-use Rattle.tl_county.proofs.ByKey.Keys.{IsKeyOrder, Known, nat_keys, lefts, rights, known-permutation, known-permutation_to, image-known}
-use Rattle.tl_county.proofs.Rules.LinkedCounty.{each_from}
-use Rattle.tl_county.proofs.Lists.Members.{among-permutation, among-map, among-unmap, among-pieces, among_known, known_is_among}
+use Rattle.ordered_lists.proofs.Lists.Among.{Among, all_among}
+use Rattle.tl_county.specs.Laws.KeyOrders.{key_keys}
+use Rattle.ordered_lists.proofs.ByKey.Keys.{IsKeyOrder, Known, nat_keys, lefts, rights, known-permutation, known-permutation_to, image-known}
+use Rattle.ordered_lists.proofs.ByKey.Numbers.{each_from}
+use Rattle.ordered_lists.proofs.Lists.Members.{among-permutation, among-map, among-unmap, among-pieces, among_known, known_is_among}
 
 -- a turn keeps the nodes and polygons of a chain, in both directions
 pub nodes-turned : (n : ℕ) (b : Bool) (c : Chain) → Among n (chain_nodes c) → Among n (chain_nodes (turned_if b c))

@@ -10,22 +10,25 @@ use Rattle.tl_shape.specs.Chain.{Chain}
 use Rattle.tl_county.specs.County.{County, link_key}
 use Rattle.tl_county.specs.CountyRules.{IsCounty, IsClosed, tlids, feats, polygon_keys, lands, nodes, nodes_along, chain_nodes}
 use Rattle.tl_county.specs.CountyRules.{chain_polygons, AllStandIn, AllKeysStandIn}
-use Rattle.tl_county.specs.Orders.{times, stands_in, has_repeat}
+use Rattle.ordered_lists.specs.Orders.{times, stands_in, has_repeat}
 use Rattle.tl_county.specs.PolygonKeys.{PolygonKey, key_cmp, key_on, key_under}
-use Rattle.tl_county.specs.Renumbering.{Renumbering, image, turns, renumbered_polygon, renumbered_side, renumbered, carried_chain}
-use Rattle.tl_county.specs.Renumbering.{carried_name, carried_polygon, carried_landmark, carried_link, ArePaired, Carries}
-use Rattle.tl_county.specs.Renumbering.{AreSame, to_itself, identity, swapped, is_named, inverse, composed, exactly_one, then}
+use Rattle.tl_county.specs.Renumbering.{Renumbering, turns, renumbered_polygon, renumbered_side, renumbered, carried_chain}
+use Rattle.ordered_lists.specs.Pairs.{image}
+use Rattle.tl_county.specs.Renumbering.{carried_name, carried_polygon, carried_landmark, carried_link, Carries}
+use Rattle.ordered_lists.specs.Pairs.{ArePaired}
+use Rattle.tl_county.specs.Renumbering.{AreSame, identity, inverse, exactly_one, then}
+use Rattle.ordered_lists.specs.Pairs.{to_itself, swapped, is_named, composed}
 use Rattle.tl_shape.specs.TurnLaws.{turned-turned}
 use Rattle.tl_shape.specs.Turned.{turned, turned_if}
-use Rattle.tl_county.proofs.Lists.Elements.{map_itself, map-map, map_agree_all, all_weaker, all_map, all_unmap, all_left, all_right}
-use Rattle.tl_county.proofs.Lists.Elements.{all_pieces, all_filter}
-use Rattle.tl_county.proofs.ByKey.Keys.{IsKeyOrder, IsApart, Known, nat_keys, lefts, rights, filter_all, same_or_not, apart_from_sorted}
-use Rattle.tl_county.proofs.ByKey.Keys.{apart-permutation, known-permutation, known-permutation_to, all_known, image-known}
-use Rattle.tl_county.proofs.ByKey.Keys.{times-images, has_repeat-images, apart-filter, stands_in-filter, image-back, image-yes}
-use Rattle.tl_county.proofs.ByKey.Keys.{image-no, rights-swapped, lefts-swapped, image-to_itself, lefts-to_itself, rights-to_itself}
-use Rattle.tl_county.proofs.ByKey.Keys.{images-lefts, followed, joined-followed, image-followed, lefts-followed, rights-followed}
-use Rattle.tl_county.proofs.ByKey.KeyOrders.{key_keys}
-use Rattle.tl_county.proofs.Lists.Distinct.{apart-distinct, known-distinct, has_repeat-apart}
+use Rattle.ordered_lists.proofs.Lists.Elements.{map_itself, map-map, map_agree_all, all_weaker, all_map, all_unmap, all_left, all_right}
+use Rattle.ordered_lists.proofs.Lists.Elements.{all_pieces, all_filter}
+use Rattle.ordered_lists.proofs.ByKey.Keys.{IsKeyOrder, IsApart, Known, nat_keys, lefts, rights, filter_all, same_or_not, apart_from_sorted}
+use Rattle.ordered_lists.proofs.ByKey.Keys.{apart-permutation, known-permutation, known-permutation_to, all_known, image-known}
+use Rattle.ordered_lists.proofs.ByKey.Keys.{times-images, has_repeat-images, apart-filter, stands_in-filter, image-back, image-yes}
+use Rattle.ordered_lists.proofs.ByKey.Keys.{image-no, rights-swapped, lefts-swapped, image-to_itself, lefts-to_itself, rights-to_itself}
+use Rattle.ordered_lists.proofs.ByKey.Keys.{images-lefts, followed, joined-followed, image-followed, lefts-followed, rights-followed}
+use Rattle.tl_county.specs.Laws.KeyOrders.{key_keys}
+use Rattle.ordered_lists.proofs.Lists.Distinct.{apart-distinct, known-distinct, has_repeat-apart}
 
 -- renaming and turning a chain commute
 pub renumbered-turned : (r : Renumbering) (c : Chain) → renumbered r (turned c) ≡ turned (renumbered r c)

@@ -5,8 +5,8 @@ use Rattle.tl_layout.specs.ByType.{of_number, of_type_1, of_type_i}
 use Rattle.tl_layout.specs.Fields.{Fields1, FieldsI}
 use Rattle.tl_layout.specs.declared.record_type.Record.{Record}
 use Rattle.tl_county.specs.County.{chain_of, chains_of, i_tlid, one_tlid}
-use Rattle.tl_county.specs.Orders.{in_order}
-use Rattle.tl_county.proofs.Lists.Elements.{flat_map_agree, map_agree_everywhere}
+use Rattle.ordered_lists.specs.Orders.{in_order}
+use Rattle.ordered_lists.proofs.Lists.Elements.{flat_map_agree, map_agree_everywhere}
 
 pub chains_alike : (xs ys : List Record) → ((r : Fields1) (link : FieldsI) → chain_of xs r link ≡ chain_of ys r link)
     → ((n : ℕ) → of_number i_tlid n (of_type_i xs) ≡ of_number i_tlid n (of_type_i ys))

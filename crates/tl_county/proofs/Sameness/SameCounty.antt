@@ -16,17 +16,18 @@ use Rattle.tl_county.specs.County.{one_tlid, two_tlid, two_rtsq, four_tlid, four
 use Rattle.tl_county.specs.County.{i_tlid, p_key, chain_of, chains_of, side_keys, first, polygon_body}
 use Rattle.tl_county.specs.County.{polygons_of, landmarks_of, county_of}
 use Rattle.tl_county.specs.LinkRules.{chain_tlids, IsLinked}
-use Rattle.tl_county.specs.Orders.{times, has_repeat, in_order, distinct}
+use Rattle.ordered_lists.specs.Orders.{times, has_repeat, in_order, distinct}
 use Rattle.tl_county.specs.PolygonKeys.{PolygonKey, key_cmp}
 use Rattle.tl_county.proofs.Sameness.SameChains.{chains_alike}
 use Rattle.tl_county.proofs.Sameness.SameRules.{keys_alike, s_lands, same-linked}
-use Rattle.tl_county.proofs.Lists.Distinct.{apart_from_no_repeat}
-use Rattle.tl_county.proofs.ByKey.KeyOrders.{key_keys, landmark_body_keys, link_keys}
-use Rattle.tl_county.proofs.ByKey.Keys.{nat_keys}
-use Rattle.tl_county.proofs.Lists.Elements.{map_agree_everywhere}
-use Rattle.tl_county.proofs.ByKey.Numbers.{times-of_number, count-map}
-use Rattle.tl_county.proofs.Lists.Reordered.{SameElements, from_permutation, same-filter_map, same-filter, same-map, times-same}
-use Rattle.tl_county.proofs.Lists.Reordered.{few_same, numbered_same, ordered_same, distinct_same}
+use Rattle.ordered_lists.proofs.Lists.Distinct.{apart_from_no_repeat}
+use Rattle.tl_county.specs.Laws.KeyOrders.{key_keys, landmark_body_keys, link_keys}
+use Rattle.ordered_lists.proofs.ByKey.Keys.{nat_keys}
+use Rattle.ordered_lists.proofs.Lists.Elements.{map_agree_everywhere}
+use Rattle.tl_county.proofs.Lists.OfNumber.{times-of_number}
+use Rattle.ordered_lists.proofs.ByKey.Numbers.{count-map}
+use Rattle.ordered_lists.proofs.Lists.Reordered.{SameElements, from_permutation, same-filter_map, same-filter, same-map, times-same}
+use Rattle.ordered_lists.proofs.Lists.Reordered.{few_same, numbered_same, ordered_same, distinct_same}
 
 module _ (xs ys : List Record) (p : IsPermutation xs ys) (linked : IsLinked xs) where
   s_all : SameElements xs ys

@@ -17,16 +17,16 @@ use Rattle.tl_county.specs.declared.fault.SequencedType.TheVariants as sequenced
 use Rattle.tl_county.specs.County.{one_tlid, two_tlid, two_rtsq, four_tlid, four_rtsq, five_feat, six_tlid, six_rtsq, seven_land}
 use Rattle.tl_county.specs.County.{eight_land, link_key, i_tlid, p_key, side_keys}
 use Rattle.tl_county.specs.LinkRules.{chain_tlids, linked_tlids, rtsqs, named_feats, is_rule_broken, IsLinked, IsFirstBrokenRule}
-use Rattle.tl_county.specs.Orders.{stands_in, has_repeat}
+use Rattle.ordered_lists.specs.Orders.{stands_in, has_repeat}
 use Rattle.tl_county.specs.PolygonKeys.{PolygonKey, key_cmp}
 use Rattle.tl_county.proofs.Sameness.Carried.{among-unpieces}
-use Rattle.tl_county.proofs.Lists.Distinct.{has_repeat-apart, apart_from_no_repeat}
-use Rattle.tl_county.proofs.Rules.FirstFault.{Among}
-use Rattle.tl_county.proofs.ByKey.KeyOrders.{key_keys}
-use Rattle.tl_county.proofs.ByKey.Keys.{Known, nat_keys, known-left, known-right, known-append}
-use Rattle.tl_county.proofs.Lists.Members.{among-pieces, among_known, known_is_among, among-map, among-unmap}
-use Rattle.tl_county.proofs.Lists.Reordered.{SameElements, same-filter_map, same-filter, same-map, times-same}
-use Rattle.tl_county.proofs.Lists.Reordered.{apart-same, stands_alike}
+use Rattle.ordered_lists.proofs.Lists.Distinct.{has_repeat-apart, apart_from_no_repeat}
+use Rattle.ordered_lists.proofs.Lists.Among.{Among}
+use Rattle.tl_county.specs.Laws.KeyOrders.{key_keys}
+use Rattle.ordered_lists.proofs.ByKey.Keys.{Known, nat_keys, known-left, known-right, known-append}
+use Rattle.ordered_lists.proofs.Lists.Members.{among-pieces, among_known, known_is_among, among-map, among-unmap}
+use Rattle.ordered_lists.proofs.Lists.Reordered.{SameElements, same-filter_map, same-filter, same-map, times-same}
+use Rattle.ordered_lists.proofs.Lists.Reordered.{apart-same, stands_alike}
 
 -- the same, seen from the other list
 pub same-sym : {X : Type 0} (xs ys : List X) → SameElements xs ys → SameElements ys xs

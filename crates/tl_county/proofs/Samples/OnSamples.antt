@@ -10,10 +10,11 @@ use Rattle.tl_county.specs.County.{county_of}
 use Rattle.tl_county.specs.CountyRules.{polygon_keys, nodes}
 use Rattle.tl_county.specs.LinkRules.{IsLinked, IsFirstBrokenRule}
 use Rattle.tl_shape.specs.Chain.{Chain}
-use Rattle.tl_county.specs.Renumbering.{Renumbering, Carries, AreSame, carried_chain, renumbered, turns, image}
+use Rattle.tl_county.specs.Renumbering.{Renumbering, Carries, AreSame, carried_chain, renumbered, turns}
+use Rattle.ordered_lists.specs.Pairs.{image}
 use Rattle.tl_layout.specs.Turned.{turned_body}
 use Rattle.tl_shape.specs.Turned.{turned_if}
-use Rattle.tl_county.proofs.Lists.Members.{among-permutation}
+use Rattle.ordered_lists.proofs.Lists.Members.{among-permutation}
 use Rattle.tl_county.proofs.Rules.LinkFaults.{linked_computed, first_rule_computed}
 use Rattle.tl_county.proofs.Samples.Counties.{filled, right, street, ranges_back, east_end, street_there, street_back, west_end, topology}
 use Rattle.tl_county.proofs.Samples.Counties.{no_side, cenid_1, cenid_2, there, back, back_wrong, back_shaped, there_shaped}

@@ -1,13 +1,13 @@
 //! A stored county as a chart, whichever way it is stored.
 
-ghost use Rattle.tl_county.specs.Entries.{map_values};
+ghost use Rattle.ordered_lists.specs.Entries.{map_values};
 ghost use Rattle.tl_county.specs.KeptCounty.{county_with};
 
 use crate::chart::Chart;
 use crate::kept::StoredCounty;
 use crate::kept::keeping::{StoredChain, StoredLandmark, StoredName};
-use crate::keys::keyed::place_of;
 use crate::keys::record_keys::PolygonKey;
+use ordered_lists::place_of;
 use tl_layout::{Body1, Body5, Body7, BodyI, BodyP, Point, Ranges, Rec8, Side};
 
 /// Calls read the county's own tables, and its chains, names and landmarks by their own traits.

@@ -3,10 +3,10 @@
 ghost use Rattle.std.specs.List.Sorted.{IsStrictlySortedBy};
 ghost use Rattle.std.specs.Option.{option_copied};
 ghost use Rattle.std.specs.Prelude.{◌≡◌, List, Some, length, map, is_some, IfSome, slice_get, option_map};
-ghost use Rattle.tl_county.specs.Entries.{entry_keys, entry_values, value_under};
-ghost use Rattle.tl_county.specs.Orders.{stands_in};
+ghost use Rattle.ordered_lists.specs.Entries.{entry_keys, entry_values, value_under};
+ghost use Rattle.ordered_lists.specs.Orders.{stands_in};
 
-use crate::keys::keyed::{Key, place_of};
+use ordered_lists::{Key, place_of};
 use std::marker::Model;
 
 /// Values under keys. The keys ascend, and no key occurs twice.

@@ -1,13 +1,13 @@
 //! Sets of keys.
 
 ghost use Rattle.std.specs.Prelude.{◌≡◌, ◌∷◌, ◌++◌, [], false, OnOk, OnErr, IfOk};
-ghost use Rattle.tl_county.specs.Orders.{distinct, has_repeat};
+ghost use Rattle.ordered_lists.specs.Orders.{distinct, has_repeat};
 ghost use Rattle.tl_county.specs.PolygonKeys.{key_cmp, key_on};
 
-use crate::keys::keyed::Key;
 use crate::keys::polygon_set::{cenids_of, distinct_polygons};
 use crate::keys::record_keys::PolygonKey;
 use indexmap::IndexSet;
+use ordered_lists::Key;
 use std::alloc::{AllocError, Global};
 use std::hash::Hash;
 use std::marker::Model;

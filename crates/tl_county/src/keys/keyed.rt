@@ -3,18 +3,13 @@
 ghost use Rattle.std.specs.declared.cmp.Ordering.TheVariants.{Equal};
 ghost use Rattle.std.specs.Ordering.{nat_cmp, on, is_eq, is_gt, is_lt};
 ghost use Rattle.std.specs.Prelude.{◌≡◌, List, map, filter, not, false, true, Some, None, OnOk, IfOk, IfSome, IsPermutation, slice_get, is_some};
-ghost use Rattle.tl_county.specs.Keyed.{IsLeastPassing, is_repeated, is_unknown};
-ghost use Rattle.tl_county.specs.Orders.{IsInOrder, distinct, stands_in};
+ghost use Rattle.ordered_lists.specs.Keyed.{IsLeastPassing, is_repeated, is_unknown};
+ghost use Rattle.ordered_lists.specs.Orders.{IsInOrder, distinct, stands_in};
 
 use crate::keys::by_number::bring_by_number;
+use ordered_lists::Key;
 use std::alloc::{AllocError, Global};
 use std::cmp::Ordering;
-
-/// A key that orders records of one type. Two keys that compare as equal are the same key.
-pub trait Key: Ord + Copy {
-    /// Keys that compare as equal are the same key.
-    ghost exact: { (x y : Self) → Self.Ord.cmp x y ≡ Equal → x ≡ y };
-}
 
 /// An item that has a key, as a record has its number.
 pub trait Keyed<K: Ord + Copy> {
@@ -93,22 +88,6 @@ pub(crate) fn put_in_order_with_numbers<T: Keyed<u64> + Copy>(
     }
     put_in_order::<u64, T>(items)?;
     keys_of::<u64, T>(alloc, items)
-}
-
-/// Puts keys in order. It allocates no memory.
-pub fn sort_keys<K: Key>(keys: &mut Vec<K>)
-    ensures permutation { IsPermutation keys.old.items keys.new.items }
-    ensures in_order { IsInOrder K.cmp keys.new.items }
-{
-    keys.sort_unstable();
-}
-
-/// Puts keys in order and removes repetitions. It allocates no memory.
-pub(crate) fn sort_distinct<K: Key>(keys: &mut Vec<K>)
-    ensures { keys.new.items ≡ distinct K.cmp keys.old.items }
-{
-    keys.sort_unstable();
-    keys.dedup();
 }
 
 /// The least key that occurs twice among the items, or none. The items must be in order.
@@ -226,13 +205,4 @@ pub(crate) fn keys_of<K: Ord + Copy, T: Keyed<K>>(
         keys.push(item.key())?;
     }
     Ok(keys)
-}
-
-/// The place of a key in a list of keys in order, counted from 0, or none if the list doesn't have it.
-pub fn place_of<K: Key>(keys: &[K], key: K) -> Option<usize>
-    requires { IsInOrder K.cmp keys.now }
-    ensures found { IfSome result (λ place. slice_get keys.now place ≡ Some key) }
-    ensures known { is_some result ≡ stands_in K.cmp key keys.now }
-{
-    keys.binary_search(&key).ok()
 }

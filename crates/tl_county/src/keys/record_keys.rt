@@ -1,40 +1,11 @@
 //! The keys that order records, and each record's key.
 
-use crate::keys::keyed::{Key, Keyed};
+use crate::keys::keyed::Keyed;
+use ordered_lists::Key;
 use tl_layout::{Point, Rec1, Rec2, Rec4, Rec5, Rec6, Rec7, Rec8, RecI, RecP};
 
 /// The key of a polygon: its CENID, of 5 bytes, and its POLYID under that CENID.
 pub type PolygonKey = ([u8; 5], u64);
-
-impl Key for u64 {
-    ghost use Rattle.std.proofs.lemmas.Map.Lookups.{exact_unsigned};
-
-    ghost exact = { exact_unsigned };
-}
-
-impl Key for u32 {
-    ghost use Rattle.std.proofs.lemmas.Map.Lookups.{exact_unsigned};
-
-    ghost exact = { exact_unsigned };
-}
-
-impl Key for u16 {
-    ghost use Rattle.std.proofs.lemmas.Map.Lookups.{exact_unsigned};
-
-    ghost exact = { exact_unsigned };
-}
-
-impl<const N: usize> Key for [u8; N] {
-    ghost use Rattle.std.proofs.lemmas.Map.Lookups.{exact_bytes};
-
-    ghost exact = { exact_bytes };
-}
-
-impl<A: Key, B: Key> Key for (A, B) {
-    ghost use Rattle.std.proofs.lemmas.Map.Lookups.{exact_pairs};
-
-    ghost exact = { exact_pairs A.Ord.cmp B.Ord.cmp A.exact B.exact };
-}
 
 /// By TLID.
 impl Keyed<u64> for Rec1 {

@@ -6,7 +6,7 @@ ghost use Rattle.std.specs.Ordering.{is_gt, nat_cmp, on};
 ghost use Rattle.std.specs.Prelude.{◌≡◌, ◌∷◌, [], ◌++◌, List, map, filter, flat_map, option_to_list, OnOk, IfOk};
 ghost use Rattle.tl_county.specs.Building.{chain_with, chains_along, landmark_of, link_nodes, polygon_body_of};
 ghost use Rattle.tl_county.specs.County.{one_tlid, two_tlid, four_tlid, six_tlid, seven_land, eight_land, p_key, first};
-ghost use Rattle.tl_county.specs.Orders.{IsInOrder, distinct};
+ghost use Rattle.ordered_lists.specs.Orders.{IsInOrder, distinct};
 ghost use Rattle.tl_county.specs.PolygonKeys.{key_cmp};
 ghost use Rattle.tl_layout.specs.ByType.{of_number};
 ghost use Rattle.tl_layout.specs.Fields.{Fields2, Fields4, Fields5, Fields6, Fields7, FieldsP};
@@ -14,8 +14,8 @@ ghost use Rattle.tl_layout.specs.Numbers.{IsNumber, IsNumberOrNone};
 
 use crate::kept::keeping::{StoredChain, StoredLandmark};
 use crate::keys::keyed::{keys_of, split_group};
-use crate::keys::number_set::NumberSet;
 use crate::keys::record_keys::PolygonKey;
+use ordered_lists::NumberSet;
 use std::alloc::{AllocError, Global};
 use tl_layout::{
     Body5, Body7, BodyP, Point, Ranges, Rec1, Rec2, Rec4, Rec5, Rec6, Rec7, Rec8, RecI, RecP,

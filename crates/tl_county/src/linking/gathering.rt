@@ -5,14 +5,15 @@ ghost use Rattle.std.specs.Ordering.{on};
 ghost use Rattle.std.specs.Prelude.{◌≡◌, ◌++◌, map, flat_map, OnOk, IfOk, IsPermutation};
 ghost use Rattle.tl_county.specs.BodyOrder.{bytes_cmp};
 ghost use Rattle.tl_county.specs.County.{link_key, p_key, side_keys};
-ghost use Rattle.tl_county.specs.Keyed.{IsLeastPassing, is_unknown};
-ghost use Rattle.tl_county.specs.Orders.{IsInOrder, distinct};
+ghost use Rattle.ordered_lists.specs.Keyed.{IsLeastPassing, is_unknown};
+ghost use Rattle.ordered_lists.specs.Orders.{IsInOrder, distinct};
 ghost use Rattle.tl_county.specs.PolygonKeys.{key_cmp};
 ghost use Rattle.tl_county.specs.SequenceKeys.{sequence_cmp, uses_of};
 
-use crate::keys::keyed::{Keyed, keys_of, least_unknown, sort_keys};
+use crate::keys::keyed::{Keyed, keys_of, least_unknown};
 use crate::keys::polygon_set::{cenids_of, distinct_polygons};
 use crate::keys::record_keys::PolygonKey;
+use ordered_lists::sort_keys;
 use std::alloc::{AllocError, Global};
 use tl_layout::{Rec4, Rec8, RecI, RecP};
 

@@ -4,7 +4,7 @@ ghost use Rattle.std.specs.Prelude.{◌≡◌, ◌≢◌, List, IfOk, IfErr};
 ghost use Rattle.tl_county.specs.County.{county_of};
 ghost use Rattle.tl_county.specs.CountyRules.{is_without_chain};
 ghost use Rattle.tl_county.specs.declared.fault.LinkFault.TheVariants.{Memory};
-ghost use Rattle.tl_county.specs.Keyed.{IsLeastPassing};
+ghost use Rattle.ordered_lists.specs.Keyed.{IsLeastPassing};
 ghost use Rattle.tl_county.specs.Limits.{HoldsWithinLimits};
 ghost use Rattle.tl_county.specs.LinkRules.{IsFirstBrokenRule, IsLinked};
 ghost use Rattle.tl_county.specs.Packing.{type_after_type};
@@ -38,11 +38,11 @@ pub struct LinkedRecords {
 impl Model for LinkedRecords {
     ghost use Rattle.std.specs.Prelude.{◌≡◌, ◌++◌, map, flat_map};
     ghost use Rattle.tl_county.specs.County.{county_of, five_feat, one_tlid, p_key, side_keys};
-    ghost use Rattle.tl_county.specs.Keyed.{IsLeastPassing, is_unknown};
+    ghost use Rattle.ordered_lists.specs.Keyed.{IsLeastPassing, is_unknown};
     ghost use Rattle.tl_county.specs.Limits.{IsWithinLimits, most_records};
     ghost use Rattle.tl_county.specs.LinkRules.{IsLinked};
     ghost use Rattle.tl_county.specs.OrderedTables.{typed_of, AreInOrder};
-    ghost use Rattle.tl_county.specs.Orders.{distinct};
+    ghost use Rattle.ordered_lists.specs.Orders.{distinct};
     ghost use Rattle.tl_county.specs.Packing.{Typed, type_after_type};
     ghost use Rattle.tl_county.specs.PolygonKeys.{key_cmp};
 

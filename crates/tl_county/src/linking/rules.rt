@@ -3,10 +3,11 @@
 ghost use Rattle.std.specs.Ordering.{nat_cmp};
 ghost use Rattle.std.specs.Prelude.{◌≡◌, false, true, List, map, flat_map, ◌++◌, MatchResult, IfOk, OnOk, IsPermutation};
 ghost use Rattle.tl_county.specs.County.{link_key, five_feat, i_tlid, one_tlid, p_key, side_keys};
-ghost use Rattle.tl_county.specs.Keyed.{IsLeastPassing, is_repeated};
-ghost use Rattle.tl_county.specs.Marks.{AllNamed, AreMarksOf, AreNamed};
+ghost use Rattle.ordered_lists.specs.Keyed.{IsLeastPassing, is_repeated};
+ghost use Rattle.tl_county.specs.Marks.{AllNamed, AreNamed};
+ghost use Rattle.ordered_lists.specs.Marks.{AreMarksOf};
 ghost use Rattle.tl_county.specs.OrderedTables.{typed_of, AreInOrder};
-ghost use Rattle.tl_county.specs.Orders.{IsInOrder, distinct};
+ghost use Rattle.ordered_lists.specs.Orders.{IsInOrder, distinct};
 ghost use Rattle.tl_county.specs.Packing.{by_type};
 ghost use Rattle.tl_county.specs.PolygonKeys.{key_cmp};
 ghost use Rattle.tl_county.specs.RepeatedKeys.{AreLeastRepeated};
@@ -15,11 +16,11 @@ ghost use Rattle.tl_county.specs.SequenceKeys.{is_unnamed, sequence_cmp, uses_of
 ghost use Rattle.tl_layout.specs.declared.record_type.Record.{Record};
 
 use crate::fault::{LinkFault, LinkedType, SequencedType};
-use crate::keys::keyed::{least_repeated, least_unknown, place_of};
-use crate::keys::marks::{is_marked, marks_of};
+use crate::keys::keyed::{least_repeated, least_unknown};
 use crate::keys::record_keys::PolygonKey;
 use crate::linking::gathering::uses_in_order;
 use crate::linking::table_order::Repeated;
+use ordered_lists::{is_marked, marks_of, place_of};
 use std::alloc::{AllocError, Global};
 use tl_layout::{Rec2, Rec4, Rec5, Rec6, Rec7, Rec8, Tables};
 

@@ -7,10 +7,10 @@ ghost use Rattle.std.specs.Ordering.{nat_cmp, on};
 ghost use Rattle.std.specs.Prelude.{◌≡◌, map, OnOk, IfOk};
 ghost use Rattle.tl_county.specs.BodyOrder.{link_cmp};
 ghost use Rattle.tl_county.specs.County.{five_feat, i_tlid, one_tlid, p_key};
-ghost use Rattle.tl_county.specs.Keyed.{IsLeastPassing, is_repeated};
+ghost use Rattle.ordered_lists.specs.Keyed.{IsLeastPassing, is_repeated};
 ghost use Rattle.tl_county.specs.OrderedTables.{landmark_cmp, typed_of, AreInOrder, ArePermuted};
 ghost use Rattle.tl_county.specs.PolygonKeys.{key_cmp};
-ghost use Rattle.tl_county.specs.PutInOrder.{IsPutInOrder};
+ghost use Rattle.ordered_lists.specs.PutInOrder.{IsPutInOrder};
 ghost use Rattle.tl_county.specs.RepeatedKeys.{AreLeastRepeated};
 ghost use Rattle.tl_county.specs.SequenceKeys.{sequence_cmp, two_sequence, four_sequence, six_sequence};
 

@@ -18,22 +18,23 @@ use Rattle.tl_county.specs.BodyOrder.{landmark_body_cmp, link_cmp}
 use Rattle.tl_county.specs.County.{County}
 use Rattle.tl_county.specs.CountyRules.{IsCounty, IsAscending, feats, polygon_keys, lands, nodes_along}
 use Rattle.tl_county.specs.CountyRules.{polygons_along, AllStandIn, AllKeysStandIn}
-use Rattle.tl_county.specs.Orders.{times, stands_in, IsInOrder, in_order}
+use Rattle.ordered_lists.specs.Orders.{times, stands_in, IsInOrder, in_order}
 use Rattle.tl_county.specs.PolygonKeys.{PolygonKey, key_cmp}
-use Rattle.tl_county.specs.Renumbering.{image, carried_name, carried_polygon, carried_landmark}
+use Rattle.ordered_lists.specs.Pairs.{image}
+use Rattle.tl_county.specs.Renumbering.{carried_name, carried_polygon, carried_landmark}
 use Rattle.tl_county.specs.Renumbering.{carried_link, Carries}
 use Rattle.tl_county.proofs.Sameness.CarriedCounty.{carried_closed, carried_whole, feats-turned}
-use Rattle.tl_county.proofs.Rules.FirstFault.{Among, all_among}
-use Rattle.tl_county.proofs.Lists.InOrder.{in_order-in_order, in_order-map, in_order-equal}
-use Rattle.tl_county.proofs.ByKey.KeyOrders.{key_keys, link_part_keys, link_keys}
-use Rattle.tl_county.proofs.ByKey.Keys.{IsKeyOrder, IsApart, Known, nat_keys, lefts, rights, times-yes, times-no, same_or_not}
-use Rattle.tl_county.proofs.ByKey.Keys.{known_cases, known_all, map_agree, apart_from_sorted, apart-permutation}
-use Rattle.tl_county.proofs.ByKey.Keys.{times-permutation, known-permutation, image-injective}
-use Rattle.tl_county.proofs.Rules.LinkedCounty.{each_from}
-use Rattle.tl_county.proofs.Lists.Elements.{map-map, all_weaker, all_map}
-use Rattle.tl_county.proofs.Lists.Members.{among-permutation, among-map, among-unmap, among_known, known_is_among}
-use Rattle.tl_county.proofs.ByKey.Numbers.{all-in_order, strict_from_order}
-use Rattle.tl_county.proofs.Lists.Permutations.{in_order-is_permutation}
+use Rattle.ordered_lists.proofs.Lists.Among.{Among, all_among}
+use Rattle.ordered_lists.proofs.Lists.InOrder.{in_order-in_order, in_order-map, in_order-equal}
+use Rattle.tl_county.specs.Laws.KeyOrders.{key_keys, link_part_keys, link_keys}
+use Rattle.ordered_lists.proofs.ByKey.Keys.{IsKeyOrder, IsApart, Known, nat_keys, lefts, rights, times-yes, times-no, same_or_not}
+use Rattle.ordered_lists.proofs.ByKey.Keys.{known_cases, known_all, map_agree, apart_from_sorted, apart-permutation}
+use Rattle.ordered_lists.proofs.ByKey.Keys.{times-permutation, known-permutation, image-injective}
+use Rattle.ordered_lists.proofs.ByKey.Numbers.{each_from}
+use Rattle.ordered_lists.proofs.Lists.Elements.{map-map, all_weaker, all_map}
+use Rattle.ordered_lists.proofs.Lists.Members.{among-permutation, among-map, among-unmap, among_known, known_is_among}
+use Rattle.ordered_lists.proofs.ByKey.Numbers.{all-in_order, strict_from_order}
+use Rattle.ordered_lists.proofs.Lists.Permutations.{in_order-is_permutation}
 use Rattle.tl_county.proofs.Sameness.Equivalence.{keys_known}
 use Rattle.tl_number.specs.Arrangement.{Arrangement, Arranges, arranged_tlids, placed, nodes_in_order}
 use Rattle.tl_number.specs.Arrangement.{polygons_in_order, under_cenid, new_keys, names_in_order, relinked, links_relinked}

@@ -16,20 +16,20 @@ use Rattle.tl_county.specs.County.{County, county_of, link_key}
 use Rattle.tl_county.specs.CountyRules.{IsCounty, tlids, feats, polygon_keys, lands, nodes_along, polygons_along, chain_nodes}
 use Rattle.tl_county.specs.CountyRules.{chain_polygons, AllStandIn, AllKeysStandIn}
 use Rattle.tl_county.specs.Limits.{most_records, IsWithinLimits}
-use Rattle.tl_county.specs.Orders.{times, stands_in}
+use Rattle.ordered_lists.specs.Orders.{times, stands_in}
 use Rattle.tl_county.specs.Packing.{packed_one, packed_five, packed_sevens, packed_by_type, packed}
 use Rattle.tl_county.specs.PolygonKeys.{PolygonKey, key_cmp, key_on, key_under}
 use Rattle.tl_county.specs.Renumbering.{Carries}
 use Rattle.tl_county.proofs.Limits.CarriedLimits.{carried_contents, carried_room, carried_counts}
 use Rattle.tl_county.proofs.Limits.FitsCounty.{county_counts, county-within_limits}
 use Rattle.tl_county.proofs.Limits.FitsPacked.{packed-fits}
-use Rattle.tl_county.proofs.ByKey.KeyOrders.{key_keys}
-use Rattle.tl_county.proofs.ByKey.Keys.{nat_keys, known_all, all_known}
+use Rattle.tl_county.specs.Laws.KeyOrders.{key_keys}
+use Rattle.ordered_lists.proofs.ByKey.Keys.{nat_keys, known_all, all_known}
 use Rattle.tl_county.proofs.Rules.LinkedCounty.{county-is_county}
-use Rattle.tl_county.proofs.Lists.Elements.{all_weaker, all_both, all_unmap, all_pieces}
-use Rattle.tl_county.proofs.Packing.PackedTypes.{by_type_of}
-use Rattle.tl_county.proofs.Packing.TypeCounts.{HasAtMost, HasWithin, KeepsLimits, by_type_keeps, by_type_within, packed_keeps}
-use Rattle.tl_county.proofs.Packing.TypeCounts.{packed_within}
+use Rattle.ordered_lists.proofs.Lists.Elements.{all_weaker, all_both, all_unmap, all_pieces}
+use Rattle.tl_county.specs.Laws.PackedTypes.{by_type_of}
+use Rattle.tl_county.specs.Laws.TypeCounts.{HasAtMost, HasWithin, KeepsLimits, by_type_keeps, by_type_within, packed_keeps}
+use Rattle.tl_county.specs.Laws.TypeCounts.{packed_within}
 use Rattle.tl_number.specs.Accepted.{IsAccepted, IsCanonicalThrough}
 use Rattle.tl_number.specs.Arrangement.{Arrangement, Arranges, renaming_of, arranged}
 use Rattle.tl_number.specs.Growth.{GrowsFrom, up_to}

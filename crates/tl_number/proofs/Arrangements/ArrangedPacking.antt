@@ -16,19 +16,19 @@ use Rattle.tl_county.specs.BodyOrder.{landmark_body_cmp, link_cmp}
 use Rattle.tl_county.specs.County.{County, one_tlid, two_tlid, two_rtsq, four_tlid, four_rtsq, five_feat, six_tlid, six_rtsq}
 use Rattle.tl_county.specs.County.{seven_land, i_tlid}
 use Rattle.tl_county.specs.CountyRules.{IsCounty}
-use Rattle.tl_county.specs.Orders.{IsInOrder}
+use Rattle.ordered_lists.specs.Orders.{IsInOrder}
 use Rattle.tl_county.specs.Packing.{pieces, in_pieces, numbered_from, inner_points, packed_one, packed_twos, packed_fours}
 use Rattle.tl_county.specs.Packing.{packed_five, packed_sixes, packed_sevens, packed_i, packed_p, p_polyid, type_after_type}
 use Rattle.tl_county.specs.Packing.{packed_by_type, packed}
-use Rattle.tl_county.proofs.Lists.Counted.{lefts-numbered_from, rights-numbered_from, length-numbered_from}
+use Rattle.tl_county.proofs.Packing.Pieces.{lefts-numbered_from, rights-numbered_from, length-numbered_from}
 use Rattle.tl_county.proofs.Packing.PackedGroups.{group_holds, groups_in_order}
-use Rattle.tl_county.proofs.Lists.InOrder.{in_order-from_strict, in_order-in_order}
-use Rattle.tl_county.proofs.Lists.Elements.{map-map, map_agree_everywhere, all_weaker, all_everywhere}
+use Rattle.ordered_lists.proofs.Lists.InOrder.{in_order-from_strict, in_order-in_order}
+use Rattle.ordered_lists.proofs.Lists.Elements.{map-map, map_agree_everywhere, all_weaker, all_everywhere}
 use Rattle.tl_county.proofs.Packing.PackedCounty.{packed_county}
 use Rattle.tl_county.proofs.Packing.PackedNumbers.{two_own, four_own, six_own, seven_own, numbered_strict, tlids_apart, ones, twos, fours}
 use Rattle.tl_county.proofs.Packing.PackedNumbers.{fives, sixes, sevens, eights, links_of_chains, polygons_packed}
 use Rattle.tl_county.proofs.Packing.PackedLinked.{packed_linked}
-use Rattle.tl_county.proofs.Packing.PackedTypes.{by_type_of}
+use Rattle.tl_county.specs.Laws.PackedTypes.{by_type_of}
 use Rattle.tl_number.specs.Canonical.{StandsInOrder, IsPacked, IsArrangedList, AreFull, seven_cmp}
 use Rattle.tl_number.specs.Growth.{up_to}
 use Rattle.tl_number.specs.ArrangedCounty.{IsArranged}

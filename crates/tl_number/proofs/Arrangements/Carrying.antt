@@ -15,28 +15,30 @@ use Rattle.tl_county.specs.BodyOrder.{link_cmp}
 use Rattle.tl_county.specs.County.{County}
 use Rattle.tl_county.specs.CountyRules.{IsCounty, tlids, feats, polygon_keys, lands, nodes, nodes_along, polygons_along}
 use Rattle.tl_county.specs.CountyRules.{chain_nodes, chain_polygons, AllKeysStandIn}
-use Rattle.tl_county.specs.Orders.{times, stands_in, has_repeat, in_order}
+use Rattle.ordered_lists.specs.Orders.{times, stands_in, has_repeat, in_order}
 use Rattle.tl_county.specs.PolygonKeys.{PolygonKey, key_cmp}
-use Rattle.tl_county.specs.Renumbering.{image, carried_chain, carried_name, carried_polygon, carried_landmark}
-use Rattle.tl_county.specs.Renumbering.{carried_link, ArePaired, NumbersArePaired, Carries}
+use Rattle.ordered_lists.specs.Pairs.{image}
+use Rattle.tl_county.specs.Renumbering.{carried_chain, carried_name, carried_polygon, carried_landmark}
+use Rattle.tl_county.specs.Renumbering.{carried_link, NumbersArePaired, Carries}
+use Rattle.ordered_lists.specs.Pairs.{ArePaired}
 use Rattle.tl_county.proofs.Sameness.Carried.{among-unpieces, among-turned}
 use Rattle.tl_county.proofs.Sameness.CarriedCounty.{nodes-turned, nodes-unturned, polygons-unturned}
-use Rattle.tl_county.proofs.Lists.Distinct.{apart-distinct, known-distinct, known_from_distinct, has_repeat-apart}
-use Rattle.tl_county.proofs.Rules.FirstFault.{Among, all_among}
-use Rattle.tl_county.proofs.ByKey.KeyOrders.{key_keys}
-use Rattle.tl_county.proofs.ByKey.Keys.{IsApart, Known, nat_keys, lefts, rights, apart_from_sorted, apart-permutation}
-use Rattle.tl_county.proofs.ByKey.Keys.{known-permutation_to, known_all, all_known, image-known, images-lefts}
-use Rattle.tl_county.proofs.Lists.Elements.{map-map, all_map, all_everywhere, all_joined}
-use Rattle.tl_county.proofs.Lists.Members.{among-permutation, among-map, among-unmap, among-pieces, among_known, known_is_among}
-use Rattle.tl_county.proofs.ByKey.Numbers.{of_number-among}
-use Rattle.tl_county.proofs.Lists.Permutations.{in_order-is_permutation, apart-permutation_of}
+use Rattle.ordered_lists.proofs.Lists.Distinct.{apart-distinct, known-distinct, known_from_distinct, has_repeat-apart}
+use Rattle.ordered_lists.proofs.Lists.Among.{Among, all_among}
+use Rattle.tl_county.specs.Laws.KeyOrders.{key_keys}
+use Rattle.ordered_lists.proofs.ByKey.Keys.{IsApart, Known, nat_keys, lefts, rights, apart_from_sorted, apart-permutation}
+use Rattle.ordered_lists.proofs.ByKey.Keys.{known-permutation_to, known_all, all_known, image-known, images-lefts}
+use Rattle.ordered_lists.proofs.Lists.Elements.{map-map, all_map, all_everywhere, all_joined}
+use Rattle.ordered_lists.proofs.Lists.Members.{among-permutation, among-map, among-unmap, among-pieces, among_known, known_is_among}
+use Rattle.tl_county.proofs.Lists.OfNumber.{of_number-among}
+use Rattle.ordered_lists.proofs.Lists.Permutations.{in_order-is_permutation, apart-permutation_of}
 use Rattle.tl_number.specs.Arrangement.{Arrangement, Arranges, arranged_tlids, entries_of, chains_in_order, placed}
 use Rattle.tl_number.specs.Arrangement.{nodes_in_order, polygons_in_order, under_cenid, new_keys, names_in_order}
 use Rattle.tl_number.specs.Arrangement.{landmarks_in_order, links_relinked, turned_tlids, renaming_of, arranged}
 use Rattle.tl_number.specs.Growth.{numbered, up_to}
 use Rattle.tl_number.specs.Uses.{all_uses, name_key, name_key_cmp, landmark_key, landmark_key_cmp}
 use Rattle.tl_number.proofs.Lists.Counting.{up_to-strict}
-use Rattle.tl_county.proofs.Lists.Counted.{rights-numbered_from}
+use Rattle.tl_county.proofs.Packing.Pieces.{rights-numbered_from}
 use Rattle.tl_number.proofs.Numbering.FirstSeen.{first_seen-apart, from_first_seen, to_first_seen}
 use Rattle.tl_number.proofs.Arrangements.Placed.{lefts-numbered, rights-numbered, steps_apart, order-permutation, placed_tlids, carried_placed}
 use Rattle.tl_number.proofs.Arrangements.Placed.{turned_apart, turned_known}

@@ -9,24 +9,26 @@ use Rattle.tl_shape.specs.Chain.{Chain}
 use Rattle.tl_shape.specs.Turned.{turned_if}
 use Rattle.tl_county.specs.County.{County}
 use Rattle.tl_county.specs.CountyRules.{IsCounty, tlids}
-use Rattle.tl_county.specs.Orders.{times, stands_in}
+use Rattle.ordered_lists.specs.Orders.{times, stands_in}
 use Rattle.tl_county.specs.Packing.{numbered_from}
 use Rattle.tl_county.specs.PolygonKeys.{PolygonKey, key_cmp}
-use Rattle.tl_county.specs.Renumbering.{Renumbering, image, turns, renumbered, carried_chain}
-use Rattle.tl_county.proofs.ByKey.KeyOrders.{key_keys}
-use Rattle.tl_county.proofs.ByKey.Keys.{IsApart, Known, nat_keys, times-yes, times-no}
-use Rattle.tl_county.proofs.ByKey.Keys.{apart_tail, apart_from_sorted, apart-permutation, known-permutation, known-permutation_to}
-use Rattle.tl_county.proofs.ByKey.Keys.{known_cases, known-here, known-later, image-yes, image-no, images-lefts}
-use Rattle.tl_county.proofs.ByKey.Keys.{same_or_not, differ}
-use Rattle.tl_county.proofs.Lists.Elements.{map-map, map_agree_all, all_weaker}
-use Rattle.tl_county.proofs.ByKey.Numbers.{times-of_number, only_one, of_number-all}
-use Rattle.tl_county.proofs.Lists.Permutations.{groups-permutation}
+use Rattle.tl_county.specs.Renumbering.{Renumbering, turns, renumbered, carried_chain}
+use Rattle.ordered_lists.specs.Pairs.{image}
+use Rattle.tl_county.specs.Laws.KeyOrders.{key_keys}
+use Rattle.ordered_lists.proofs.ByKey.Keys.{IsApart, Known, nat_keys, times-yes, times-no}
+use Rattle.ordered_lists.proofs.ByKey.Keys.{apart_tail, apart_from_sorted, apart-permutation, known-permutation, known-permutation_to}
+use Rattle.ordered_lists.proofs.ByKey.Keys.{known_cases, known-here, known-later, image-yes, image-no, images-lefts}
+use Rattle.ordered_lists.proofs.ByKey.Keys.{same_or_not, differ}
+use Rattle.ordered_lists.proofs.Lists.Elements.{map-map, map_agree_all, all_weaker}
+use Rattle.tl_county.proofs.Lists.OfNumber.{times-of_number, of_number-all}
+use Rattle.ordered_lists.proofs.ByKey.Numbers.{only_one}
+use Rattle.tl_county.proofs.Lists.OfNumber.{groups-permutation}
 use Rattle.tl_county.proofs.Sameness.Equivalence.{keys_known}
 use Rattle.tl_number.specs.Arrangement.{Arrangement, Arranges, arranged_tlids, entries_of, chains_in_order, placed, under_cenid}
 use Rattle.tl_number.specs.Arrangement.{turned_tlids}
 use Rattle.tl_number.specs.Growth.{numbered, up_to}
 use Rattle.tl_number.proofs.Lists.Counting.{entries_equal}
-use Rattle.tl_county.proofs.Lists.Counted.{lefts-numbered_from, rights-numbered_from}
+use Rattle.tl_county.proofs.Packing.Pieces.{lefts-numbered_from, rights-numbered_from}
 use Rattle.tl_number.proofs.Numbering.FirstSeen.{place_from, place-here, place-later}
 use Rattle.tl_number.proofs.Unique.SameNumbers.{kept_entry}
 

@@ -11,18 +11,18 @@ use Rattle.tl_shape.specs.Chain.{Chain}
 use Rattle.tl_county.specs.County.{County}
 use Rattle.tl_county.specs.CountyRules.{IsCounty, AllKeysStandIn, chain_polygons, polygon_keys, polygons_along}
 use Rattle.tl_county.specs.Limits.{IsWithinLimits, most_records}
-use Rattle.tl_county.specs.Orders.{times, stands_in}
+use Rattle.ordered_lists.specs.Orders.{times, stands_in}
 use Rattle.tl_county.specs.Packing.{packed, packed_by_type, packed_five, packed_one, packed_sevens}
 use Rattle.tl_county.specs.PolygonKeys.{PolygonKey}
-use Rattle.tl_county.proofs.Lists.Counted.{few_in_groups}
-use Rattle.tl_county.proofs.Rules.FirstFault.{Among}
-use Rattle.tl_county.proofs.ByKey.KeyOrders.{key_keys}
-use Rattle.tl_county.proofs.ByKey.Keys.{IsApart, IsKeyOrder, apart_from_sorted, same-itself}
-use Rattle.tl_county.proofs.Lists.Elements.{all_weaker}
-use Rattle.tl_county.proofs.Lists.Members.{known_is_among}
-use Rattle.tl_county.proofs.Packing.PackedTypes.{by_type_of}
-use Rattle.tl_county.proofs.Lists.Reordered.{to_filter}
-use Rattle.tl_county.proofs.Packing.TypeCounts.{HasAtMost, by_type_within}
+use Rattle.ordered_lists.proofs.Lists.Counted.{few_in_groups}
+use Rattle.ordered_lists.proofs.Lists.Among.{Among}
+use Rattle.tl_county.specs.Laws.KeyOrders.{key_keys}
+use Rattle.ordered_lists.proofs.ByKey.Keys.{IsApart, IsKeyOrder, apart_from_sorted, same-itself}
+use Rattle.ordered_lists.proofs.Lists.Elements.{all_weaker}
+use Rattle.ordered_lists.proofs.Lists.Members.{known_is_among}
+use Rattle.tl_county.specs.Laws.PackedTypes.{by_type_of}
+use Rattle.ordered_lists.proofs.Lists.Reordered.{to_filter}
+use Rattle.tl_county.specs.Laws.TypeCounts.{HasAtMost, by_type_within}
 use Rattle.tl_number.proofs.Arrangements.ArrangedNumbers.{few_polygons, long_joined, short_joined}
 
 -- the places of chains, names, polygons and landmarks fit into 32 bits

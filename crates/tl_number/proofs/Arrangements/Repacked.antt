@@ -19,15 +19,16 @@ use Rattle.tl_county.specs.LinkRules.{IsLinked, chain_tlids, linked_tlids}
 use Rattle.tl_county.specs.declared.fault.LinkFault.TheVariants.{NoChain}
 use Rattle.tl_county.specs.declared.fault.LinkedType.{LinkedType}
 use Rattle.tl_county.specs.declared.fault.LinkedType.TheVariants.{Two, Four, Six, I}
-use Rattle.tl_county.specs.Orders.{times, stands_in, IsInOrder, in_order, distinct}
-use Rattle.tl_county.proofs.Lists.Distinct.{known-distinct}
-use Rattle.tl_county.proofs.Lists.InOrder.{in_order-itself, in_order-from_strict}
-use Rattle.tl_county.proofs.ByKey.Keys.{Known, nat_keys, all_known}
+use Rattle.ordered_lists.specs.Orders.{times, stands_in, IsInOrder, in_order, distinct}
+use Rattle.ordered_lists.proofs.Lists.Distinct.{known-distinct}
+use Rattle.ordered_lists.proofs.Lists.InOrder.{in_order-itself, in_order-from_strict}
+use Rattle.ordered_lists.proofs.ByKey.Keys.{Known, nat_keys, all_known}
 use Rattle.tl_county.proofs.Rules.LinkedCounty.{needed, apart_chains, the_link}
-use Rattle.tl_county.proofs.Lists.Elements.{map-map, map_agree_all, all_unmap}
-use Rattle.tl_county.proofs.ByKey.Numbers.{of_number-all, distinct-strict, strict_from_order}
+use Rattle.ordered_lists.proofs.Lists.Elements.{map-map, map_agree_all, all_unmap}
+use Rattle.tl_county.proofs.Lists.OfNumber.{of_number-all}
+use Rattle.ordered_lists.proofs.ByKey.Numbers.{distinct-strict, strict_from_order}
 use Rattle.std.proofs.lemmas.Bool.{ltb-true, lt-ltb}
-use Rattle.tl_county.proofs.Lists.InOrder.{in_order-map}
+use Rattle.ordered_lists.proofs.Lists.InOrder.{in_order-map}
 use Rattle.tl_number.specs.Canonical.{StandsInOrder, IsPacked, seven_cmp}
 use Rattle.tl_number.specs.Growth.{up_to}
 use Rattle.tl_county.specs.Packing.{in_pieces, numbered_from, last_point, without_last, packed_one, packed_twos, packed_fours}

@@ -16,18 +16,18 @@ use Rattle.tl_county.specs.County.{p_key, side_keys, polygon_body, polygons_of, 
 use Rattle.tl_county.specs.CountyRules.{polygon_keys, polygons_along}
 use Rattle.tl_county.specs.LinkRules.{IsLinked}
 use Rattle.tl_county.specs.declared.fault.LinkFault.TheVariants.{PolygonTwice}
-use Rattle.tl_county.specs.Orders.{times, stands_in, IsInOrder, in_order, distinct}
+use Rattle.ordered_lists.specs.Orders.{times, stands_in, IsInOrder, in_order, distinct}
 use Rattle.tl_county.specs.PolygonKeys.{PolygonKey, key_cmp}
-use Rattle.tl_county.proofs.Lists.Distinct.{known-distinct, apart-distinct}
-use Rattle.tl_county.proofs.Rules.FirstFault.{Among, all_among}
-use Rattle.tl_county.proofs.Lists.InOrder.{in_order-itself, in_order-in_order, strict-equal}
-use Rattle.tl_county.proofs.ByKey.KeyOrders.{key_keys}
+use Rattle.ordered_lists.proofs.Lists.Distinct.{known-distinct, apart-distinct}
+use Rattle.ordered_lists.proofs.Lists.Among.{Among, all_among}
+use Rattle.ordered_lists.proofs.Lists.InOrder.{in_order-itself, in_order-in_order, strict-equal}
+use Rattle.tl_county.specs.Laws.KeyOrders.{key_keys}
 use Rattle.tl_county.proofs.Rules.PolygonBodies.{first_body, body_found}
-use Rattle.tl_county.proofs.ByKey.Keys.{IsKeyOrder, Known, IsApart, nat_keys, times-yes, times-no, times-cons, same_or_not}
-use Rattle.tl_county.proofs.ByKey.Keys.{apart_tail, known_all, known-right}
+use Rattle.ordered_lists.proofs.ByKey.Keys.{IsKeyOrder, Known, IsApart, nat_keys, times-yes, times-no, times-cons, same_or_not}
+use Rattle.ordered_lists.proofs.ByKey.Keys.{apart_tail, known_all, known-right}
 use Rattle.tl_county.proofs.Rules.LinkedCounty.{keys-county}
-use Rattle.tl_county.proofs.Lists.Members.{among-map, among-unmap, among_known, known_is_among, in_filter_map, to_filter_map}
-use Rattle.tl_county.proofs.ByKey.Numbers.{times-in_order, from_in_order, to_in_order}
+use Rattle.ordered_lists.proofs.Lists.Members.{among-map, among-unmap, among_known, known_is_among, in_filter_map, to_filter_map}
+use Rattle.ordered_lists.proofs.ByKey.Numbers.{times-in_order, from_in_order, to_in_order}
 use Rattle.tl_number.specs.Canonical.{IsArrangedList, StandsInOrder, IsPacked}
 use Rattle.tl_county.specs.Packing.{by_type, type_after_type, packed_body, packed_p, p_polyid, packed, packed_by_type}
 use Rattle.tl_number.specs.ArrangedCounty.{IsArranged}

@@ -15,13 +15,14 @@ use Rattle.tl_shape.specs.Chain.{Chain}
 use Rattle.tl_county.specs.County.{County}
 use Rattle.tl_county.specs.CountyRules.{chain_nodes, chain_polygons}
 use Rattle.tl_county.specs.Limits.{FitsNumbers, NumbersFit}
-use Rattle.tl_county.specs.Orders.{in_order}
+use Rattle.ordered_lists.specs.Orders.{in_order}
 use Rattle.tl_county.specs.Packing.{in_pieces, numbered_from, inner_points, packed_one, packed_twos, packed_fours, packed_five}
 use Rattle.tl_county.specs.Packing.{packed_sixes, packed_sevens, packed_i, packed_body, packed_p, p_polyid, packed}
 use Rattle.tl_county.specs.PolygonKeys.{PolygonKey, key_on, key_under}
-use Rattle.tl_county.proofs.Lists.Counted.{all_in_pieces, all_numbered_from, all_selected}
-use Rattle.tl_county.proofs.Lists.Elements.{all_weaker, all_both, all_map, all_append, all_joined, all_everywhere, all_left, all_right}
-use Rattle.tl_county.proofs.ByKey.Numbers.{all-in_order}
+use Rattle.tl_county.proofs.Packing.Pieces.{all_in_pieces, all_numbered_from}
+use Rattle.ordered_lists.proofs.Lists.Counted.{all_selected}
+use Rattle.ordered_lists.proofs.Lists.Elements.{all_weaker, all_both, all_map, all_append, all_joined, all_everywhere, all_left, all_right}
+use Rattle.ordered_lists.proofs.ByKey.Numbers.{all-in_order}
 use Rattle.tl_number.specs.RecordNumbers.{numbers_of, greatest_number}
 
 abbrev pub IsSmall : ℕ → Type 0

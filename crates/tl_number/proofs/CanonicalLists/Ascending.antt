@@ -6,11 +6,12 @@ use Rattle.tl_layout.specs.declared.record_type.Record.{Record}
 use Rattle.tl_layout.specs.declared.type_p.BodyP.{BodyP}
 use Rattle.tl_county.specs.County.{County, county_of}
 use Rattle.tl_county.specs.CountyRules.{IsCounty, polygon_keys, polygons_along, AllKeysStandIn}
-use Rattle.tl_county.specs.Orders.{times, stands_in}
+use Rattle.ordered_lists.specs.Orders.{times, stands_in}
 use Rattle.tl_county.specs.PolygonKeys.{PolygonKey, key_cmp}
-use Rattle.tl_county.proofs.Rules.FirstFault.{Among, all_among}
-use Rattle.tl_county.proofs.Rules.LinkedCounty.{county-is_county, each_from}
-use Rattle.tl_county.proofs.Lists.Members.{among-unmap}
+use Rattle.ordered_lists.proofs.Lists.Among.{Among, all_among}
+use Rattle.tl_county.proofs.Rules.LinkedCounty.{county-is_county}
+use Rattle.ordered_lists.proofs.ByKey.Numbers.{each_from}
+use Rattle.ordered_lists.proofs.Lists.Members.{among-unmap}
 use Rattle.tl_profile.specs.Choices.{choices, most_choices}
 use Rattle.tl_profile.specs.Profile.{IsInProfile}
 use Rattle.tl_profile.specs.declared.fault.ProfileFault.TheVariants.{TooSymmetric}

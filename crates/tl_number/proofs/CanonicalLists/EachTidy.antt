@@ -6,11 +6,12 @@ use Rattle.std.proofs.lemmas.List.Sorted.{IsPermutation-sym, IsPermutation-trans
 use Rattle.std.specs.List.{AllByRecursion}
 use Rattle.tl_county.specs.County.{County}
 use Rattle.tl_county.specs.CountyRules.{IsCounty, tlids, polygon_keys, polygons_along, AllKeysStandIn}
-use Rattle.tl_county.specs.Orders.{stands_in}
-use Rattle.tl_county.specs.Renumbering.{Renumbering, Carries, image, inverse, swapped, then, turns, exactly_one}
-use Rattle.tl_county.proofs.ByKey.Keys.{IsApart, Known, nat_keys, lefts, rights, apart_from_sorted, apart-permutation, images-lefts}
-use Rattle.tl_county.proofs.ByKey.Keys.{image-known, known-permutation, known-permutation_to, known_all}
-use Rattle.tl_county.proofs.Lists.Elements.{map-map, map_itself, all_unmap}
+use Rattle.ordered_lists.specs.Orders.{stands_in}
+use Rattle.tl_county.specs.Renumbering.{Renumbering, Carries, inverse, then, turns, exactly_one}
+use Rattle.ordered_lists.specs.Pairs.{image, swapped}
+use Rattle.ordered_lists.proofs.ByKey.Keys.{IsApart, Known, nat_keys, lefts, rights, apart_from_sorted, apart-permutation, images-lefts}
+use Rattle.ordered_lists.proofs.ByKey.Keys.{image-known, known-permutation, known-permutation_to, known_all}
+use Rattle.ordered_lists.proofs.Lists.Elements.{map-map, map_itself, all_unmap}
 use Rattle.tl_county.proofs.Sameness.Equivalence.{Follows, there_and_back, inverse_follows, inverse_carries, then_follows}
 use Rattle.tl_county.proofs.Sameness.Equivalence.{then_carries}
 use Rattle.tl_number.specs.Arrangement.{Arrangement, Arranges, arranged_tlids, renaming_of, arranged}

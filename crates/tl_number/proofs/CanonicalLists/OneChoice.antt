@@ -7,14 +7,14 @@ use Rattle.tl_layout.specs.declared.record_type.Record.{Record}
 use Rattle.tl_shape.specs.PointOrder.{points_cmp}
 use Rattle.tl_county.specs.County.{County, county_of}
 use Rattle.tl_county.specs.CountyRules.{IsCounty}
-use Rattle.tl_county.specs.Orders.{times}
+use Rattle.ordered_lists.specs.Orders.{times}
 use Rattle.tl_county.specs.Renumbering.{AreSame}
-use Rattle.tl_county.proofs.ByKey.KeyOrders.{points_keys}
-use Rattle.tl_county.proofs.ByKey.Keys.{IsKeyOrder, IsApart, times-yes, apart_tail, apart_from_sorted}
-use Rattle.tl_county.proofs.Lists.Distinct.{apart_from_no_repeat, has_repeat-apart}
-use Rattle.tl_county.proofs.Lists.Elements.{map_agree_all, all_weaker, all_map}
-use Rattle.tl_county.proofs.Lists.EntryLists.{in_order-strict}
-use Rattle.tl_county.proofs.Lists.InOrder.{strict-unmap}
+use Rattle.tl_county.specs.Laws.KeyOrders.{points_keys}
+use Rattle.ordered_lists.proofs.ByKey.Keys.{IsKeyOrder, IsApart, times-yes, apart_tail, apart_from_sorted}
+use Rattle.ordered_lists.proofs.Lists.Distinct.{apart_from_no_repeat, has_repeat-apart}
+use Rattle.ordered_lists.proofs.Lists.Elements.{map_agree_all, all_weaker, all_map}
+use Rattle.ordered_lists.proofs.Lists.EntryLists.{in_order-strict}
+use Rattle.ordered_lists.proofs.Lists.InOrder.{strict-unmap}
 use Rattle.tl_county.proofs.Rules.LinkedCounty.{county-is_county}
 use Rattle.tl_county.proofs.Sameness.Equivalence.{same-reflexive}
 use Rattle.tl_profile.specs.Choices.{choices, is_either_way, running, shapes}

@@ -11,13 +11,13 @@ use Rattle.tl_shape.specs.PointOrder.{points_cmp}
 use Rattle.tl_shape.specs.Turned.{turned_if}
 use Rattle.tl_county.specs.County.{County}
 use Rattle.tl_county.specs.CountyRules.{IsCounty, polygon_keys, polygons_along, AllKeysStandIn}
-use Rattle.tl_county.specs.Orders.{IsInOrder}
+use Rattle.ordered_lists.specs.Orders.{IsInOrder}
 use Rattle.tl_county.specs.Packing.{in_pieces, inner_points, numbered_from, packed_twos}
 use Rattle.tl_county.specs.Renumbering.{AreSame, Renumbering, carried_chain, turns}
-use Rattle.tl_county.proofs.ByKey.KeyOrders.{points_keys}
-use Rattle.tl_county.proofs.Lists.Elements.{all_map, map-map, map_agree_all, map_agree_everywhere}
-use Rattle.tl_county.proofs.Lists.InOrder.{in_order-equal}
-use Rattle.tl_county.proofs.Lists.Reordered.{SameElements, from_permutation, same-map, times-same}
+use Rattle.tl_county.specs.Laws.KeyOrders.{points_keys}
+use Rattle.ordered_lists.proofs.Lists.Elements.{all_map, map-map, map_agree_all, map_agree_everywhere}
+use Rattle.ordered_lists.proofs.Lists.InOrder.{in_order-equal}
+use Rattle.ordered_lists.proofs.Lists.Reordered.{SameElements, from_permutation, same-map, times-same}
 use Rattle.tl_profile.specs.Shapes.{least_points, points_from}
 use Rattle.tl_profile.proofs.ShapePoints.{least_reverse}
 use Rattle.tl_number.specs.ArrangedCounty.{IsArranged, IsTidy, entry_points}

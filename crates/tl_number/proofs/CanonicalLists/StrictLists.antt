@@ -10,16 +10,17 @@ use Rattle.tl_shape.specs.PointOrder.{points_cmp}
 use Rattle.tl_county.specs.MaskedCounty.{masked_chain, masked}
 use Rattle.tl_county.specs.County.{County, county_of}
 use Rattle.tl_county.specs.CountyRules.{IsCounty}
-use Rattle.tl_county.specs.Orders.{has_repeat}
+use Rattle.ordered_lists.specs.Orders.{has_repeat}
 use Rattle.tl_county.specs.Renumbering.{AreSame}
-use Rattle.tl_county.proofs.ByKey.KeyOrders.{points_keys}
-use Rattle.tl_county.proofs.ByKey.Numbers.{strict_from_order}
-use Rattle.tl_county.proofs.Lists.Distinct.{apart_from_no_repeat, has_repeat-apart}
-use Rattle.tl_county.proofs.Lists.Elements.{all_both, all_unmap, all_weaker, map-map}
-use Rattle.tl_county.proofs.Lists.InOrder.{strict-map}
-use Rattle.tl_county.proofs.Lists.Reordered.{SameElements, apart-same}
-use Rattle.tl_county.proofs.Rules.FirstFault.{all_among}
-use Rattle.tl_county.proofs.Rules.LinkedCounty.{county-is_county, each_from}
+use Rattle.tl_county.specs.Laws.KeyOrders.{points_keys}
+use Rattle.ordered_lists.proofs.ByKey.Numbers.{strict_from_order}
+use Rattle.ordered_lists.proofs.Lists.Distinct.{apart_from_no_repeat, has_repeat-apart}
+use Rattle.ordered_lists.proofs.Lists.Elements.{all_both, all_unmap, all_weaker, map-map}
+use Rattle.ordered_lists.proofs.Lists.InOrder.{strict-map}
+use Rattle.ordered_lists.proofs.Lists.Reordered.{SameElements, apart-same}
+use Rattle.ordered_lists.proofs.Lists.Among.{all_among}
+use Rattle.tl_county.proofs.Rules.LinkedCounty.{county-is_county}
+use Rattle.ordered_lists.proofs.ByKey.Numbers.{each_from}
 use Rattle.tl_county.proofs.Sameness.Equivalence.{same-symmetric, same-transitive}
 use Rattle.tl_profile.specs.Choices.{is_either_way, most_choices, shapes}
 use Rattle.tl_profile.specs.Profile.{AreAllOnSides, IsInProfile}

@@ -7,8 +7,8 @@ use Rattle.tl_county.specs.County.{County, county_of}
 use Rattle.tl_county.specs.CountyRules.{IsCounty, polygon_keys, polygons_along, AllKeysStandIn}
 use Rattle.tl_county.specs.Packing.{packed}
 use Rattle.tl_county.specs.Renumbering.{Carries, AreSame}
-use Rattle.tl_county.proofs.ByKey.KeyOrders.{bytes_keys}
-use Rattle.tl_county.proofs.ByKey.Keys.{order_antisymm, order_itself}
+use Rattle.ordered_lists.proofs.ByKey.KeyOrders.{bytes_keys}
+use Rattle.ordered_lists.proofs.ByKey.Keys.{order_antisymm, order_itself}
 use Rattle.tl_county.proofs.Packing.PackedCounty.{packed_county}
 use Rattle.tl_county.proofs.Rules.LinkedCounty.{county-is_county}
 use Rattle.tl_county.proofs.Sameness.Equivalence.{same-symmetric, same-transitive}

@@ -16,10 +16,10 @@ use Rattle.tl_shape.specs.Turned.{turned_if}
 use Rattle.tl_county.specs.ChartWords.{chain_at, points_of}
 use Rattle.tl_county.specs.County.{County}
 use Rattle.tl_county.specs.CountyRules.{tlids}
-use Rattle.tl_county.specs.Orders.{in_order}
-use Rattle.tl_county.proofs.ByKey.KeyOrders.{points_keys}
-use Rattle.tl_county.proofs.ByKey.KeyedLists.{lt_reversed}
-use Rattle.tl_county.proofs.Lists.Elements.{all_unmap}
+use Rattle.ordered_lists.specs.Orders.{in_order}
+use Rattle.tl_county.specs.Laws.KeyOrders.{points_keys}
+use Rattle.ordered_lists.proofs.ByKey.KeyedLists.{lt_reversed}
+use Rattle.ordered_lists.proofs.Lists.Elements.{all_unmap}
 use Rattle.tl_profile.specs.ShapeOrder.{AreWalksInOrder, least_walk, points_along, walk_cmp}
 use Rattle.tl_profile.specs.Shapes.{least_points, points_from}
 use Rattle.tl_number.specs.Arrangement.{ascending, entry_shape, comes_turned}

@@ -9,14 +9,14 @@ use Rattle.std.proofs.lemmas.Nat.{mod_below, mod-mul-add, div-mul-add, mul-add-l
 use Rattle.std.specs.Cmp.{IsTotalOrder}
 use Rattle.std.specs.List.{AllByRecursion, insert}
 use Rattle.std.specs.Ordering.{on}
-use Rattle.tl_county.specs.Orders.{times, IsInOrder, in_order}
-use Rattle.tl_county.proofs.ByKey.Keys.{IsKeyOrder, Known, nat_keys, same_or_not, times-yes, times-no, times-permutation, known_all}
-use Rattle.tl_county.proofs.ByKey.Keys.{all_known, order_antisymm, order_itself}
-use Rattle.tl_county.proofs.ByKey.Numbers.{count-in_order}
-use Rattle.tl_county.proofs.Lists.Counted.{all_take, all_drop}
-use Rattle.tl_county.proofs.Lists.Elements.{map-map, all_append, all_map, all_unmap}
-use Rattle.tl_county.proofs.Lists.InOrder.{in_order-in_order, in_order-equal, not_greater}
-use Rattle.tl_county.proofs.Lists.Permutations.{in_order-is_permutation}
+use Rattle.ordered_lists.specs.Orders.{times, IsInOrder, in_order}
+use Rattle.ordered_lists.proofs.ByKey.Keys.{IsKeyOrder, Known, nat_keys, same_or_not, times-yes, times-no, times-permutation, known_all}
+use Rattle.ordered_lists.proofs.ByKey.Keys.{all_known, order_antisymm, order_itself}
+use Rattle.ordered_lists.proofs.ByKey.Numbers.{count-in_order}
+use Rattle.ordered_lists.proofs.Lists.Counted.{all_take, all_drop}
+use Rattle.ordered_lists.proofs.Lists.Elements.{map-map, all_append, all_map, all_unmap}
+use Rattle.ordered_lists.proofs.Lists.InOrder.{in_order-in_order, in_order-equal, not_greater}
+use Rattle.ordered_lists.proofs.Lists.Permutations.{in_order-is_permutation}
 use Rattle.tl_profile.specs.Choices.{running}
 use Rattle.tl_number.specs.NumberedChoices.{turned_by, stood, chosen}
 

@@ -8,9 +8,9 @@ use Rattle.std.specs.List.{AllByRecursion, insert}
 use Rattle.tl_shape.specs.PointOrder.{points_cmp}
 use Rattle.tl_county.specs.County.{County}
 use Rattle.tl_county.specs.CountyRules.{IsCounty, tlids}
-use Rattle.tl_county.specs.Orders.{times}
-use Rattle.tl_county.proofs.ByKey.KeyOrders.{points_keys}
-use Rattle.tl_county.proofs.ByKey.Keys.{IsKeyOrder, nat_keys, times-permutation}
+use Rattle.ordered_lists.specs.Orders.{times}
+use Rattle.tl_county.specs.Laws.KeyOrders.{points_keys}
+use Rattle.ordered_lists.proofs.ByKey.Keys.{IsKeyOrder, nat_keys, times-permutation}
 use Rattle.tl_profile.specs.Choices.{is_either_way, is_settled, open_places, place_of}
 use Rattle.tl_profile.specs.ShapeOrder.{AreWalksInOrder, points_along}
 use Rattle.tl_profile.specs.declared.directed_chain.DirectedChain.{DirectedChain}

@@ -4,7 +4,7 @@ use Rattle.std.proofs.Common.{Ordering, Some, None, slice_get, sym, refl, ap, â—
 use Rattle.std.proofs.lemmas.Bool.{ltb-true, ltb-false}
 use Rattle.std.proofs.lemmas.List.Sorted.{length_permutation, IsPermutation-insert}
 use Rattle.std.specs.List.{AllByRecursion, insert}
-use Rattle.tl_county.proofs.Lists.Elements.{all_weaker}
+use Rattle.ordered_lists.proofs.Lists.Elements.{all_weaker}
 use Rattle.tl_profile.specs.Choices.{is_settled, open_places, place_of}
 use Rattle.tl_profile.specs.declared.open_places.OpenPlace.{OpenPlace}
 use Rattle.tl_number.specs.MovedSteps.{AgreeApart, AreWithin, IsApart, IsWithin, StandInOrder}

@@ -8,8 +8,8 @@ use Rattle.tl_county.specs.County.{County}
 use Rattle.tl_county.specs.CountyRules.{IsCounty, polygon_keys, polygons_along, AllKeysStandIn}
 use Rattle.tl_county.specs.Packing.{packed}
 use Rattle.tl_county.specs.Renumbering.{AreSame}
-use Rattle.tl_county.proofs.ByKey.KeyOrders.{bytes_keys}
-use Rattle.tl_county.proofs.Lists.InOrder.{not_greater}
+use Rattle.ordered_lists.proofs.ByKey.KeyOrders.{bytes_keys}
+use Rattle.ordered_lists.proofs.Lists.InOrder.{not_greater}
 use Rattle.tl_county.proofs.Sameness.Equivalence.{same-symmetric, same-transitive}
 use Rattle.tl_profile.specs.Choices.{choices}
 use Rattle.std.proofs.lemmas.Cmp.{upto}

@@ -9,7 +9,7 @@ use Rattle.tl_county.specs.County.{County}
 use Rattle.tl_county.specs.CountyRules.{IsCounty, polygon_keys, polygons_along, AllKeysStandIn}
 use Rattle.tl_county.specs.Limits.{IsWithinLimits, most_records}
 use Rattle.tl_county.specs.Packing.{packed}
-use Rattle.tl_county.proofs.Lists.InOrder.{not_greater}
+use Rattle.ordered_lists.proofs.Lists.InOrder.{not_greater}
 use Rattle.tl_profile.specs.Choices.{is_either_way, open_places}
 use Rattle.tl_profile.specs.ShapeOrder.{AreWalksInOrder, points_along}
 use Rattle.tl_profile.specs.declared.directed_chain.DirectedChain.{DirectedChain}

@@ -5,7 +5,7 @@ use Rattle.std.proofs.lemmas.Bool.{and_parts, not-true, eqb-true}
 use Rattle.std.proofs.lemmas.List.{append_assoc, length-append, length-take, set_split, set-get_or}
 use Rattle.std.proofs.Math.Seq.{take-append-add, drop-append-add, take-append_seam, drop-append_seam}
 use Rattle.std.specs.List.{insert, remove}
-use Rattle.tl_county.specs.Orders.{times}
+use Rattle.ordered_lists.specs.Orders.{times}
 use Rattle.tl_profile.specs.Choices.{open_places}
 use Rattle.tl_profile.specs.declared.open_places.OpenPlace.{OpenPlace}
 use Rattle.tl_number.specs.NumberedChoices.{turned_by, stood, chosen, first_stood, moved_at, moved}

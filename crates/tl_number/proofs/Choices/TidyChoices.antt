@@ -13,18 +13,18 @@ use Rattle.tl_shape.specs.PointOrder.{points_cmp}
 use Rattle.tl_shape.specs.Turned.{turned_if}
 use Rattle.tl_county.specs.County.{County}
 use Rattle.tl_county.specs.CountyRules.{IsCounty, tlids}
-use Rattle.tl_county.specs.Orders.{IsInOrder, in_order}
-use Rattle.tl_county.proofs.ByKey.KeyOrders.{points_keys}
-use Rattle.tl_county.proofs.ByKey.Keys.{Known, nat_keys, same-true, same-itself, times-permutation, known-permutation_to, order_antisymm}
-use Rattle.tl_county.proofs.ByKey.Numbers.{from_in_order}
-use Rattle.tl_county.proofs.Lists.Counted.{rights-numbered_from}
-use Rattle.tl_county.proofs.Lists.Elements.{map-map, map_agree_all, all_weaker, all_both, all_map, all_unmap}
-use Rattle.tl_county.proofs.Lists.InOrder.{in_order-in_order, in_order-map}
-use Rattle.tl_county.proofs.Lists.Members.{among_known, among-map}
-use Rattle.tl_county.proofs.Lists.Permutations.{in_order-is_permutation}
-use Rattle.tl_county.proofs.Lists.Reordered.{to_filter, from_permutation}
-use Rattle.tl_county.proofs.Rules.FirstFault.{Among}
-use Rattle.tl_county.proofs.Rules.LinkedCounty.{each_from}
+use Rattle.ordered_lists.specs.Orders.{IsInOrder, in_order}
+use Rattle.tl_county.specs.Laws.KeyOrders.{points_keys}
+use Rattle.ordered_lists.proofs.ByKey.Keys.{Known, nat_keys, same-true, same-itself, times-permutation, known-permutation_to, order_antisymm}
+use Rattle.ordered_lists.proofs.ByKey.Numbers.{from_in_order}
+use Rattle.tl_county.proofs.Packing.Pieces.{rights-numbered_from}
+use Rattle.ordered_lists.proofs.Lists.Elements.{map-map, map_agree_all, all_weaker, all_both, all_map, all_unmap}
+use Rattle.ordered_lists.proofs.Lists.InOrder.{in_order-in_order, in_order-map}
+use Rattle.ordered_lists.proofs.Lists.Members.{among_known, among-map}
+use Rattle.ordered_lists.proofs.Lists.Permutations.{in_order-is_permutation}
+use Rattle.ordered_lists.proofs.Lists.Reordered.{to_filter, from_permutation}
+use Rattle.ordered_lists.proofs.Lists.Among.{Among}
+use Rattle.ordered_lists.proofs.ByKey.Numbers.{each_from}
 use Rattle.tl_county.proofs.Sameness.Equivalence.{keys_known}
 use Rattle.tl_profile.specs.Choices.{choices, is_either_way, running, shapes}
 use Rattle.tl_profile.specs.Shapes.{least_points, points_from}

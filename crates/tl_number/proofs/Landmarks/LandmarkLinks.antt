@@ -18,12 +18,13 @@ use Rattle.tl_county.specs.BodyOrder.{link_cmp}
 use Rattle.tl_county.specs.ChartWords.{links_with, links_at}
 use Rattle.tl_county.specs.County.{County, eight_land}
 use Rattle.tl_county.specs.CountyRules.{IsCounty, lands}
-use Rattle.tl_county.specs.Orders.{IsInOrder, in_order, times, stands_in}
-use Rattle.tl_county.proofs.Lists.InOrder.{in_order-in_order, in_order-permutation}
-use Rattle.tl_county.proofs.ByKey.KeyOrders.{link_keys}
-use Rattle.tl_county.proofs.ByKey.Keys.{Known, nat_keys, apart_from_sorted}
-use Rattle.tl_county.proofs.Lists.Elements.{map_itself, all_weaker}
-use Rattle.tl_county.proofs.Lists.Permutations.{groups-permutation, in_order-is_permutation}
+use Rattle.ordered_lists.specs.Orders.{IsInOrder, in_order, times, stands_in}
+use Rattle.ordered_lists.proofs.Lists.InOrder.{in_order-in_order, in_order-permutation}
+use Rattle.tl_county.specs.Laws.KeyOrders.{link_keys}
+use Rattle.ordered_lists.proofs.ByKey.Keys.{Known, nat_keys, apart_from_sorted}
+use Rattle.ordered_lists.proofs.Lists.Elements.{map_itself, all_weaker}
+use Rattle.tl_county.proofs.Lists.OfNumber.{groups-permutation}
+use Rattle.ordered_lists.proofs.Lists.Permutations.{in_order-is_permutation}
 use Rattle.tl_number.specs.ViewFacts.{links_up_to}
 use Rattle.tl_number.proofs.Views.StepChains.{flat_map-map}
 

@@ -18,17 +18,17 @@ use Rattle.tl_county.specs.BodyOrder.{landmark_body_cmp, link_cmp, link_part, li
 use Rattle.tl_county.specs.ChartWords.{bodies_at, links_with}
 use Rattle.tl_county.specs.County.{County, eight_land, link_key}
 use Rattle.tl_county.specs.CountyRules.{IsCounty, lands}
-use Rattle.tl_county.specs.Entries.{entry_keys}
-use Rattle.tl_county.specs.Orders.{IsInOrder, in_order, times, stands_in, has_repeat}
+use Rattle.ordered_lists.specs.Entries.{entry_keys}
+use Rattle.ordered_lists.specs.Orders.{IsInOrder, in_order, times, stands_in, has_repeat}
 use Rattle.tl_county.specs.PolygonKeys.{PolygonKey, key_cmp}
-use Rattle.tl_county.specs.Renumbering.{image}
-use Rattle.tl_county.proofs.Lists.Distinct.{has_repeat-apart}
-use Rattle.tl_county.proofs.Lists.InOrder.{in_order-in_order, in_order-equal}
-use Rattle.tl_county.proofs.ByKey.KeyOrders.{landmark_body_keys, link_part_keys, link_keys}
-use Rattle.tl_county.proofs.ByKey.Keys.{IsApart, Known, nat_keys, apart_from_sorted, apart-permutation, image-injective}
-use Rattle.tl_county.proofs.Lists.Elements.{map-map, all_weaker, all_map}
-use Rattle.tl_county.proofs.Lists.Members.{among_known}
-use Rattle.tl_county.proofs.Lists.Permutations.{in_order-is_permutation}
+use Rattle.ordered_lists.specs.Pairs.{image}
+use Rattle.ordered_lists.proofs.Lists.Distinct.{has_repeat-apart}
+use Rattle.ordered_lists.proofs.Lists.InOrder.{in_order-in_order, in_order-equal}
+use Rattle.tl_county.specs.Laws.KeyOrders.{landmark_body_keys, link_part_keys, link_keys}
+use Rattle.ordered_lists.proofs.ByKey.Keys.{IsApart, Known, nat_keys, apart_from_sorted, apart-permutation, image-injective}
+use Rattle.ordered_lists.proofs.Lists.Elements.{map-map, all_weaker, all_map}
+use Rattle.ordered_lists.proofs.Lists.Members.{among_known}
+use Rattle.ordered_lists.proofs.Lists.Permutations.{in_order-is_permutation}
 use Rattle.tl_number.specs.Arrangement.{Arrangement, landmarks_in_order, links_relinked, relinked, new_keys, polygons_in_order}
 use Rattle.tl_number.specs.Growth.{numbered, up_to}
 use Rattle.tl_number.specs.LandmarkItems.{link_under, lands_at, numbered_links, own_links, landmark_place_cmp}

@@ -11,8 +11,8 @@ use Rattle.std.specs.Ordering.{on, MatchOrdering}
 use Rattle.tl_layout.specs.Fields.{Fields8}
 use Rattle.tl_county.specs.ChartWords.{links_with}
 use Rattle.tl_county.specs.County.{eight_land}
-use Rattle.tl_county.specs.Orders.{IsInOrder}
-use Rattle.tl_county.proofs.Lists.Elements.{all_weaker}
+use Rattle.ordered_lists.specs.Orders.{IsInOrder}
+use Rattle.ordered_lists.proofs.Lists.Elements.{all_weaker}
 use Rattle.tl_number.specs.Growth.{up_to}
 use Rattle.tl_number.specs.ViewFacts.{links_up_to, link_bounds}
 use Rattle.tl_number.proofs.Views.ViewNumbers.{get_up_to, none_up_to}

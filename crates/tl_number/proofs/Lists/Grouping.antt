@@ -8,9 +8,9 @@ use Rattle.std.specs.List.{AllByRecursion, range_with_len}
 use Rattle.std.specs.List.Sorted.{IsStrictlySortedBy}
 use Rattle.std.specs.Ordering.{on, MatchOrdering, ordering_then}
 use Rattle.tl_layout.specs.ByType.{of_number}
-use Rattle.tl_county.specs.Orders.{IsInOrder}
-use Rattle.tl_county.proofs.ByKey.Keys.{Known, nat_keys, known_cases, known_all}
-use Rattle.tl_county.proofs.Lists.Elements.{all_weaker, all_filter}
+use Rattle.ordered_lists.specs.Orders.{IsInOrder}
+use Rattle.ordered_lists.proofs.ByKey.Keys.{Known, nat_keys, known_cases, known_all}
+use Rattle.ordered_lists.proofs.Lists.Elements.{all_weaker, all_filter}
 use Rattle.tl_number.specs.Canonical.{AreFull}
 use Rattle.tl_county.specs.Packing.{pieces, numbered_from}
 

@@ -10,17 +10,17 @@ use Rattle.tl_shape.specs.Chain.{Chain}
 use Rattle.tl_shape.specs.PointOrder.{points_cmp}
 use Rattle.tl_county.specs.County.{County}
 use Rattle.tl_county.specs.CountyRules.{has_body}
-use Rattle.tl_county.specs.Orders.{IsInOrder, stands_in}
+use Rattle.ordered_lists.specs.Orders.{IsInOrder, stands_in}
 use Rattle.tl_county.specs.PolygonKeys.{key_cmp}
 use Rattle.tl_county.specs.MaskedCounty.{masked_chain, masked}
-use Rattle.tl_county.specs.MaskedLaws.{sides_masked}
+use Rattle.tl_county.specs.Laws.MaskedCounties.{sides_masked}
 use Rattle.tl_county.proofs.Masks.MaskedReads.{chain_count_masked, points_masked}
 use Rattle.tl_profile.specs.Profile.{is_clause_broken, IsInProfile}
 use Rattle.tl_profile.specs.Choices.{choices, is_either_way, most_choices, open_places, running}
 use Rattle.tl_profile.specs.ShapeOrder.{least_walk, least_walks, points_along, walk_cmp, AreWalksInOrder, IsShapeOrder, OrderOfShapes}
 use Rattle.tl_profile.specs.Shapes.{least_points, points_at, points_from}
 use Rattle.tl_profile.proofs.SameChoices.{choices_of_shapes}
-use Rattle.tl_county.proofs.Lists.Elements.{map-map}
+use Rattle.ordered_lists.proofs.Lists.Elements.{map-map}
 use Rattle.tl_profile.specs.declared.directed_chain.DirectedChain.{DirectedChain}
 use Rattle.tl_profile.specs.declared.fault.ProfileFault.{ProfileFault}
 use Rattle.tl_profile.specs.declared.fault.ProfileFault.TheVariants.{PolygonWithoutChain, TooSymmetric, Memory}

@@ -21,11 +21,11 @@ use Rattle.tl_county.specs.BodyOrder.{name_body_cmp}
 use Rattle.tl_county.specs.ChartWords.{name_at}
 use Rattle.tl_county.specs.County.{County}
 use Rattle.tl_county.specs.CountyRules.{IsCounty, feats}
-use Rattle.tl_county.specs.Entries.{entry_keys}
-use Rattle.tl_county.specs.Orders.{IsInOrder, has_repeat, stands_in}
-use Rattle.tl_county.proofs.Lists.Distinct.{has_repeat-apart}
-use Rattle.tl_county.proofs.ByKey.KeyOrders.{name_body_keys}
-use Rattle.tl_county.proofs.ByKey.Keys.{IsKeyOrder, IsApart, nat_keys, times-append, times-yes, apart-permutation, apart_from_sorted}
+use Rattle.ordered_lists.specs.Entries.{entry_keys}
+use Rattle.ordered_lists.specs.Orders.{IsInOrder, has_repeat, stands_in}
+use Rattle.ordered_lists.proofs.Lists.Distinct.{has_repeat-apart}
+use Rattle.tl_county.specs.Laws.KeyOrders.{name_body_keys}
+use Rattle.ordered_lists.proofs.ByKey.Keys.{IsKeyOrder, IsApart, nat_keys, times-append, times-yes, apart-permutation, apart_from_sorted}
 use Rattle.tl_number.specs.Arrangement.{Arrangement, arranged_tlids, placed, names_in_order}
 use Rattle.tl_number.specs.Growth.{first_seen_after, first_seen}
 use Rattle.tl_number.specs.NameItems.{feats_along_steps, from_one, rank_of, ranked_at, ranked_cmp, ranked_place}

@@ -11,13 +11,13 @@ use Rattle.std.specs.Cmp.Lexicographic.{slice_cmp}
 use Rattle.std.specs.List.{AllByRecursion}
 use Rattle.std.specs.List.Sorted.{IsStrictlySortedBy}
 use Rattle.std.specs.Ordering.{ordering_then, ordering_reverse}
-use Rattle.tl_county.specs.Orders.{times, stands_in}
-use Rattle.tl_county.proofs.Rules.FirstFault.{Among, all_among}
-use Rattle.tl_county.proofs.ByKey.KeyOrders.{lists_keys}
-use Rattle.tl_county.proofs.ByKey.Keys.{Known, nat_keys, times-append, times-yes, times-no, known-right, known-here, same_or_not}
-use Rattle.tl_county.proofs.ByKey.Keys.{differ_apart}
-use Rattle.tl_county.proofs.Lists.Members.{among-map}
-use Rattle.tl_county.proofs.ByKey.Numbers.{times-of_number}
+use Rattle.ordered_lists.specs.Orders.{times, stands_in}
+use Rattle.ordered_lists.proofs.Lists.Among.{Among, all_among}
+use Rattle.ordered_lists.proofs.ByKey.KeyOrders.{lists_keys}
+use Rattle.ordered_lists.proofs.ByKey.Keys.{Known, nat_keys, times-append, times-yes, times-no, known-right, known-here, same_or_not}
+use Rattle.ordered_lists.proofs.ByKey.Keys.{differ_apart}
+use Rattle.ordered_lists.proofs.Lists.Members.{among-map}
+use Rattle.tl_county.proofs.Lists.OfNumber.{times-of_number}
 use Rattle.tl_number.specs.Growth.{first_seen_after}
 use Rattle.tl_number.specs.Uses.{Use, use_cmp, uses_of_name}
 use Rattle.tl_number.proofs.Lists.Counting.{less}

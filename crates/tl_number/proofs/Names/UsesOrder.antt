@@ -7,9 +7,9 @@ use Rattle.std.specs.List.{AllByRecursion}
 use Rattle.std.specs.List.Sorted.{IsStrictlySortedBy}
 use Rattle.std.specs.Ordering.{ordering_then}
 use Rattle.tl_shape.specs.Chain.{Chain}
-use Rattle.tl_county.proofs.Rules.FirstFault.{Among}
-use Rattle.tl_county.proofs.ByKey.KeyOrders.{pair_keys}
-use Rattle.tl_county.proofs.ByKey.Keys.{IsKeyOrder, nat_keys}
+use Rattle.ordered_lists.proofs.Lists.Among.{Among}
+use Rattle.ordered_lists.proofs.ByKey.KeyOrders.{pair_keys}
+use Rattle.ordered_lists.proofs.ByKey.Keys.{IsKeyOrder, nat_keys}
 use Rattle.tl_number.specs.Uses.{Use, use_cmp, uses_from, all_uses, uses_of_name}
 use Rattle.tl_number.proofs.Lists.Counting.{less}
 

@@ -3,9 +3,9 @@ use Rattle.std.proofs.Common.{◌≡◌, ◌⊎◌, ◌<◌, ◌≤◌, ◌+◌,
 use Rattle.std.proofs.Common.{cond, Ordering, is_eq, sym, refl, ap, ◌∙◌, subst, inl, inr, arith, append_assoc, append-nil}
 use Rattle.std.proofs.Common.{length-append}
 use Rattle.std.proofs.lemmas.Bool.{ltb-true, ltb-false}
-use Rattle.tl_county.specs.Orders.{times, stands_in}
-use Rattle.tl_county.proofs.ByKey.Keys.{IsKeyOrder, IsApart, Known, times-yes, times-no, times-append, known-left, known-right}
-use Rattle.tl_county.proofs.ByKey.Keys.{known-append, known_cases, known-here, known-later, same_or_not}
+use Rattle.ordered_lists.specs.Orders.{times, stands_in}
+use Rattle.ordered_lists.proofs.ByKey.Keys.{IsKeyOrder, IsApart, Known, times-yes, times-no, times-append, known-left, known-right}
+use Rattle.ordered_lists.proofs.ByKey.Keys.{known-append, known_cases, known-here, known-later, same_or_not}
 use Rattle.tl_number.specs.Growth.{GrowsFrom, Grows, first_seen_after, first_seen}
 
 module _ {K : Type 0} {cmp : K → K → Ordering} (o : IsKeyOrder cmp) where

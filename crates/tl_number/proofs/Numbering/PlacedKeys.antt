@@ -7,9 +7,9 @@ use Rattle.std.proofs.lemmas.Bool.{lt-ltb, false≢true}
 use Rattle.std.proofs.lemmas.List.{get_or-set_other, get_or-set_same}
 use Rattle.std.proofs.lemmas.Option.{none-some, same_Some}
 use Rattle.std.specs.List.{list_any, position}
-use Rattle.tl_county.specs.Orders.{times, stands_in}
+use Rattle.ordered_lists.specs.Orders.{times, stands_in}
 use Rattle.tl_county.proofs.ByKey.KeySets.{any-stands_in}
-use Rattle.tl_county.proofs.ByKey.Keys.{IsKeyOrder, same-itself}
+use Rattle.ordered_lists.proofs.ByKey.Keys.{IsKeyOrder, same-itself}
 use Rattle.tl_county.proofs.ByKey.PlacesOfCenids.{known_at}
 use Rattle.tl_number.specs.PlacedKeys.{AreApart, ArePlaced}
 use Rattle.tl_number.proofs.Numbering.SeenKeys.{place_found}

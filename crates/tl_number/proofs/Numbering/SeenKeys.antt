@@ -5,7 +5,7 @@ use Rattle.std.proofs.lemmas.Bool.{ltb-true}
 use Rattle.std.specs.List.{position, position_or_len}
 use Rattle.indexmap.specs.IndexSet.{insert_key}
 use Rattle.tl_county.proofs.ByKey.KeySets.{any-stands_in}
-use Rattle.tl_county.proofs.ByKey.Keys.{IsKeyOrder, same-true}
+use Rattle.ordered_lists.proofs.ByKey.Keys.{IsKeyOrder, same-true}
 use Rattle.tl_number.specs.Growth.{first_seen_after}
 
 module _ {K : Type 0} (eq : K → K → Bool) (cmp : K → K → Ordering) (same : (x y : K) → eq x y ≡ is_eq (cmp x y)) where

@@ -5,7 +5,7 @@ use Rattle.std.proofs.lemmas.Bool.{ltb-true, lt-ltb}
 use Rattle.std.proofs.lemmas.Option.{cond_some}
 use Rattle.std.specs.List.{list_any, position, position_or_len}
 use Rattle.indexmap.specs.IndexSet.{insert_key}
-use Rattle.tl_county.proofs.ByKey.Keys.{IsKeyOrder, same-itself}
+use Rattle.ordered_lists.proofs.ByKey.Keys.{IsKeyOrder, same-itself}
 use Rattle.tl_number.specs.Growth.{first_seen_after}
 use Rattle.tl_number.proofs.Numbering.FirstSeen.{seen_stays}
 

@@ -13,17 +13,18 @@ use Rattle.tl_layout.specs.declared.type_p.BodyP.{BodyP}
 use Rattle.tl_county.specs.ChartWords.{polygon_under}
 use Rattle.tl_county.specs.County.{County}
 use Rattle.tl_county.specs.CountyRules.{IsCounty, AllKeysStandIn, polygon_keys, polygons_along}
-use Rattle.tl_county.specs.Entries.{entry_keys, entry_values, value_under}
-use Rattle.tl_county.specs.Orders.{in_order}
+use Rattle.ordered_lists.specs.Entries.{entry_keys, entry_values, value_under}
+use Rattle.ordered_lists.specs.Orders.{in_order}
 use Rattle.tl_county.specs.PolygonKeys.{PolygonKey, key_cmp}
-use Rattle.tl_county.specs.Renumbering.{image, carried_polygon}
-use Rattle.tl_county.proofs.Lists.InOrder.{in_order-permutation, in_order-in_order, in_order-map, strict-map, strict-permutation}
-use Rattle.tl_county.proofs.ByKey.KeyOrders.{key_keys}
-use Rattle.tl_county.proofs.ByKey.Keys.{nat_keys, images-lefts, IsApart, rights, lefts}
-use Rattle.tl_county.proofs.Lists.Elements.{map-map}
-use Rattle.tl_county.proofs.Lists.EntryLists.{in_order-strict, value-at_place}
-use Rattle.tl_county.proofs.Lists.Permutations.{in_order-is_permutation}
-use Rattle.tl_county.proofs.Lists.ByPlace.{all_at}
+use Rattle.ordered_lists.specs.Pairs.{image}
+use Rattle.tl_county.specs.Renumbering.{carried_polygon}
+use Rattle.ordered_lists.proofs.Lists.InOrder.{in_order-permutation, in_order-in_order, in_order-map, strict-map, strict-permutation}
+use Rattle.tl_county.specs.Laws.KeyOrders.{key_keys}
+use Rattle.ordered_lists.proofs.ByKey.Keys.{nat_keys, images-lefts, IsApart, rights, lefts}
+use Rattle.ordered_lists.proofs.Lists.Elements.{map-map}
+use Rattle.ordered_lists.proofs.Lists.EntryLists.{in_order-strict, value-at_place}
+use Rattle.ordered_lists.proofs.Lists.Permutations.{in_order-is_permutation}
+use Rattle.ordered_lists.proofs.Lists.ByPlace.{all_at}
 use Rattle.tl_profile.proofs.PlacedOrder.{all_permuted}
 use Rattle.tl_number.specs.Arrangement.{Arrangement, Arranges, polygons_in_order, placed, renaming_of, arranged, under_cenid}
 use Rattle.tl_number.specs.ByNumber.{entry_polyid, polygons_by_number, under_number}

@@ -14,8 +14,8 @@ use Rattle.tl_county.specs.County.{County}
 use Rattle.tl_county.specs.CountyRules.{feats, lands}
 use Rattle.tl_county.specs.Limits.{IsWithinLimits, most_records}
 use Rattle.tl_county.specs.PolygonKeys.{PolygonKey}
-use Rattle.tl_county.proofs.Rules.LinkedCounty.{length-in_order}
-use Rattle.tl_county.proofs.ByKey.Numbers.{all-in_order}
+use Rattle.ordered_lists.proofs.ByKey.Numbers.{length-in_order}
+use Rattle.ordered_lists.proofs.ByKey.Numbers.{all-in_order}
 use Rattle.tl_number.specs.ByNumber.{entry_polyid, polygons_by_number}
 use Rattle.tl_county.specs.Packing.{packed_p, packed_body}
 use Rattle.tl_number.specs.CountyGroups.{type_p_by_number}

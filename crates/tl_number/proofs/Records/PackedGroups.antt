@@ -6,7 +6,7 @@ use Rattle.tl_layout.specs.Fields.{FieldsP}
 use Rattle.tl_layout.specs.declared.record_type.Record.TheVariants.{One, Two, Four, Five, Six, Seven, Eight, I, P}
 use Rattle.tl_layout.specs.declared.type_p.BodyP.{BodyP}
 use Rattle.tl_county.specs.County.{County}
-use Rattle.tl_county.specs.Orders.{in_order}
+use Rattle.ordered_lists.specs.Orders.{in_order}
 use Rattle.tl_county.specs.Packing.{packed_one, packed_twos, packed_fours, packed_five, packed_sixes, packed_sevens, packed_i, packed_p}
 use Rattle.tl_county.specs.Packing.{p_polyid, packed_body, packed}
 use Rattle.tl_county.specs.PolygonKeys.{PolygonKey}

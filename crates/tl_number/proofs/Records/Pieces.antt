@@ -5,7 +5,7 @@ use Rattle.std.proofs.lemmas.Grind.{div_ceil_times}
 use Rattle.std.proofs.lemmas.List.{length-drop, length-map, drop-drop}
 use Rattle.std.proofs.lemmas.Option.{slice_get-map}
 use Rattle.tl_county.specs.Packing.{pieces, in_pieces, numbered_from}
-use Rattle.tl_county.proofs.Lists.Counted.{length-numbered_from}
+use Rattle.tl_county.proofs.Packing.Pieces.{length-numbered_from}
 use Rattle.tl_number.proofs.Polygons.PolygonNumbers.{numbered_at}
 
 module _ {X : Type 0} (n : ℕ) where

@@ -4,9 +4,9 @@ use Rattle.std.proofs.Common.{Ordering, is_gt, sym, refl, ap, ◌∙◌, nat_cmp
 use Rattle.std.proofs.lemmas.Cmp.{nat_cmp_total, on_total, upto}
 use Rattle.std.specs.List.{AllByRecursion, cons_option}
 use Rattle.std.specs.Ordering.{on}
-use Rattle.tl_county.specs.Orders.{IsInOrder, put_in_order, in_order}
-use Rattle.tl_county.proofs.Lists.InOrder.{in_order-in_order}
-use Rattle.tl_county.proofs.Lists.Elements.{all_weaker}
+use Rattle.ordered_lists.specs.Orders.{IsInOrder, put_in_order, in_order}
+use Rattle.ordered_lists.proofs.Lists.InOrder.{in_order-in_order}
+use Rattle.ordered_lists.proofs.Lists.Elements.{all_weaker}
 use Rattle.tl_number.specs.Groups.{grouped}
 
 pub grouped_selected : {X Y : Type 0} (h : X → Option Y) (xs : List X) → grouped (map (λ x. option_to_list (h x)) xs) ≡ filter_map h xs

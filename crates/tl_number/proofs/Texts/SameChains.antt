@@ -11,11 +11,12 @@ use Rattle.tl_shape.specs.Chain.{Chain}
 use Rattle.tl_county.specs.BodyOrder.{link_cmp}
 use Rattle.tl_county.specs.County.{County, link_key}
 use Rattle.tl_county.specs.CountyRules.{IsCounty, nodes_along, polygons_along}
-use Rattle.tl_county.specs.Orders.{in_order}
+use Rattle.ordered_lists.specs.Orders.{in_order}
 use Rattle.tl_county.specs.Packing.{numbered_from}
 use Rattle.tl_county.specs.PolygonKeys.{PolygonKey, key_cmp}
-use Rattle.tl_county.specs.Renumbering.{Renumbering, image, renumbered, renumbered_polygon, side_of}
-use Rattle.tl_county.proofs.Lists.Elements.{map_agree_everywhere}
+use Rattle.tl_county.specs.Renumbering.{Renumbering, renumbered, renumbered_polygon, side_of}
+use Rattle.ordered_lists.specs.Pairs.{image}
+use Rattle.ordered_lists.proofs.Lists.Elements.{map_agree_everywhere}
 use Rattle.tl_cert.specs.PartsThere.{HaveSameEnds}
 use Rattle.tl_number.specs.Arrangement.{Arrangement, Arranges, arranged, landmarks_in_order, names_in_order, new_keys, nodes_in_order, placed}
 use Rattle.tl_number.specs.Arrangement.{relinked, renaming_of, under_cenid}

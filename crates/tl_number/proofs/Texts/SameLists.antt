@@ -12,10 +12,11 @@ use Rattle.tl_shape.specs.Chain.{Chain}
 use Rattle.tl_county.specs.ChartWords.{feats_of, ranges_of}
 use Rattle.tl_county.specs.County.{County}
 use Rattle.tl_county.specs.CountyRules.{IsCounty}
-use Rattle.tl_county.specs.Orders.{in_order}
+use Rattle.ordered_lists.specs.Orders.{in_order}
 use Rattle.tl_county.specs.Packing.{in_pieces, numbered_from, packed_five, packed_fours, packed_sixes}
-use Rattle.tl_county.specs.Renumbering.{Renumbering, image}
-use Rattle.tl_county.proofs.Lists.Elements.{map-map}
+use Rattle.tl_county.specs.Renumbering.{Renumbering}
+use Rattle.ordered_lists.specs.Pairs.{image}
+use Rattle.ordered_lists.proofs.Lists.Elements.{map-map}
 use Rattle.tl_number.specs.Arrangement.{names_in_order, renaming_of}
 use Rattle.tl_number.specs.CountyGroups.{type_4_by_chain, type_5_by_name, type_6_by_chain}
 use Rattle.tl_number.specs.Groups.{grouped}

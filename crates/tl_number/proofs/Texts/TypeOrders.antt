@@ -14,7 +14,7 @@ use Rattle.tl_county.specs.Packing.{packed, packed_by_type}
 use Rattle.tl_county.specs.Renumbering.{AreSame}
 use Rattle.tl_county.proofs.Limits.CarriedLimits.{carried_many}
 use Rattle.tl_county.proofs.Limits.FitsPacked.{packed-fits}
-use Rattle.tl_county.proofs.Packing.TypeCounts.{HasAsMany}
+use Rattle.tl_county.specs.Laws.TypeCounts.{HasAsMany}
 use Rattle.tl_number.specs.CountyGroups.{type_1_by_chain, type_2_by_chain, type_4_by_chain, type_5_by_name, type_6_by_chain}
 use Rattle.tl_number.specs.CountyGroups.{type_7_by_landmark, type_8_together, type_i_by_chain}
 use Rattle.tl_number.specs.CountyGroups.{types_1_to_4, types_5_to_7, types_8_to_p}

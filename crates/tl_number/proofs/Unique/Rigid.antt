@@ -10,14 +10,15 @@ use Rattle.tl_layout.specs.declared.type_p.BodyP.{BodyP}
 use Rattle.tl_shape.specs.Chain.{Chain}
 use Rattle.tl_county.specs.County.{County}
 use Rattle.tl_county.specs.CountyRules.{IsCounty, tlids, polygon_keys, polygons_along, chain_nodes, chain_polygons}
-use Rattle.tl_county.specs.Orders.{stands_in, times}
+use Rattle.ordered_lists.specs.Orders.{stands_in, times}
 use Rattle.tl_county.specs.PolygonKeys.{PolygonKey, key_cmp, key_on, key_under}
-use Rattle.tl_county.specs.Renumbering.{Renumbering, Carries, image, turns, renumbered, renumbered_polygon, carried_chain, carried_polygon}
+use Rattle.tl_county.specs.Renumbering.{Renumbering, Carries, turns, renumbered, renumbered_polygon, carried_chain, carried_polygon}
+use Rattle.ordered_lists.specs.Pairs.{image}
 use Rattle.tl_shape.specs.Turned.{turned_if}
-use Rattle.tl_county.proofs.Lists.InOrder.{strict-permutation, strict-map}
-use Rattle.tl_county.proofs.ByKey.KeyOrders.{key_keys}
-use Rattle.tl_county.proofs.ByKey.Keys.{Known, nat_keys, known_all}
-use Rattle.tl_county.proofs.Lists.Elements.{map-map, map_agree_all, all_both, all_pieces, all_left, all_right}
+use Rattle.ordered_lists.proofs.Lists.InOrder.{strict-permutation, strict-map}
+use Rattle.tl_county.specs.Laws.KeyOrders.{key_keys}
+use Rattle.ordered_lists.proofs.ByKey.Keys.{Known, nat_keys, known_all}
+use Rattle.ordered_lists.proofs.Lists.Elements.{map-map, map_agree_all, all_both, all_pieces, all_left, all_right}
 use Rattle.tl_county.proofs.Sameness.Equivalence.{keys_known}
 use Rattle.tl_number.specs.ArrangedCounty.{IsArranged}
 use Rattle.tl_number.proofs.Unique.SameNumbers.{kept_entry, KeepsChains, nodes_kept, polygons_kept}

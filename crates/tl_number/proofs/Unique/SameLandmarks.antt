@@ -15,14 +15,16 @@ use Rattle.tl_layout.specs.declared.type7.Body7.{Body7}
 use Rattle.tl_county.specs.BodyOrder.{LinkPart, link_part, link_part_cmp, link_cmp}
 use Rattle.tl_county.specs.County.{County, link_key}
 use Rattle.tl_county.specs.CountyRules.{IsAscending, IsClosed, lands, polygon_keys}
-use Rattle.tl_county.specs.Orders.{stands_in, times, IsInOrder}
+use Rattle.ordered_lists.specs.Orders.{stands_in, times, IsInOrder}
 use Rattle.tl_county.specs.PolygonKeys.{PolygonKey, key_cmp}
-use Rattle.tl_county.specs.Renumbering.{Renumbering, Carries, image, carried_landmark, carried_link}
-use Rattle.tl_county.proofs.Lists.InOrder.{in_order-equal, in_order-permutation, in_order-map}
-use Rattle.tl_county.proofs.ByKey.KeyOrders.{landmark_body_keys, link_part_keys, link_keys, pair_keys, lists_keys}
-use Rattle.tl_county.proofs.ByKey.Keys.{IsKeyOrder, Known, IsApart, nat_keys, lefts, rights, apart-permutation, known-permutation}
-use Rattle.tl_county.proofs.ByKey.Keys.{image-injective, apart_from_sorted, known_all, differ}
-use Rattle.tl_county.proofs.Lists.Elements.{map-map, map_agree_all, all_weaker, all_map}
+use Rattle.tl_county.specs.Renumbering.{Renumbering, Carries, carried_landmark, carried_link}
+use Rattle.ordered_lists.specs.Pairs.{image}
+use Rattle.ordered_lists.proofs.Lists.InOrder.{in_order-equal, in_order-permutation, in_order-map}
+use Rattle.tl_county.specs.Laws.KeyOrders.{landmark_body_keys, link_part_keys, link_keys}
+use Rattle.ordered_lists.proofs.ByKey.KeyOrders.{pair_keys, lists_keys}
+use Rattle.ordered_lists.proofs.ByKey.Keys.{IsKeyOrder, Known, IsApart, nat_keys, lefts, rights, apart-permutation, known-permutation}
+use Rattle.ordered_lists.proofs.ByKey.Keys.{image-injective, apart_from_sorted, known_all, differ}
+use Rattle.ordered_lists.proofs.Lists.Elements.{map-map, map_agree_all, all_weaker, all_map}
 use Rattle.tl_county.proofs.Sameness.Equivalence.{keys_known}
 use Rattle.tl_number.specs.Growth.{up_to}
 use Rattle.tl_number.specs.ArrangedCounty.{IsArranged}

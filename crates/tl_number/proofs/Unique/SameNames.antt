@@ -11,15 +11,17 @@ use Rattle.tl_layout.specs.declared.type5.Body5.{Body5}
 use Rattle.tl_shape.specs.Chain.{Chain}
 use Rattle.tl_county.specs.County.{County}
 use Rattle.tl_county.specs.CountyRules.{IsClosed, feats, AllStandIn}
-use Rattle.tl_county.specs.Orders.{stands_in, times}
-use Rattle.tl_county.specs.Renumbering.{Renumbering, Carries, image, carried_name}
-use Rattle.tl_county.proofs.Rules.FirstFault.{Among}
-use Rattle.tl_county.proofs.Lists.InOrder.{in_order-permutation, in_order-map}
-use Rattle.tl_county.proofs.ByKey.KeyOrders.{name_body_keys, pair_keys, lists_keys}
-use Rattle.tl_county.proofs.ByKey.Keys.{IsKeyOrder, Known, IsApart, nat_keys, lefts, rights, apart-permutation, known-permutation}
-use Rattle.tl_county.proofs.ByKey.Keys.{image-injective, apart_from_sorted, known_all}
-use Rattle.tl_county.proofs.Lists.Elements.{map-map, map_agree_all, all_weaker, all_map, all_append, all_left, all_right}
-use Rattle.tl_county.proofs.Lists.Members.{among-unmap, one_entry}
+use Rattle.ordered_lists.specs.Orders.{stands_in, times}
+use Rattle.tl_county.specs.Renumbering.{Renumbering, Carries, carried_name}
+use Rattle.ordered_lists.specs.Pairs.{image}
+use Rattle.ordered_lists.proofs.Lists.Among.{Among}
+use Rattle.ordered_lists.proofs.Lists.InOrder.{in_order-permutation, in_order-map}
+use Rattle.tl_county.specs.Laws.KeyOrders.{name_body_keys}
+use Rattle.ordered_lists.proofs.ByKey.KeyOrders.{pair_keys, lists_keys}
+use Rattle.ordered_lists.proofs.ByKey.Keys.{IsKeyOrder, Known, IsApart, nat_keys, lefts, rights, apart-permutation, known-permutation}
+use Rattle.ordered_lists.proofs.ByKey.Keys.{image-injective, apart_from_sorted, known_all}
+use Rattle.ordered_lists.proofs.Lists.Elements.{map-map, map_agree_all, all_weaker, all_map, all_append, all_left, all_right}
+use Rattle.ordered_lists.proofs.Lists.Members.{among-unmap, one_entry}
 use Rattle.tl_county.proofs.Sameness.Equivalence.{keys_known}
 use Rattle.tl_number.specs.Growth.{up_to}
 use Rattle.tl_number.specs.ArrangedCounty.{IsArranged}

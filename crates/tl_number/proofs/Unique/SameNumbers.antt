@@ -8,17 +8,18 @@ use Rattle.tl_shape.specs.Chain.{Chain}
 use Rattle.tl_county.specs.County.{County}
 use Rattle.tl_county.specs.CountyRules.{IsAscending, IsClosed, polygon_keys, nodes, nodes_along, polygons_along, chain_nodes}
 use Rattle.tl_county.specs.CountyRules.{chain_polygons}
-use Rattle.tl_county.specs.Orders.{stands_in, times}
+use Rattle.ordered_lists.specs.Orders.{stands_in, times}
 use Rattle.tl_county.specs.PolygonKeys.{PolygonKey, key_cmp}
-use Rattle.tl_county.specs.Renumbering.{Renumbering, Carries, image, renumbered}
+use Rattle.tl_county.specs.Renumbering.{Renumbering, Carries, renumbered}
+use Rattle.ordered_lists.specs.Pairs.{image}
 use Rattle.tl_county.proofs.Sameness.Carried.{chain_nodes-renumbered, chain_polygons-renumbered}
-use Rattle.tl_county.proofs.Lists.Distinct.{apart-distinct, known-distinct}
-use Rattle.tl_county.proofs.Rules.FirstFault.{Among, all_among}
-use Rattle.tl_county.proofs.ByKey.KeyOrders.{key_keys}
-use Rattle.tl_county.proofs.ByKey.Keys.{Known, nat_keys, lefts, rights, apart-permutation, known-permutation, image-injective}
-use Rattle.tl_county.proofs.ByKey.Keys.{apart_from_sorted, all_known}
-use Rattle.tl_county.proofs.Lists.Elements.{map-map, all_weaker, all_joined}
-use Rattle.tl_county.proofs.Lists.Members.{among-map}
+use Rattle.ordered_lists.proofs.Lists.Distinct.{apart-distinct, known-distinct}
+use Rattle.ordered_lists.proofs.Lists.Among.{Among, all_among}
+use Rattle.tl_county.specs.Laws.KeyOrders.{key_keys}
+use Rattle.ordered_lists.proofs.ByKey.Keys.{Known, nat_keys, lefts, rights, apart-permutation, known-permutation, image-injective}
+use Rattle.ordered_lists.proofs.ByKey.Keys.{apart_from_sorted, all_known}
+use Rattle.ordered_lists.proofs.Lists.Elements.{map-map, all_weaker, all_joined}
+use Rattle.ordered_lists.proofs.Lists.Members.{among-map}
 use Rattle.tl_county.proofs.Sameness.Equivalence.{image-keeps}
 use Rattle.tl_number.specs.Growth.{Grows}
 use Rattle.tl_number.specs.ArrangedCounty.{IsArranged}

@@ -3,9 +3,10 @@ use Rattle.std.proofs.Common.{◌≡◌, List, sym, ap, ◌∙◌, nat_cmp}
 use Rattle.tl_layout.specs.declared.record_type.Record.{Record}
 use Rattle.tl_county.specs.County.{county_of}
 use Rattle.tl_county.specs.CountyRules.{tlids}
-use Rattle.tl_county.specs.Orders.{stands_in}
-use Rattle.tl_county.specs.Renumbering.{Renumbering, Carries, image}
-use Rattle.tl_county.proofs.ByKey.Keys.{nat_keys, known_all}
+use Rattle.ordered_lists.specs.Orders.{stands_in}
+use Rattle.tl_county.specs.Renumbering.{Renumbering, Carries}
+use Rattle.ordered_lists.specs.Pairs.{image}
+use Rattle.ordered_lists.proofs.ByKey.Keys.{nat_keys, known_all}
 use Rattle.tl_county.proofs.Rules.LinkedCounty.{county-is_county}
 use Rattle.tl_number.specs.Canonical.{IsArrangedList, KeepsChainNumbers}
 use Rattle.tl_county.specs.Packing.{packed}

@@ -3,8 +3,8 @@ use Rattle.std.proofs.Common.{◌<◌, ◌^◌, length, arith, nat_cmp}
 use Rattle.tl_county.specs.County.{County}
 use Rattle.tl_county.specs.CountyRules.{IsCounty, AllKeysStandIn, polygons_along, polygon_keys, tlids}
 use Rattle.tl_county.specs.Limits.{IsWithinLimits, most_records}
-use Rattle.tl_county.proofs.ByKey.Keys.{IsApart, nat_keys, apart_from_sorted}
-use Rattle.tl_county.proofs.Lists.Permutations.{apart-permutation_of}
+use Rattle.ordered_lists.proofs.ByKey.Keys.{IsApart, nat_keys, apart_from_sorted}
+use Rattle.ordered_lists.proofs.Lists.Permutations.{apart-permutation_of}
 use Rattle.tl_number.specs.Arrangement.{Arrangement, Arranges, arranged_tlids}
 use Rattle.tl_number.specs.Steps.{AreSteps, arrangement_of}
 use Rattle.tl_number.specs.ViewFacts.{AreWhole, NamesEachOnce}

@@ -6,13 +6,13 @@ use Rattle.std.proofs.lemmas.Option.{slice_get-map, get_or_from_slice_get, slice
 use Rattle.tl_layout.specs.declared.type7.Body7.{Body7}
 use Rattle.tl_county.specs.County.{County}
 use Rattle.tl_county.specs.CountyRules.{tlids, lands}
-use Rattle.tl_county.specs.Entries.{entry_keys}
+use Rattle.ordered_lists.specs.Entries.{entry_keys}
 use Rattle.tl_county.specs.Packing.{numbered_from}
 use Rattle.tl_county.specs.PolygonKeys.{PolygonKey}
 use Rattle.tl_number.specs.Arrangement.{arranged_tlids, turned_tlids, under_cenid}
 use Rattle.tl_number.specs.Growth.{numbered}
 use Rattle.tl_number.specs.Steps.{arrangement_of, tlid_at}
-use Rattle.tl_county.proofs.Lists.Places.{one_more_taken}
+use Rattle.ordered_lists.proofs.Lists.Places.{one_more_taken}
 use Rattle.tl_number.specs.ViewFacts.{AreReadAt}
 use Rattle.tl_profile.specs.declared.directed_chain.DirectedChain.{DirectedChain}
 use Rattle.tl_number.proofs.Polygons.PolygonNumbers.{key_numbered}

@@ -9,12 +9,12 @@ use Rattle.tl_county.specs.ChartWords.{chain_at, feats_of, points_of}
 use Rattle.tl_county.specs.County.{County}
 use Rattle.tl_county.specs.CountyRules.{IsCounty, tlids}
 use Rattle.tl_county.specs.Packing.{numbered_from}
-use Rattle.tl_county.proofs.Lists.Counted.{rights-numbered_from}
-use Rattle.tl_county.proofs.Rules.FirstFault.{Among}
-use Rattle.tl_county.proofs.ByKey.Keys.{nat_keys, apart_from_sorted}
-use Rattle.tl_county.proofs.Lists.Elements.{flat_map_agree}
-use Rattle.tl_county.proofs.ByKey.Numbers.{times-of_number}
-use Rattle.tl_county.proofs.Lists.Reordered.{to_filter}
+use Rattle.tl_county.proofs.Packing.Pieces.{rights-numbered_from}
+use Rattle.ordered_lists.proofs.Lists.Among.{Among}
+use Rattle.ordered_lists.proofs.ByKey.Keys.{nat_keys, apart_from_sorted}
+use Rattle.ordered_lists.proofs.Lists.Elements.{flat_map_agree}
+use Rattle.tl_county.proofs.Lists.OfNumber.{times-of_number}
+use Rattle.ordered_lists.proofs.Lists.Reordered.{to_filter}
 use Rattle.tl_profile.specs.ShapeOrder.{points_along}
 use Rattle.tl_profile.specs.Shapes.{points_from}
 use Rattle.tl_number.specs.Arrangement.{Arrangement, entries_of, chains_in_order, placed}

@@ -8,11 +8,11 @@ use Rattle.std.specs.List.{position}
 use Rattle.tl_layout.specs.PolygonSide.{PolygonSide}
 use Rattle.tl_county.specs.PolygonKeys.{PolygonKey, key_cmp, key_on, key_under}
 use Rattle.tl_county.specs.Renumbering.{side_of}
-use Rattle.tl_county.proofs.ByKey.KeyOrders.{key_keys}
-use Rattle.tl_county.proofs.ByKey.Keys.{IsKeyOrder, nat_keys}
+use Rattle.tl_county.specs.Laws.KeyOrders.{key_keys}
+use Rattle.ordered_lists.proofs.ByKey.Keys.{IsKeyOrder, nat_keys}
 use Rattle.tl_number.specs.ByStep.{node_among, polygon_among, side_among}
 use Rattle.tl_number.specs.Growth.{first_seen_after}
-use Rattle.tl_county.proofs.Lists.Places.{one_more_taken}
+use Rattle.ordered_lists.proofs.Lists.Places.{one_more_taken}
 use Rattle.tl_number.proofs.Records.Grouped.{get_dropped}
 use Rattle.tl_number.proofs.Numbering.SeenLists.{seen_append}
 use Rattle.tl_number.proofs.Numbering.SeenPlaces.{seen_fewer, seen_keeps}

@@ -5,12 +5,13 @@ use Rattle.tl_layout.specs.PolygonSide.{PolygonSide}
 use Rattle.tl_shape.specs.Chain.{Chain}
 use Rattle.tl_county.specs.County.{County}
 use Rattle.tl_county.specs.CountyRules.{IsCounty}
-use Rattle.tl_county.specs.Entries.{entry_values}
+use Rattle.ordered_lists.specs.Entries.{entry_values}
 use Rattle.tl_county.specs.Packing.{numbered_from}
 use Rattle.tl_county.specs.PolygonKeys.{key_cmp}
-use Rattle.tl_county.specs.Renumbering.{image, side_of, renumbered, renumbered_polygon}
-use Rattle.tl_county.proofs.Lists.Counted.{rights-numbered_from}
-use Rattle.tl_county.proofs.Lists.Elements.{map-map}
+use Rattle.ordered_lists.specs.Pairs.{image}
+use Rattle.tl_county.specs.Renumbering.{side_of, renumbered, renumbered_polygon}
+use Rattle.tl_county.proofs.Packing.Pieces.{rights-numbered_from}
+use Rattle.ordered_lists.proofs.Lists.Elements.{map-map}
 use Rattle.tl_number.specs.Arrangement.{Arrangement, nodes_in_order, placed, polygons_in_order, renaming_of}
 use Rattle.tl_number.specs.ByStep.{ends_among, ends_of, nodes_at, polygon_among, polygons_at, sides_among, sides_of}
 use Rattle.tl_number.specs.Growth.{first_seen}

@@ -8,12 +8,12 @@ use Rattle.tl_shape.specs.Turned.{turned_if}
 use Rattle.tl_county.specs.ChartWords.{chain_at}
 use Rattle.tl_county.specs.County.{County}
 use Rattle.tl_county.specs.CountyRules.{IsCounty, tlids}
-use Rattle.tl_county.specs.Entries.{entry_values}
+use Rattle.ordered_lists.specs.Entries.{entry_values}
 use Rattle.tl_county.specs.Renumbering.{renumbered}
-use Rattle.tl_county.proofs.Lists.Counted.{rights-numbered_from}
-use Rattle.tl_county.proofs.ByKey.Keys.{IsApart, nat_keys, apart_from_sorted}
-use Rattle.tl_county.proofs.Lists.Elements.{map-map}
-use Rattle.tl_county.proofs.Lists.Permutations.{apart-permutation_of}
+use Rattle.tl_county.proofs.Packing.Pieces.{rights-numbered_from}
+use Rattle.ordered_lists.proofs.ByKey.Keys.{IsApart, nat_keys, apart_from_sorted}
+use Rattle.ordered_lists.proofs.Lists.Elements.{map-map}
+use Rattle.ordered_lists.proofs.Lists.Permutations.{apart-permutation_of}
 use Rattle.tl_number.specs.Arrangement.{Arrangement, Arranges, arranged_tlids, entries_of, placed, renaming_of}
 use Rattle.tl_number.specs.Growth.{up_to}
 use Rattle.tl_number.specs.Steps.{AreSteps, arrangement_of, step_chain, tlid_at}

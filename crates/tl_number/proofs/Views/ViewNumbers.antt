@@ -5,15 +5,15 @@ use Rattle.std.proofs.lemmas.Bool.{ltb-true, ltb-false, lt-ltb, false_from_ne_tr
 use Rattle.std.proofs.lemmas.List.FromFn.{length-range_with_len}
 use Rattle.std.proofs.lemmas.Option.{slice_get_past, cond_some}
 use Rattle.std.specs.List.{AllByRecursion, position, position_or_len, range_with_len}
-use Rattle.tl_county.specs.Orders.{times, stands_in}
+use Rattle.ordered_lists.specs.Orders.{times, stands_in}
 use Rattle.tl_county.specs.Packing.{numbered_from}
 use Rattle.tl_county.specs.PolygonKeys.{PolygonKey, key_cmp}
-use Rattle.tl_county.specs.Renumbering.{image}
-use Rattle.tl_county.proofs.Rules.FirstFault.{all_among}
-use Rattle.tl_county.proofs.ByKey.KeyOrders.{key_keys}
-use Rattle.tl_county.proofs.ByKey.Keys.{IsKeyOrder, nat_keys, same-true}
-use Rattle.tl_county.proofs.Lists.Elements.{map-map, all_weaker}
-use Rattle.tl_county.proofs.Lists.Members.{among_known, known_is_among}
+use Rattle.ordered_lists.specs.Pairs.{image}
+use Rattle.ordered_lists.proofs.Lists.Among.{all_among}
+use Rattle.tl_county.specs.Laws.KeyOrders.{key_keys}
+use Rattle.ordered_lists.proofs.ByKey.Keys.{IsKeyOrder, nat_keys, same-true}
+use Rattle.ordered_lists.proofs.Lists.Elements.{map-map, all_weaker}
+use Rattle.ordered_lists.proofs.Lists.Members.{among_known, known_is_among}
 use Rattle.tl_number.specs.Arrangement.{under_cenid}
 use Rattle.tl_number.specs.Growth.{numbered, up_to}
 use Rattle.tl_number.proofs.Views.StepChains.{among-get}

@@ -14,14 +14,14 @@ use Rattle.tl_county.specs.BodyOrder.{link_cmp, link_part, link_part_cmp}
 use Rattle.tl_county.specs.ChartWords.{links_with, links_at}
 use Rattle.tl_county.specs.County.{County, eight_land}
 use Rattle.tl_county.specs.CountyRules.{IsCounty, feats, lands, nodes, nodes_along}
-use Rattle.tl_county.specs.Entries.{entry_values}
-use Rattle.tl_county.specs.Orders.{IsInOrder}
+use Rattle.ordered_lists.specs.Entries.{entry_values}
+use Rattle.ordered_lists.specs.Orders.{IsInOrder}
 use Rattle.tl_county.specs.PolygonKeys.{PolygonKey}
 use Rattle.tl_county.specs.Renumbering.{carried_name, carried_landmark}
-use Rattle.tl_county.proofs.Lists.InOrder.{in_order-permutation}
-use Rattle.tl_county.proofs.ByKey.Keys.{nat_keys}
-use Rattle.tl_county.proofs.Lists.Elements.{map-map, all_weaker}
-use Rattle.tl_county.proofs.ByKey.Numbers.{distinct-in_order}
+use Rattle.ordered_lists.proofs.Lists.InOrder.{in_order-permutation}
+use Rattle.ordered_lists.proofs.ByKey.Keys.{nat_keys}
+use Rattle.ordered_lists.proofs.Lists.Elements.{map-map, all_weaker}
+use Rattle.ordered_lists.proofs.ByKey.Numbers.{distinct-in_order}
 use Rattle.tl_number.specs.Arrangement.{Arrangement, nodes_in_order, polygons_in_order, names_in_order, landmarks_in_order}
 use Rattle.tl_number.specs.Arrangement.{renaming_of, under_cenid}
 use Rattle.tl_number.specs.Growth.{numbered, up_to}

@@ -1,7 +1,7 @@
 use Rattle.std.proofs.Common.{◌≡◌, IfOk, false, rules, subst, sym, true}
 use Rattle.std.specs.Bool.{Decides}
 use Rattle.tl_county.specs.Renumbering.{Carries, NumbersArePaired}
-use Rattle.tl_county.proofs.Lists.ByPlace.{decides_no}
+use Rattle.ordered_lists.proofs.Lists.ByPlace.{decides_no}
 use Rattle.tl_cert.proofs.carrying.check.Goals as goal
 
 pub returns-then-not-paired : goal.returns-then-not-paired

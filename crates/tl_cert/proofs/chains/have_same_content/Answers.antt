@@ -1,7 +1,7 @@
 use Rattle.std.proofs.Common.{◌≡◌, true, rules, sym, ◌∙◌}
 use Rattle.tl_county.specs.ChartWords.{chain_at}
 use Rattle.tl_cert.specs.PartsThere.{chain_towards}
-use Rattle.tl_county.proofs.Lists.ByPlace.{decides_same}
+use Rattle.ordered_lists.proofs.Lists.ByPlace.{decides_same}
 use Rattle.tl_cert.proofs.Towards.{body_kept, link_body_kept}
 use Rattle.tl_cert.proofs.chains.have_same_content.Goals as goal
 

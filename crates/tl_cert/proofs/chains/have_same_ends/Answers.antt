@@ -1,8 +1,9 @@
 use Rattle.std.proofs.Common.{◌≡◌, true, rules, sym, ap, refl, ◌∙◌, nat_cmp, option_map}
 use Rattle.tl_shape.specs.Chain.{Chain}
-use Rattle.tl_county.specs.Renumbering.{image, renumbered_side}
+use Rattle.ordered_lists.specs.Pairs.{image}
+use Rattle.tl_county.specs.Renumbering.{renumbered_side}
 use Rattle.tl_cert.specs.PartsThere.{chain_towards}
-use Rattle.tl_county.proofs.Lists.ByPlace.{decides_same}
+use Rattle.ordered_lists.proofs.Lists.ByPlace.{decides_same}
 use Rattle.tl_cert.proofs.Towards.{read_renumbered}
 use Rattle.tl_cert.proofs.chains.have_same_ends.Goals as goal
 

@@ -1,7 +1,7 @@
 use Rattle.std.proofs.Common.{refl, sym}
 use Rattle.tl_county.specs.ChartWords.{chain_at, points_of}
 use Rattle.tl_cert.specs.PartsThere.{chain_towards, points_towards}
-use Rattle.tl_county.proofs.Lists.ByPlace.{decides_over}
+use Rattle.ordered_lists.proofs.Lists.ByPlace.{decides_over}
 use Rattle.tl_cert.proofs.Towards.{points_turned}
 use Rattle.tl_cert.proofs.chains.have_same_points.Goals as goal
 

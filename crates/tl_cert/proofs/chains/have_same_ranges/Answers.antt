@@ -1,7 +1,7 @@
 use Rattle.std.proofs.Common.{refl, sym}
 use Rattle.tl_county.specs.ChartWords.{chain_at, ranges_of}
 use Rattle.tl_cert.specs.PartsThere.{chain_towards, ranges_towards}
-use Rattle.tl_county.proofs.Lists.ByPlace.{decides_over}
+use Rattle.ordered_lists.proofs.Lists.ByPlace.{decides_over}
 use Rattle.tl_cert.proofs.Towards.{ranges_turned}
 use Rattle.tl_cert.proofs.chains.have_same_ranges.Goals as goal
 

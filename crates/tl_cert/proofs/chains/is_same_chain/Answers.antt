@@ -2,7 +2,7 @@ use Rattle.std.proofs.Common.{◌≡◌, true, rules, option_map}
 use Rattle.tl_county.specs.ChartWords.{chain_at}
 use Rattle.tl_county.specs.Renumbering.{renumbered}
 use Rattle.tl_cert.specs.PartsThere.{chain_towards}
-use Rattle.tl_county.proofs.Lists.ByPlace.{decides_same}
+use Rattle.ordered_lists.proofs.Lists.ByPlace.{decides_same}
 use Rattle.tl_cert.proofs.Towards.{agree, agree_lists}
 use Rattle.tl_cert.proofs.chains.is_same_chain.Goals as goal
 

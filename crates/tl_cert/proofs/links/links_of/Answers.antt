@@ -3,7 +3,7 @@ use Rattle.std.proofs.lemmas.List.{length-map}
 use Rattle.tl_county.specs.ChartWords.{links_at}
 use Rattle.tl_county.specs.CountyRules.{lands}
 use Rattle.tl_cert.proofs.LinksCarried.{under_lands, next_land, all_lands}
-use Rattle.tl_county.proofs.Lists.ByPlace.{taken_all}
+use Rattle.ordered_lists.proofs.Lists.ByPlace.{taken_all}
 use Rattle.tl_cert.proofs.links.links_of.Goals as goal
 
 pub loop-place-preserved : goal.loop-place-preserved

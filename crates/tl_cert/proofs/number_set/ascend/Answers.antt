@@ -1,6 +1,6 @@
 use Rattle.std.proofs.Common.{◌≡◌, ◌∷◌, [], ap, sym, subst, ◌∙◌, nat_cmp}
-use Rattle.tl_county.specs.Orders.{IsInOrder, has_repeat}
-use Rattle.tl_county.proofs.ByKey.KeyedLists.{empty_list}
+use Rattle.ordered_lists.specs.Orders.{IsInOrder, has_repeat}
+use Rattle.ordered_lists.proofs.ByKey.KeyedLists.{empty_list}
 use Rattle.tl_cert.proofs.Places.{repeat_later}
 use Rattle.tl_cert.proofs.number_set.ascend.Goals as goal
 

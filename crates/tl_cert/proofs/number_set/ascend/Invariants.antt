@@ -1,5 +1,5 @@
 use Rattle.std.proofs.Common.{◌≡◌, length, nat_cmp}
-use Rattle.tl_county.specs.Orders.{IsInOrder, has_repeat}
+use Rattle.ordered_lists.specs.Orders.{IsInOrder, has_repeat}
 use Rattle.tl_cert.proofs.number_set.ascend.Given as goal
 
 abbrev pub invariant-loop-first : goal.invariant-loop-first

@@ -1,6 +1,6 @@
 use Rattle.std.proofs.Common.{◌∙◌, sym, subst, IsPermutation}
 use Rattle.std.specs.Bool.{Decides}
-use Rattle.tl_county.specs.Orders.{IsInOrder}
+use Rattle.ordered_lists.specs.Orders.{IsInOrder}
 use Rattle.tl_cert.proofs.numbers_paired.are_numbers_of.Goals as goal
 
 pub are_known-requires : goal.are_known-requires

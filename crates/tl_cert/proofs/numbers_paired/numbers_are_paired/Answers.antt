@@ -1,5 +1,5 @@
 use Rattle.std.proofs.Common.{◌≡◌, true, rules}
-use Rattle.tl_county.proofs.Lists.ByPlace.{decides_same}
+use Rattle.ordered_lists.proofs.Lists.ByPlace.{decides_same}
 use Rattle.tl_cert.proofs.numbers_paired.numbers_are_paired.Goals as goal
 
 pub returns : goal.returns

@@ -5,7 +5,7 @@ use Rattle.tl_layout.specs.Fields.{Fields5}
 use Rattle.tl_county.specs.Building.{county_along}
 use Rattle.tl_county.specs.County.{five_feat}
 use Rattle.tl_county.specs.CountyRules.{IsCounty, nodes}
-use Rattle.tl_county.specs.Entries.{map_values}
+use Rattle.ordered_lists.specs.Entries.{map_values}
 use Rattle.tl_county.specs.KeptCounty.{county_with, LinksUnderLands}
 use Rattle.tl_county.specs.Limits.{IsWithinLimits, most_records}
 use Rattle.tl_county.specs.OrderedTables.{typed_of}

@@ -3,14 +3,14 @@ use Rattle.std.specs.List.Sorted.{IsStrictlySortedBy}
 use Rattle.std.specs.Ordering.{on}
 use Rattle.tl_county.specs.Building.{landmark_of}
 use Rattle.tl_county.specs.County.{seven_land, eight_land}
-use Rattle.tl_county.specs.Entries.{map_values}
+use Rattle.ordered_lists.specs.Entries.{map_values}
 use Rattle.tl_county.specs.OrderedTables.{typed_of}
-use Rattle.tl_county.specs.Orders.{IsInOrder, distinct}
+use Rattle.ordered_lists.specs.Orders.{IsInOrder, distinct}
 use Rattle.tl_county.proofs.Rules.BuiltTables.{sevens-in_order, eights-in_order}
-use Rattle.tl_county.proofs.Lists.EntryLists.{entries-equal, keys-map_values, values-map_values}
-use Rattle.tl_county.proofs.ByKey.Keys.{nat_keys}
-use Rattle.tl_county.proofs.Lists.Elements.{map-map}
-use Rattle.tl_county.proofs.ByKey.Numbers.{distinct-strict}
+use Rattle.ordered_lists.proofs.Lists.EntryLists.{entries-equal, keys-map_values, values-map_values}
+use Rattle.ordered_lists.proofs.ByKey.Keys.{nat_keys}
+use Rattle.ordered_lists.proofs.Lists.Elements.{map-map}
+use Rattle.ordered_lists.proofs.ByKey.Numbers.{distinct-strict}
 use Rattle.tl_county.proofs.linking.build_landmarks.Goals as goal
 
 pub lands_of-requires : goal.lands_of-requires

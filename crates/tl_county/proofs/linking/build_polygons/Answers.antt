@@ -2,12 +2,12 @@ use Rattle.std.proofs.Common.{List, ◌++◌, map, flat_map, map-id, sym, ◌∙
 use Rattle.std.specs.List.Sorted.{IsStrictlySortedBy}
 use Rattle.tl_county.specs.Building.{polygon_body_of}
 use Rattle.tl_county.specs.County.{p_key, side_keys}
-use Rattle.tl_county.specs.Orders.{distinct}
+use Rattle.ordered_lists.specs.Orders.{distinct}
 use Rattle.tl_county.specs.PolygonKeys.{PolygonKey, key_cmp}
-use Rattle.tl_county.proofs.Lists.EntryLists.{entries-equal}
-use Rattle.tl_county.proofs.ByKey.KeyOrders.{key_keys}
-use Rattle.tl_county.proofs.Lists.Elements.{map-map}
-use Rattle.tl_county.proofs.ByKey.Numbers.{distinct-strict}
+use Rattle.ordered_lists.proofs.Lists.EntryLists.{entries-equal}
+use Rattle.tl_county.specs.Laws.KeyOrders.{key_keys}
+use Rattle.ordered_lists.proofs.Lists.Elements.{map-map}
+use Rattle.ordered_lists.proofs.ByKey.Numbers.{distinct-strict}
 use Rattle.tl_county.proofs.linking.build_polygons.Goals as goal
 
 pub polygon_bodies-requires-clause-polygons : goal.polygon_bodies-requires-clause-polygons

@@ -1,5 +1,5 @@
 use Rattle.std.proofs.Common.{◌≡◌, true, false, rules, refl, sym}
-use Rattle.tl_county.proofs.Lists.ByPlace.{all_next, all_at, all_seen, decides_no}
+use Rattle.ordered_lists.proofs.Lists.ByPlace.{all_next, all_at, all_seen, decides_no}
 use Rattle.tl_county.proofs.listed.all_hold.Goals as goal
 
 pub loop-place-preserved : goal.loop-place-preserved

@@ -1,5 +1,5 @@
 use Rattle.std.proofs.Common.{◌≡◌, true, rules, refl, sym, ap, ◌∙◌, Some}
-use Rattle.tl_county.proofs.Lists.ByPlace.{same_next, same_seen}
+use Rattle.ordered_lists.proofs.Lists.ByPlace.{same_next, same_seen}
 use Rattle.tl_county.proofs.listed.are_same.Goals as goal
 
 pub loop-place-preserved : goal.loop-place-preserved

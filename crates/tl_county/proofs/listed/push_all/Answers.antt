@@ -1,6 +1,6 @@
 use Rattle.std.proofs.Common.{◌∷◌, [], ◌++◌, take, ap, refl, sym, ◌∙◌, append_assoc}
-use Rattle.tl_county.proofs.Lists.Places.{one_more_taken}
-use Rattle.tl_county.proofs.Lists.ByPlace.{taken_all}
+use Rattle.ordered_lists.proofs.Lists.Places.{one_more_taken}
+use Rattle.ordered_lists.proofs.Lists.ByPlace.{taken_all}
 use Rattle.tl_county.proofs.listed.push_all.Goals as goal
 
 pub loop-place-preserved : goal.loop-place-preserved

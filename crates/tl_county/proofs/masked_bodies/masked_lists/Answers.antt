@@ -1,10 +1,10 @@
 use Rattle.std.proofs.Common.{◌∷◌, [], ◌++◌, take, ap, refl, sym, ◌∙◌, arith}
 use Rattle.tl_county.specs.ChartWords.{bodies_at}
-use Rattle.tl_county.specs.Entries.{entry_values}
-use Rattle.tl_county.proofs.Lists.Places.{one_more_taken}
+use Rattle.ordered_lists.specs.Entries.{entry_values}
+use Rattle.ordered_lists.proofs.Lists.Places.{one_more_taken}
 use Rattle.tl_county.specs.MaskedCounty.{masked, masked_bodies}
 use Rattle.tl_county.proofs.Masks.MaskedReads.{masked_value_there, masked_values_count}
-use Rattle.tl_county.proofs.Lists.ByPlace.{taken_all}
+use Rattle.ordered_lists.proofs.Lists.ByPlace.{taken_all}
 use Rattle.tl_county.proofs.masked_bodies.masked_lists.Goals as goal
 
 pub loop-place-preserved : goal.loop-place-preserved

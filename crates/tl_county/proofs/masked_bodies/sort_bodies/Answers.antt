@@ -2,9 +2,9 @@ use Rattle.std.proofs.Common.{is_lt, rules}
 use Rattle.std.proofs.lemmas.Fn.{always_returns_same}
 use Rattle.std.proofs.lemmas.List.Sorted.{ranks_by}
 use Rattle.tl_county.specs.BodyOrder.{landmark_body_cmp}
-use Rattle.tl_county.proofs.ByKey.KeyOrders.{landmark_body_keys}
-use Rattle.tl_county.proofs.ByKey.KeyedLists.{in_order-from_sorted}
-use Rattle.tl_county.proofs.Lists.ByPlace.{sorted_in_order}
+use Rattle.tl_county.specs.Laws.KeyOrders.{landmark_body_keys}
+use Rattle.ordered_lists.proofs.ByKey.KeyedLists.{in_order-from_sorted}
+use Rattle.ordered_lists.proofs.Lists.ByPlace.{sorted_in_order}
 use Rattle.tl_county.proofs.masked_bodies.sort_bodies.Goals as goal
 
 pub returns : goal.returns

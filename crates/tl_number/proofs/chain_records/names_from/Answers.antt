@@ -3,7 +3,7 @@ use Rattle.std.proofs.Common.{suc}
 use Rattle.std.specs.List.{push}
 use Rattle.tl_county.specs.ChartWords.{chain_at, feats_of}
 use Rattle.tl_number.proofs.Records.ChainPlaces.{chain_there}
-use Rattle.tl_county.proofs.Lists.Places.{next_taken}
+use Rattle.ordered_lists.proofs.Lists.Places.{next_taken}
 use Rattle.tl_number.proofs.Records.Grouped.{get_dropped, taken_enough}
 use Rattle.tl_number.proofs.chain_records.names_from.Goals as goal
 

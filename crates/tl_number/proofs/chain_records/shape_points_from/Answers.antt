@@ -5,7 +5,7 @@ use Rattle.tl_county.specs.ChartWords.{chain_at, points_of}
 use Rattle.tl_county.specs.Packing.{inner_points}
 use Rattle.tl_county.proofs.Limits.CarriedLimits.{length-inner}
 use Rattle.tl_number.proofs.Records.ChainPlaces.{chain_there, inner_at}
-use Rattle.tl_county.proofs.Lists.Places.{next_taken}
+use Rattle.ordered_lists.proofs.Lists.Places.{next_taken}
 use Rattle.tl_number.proofs.Records.Grouped.{get_dropped, taken_enough}
 use Rattle.tl_number.proofs.chain_records.shape_points_from.Goals as goal
 

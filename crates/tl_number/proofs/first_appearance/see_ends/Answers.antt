@@ -1,6 +1,6 @@
 use Rattle.std.proofs.Common.{◌<◌, ℕ, List, Option, ◌∙◌, flat_map, get_or, length, nat_cmp, option_to_list, arith}
 use Rattle.std.proofs.lemmas.List.{take_more_set}
-use Rattle.tl_county.proofs.ByKey.Keys.{nat_keys}
+use Rattle.ordered_lists.proofs.ByKey.Keys.{nat_keys}
 use Rattle.tl_number.specs.ByStep.{node_among, nodes_at}
 use Rattle.tl_number.specs.Growth.{first_seen}
 use Rattle.tl_number.proofs.Views.StepPairs.{left_later, left_there, pair_numbered, pair_seen}

@@ -2,7 +2,7 @@ use Rattle.std.proofs.Common.{◌<◌, ℕ, List, ◌∙◌, flat_map, get_or, l
 use Rattle.std.proofs.lemmas.List.{take_more_set}
 use Rattle.tl_layout.specs.PolygonSide.{PolygonSide}
 use Rattle.tl_county.specs.PolygonKeys.{PolygonKey, key_cmp, key_on}
-use Rattle.tl_county.proofs.ByKey.KeyOrders.{key_keys}
+use Rattle.tl_county.specs.Laws.KeyOrders.{key_keys}
 use Rattle.tl_number.specs.ByStep.{polygons_at, side_among}
 use Rattle.tl_number.specs.Growth.{first_seen}
 use Rattle.tl_number.proofs.Views.StepPairs.{first_few, left_later, left_there, pair_numbered, pair_seen, second_few}

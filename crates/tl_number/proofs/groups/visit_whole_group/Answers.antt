@@ -2,7 +2,7 @@ use Rattle.std.proofs.Common.{◌≡◌, ◌+◌, ◌++◌, ◌∷◌, ◌∙◌
 use Rattle.std.proofs.lemmas.List.{take_all}
 use Rattle.std.proofs.lemmas.Result.{err_from_is_err_and}
 use Rattle.tl_number.specs.Groups.{group_at}
-use Rattle.tl_county.proofs.Lists.Places.{next_taken}
+use Rattle.ordered_lists.proofs.Lists.Places.{next_taken}
 use Rattle.tl_number.proofs.Records.ChainPlaces.{some_at}
 use Rattle.tl_number.proofs.Records.Grouped.{map-append, parted}
 use Rattle.tl_number.proofs.groups.visit_whole_group.Goals as goal

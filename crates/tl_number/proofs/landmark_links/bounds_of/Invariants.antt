@@ -2,7 +2,7 @@ use Rattle.std.proofs.Common.{◌≡◌, ◌≤◌, ℕ, map, filter, is_gt, nat
 use Rattle.std.specs.List.{range_with_len}
 use Rattle.std.specs.Ordering.{on}
 use Rattle.tl_county.specs.County.{eight_land}
-use Rattle.tl_county.specs.Orders.{IsInOrder}
+use Rattle.ordered_lists.specs.Orders.{IsInOrder}
 use Rattle.tl_number.specs.ViewFacts.{links_up_to}
 use Rattle.tl_number.proofs.landmark_links.bounds_of.Given as goal
 

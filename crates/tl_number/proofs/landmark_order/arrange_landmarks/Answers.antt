@@ -1,6 +1,6 @@
 use Rattle.std.proofs.Common.{◌≡◌, length, nat_cmp, false, refl, sym, ap, ap₂, ◌∙◌, subst, arith}
 use Rattle.tl_county.specs.CountyRules.{lands}
-use Rattle.tl_county.specs.Orders.{has_repeat}
+use Rattle.ordered_lists.specs.Orders.{has_repeat}
 use Rattle.tl_number.specs.LandmarkItems.{lands_at, numbered_links}
 use Rattle.tl_number.specs.ViewFacts.{link_bounds, stepped}
 use Rattle.tl_number.proofs.Landmarks.LandmarkOrder.{landmarks_stated, lands_once, places_counted, new_links}

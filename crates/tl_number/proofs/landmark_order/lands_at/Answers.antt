@@ -1,8 +1,8 @@
 use Rattle.std.proofs.Common.{◌≡◌, ℕ, List, [], sym, ap, ◌∙◌, nat_cmp, slice_get, filter_map}
 use Rattle.tl_county.specs.CountyRules.{lands}
-use Rattle.tl_county.proofs.Lists.Distinct.{apart_from_no_repeat}
-use Rattle.tl_county.proofs.ByKey.KeyedLists.{empty_list}
-use Rattle.tl_county.proofs.ByKey.Keys.{nat_keys}
+use Rattle.ordered_lists.proofs.Lists.Distinct.{apart_from_no_repeat}
+use Rattle.ordered_lists.proofs.ByKey.KeyedLists.{empty_list}
+use Rattle.ordered_lists.proofs.ByKey.Keys.{nat_keys}
 use Rattle.tl_number.specs.Growth.{first_seen_after}
 use Rattle.tl_number.proofs.Names.NameOrder.{first_seen-itself}
 use Rattle.tl_number.proofs.landmark_order.lands_at.Goals as goal

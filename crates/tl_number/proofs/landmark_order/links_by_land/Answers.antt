@@ -2,7 +2,7 @@ use Rattle.std.proofs.Common.{length, nat_cmp, sym, ap, ◌∙◌, subst, slice_
 use Rattle.std.specs.Ordering.{on}
 use Rattle.tl_county.specs.County.{eight_land}
 use Rattle.tl_county.specs.CountyRules.{lands}
-use Rattle.tl_county.specs.Orders.{IsInOrder}
+use Rattle.ordered_lists.specs.Orders.{IsInOrder}
 use Rattle.tl_number.specs.LandmarkItems.{numbered_links}
 use Rattle.tl_number.specs.ViewFacts.{link_bounds}
 use Rattle.tl_number.proofs.Landmarks.LandmarkOrder.{few_lands, numbered_by_land}

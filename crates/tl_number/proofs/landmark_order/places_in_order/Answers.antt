@@ -6,7 +6,7 @@ use Rattle.std.specs.Ordering.{on}
 use Rattle.tl_layout.specs.Fields.{Fields8}
 use Rattle.tl_county.specs.County.{County, eight_land}
 use Rattle.tl_county.specs.CountyRules.{lands}
-use Rattle.tl_county.specs.Orders.{IsInOrder, has_repeat}
+use Rattle.ordered_lists.specs.Orders.{IsInOrder, has_repeat}
 use Rattle.tl_county.specs.PolygonKeys.{PolygonKey}
 use Rattle.tl_number.specs.LandmarkItems.{landmark_place_cmp, lands_at, numbered_links, place_cmp_under}
 use Rattle.tl_number.specs.ViewFacts.{link_bounds, links_up_to}

@@ -4,8 +4,8 @@ use Rattle.std.proofs.lemmas.Fn.{always_returns_same}
 use Rattle.std.proofs.lemmas.List.Sorted.{ranks_by}
 use Rattle.std.proofs.lemmas.Result.{IfOk-weaker}
 use Rattle.std.specs.List.{range_with_len}
-use Rattle.tl_county.specs.Orders.{IsInOrder}
-use Rattle.tl_county.proofs.ByKey.KeyedLists.{in_order-from_sorted}
+use Rattle.ordered_lists.specs.Orders.{IsInOrder}
+use Rattle.ordered_lists.proofs.ByKey.KeyedLists.{in_order-from_sorted}
 use Rattle.tl_number.specs.Arrangement.{names_in_order}
 use Rattle.tl_number.specs.NameItems.{ranked_at, ranked_cmp, ranked_place}
 use Rattle.tl_number.specs.Steps.{arrangement_of}

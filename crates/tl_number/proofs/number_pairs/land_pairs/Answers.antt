@@ -1,6 +1,6 @@
 use Rattle.std.proofs.Common.{◌+◌, ◌++◌, ◌∷◌, [], ◌∙◌, ap, arith, get_or, sym}
 use Rattle.std.proofs.lemmas.Option.{slice_get-get_or}
-use Rattle.tl_county.specs.Entries.{entry_keys}
+use Rattle.ordered_lists.specs.Entries.{entry_keys}
 use Rattle.tl_number.proofs.Views.RenamingPairs.{all_numbered, land_at_place, length-lands, next_numbered}
 use Rattle.tl_number.proofs.number_pairs.land_pairs.Goals as goal
 use Rattle.tl_number.proofs.number_pairs.land_pairs.Goals.{in-Some+in_ok-push, in_default}

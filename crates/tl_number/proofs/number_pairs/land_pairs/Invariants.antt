@@ -1,6 +1,6 @@
 use Rattle.std.proofs.Common.{◌≡◌, ℕ, List, take}
 use Rattle.tl_layout.specs.declared.type7.Body7.{Body7}
-use Rattle.tl_county.specs.Entries.{entry_keys}
+use Rattle.ordered_lists.specs.Entries.{entry_keys}
 use Rattle.tl_number.specs.Growth.{numbered}
 use Rattle.tl_number.specs.ViewFacts.{AreReadAt}
 use Rattle.tl_number.proofs.number_pairs.land_pairs.Given as goal

@@ -1,5 +1,5 @@
 use Rattle.std.proofs.Common.{◌∷◌, [], length, sym, ap, ◌∙◌, subst}
-use Rattle.tl_county.proofs.Lists.Elements.{all_left}
+use Rattle.ordered_lists.proofs.Lists.Elements.{all_left}
 use Rattle.tl_number.specs.MovedSteps.{AreWithin, IsWithin, other_way}
 use Rattle.tl_number.specs.NumberedChoices.{moved}
 use Rattle.tl_number.proofs.Choices.MovedChoice.{moved-last}

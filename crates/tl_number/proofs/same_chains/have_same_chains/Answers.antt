@@ -3,7 +3,7 @@ use Rattle.std.proofs.lemmas.Option.{slice_get-map}
 use Rattle.std.specs.List.{AllByRecursion}
 use Rattle.tl_number.specs.MovedSteps.{AreWithin, HaveSameChainAt, IsApart, StandInOrder}
 use Rattle.tl_number.specs.Steps.{step_chain}
-use Rattle.tl_county.proofs.Lists.ByPlace.{decides_no}
+use Rattle.ordered_lists.proofs.Lists.ByPlace.{decides_no}
 use Rattle.tl_number.proofs.Choices.KeptPlaces.{before_apart, nothing_left, past_first, same_everywhere}
 use Rattle.tl_number.proofs.same_chains.have_same_chains.Goals as goal
 

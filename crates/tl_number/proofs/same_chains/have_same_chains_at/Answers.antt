@@ -1,7 +1,7 @@
 use Rattle.std.proofs.Common.{◌≡◌, ◌<◌, ◌∙◌, Some, get_or, length, map, true, false, rules, refl, sym, ap, arith}
 use Rattle.tl_profile.specs.declared.directed_chain.DirectedChain.{DirectedChain}
 use Rattle.tl_number.specs.Steps.{step_chain}
-use Rattle.tl_county.proofs.Lists.ByPlace.{decides_no}
+use Rattle.ordered_lists.proofs.Lists.ByPlace.{decides_no}
 use Rattle.tl_number.proofs.Texts.LinkOrder.{same_further}
 use Rattle.tl_number.proofs.Texts.SameChains.{chain_read, the_same}
 use Rattle.tl_number.proofs.same_chains.have_same_chains_at.Goals as goal

@@ -1,6 +1,6 @@
 use Rattle.std.proofs.Common.{◌≡◌, ◌∙◌, Some, true, false, rules, sym, ap}
 use Rattle.tl_number.specs.Steps.{step_chain}
-use Rattle.tl_county.proofs.Lists.ByPlace.{decides_no, decides_same}
+use Rattle.ordered_lists.proofs.Lists.ByPlace.{decides_no, decides_same}
 use Rattle.tl_number.proofs.Texts.SameChains.{ends_from, ends_to, sides_to, the_same}
 use Rattle.tl_number.proofs.same_chains.have_same_ends.Goals as goal
 

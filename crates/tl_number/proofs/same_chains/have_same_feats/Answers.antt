@@ -1,7 +1,7 @@
 use Rattle.std.proofs.Common.{◌≡◌, ◌∙◌, true, false, rules, refl, slice_get, sym, ap}
 use Rattle.tl_county.specs.ChartWords.{feats_of}
 use Rattle.tl_number.specs.Steps.{step_chain}
-use Rattle.tl_county.proofs.Lists.ByPlace.{decides_no, same_next, same_seen}
+use Rattle.ordered_lists.proofs.Lists.ByPlace.{decides_no, same_next, same_seen}
 use Rattle.tl_number.proofs.same_chains.have_same_feats.Goals as goal
 
 pub loop-place-preserved : goal.loop-place-preserved

@@ -3,7 +3,7 @@ use Rattle.std.proofs.lemmas.List.{length-map}
 use Rattle.tl_county.specs.ChartWords.{ranges_of}
 use Rattle.tl_profile.specs.declared.directed_chain.DirectedChain.{DirectedChain}
 use Rattle.tl_number.specs.Steps.{ranges_along, step_chain}
-use Rattle.tl_county.proofs.Lists.ByPlace.{decides_no, same_next, same_seen}
+use Rattle.ordered_lists.proofs.Lists.ByPlace.{decides_no, same_next, same_seen}
 use Rattle.tl_number.proofs.Texts.SameChains.{part_read, the_same}
 use Rattle.tl_number.proofs.same_chains.have_same_ranges_along.Goals as goal
 

@@ -1,7 +1,7 @@
 use Rattle.std.proofs.Common.{◌++◌, ◌∷◌, [], map, length, sym, ap, ◌∙◌, subst, append_assoc, length-append, arith}
 use Rattle.tl_shape.specs.PointOrder.{points_cmp}
-use Rattle.tl_county.specs.Orders.{IsInOrder}
-use Rattle.tl_county.proofs.ByKey.KeyedLists.{empty_list}
+use Rattle.ordered_lists.specs.Orders.{IsInOrder}
+use Rattle.ordered_lists.proofs.ByKey.KeyedLists.{empty_list}
 use Rattle.tl_profile.specs.Choices.{is_either_way}
 use Rattle.tl_profile.specs.PlacedShapes.{whole_shape}
 use Rattle.tl_profile.specs.declared.open_places.OpenChoices.{OpenChoices}

@@ -1,7 +1,7 @@
 use Rattle.std.proofs.Common.{rules, is_lt}
 use Rattle.std.proofs.lemmas.List.Sorted.{ranks_by}
 use Rattle.std.proofs.lemmas.Fn.{always_returns_same}
-use Rattle.tl_county.proofs.ByKey.KeyedLists.{in_order-from_sorted}
+use Rattle.ordered_lists.proofs.ByKey.KeyedLists.{in_order-from_sorted}
 use Rattle.tl_profile.specs.PlacedShapes.{placed_key_cmp}
 use Rattle.tl_profile.proofs.PlacedOrder.{placed_key_total}
 use Rattle.tl_profile.proofs.shapes.order_shapes.Goals as goal

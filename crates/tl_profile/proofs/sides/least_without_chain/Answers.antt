@@ -1,11 +1,11 @@
 use Rattle.std.proofs.Common.{◌&&◌, not, map, sym, ◌∙◌, subst}
 use Rattle.tl_county.specs.CountyRules.{has_body, polygons_along}
-use Rattle.tl_county.specs.Keyed.{IsLeastPassing, is_unknown}
-use Rattle.tl_county.specs.Orders.{IsInOrder, stands_in}
+use Rattle.ordered_lists.specs.Keyed.{IsLeastPassing, is_unknown}
+use Rattle.ordered_lists.specs.Orders.{IsInOrder, stands_in}
 use Rattle.tl_county.specs.PolygonKeys.{key_cmp}
-use Rattle.tl_county.proofs.ByKey.KeyOrders.{key_keys}
-use Rattle.tl_county.proofs.ByKey.KeyedLists.{at_lists, least-same}
-use Rattle.tl_county.proofs.ByKey.Numbers.{distinct-in_order}
+use Rattle.tl_county.specs.Laws.KeyOrders.{key_keys}
+use Rattle.ordered_lists.proofs.ByKey.KeyedLists.{at_lists, least-same}
+use Rattle.ordered_lists.proofs.ByKey.Numbers.{distinct-in_order}
 use Rattle.tl_profile.proofs.SideKeys.{bodies_in_order, same_unknown}
 use Rattle.tl_profile.proofs.sides.least_without_chain.Goals as goal
 

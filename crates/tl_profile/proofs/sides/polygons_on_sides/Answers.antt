@@ -1,8 +1,8 @@
 use Rattle.std.proofs.Common.{◌++◌, take, refl, ap, ◌∙◌, arith, add-one}
 use Rattle.tl_county.specs.CountyRules.{polygons_along}
-use Rattle.tl_county.specs.Orders.{distinct}
+use Rattle.ordered_lists.specs.Orders.{distinct}
 use Rattle.tl_county.specs.PolygonKeys.{key_cmp}
-use Rattle.tl_county.proofs.ByKey.KeyOrders.{key_keys}
+use Rattle.tl_county.specs.Laws.KeyOrders.{key_keys}
 use Rattle.tl_county.proofs.ByKey.KeySets.{distinct-more}
 use Rattle.tl_profile.specs.Sides.{keys_on}
 use Rattle.tl_profile.proofs.SideKeys.{sides_next}

@@ -1,6 +1,6 @@
 use Rattle.std.proofs.Common.{◌≡◌, take}
 use Rattle.tl_county.specs.CountyRules.{polygons_along}
-use Rattle.tl_county.specs.Orders.{distinct}
+use Rattle.ordered_lists.specs.Orders.{distinct}
 use Rattle.tl_county.specs.PolygonKeys.{key_cmp}
 use Rattle.tl_profile.proofs.sides.polygons_on_sides.Given as goal
 

@@ -1,6 +1,6 @@
 use Rattle.std.proofs.Common.{subst}
 use Rattle.tl_county.specs.CountyRules.{is_without_chain}
-use Rattle.tl_county.specs.Keyed.{IsLeastPassing}
+use Rattle.ordered_lists.specs.Keyed.{IsLeastPassing}
 use Rattle.tl_county.specs.PolygonKeys.{key_cmp}
 use Rattle.tl_profile.proofs.FirstClauses.{first_polygon}
 use Rattle.tl_profile.proofs.sides.refuse_without_chain.Goals as goal

@@ -1,5 +1,5 @@
 use Rattle.std.proofs.Common.{◌≡◌, drop, nat_cmp}
-use Rattle.tl_county.specs.Entries.{value_under}
+use Rattle.ordered_lists.specs.Entries.{value_under}
 use Rattle.uses.proofs.citing.new_number.Given as goal
 
 abbrev pub invariant-loop-pair : goal.invariant-loop-pair

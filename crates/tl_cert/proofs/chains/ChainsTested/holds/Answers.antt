@@ -1,9 +1,10 @@
 use Rattle.std.proofs.Common.{◌≡◌, ap, ◌∙◌, nat_cmp, option_map}
 use Rattle.tl_shape.specs.Turned.{turned_if}
 use Rattle.tl_county.specs.ChartWords.{chain_at, chain_under}
-use Rattle.tl_county.specs.Renumbering.{image, turns, renumbered}
+use Rattle.ordered_lists.specs.Pairs.{image}
+use Rattle.tl_county.specs.Renumbering.{turns, renumbered}
 use Rattle.tl_cert.specs.PartsThere.{chain_carried}
-use Rattle.tl_county.proofs.Lists.ByPlace.{decides_over}
+use Rattle.ordered_lists.proofs.Lists.ByPlace.{decides_over}
 use Rattle.tl_cert.proofs.Places.{decides_entry}
 use Rattle.tl_cert.proofs.chains.ChainsTested.holds.Goals as goal
 

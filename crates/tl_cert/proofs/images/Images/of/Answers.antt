@@ -1,5 +1,5 @@
 use Rattle.std.proofs.Common.{◌∙◌, ap}
-use Rattle.tl_county.specs.Entries.{value_under}
+use Rattle.ordered_lists.specs.Entries.{value_under}
 use Rattle.tl_cert.proofs.images.Images.of.Goals as goal
 
 pub returns : goal.returns

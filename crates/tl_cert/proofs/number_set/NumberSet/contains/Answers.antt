@@ -1,6 +1,6 @@
 use Rattle.std.proofs.Common.{◌∙◌, ap, subst, nat_cmp, nat_lt, IsPermutation}
-use Rattle.tl_county.specs.Orders.{stands_in}
-use Rattle.tl_county.proofs.ByKey.Keys.{nat_keys, times-permutation}
+use Rattle.ordered_lists.specs.Orders.{stands_in}
+use Rattle.ordered_lists.proofs.ByKey.Keys.{nat_keys, times-permutation}
 use Rattle.tl_cert.proofs.number_set.NumberSet.contains.Goals as goal
 
 pub returns : goal.returns

@@ -1,8 +1,8 @@
 use Rattle.std.proofs.Common.{◌≡◌, false, subst, nat_cmp, IsPermutation}
 use Rattle.std.proofs.lemmas.List.Sorted.{IsPermutation-sym}
 use Rattle.std.specs.Bool.{Decides}
-use Rattle.tl_county.specs.Orders.{has_repeat}
-use Rattle.tl_county.proofs.Lists.ByPlace.{decides_same}
+use Rattle.ordered_lists.specs.Orders.{has_repeat}
+use Rattle.ordered_lists.proofs.Lists.ByPlace.{decides_same}
 use Rattle.tl_cert.proofs.Places.{repeat_permuted}
 use Rattle.tl_cert.proofs.number_set.NumberSet.has_no_repeat.Goals as goal
 

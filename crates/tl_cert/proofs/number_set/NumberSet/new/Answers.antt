@@ -1,6 +1,6 @@
 use Rattle.std.proofs.Common.{subst, IsPermutation}
 use Rattle.std.proofs.lemmas.Cmp.{nat_cmp_total}
-use Rattle.tl_county.proofs.ByKey.KeyedLists.{in_order-from_sorted}
+use Rattle.ordered_lists.proofs.ByKey.KeyedLists.{in_order-from_sorted}
 use Rattle.tl_cert.proofs.number_set.NumberSet.new.Goals as goal
 
 pub invariant_of-result : goal.invariant_of-result

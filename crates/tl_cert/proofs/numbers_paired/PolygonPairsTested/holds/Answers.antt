@@ -1,5 +1,5 @@
 use Rattle.std.proofs.Common.{◌≡◌}
-use Rattle.tl_county.proofs.Lists.ByPlace.{decides_read}
+use Rattle.ordered_lists.proofs.Lists.ByPlace.{decides_read}
 use Rattle.tl_cert.proofs.numbers_paired.PolygonPairsTested.holds.Goals as goal
 
 pub returns : goal.returns

@@ -1,7 +1,7 @@
 use Rattle.std.proofs.Common.{◌≡◌, [], ap, ◌∙◌, refl, nat_cmp, unwrap_or}
 use Rattle.tl_county.specs.ChartWords.{bodies_at, bodies_under}
-use Rattle.tl_county.specs.Renumbering.{image}
-use Rattle.tl_county.proofs.Lists.ByPlace.{decides_over}
+use Rattle.ordered_lists.specs.Pairs.{image}
+use Rattle.ordered_lists.proofs.Lists.ByPlace.{decides_over}
 use Rattle.tl_cert.proofs.Places.{decides_entry}
 use Rattle.tl_cert.proofs.parts.LandmarksTested.holds.Goals as goal
 

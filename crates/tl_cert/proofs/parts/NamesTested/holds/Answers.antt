@@ -1,8 +1,8 @@
 use Rattle.std.proofs.Common.{◌≡◌, ap, ◌∙◌, nat_cmp, slice_get}
 use Rattle.tl_county.specs.ChartWords.{name_under}
-use Rattle.tl_county.specs.Entries.{entry_values}
-use Rattle.tl_county.specs.Renumbering.{image}
-use Rattle.tl_county.proofs.Lists.ByPlace.{decides_over}
+use Rattle.ordered_lists.specs.Entries.{entry_values}
+use Rattle.ordered_lists.specs.Pairs.{image}
+use Rattle.ordered_lists.proofs.Lists.ByPlace.{decides_over}
 use Rattle.tl_cert.proofs.Places.{decides_entry}
 use Rattle.tl_cert.proofs.parts.NamesTested.holds.Goals as goal
 

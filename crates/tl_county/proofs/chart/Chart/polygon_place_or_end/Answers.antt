@@ -1,5 +1,5 @@
-use Rattle.tl_county.proofs.ByKey.KeyOrders.{key_keys}
-use Rattle.tl_county.proofs.Lists.Places.{value-stated}
+use Rattle.tl_county.specs.Laws.KeyOrders.{key_keys}
+use Rattle.ordered_lists.proofs.Lists.Places.{value-stated}
 use Rattle.tl_county.proofs.chart.Chart.polygon_place_or_end.Goals as goal
 
 pub returns : goal.returns

@@ -1,6 +1,6 @@
 use Rattle.std.proofs.Common.{sym, ap, ◌∙◌, nat_cmp}
-use Rattle.tl_county.specs.Entries.{value_under}
-use Rattle.tl_county.proofs.Lists.EntryLists.{map_values-id}
+use Rattle.ordered_lists.specs.Entries.{value_under}
+use Rattle.ordered_lists.proofs.Lists.EntryLists.{map_values-id}
 use Rattle.tl_county.proofs.kept.CountyIn.chain.Goals as goal
 
 pub returns : goal.returns

@@ -1,5 +1,5 @@
 use Rattle.std.proofs.Common.{[], ap, ◌∙◌, unwrap_or, option_map}
-use Rattle.tl_county.specs.Entries.{map_values}
+use Rattle.ordered_lists.specs.Entries.{map_values}
 use Rattle.tl_county.specs.LandmarkParts.{LandmarkParts}
 use Rattle.tl_county.proofs.Rules.BuiltTables.{bodies-at}
 use Rattle.tl_county.proofs.Rules.KeptParts.{value-at-kept}

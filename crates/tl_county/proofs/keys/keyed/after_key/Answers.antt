@@ -1,8 +1,8 @@
 use Rattle.std.proofs.Common.{◌≡◌, true, ◌∷◌, filter, is_gt, sym, ap, ◌∙◌, subst}
 use Rattle.std.specs.Ordering.{on}
-use Rattle.tl_county.specs.Orders.{IsInOrder}
-use Rattle.tl_county.proofs.ByKey.Keys.{IsKeyOrder}
-use Rattle.tl_county.proofs.ByKey.KeyedLists.{after-filtered}
+use Rattle.ordered_lists.specs.Orders.{IsInOrder}
+use Rattle.ordered_lists.proofs.ByKey.Keys.{IsKeyOrder}
+use Rattle.ordered_lists.proofs.ByKey.KeyedLists.{after-filtered}
 use Rattle.tl_county.proofs.keys.keyed.after_key.Goals as goal
 
 pub returns-then-is_gt : goal.returns-then-is_gt

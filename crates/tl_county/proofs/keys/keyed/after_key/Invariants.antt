@@ -1,6 +1,6 @@
 use Rattle.std.proofs.Common.{◌≡◌, filter, length}
 use Rattle.std.specs.Ordering.{on, is_gt}
-use Rattle.tl_county.specs.Orders.{IsInOrder}
+use Rattle.ordered_lists.specs.Orders.{IsInOrder}
 use Rattle.tl_county.proofs.keys.keyed.after_key.Given as goal
 
 abbrev pub invariant-loop-first : goal.invariant-loop-first

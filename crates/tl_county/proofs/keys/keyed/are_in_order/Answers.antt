@@ -2,7 +2,7 @@ use Rattle.std.proofs.Common.{rules}
 use Rattle.std.specs.Ordering.{is_le, on}
 use Rattle.std.proofs.lemmas.Cmp.{on_total}
 use Rattle.std.proofs.lemmas.Fn.{always_returns_same}
-use Rattle.tl_county.proofs.ByKey.KeyedLists.{answered-in_order, in_order-from_adjacent}
+use Rattle.ordered_lists.proofs.ByKey.KeyedLists.{answered-in_order, in_order-from_adjacent}
 use Rattle.tl_county.proofs.keys.keyed.are_in_order.Goals as goal
 
 pub returns-clause-in_order : goal.returns-clause-in_order

@@ -1,9 +1,9 @@
 use Rattle.std.proofs.Common.{◌≡◌, true, false, ◌∷◌, filter, not, Ordering, Less, Equal, Greater, refl, sym, ap, ◌∙◌, subst}
 use Rattle.std.proofs.lemmas.Bool.{false≢true}
 use Rattle.std.specs.Ordering.{on, is_lt, is_ge}
-use Rattle.tl_county.specs.Orders.{IsInOrder}
-use Rattle.tl_county.proofs.ByKey.Keys.{IsKeyOrder}
-use Rattle.tl_county.proofs.ByKey.KeyedLists.{from-filtered}
+use Rattle.ordered_lists.specs.Orders.{IsInOrder}
+use Rattle.ordered_lists.proofs.ByKey.Keys.{IsKeyOrder}
+use Rattle.ordered_lists.proofs.ByKey.KeyedLists.{from-filtered}
 use Rattle.tl_county.proofs.keys.keyed.from_key.Goals as goal
 
 not_less : (a : Ordering) → is_ge a ≡ true → is_lt a ≡ false

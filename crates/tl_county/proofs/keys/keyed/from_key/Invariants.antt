@@ -1,6 +1,6 @@
 use Rattle.std.proofs.Common.{◌≡◌, filter, not, length}
 use Rattle.std.specs.Ordering.{on, is_lt}
-use Rattle.tl_county.specs.Orders.{IsInOrder}
+use Rattle.ordered_lists.specs.Orders.{IsInOrder}
 use Rattle.tl_county.proofs.keys.keyed.from_key.Given as goal
 
 abbrev pub invariant-loop-first : goal.invariant-loop-first

@@ -1,9 +1,9 @@
 use Rattle.std.proofs.Common.{◌≡◌, [], ◌∷◌, map, true, false, is_eq, ap, ◌∙◌, subst}
-use Rattle.tl_county.specs.Keyed.{is_repeated}
+use Rattle.ordered_lists.specs.Keyed.{is_repeated}
 use Rattle.std.specs.Ordering.{on}
-use Rattle.tl_county.specs.Orders.{IsInOrder}
-use Rattle.tl_county.proofs.ByKey.Keys.{IsKeyOrder}
-use Rattle.tl_county.proofs.ByKey.KeyedLists.{decided-twice, left-once, left-one, empty_list}
+use Rattle.ordered_lists.specs.Orders.{IsInOrder}
+use Rattle.ordered_lists.proofs.ByKey.Keys.{IsKeyOrder}
+use Rattle.ordered_lists.proofs.ByKey.KeyedLists.{decided-twice, left-once, left-one, empty_list}
 use Rattle.tl_county.proofs.keys.keyed.least_repeated.Goals as goal
 
 pub returns-then-is_eq : goal.returns-then-is_eq

@@ -1,8 +1,8 @@
 use Rattle.std.proofs.Common.{◌≡◌, ◌+◌, ◌++◌, length, filter, is_eq, is_gt, arith, sym, ap, ◌∙◌, subst, length-append}
 use Rattle.std.specs.Ordering.{on}
-use Rattle.tl_county.specs.Orders.{IsInOrder}
-use Rattle.tl_county.proofs.ByKey.Keys.{IsKeyOrder}
-use Rattle.tl_county.proofs.ByKey.KeyedLists.{group-and_later, later-from, in_order-filter, take-front}
+use Rattle.ordered_lists.specs.Orders.{IsInOrder}
+use Rattle.ordered_lists.proofs.ByKey.Keys.{IsKeyOrder}
+use Rattle.ordered_lists.proofs.ByKey.KeyedLists.{group-and_later, later-from, in_order-filter, take-front}
 use Rattle.tl_county.proofs.keys.keyed.split_group.Goals as goal
 
 pub after_key-later-requires : goal.after_key-later-requires

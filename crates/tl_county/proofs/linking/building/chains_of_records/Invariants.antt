@@ -3,7 +3,7 @@ use Rattle.std.specs.List.Sorted.{IsStrictlySortedBy}
 use Rattle.std.specs.Ordering.{on}
 use Rattle.tl_county.specs.Building.{chains_along}
 use Rattle.tl_county.specs.County.{one_tlid, two_tlid, four_tlid, six_tlid}
-use Rattle.tl_county.specs.Orders.{IsInOrder}
+use Rattle.ordered_lists.specs.Orders.{IsInOrder}
 use Rattle.tl_county.proofs.linking.building.chains_of_records.Given as goal
 
 abbrev pub invariant-loop-head : goal.invariant-loop-head

@@ -3,7 +3,7 @@ use Rattle.std.specs.List.Sorted.{IsStrictlySortedBy}
 use Rattle.std.specs.Ordering.{on}
 use Rattle.tl_county.specs.Building.{landmark_of}
 use Rattle.tl_county.specs.County.{seven_land, eight_land}
-use Rattle.tl_county.specs.Orders.{IsInOrder}
+use Rattle.ordered_lists.specs.Orders.{IsInOrder}
 use Rattle.tl_county.proofs.linking.building.landmarks_of.Given as goal
 
 abbrev pub invariant-loop-land : goal.invariant-loop-land

@@ -6,14 +6,14 @@ use Rattle.tl_layout.specs.declared.record_type.Record.{Record}
 use Rattle.tl_county.specs.BodyOrder.{landmark_body_cmp, link_part, link_part_cmp}
 use Rattle.tl_county.specs.County.{seven_land, eight_land, link_key, p_key, side_keys}
 use Rattle.tl_county.specs.Packing.{Typed, by_type}
-use Rattle.tl_county.specs.Keyed.{IsLeastPassing, is_repeated, is_unknown}
+use Rattle.ordered_lists.specs.Keyed.{IsLeastPassing, is_repeated, is_unknown}
 use Rattle.tl_county.specs.OrderedTables.{typed_of}
-use Rattle.tl_county.specs.Orders.{IsInOrder, distinct}
+use Rattle.ordered_lists.specs.Orders.{IsInOrder, distinct}
 use Rattle.tl_county.specs.PolygonKeys.{PolygonKey, key_cmp}
 use Rattle.tl_county.specs.RuleOrder.{RulesHold}
-use Rattle.tl_county.proofs.ByKey.KeyOrders.{key_keys}
-use Rattle.tl_county.proofs.ByKey.KeyedLists.{at_lists, least-same}
-use Rattle.tl_county.proofs.ByKey.Numbers.{distinct-in_order}
+use Rattle.tl_county.specs.Laws.KeyOrders.{key_keys}
+use Rattle.ordered_lists.proofs.ByKey.KeyedLists.{at_lists, least-same}
+use Rattle.ordered_lists.proofs.ByKey.Numbers.{distinct-in_order}
 use Rattle.tl_county.proofs.Rules.RuleOrders.{rule-holds, rule-broken, rules-join, first-after}
 use Rattle.tl_county.proofs.Rules.RuleTests.{in_order-first, unknown-distinct, rule_18, rule_19, rule_20}
 use Rattle.tl_county.proofs.linking.rules.check_landmarks.Goals as goal

@@ -1,6 +1,6 @@
 use Rattle.std.proofs.Common.{ℕ, List, map, flat_map, subst, nat_cmp, Option, Some, None, arith}
 use Rattle.tl_county.specs.County.{five_feat}
-use Rattle.tl_county.specs.Keyed.{IsLeastPassing, is_repeated}
+use Rattle.ordered_lists.specs.Keyed.{IsLeastPassing, is_repeated}
 use Rattle.tl_county.specs.OrderedTables.{typed_of}
 use Rattle.tl_county.specs.RuleOrder.{RulesHold}
 use Rattle.tl_county.specs.SequenceKeys.{is_unnamed, sequence_cmp, uses_of}

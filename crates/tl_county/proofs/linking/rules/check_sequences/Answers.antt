@@ -1,7 +1,7 @@
 use Rattle.std.proofs.Common.{ℕ, List, map, refl, subst, Option, None, arith}
 use Rattle.tl_layout.specs.declared.record_type.Record.{Record}
 use Rattle.tl_county.specs.County.{two_tlid, two_rtsq, four_tlid, four_rtsq, six_tlid, six_rtsq}
-use Rattle.tl_county.specs.Keyed.{IsLeastPassing, is_repeated}
+use Rattle.ordered_lists.specs.Keyed.{IsLeastPassing, is_repeated}
 use Rattle.tl_county.specs.Packing.{Typed, by_type}
 use Rattle.tl_county.specs.RuleOrder.{RulesHold}
 use Rattle.tl_county.specs.SequenceKeys.{sequence_cmp, two_sequence, four_sequence, six_sequence}

@@ -1,7 +1,7 @@
 use Rattle.std.proofs.Common.{◌≡◌, ◌∷◌, false, Some, sym, ap, ◌∙◌, subst, nat_cmp}
-use Rattle.tl_county.specs.Orders.{IsInOrder, stands_in}
+use Rattle.ordered_lists.specs.Orders.{IsInOrder, stands_in}
 use Rattle.tl_county.specs.SequenceKeys.{is_unnamed, sequence_cmp}
-use Rattle.tl_county.proofs.ByKey.KeyedLists.{least-same}
+use Rattle.ordered_lists.proofs.ByKey.KeyedLists.{least-same}
 use Rattle.tl_county.proofs.Rules.RuleTests.{unnamed-first}
 use Rattle.tl_county.proofs.linking.rules.least_unnamed.Goals as goal
 

@@ -1,5 +1,5 @@
 use Rattle.std.proofs.Common.{◌≡◌, ℕ, length}
-use Rattle.tl_county.specs.Orders.{IsInOrder}
+use Rattle.ordered_lists.specs.Orders.{IsInOrder}
 use Rattle.tl_county.specs.SequenceKeys.{is_unnamed, sequence_cmp}
 use Rattle.tl_county.proofs.linking.rules.least_unnamed.Given as goal
 

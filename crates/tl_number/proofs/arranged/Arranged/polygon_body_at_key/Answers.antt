@@ -1,5 +1,5 @@
 use Rattle.std.proofs.Common.{slice_get, ap, ◌∙◌}
-use Rattle.tl_county.specs.Entries.{entry_values}
+use Rattle.ordered_lists.specs.Entries.{entry_values}
 use Rattle.tl_number.specs.ViewFacts.{stepped}
 use Rattle.tl_number.proofs.Views.ViewTables.{read_at, read_past}
 use Rattle.tl_number.proofs.arranged.Arranged.polygon_body_at_key.Goals as goal

@@ -1,6 +1,6 @@
 use Rattle.std.proofs.Common.{◌<◌, ◌∙◌, sym, subst, nat_cmp}
 use Rattle.std.specs.Ordering.{on}
-use Rattle.tl_county.proofs.Rules.LinkedCounty.{length-in_order}
+use Rattle.ordered_lists.proofs.ByKey.Numbers.{length-in_order}
 use Rattle.tl_number.specs.ByNumber.{entry_polyid, polygons_by_number}
 use Rattle.tl_number.specs.ViewFacts.{stepped}
 use Rattle.tl_profile.proofs.Places.{stands_at, is_some_from}

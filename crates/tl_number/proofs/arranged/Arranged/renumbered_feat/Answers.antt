@@ -1,5 +1,5 @@
 use Rattle.std.proofs.Common.{Some, option_map, sym, ap, ◌∙◌, nat_cmp}
-use Rattle.tl_county.specs.Renumbering.{image}
+use Rattle.ordered_lists.specs.Pairs.{image}
 use Rattle.tl_number.specs.Arrangement.{renaming_of}
 use Rattle.tl_number.specs.Steps.{arrangement_of}
 use Rattle.tl_number.proofs.Views.ViewTables.{feats_paired}

@@ -1,6 +1,6 @@
 use Rattle.std.proofs.Common.{ap, ◌∙◌, slice_get}
 use Rattle.std.proofs.lemmas.Option.{slice_get-map}
-use Rattle.tl_county.specs.Entries.{entry_values}
+use Rattle.ordered_lists.specs.Entries.{entry_values}
 use Rattle.tl_number.specs.ByStep.{sides_of}
 use Rattle.tl_number.specs.ViewFacts.{stepped}
 use Rattle.tl_number.proofs.arranged.Arranged.sides_at.Goals as goal

@@ -2,7 +2,7 @@ use Rattle.std.proofs.Common.{Option, option_map, slice_get, sym, ap, ◌∙◌,
 use Rattle.std.proofs.lemmas.Option.{slice_get-map}
 use Rattle.tl_shape.specs.Chain.{Chain}
 use Rattle.tl_county.specs.ChartWords.{feats_of}
-use Rattle.tl_county.specs.Renumbering.{image}
+use Rattle.ordered_lists.specs.Pairs.{image}
 use Rattle.tl_number.specs.Arrangement.{renaming_of}
 use Rattle.tl_number.specs.Steps.{arrangement_of}
 use Rattle.tl_number.proofs.Views.ViewChains.{stated, unstated}

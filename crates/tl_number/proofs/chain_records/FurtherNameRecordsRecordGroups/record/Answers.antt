@@ -7,7 +7,7 @@ use Rattle.tl_county.specs.ChartWords.{feats_of}
 use Rattle.tl_county.specs.County.{County}
 use Rattle.tl_county.specs.CountyRules.{IsCounty}
 use Rattle.tl_county.specs.Limits.{IsWithinLimits, most_records}
-use Rattle.tl_county.proofs.Lists.Counted.{all_take, all_drop}
+use Rattle.ordered_lists.proofs.Lists.Counted.{all_take, all_drop}
 use Rattle.tl_number.specs.CountyGroups.{type_4_by_chain}
 use Rattle.tl_number.specs.Groups.{group_at}
 use Rattle.tl_number.proofs.Records.RecordPlaces.{PieceThere, piece_there, tlid_of}

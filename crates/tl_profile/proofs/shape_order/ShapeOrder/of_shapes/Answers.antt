@@ -1,6 +1,6 @@
 use Rattle.std.proofs.Common.{map, sym, ap, ◌∙◌, subst}
 use Rattle.tl_shape.specs.PointOrder.{points_cmp}
-use Rattle.tl_county.proofs.Lists.Elements.{map-map}
+use Rattle.ordered_lists.proofs.Lists.Elements.{map-map}
 use Rattle.tl_profile.specs.Choices.{is_either_way, open_places}
 use Rattle.tl_profile.specs.PlacedShapes.{placed_walk}
 use Rattle.tl_profile.specs.ShapeOrder.{AreWalksInOrder, points_along}

@@ -1,7 +1,7 @@
 use Rattle.std.proofs.Common.{subst, sym}
 use Rattle.tl_county.specs.County.{County}
 use Rattle.tl_county.specs.CountyRules.{is_without_chain}
-use Rattle.tl_county.specs.Keyed.{IsLeastPassing}
+use Rattle.ordered_lists.specs.Keyed.{IsLeastPassing}
 use Rattle.tl_county.specs.PolygonKeys.{key_cmp}
 use Rattle.tigercanon_tests.proofs.tests.refusals.over_linked.admit_over.Goals as goal
 

@@ -1,6 +1,6 @@
 use Rattle.std.proofs.Common.{sym, subst}
 use Rattle.tl_county.specs.CountyRules.{tlids}
-use Rattle.tl_county.proofs.ByKey.Keys.{nat_keys, times-permutation}
+use Rattle.ordered_lists.proofs.ByKey.Keys.{nat_keys, times-permutation}
 use Rattle.tl_number.specs.Arrangement.{ascending, arranged_tlids}
 use Rattle.tl_number.specs.ViewFacts.{NamesEachOnce}
 use Rattle.tl_number.proofs.CanonicalLists.Ascending.{sides_in_profile}

@@ -1,5 +1,5 @@
 use Rattle.std.proofs.Common.{ap, ◌∙◌, nat_cmp}
-use Rattle.tl_county.specs.Orders.{stands_in}
+use Rattle.ordered_lists.specs.Orders.{stands_in}
 use Rattle.tl_county.proofs.Rules.KeptParts.{found-in, lands-kept-in}
 use Rattle.tl_county.proofs.kept.kept_chart.StoredCountyChart.landmark_place.Goals as goal
 

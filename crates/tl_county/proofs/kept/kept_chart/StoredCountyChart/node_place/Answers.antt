@@ -1,9 +1,9 @@
 use Rattle.std.proofs.Common.{sym, ◌∙◌, subst, nat_cmp}
 use Rattle.tl_county.specs.CountyRules.{nodes_along}
-use Rattle.tl_county.specs.Entries.{map_values}
-use Rattle.tl_county.specs.Orders.{IsInOrder}
-use Rattle.tl_county.proofs.ByKey.Keys.{nat_keys}
-use Rattle.tl_county.proofs.ByKey.Numbers.{distinct-in_order}
+use Rattle.ordered_lists.specs.Entries.{map_values}
+use Rattle.ordered_lists.specs.Orders.{IsInOrder}
+use Rattle.ordered_lists.proofs.ByKey.Keys.{nat_keys}
+use Rattle.ordered_lists.proofs.ByKey.Numbers.{distinct-in_order}
 use Rattle.tl_county.proofs.kept.kept_chart.StoredCountyChart.node_place.Goals as goal
 
 pub place_of-requires : goal.place_of-requires

@@ -1,7 +1,7 @@
 use Rattle.std.proofs.Common.{sym, ap, ◌∙◌, subst}
 use Rattle.std.specs.List.Sorted.{IsStrictlySortedBy}
-use Rattle.tl_county.specs.Entries.{entry_keys}
-use Rattle.tl_county.proofs.Lists.EntryLists.{keys-zip}
+use Rattle.ordered_lists.specs.Entries.{entry_keys}
+use Rattle.ordered_lists.proofs.Lists.EntryLists.{keys-zip}
 use Rattle.tl_county.proofs.kept.table.Table.keys.Goals as goal
 
 pub returns-clause-value : goal.returns-clause-value

@@ -1,4 +1,4 @@
-use Rattle.tl_county.proofs.Lists.EntryLists.{keys-zip, values-zip}
+use Rattle.ordered_lists.proofs.Lists.EntryLists.{keys-zip, values-zip}
 use Rattle.tl_county.proofs.kept.table.Table.new.Goals as goal
 
 pub returns-clause-keys : goal.returns-clause-keys

@@ -1,7 +1,7 @@
 use Rattle.std.proofs.Common.{sym, subst}
-use Rattle.tl_county.specs.Entries.{entry_keys}
-use Rattle.tl_county.specs.Orders.{IsInOrder}
-use Rattle.tl_county.proofs.Lists.EntryLists.{in_order-strict}
+use Rattle.ordered_lists.specs.Entries.{entry_keys}
+use Rattle.ordered_lists.specs.Orders.{IsInOrder}
+use Rattle.ordered_lists.proofs.Lists.EntryLists.{in_order-strict}
 use Rattle.tl_county.proofs.kept.table.Table.place.Goals as goal
 
 pub place_of-requires : goal.place_of-requires

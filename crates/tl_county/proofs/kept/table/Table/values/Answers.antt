@@ -1,6 +1,6 @@
 use Rattle.std.proofs.Common.{sym, ap, ◌∙◌}
-use Rattle.tl_county.specs.Entries.{entry_values}
-use Rattle.tl_county.proofs.Lists.EntryLists.{values-zip}
+use Rattle.ordered_lists.specs.Entries.{entry_values}
+use Rattle.ordered_lists.proofs.Lists.EntryLists.{values-zip}
 use Rattle.tl_county.proofs.kept.table.Table.values.Goals as goal
 
 pub returns : goal.returns

@@ -1,6 +1,6 @@
 use Rattle.std.proofs.Common.{◌∷◌, ◌++◌, [], ap, ◌∙◌}
-use Rattle.tl_county.specs.Orders.{distinct}
-use Rattle.tl_county.proofs.ByKey.Keys.{IsKeyOrder}
+use Rattle.ordered_lists.specs.Orders.{distinct}
+use Rattle.ordered_lists.proofs.ByKey.Keys.{IsKeyOrder}
 use Rattle.tl_county.proofs.ByKey.KeySets.{inserted-distinct}
 use Rattle.tl_county.proofs.keys.key_set.KeySet.insert.Goals as goal
 

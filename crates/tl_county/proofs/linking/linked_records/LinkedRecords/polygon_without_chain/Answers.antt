@@ -1,11 +1,11 @@
 use Rattle.std.proofs.Common.{map, flat_map, sym, ap, ◌∙◌, subst}
 use Rattle.tl_county.specs.County.{county_of, p_key, side_keys}
 use Rattle.tl_county.specs.CountyRules.{is_without_chain}
-use Rattle.tl_county.specs.Keyed.{IsLeastPassing, is_unknown}
+use Rattle.ordered_lists.specs.Keyed.{IsLeastPassing, is_unknown}
 use Rattle.tl_county.specs.OrderedTables.{typed_of}
 use Rattle.tl_county.specs.Packing.{Typed, type_after_type}
 use Rattle.tl_county.specs.PolygonKeys.{key_cmp}
-use Rattle.tl_county.proofs.ByKey.KeyedLists.{least-same}
+use Rattle.ordered_lists.proofs.ByKey.KeyedLists.{least-same}
 use Rattle.tl_county.proofs.Rules.TypedRecords.{by_type-after}
 use Rattle.tl_county.proofs.Rules.WithoutChain.{same_without_chain}
 use Rattle.tl_county.proofs.linking.linked_records.LinkedRecords.polygon_without_chain.Goals as goal

@@ -1,0 +1,13 @@
+pub mod Elements
+pub mod Distinct
+pub mod Members
+pub mod Among
+pub mod InOrder
+pub mod Reordered
+pub mod EntryLists
+pub mod Places
+pub mod Counted
+pub mod Permutations
+pub mod FreePlaces
+pub mod Groups
+pub mod ByPlace

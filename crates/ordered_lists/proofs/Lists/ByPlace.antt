@@ -1,0 +1,82 @@
+-- Lists that are read place by place, and tests that decide a property.
+use Rattle.std.proofs.Common.{◌≡◌, ◌<◌, ◌≤◌, ◌+◌, ℕ, zero, suc, List, [], ◌∷◌, length, take, get_or, Bool, false, Ordering}
+use Rattle.std.proofs.Common.{IfSome, slice_get, refl, sym, ap, ◌∙◌, subst, add-one, arith, IsPermutation}
+use Rattle.std.proofs.lemmas.Bool.{false≢true}
+use Rattle.std.proofs.lemmas.List.{take_all}
+use Rattle.std.proofs.lemmas.List.Sorted.{IsPermutation-sym, IsPermutation-trans}
+use Rattle.std.specs.Bool.{Decides}
+use Rattle.std.specs.List.{AllByRecursion}
+use Rattle.ordered_lists.specs.Orders.{IsInOrder, in_order}
+use Rattle.ordered_lists.proofs.Lists.InOrder.{in_order-in_order, in_order-permutation}
+use Rattle.ordered_lists.proofs.Lists.Permutations.{in_order-is_permutation}
+use Rattle.ordered_lists.proofs.ByKey.Keys.{IsKeyOrder}
+
+-- if a test fails, so does a property that implies the tested one
+pub decides_no : {P Q : Type 0} (b : Bool) → b ≡ false → Decides b P → (Q → P) → Decides false Q
+decides_no b e d f = (λ t. absurd (false≢true t), λ q. absurd (false≢true (sym e ∙ d.1 (f q))))
+
+pub decides_same : {P Q : Type 0} (b : Bool) → Decides b P → (P → Q) → (Q → P) → Decides b Q
+decides_same b d f g = (λ e. f (d.0 e), λ q. d.1 (g q))
+
+-- the same test of equal values
+pub decides_over : {X : Type 0} (b : Bool) (x x' y y' : X) → x ≡ x' → y ≡ y' → Decides b (x ≡ y) → Decides b (x' ≡ y')
+decides_over b x x' y y' p q d = (λ t. sym p ∙ d.0 t ∙ q, λ e. d.1 (p ∙ e ∙ sym q))
+
+-- the elements before a place that is past the last one are all elements
+pub taken_all : {X : Type 0} (xs ys : List X) (i n : ℕ) → ys ≡ take i xs → length xs ≡ n → n ≤ i → ys ≡ xs
+taken_all xs ys i n e l h = e ∙ take_all i xs (omega (arith, l, h))
+
+-- a property of the elements so far and of the next one
+module _ {X : Type 0} (P : X → Type 0) where
+  all_next_at : (xs : List X) (i : ℕ) → AllByRecursion P (take i xs) → IfSome (slice_get xs i) P → AllByRecursion P (take (suc i) xs)
+  all_next_at [] i a p = tt
+  all_next_at (x ∷ xs) zero a p = (p, tt)
+  all_next_at (x ∷ xs) (suc i) a p = (a.0, all_next_at xs i a.1 p)
+
+  pub all_next : (xs : List X) (i : ℕ) → AllByRecursion P (take i xs) → IfSome (slice_get xs i) P → AllByRecursion P (take (i + 1) xs)
+  all_next xs i a p = rw add-one (all_next_at xs i a p)
+
+  pub all_at : (xs : List X) → AllByRecursion P xs → (i : ℕ) → IfSome (slice_get xs i) P
+  all_at [] a i = tt
+  all_at (x ∷ xs) a zero = a.0
+  all_at (x ∷ xs) a (suc i) = all_at xs a.1 i
+
+  pub all_seen : (xs : List X) (i n : ℕ) → AllByRecursion P (take i xs) → length xs ≡ n → n ≤ i → AllByRecursion P xs
+  all_seen xs i n a l h = subst (AllByRecursion P) (take_all i xs (omega (arith, l, h))) a
+
+-- two lists are equal so far and at the next place
+module _ {X : Type 0} where
+  same_next_at : (xs ys : List X) (i : ℕ) → take i xs ≡ take i ys → slice_get xs i ≡ slice_get ys i → take (suc i) xs ≡ take (suc i) ys
+  same_next_at [] [] i e f = refl
+  same_next_at [] (y ∷ ys) zero e f = cc
+  same_next_at [] (y ∷ ys) (suc i) e f = cc
+  same_next_at (x ∷ xs) [] zero e f = cc
+  same_next_at (x ∷ xs) [] (suc i) e f = cc
+  same_next_at (x ∷ xs) (y ∷ ys) zero e f = let same : x ≡ y = cc in ap (λ z. z ∷ []) same
+  same_next_at (x ∷ xs) (y ∷ ys) (suc i) e f =
+      let first : x ≡ y = cc in
+      let rest : take i xs ≡ take i ys = cc in
+      λ j. first j ∷ same_next_at xs ys i rest f j
+
+  pub same_next : (xs ys : List X) (i : ℕ) → take i xs ≡ take i ys → slice_get xs i ≡ slice_get ys i → take (i + 1) xs ≡ take (i + 1) ys
+  same_next xs ys i e f = rw add-one (same_next_at xs ys i e f)
+
+  pub same_seen : (xs ys : List X) (i n : ℕ) → take i xs ≡ take i ys → length xs ≡ n → length ys ≡ n → n ≤ i → xs ≡ ys
+  same_seen xs ys i n e l m h =
+      sym (take_all i xs (omega (arith, l, h))) ∙ e ∙ take_all i ys (omega (arith, m, h))
+
+-- a test of the element that an index reads
+pub decides_read : {X : Type 0} (P : X → Type 0) (xs : List X) (i : ℕ) (d : X) → i < length xs → (b : Bool) → Decides b (P (get_or xs i d))
+    → Decides b (IfSome (slice_get xs i) P)
+decides_read P [] i d l b e = absurd (omega (arith, l))
+decides_read P (x ∷ xs) zero d l b e = e
+decides_read P (x ∷ xs) (suc i) d l b e = decides_read P xs i d (omega (arith, l)) b e
+
+-- a permutation that is in order is the list put in order
+pub sorted_in_order : {K : Type 0} {cmp : K → K → Ordering} → IsKeyOrder cmp → (before after : List K) → IsPermutation before after
+    → IsInOrder cmp after → after ≡ in_order cmp before
+sorted_in_order {cmp = cmp} o before after p h =
+    let same : IsPermutation after (in_order cmp before) =
+    IsPermutation-trans after before (in_order cmp before) (IsPermutation-sym before after p)
+    (IsPermutation-sym (in_order cmp before) before (in_order-is_permutation cmp before)) in
+    in_order-permutation o after (in_order cmp before) h (in_order-in_order o.total before) same

@@ -1,0 +1,5 @@
+pub mod KeyOrders
+pub mod PackedTypes
+pub mod TypeCounts
+pub mod MaskedCounties
+pub mod MaskedLimits
