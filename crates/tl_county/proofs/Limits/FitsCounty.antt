@@ -52,7 +52,7 @@ use Rattle.ordered_lists.proofs.ByKey.Keys.{IsApart, nat_keys, apart_from_sorted
 use Rattle.ordered_lists.proofs.ByKey.Keys.{differ, differ_apart}
 use Rattle.tl_county.proofs.Rules.LinkedCounty.{chains_all, the_link, tlids-county, county-is_county}
 use Rattle.ordered_lists.proofs.ByKey.Numbers.{length-in_order}
-use Rattle.ordered_lists.proofs.Lists.Elements.{all_weaker, all_map, all_append, all_joined, all_filter, all_everywhere}
+use Rattle.ordered_lists.proofs.Lists.Elements.{all_weaker, all_map, all_append, all_joined, all_filter, all_everywhere, flat_map-map}
 use Rattle.ordered_lists.proofs.Lists.Members.{among-map, among_known}
 use Rattle.ordered_lists.proofs.ByKey.Numbers.{all-in_order, count-map}
 
