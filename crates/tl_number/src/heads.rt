@@ -13,7 +13,7 @@ pub struct HeadBuffers {
     pub counts: [usize; HEADS_TOGETHER],
     /// The ends of chains.
     pub ends: [(Point, Point); HEADS_TOGETHER],
-    /// A byte from the content of the type I record of each chain.
+    /// For each chain, a byte made of two bytes of the content of its type I record. It has no meaning.
     pub topology_bytes: [u8; HEADS_TOGETHER],
     /// The keys of polygons, and the contents of their type P records.
     pub polygons: [(PolygonKey, Option<BodyP>); HEADS_TOGETHER],
