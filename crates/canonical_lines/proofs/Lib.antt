@@ -1,0 +1,5 @@
+pub mod NumberTexts
+pub mod PointTexts
+pub mod PlaceSteps
+pub mod RowLaws
+pub mod TypeLines

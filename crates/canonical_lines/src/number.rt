@@ -1,0 +1,65 @@
+//! Columns that hold the canonical text of a number.
+
+ghost use Rattle.canonical_lines.specs.Texts.{IsNumeral, IsNumberText, IsNumberOrNoneText};
+ghost use Rattle.std.specs.List.{list_all};
+ghost use Rattle.std.specs.Prelude.{◌≡◌, IsTrue};
+ghost use Rattle.tl_layout.specs.NumberField.{is_digit};
+ghost use Rattle.tl_layout.specs.NumberReading.{drop_blanks};
+
+/// The columns without their leading blanks.
+#[inline(always)]
+fn without_blanks(columns: &[u8]) -> &[u8]
+    ensures { result.now ≡ drop_blanks columns.now }
+{
+    let mut rest = columns;
+    while let [b' ', after @ ..] = rest {
+        rest = after;
+    }
+    rest
+}
+
+/// Whether each of the bytes is a digit.
+#[inline(always)]
+fn are_digits(bytes: &[u8]) -> bool
+    ensures { result ≡ list_all is_digit bytes.now }
+{
+    bytes.iter().all(|byte| *byte >= b'0' && *byte <= b'9')
+}
+
+/// Whether the bytes are one digit or more, the first of them not a zero.
+#[inline(always)]
+fn is_numeral(bytes: &[u8]) -> bool
+    ensures { IsTrue result → IsNumeral bytes.now }
+{
+    match bytes {
+        [b'1'..=b'9', digits @ ..] => are_digits(digits),
+        _ => false,
+    }
+}
+
+/// Whether the columns hold the canonical text of a number: blanks, and then digits without leading zeros.
+#[inline(always)]
+pub(crate) fn is_number(columns: &[u8]) -> bool
+    ensures { IsTrue result → IsNumberText columns.now }
+{
+    is_numeral(without_blanks(columns))
+}
+
+/// Whether the columns hold the canonical text of a number, or only blanks.
+#[inline(always)]
+fn is_number_or_none(columns: &[u8]) -> bool
+    ensures { IsTrue result → IsNumberOrNoneText columns.now }
+{
+    match without_blanks(columns) {
+        [] => true,
+        numeral => is_numeral(numeral),
+    }
+}
+
+/// Whether two fields each hold the canonical text of a number, or only blanks.
+#[inline(always)]
+pub(crate) fn are_numbers_or_none(left: &[u8], right: &[u8]) -> bool
+    ensures { IsTrue result → IsNumberOrNoneText left.now × IsNumberOrNoneText right.now }
+{
+    is_number_or_none(left) && is_number_or_none(right)
+}
