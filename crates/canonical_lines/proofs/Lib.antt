@@ -1,5 +1,5 @@
+pub mod PlaceSteps
 pub mod NumberTexts
 pub mod PointTexts
-pub mod PlaceSteps
 pub mod RowLaws
 pub mod TypeLines

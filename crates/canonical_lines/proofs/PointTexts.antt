@@ -1,14 +1,16 @@
 -- A sign and digits are the canonical text of a coordinate.
 use Rattle.std.proofs.Common.{◌≡◌, ℕ, zero, suc, ◌+◌, ◌-◌, ◌*◌, ◌/◌, ◌%◌, ◌^◌, ◌<◌, ◌≤◌, ◌⊎◌, inl, inr, List, [], ◌∷◌, ◌++◌, length, true}
-use Rattle.std.proofs.Common.{refl, sym, ap, ◌∙◌, arith, append_assoc, subst, get_or, take, drop, slice_range, eqb, ℤ, pos, negsuc, unsigned_abs, None}
+use Rattle.std.proofs.Common.{refl, sym, ap, ◌∙◌, arith, append_assoc, subst, replicate, get_or, take, drop, slice_range, eqb, ℤ, pos, negsuc, unsigned_abs, Some, None}
 use Rattle.std.specs.List.{list_all}
 use Rattle.std.proofs.lemmas.Bool.{and_parts, and_from, le-leb, eqb-true}
 use Rattle.std.proofs.lemmas.List.{append-nil, take_all, take-append-drop, length-drop}
-use Rattle.canonical_lines.specs.Texts.{IsCoordinateText, IsPointText}
-use Rattle.canonical_lines.proofs.NumberTexts.{digit_bounds}
+use Rattle.canonical_lines.specs.Texts.{IsCoordinateText, IsPointOrNoneText, IsPointText}
+use Rattle.canonical_lines.proofs.NumberTexts.{digit_bounds, only_blanks}
+use Rattle.canonical_lines.proofs.PlaceSteps.{IsUsed}
+use Rattle.tl_layout.specs.Coordinates.{IsOnMap}
 use Rattle.tl_layout.specs.FieldTexts.{digits_text, coordinate_text, point_place_text}
 use Rattle.tl_layout.specs.Laws.NumberTextLaws.{number_below}
-use Rattle.tl_layout.specs.NumberField.{is_digit, value_after}
+use Rattle.tl_layout.specs.NumberField.{is_blank, is_digit, value_after}
 use lib.Lanes.{chunk}
 use lib.Pointwise.{pointwise}
 
@@ -149,3 +151,16 @@ point_text_of long lat columns e l m n =
       on_map = record { long = omega arith; lat = omega arith; somewhere = sum };
       text = text;
     }
+
+-- a used place for a point
+pub point_used : {columns : List ℕ} → IsPointText columns → IsUsed IsOnMap point_place_text columns
+point_used t = record { item = t.point; fits = t.on_map; is = t.text }
+
+-- no point
+pub no_point_of : (columns : List ℕ) → length columns ≡ 19 → list_all is_blank columns ≡ true → IsPointOrNoneText columns
+no_point_of columns l b =
+    record { point = None; on_map = tt; text = only_blanks columns b ∙ ap (λ (n : ℕ). replicate n 32) l }
+
+-- a point is a point or none
+pub some_point_of : (columns : List ℕ) → IsPointText columns → IsPointOrNoneText columns
+some_point_of columns t = record { point = Some t.point; on_map = t.on_map; text = t.text }

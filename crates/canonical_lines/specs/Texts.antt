@@ -1,8 +1,8 @@
 -- Columns that hold the canonical text of a value that fits them.
-use Rattle.std.specs.Prelude.{◌≡◌, ◌≤◌, ◌<◌, ◌^◌, ℕ, ℤ, unsigned_abs, List, ◌∷◌, length, true, Option, unwrap_or, Some}
+use Rattle.std.specs.Prelude.{◌≡◌, ◌≤◌, ◌<◌, ◌^◌, ℕ, ℤ, unsigned_abs, List, ◌∷◌, ◌++◌, length, true, Option, IfSome, unwrap_or, Some}
 use Rattle.std.specs.List.{AllByRecursion, list_all}
 use Rattle.tl_layout.specs.Coordinates.{Coordinates, IsOnMap}
-use Rattle.tl_layout.specs.FieldTexts.{number_text, coordinate_text, point_place_text, places_text}
+use Rattle.tl_layout.specs.FieldTexts.{number_text, coordinate_text, long_text, lat_text, point_place_text, places_text}
 use Rattle.tl_layout.specs.NumberField.{is_digit}
 use Rattle.tl_layout.specs.Numbers.{IsNumber, IsNumberOrNone}
 
@@ -38,9 +38,15 @@ pub record IsPointText (columns : List ℕ) : Type 0 where
   pub on_map : IsOnMap point
   pub text : columns ≡ point_place_text (Some point)
 
--- the canonical text of that many places, the first of them used and the rest unused
-pub record IsPlacesText (count : ℕ) (columns : List ℕ) : Type 0 where
-  pub points : List Coordinates
-  pub few : length points ≤ count
-  pub on_map : AllByRecursion IsOnMap points
-  pub text : columns ≡ places_text point_place_text count points
+-- the canonical text of a point, or of none
+pub record IsPointOrNoneText (columns : List ℕ) : Type 0 where
+  pub point : Option Coordinates
+  pub on_map : IfSome point IsOnMap
+  pub text : columns ≡ long_text point ++ lat_text point
+
+-- the canonical text of that many places: items that fit, and after them only unused places
+pub record IsPlacesText {A : Type 0} (Fits : A → Type 0) (text : Option A → List ℕ) (count : ℕ) (columns : List ℕ) : Type 0 where
+  pub items : List A
+  pub few : length items ≤ count
+  pub fit : AllByRecursion Fits items
+  pub is : columns ≡ places_text text count items

@@ -1,7 +1,7 @@
 //! Finds lines that are already spelled as they would be written, so that they can be copied without being read.
 //!
-//! [`Canonical::is_canonical`] tests a full line of record type 1, 2 or I by its columns: numbers, points and places must be
-//! spelled canonically, and the version may be any. [`copy_line`] appends such a line with the version 2006.
+//! [`Canonical::is_canonical`] tests a full line by its columns: numbers, points and places must be spelled canonically, fillers
+//! must be blank, and the version may be any. [`copy_line`] appends such a line with the version 2006.
 #![tactic(auto)]
 
 mod canonical;

@@ -1,11 +1,12 @@
 //! Columns that hold the canonical text of a point.
 
-ghost use Rattle.canonical_lines.specs.Texts.{IsCoordinateText, IsPointText};
+ghost use Rattle.canonical_lines.specs.Texts.{IsCoordinateText, IsPointOrNoneText, IsPointText};
 ghost use Rattle.std.specs.List.{list_all};
 ghost use Rattle.std.specs.Prelude.{◌≡◌, ◌⊎◌, length, true, IsTrue, None};
 ghost use Rattle.tl_layout.specs.FieldTexts.{point_place_text};
 ghost use Rattle.tl_layout.specs.NumberField.{is_digit};
 
+use crate::number::is_blank;
 use std::simd::prelude::*;
 
 /// The text of an unused place: a pair of zeros.
@@ -70,4 +71,13 @@ pub(crate) fn is_point(columns: &[u8]) -> bool
         return false;
     }
     is_longitude(&columns[..10]) && is_latitude(&columns[10..])
+}
+
+/// Whether the columns hold the canonical text of a point, or only blanks.
+#[inline(always)]
+pub(crate) fn is_point_or_none(columns: &[u8]) -> bool
+    requires { length columns.now ≡ 19 }
+    ensures { IsTrue result → IsPointOrNoneText columns.now }
+{
+    is_blank(columns) || is_point(columns)
 }
