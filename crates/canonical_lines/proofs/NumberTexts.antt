@@ -1,16 +1,17 @@
 -- Columns with blanks and then digits without a leading zero are the canonical text of the digits' number.
 use Rattle.std.proofs.Common.{◌≡◌, ℕ, suc, ◌+◌, ◌-◌, ◌*◌, ◌/◌, ◌%◌, ◌<◌, ◌≤◌, List, [], ◌∷◌, ◌++◌, length, true, Some, None, refl, sym, ap}
-use Rattle.std.proofs.Common.{◌∙◌, arith, append_assoc, get_or, slice_range, take, drop, subst, replicate}
+use Rattle.std.proofs.Common.{◌∙◌, arith, append_assoc, get_or, unwrap_or, Option, zero, inl, inr, slice_range, take, drop, subst, replicate}
 use Rattle.std.specs.List.{list_all}
 use Rattle.std.proofs.lemmas.Bool.{and_parts, and_from, eqb-true, ne_eqb, leb-true, le-leb}
+use Rattle.std.proofs.lemmas.List.Folds.{list_all-append}
 use Rattle.std.proofs.lemmas.List.{append-nil, length-append, take_all, length-drop, length-take-le}
 use Rattle.canonical_lines.proofs.PlaceSteps.{IsUsed}
-use Rattle.canonical_lines.specs.Texts.{IsNumeral, IsNumberText, IsNumberOrNoneText}
+use Rattle.canonical_lines.specs.Texts.{IsNumeral, IsNumeralOrNone, IsNumberText, IsNumberOrNoneText}
 use Rattle.tl_layout.specs.FieldTexts.{number_text, number_place_text}
 use Rattle.tl_layout.specs.Laws.NumberLaws.{splits_blanks}
-use Rattle.tl_layout.specs.Laws.NumberTextLaws.{number_below}
+use Rattle.tl_layout.specs.Laws.NumberTextLaws.{number_below, length-number_text}
 use Rattle.tl_layout.specs.NumberField.{is_blank, is_digit, value_after}
-use Rattle.tl_layout.specs.Numbers.{IsNumber}
+use Rattle.tl_layout.specs.Numbers.{IsNumber, IsNumberOrNone}
 use Rattle.tl_layout.specs.NumberReading.{drop_blanks}
 
 -- a digit is between the bytes of 0 and of 9
@@ -164,3 +165,31 @@ begins (byte ∷ bytes) l = ap (λ (t : List ℕ). byte ∷ t) (sym (take_all (l
 pub is_empty : (bytes : List ℕ) → length bytes < 1 → bytes ≡ []
 is_empty [] l = refl
 is_empty (byte ∷ bytes) l = absurd (omega arith)
+
+-- blanks and a numeral, or only blanks
+pub plain_text_of : (columns rest : List ℕ) → rest ≡ drop_blanks columns → IsNumeralOrNone rest → IsNumberOrNoneText columns
+plain_text_of columns rest e (inl none) = none_text_of columns (sym e ∙ none)
+plain_text_of columns rest e (inr n) = some_text_of columns (number_text_of columns rest e n)
+
+none_all_blank : (width : ℕ) → list_all is_blank (number_text width 0) ≡ true
+unfolding number_text
+none_all_blank zero = refl
+none_all_blank (suc width) =
+    list_all-append is_blank (number_text width 0) (32 ∷ []) ∙ and_from _ _ (none_all_blank width) refl
+
+blank_at : (bytes : List ℕ) (k : ℕ) → list_all is_blank bytes ≡ true → k < length bytes → get_or bytes k 0 ≡ 32
+blank_at [] k b lt = absurd (omega arith)
+blank_at (byte ∷ bytes) zero b lt = eqb-true byte 32 (and_parts (is_blank byte) (list_all is_blank bytes) b).0
+blank_at (byte ∷ bytes) (suc k) b lt = blank_at bytes k (and_parts (is_blank byte) (list_all is_blank bytes) b).1 (omega arith)
+
+-- each byte of no number is a blank
+none_is_blank : (width k : ℕ) → k < width → get_or (number_text width 0) k 0 ≡ 32
+none_is_blank width k lt = blank_at (number_text width 0) k (none_all_blank width) (omega (arith, lt, length-number_text width 0))
+
+-- if the last column isn't blank, there is a number
+pub ended_text_of : (columns : List ℕ) (number : Option ℕ) → IsNumberOrNone (length columns) number
+    → columns ≡ number_text (length columns) (unwrap_or number 0) → 0 < length columns
+    → (get_or columns (length columns - 1) 0 ≡ 32 → ⊥) → IsNumberText columns
+ended_text_of columns None f t some other =
+    absurd (other (ap (λ (l : List ℕ). get_or l (length columns - 1) 0) t ∙ none_is_blank (length columns) (length columns - 1) (omega arith)))
+ended_text_of columns (Some n) f t some other = record { number = n; fits = f; text = t }

@@ -1,5 +1,5 @@
 -- Columns that hold the canonical text of a value that fits them.
-use Rattle.std.specs.Prelude.{◌≡◌, ◌≤◌, ◌<◌, ◌^◌, ℕ, ℤ, unsigned_abs, List, ◌∷◌, ◌++◌, length, true, Option, IfSome, unwrap_or, Some}
+use Rattle.std.specs.Prelude.{◌≡◌, ◌≤◌, ◌<◌, ◌^◌, ℕ, ℤ, unsigned_abs, List, [], ◌∷◌, ◌++◌, ◌⊎◌, length, true, Option, IfSome, unwrap_or, Some}
 use Rattle.std.specs.List.{AllByRecursion, list_all}
 use Rattle.tl_layout.specs.Coordinates.{Coordinates, IsOnMap}
 use Rattle.tl_layout.specs.FieldTexts.{number_text, coordinate_text, long_text, lat_text, point_place_text, places_text}
@@ -13,6 +13,10 @@ pub record IsNumeral (bytes : List ℕ) : Type 0 where
   pub bytes_are : bytes ≡ first ∷ digits
   pub first_is : (48 < first) × (first ≤ 57)
   pub digits_are : list_all is_digit digits ≡ true
+
+-- such digits, or none
+abbrev pub IsNumeralOrNone : List ℕ → Type 0
+IsNumeralOrNone bytes = (bytes ≡ []) ⊎ IsNumeral bytes
 
 -- the canonical text of a number
 pub record IsNumberText (columns : List ℕ) : Type 0 where
