@@ -24,12 +24,15 @@ is_low b = ltb ((b + (256 - 48)) % 256) 10
 abbrev pub is_zero : ℕ → Bool
 is_zero b = eqb b 48
 
+-- the mask of the blanks
 abbrev pub blanks_of : List ℕ → ℕ
 blanks_of bytes = mask_l (map is_blank bytes)
 
+-- the mask of the zeros
 abbrev pub zeros_of : List ℕ → ℕ
 zeros_of bytes = mask_l (map is_zero bytes)
 
+-- the mask of the digits
 abbrev pub digits_of : List ℕ → ℕ
 digits_of bytes = mask_l (map is_low bytes)
 
@@ -113,9 +116,11 @@ masks_low p bytes l = rw (length-map bytes p, l) at (mask_l-lt (map p bytes))
 abbrev pub above_zero : List ℕ → List ℕ
 above_zero bytes = zip2 (λ a b. (a + (256 - b)) % 256) bytes (replicate 8 48)
 
+-- there are eight of these
 pub above_zero_len : (bytes : List ℕ) → length bytes ≡ 8 → length (above_zero bytes) ≡ 8
 above_zero_len bytes l = length-zip2 (λ a b. (a + (256 - b)) % 256) bytes (replicate 8 48) l ∙ l
 
+-- their mask is that of the digits
 pub above_zero_mask : (bytes : List ℕ) → length bytes ≡ 8 → mask_l (map (λ b. ltb b 10) (above_zero bytes)) ≡ digits_of bytes
 above_zero_mask bytes l =
     let from_zero = λ (b : ℕ). (b + (256 - 48)) % 256 in

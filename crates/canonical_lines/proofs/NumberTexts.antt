@@ -70,6 +70,7 @@ blanks_are blanks b =
     let wide : length blanks ≡ 0 + length blanks = omega arith in
     ap (λ (w : ℕ). number_text w 0) wide ∙ blanks_behind 0 blanks b
 
+-- blanks, a digit from 1 on and digits are the text of the number that these digits make
 text_is : (before digits : List ℕ) (first : ℕ) → list_all is_blank before ≡ true → 48 < first → first ≤ 57
     → list_all is_digit digits ≡ true
     → number_text (length before + suc (length digits)) (value_after 0 (first ∷ digits)) ≡ before ++ (first ∷ digits)
@@ -83,6 +84,7 @@ text_is before digits first b low high d =
     ∙ ap (λ (l : List ℕ). (l ++ first ∷ []) ++ digits) none
     ∙ append_assoc before (first ∷ []) digits
 
+-- columns of such bytes are the canonical text of a number
 number_text_is : (columns digits : List ℕ) (first : ℕ) → drop_blanks columns ≡ first ∷ digits → 48 < first → first ≤ 57
     → list_all is_digit digits ≡ true → IsNumberText columns
 number_text_is columns digits first e low high d =
@@ -162,6 +164,7 @@ pub begins : (bytes : List ℕ) → 1 ≤ length bytes → bytes ≡ get_or byte
 begins [] l = absurd (omega arith)
 begins (byte ∷ bytes) l = ap (λ (t : List ℕ). byte ∷ t) (sym (take_all (length (byte ∷ bytes) - 1) bytes (omega arith)))
 
+-- a list without a first element is empty
 pub is_empty : (bytes : List ℕ) → length bytes < 1 → bytes ≡ []
 is_empty [] l = refl
 is_empty (byte ∷ bytes) l = absurd (omega arith)
@@ -171,12 +174,14 @@ pub plain_text_of : (columns rest : List ℕ) → rest ≡ drop_blanks columns �
 plain_text_of columns rest e (inl none) = none_text_of columns (sym e ∙ none)
 plain_text_of columns rest e (inr n) = some_text_of columns (number_text_of columns rest e n)
 
+-- the text of no number has only blanks
 none_all_blank : (width : ℕ) → list_all is_blank (number_text width 0) ≡ true
 unfolding number_text
 none_all_blank zero = refl
 none_all_blank (suc width) =
     list_all-append is_blank (number_text width 0) (32 ∷ []) ∙ and_from _ _ (none_all_blank width) refl
 
+-- each of blanks is a blank
 blank_at : (bytes : List ℕ) (k : ℕ) → list_all is_blank bytes ≡ true → k < length bytes → get_or bytes k 0 ≡ 32
 blank_at [] k b lt = absurd (omega arith)
 blank_at (byte ∷ bytes) zero b lt = eqb-true byte 32 (and_parts (is_blank byte) (list_all is_blank bytes) b).0

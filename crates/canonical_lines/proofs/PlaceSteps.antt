@@ -57,6 +57,7 @@ used_before Fits text count used place rest columns e p h =
       none = λ u. (cc);
     }
 
+-- the width of one place more
 one_more : (width place : ℕ) → width * (place + 1) ≡ width * place + width
 one_more width place = grind arith
 
@@ -73,6 +74,7 @@ place_and_rest width place columns some =
     ∙ ap (λ (l : List ℕ). slice_range columns from (from + width) ++ l)
     (drop-drop width from columns ∙ ap (λ (n : ℕ). drop n columns) behind)
 
+-- the next place to the left is used
 pub used_at : {A : Type 0} (Fits : A → Type 0) (text : Option A → List ℕ) (width most place : ℕ) (used : Bool) (columns : List ℕ)
     → 0 < place → place ≤ most → IsUsed Fits text (slice_range columns (width * (place - 1)) (width * (place - 1) + width))
     → ArePlaces Fits text (most - place) used (drop (width * place) columns)
@@ -82,6 +84,7 @@ used_at Fits text width most place used columns some few p h =
     subst (λ (n : ℕ). ArePlaces Fits text n true (drop (width * (place - 1)) columns)) more
     (used_before Fits text (most - place) used _ (drop (width * place) columns) _ (place_and_rest width place columns some) p h)
 
+-- the next place to the left is unused, like all places behind it
 pub unused_at : {A : Type 0} (Fits : A → Type 0) (text : Option A → List ℕ) (width most place : ℕ) (used : Bool) (columns : List ℕ)
     → 0 < place → place ≤ most → used ≡ false
     → slice_range columns (width * (place - 1)) (width * (place - 1) + width) ≡ text None

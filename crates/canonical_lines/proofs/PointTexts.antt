@@ -19,6 +19,7 @@ pub all_at : (bytes : List ℕ) → ((k : ℕ) → k < length bytes → is_digit
 all_at [] h = refl
 all_at (byte ∷ bytes) h = and_from _ _ (h 0 (omega arith)) (all_at bytes (λ k lt. h (suc k) (omega arith)))
 
+-- the digits of a number with one more digit
 one_digit : (width n digit : ℕ) → 48 ≤ digit → digit ≤ 57 → digits_text (suc width) (10 * n + (digit - 48)) ≡ digits_text width n ++ digit ∷ []
 unfolding digits_text
 one_digit width n digit low high =
@@ -42,6 +43,7 @@ digits_behind width n (digit ∷ digits) d =
     ∙ ap (λ (l : List ℕ). l ++ digits) (one_digit width n digit bounds.0 bounds.1)
     ∙ append_assoc (digits_text width n) (digit ∷ []) digits
 
+-- digits are the digits of the number that they make
 digits_again : (digits : List ℕ) → list_all is_digit digits ≡ true → digits_text (length digits) (value_after 0 digits) ≡ digits
 unfolding digits_text
 digits_again digits d =
@@ -63,6 +65,7 @@ digits_below width digits l d =
     }) in
     subst (λ (w : ℕ). value_after 0 digits < 10 ^ w) l below
 
+-- a minus and digits that make a number other than 0
 negative : (width value : ℕ) (columns digits : List ℕ) → columns ≡ 45 ∷ digits → digits_text width value ≡ digits → value < 10 ^ width
     → (digits ≡ digits_text width 0 → ⊥) → IsCoordinateText width columns
 unfolding coordinate_text
@@ -106,10 +109,12 @@ eight_digits [] l d = absurd (omega arith)
 eight_digits (x ∷ xs) l d =
     ap (list_all is_digit) (take_all (length (x ∷ xs) - 1) xs (omega arith) ∙ sym (take_all 8 xs (omega arith))) ∙ d
 
+-- how many columns follow the first one
 pub length_behind : (columns : List ℕ) (width : ℕ) → length columns ≡ width + 1 → length (slice_range columns 1 (length columns)) ≡ width
 length_behind [] width l = absurd (omega arith)
 length_behind (byte ∷ columns) width l = ap length (take_all (length (byte ∷ columns) - 1) columns (omega arith)) ∙ omega arith
 
+-- a longitude of ten columns, and the latitude behind it
 pub two_parts : (columns : List ℕ) → length columns ≡ 19 → columns ≡ take 10 columns ++ slice_range columns 10 (length columns)
 two_parts columns l =
     let dropped = length-drop 10 columns in
@@ -127,10 +132,12 @@ same_bytes (x ∷ xs) (y ∷ ys) h =
     let rest = same_bytes xs ys parts.1 in
     λ i. first i ∷ rest i
 
+-- only 0 has the magnitude 0
 zero_is : (value : ℤ) → unsigned_abs value ≡ 0 → value ≡ pos 0
 zero_is (pos n) h = ap pos h
 zero_is (negsuc n) h = absurd (omega arith)
 
+-- a text that is not that of an unused place has a point that is not (0, 0)
 somewhere : (long lat : ℤ) (columns : List ℕ) → columns ≡ coordinate_text 9 long ++ coordinate_text 8 lat
     → (columns ≡ point_place_text None → ⊥) → (sum : ℕ) → unsigned_abs long + unsigned_abs lat ≡ sum → 0 < sum
 somewhere long lat columns e n zero s =

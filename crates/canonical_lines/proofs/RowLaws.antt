@@ -55,6 +55,7 @@ record IsFirstRow {R : Type 0} (next : ℕ) (row : Row R) (rows : List (Row R)) 
   ordered : row.first ≤ row.last
   later : is_laid_out (row.last + 1) rows len ≡ true
 
+-- the first column is not behind the last one
 ordered : (first last : ℕ) (kind : Kind) → is_suited first last kind ≡ true → first ≤ last
 ordered first last Number h = leb-true first last h
 ordered first last NumberOrNone h = leb-true first last h
@@ -65,6 +66,7 @@ ordered first last PointPlaces h = let e = eqb-true last (first + 189) h in omeg
 ordered first last Opaque h = leb-true first last h
 ordered first last Filler h = leb-true first last h
 
+-- a table is laid out as its first row and the rows after it are
 first_row : {R : Type 0} (next : ℕ) (row : Row R) (rows : List (Row R)) (len : ℕ) → is_laid_out next (row ∷ rows) len ≡ true
     → IsFirstRow next row rows len
 first_row next row rows len h =
@@ -76,6 +78,7 @@ first_row next row rows len h =
       later = parts.1;
     }
 
+-- the next free column is in the line or directly after it
 laid_out_within : {R : Type 0} (rows : List (Row R)) (next len : ℕ) → is_laid_out next rows len ≡ true → next ≤ len + 1
 laid_out_within [] next len h = let e = eqb-true next (len + 1) h in omega arith
 laid_out_within (row ∷ rows) next len h =
@@ -87,6 +90,7 @@ laid_out_within (row ∷ rows) next len h =
 
 -- ---- the values
 
+-- a tested field has its canonical text, and so has a text
 canonical : (len : ℕ) (line : List ℕ) → IsText len line → (first last : ℕ) (kind : Kind) → 1 ≤ first → first ≤ last → last ≤ len
     → IsTested line first last kind → HasCanonical line first last kind
 canonical len line t first last Opaque from o within h = record {
@@ -102,6 +106,7 @@ canonical len line t first last NumberPlaces from o within h = h
 canonical len line t first last PointPlaces from o within h = h
 canonical len line t first last Filler from o within h = h
 
+-- if each field was tested, each has its canonical text
 all_canonical : {R : Type 0} (len : ℕ) (line : List ℕ) → IsText len line → (rows : List (Row R)) (next : ℕ) → 1 ≤ next
     → is_laid_out next rows len ≡ true → AreTested line rows → AreCanonical line rows
 all_canonical len line t [] next from h a = tt
@@ -114,6 +119,7 @@ all_canonical len line t (row ∷ rows) next from h a =
       all_canonical len line t rows (row.last + 1) (omega arith) f.later a.1,
     )
 
+-- the values of the fields
 abbrev values : {R : Type 0} (line : List ℕ) (rows : List (Row R)) → AreCanonical line rows → Values rows
 values line [] h = tt
 values line (row ∷ rows) h = (h.0.value, values line rows h.1)
@@ -126,6 +132,7 @@ HoldsRows line (row ∷ rows) r =
     × (columns row.first row.last line ≡ joined [] (value_texts (width_of row) row.kind (row.value r)))
     × HoldsRows line rows r
 
+-- the fields of a record with these values have its canonical texts
 holds : {R : Type 0} (line : List ℕ) (rows : List (Row R)) (h : AreCanonical line rows) (r : R) → values_of rows r ≡ values line rows h
     → HoldsRows line rows r
 holds line [] h r e = tt
@@ -138,12 +145,14 @@ holds line (row ∷ rows) h r e =
       holds line rows h.1 r (ap (λ (p : Values (row ∷ rows)). p.1) e),
     )
 
+-- such a record fits its columns
 fit : {R : Type 0} (line : List ℕ) (rows : List (Row R)) (r : R) → HoldsRows line rows r → FitsRows rows r
 fit line [] r h = tt
 fit line (row ∷ rows) r h = (h.0, fit line rows r h.2)
 
 -- ---- the spelling
 
+-- the texts of two lists, one list after the other
 joined-append : (a b : List (List ℕ)) → joined [] (a ++ b) ≡ joined [] a ++ joined [] b
 joined-append [] b = refl
 joined-append (text ∷ a) b =
@@ -181,6 +190,7 @@ texts len line l (row ∷ rows) next from h r s =
 abbrev AreAlike : List ℕ → List ℕ → Type 0
 AreAlike line other = (first last : ℕ) → 6 ≤ first → columns first last line ≡ columns first last other
 
+-- a place for a point has the same content in both lines
 point_place : (line other : List ℕ) → AreAlike line other → (column : ℕ) → 6 ≤ column → (place : Option Coordinates)
     → SpellsPointPlace line column place → SpellsPointPlace other column place
 point_place line other a column from place s =
@@ -188,12 +198,14 @@ point_place line other a column from place s =
     let Q : List ℕ → Type 0 = λ f. SpellsPointOrNone (columns column (column + 9) other) f place in
     subst Q (a (column + 10) (column + 18) (omega arith)) (subst P (a column (column + 9) from) s)
 
+-- a place for a number has the same content in both lines
 number_place : (line other : List ℕ) → AreAlike line other → (column : ℕ) → 6 ≤ column → (place : Option ℕ)
     → SpellsNumberPlace line column place → SpellsNumberPlace other column place
 number_place line other a column from place s =
     let P : List ℕ → Type 0 = λ f. SpellsNumberOrNone f place in
     subst P (a column (column + 7) from) s
 
+-- places have the same contents in both lines
 places : {A : Type 0} (Spells Other : ℕ → Option A → Type 0)
     → ((column : ℕ) → 6 ≤ column → (place : Option A) → Spells column place → Other column place)
     → (width count column : ℕ) → 6 ≤ column → (xs : List A) → SpellsPlaces Spells width count column xs
@@ -205,6 +217,7 @@ places Spells Other same width (suc count) column from [] s =
 places Spells Other same width (suc count) column from (x ∷ xs) s =
     (same column from (Some x) s.0, places Spells Other same width count (column + width) (omega arith) xs s.1)
 
+-- a field spells the same value in both lines
 value_alike : (line other : List ℕ) → AreAlike line other → (first last : ℕ) (kind : Kind) → 6 ≤ first → (value : ValueOf kind)
     → SpellsValue line first last kind value → SpellsValue other first last kind value
 value_alike line other a first last Number from n s =
@@ -223,6 +236,7 @@ value_alike line other a first last PointPlaces from points s =
 value_alike line other a first last Opaque from text s = sym (a first last from) ∙ s
 value_alike line other a first last Filler from value s = tt
 
+-- the fields spell the same record in both lines
 rows_alike : {R : Type 0} (line other : List ℕ) → AreAlike line other → (rows : List (Row R)) (next len : ℕ) → 6 ≤ next
     → is_laid_out next rows len ≡ true → (r : R) → SpellsRows rows line r → SpellsRows rows other r
 rows_alike line other a [] next len from h r s = tt
@@ -244,6 +258,7 @@ alike line other e first last from =
 
 -- ---- the law
 
+-- a line with the version 2006 begins with its type and that version
 begins_with : (rtype : ℕ) (line : List ℕ) → columns 1 1 line ≡ rtype ∷ [] → with_version line ≡ (rtype ∷ codes "2006") ++ drop 5 line
 begins_with rtype line b = ap (λ (l : List ℕ). l ++ (codes "2006" ++ drop 5 line)) b
 

@@ -32,32 +32,39 @@ use Rattle.tl_layout.specs.Type8.{make_8, type_8_reading, type_8_spelling}
 use Rattle.tl_layout.specs.TypeP.{make_p, type_p_reading, type_p_spelling}
 use Rattle.tl_layout.specs.TypeI.{make_i, type_i_reading, type_i_spelling}
 
+-- columns with the text of a number
 number : (line : List ℕ) (first last : ℕ) → length (columns first last line) ≡ last + 1 - first → IsNumberText (columns first last line)
     → HasCanonical line first last Number
 number line first last l t =
     let P : ℕ → Type 0 = λ w. IsNumber w t.number in
     record { value = t.number; fits = subst P l t.fits; text = t.text ∙ ap (λ (w : ℕ). number_text w t.number) l }
 
+-- columns with the text of a number or none
 number_or_none : (line : List ℕ) (first last : ℕ) → length (columns first last line) ≡ last + 1 - first
     → IsNumberOrNoneText (columns first last line) → HasCanonical line first last NumberOrNone
 number_or_none line first last l t =
     let P : ℕ → Type 0 = λ w. IsNumberOrNone w t.number in
     record { value = t.number; fits = subst P l t.fits; text = t.text ∙ ap (λ (w : ℕ). number_text w (unwrap_or t.number 0)) l }
 
+-- columns with the text of a point
 point : (line : List ℕ) (first last : ℕ) → IsPointText (columns first last line) → HasCanonical line first last Pair
 point line first last t = record { value = t.point; fits = t.on_map; text = t.text }
 
+-- columns with the text of a point or none
 point_or_none : (line : List ℕ) (first last : ℕ) → IsPointOrNoneText (columns first last line) → HasCanonical line first last PairOrNone
 point_or_none line first last t = record { value = t.point; fits = t.on_map; text = t.text }
 
+-- columns with the text of places for points
 points : (line : List ℕ) (first last : ℕ) → IsPlacesText IsOnMap point_place_text 10 (columns first last line)
     → HasCanonical line first last PointPlaces
 points line first last t = record { value = t.items; fits = (t.few, t.fit); text = t.is }
 
+-- columns with the text of places for numbers
 numbers : (line : List ℕ) (first last : ℕ) → IsPlacesText (IsNumber 8) number_place_text 5 (columns first last line)
     → HasCanonical line first last NumberPlaces
 numbers line first last t = record { value = t.items; fits = (t.few, t.fit); text = t.is }
 
+-- columns of a filler that are blank
 filler : (line : List ℕ) (first last : ℕ) → length (columns first last line) ≡ last + 1 - first
     → list_all is_blank (columns first last line) ≡ true → HasCanonical line first last Filler
 filler line first last l b =
@@ -68,6 +75,7 @@ wide : (len : ℕ) (line : List ℕ) → IsText len line → (first last : ℕ) 
     → length (columns first last line) ≡ last + 1 - first
 wide len line t first last from o within = (columns_of_text len line t first last (last + 1 - first) from within (omega arith)).len
 
+-- a line of type 1 with such columns
 pub line_1_is_spelt : (line : List ℕ) → IsLine rtype_1 len_1 line → IsNumberText (columns 6 15 line) → IsPointText (columns 191 209 line)
     → IsPointText (columns 210 228 line) → (r : Fields1) × IsSpeltLine type_1_reading type_1_spelling line r
 unfolding type_1_reading type_1_spelling
@@ -76,6 +84,7 @@ line_1_is_spelt line l tlid start end =
     (record { allowed = refl; laid_out = refl; gives = λ values. refl; remade = λ r. refl }) line l
     (number line 6 15 (wide len_1 line l.text 6 15 (omega arith) (omega arith) (omega arith)) tlid, (tt, (tt, (tt, (tt, (tt, (tt, (tt, (tt, (tt, (tt, (tt, (tt, (tt, (tt, (tt, (tt, (tt, (tt, (tt, (tt, (tt, (tt, (tt, (tt, (tt, (tt, (tt, (tt, (tt, (tt, (tt, (tt, (tt, (tt, (tt, (tt, (tt, (point line 191 209 start, (point line 210 228 end, (tt)))))))))))))))))))))))))))))))))))))))))
 
+-- a line of type 2 with such columns
 pub line_2_is_spelt : (line : List ℕ) → IsLine rtype_2 len_2 line → IsNumberText (columns 6 15 line) → IsNumberText (columns 16 18 line)
     → IsPlacesText IsOnMap point_place_text 10 (columns 19 208 line) → (r : Fields2) × IsSpeltLine type_2_reading type_2_spelling line r
 unfolding type_2_reading type_2_spelling
@@ -84,6 +93,7 @@ line_2_is_spelt line l tlid rtsq used =
     (record { allowed = refl; laid_out = refl; gives = λ values. refl; remade = λ r. refl }) line l
     (number line 6 15 (wide len_2 line l.text 6 15 (omega arith) (omega arith) (omega arith)) tlid, (number line 16 18 (wide len_2 line l.text 16 18 (omega arith) (omega arith) (omega arith)) rtsq, (points line 19 208 used, (tt))))
 
+-- a line of type I with such columns
 pub line_i_is_spelt : (line : List ℕ) → IsLine rtype_i len_i line → IsNumberText (columns 11 20 line)
     → IsNumberOrNoneText (columns 21 30 line) → IsNumberOrNoneText (columns 31 40 line) → IsNumberOrNoneText (columns 46 55 line)
     → IsNumberOrNoneText (columns 61 70 line) → (r : FieldsI) × IsSpeltLine type_i_reading type_i_spelling line r
@@ -96,6 +106,7 @@ line_i_is_spelt line l tlid start end left right =
     (record { allowed = refl; laid_out = refl; gives = λ values. refl; remade = λ r. refl }) line l
     (tt, (number line 11 20 (wide len_i line l.text 11 20 (omega arith) (omega arith) (omega arith)) tlid, (held 21 30 (omega arith) (omega arith) (omega arith) start, (held 31 40 (omega arith) (omega arith) (omega arith) end, (tt, (held 46 55 (omega arith) (omega arith) (omega arith) left, (tt, (held 61 70 (omega arith) (omega arith) (omega arith) right, (tt, (tt, (tt, (tt, (tt, (tt))))))))))))))
 
+-- a line of type 4 with such columns
 pub line_4_is_spelt : (line : List ℕ) → IsLine rtype_4 len_4 line → IsNumberText (columns 6 15 line) → IsNumberText (columns 16 18 line)
     → IsPlacesText (IsNumber 8) number_place_text 5 (columns 19 58 line)
     → (r : Fields4) × IsSpeltLine type_4_reading type_4_spelling line r
@@ -105,6 +116,7 @@ line_4_is_spelt line l tlid rtsq used =
     (record { allowed = refl; laid_out = refl; gives = λ values. refl; remade = λ r. refl }) line l
     (number line 6 15 (wide len_4 line l.text 6 15 (omega arith) (omega arith) (omega arith)) tlid, (number line 16 18 (wide len_4 line l.text 16 18 (omega arith) (omega arith) (omega arith)) rtsq, (numbers line 19 58 used, (tt))))
 
+-- a line of type 5 with such columns
 pub line_5_is_spelt : (line : List ℕ) → IsLine rtype_5 len_5 line → IsNumberText (columns 11 18 line)
     → (r : Fields5) × IsSpeltLine type_5_reading type_5_spelling line r
 unfolding type_5_reading type_5_spelling
@@ -113,6 +125,7 @@ line_5_is_spelt line l feat =
     (record { allowed = refl; laid_out = refl; gives = λ values. refl; remade = λ r. refl }) line l
     (tt, (number line 11 18 (wide len_5 line l.text 11 18 (omega arith) (omega arith) (omega arith)) feat, (tt, (tt, (tt, (tt, (tt)))))))
 
+-- a line of type 6 with such columns
 pub line_6_is_spelt : (line : List ℕ) → IsLine rtype_6 len_6 line → IsNumberText (columns 6 15 line) → IsNumberText (columns 16 18 line)
     → (r : Fields6) × IsSpeltLine type_6_reading type_6_spelling line r
 unfolding type_6_reading type_6_spelling
@@ -121,6 +134,7 @@ line_6_is_spelt line l tlid rtsq =
     (record { allowed = refl; laid_out = refl; gives = λ values. refl; remade = λ r. refl }) line l
     (number line 6 15 (wide len_6 line l.text 6 15 (omega arith) (omega arith) (omega arith)) tlid, (number line 16 18 (wide len_6 line l.text 16 18 (omega arith) (omega arith) (omega arith)) rtsq, (tt, (tt, (tt, (tt, (tt, (tt, (tt, (tt, (tt, (tt, (tt)))))))))))))
 
+-- a line of type 7 with such columns
 pub line_7_is_spelt : (line : List ℕ) → IsLine rtype_7 len_7 line → IsNumberText (columns 11 20 line) → IsPointOrNoneText (columns 55 73 line)
     → list_all is_blank (columns 74 74 line) ≡ true
     → (r : Fields7) × IsSpeltLine type_7_reading type_7_spelling line r
@@ -130,6 +144,7 @@ line_7_is_spelt line l land place blank =
     (record { allowed = refl; laid_out = refl; gives = λ values. refl; remade = λ r. refl }) line l
     (tt, (number line 11 20 (wide len_7 line l.text 11 20 (omega arith) (omega arith) (omega arith)) land, (tt, (tt, (tt, (point_or_none line 55 73 place, (filler line 74 74 (wide len_7 line l.text 74 74 (omega arith) (omega arith) (omega arith)) blank, (tt))))))))
 
+-- a line of type 8 with such columns
 pub line_8_is_spelt : (line : List ℕ) → IsLine rtype_8 len_8 line → IsNumberText (columns 16 25 line) → IsNumberText (columns 26 35 line)
     → list_all is_blank (columns 36 36 line) ≡ true
     → (r : Fields8) × IsSpeltLine type_8_reading type_8_spelling line r
@@ -139,6 +154,7 @@ line_8_is_spelt line l polyid land blank =
     (record { allowed = refl; laid_out = refl; gives = λ values. refl; remade = λ r. refl }) line l
     (tt, (tt, (number line 16 25 (wide len_8 line l.text 16 25 (omega arith) (omega arith) (omega arith)) polyid, (number line 26 35 (wide len_8 line l.text 26 35 (omega arith) (omega arith) (omega arith)) land, (filler line 36 36 (wide len_8 line l.text 36 36 (omega arith) (omega arith) (omega arith)) blank, (tt))))))
 
+-- a line of type P with such columns
 pub line_p_is_spelt : (line : List ℕ) → IsLine rtype_p len_p line → IsNumberText (columns 16 25 line) → IsPointOrNoneText (columns 26 44 line)
     → (r : FieldsP) × IsSpeltLine type_p_reading type_p_spelling line r
 unfolding type_p_reading type_p_spelling
