@@ -128,5 +128,6 @@ above_zero_mask bytes l =
     ∙ map-map (λ b. ltb b 10) from_zero bytes)
 
 -- equal masks have equal bits in common
-pub in_common : (zeros blanks z b : ℕ) → z ≡ zeros → b ≡ blanks → bit_and z (b + 1) ≡ 0 → bit_and zeros (blanks + 1) ≡ 0
-in_common zeros blanks z b e f h = rw (← e, ← f) h
+pub in_common : (first second other_first other_second : ℕ) → other_first ≡ first → other_second ≡ second
+    → bit_and other_first (other_second + 1) ≡ 0 → bit_and first (second + 1) ≡ 0
+in_common first second other_first other_second e f h = rw (← e, ← f) h
