@@ -1,8 +1,10 @@
 -- The canonical text of records is loaded as these records.
-use Rattle.std.proofs.Common.{◌≡◌, ℕ, suc, ◌+◌, ◌-◌, ◌<◌, Bool, true, false, cond, List, [], ◌∷◌, ◌++◌, length, get_or, take, map}
+use Rattle.std.proofs.Common.{◌≡◌, ℕ, suc, ◌+◌, ◌-◌, ◌<◌, ◌≤◌, Bool, true, false, cond, List, [], ◌∷◌, ◌++◌, length, get_or, take, map}
 use Rattle.std.proofs.Common.{Result, Ok, Err, refl, sym, ap, subst, ◌∙◌, append_assoc, append-nil, arith, eqb}
 use Rattle.std.specs.Prelude.{All}
+use Rattle.canonical_lines.specs.SpeltLine.{with_version}
 use Rattle.std.proofs.lemmas.Grind.{flat_map-append}
+use Rattle.std.proofs.lemmas.List.{length-drop}
 use Rattle.std.proofs.lemmas.Bool.{le-ltb, false_from_ne_true, eqb-true}
 use Rattle.tl_layout.specs.Bytes.{is_allowed, AreAllowed, IsLine}
 use Rattle.tl_layout.specs.RecordText.{type_of, len_of, spelling_of, FitsRecord, text_of}
@@ -35,8 +37,13 @@ use Rattle.tl_load.proofs.Reading.{AreJudged, judged_spelled, spelled_once}
 
 -- ---- a canonical line
 
+-- a line that is as long with the version as without has room for it
+pub has_version : (line : List ℕ) → length (with_version line) ≡ length line → 5 ≤ length line
+has_version [] h = absurd (omega (arith, h))
+has_version (b ∷ bytes) h = omega (arith, h, length-drop 4 bytes)
+
 -- a full line is judged as the record that it is read as
-judged_full_line : {R : Type 0} (rtype len : ℕ) (reading : List ℕ → Result R FieldFault) (line : List ℕ) (r : R) → IsLine rtype len line
+pub judged_full_line : {R : Type 0} (rtype len : ℕ) (reading : List ℕ → Result R FieldFault) (line : List ℕ) (r : R) → IsLine rtype len line
     → reading line ≡ Ok r → judged_as len reading line ≡ Ok r
 unfolding judged_as judged_full
 judged_full_line rtype len reading line r is e =

@@ -1,5 +1,6 @@
 -- A loader over a collector: its fields, viewed together with the list of records that the collector holds.
-use Rattle.std.specs.Prelude.{◌≡◌, ℕ, ◌+◌, ◌*◌, ◌^◌, ◌-◌, ◌<◌, ◌≤◌, List, length, slice_index, Option, MatchOption, Result, OnOk}
+use Rattle.std.specs.Prelude.{◌≡◌, ℕ, ◌+◌, ◌*◌, ◌^◌, ◌-◌, ◌<◌, ◌≤◌, List, [], ◌∷◌, ◌++◌, length, slice_index, Option, MatchOption, Result, Ok, OnOk}
+use Rattle.tl_layout.specs.declared.fault.FieldFault.{FieldFault}
 use Rattle.tl_layout.specs.declared.record_type.Record.{Record}
 use Rattle.tl_load.specs.declared.fault.LoadFault.{LoadFault}
 use Rattle.tl_load.specs.Lines.{IsWithoutLineFeed}
@@ -87,3 +88,10 @@ abbrev pub Lifts : {K T : Type 0} → (K → List Record → Type 0) → (Loaded
     → Result T LoadFault → LoadedInto K → Type 0
 Lifts holds Step before result after = (records : List Record) → AreKept holds before records
     → (more : List Record) × OnOk result (AreKept holds after more) × Step (seen before records) result (seen after more)
+
+-- the record of a line was kept: the line is read as the record, and whatever was held before, the record follows it
+pub record KeepsLine {K R : Type 0} (holds : K → List Record → Type 0) (reading : List ℕ → Result R FieldFault) (as_record : R → Record)
+    (line : List ℕ) (before after : K) : Type 0 where
+  pub found : R
+  pub read : reading line ≡ Ok found
+  pub held : (records : List Record) → holds before records → holds after (records ++ as_record found ∷ [])

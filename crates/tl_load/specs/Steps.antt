@@ -8,7 +8,8 @@ use Rattle.tl_load.specs.Places.{PlacedLine, numbered_lines, lines_from_part}
 use Rattle.tl_load.specs.Outcome.{with_record, after_verdict, outcome_after}
 use Rattle.tl_load.specs.Choice.{tiger, judged}
 use Rattle.tl_load.specs.Loaded.{Loaded, IsOfLines, AreLines}
-use Rattle.tl_load.specs.Keeping.{LoadedInto, Lifts}
+use Rattle.tl_load.specs.Keeping.{LoadedInto, Lifts, total}
+use Rattle.tl_layout.specs.declared.layout.TheConstants.{LONGEST_LINE}
 use Rattle.tl_load.specs.declared.loader_for.TheConstants.{LINE_BYTES}
 
 -- the final result for the loader's value if these bytes follow in its open part, and then these parts
@@ -56,6 +57,14 @@ JudgesAs line verdict before result after = MatchResult result
 -- a step judged a line
 abbrev pub Judges : {T : Type 0} → List ℕ → Loaded → Result T LoadFault → Loaded → Type 0
 Judges line before result after = JudgesAs line (judged line) before result after
+
+-- a step kept and counted the record of a line that isn't longer than any layout
+pub record KeepsUnread {K : Type 0} (holds : K → List Record → Type 0) (line : List ℕ) (verdict : Result Record LineFault)
+    (before after : LoadedInto K) : Type 0 where
+  pub judges : Lifts {T = Unit {0}} holds (JudgesAs line verdict) before (Ok tt) after
+  pub judged : after.judged ≡ before.judged + 1
+  pub one_more : total after.counts ≡ total before.counts + 1
+  pub short : length line ≤ LONGEST_LINE
 
 -- a step added the record: it is now the last one, or there are too many
 abbrev pub Adds : {T : Type 0} → Record → Loaded → Result T LoadFault → Loaded → Type 0

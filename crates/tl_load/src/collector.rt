@@ -1,10 +1,13 @@
 //! What a loader does with the records that it reads.
 
-ghost use Rattle.std.specs.Prelude.{◌≡◌, List, [], ◌∷◌, ◌++◌, OnOk};
+ghost use Rattle.std.specs.Prelude.{◌≡◌, List, [], ◌∷◌, ◌++◌, OnOk, IfOk, IsTrue, false};
+ghost use Rattle.tl_layout.specs.Bytes.{IsLine};
+ghost use Rattle.tl_load.specs.Keeping.{KeepsLine};
 ghost use Rattle.tl_layout.specs.declared.record_type.Record.{Record};
 ghost use Rattle.tl_layout.specs.RecordText.{text_of};
 ghost use Rattle.tl_layout.specs.Tables.{HoldsByType};
 
+use canonical_lines::{Canonical, copy_line};
 use std::alloc::{AllocError, Global};
 use tl_layout::{LONGEST_LINE, Layout, Record, Tabled, Tables, put_line, reserve_ahead};
 
@@ -25,6 +28,20 @@ pub trait Collector: Drop + Sized {
     /// `AllocError` if an allocation failed; the contract then says nothing about what is kept.
     fn keep<L: Tabled>(&mut self, found: L) -> Result<(), AllocError>
         ensures { (records : List Record) → holds self.old records → OnOk result (holds self.new (records ++ L.as_record found ∷ [])) };
+
+    /// Appends the record of a full line without reading the line, if the collector can. Returns whether it did.
+    ///
+    /// # Errors
+    ///
+    /// `AllocError` if an allocation failed; the contract then says nothing about what is kept.
+    #[inline(always)]
+    fn keep_line<L: Canonical>(&mut self, line: &[u8]) -> Result<bool, AllocError>
+        requires { IsLine L.RTYPE L.LEN line.now }
+        ensures kept { IfOk result (λ was_kept. IsTrue was_kept → KeepsLine holds L.reading L.as_record line.now self.old self.new) }
+        ensures unchanged { IfOk result (λ was_kept. was_kept ≡ false → self.new ≡ self.old) }
+    {
+        Ok(false)
+    }
 }
 
 /// The records in the order of their lines.
@@ -82,5 +99,16 @@ impl Collector for CanonicalText {
 
     fn keep<L: Tabled>(&mut self, found: L) -> Result<(), AllocError> {
         append_line(&mut self.bytes, &found)
+    }
+
+    #[inline(always)]
+    fn keep_line<L: Canonical>(&mut self, line: &[u8]) -> Result<bool, AllocError> {
+        if !L::is_canonical(line) {
+            return Ok(false);
+        }
+        match copy_line(&mut self.bytes, line) {
+            Ok(()) => Ok(true),
+            Err(fault) => Err(fault),
+        }
     }
 }

@@ -39,6 +39,16 @@ fn judge_short<L: Layout>(line: &[u8]) -> Result<L, LineFault>
     judge_full::<L>(&filled[..L::LEN], false)
 }
 
+/// Whether the line, which begins with the layout's type, is known to be a full line of allowed bytes.
+#[inline(always)]
+pub(crate) fn is_full_line<L: Layout>(line: &[u8], is_clean: bool) -> bool
+    requires begins { take 1 line.now ≡ L.RTYPE ∷ [] }
+    requires clean { IsTrue is_clean → AreAllowed line.now }
+    ensures { IsTrue result → IsLine L.RTYPE L.LEN line.now }
+{
+    is_clean && line.len() == L::LEN
+}
+
 /// A line of blanks.
 fn blanks() -> [u8; LONGEST_LINE]
     ensures { result ≡ replicate LONGEST_LINE 32 }

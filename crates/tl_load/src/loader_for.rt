@@ -1,26 +1,28 @@
 //! The loader over any collector: splits pieces of bytes into lines, judges each line when it ends, and keeps its record.
 
 ghost use Rattle.std.specs.Io.KnownBytes.{IsAtEnd};
-ghost use Rattle.std.specs.Prelude.{◌≡◌, ◌≤◌, ◌<◌, ◌+◌, ◌*◌, ℕ, List, [], ◌∷◌, ◌++◌, None, Some, length, take, replicate, IfSome, Err, MatchResult, IfOk, IfErr, OnOk, IsTrue, is_ok, if◌then◌else◌};
+ghost use Rattle.std.specs.Prelude.{◌≡◌, ◌≤◌, ◌<◌, ◌+◌, ◌*◌, ℕ, List, [], ◌∷◌, ◌++◌, None, Some, length, take, replicate, IfSome, Err, MatchResult, IfOk, IfErr, OnOk, IsTrue, false, is_ok, if◌then◌else◌};
 ghost use Rattle.std.specs.Result.{IsErr};
 ghost use Rattle.tl_layout.specs.Bytes.{AreAllowed};
 ghost use Rattle.tl_layout.specs.declared.record_type.Record.{Record};
 ghost use Rattle.tl_load.specs.Choice.{tiger, judged, as_record};
 ghost use Rattle.tl_load.specs.declared.fault.LineFault.TheVariants.{UnknownType};
+ghost use Rattle.tl_load.specs.declared.fault.LoadFault.TheVariants.{Memory};
 ghost use Rattle.tl_load.specs.Keeping.{WasFedInto, HasSome, IsSamePart, Lifts, total, bytes_used};
 ghost use Rattle.tl_load.specs.LineOf.{judged_as};
 ghost use Rattle.tl_load.specs.Lines.{IsWithoutLineFeed};
 ghost use Rattle.tl_load.specs.Loaded.{FedPart, IsNotDevice, is_device, IsOfLines, IsFaultHowever, IsWellAfter, all_parts};
 ghost use Rattle.tl_load.specs.Outcome.{SpellsWithin, FaultAt};
 ghost use Rattle.tl_load.specs.Sources.{Gave, StopsThere};
-ghost use Rattle.tl_load.specs.Steps.{Takes, Ends, Closes, Judges, JudgesAs, Adds, ReadsPart, TakesWell, with_fault};
+ghost use Rattle.tl_load.specs.Steps.{Takes, Ends, Closes, Judges, JudgesAs, KeepsUnread, Adds, ReadsPart, TakesWell, with_fault};
 
 use crate::collector::Collector;
 use crate::fault::{LineFault, LoadFault};
-use crate::judge::judge_line;
+use crate::judge::{is_full_line, judge_line};
 use crate::line::{line_end, without_carriage_return};
 use crate::source::Source;
 use arrayvec::ArrayVec;
+use canonical_lines::Canonical;
 use std::alloc::Global;
 use std::marker::Model;
 use tl_layout::{
@@ -129,8 +131,39 @@ impl<K: Collector> LoaderFor<K> {
         }
     }
 
-    /// Judges the next line by the layout of its type.
-    fn judge_as<L: Tabled>(&mut self, line: &[u8], is_clean: bool) -> Result<(), LoadFault>
+    /// Keeps and counts the record of a full line without reading the line, if the collector can and there are fewer than
+    /// `limit` of its type. Returns whether it did.
+    #[inline(always)]
+    fn keep_unread<L: Canonical>(&mut self, line: &[u8], is_clean: bool) -> Result<bool, LoadFault>
+        requires begins { take 1 line.now ≡ L.RTYPE ∷ [] }
+        requires clean { IsTrue is_clean → AreAllowed line.now }
+        ensures kept { IfOk result (λ was_kept. IsTrue was_kept → KeepsUnread K.holds line.now (as_record L.as_record (judged_as L.LEN L.reading line.now)) self.old self.new) }
+        ensures unchanged { IfOk result (λ was_kept. was_kept ≡ false → self.new ≡ self.old) }
+        ensures memory { IfErr result (λ f. f ≡ Memory) }
+        ensures same_part { IsSamePart self.old self.new }
+        ensures unfinished { self.new.unfinished ≡ self.old.unfinished }
+    {
+        if !is_full_line::<L>(line, is_clean) {
+            return Ok(false);
+        }
+        let rtype = L::RTYPE;
+        let count = self.counts[rtype as usize];
+        if count >= self.limit {
+            return Ok(false);
+        }
+        match self.kept.keep_line::<L>(line) {
+            Ok(true) => {
+                self.counts[rtype as usize] = count + 1;
+                self.judged += 1;
+                Ok(true)
+            }
+            Ok(false) => Ok(false),
+            Err(_error) => Err(LoadFault::Memory),
+        }
+    }
+
+    /// Reads the next line by the layout of its type, and keeps its record.
+    fn read_as<L: Tabled>(&mut self, line: &[u8], is_clean: bool) -> Result<(), LoadFault>
         requires room { self.old.parts < u64.MAX }
         requires begins { take 1 line.now ≡ L.RTYPE ∷ [] }
         requires clean { IsTrue is_clean → AreAllowed line.now }
@@ -145,6 +178,26 @@ impl<K: Collector> LoaderFor<K> {
         match judge_line::<L>(line, is_clean) {
             Ok(found) => self.add(found),
             Err(fault) => Err(fault.at(self.parts + 1, self.judged + 1)),
+        }
+    }
+
+    /// Judges the next line by the layout of its type.
+    fn judge_as<L: Canonical>(&mut self, line: &[u8], is_clean: bool) -> Result<(), LoadFault>
+        requires room { self.old.parts < u64.MAX }
+        requires begins { take 1 line.now ≡ L.RTYPE ∷ [] }
+        requires clean { IsTrue is_clean → AreAllowed line.now }
+        ensures judges { Lifts K.holds (JudgesAs line.now (as_record L.as_record (judged_as L.LEN L.reading line.now))) self.old result self.new }
+        ensures short { OnOk result (length line.now ≤ LONGEST_LINE) }
+        ensures same_part { IsSamePart self.old self.new }
+        ensures unfinished { self.new.unfinished ≡ self.old.unfinished }
+        ensures judged { OnOk result (self.new.judged ≡ self.old.judged + 1) }
+        ensures one_more { OnOk result (total self.new.counts ≡ total self.old.counts + 1) }
+        ensures no_device { IfErr result IsNotDevice }
+    {
+        match self.keep_unread::<L>(line, is_clean) {
+            Ok(true) => Ok(()),
+            Ok(false) => self.read_as::<L>(line, is_clean),
+            Err(fault) => Err(fault),
         }
     }
 

@@ -1,0 +1,285 @@
+-- By a column table: a line whose columns hold canonical texts is read as the record of their values, and is that record's
+-- canonical spelling but for the version.
+use Rattle.std.proofs.Common.{◌≡◌, ℕ, zero, suc, ◌+◌, ◌-◌, ◌≤◌, List, [], ◌∷◌, ◌++◌, length, take, drop, true, Some, None, Option, refl, sym, ap}
+use Rattle.std.proofs.Common.{◌∙◌, subst, arith, append_assoc, codes, nat_eq, ◌&&◌}
+use Rattle.std.proofs.lemmas.Bool.{and_parts, eqb-true, leb-true}
+use Rattle.std.proofs.lemmas.List.{drop-drop, drop_all, take-append-drop}
+use Rattle.canonical_lines.specs.SpeltLine.{with_version, IsSpeltLine}
+use Rattle.tl_layout.specs.Bytes.{IsText, IsLine, columns}
+use Rattle.tl_layout.specs.ColumnTable.{Kind, Number, NumberOrNone, Pair, PairOrNone, NumberPlaces, PointPlaces, Opaque, Filler}
+use Rattle.tl_layout.specs.ColumnTable.{ValueOf, Row, width_of, SpellsValue, SpellsRows, FitsValue, FitsRows, is_suited, is_laid_out}
+use Rattle.tl_layout.specs.Columns.{joined}
+use Rattle.tl_layout.specs.Coordinates.{Coordinates}
+use Rattle.tl_layout.specs.FieldMeaning.{SpellsNumber, SpellsNumberOrNone, SpellsPoint, SpellsPointOrNone, SpellsPointPlace}
+use Rattle.tl_layout.specs.FieldMeaning.{SpellsNumberPlace, SpellsPlaces}
+use Rattle.tl_layout.specs.FieldTexts.{value_texts, rows_texts, rows_spelling}
+use Rattle.tl_layout.specs.Laws.ColumnLaws.{joined-before, columns_of_text}
+use Rattle.tl_layout.specs.Laws.TableLaws.{Values, values_of, made, IsTable, table_spelling_is_line, table_reads_spelling}
+use Rattle.tl_layout.specs.Laws.TableLaws.{table_reads_spelled, table_spelled_is_read}
+use Rattle.tl_layout.specs.TableReading.{Makes, rows_reading}
+
+-- ---- what is known of a line
+
+-- the columns hold the canonical text of a value that fits them
+pub record HasCanonical (line : List ℕ) (first last : ℕ) (kind : Kind) : Type 0 where
+  pub value : ValueOf kind
+  pub fits : FitsValue (last + 1 - first) kind value
+  pub text : columns first last line ≡ joined [] (value_texts (last + 1 - first) kind value)
+
+-- the same for a field, but text that is kept as it is needs no test
+abbrev pub IsTested : List ℕ → ℕ → ℕ → Kind → Type 0
+IsTested line first last Opaque = Unit {0}
+IsTested line first last Number = HasCanonical line first last Number
+IsTested line first last NumberOrNone = HasCanonical line first last NumberOrNone
+IsTested line first last Pair = HasCanonical line first last Pair
+IsTested line first last PairOrNone = HasCanonical line first last PairOrNone
+IsTested line first last NumberPlaces = HasCanonical line first last NumberPlaces
+IsTested line first last PointPlaces = HasCanonical line first last PointPlaces
+IsTested line first last Filler = HasCanonical line first last Filler
+
+-- each field was tested
+abbrev pub AreTested : {R : Type 0} → List ℕ → List (Row R) → Type 0
+AreTested line [] = Unit {0}
+AreTested line (row ∷ rows) = IsTested line row.first row.last row.kind × AreTested line rows
+
+-- each field has its canonical text
+abbrev AreCanonical : {R : Type 0} → List ℕ → List (Row R) → Type 0
+AreCanonical line [] = Unit {0}
+AreCanonical line (row ∷ rows) = HasCanonical line row.first row.last row.kind × AreCanonical line rows
+
+-- ---- the columns of rows
+
+-- the first row, and the rows after it
+record IsFirstRow {R : Type 0} (next : ℕ) (row : Row R) (rows : List (Row R)) (len : ℕ) : Type 0 where
+  first : row.first ≡ next
+  ordered : row.first ≤ row.last
+  later : is_laid_out (row.last + 1) rows len ≡ true
+
+-- the first column is not behind the last one
+ordered : (first last : ℕ) (kind : Kind) → is_suited first last kind ≡ true → first ≤ last
+ordered first last Number h = leb-true first last h
+ordered first last NumberOrNone h = leb-true first last h
+ordered first last Pair h = let e = eqb-true last (first + 18) h in omega arith
+ordered first last PairOrNone h = let e = eqb-true last (first + 18) h in omega arith
+ordered first last NumberPlaces h = let e = eqb-true last (first + 39) h in omega arith
+ordered first last PointPlaces h = let e = eqb-true last (first + 189) h in omega arith
+ordered first last Opaque h = leb-true first last h
+ordered first last Filler h = leb-true first last h
+
+-- a table is laid out as its first row and the rows after it are
+first_row : {R : Type 0} (next : ℕ) (row : Row R) (rows : List (Row R)) (len : ℕ) → is_laid_out next (row ∷ rows) len ≡ true
+    → IsFirstRow next row rows len
+first_row next row rows len h =
+    let parts = and_parts (nat_eq row.first next && is_suited row.first row.last row.kind) (is_laid_out (row.last + 1) rows len) h in
+    let front = and_parts (nat_eq row.first next) (is_suited row.first row.last row.kind) parts.0 in
+    record {
+      first = eqb-true row.first next front.0;
+      ordered = ordered row.first row.last row.kind front.1;
+      later = parts.1;
+    }
+
+-- the next free column is in the line or directly after it
+laid_out_within : {R : Type 0} (rows : List (Row R)) (next len : ℕ) → is_laid_out next rows len ≡ true → next ≤ len + 1
+laid_out_within [] next len h = let e = eqb-true next (len + 1) h in omega arith
+laid_out_within (row ∷ rows) next len h =
+    let f = first_row next row rows len h in
+    let e = f.first in
+    let o = f.ordered in
+    let l = laid_out_within rows (row.last + 1) len f.later in
+    omega arith
+
+-- ---- the values
+
+-- a tested field has its canonical text, and so has a text
+canonical : (len : ℕ) (line : List ℕ) → IsText len line → (first last : ℕ) (kind : Kind) → 1 ≤ first → first ≤ last → last ≤ len
+    → IsTested line first last kind → HasCanonical line first last kind
+canonical len line t first last Opaque from o within h = record {
+  value = columns first last line;
+  fits = columns_of_text len line t first last (last + 1 - first) from within (omega arith);
+  text = refl;
+}
+canonical len line t first last Number from o within h = h
+canonical len line t first last NumberOrNone from o within h = h
+canonical len line t first last Pair from o within h = h
+canonical len line t first last PairOrNone from o within h = h
+canonical len line t first last NumberPlaces from o within h = h
+canonical len line t first last PointPlaces from o within h = h
+canonical len line t first last Filler from o within h = h
+
+-- if each field was tested, each has its canonical text
+all_canonical : {R : Type 0} (len : ℕ) (line : List ℕ) → IsText len line → (rows : List (Row R)) (next : ℕ) → 1 ≤ next
+    → is_laid_out next rows len ≡ true → AreTested line rows → AreCanonical line rows
+all_canonical len line t [] next from h a = tt
+all_canonical len line t (row ∷ rows) next from h a =
+    let f = first_row next row rows len h in
+    let e = f.first in
+    let o = f.ordered in
+    let l = laid_out_within rows (row.last + 1) len f.later in (
+      canonical len line t row.first row.last row.kind (omega arith) f.ordered (omega arith) a.0,
+      all_canonical len line t rows (row.last + 1) (omega arith) f.later a.1,
+    )
+
+-- the values of the fields
+abbrev values : {R : Type 0} (line : List ℕ) (rows : List (Row R)) → AreCanonical line rows → Values rows
+values line [] h = tt
+values line (row ∷ rows) h = (h.0.value, values line rows h.1)
+
+-- the columns of each row hold the canonical text of the record's value in it, which fits
+abbrev HoldsRows : {R : Type 0} → List ℕ → List (Row R) → R → Type 0
+HoldsRows line [] r = Unit {0}
+HoldsRows line (row ∷ rows) r =
+    FitsValue (width_of row) row.kind (row.value r)
+    × (columns row.first row.last line ≡ joined [] (value_texts (width_of row) row.kind (row.value r)))
+    × HoldsRows line rows r
+
+-- the fields of a record with these values have its canonical texts
+holds : {R : Type 0} (line : List ℕ) (rows : List (Row R)) (h : AreCanonical line rows) (r : R) → values_of rows r ≡ values line rows h
+    → HoldsRows line rows r
+holds line [] h r e = tt
+holds line (row ∷ rows) h r e =
+    let same : row.value r ≡ h.0.value = ap (λ (p : Values (row ∷ rows)). p.0) e in
+    let P : ValueOf row.kind → Type 0 = λ v. FitsValue (width_of row) row.kind v in
+    let Q : ValueOf row.kind → Type 0 = λ v. columns row.first row.last line ≡ joined [] (value_texts (width_of row) row.kind v) in (
+      subst P (sym same) h.0.fits,
+      subst Q (sym same) h.0.text,
+      holds line rows h.1 r (ap (λ (p : Values (row ∷ rows)). p.1) e),
+    )
+
+-- such a record fits its columns
+fit : {R : Type 0} (line : List ℕ) (rows : List (Row R)) (r : R) → HoldsRows line rows r → FitsRows rows r
+fit line [] r h = tt
+fit line (row ∷ rows) r h = (h.0, fit line rows r h.2)
+
+-- ---- the spelling
+
+-- the texts of two lists, one list after the other
+joined-append : (a b : List (List ℕ)) → joined [] (a ++ b) ≡ joined [] a ++ joined [] b
+joined-append [] b = refl
+joined-append (text ∷ a) b =
+    joined-before text (a ++ b)
+    ∙ (ap (λ (l : List ℕ). text ++ l) (joined-append a b)
+    ∙ (sym (append_assoc text (joined [] a) (joined [] b)) ∙ ap (λ (l : List ℕ). l ++ joined [] b) (sym (joined-before text a))))
+
+-- what lies behind some columns is the columns from there on, and what lies behind those
+cut : (line : List ℕ) (first last : ℕ) → 1 ≤ first → first ≤ last → drop (first - 1) line ≡ columns first last line ++ drop last line
+cut line first last from o =
+    let span : (first - 1) + (last - (first - 1)) ≡ last = omega arith in
+    sym (take-append-drop (last - (first - 1)) (drop (first - 1) line))
+    ∙ ap (λ (l : List ℕ). columns first last line ++ l) (drop-drop (last - (first - 1)) (first - 1) line ∙ ap (λ (n : ℕ). drop n line) span)
+
+-- the texts of the rows are the rest of the line
+texts : {R : Type 0} (len : ℕ) (line : List ℕ) → length line ≡ len → (rows : List (Row R)) (next : ℕ) → 1 ≤ next
+    → is_laid_out next rows len ≡ true → (r : R) → HoldsRows line rows r → joined [] (rows_texts rows r) ≡ drop (next - 1) line
+texts len line l [] next from h r s = let e = eqb-true next (len + 1) h in sym (drop_all (next - 1) line (omega arith))
+texts len line l (row ∷ rows) next from h r s =
+    let f = first_row next row rows len h in
+    let e = f.first in
+    let o = f.ordered in
+    let start : row.first - 1 ≡ next - 1 = omega arith in
+    let back : row.last + 1 - 1 ≡ row.last = omega arith in
+    let later = texts len line l rows (row.last + 1) (omega arith) f.later r s.2 ∙ ap (λ (n : ℕ). drop n line) back in
+    joined-append (value_texts (width_of row) row.kind (row.value r)) (rows_texts rows r)
+    ∙ ap (λ (t : List ℕ). t ++ joined [] (rows_texts rows r)) (sym s.1)
+    ∙ ap (λ (t : List ℕ). columns row.first row.last line ++ t) later
+    ∙ sym (cut line row.first row.last (omega arith) o)
+    ∙ ap (λ (n : ℕ). drop n line) start
+
+-- ---- the version isn't read
+
+-- the two lines have the same columns from column 6 on
+abbrev AreAlike : List ℕ → List ℕ → Type 0
+AreAlike line other = (first last : ℕ) → 6 ≤ first → columns first last line ≡ columns first last other
+
+-- a place for a point has the same content in both lines
+point_place : (line other : List ℕ) → AreAlike line other → (column : ℕ) → 6 ≤ column → (place : Option Coordinates)
+    → SpellsPointPlace line column place → SpellsPointPlace other column place
+point_place line other a column from place s =
+    let P : List ℕ → Type 0 = λ f. SpellsPointOrNone f (columns (column + 10) (column + 18) line) place in
+    let Q : List ℕ → Type 0 = λ f. SpellsPointOrNone (columns column (column + 9) other) f place in
+    subst Q (a (column + 10) (column + 18) (omega arith)) (subst P (a column (column + 9) from) s)
+
+-- a place for a number has the same content in both lines
+number_place : (line other : List ℕ) → AreAlike line other → (column : ℕ) → 6 ≤ column → (place : Option ℕ)
+    → SpellsNumberPlace line column place → SpellsNumberPlace other column place
+number_place line other a column from place s =
+    let P : List ℕ → Type 0 = λ f. SpellsNumberOrNone f place in
+    subst P (a column (column + 7) from) s
+
+-- places have the same contents in both lines
+places : {A : Type 0} (Spells Other : ℕ → Option A → Type 0)
+    → ((column : ℕ) → 6 ≤ column → (place : Option A) → Spells column place → Other column place)
+    → (width count column : ℕ) → 6 ≤ column → (xs : List A) → SpellsPlaces Spells width count column xs
+    → SpellsPlaces Other width count column xs
+places Spells Other same width zero column from [] s = tt
+places Spells Other same width zero column from (x ∷ xs) s = s
+places Spells Other same width (suc count) column from [] s =
+    (same column from None s.0, places Spells Other same width count (column + width) (omega arith) [] s.1)
+places Spells Other same width (suc count) column from (x ∷ xs) s =
+    (same column from (Some x) s.0, places Spells Other same width count (column + width) (omega arith) xs s.1)
+
+-- a field spells the same value in both lines
+value_alike : (line other : List ℕ) → AreAlike line other → (first last : ℕ) (kind : Kind) → 6 ≤ first → (value : ValueOf kind)
+    → SpellsValue line first last kind value → SpellsValue other first last kind value
+value_alike line other a first last Number from n s =
+    let P : List ℕ → Type 0 = λ f. SpellsNumber f n in subst P (a first last from) s
+value_alike line other a first last NumberOrNone from n s =
+    let P : List ℕ → Type 0 = λ f. SpellsNumberOrNone f n in subst P (a first last from) s
+value_alike line other a first last Pair from point s =
+    let P : List ℕ → Type 0 = λ f. SpellsPoint f (columns (first + 10) (first + 18) line) point in
+    let Q : List ℕ → Type 0 = λ f. SpellsPoint (columns first (first + 9) other) f point in
+    subst Q (a (first + 10) (first + 18) (omega arith)) (subst P (a first (first + 9) from) s)
+value_alike line other a first last PairOrNone from point s = point_place line other a first from point s
+value_alike line other a first last NumberPlaces from numbers s =
+    places (SpellsNumberPlace line) (SpellsNumberPlace other) (number_place line other a) 8 5 first from numbers s
+value_alike line other a first last PointPlaces from points s =
+    places (SpellsPointPlace line) (SpellsPointPlace other) (point_place line other a) 19 10 first from points s
+value_alike line other a first last Opaque from text s = sym (a first last from) ∙ s
+value_alike line other a first last Filler from value s = tt
+
+-- the fields spell the same record in both lines
+rows_alike : {R : Type 0} (line other : List ℕ) → AreAlike line other → (rows : List (Row R)) (next len : ℕ) → 6 ≤ next
+    → is_laid_out next rows len ≡ true → (r : R) → SpellsRows rows line r → SpellsRows rows other r
+rows_alike line other a [] next len from h r s = tt
+rows_alike line other a (row ∷ rows) next len from h r s =
+    let f = first_row next row rows len h in
+    let e = f.first in
+    let o = f.ordered in (
+      value_alike line other a row.first row.last row.kind (omega arith) (row.value r) s.0,
+      rows_alike line other a rows (row.last + 1) len (omega arith) f.later r s.1,
+    )
+
+-- equal bytes from column 6 on are equal columns
+alike : (line other : List ℕ) → drop 5 line ≡ drop 5 other → AreAlike line other
+alike line other e first last from =
+    let start : 5 + (first - 6) ≡ first - 1 = omega arith in
+    let again : (text : List ℕ) → drop (first - 6) (drop 5 text) ≡ drop (first - 1) text =
+    λ text. drop-drop (first - 6) 5 text ∙ ap (λ (n : ℕ). drop n text) start in
+    ap (take (last - (first - 1))) (sym (again line) ∙ ap (drop (first - 6)) e ∙ again other)
+
+-- ---- the law
+
+-- a line with the version 2006 begins with its type and that version
+begins_with : (rtype : ℕ) (line : List ℕ) → columns 1 1 line ≡ rtype ∷ [] → with_version line ≡ (rtype ∷ codes "2006") ++ drop 5 line
+begins_with rtype line b = ap (λ (l : List ℕ). l ++ (codes "2006" ++ drop 5 line)) b
+
+-- a full line of a table's type, each field of which was tested, is the canonical spelling of a record but for the version
+pub tested_is_spelt : {R : Type 0} (rtype len : ℕ) (table : List (Row R)) (make : Makes table R) → IsTable rtype len table make
+    → (line : List ℕ) → IsLine rtype len line → AreTested line table
+    → (r : R) × IsSpeltLine (λ l. rows_reading table make l) (λ x. rows_spelling rtype table x) line r
+tested_is_spelt {R} rtype len table make is line l a =
+    let each = all_canonical len line l.text table 6 (omega arith) is.laid_out a in
+    let r = made table make (values line table each) in
+    let held = holds line table each r (is.gives (values line table each)) in
+    let fits = fit line table r held in
+    let spelling = rows_spelling rtype table r in
+    let spelt : spelling ≡ (rtype ∷ codes "2006") ++ drop 5 line = joined-before (rtype ∷ codes "2006") (rows_texts table r)
+    ∙ ap (λ (t : List ℕ). (rtype ∷ codes "2006") ++ t) (texts len line l.text.len table 6 (omega arith) is.laid_out r held) in
+    let spells = (table_reads_spelled rtype len table make is spelling r (table_spelling_is_line rtype len table make is r fits)
+    (table_reads_spelling rtype len table make is r fits)).1 in
+    let other = rows_alike spelling line (alike spelling line (ap (drop 5) spelt)) table 6 len (omega arith) is.laid_out r spells in (
+      r,
+      record {
+        read = table_spelled_is_read rtype len table make is line r l other;
+        spelt = spelt ∙ sym (begins_with rtype line l.begins);
+      },
+    )

@@ -1,0 +1,12 @@
+use Rattle.std.proofs.Common.{get_or, slice_range, length, arith}
+use Rattle.canonical_lines.proofs.NumberTexts.{begins}
+use Rattle.canonical_lines.proofs.PointTexts.{coordinate_text_of, eight_digits, length_behind}
+use Rattle.canonical_lines.proofs.point.is_latitude.Goals as goal
+use Rattle.tl_layout.specs.FieldTexts.{digits_text}
+
+pub returns-then-are_digits : goal.returns-then-are_digits
+unfolding digits_text
+returns-then-are_digits c signed =
+    let columns = c.args.columns.now in
+    coordinate_text_of 8 (get_or columns 0 0) columns (slice_range columns 1 (length columns)) (begins columns (omega arith)) (length_behind columns 8 c.requires)
+    (eight_digits columns c.requires (c.are_digits.ensures c.if-are_digits.true)) (c.is_sign.ensures signed)

@@ -1,0 +1,18 @@
+use Rattle.std.proofs.Common.{List, ℕ, get_or, eqb, ap, sym, ◌∙◌}
+use Rattle.canonical_lines.proofs.PointTexts.{same_bytes}
+use Rattle.canonical_lines.proofs.point.is_unused.Goals as goal
+use Rattle.canonical_lines.specs.declared.point.TheConstants.{UNUSED}
+use Rattle.tl_layout.specs.FieldTexts.{coordinate_text, digits_text}
+use lib.Pointwise.{pointwise}
+
+pub returns-then-columns-eq43-clause-is : goal.returns-then-columns-eq43-clause-is
+unfolding coordinate_text digits_text
+returns-then-columns-eq43-clause-is c same = same_bytes c.args.columns.now UNUSED (sym c.eq.ensures ∙ same)
+
+pub returns-then-columns-eq43-clause-only : goal.returns-then-columns-eq43-clause-only
+unfolding coordinate_text digits_text
+returns-then-columns-eq43-clause-only c e = c.eq.ensures ∙ ap (λ (l : List ℕ). pointwise eqb l UNUSED) e
+
+pub returns-else-columns-eq43-clause-only : goal.returns-else-columns-eq43-clause-only
+unfolding coordinate_text digits_text
+returns-else-columns-eq43-clause-only c e = ap (λ (l : List ℕ). eqb (get_or l 0 0) 43) e

@@ -1,0 +1,34 @@
+//! Appending a line that is spelled canonically but for its version.
+
+ghost use Rattle.canonical_lines.specs.SpeltLine.{with_version};
+ghost use Rattle.std.specs.Prelude.{◌≡◌, ◌≤◌, [], ◌∷◌, ◌++◌, length, OnOk};
+
+use std::alloc::AllocError;
+use tl_layout::{LONGEST_LINE, reserve_ahead};
+
+/// Writes the version 2006 into columns 2 to 5 of a line.
+#[inline(always)]
+fn put_version(line: &mut [u8])
+    requires { 5 ≤ length line.old }
+    ensures { line.new ≡ with_version line.old }
+{
+    line[1..5].copy_from_slice(b"2006");
+}
+
+/// Appends the line with the version 2006, and LF.
+///
+/// # Errors
+///
+/// `AllocError` if an allocation failed.
+#[inline(always)]
+pub fn copy_line(text: &mut Vec<u8>, line: &[u8]) -> Result<(), AllocError>
+    requires some { 5 ≤ length line.now }
+    requires most { length line.now ≤ LONGEST_LINE }
+    ensures { OnOk result (text.new.items ≡ text.old.items ++ (with_version line.now ++ 10 ∷ [])) }
+{
+    reserve_ahead(text, line.len() + 1);
+    let start = text.len();
+    text.extend_from_slice(line)?;
+    put_version(&mut text[start..]);
+    Ok(text.push(b'\n')?)
+}

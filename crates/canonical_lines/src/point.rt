@@ -1,0 +1,83 @@
+//! Columns that hold the canonical text of a point.
+
+ghost use Rattle.canonical_lines.specs.Texts.{IsCoordinateText, IsPointOrNoneText, IsPointText};
+ghost use Rattle.std.specs.List.{list_all};
+ghost use Rattle.std.specs.Prelude.{◌≡◌, ◌⊎◌, length, true, IsTrue, None};
+ghost use Rattle.tl_layout.specs.FieldTexts.{point_place_text};
+ghost use Rattle.tl_layout.specs.NumberField.{is_digit};
+
+use crate::number::is_blank;
+use std::simd::prelude::*;
+
+/// The text of an unused place: a pair of zeros.
+const UNUSED: [u8; 19] = *b"+000000000+00000000";
+
+/// Whether each of eight bytes is a digit.
+#[inline(always)]
+fn are_digits(bytes: u8x8) -> bool
+    ensures { IsTrue result → list_all is_digit bytes ≡ true }
+{
+    let values = bytes - u8x8::splat(b'0');
+    values.simd_lt(u8x8::splat(10)).to_bitmask() == 0xff
+}
+
+/// Whether a canonical coordinate can have this sign before these digits: a plus, or a minus unless the digits are zeros.
+#[inline(always)]
+fn is_sign(sign: u8, digits: &[u8], zeros: &[u8]) -> bool
+    ensures { IsTrue result → (sign ≡ 43) ⊎ ((sign ≡ 45) × (digits.now ≡ zeros.now → ⊥)) }
+{
+    sign == b'+' || sign == b'-' && digits != zeros
+}
+
+/// Whether the columns hold the canonical text of a longitude.
+#[inline(always)]
+fn is_longitude(columns: &[u8]) -> bool
+    requires { length columns.now ≡ 10 }
+    ensures { IsTrue result → IsCoordinateText 9 columns.now }
+{
+    match columns {
+        [sign, b'0'..=b'9', rest @ ..] => are_digits(u8x8::from_slice(rest))
+            && is_sign(*sign, &columns[1..], &UNUSED[1..10]),
+        _ => false,
+    }
+}
+
+/// Whether the columns hold the canonical text of a latitude.
+#[inline(always)]
+fn is_latitude(columns: &[u8]) -> bool
+    requires { length columns.now ≡ 9 }
+    ensures { IsTrue result → IsCoordinateText 8 columns.now }
+{
+    are_digits(u8x8::from_slice(&columns[1..])) && is_sign(columns[0], &columns[1..], &UNUSED[11..])
+}
+
+/// Whether the columns hold the canonical text of an unused place.
+#[inline(always)]
+pub(crate) fn is_unused(columns: &[u8]) -> bool
+    requires { length columns.now ≡ 19 }
+    ensures is { IsTrue result → columns.now ≡ point_place_text None }
+    ensures only { columns.now ≡ point_place_text None → IsTrue result }
+{
+    columns[0] == b'+' && columns[..] == UNUSED[..]
+}
+
+/// Whether the columns hold the canonical text of a point.
+#[inline(always)]
+pub(crate) fn is_point(columns: &[u8]) -> bool
+    requires { length columns.now ≡ 19 }
+    ensures { IsTrue result → IsPointText columns.now }
+{
+    if is_unused(columns) {
+        return false;
+    }
+    is_longitude(&columns[..10]) && is_latitude(&columns[10..])
+}
+
+/// Whether the columns hold the canonical text of a point, or only blanks.
+#[inline(always)]
+pub(crate) fn is_point_or_none(columns: &[u8]) -> bool
+    requires { length columns.now ≡ 19 }
+    ensures { IsTrue result → IsPointOrNoneText columns.now }
+{
+    is_blank(columns) || is_point(columns)
+}
