@@ -1,10 +1,13 @@
 //! The records of a county's chains.
 
-ghost use Rattle.std.specs.Prelude.{◌≡◌, ◌<◌, ◌+◌, length, take, drop};
+ghost use Rattle.std.specs.Prelude.{◌≡◌, ◌<◌, ◌+◌, Some, length, slice_get, take, drop};
 ghost use Rattle.tl_county.specs.ChartWords.{chain_at, feats_of, points_of};
+ghost use Rattle.tl_county.specs.CountyRules.{tlids};
 ghost use Rattle.tl_county.specs.Packing.{inner_points};
+ghost use Rattle.tl_layout.specs.Numbers.{IsNumber};
 
 use crate::groups::RecordGroups;
+use crate::heads::HeadBuffers;
 use arrayvec::ArrayVec;
 use tl_county::Chart;
 use tl_layout::{Point, Rec1, Rec2, Rec4, Rec6, RecI};
@@ -18,9 +21,19 @@ const NAMES_A_RECORD: usize = 5;
 /// The number of a record among the chain's records of the same type (RTSQ), counted from 1.
 fn sequence_number(place: usize) -> u16
     requires { place < 999 }
-    ensures { result ≡ place + 1 }
+    ensures number { result ≡ place + 1 }
+    ensures in_range { IsNumber 3 result }
 {
     place as u16 + 1
+}
+
+/// The TLID of the chain at a place. It has at most 10 digits, and isn't 0.
+fn chain_tlid<C: Chart>(chart: &C, place: usize) -> u64
+    requires { place < length (C.county chart.now).chains }
+    ensures tlid { Some result ≡ slice_get (tlids (C.county chart.now)) place }
+    ensures in_range { IsNumber 10 result }
+{
+    chart.tlid_there(place)
 }
 
 /// The number of shape points of the chain at a place, between its ends.
@@ -80,6 +93,11 @@ impl<C: Chart> RecordGroups for ChainRecords<'_, C> {
         self.chart.chain_count()
     }
 
+    fn buffer(buffers: &mut HeadBuffers) -> &mut [(Point, Point)] {
+        let ends = &mut buffers.ends;
+        &mut ends[..]
+    }
+
     fn head(&self, group: usize) -> (Point, Point) {
         let last = self.chart.point_count_at(group) - 1;
         (
@@ -95,7 +113,7 @@ impl<C: Chart> RecordGroups for ChainRecords<'_, C> {
     fn record(&self, group: usize, head: (Point, Point), _place: usize) -> Rec1 {
         let (start, end) = head;
         Rec1::new(
-            self.chart.tlid_there(group),
+            chain_tlid(self.chart, group),
             self.chart.chain_body_there(group),
             start,
             end,
@@ -103,7 +121,7 @@ impl<C: Chart> RecordGroups for ChainRecords<'_, C> {
     }
 
     fn put(&self, group: usize, head: (Point, Point), _place: usize, out: &mut [u8]) {
-        Rec1::put_number(self.chart.tlid_there(group), out);
+        Rec1::put_number(chain_tlid(self.chart, group), out);
         self.chart.put_chain_body(group, false, out);
         Rec1::put_points(&head.0, &head.1, out);
     }
@@ -131,6 +149,10 @@ impl<C: Chart> RecordGroups for ShapePointRecords<'_, C> {
         self.chart.chain_count()
     }
 
+    fn buffer(buffers: &mut HeadBuffers) -> &mut [usize] {
+        &mut buffers.counts
+    }
+
     fn head(&self, group: usize) -> usize {
         shape_point_count(self.chart, group).div_ceil(POINTS_A_RECORD)
     }
@@ -141,7 +163,11 @@ impl<C: Chart> RecordGroups for ShapePointRecords<'_, C> {
 
     fn record(&self, group: usize, _head: usize, place: usize) -> Rec2 {
         let points = shape_points_from(self.chart, group, place * POINTS_A_RECORD);
-        Rec2::new(self.chart.tlid_there(group), sequence_number(place), points)
+        Rec2::new(
+            chain_tlid(self.chart, group),
+            sequence_number(place),
+            points,
+        )
     }
 }
 
@@ -167,6 +193,10 @@ impl<C: Chart> RecordGroups for FurtherNameRecords<'_, C> {
         self.chart.chain_count()
     }
 
+    fn buffer(buffers: &mut HeadBuffers) -> &mut [usize] {
+        &mut buffers.counts
+    }
+
     fn head(&self, group: usize) -> usize {
         self.chart.feat_count_at(group).div_ceil(NAMES_A_RECORD)
     }
@@ -177,7 +207,7 @@ impl<C: Chart> RecordGroups for FurtherNameRecords<'_, C> {
 
     fn record(&self, group: usize, _head: usize, place: usize) -> Rec4 {
         let names = names_from(self.chart, group, place * NAMES_A_RECORD);
-        Rec4::new(self.chart.tlid_there(group), sequence_number(place), names)
+        Rec4::new(chain_tlid(self.chart, group), sequence_number(place), names)
     }
 }
 
@@ -203,6 +233,10 @@ impl<C: Chart> RecordGroups for RangeRecords<'_, C> {
         self.chart.chain_count()
     }
 
+    fn buffer(buffers: &mut HeadBuffers) -> &mut [usize] {
+        &mut buffers.counts
+    }
+
     fn head(&self, group: usize) -> usize {
         self.chart.range_count_at(group)
     }
@@ -213,7 +247,11 @@ impl<C: Chart> RecordGroups for RangeRecords<'_, C> {
 
     fn record(&self, group: usize, _head: usize, place: usize) -> Rec6 {
         let ranges = self.chart.range_there(group, place);
-        Rec6::new(self.chart.tlid_there(group), sequence_number(place), ranges)
+        Rec6::new(
+            chain_tlid(self.chart, group),
+            sequence_number(place),
+            ranges,
+        )
     }
 }
 
@@ -239,6 +277,10 @@ impl<C: Chart> RecordGroups for TopologyRecords<'_, C> {
         self.chart.chain_count()
     }
 
+    fn buffer(buffers: &mut HeadBuffers) -> &mut [u8] {
+        &mut buffers.topology_bytes
+    }
+
     fn head(&self, group: usize) -> u8 {
         let body = self.chart.link_body_there(group);
         body.file.as_bytes()[0] ^ body.rs_i3.as_bytes()[9]
@@ -250,7 +292,7 @@ impl<C: Chart> RecordGroups for TopologyRecords<'_, C> {
 
     fn record(&self, group: usize, _head: u8, _place: usize) -> RecI {
         RecI::new(
-            self.chart.tlid_there(group),
+            chain_tlid(self.chart, group),
             self.chart.link_body_there(group),
             self.chart.start_node_there(group),
             self.chart.end_node_there(group),
@@ -261,7 +303,7 @@ impl<C: Chart> RecordGroups for TopologyRecords<'_, C> {
 
     fn put(&self, group: usize, _head: u8, _place: usize, out: &mut [u8]) {
         RecI::put_fields(
-            self.chart.tlid_there(group),
+            chain_tlid(self.chart, group),
             &self.chart.link_body_there(group),
             self.chart.start_node_there(group),
             self.chart.end_node_there(group),

@@ -7,6 +7,7 @@
 ghost use Rattle.std.specs.Prelude.{◌≡◌, ◌<◌, ◌≤◌, ◌+◌, ◌-◌, ℕ, List, Some, length, drop, map, min, take, flat_map, slice_get, option_map, OnOk};
 ghost use Rattle.tl_number.specs.Groups.{AreHeads, group_at, grouped};
 
+use crate::heads::HeadBuffers;
 use crate::visitor::RecordVisitor;
 use tl_layout::{Layout, Tabled};
 
@@ -27,6 +28,10 @@ pub trait RecordGroups {
     /// Returns the number of groups.
     fn count(&self) -> usize
         ensures { result ≡ length (groups self.now) };
+
+    /// Returns the buffer for heads of such groups.
+    fn buffer(buffers: &mut HeadBuffers) -> &mut [Self::Head]
+        ensures { 0 < length result.now };
 
     /// Reads the head of a group.
     fn head(&self, group: usize) -> Self::Head

@@ -2,7 +2,7 @@
 
 ghost use Rattle.std.specs.List.{range_with_len};
 ghost use Rattle.std.specs.Ordering.{nat_cmp, on};
-ghost use Rattle.std.specs.Prelude.{◌≡◌, ◌++◌, ◌+◌, ◌-◌, ◌<◌, ◌^◌, IfOk, OnOk, flat_map, length, map, option_to_list, slice_get};
+ghost use Rattle.std.specs.Prelude.{◌≡◌, ◌++◌, ◌+◌, ◌-◌, ◌<◌, ◌^◌, IfOk, OnOk, flat_map, length, map, slice_get};
 ghost use Rattle.tl_county.specs.BodyOrder.{link_cmp};
 ghost use Rattle.tl_county.specs.ChartWords.{links_at, links_with};
 ghost use Rattle.tl_county.specs.County.{eight_land};
@@ -32,23 +32,6 @@ fn renumbered_link(polygons: &Interner<PolygonKey>, lands: &Interner<u64>, link:
     Rec8::new(link.file(), cenid, key.1, land)
 }
 
-/// Appends a link with its new numbers, if there is one.
-fn push_link(
-    links: &mut Vec<Rec8>,
-    polygons: &Interner<PolygonKey>,
-    lands: &Interner<u64>,
-    link: Option<Rec8>,
-) -> Result<(), AllocError>
-    requires few_polygons { length polygons.now < 10 ^ 10 }
-    requires few_lands { length lands.now < 10 ^ 10 }
-    ensures { OnOk result (links.new.items ≡ links.old.items ++ map (link_under polygons.now lands.now) (option_to_list link)) }
-{
-    if let Some(link) = link {
-        links.push(renumbered_link(polygons, lands, &link))?;
-    }
-    Ok(())
-}
-
 /// Appends the links of the landmark at a place with their new numbers.
 fn push_links<C: Chart>(
     links: &mut Vec<Rec8>,
@@ -61,10 +44,10 @@ fn push_links<C: Chart>(
     requires few_lands { length lands.now < 10 ^ 10 }
     ensures { OnOk result (links.new.items ≡ links.old.items ++ map (link_under polygons.now lands.now) (links_at (C.county chart.now) place)) }
 {
-    for link in 0..chart.link_count_at(place) {
-        push_link(links, polygons, lands, chart.landmark_link_at(place, link))?;
-    }
-    Ok(())
+    let own = (0..chart.link_count_at(place)).filter_map(|link| chart.landmark_link_at(
+        place, link,
+    ));
+    links.extend(own.map(|link| renumbered_link(polygons, lands, &link)))
 }
 
 /// The links of all landmarks with their new numbers, landmark after landmark.

@@ -4,22 +4,20 @@ ghost use Rattle.std.specs.Cmp.Lexicographic.{slice_cmp};
 ghost use Rattle.std.specs.List.{range_with_len};
 ghost use Rattle.std.specs.Option.{option_cmp};
 ghost use Rattle.std.specs.Ordering.{nat_cmp, on};
-ghost use Rattle.std.specs.Prelude.{◌≡◌, ◌<◌, ◌^◌, ◌-◌, IfOk, IsPermutation, OnOk, false, filter_map, length, map, option_to_list, slice_get};
+ghost use Rattle.std.specs.Prelude.{◌≡◌, ◌<◌, ◌^◌, ◌-◌, IfOk, IsPermutation, false, length, map};
 ghost use Rattle.tl_county.specs.BodyOrder.{landmark_body_cmp, link_part, link_part_cmp};
 ghost use Rattle.tl_county.specs.ChartWords.{bodies_at};
 ghost use Rattle.tl_county.specs.County.{eight_land};
 ghost use Rattle.tl_county.specs.CountyProps.{IsInOrder-prop};
-ghost use Rattle.tl_county.specs.CountyRules.{lands};
 ghost use Rattle.ordered_lists.specs.Orders.{IsInOrder, has_repeat};
 ghost use Rattle.tl_number.specs.Arrangement.{polygons_in_order};
-ghost use Rattle.tl_number.specs.Growth.{first_seen_after};
 ghost use Rattle.tl_number.specs.LandmarkItems.{landmark_place_cmp, lands_at, numbered_links, own_links, place_cmp_under};
 ghost use Rattle.tl_number.specs.Steps.{arrangement_of};
 ghost use Rattle.tl_number.specs.ViewFacts.{AreWhole, MatchesLandmarks, link_bounds};
 
 use crate::arranged_tables::LandmarkTables;
-use crate::landmark_links::{bounds_of, link_at, links_of_landmark, links_under};
-use crate::numbers::{Interner, marks_for};
+use crate::landmark_links::{bounds_of, links_of_landmark, links_under};
+use crate::numbers::Interner;
 use std::alloc::{AllocError, Global};
 use std::cmp::Ordering;
 use tl_county::{Chart, PolygonKey, cmp_landmark_bodies};
@@ -38,13 +36,6 @@ fn bytes_of_link(link: &Rec8) -> LinkBytes
     (link.polyid(), (cenid, file))
 }
 
-/// Compares two links without their LANDs.
-fn cmp_link(a: &Rec8, b: &Rec8) -> Ordering
-    ensures { result ≡ link_part_cmp (link_part a.now) (link_part b.now) }
-{
-    bytes_of_link(a).cmp(&bytes_of_link(b))
-}
-
 /// Compares two bodies; a missing one comes first.
 fn cmp_optional_body(a: Option<Body7>, b: Option<Body7>) -> Ordering
     ensures { result ≡ option_cmp landmark_body_cmp a b }
@@ -52,22 +43,6 @@ fn cmp_optional_body(a: Option<Body7>, b: Option<Body7>) -> Ordering
     match a {
         Some(a) => match b {
             Some(b) => cmp_landmark_bodies(&a, &b),
-            None => Ordering::Greater,
-        },
-        None => match b {
-            Some(_) => Ordering::Less,
-            None => Ordering::Equal,
-        },
-    }
-}
-
-/// Compares two links without their LANDs; a missing one comes first.
-fn cmp_optional_link(a: Option<Rec8>, b: Option<Rec8>) -> Ordering
-    ensures { result ≡ option_cmp (on link_part link_part_cmp) a b }
-{
-    match a {
-        Some(a) => match b {
-            Some(b) => cmp_link(&a, &b),
             None => Ordering::Greater,
         },
         None => match b {
@@ -102,18 +77,8 @@ fn cmp_bodies<C: Chart>(chart: &C, a: usize, b: usize) -> Ordering
 fn cmp_links(a: &[Rec8], b: &[Rec8]) -> Ordering
     ensures { result ≡ slice_cmp link_part_cmp (map link_part a.now) (map link_part b.now) }
 {
-    let count = a.len();
-    for link in 0..count {
-        match cmp_optional_link(link_at(a, link), link_at(b, link)) {
-            Ordering::Equal => {}
-            unequal => return unequal,
-        }
-    }
-    if count < b.len() {
-        Ordering::Less
-    } else {
-        Ordering::Equal
-    }
+    let others = b.iter().map(|link| bytes_of_link(link));
+    a.iter().map(|link| bytes_of_link(link)).cmp(others)
 }
 
 /// Links with LANDs counted from 1, and how many have a LAND up to 0, 1, 2, ..
@@ -148,35 +113,34 @@ fn all_places<C: Chart>(alloc: Global, chart: &C) -> Result<Vec<u32>, AllocError
     requires { length (C.county chart.now).landmarks < 2 ^ 32 }
     ensures { IfOk result (λ places. places.items ≡ range_with_len 0 (length (C.county chart.now).landmarks)) }
 {
-    let count = chart.landmark_count();
-    let mut places = Vec::with_capacity(alloc, count)?;
-    for place in 0..count {
-        places.push(place as u32)?;
-    }
-    Ok(places)
-}
-
-/// Sees a LAND, if there is one.
-fn see_land(lands: &mut Interner<u64>, land: Option<u64>) -> Result<(), AllocError>
-    ensures { OnOk result (lands.new ≡ first_seen_after nat_cmp lands.old (option_to_list land)) }
-{
-    match land {
-        Some(number) => lands.see(number),
-        None => Ok(()),
-    }
+    (0..chart.landmark_count() as u32).collect(alloc)
 }
 
 /// The LANDs at places, one after another.
-fn lands_at<C: Chart>(alloc: Global, chart: &C, places: &[u32]) -> Result<Interner<u64>, AllocError>
-    requires { has_repeat nat_cmp (filter_map (slice_get (lands (C.county chart.now))) places.now) ≡ false }
-    ensures { IfOk result (λ numbers. numbers ≡ filter_map (slice_get (lands (C.county chart.now))) places.now) }
+pub(crate) fn lands_there<C: Chart>(
+    alloc: Global,
+    chart: &C,
+    places: &[u32],
+) -> Result<Vec<u64>, AllocError>
+    ensures { IfOk result (λ numbers. numbers.items ≡ lands_at (C.county chart.now) places.now) }
 {
-    let mut numbers = Interner::with_marks(alloc, marks_for(places.len()))?;
-    let mut rest = places;
-    while let Some((place, later)) = rest.split_first() {
-        see_land(&mut numbers, chart.land_at(*place as usize))?;
-        rest = later;
-    }
+    places
+        .iter()
+        .filter_map(|place| chart.land_at(*place as usize))
+        .collect(alloc)
+}
+
+/// The LANDs at places, numbered in this order.
+fn number_lands<C: Chart>(
+    alloc: Global,
+    chart: &C,
+    places: &[u32],
+) -> Result<Interner<u64>, AllocError>
+    requires { has_repeat nat_cmp (lands_at (C.county chart.now) places.now) ≡ false }
+    ensures { IfOk result (λ numbers. numbers ≡ lands_at (C.county chart.now) places.now) }
+{
+    let lands = lands_there(alloc, chart, places)?;
+    let numbers = Interner::of_distinct(alloc, &lands)?;
     Ok(numbers)
 }
 
@@ -209,7 +173,7 @@ fn links_by_land<C: Chart>(
         (λ lists. lists.0.items ≡ numbered_links (C.county chart.now) polygons.now (lands_at (C.county chart.now) places.now)) }
     ensures bounds { IfOk result (λ lists. lists.1.items ≡ link_bounds lists.0.items (length places.now)) }
 {
-    let lands = lands_at(alloc, chart, places)?;
+    let lands = number_lands(alloc, chart, places)?;
     let links = links_under(alloc, chart, polygons, &lands)?;
     let bounds = bounds_of(alloc, &links, places.len())?;
     Ok((links, bounds))

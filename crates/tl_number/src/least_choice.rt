@@ -12,6 +12,7 @@ ghost use Rattle.std.specs.Prelude.{◌≡◌, ◌<◌, ◌≤◌, cond, false, 
 ghost use Rattle.tl_county.specs.CountyRules.{AllKeysStandIn, polygon_keys, polygons_along};
 ghost use Rattle.tl_number.specs.Arrangement.{arranged};
 ghost use Rattle.tl_number.specs.Canonical.{IsNotAfter};
+ghost use Rattle.tl_number.specs.ChoiceSearch.{LeavesChoices};
 ghost use Rattle.tl_number.specs.LeastNumber.{IsLeastBelow, choice_list};
 ghost use Rattle.tl_number.specs.MovedSteps.{AgreeApart, AreWithin, other_way};
 ghost use Rattle.tl_number.specs.NumberedChoices.{moved};
@@ -57,9 +58,7 @@ fn arrange_choice<'a, C: Chart>(
     order: &ShapeOrder,
     number: u64,
 ) -> Result<Arranged<Lent<'a, C>>, AllocError>
-    requires order { IsShapeOrder (C.county chart.now) order.now }
-    requires few { choices (C.county chart.now) ≤ most_choices }
-    requires sides { AllKeysStandIn (polygons_along (C.county chart.now).chains) (polygon_keys (C.county chart.now)) }
+    requires { LeavesChoices (C.county chart.now) order.now }
     ensures county { IfOk result (λ view. arranged_county view ≡ arranged (C.county chart.now) (numbered_choice (C.county chart.now) number)) }
     ensures source { IfOk result (λ view. ⟦<Lent<'a, C> as Chart>⟧.county (source_of view) ≡ C.county chart.now) }
 {
@@ -97,9 +96,7 @@ fn next_least<'a, C: Chart>(
     least: Numbered<Arranged<Lent<'a, C>>>,
     number: u64,
 ) -> Result<Numbered<Arranged<Lent<'a, C>>>, AllocError>
-    requires order { IsShapeOrder (C.county chart.now) order.now }
-    requires few { choices (C.county chart.now) ≤ most_choices }
-    requires sides { AllKeysStandIn (polygons_along (C.county chart.now).chains) (polygon_keys (C.county chart.now)) }
+    requires known { LeavesChoices (C.county chart.now) order.now }
     requires choice { arranged_county least.choice ≡ arranged (C.county chart.now) (numbered_choice (C.county chart.now) least.number) }
     requires source { ⟦<Lent<'a, C> as Chart>⟧.county (source_of least.choice) ≡ C.county chart.now }
     requires tied { ones_cmp (C.county chart.now) least.number number ≡ Equal }
@@ -134,9 +131,7 @@ fn compare_number<C: Chart>(
     steps: &mut [DirectedChain],
     number: u64,
 ) -> Ordering
-    requires order { IsShapeOrder (C.county chart.now) order.now }
-    requires few { choices (C.county chart.now) ≤ most_choices }
-    requires sides { AllKeysStandIn (polygons_along (C.county chart.now).chains) (polygon_keys (C.county chart.now)) }
+    requires known { LeavesChoices (C.county chart.now) order.now }
     requires least { least.now.choice.items ≡ (moved other_way order.now.places (order.now.walks, least.now.number)).0 }
     requires count { length steps.old ≡ length order.now.walks }
     requires apart { AgreeApart order.now.places steps.old order.now.walks }
@@ -159,9 +154,7 @@ fn compare_next<C: Chart>(
     steps: &mut Vec<DirectedChain>,
     number: u64,
 ) -> Ordering
-    requires order { IsShapeOrder (C.county chart.now) order.now }
-    requires few { choices (C.county chart.now) ≤ most_choices }
-    requires sides { AllKeysStandIn (polygons_along (C.county chart.now).chains) (polygon_keys (C.county chart.now)) }
+    requires known { LeavesChoices (C.county chart.now) order.now }
     requires least { least.now.choice.items ≡ (moved other_way order.now.places (order.now.walks, least.now.number)).0 }
     requires count { length steps.old.items ≡ length order.now.walks }
     requires apart { AgreeApart order.now.places steps.old.items order.now.walks }
@@ -179,9 +172,7 @@ fn least_of_type_1<C: Chart>(
     chart: &C,
     order: &ShapeOrder,
 ) -> Result<Numbered<Vec<DirectedChain>>, AllocError>
-    requires order { IsShapeOrder (C.county chart.now) order.now }
-    requires few { choices (C.county chart.now) ≤ most_choices }
-    requires sides { AllKeysStandIn (polygons_along (C.county chart.now).chains) (polygon_keys (C.county chart.now)) }
+    requires { LeavesChoices (C.county chart.now) order.now }
     ensures steps { IfOk result (λ least. least.choice.items ≡ (moved other_way order.now.places (order.now.walks, least.number)).0) }
     ensures least { IfOk result (λ least. IsLeastOne (C.county chart.now) (choices (C.county chart.now)) least.number) }
 {
@@ -208,9 +199,7 @@ fn is_other_tie<C: Chart>(
     steps: &mut [DirectedChain],
     number: u64,
 ) -> bool
-    requires order { IsShapeOrder (C.county chart.now) order.now }
-    requires few { choices (C.county chart.now) ≤ most_choices }
-    requires sides { AllKeysStandIn (polygons_along (C.county chart.now).chains) (polygon_keys (C.county chart.now)) }
+    requires known { LeavesChoices (C.county chart.now) order.now }
     requires steps { least.now.choice.items ≡ (moved other_way order.now.places (order.now.walks, least.now.number)).0 }
     requires least { IsLeastOne (C.county chart.now) (choices (C.county chart.now)) least.now.number }
     requires number { number < choices (C.county chart.now) }
@@ -237,9 +226,7 @@ fn next_tie<C: Chart>(
     steps: &mut [DirectedChain],
     first: u64,
 ) -> Option<u64>
-    requires order { IsShapeOrder (C.county chart.now) order.now }
-    requires few { choices (C.county chart.now) ≤ most_choices }
-    requires sides { AllKeysStandIn (polygons_along (C.county chart.now).chains) (polygon_keys (C.county chart.now)) }
+    requires known { LeavesChoices (C.county chart.now) order.now }
     requires steps { least.now.choice.items ≡ (moved other_way order.now.places (order.now.walks, least.now.number)).0 }
     requires least { IsLeastOne (C.county chart.now) (choices (C.county chart.now)) least.now.number }
     requires count { length steps.old ≡ length order.now.walks }
@@ -269,9 +256,7 @@ fn least_of_ties<C: Chart>(
     steps: &mut [DirectedChain],
     tie: u64,
 ) -> Result<u64, AllocError>
-    requires order { IsShapeOrder (C.county chart.now) order.now }
-    requires few { choices (C.county chart.now) ≤ most_choices }
-    requires sides { AllKeysStandIn (polygons_along (C.county chart.now).chains) (polygon_keys (C.county chart.now)) }
+    requires known { LeavesChoices (C.county chart.now) order.now }
     requires steps { first.now.choice.items ≡ (moved other_way order.now.places (order.now.walks, first.now.number)).0 }
     requires least { IsLeastOne (C.county chart.now) (choices (C.county chart.now)) first.now.number }
     requires before { IsLeastFrom (C.county chart.now) 0 tie first.now.number }
@@ -294,9 +279,7 @@ fn least_of_ties<C: Chart>(
 
 /// The number of the choice with the least text.
 fn least_number<C: Chart>(alloc: Global, chart: &C, order: &ShapeOrder) -> Result<u64, AllocError>
-    requires order { IsShapeOrder (C.county chart.now) order.now }
-    requires few { choices (C.county chart.now) ≤ most_choices }
-    requires sides { AllKeysStandIn (polygons_along (C.county chart.now).chains) (polygon_keys (C.county chart.now)) }
+    requires { LeavesChoices (C.county chart.now) order.now }
     ensures { IfOk result (IsLeastBelow (C.county chart.now) (choices (C.county chart.now))) }
 {
     let mut steps = steps_in_order(alloc, order)?;
@@ -313,9 +296,7 @@ fn number_of_least<C: Chart>(
     chart: &C,
     order: &ShapeOrder,
 ) -> Result<u64, AllocError>
-    requires order { IsShapeOrder (C.county chart.now) order.now }
-    requires few { choices (C.county chart.now) ≤ most_choices }
-    requires sides { AllKeysStandIn (polygons_along (C.county chart.now).chains) (polygon_keys (C.county chart.now)) }
+    requires { LeavesChoices (C.county chart.now) order.now }
     ensures { IfOk result (IsLeastBelow (C.county chart.now) (choices (C.county chart.now))) }
 {
     if order.choices() == 1 {

@@ -120,6 +120,16 @@ fn rank(uses: &Interner<u32>, feat: Option<u32>) -> usize
     }
 }
 
+/// The name at a place with its rank.
+fn ranked_name<C: Chart>(chart: &C, uses: &Interner<u32>, place: u32) -> RankedName
+    ensures { result ≡ ranked_at (C.county chart.now) uses.now place }
+{
+    RankedName {
+        rank: rank(uses, chart.feat_at(place as usize)),
+        place,
+    }
+}
+
 /// The names of a county with their ranks, in the order of their places.
 fn ranked_names<C: Chart>(
     alloc: Global,
@@ -129,16 +139,9 @@ fn ranked_names<C: Chart>(
     requires { length (C.county chart.now).names < 2 ^ 32 }
     ensures { IfOk result (λ names. names.items ≡ map (ranked_at (C.county chart.now) uses.now) (range_with_len 0 (length (C.county chart.now).names))) }
 {
-    let count = chart.name_count();
-    let mut names = Vec::with_capacity(alloc, count)?;
-    for place in 0..count {
-        let first_use = rank(uses, chart.feat_at(place));
-        names.push(RankedName {
-            rank: first_use,
-            place: place as u32,
-        })?;
-    }
-    Ok(names)
+    (0..chart.name_count() as u32)
+        .map(|place| ranked_name(chart, uses, place))
+        .collect(alloc)
 }
 
 /// Compares two names: by their bytes, their ranks, their places.
@@ -163,24 +166,30 @@ fn cmp_names<C: Chart>(chart: &C, a: &RankedName, b: &RankedName) -> Ordering
 fn places_of(alloc: Global, names: &[RankedName]) -> Result<Vec<u32>, AllocError>
     ensures { IfOk result (λ places. places.items ≡ map ranked_place names.now) }
 {
-    let mut places = Vec::with_capacity(alloc, names.len())?;
-    for name in names {
-        places.push(name.place)?;
-    }
-    Ok(places)
+    names.iter().map(|name| name.place).collect(alloc)
 }
 
 /// The FEATs at places, one after another.
-fn feats_at<C: Chart>(alloc: Global, chart: &C, places: &[u32]) -> Result<Interner<u32>, AllocError>
+fn feats_there<C: Chart>(alloc: Global, chart: &C, places: &[u32]) -> Result<Vec<u32>, AllocError>
+    ensures { IfOk result (λ numbers. numbers.items ≡ filter_map (slice_get (feats (C.county chart.now))) places.now) }
+{
+    places
+        .iter()
+        .filter_map(|place| chart.feat_at(*place as usize))
+        .collect(alloc)
+}
+
+/// The FEATs at places, numbered in this order.
+fn number_feats<C: Chart>(
+    alloc: Global,
+    chart: &C,
+    places: &[u32],
+) -> Result<Interner<u32>, AllocError>
     requires { has_repeat nat_cmp (filter_map (slice_get (feats (C.county chart.now))) places.now) ≡ false }
     ensures { IfOk result (λ numbers. numbers ≡ filter_map (slice_get (feats (C.county chart.now))) places.now) }
 {
-    let mut numbers = Interner::with_marks(alloc, marks_for(places.len()))?;
-    let mut rest = places;
-    while let Some((place, later)) = rest.split_first() {
-        see_feat(&mut numbers, chart.feat_at(*place as usize))?;
-        rest = later;
-    }
+    let feats = feats_there(alloc, chart, places)?;
+    let numbers = Interner::of_distinct(alloc, &feats)?;
     Ok(numbers)
 }
 
@@ -212,6 +221,6 @@ pub(crate) fn arrange_names<C: Chart>(
     ensures { IfOk result (MatchesNames (C.county chart.now) steps.now) }
 {
     let places = places_in_order(alloc, chart, steps)?;
-    let feats = feats_at(alloc, chart, &places)?;
+    let feats = number_feats(alloc, chart, &places)?;
     Ok(NameTables { feats, places })
 }

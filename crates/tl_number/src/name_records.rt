@@ -2,6 +2,7 @@
 
 use crate::arranged::{Arranged, Evidence};
 use crate::groups::RecordGroups;
+use crate::heads::HeadBuffers;
 use tl_county::Chart;
 use tl_layout::{Rec5, Rec7, Rec8};
 
@@ -25,6 +26,10 @@ impl<C: Chart> RecordGroups for NameRecords<'_, C> {
 
     fn count(&self) -> usize {
         self.chart.name_count()
+    }
+
+    fn buffer(buffers: &mut HeadBuffers) -> &mut [usize] {
+        &mut buffers.counts
     }
 
     fn head(&self, _group: usize) -> usize {
@@ -65,6 +70,10 @@ impl<C: Chart> RecordGroups for LandmarkRecords<'_, C> {
         self.chart.landmark_count()
     }
 
+    fn buffer(buffers: &mut HeadBuffers) -> &mut [usize] {
+        &mut buffers.counts
+    }
+
     fn head(&self, group: usize) -> usize {
         self.chart.body_count_at(group)
     }
@@ -102,6 +111,10 @@ impl<C: Chart, S: Evidence> RecordGroups for LandmarkLinkRecords<'_, C, S> {
 
     fn count(&self) -> usize {
         1
+    }
+
+    fn buffer(buffers: &mut HeadBuffers) -> &mut [usize] {
+        &mut buffers.counts
     }
 
     fn head(&self, _group: usize) -> usize {

@@ -10,12 +10,37 @@ ghost use Rattle.tl_number.specs.Steps.{AreSteps, arrangement_of};
 ghost use Rattle.tl_number.specs.ViewFacts.{AreReadAt};
 ghost use Rattle.tl_number.specs.Views.{arranged_county, arrangement_in, source_of};
 
-use crate::arranged::{Arranged, Evidence, old_place};
-use crate::numbers::Interner;
+use crate::arranged::{Arranged, Evidence};
+use crate::landmark_order::lands_there;
 use std::alloc::{AllocError, Global};
 use tl_cert::Renaming;
 use tl_county::{Chart, PolygonKey};
 use tl_profile::DirectedChain;
+
+/// Numbers, each with its place, counted from 1.
+fn number_all(alloc: Global, olds: &[u64]) -> Result<Vec<(u64, u64)>, AllocError>
+    ensures { IfOk result (λ pairs. pairs.items ≡ numbered olds.now) }
+{
+    olds.iter()
+        .copied()
+        .zip(1..olds.len() as u64 + 1)
+        .collect(alloc)
+}
+
+/// The TLIDs of the chains of these steps.
+fn tlids_of<C: Chart>(
+    alloc: Global,
+    chart: &C,
+    steps: &[DirectedChain],
+) -> Result<Vec<u64>, AllocError>
+    requires { AreSteps (C.county chart.now) steps.now }
+    ensures { IfOk result (λ tlids. tlids.items ≡ arranged_tlids (arrangement_of (C.county chart.now) steps.now)) }
+{
+    steps
+        .iter()
+        .filter_map(|step| chart.tlid_at(step.place as usize))
+        .collect(alloc)
+}
 
 /// The TLIDs of the chains of these steps, each with the new one.
 fn chain_pairs<C: Chart>(
@@ -26,11 +51,8 @@ fn chain_pairs<C: Chart>(
     requires { AreSteps (C.county chart.now) steps.now }
     ensures { IfOk result (λ pairs. pairs.items ≡ numbered (arranged_tlids (arrangement_of (C.county chart.now) steps.now))) }
 {
-    let mut pairs = Vec::with_capacity(alloc, steps.len())?;
-    for place in 0..steps.len() {
-        let tlid = chart.tlid_there(steps[place].place as usize);
-        pairs.push((tlid, place as u64 + 1))?;
-    }
+    let tlids = tlids_of(alloc, chart, steps)?;
+    let pairs = number_all(alloc, &tlids)?;
     Ok(pairs)
 }
 
@@ -43,46 +65,46 @@ fn turned_chains<C: Chart>(
     requires { AreSteps (C.county chart.now) steps.now }
     ensures { IfOk result (λ tlids. tlids.items ≡ turned_tlids (arrangement_of (C.county chart.now) steps.now)) }
 {
-    let mut tlids = Vec::new(alloc);
-    for step in steps {
-        if step.turned {
-            tlids.push(chart.tlid_there(step.place as usize))?;
-        }
-    }
-    Ok(tlids)
+    steps
+        .iter()
+        .filter(|step| step.turned)
+        .filter_map(|step| chart.tlid_at(step.place as usize))
+        .collect(alloc)
 }
 
-/// FEATs in their new order, each with the new one.
-fn name_pairs(alloc: Global, feats: &Interner<u32>) -> Result<Vec<(u32, u32)>, AllocError>
+/// FEATs, each with its number, counted from 1.
+fn name_pairs(alloc: Global, feats: &[u32]) -> Result<Vec<(u32, u32)>, AllocError>
     requires { length feats.now < 2 ^ 32 }
     ensures { IfOk result (λ pairs. pairs.items ≡ numbered feats.now) }
 {
-    let count = feats.len();
-    let mut pairs = Vec::with_capacity(alloc, count)?;
-    for place in 0..count {
-        if let Some(feat) = feats.key_at(place) {
-            pairs.push((feat, place as u32 + 1))?;
-        }
-    }
-    Ok(pairs)
+    feats
+        .iter()
+        .enumerate()
+        .map(|(place, feat)| (*feat, place as u32 + 1))
+        .collect(alloc)
 }
 
-/// Polygons in the order of their new numbers, each with its new key, which has the same CENID.
+/// A polygon's key with its new key, which has the same CENID.
+fn polygon_pair(key: PolygonKey, number: u64) -> (PolygonKey, PolygonKey)
+    ensures { result ≡ under_cenid (key, number) }
+{
+    let cenid = key.0;
+    (key, (cenid, number))
+}
+
+/// Polygons in the order of their new numbers, each with its new key.
 fn polygon_pairs(
     alloc: Global,
-    polygons: &Interner<PolygonKey>,
+    polygons: &[PolygonKey],
 ) -> Result<Vec<(PolygonKey, PolygonKey)>, AllocError>
     ensures { IfOk result (λ pairs. pairs.items ≡ map under_cenid (numbered polygons.now)) }
 {
-    let count = polygons.len();
-    let mut pairs = Vec::with_capacity(alloc, count)?;
-    for place in 0..count {
-        if let Some(key) = polygons.key_at(place) {
-            let cenid = key.0;
-            pairs.push((key, (cenid, place as u64 + 1)))?;
-        }
-    }
-    Ok(pairs)
+    polygons
+        .iter()
+        .copied()
+        .zip(1..polygons.len() as u64 + 1)
+        .map(|(key, number)| polygon_pair(key, number))
+        .collect(alloc)
 }
 
 /// The LANDs of the landmarks at these places, each with the new one.
@@ -93,26 +115,8 @@ fn land_pairs<C: Chart>(
 ) -> Result<Vec<(u64, u64)>, AllocError>
     ensures { IfOk result (λ pairs. (ls : List (ℕ × List Body7)) → AreReadAt (C.county chart.now).landmarks places.now ls → pairs.items ≡ numbered (entry_keys ls)) }
 {
-    let mut pairs = Vec::with_capacity(alloc, places.len())?;
-    for place in 0..places.len() {
-        if let Some(land) = chart.land_at(places[place] as usize) {
-            pairs.push((land, place as u64 + 1))?;
-        }
-    }
-    Ok(pairs)
-}
-
-/// Nodes in the order of their new numbers, each with the new one.
-fn node_pairs(alloc: Global, nodes: &Interner<u64>) -> Result<Vec<(u64, u64)>, AllocError>
-    ensures { IfOk result (λ pairs. pairs.items ≡ numbered nodes.now) }
-{
-    let count = nodes.len();
-    let mut pairs = Vec::with_capacity(alloc, count)?;
-    for place in 0..count {
-        if let Some(node) = nodes.key_at(place) {
-            pairs.push((node, place as u64 + 1))?;
-        }
-    }
+    let lands = lands_there(alloc, chart, places)?;
+    let pairs = number_all(alloc, &lands)?;
     Ok(pairs)
 }
 
@@ -127,7 +131,7 @@ impl<C: Chart, S: Evidence> Arranged<C, S> {
         ensures lands { IfOk result (λ pairs. pairs.1.items ≡
             (renaming_of (C.county self.now.chart) (arrangement_of (C.county self.now.chart) self.now.steps.items)).lands) }
     {
-        let polygons = polygon_pairs(alloc, &self.polygons.numbers)?;
+        let polygons = polygon_pairs(alloc, self.polygons.numbers.keys())?;
         let lands = land_pairs(alloc, &self.chart, &self.landmarks.places)?;
         Ok((polygons, lands))
     }
@@ -156,9 +160,9 @@ impl<C: Chart, S: Evidence> Arranged<C, S> {
         ensures carries { IfOk result (λ r. Carries r (C.county (source_of self.now)) (arranged_county self.now)) }
     {
         let (chains, turned) = self.tlid_pairs(alloc)?;
-        let names = name_pairs(alloc, &self.names.feats)?;
+        let names = name_pairs(alloc, self.names.feats.keys())?;
         let (polygons, lands) = self.place_pairs(alloc)?;
-        let nodes = node_pairs(alloc, &self.nodes.numbers)?;
+        let nodes = number_all(alloc, self.nodes.numbers.keys())?;
         Ok(Renaming::new(chains, names, polygons, lands, nodes, turned))
     }
 }

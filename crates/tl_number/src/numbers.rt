@@ -9,7 +9,7 @@ ghost use Rattle.std.specs.BTreeMap.{get as found_in_order};
 ghost use Rattle.std.specs.List.{position};
 ghost use Rattle.std.specs.Ordering.{is_eq};
 ghost use Rattle.std.specs.Prelude.{◌≡◌, ◌∷◌, [], ◌++◌, ◌+◌, ◌%◌, ◌<◌, ◌^◌, ◌↔◌, ℕ, false, length, is_some, IfSome, Some, IfOk, IsTrue, OnOk, OnErr, slice_get, slice_index};
-ghost use Rattle.ordered_lists.specs.Orders.{stands_in};
+ghost use Rattle.ordered_lists.specs.Orders.{has_repeat, stands_in};
 ghost use Rattle.tl_number.specs.Growth.{first_seen_after};
 ghost use Rattle.tl_number.specs.PlacedKeys.{AreApart, ArePlaced, found_by_either};
 
@@ -291,6 +291,33 @@ impl<K: Key + Hash + NumericKey> Interner<K> {
         ensures small { result < 2 ^ 63 }
     {
         self.keys.len()
+    }
+
+    /// The keys, in the order of their numbers.
+    pub(crate) fn keys(&self) -> &[K]
+        ensures { result.now ≡ self.now }
+    {
+        &self.keys
+    }
+
+    /// Sees keys, one after another.
+    pub(crate) fn see_all(&mut self, keys: &[K]) -> Result<(), AllocError>
+        ensures { OnOk result (self.new ≡ first_seen_after K.cmp self.old keys.now) }
+    {
+        for key in keys {
+            self.see(*key)?;
+        }
+        Ok(())
+    }
+
+    /// Numbers keys in their order. No key is repeated.
+    pub(crate) fn of_distinct(alloc: Global, keys: &[K]) -> Result<Interner<K>, AllocError>
+        requires { has_repeat K.cmp keys.now ≡ false }
+        ensures { IfOk result (λ numbers. numbers ≡ keys.now) }
+    {
+        let mut numbers = Interner::with_marks(alloc, marks_for(keys.len()))?;
+        numbers.see_all(keys)?;
+        Ok(numbers)
     }
 
     /// The key at a place, counted from 0, or `None` past the end.

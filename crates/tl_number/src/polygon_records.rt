@@ -2,6 +2,7 @@
 
 use crate::arranged::{Arranged, Evidence};
 use crate::groups::RecordGroups;
+use crate::heads::HeadBuffers;
 use tl_county::{Chart, PolygonKey};
 use tl_layout::{BodyP, RecP};
 
@@ -25,6 +26,11 @@ impl<C: Chart, S: Evidence> RecordGroups for PolygonRecords<'_, C, S> {
 
     fn count(&self) -> usize {
         self.county.polygon_count()
+    }
+
+    fn buffer(buffers: &mut HeadBuffers) -> &mut [(PolygonKey, Option<BodyP>)] {
+        let polygons = &mut buffers.polygons;
+        &mut polygons[..]
     }
 
     fn head(&self, group: usize) -> (PolygonKey, Option<BodyP>) {

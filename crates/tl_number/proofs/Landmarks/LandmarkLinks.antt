@@ -1,13 +1,12 @@
 -- Links gathered landmark by landmark, and counted LAND by LAND.
-use Rattle.std.proofs.Common.{◌≡◌, ◌⊎◌, ◌<◌, ◌≤◌, ◌+◌, ◌-◌, ℕ, zero, suc, nat_le, List, [], ◌∷◌, ◌++◌, map, filter, flat_map, length, take}
-use Rattle.std.proofs.Common.{Bool, true, false, cond, not, Ordering, Less, Equal, Greater, is_gt, Some, option_to_list}
+use Rattle.std.proofs.Common.{◌≡◌, ◌⊎◌, ◌<◌, ◌≤◌, ◌+◌, ◌-◌, ℕ, zero, suc, nat_le, List, [], ◌∷◌, ◌++◌, map, filter, flat_map, length}
+use Rattle.std.proofs.Common.{Bool, true, false, cond, not, Ordering, Less, Equal, Greater, is_gt, Some}
 use Rattle.std.proofs.Common.{slice_get}
 use Rattle.std.proofs.Common.{refl, sym, ap, ap₂, ◌∙◌, subst, inl, inr, arith, nat_cmp, append-nil, append_assoc, IsPermutation, IsTrue}
 use Rattle.std.proofs.lemmas.Bool.{true≢false, ltb-true}
 use Rattle.std.proofs.lemmas.Bool.Decides.{leb_tells}
 use Rattle.std.proofs.lemmas.Cmp.{ranked}
 use Rattle.std.proofs.lemmas.List.{map-append, length-map}
-use Rattle.std.proofs.lemmas.List.FromFn.{map-range_with_len_more}
 use Rattle.std.proofs.lemmas.List.Filters.{length-filter_both}
 use Rattle.std.proofs.lemmas.List.Sorted.{IsPermutation-sym, IsPermutation-trans, IsPermutation-map}
 use Rattle.std.specs.List.{range_with_len}
@@ -22,25 +21,11 @@ use Rattle.ordered_lists.specs.Orders.{IsInOrder, in_order, times, stands_in}
 use Rattle.ordered_lists.proofs.Lists.InOrder.{in_order-in_order, in_order-permutation}
 use Rattle.tl_county.specs.Laws.KeyOrders.{link_keys}
 use Rattle.ordered_lists.proofs.ByKey.Keys.{Known, nat_keys, apart_from_sorted}
-use Rattle.ordered_lists.proofs.Lists.Elements.{map_itself, all_weaker}
+use Rattle.ordered_lists.proofs.Lists.Elements.{all_weaker}
 use Rattle.tl_county.proofs.Lists.OfNumber.{groups-permutation}
 use Rattle.ordered_lists.proofs.Lists.Permutations.{in_order-is_permutation}
 use Rattle.tl_number.specs.ViewFacts.{links_up_to}
 use Rattle.tl_number.proofs.Views.StepChains.{flat_map-map}
-
--- one more element of a list
-taken : {X : Type 0} (i : ℕ) (xs : List X) → take (suc i) xs ≡ take i xs ++ option_to_list (slice_get xs i)
-taken zero [] = refl
-taken (suc i) [] = refl
-taken zero (x ∷ xs) = refl
-taken (suc i) (x ∷ xs) = ap (λ ys. x ∷ ys) (taken i xs)
-
-pub pushed_next : {X Y : Type 0} (f : X → Y) (first : List Y) (xs : List X) (i : ℕ)
-    → (first ++ map f (take i xs)) ++ map f (option_to_list (slice_get xs i)) ≡ first ++ map f (take (i + 1) xs)
-pushed_next f first xs i =
-    append_assoc first (map f (take i xs)) (map f (option_to_list (slice_get xs i)))
-    ∙ ap (λ ys. first ++ ys) (sym (map-append f (take i xs) (option_to_list (slice_get xs i))) ∙ ap (map f) (sym (taken i xs)))
-    ∙ (let t : suc i ≡ i + 1 = omega arith in ap (λ n. first ++ map f (take n xs)) t)
 
 -- one more piece
 piece_more : {Y : Type 0} (f : ℕ → List Y) (a n : ℕ) → flat_map f (range_with_len a (suc n)) ≡ flat_map f (range_with_len a n) ++ f (a + n)
@@ -157,9 +142,3 @@ module _ (links rest later : List Fields8) (land : ℕ)
           go (inl p) q = absurd (true≢false (sym e ∙ above_or_not a n ∙ ap not p.0))
           go (inr p) (inl q) = absurd (let high = p.1 in let low = q.1 in omega (arith, high, low, h))
           go (inr p) (inr q) = above_or_not a land ∙ ap not q.0
-
--- one more place
-pub range_next : (n : ℕ) → range_with_len 0 n ++ (n ∷ []) ≡ range_with_len 0 (n + 1)
-range_next n =
-    ap (λ ks. ks ++ (n ∷ [])) (sym (map_itself (λ i. i) (λ i. refl) (range_with_len 0 n)))
-    ∙ sym (map-range_with_len_more (λ i. i) 0 n n (omega arith)) ∙ map_itself (λ i. i) (λ i. refl) (range_with_len 0 (n + 1))

@@ -1,7 +1,7 @@
 -- Two lists compared item by item.
 use Rattle.std.proofs.Common.{◌≡◌, ◌≢◌, ◌<◌, ◌≤◌, ℕ, zero, suc, List, [], ◌∷◌, length, drop, Ordering}
 use Rattle.std.proofs.Common.{Less, Equal}
-use Rattle.std.proofs.Common.{Greater, None, slice_get, sym, refl, ap, ap₂, ◌∙◌, arith}
+use Rattle.std.proofs.Common.{Greater, None, slice_get, sym, refl, ap, ◌∙◌, arith}
 use Rattle.std.proofs.lemmas.List.{drop_all}
 use Rattle.std.specs.Cmp.Lexicographic.{slice_cmp}
 use Rattle.std.specs.Option.{option_cmp}
@@ -56,8 +56,3 @@ module _ {X : Type 0} (R : X → X → Ordering) where
       less m [] k = absurd (omega (arith, k))
       less zero (z ∷ zs) k = refl
       less (suc m) (z ∷ zs) k = less m zs (omega (arith, k))
-
-  pub both_end : (n : ℕ) (xs ys : List X) (whole : Ordering) → length xs ≤ n → length ys ≤ n
-      → slice_cmp R (drop n xs) (drop n ys) ≡ whole → Equal ≡ whole
-  both_end n xs ys whole h l e =
-      ap₂ (λ us vs. slice_cmp R us vs) (sym (drop_all n xs h)) (sym (drop_all n ys l)) ∙ e

@@ -1,14 +1,23 @@
-use Rattle.std.proofs.Common.{◌++◌, List, Option, map, option_to_list, ap₂, ◌∙◌}
-use Rattle.tl_layout.specs.Fields.{Fields8}
+use Rattle.std.proofs.Common.{◌≡◌, ◌++◌, OnOk, arith, length, map, rules, slice_get, subst, tests}
+use Rattle.std.proofs.lemmas.Iterator.{YieldsList-from_map, YieldsList-from_range}
+use Rattle.std.proofs.lemmas.Iterator.Adapters.{items_from_extend}
+use Rattle.std.proofs.lemmas.Iterator.Consumers.{YieldsList-at, YieldsList-from_filter_map}
+use Rattle.std.specs.List.{range_with_len}
 use Rattle.tl_county.specs.ChartWords.{links_at}
 use Rattle.tl_number.specs.LandmarkItems.{link_under}
-use Rattle.tl_number.proofs.Landmarks.LandmarkLinks.{pushed_next}
+use Rattle.tl_number.proofs.Landmarks.LandmarkLinks.{listed}
+use Rattle.tl_number.proofs.Names.NameOrder.{filter_map_all}
 use Rattle.tl_number.proofs.landmark_links.push_links.Goals as goal
 
-pub loop-link-preserved : goal.loop-link-preserved
-loop-link-preserved g c =
-    c.in_ok-push_link.ensures
-    ∙ ap₂ (λ (xs : List Fields8) (o : Option Fields8). xs ++ map (link_under c.args.polygons.now c.args.lands.now) (option_to_list o))
-    c.loop-link.invariant c.landmark_link_at.ensures
-    ∙ pushed_next (link_under c.args.polygons.now c.args.lands.now) c.args.links.now.items
-    (links_at (g.C.Chart.county c.args.chart.now) c.args.place) c.loop-link.link
+pub returns : goal.returns
+returns g c =
+    let own = links_at (g.C.Chart.county c.args.chart.now) c.args.place in
+    let renumbered = link_under c.args.polygons.now c.args.lands.now in
+    let pushed = items_from_extend c.extend.result c.extend.ensures.ran
+    (YieldsList-from_map _ renumbered
+    (YieldsList-at c.map.ensures.source
+    (YieldsList-from_filter_map _ (slice_get own) (YieldsList-from_range 0 (length own) (length own) (cc) (omega arith))
+    c.filter_map-own.ensures.closure (λ x r q k. search (rules, tests))))
+    c.map.ensures.closure (λ x r q k. search (rules, tests))) in
+    subst (λ links. OnOk c.extend.result (c.extend.new.self.items ≡ c.args.links.now.items ++ map renumbered links))
+    (filter_map_all (slice_get own) (range_with_len 0 (length own)) own (listed own)) (search rules)

@@ -1,7 +1,8 @@
-use Rattle.std.proofs.Common.{◌∷◌, [], ◌++◌, ap, ◌∙◌}
-use Rattle.tl_number.proofs.Landmarks.LandmarkLinks.{range_next}
+use Rattle.std.proofs.Common.{arith, length}
+use Rattle.std.proofs.lemmas.Iterator.{YieldsList-from_range, items_from_collect}
 use Rattle.tl_number.proofs.landmark_order.all_places.Goals as goal
 
-pub loop-place-preserved : goal.loop-place-preserved
-loop-place-preserved g c =
-    c.in_ok-push.ensures.items ∙ ap (λ places. places ++ (c.loop-place.place ∷ [])) c.loop-place.invariant ∙ range_next c.loop-place.place
+pub returns : goal.returns
+returns g c =
+    let count = length (g.C.Chart.county c.args.chart.now).landmarks in
+    items_from_collect _ c.collect.ensures.ran (YieldsList-from_range 0 count count (cc) (omega arith))

@@ -1,50 +1,27 @@
-use Rattle.std.proofs.Common.{◌≡◌, ◌≤◌, ◌<◌, ◌+◌, suc, length, drop, sym, ap₂, ◌∙◌, subst, arith, slice_get}
+use Rattle.std.proofs.Common.{◌≡◌, ◌∙◌, ℕ, List, Ordering, ap, nat_cmp, refl, rules, sym}
+use Rattle.std.proofs.lemmas.Iterator.{YieldsList-from_map, YieldsList-from_slice}
+use Rattle.std.proofs.lemmas.Iterator.Search.{cmp_from_yields_List}
 use Rattle.std.specs.Cmp.Lexicographic.{slice_cmp}
-use Rattle.std.specs.Option.{option_cmp}
-use Rattle.std.specs.Ordering.{on}
+use Rattle.std.specs.Iterator.Adapters.{map_callee}
+use Rattle.std.specs.Ordering.{ordering_then}
+use Rattle.tl_layout.specs.Fields.{Fields8}
 use Rattle.tl_county.specs.BodyOrder.{link_part, link_part_cmp}
 use Rattle.tl_number.proofs.Landmarks.LandmarkOrder.{cmp_mapped}
-use Rattle.tl_number.proofs.Lists.ItemByItem.{agrees_at, differs_at, beginning_less, both_end}
 use Rattle.tl_number.proofs.landmark_order.cmp_links.Goals as goal
 
-pub returns-in_default : goal.returns-in_default
-returns-in_default c =
-    let xs = c.args.a.now in
-    let ys = c.args.b.now in
-    let answer : c.cmp_optional_link.result ≡ option_cmp (on link_part link_part_cmp) (slice_get xs c.loop-link.link)
-    (slice_get ys c.loop-link.link) =
-    c.cmp_optional_link.ensures ∙ ap₂ (option_cmp (on link_part link_part_cmp)) c.link_at.ensures c.link_at-in-loop-link.ensures in
-    let within : c.loop-link.link < length xs = omega arith in
-    answer ∙ differs_at (on link_part link_part_cmp) c.loop-link.link xs ys (slice_cmp (on link_part link_part_cmp) xs ys) within
-    c.loop-link.invariant (λ same. c.in_default.not-Equal (answer ∙ same)) ∙ sym (cmp_mapped link_part link_part_cmp xs ys)
+abbrev part : Fields8 → ℕ × (List ℕ × List ℕ)
+part link = (link.polyid, (link.cenid, link.file))
 
-pub loop-link-preserved : goal.loop-link-preserved
-loop-link-preserved c =
-    let xs = c.args.a.now in
-    let ys = c.args.b.now in
-    let answer : c.cmp_optional_link.result ≡ option_cmp (on link_part link_part_cmp) (slice_get xs c.loop-link.link)
-    (slice_get ys c.loop-link.link) =
-    c.cmp_optional_link.ensures ∙ ap₂ (option_cmp (on link_part link_part_cmp)) c.link_at.ensures c.link_at-in-loop-link.ensures in
-    let within : c.loop-link.link < length xs = omega arith in
-    let next : suc c.loop-link.link ≡ c.loop-link.link + 1 = omega arith in
-    subst (λ n. slice_cmp (on link_part link_part_cmp) (drop n xs) (drop n ys) ≡ slice_cmp (on link_part link_part_cmp) xs ys) next
-    (agrees_at (on link_part link_part_cmp) c.loop-link.link xs ys (slice_cmp (on link_part link_part_cmp) xs ys) within
-    c.loop-link.invariant (sym answer ∙ c.in-Equal.is))
+abbrev part_cmp : ℕ × (List ℕ × List ℕ) → ℕ × (List ℕ × List ℕ) → Ordering
+part_cmp p q = ordering_then (nat_cmp p.0 q.0) (ordering_then (slice_cmp nat_cmp p.1.0 q.1.0) (slice_cmp nat_cmp p.1.1 q.1.1))
 
-pub returns-then-count-b : goal.returns-then-count-b
-returns-then-count-b c =
+pub returns : goal.returns
+returns c =
     let xs = c.args.a.now in
     let ys = c.args.b.now in
-    let past : length xs ≤ c.loop-link.link = omega arith in
-    let more : c.loop-link.link < length ys = omega arith in
-    beginning_less (on link_part link_part_cmp) c.loop-link.link xs ys (slice_cmp (on link_part link_part_cmp) xs ys) past more
-    c.loop-link.invariant ∙ sym (cmp_mapped link_part link_part_cmp xs ys)
-
-pub returns-else-count-b : goal.returns-else-count-b
-returns-else-count-b c =
-    let xs = c.args.a.now in
-    let ys = c.args.b.now in
-    let past : length xs ≤ c.loop-link.link = omega arith in
-    let none : length ys ≤ c.loop-link.link = omega arith in
-    both_end (on link_part link_part_cmp) c.loop-link.link xs ys (slice_cmp (on link_part link_part_cmp) xs ys) past none
-    c.loop-link.invariant ∙ sym (cmp_mapped link_part link_part_cmp xs ys)
+    cmp_from_yields_List (λ x y. y ≡ x) _ part_cmp _ c.cmp.ensures.ran
+    (YieldsList-from_map _ part (YieldsList-from_slice xs (cc)) c.map.ensures.closure (λ x r q k. search rules))
+    (λ it e. YieldsList-from_map _ part (YieldsList-from_slice ys (cc)) (ap map_callee e ∙ c.map-others.ensures.closure)
+    (λ x r q k. search rules))
+    (λ x y. refl)
+    ∙ cmp_mapped part part_cmp xs ys ∙ sym (cmp_mapped link_part link_part_cmp xs ys)

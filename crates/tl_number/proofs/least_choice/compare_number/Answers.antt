@@ -15,7 +15,7 @@ put_back-requires-clause-within g c =
     subst (λ n. AreWithin n c.open_places-places.result.now) (sym c.requires.count)
     (subst (AreWithin (length c.args.order.now.walks)) (sym c.open_places-places.ensures)
     (places_within (g.C.Chart.county c.args.chart.now) (g.met.C.Chart.is_county c.args.chart.now) c.args.order.now.walks
-    c.requires.order.walks c.args.order.now.places (c.requires.order.places c.requires.few)))
+    c.requires.known.order.walks c.args.order.now.places (c.requires.known.order.places c.requires.known.few)))
 
 pub put_back-requires-clause-apart : goal.put_back-requires-clause-apart
 put_back-requires-clause-apart g c =
@@ -27,15 +27,15 @@ choose-requires g c =
     subst (λ n. AreWithin n c.open_places-places.result.now) (sym (ap length (c.put_back.ensures ∙ c.walks.ensures)))
     (subst (AreWithin (length c.args.order.now.walks)) (sym c.open_places-places.ensures)
     (places_within (g.C.Chart.county c.args.chart.now) (g.met.C.Chart.is_county c.args.chart.now) c.args.order.now.walks
-    c.requires.order.walks c.args.order.now.places (c.requires.order.places c.requires.few)))
+    c.requires.known.order.walks c.args.order.now.places (c.requires.known.order.places c.requires.known.few)))
 
 pub compare_ones-requires : goal.compare_ones-requires
 compare_ones-requires g c =
     let county = g.C.Chart.county c.args.chart.now in
     let stated = c.choose.ensures.steps
     ∙ (λ i. (moved other_way (c.open_places-places.ensures i) ((c.put_back.ensures ∙ c.walks.ensures) i, c.args.number)).0) in
-    agree_of_numbers county (g.met.C.Chart.is_county c.args.chart.now) (g.met.C.Chart.within_limits c.args.chart.now) c.requires.sides
-    c.args.order.now.walks c.requires.order.walks c.args.order.now.places (c.requires.order.places c.requires.few) c.deref.result.now
+    agree_of_numbers county (g.met.C.Chart.is_county c.args.chart.now) (g.met.C.Chart.within_limits c.args.chart.now) c.requires.known.sides
+    c.args.order.now.walks c.requires.known.order.walks c.args.order.now.places (c.requires.known.order.places c.requires.known.few) c.deref.result.now
     c.choose.new.steps c.args.least.now.number c.args.number (c.deref.ensures.value ∙ c.requires.least) stated
     c.open_places-places.result.now c.open_places-places.ensures
 
@@ -45,19 +45,19 @@ returns-clause-order g c =
     let is = g.met.C.Chart.is_county c.args.chart.now in
     let walks = c.args.order.now.walks in
     let places = c.args.order.now.places in
-    let there = c.requires.order.places c.requires.few in
+    let there = c.requires.known.order.places c.requires.known.few in
     let stated = c.choose.ensures.steps
     ∙ (λ i. (moved other_way (c.open_places-places.ensures i) ((c.put_back.ensures ∙ c.walks.ensures) i, c.args.number)).0) in
     c.compare_ones.ensures
     ∙ ap (λ steps. groups_cmp One (type_1_by_chain (stepped county steps)) (type_1_by_chain (stepped county c.choose.new.steps)))
     c.deref.ensures.value
     ∙ ap₂ (λ one other. groups_cmp One (type_1_by_chain (arranged county one)) (type_1_by_chain (arranged county other)))
-    (steps_of_number county is walks c.requires.order.walks places there c.args.least.now.choice.items c.args.least.now.number c.requires.least)
-    (steps_of_number county is walks c.requires.order.walks places there c.choose.new.steps c.args.number stated)
+    (steps_of_number county is walks c.requires.known.order.walks places there c.args.least.now.choice.items c.args.least.now.number c.requires.least)
+    (steps_of_number county is walks c.requires.known.order.walks places there c.choose.new.steps c.args.number stated)
 
 pub returns-clause-apart : goal.returns-clause-apart
 returns-clause-apart g c =
     let stated = c.choose.ensures.steps
     ∙ (λ i. (moved other_way (c.open_places-places.ensures i) ((c.put_back.ensures ∙ c.walks.ensures) i, c.args.number)).0) in
     steps_of_number_apart (g.C.Chart.county c.args.chart.now) (g.met.C.Chart.is_county c.args.chart.now) c.args.order.now.walks
-    c.requires.order.walks c.args.order.now.places (c.requires.order.places c.requires.few) c.choose.new.steps c.args.number stated
+    c.requires.known.order.walks c.args.order.now.places (c.requires.known.order.places c.requires.known.few) c.choose.new.steps c.args.number stated

@@ -12,8 +12,8 @@ was_true false e = absurd (false≢true (sym e))
 pub have_same_chains-requires : goal.have_same_chains-requires
 have_same_chains-requires g c =
     agree_of_numbers (g.C.Chart.county c.args.chart.now) (g.met.C.Chart.is_county c.args.chart.now)
-    (g.met.C.Chart.within_limits c.args.chart.now) c.requires.sides c.args.order.now.walks c.requires.order.walks c.args.order.now.places
-    (c.requires.order.places c.requires.few) c.deref.result.now c.compare_number-ordering.new.steps c.args.least.now.number c.args.number
+    (g.met.C.Chart.within_limits c.args.chart.now) c.requires.known.sides c.args.order.now.walks c.requires.known.order.walks c.args.order.now.places
+    (c.requires.known.order.places c.requires.known.few) c.deref.result.now c.compare_number-ordering.new.steps c.args.least.now.number c.args.number
     (c.deref.ensures.value ∙ c.requires.steps) c.compare_number-ordering.ensures.steps c.open_places.result.now c.open_places.ensures
 
 pub returns-then-is_eq-clause-tied : goal.returns-then-is_eq-clause-tied
@@ -24,8 +24,8 @@ returns-then-is_eq-clause-tied g c = λ e.
 pub returns-then-is_eq-clause-least : goal.returns-then-is_eq-clause-least
 returns-then-is_eq-clause-least g c = λ e.
     one_list (g.C.Chart.county c.args.chart.now) (g.met.C.Chart.is_county c.args.chart.now)
-    (g.met.C.Chart.within_limits c.args.chart.now) c.requires.sides c.args.order.now.walks c.requires.order.walks c.args.order.now.places
-    (c.requires.order.places c.requires.few) c.deref.result.now c.compare_number-ordering.new.steps c.args.least.now.number c.args.number
+    (g.met.C.Chart.within_limits c.args.chart.now) c.requires.known.sides c.args.order.now.walks c.requires.known.order.walks c.args.order.now.places
+    (c.requires.known.order.places c.requires.known.few) c.deref.result.now c.compare_number-ordering.new.steps c.args.least.now.number c.args.number
     (c.deref.ensures.value ∙ c.requires.steps) c.compare_number-ordering.ensures.steps
     (c.have_same_chains.ensures.0 (was_true c.have_same_chains.result e))
 
@@ -35,5 +35,5 @@ returns-clause-least g c = λ e.
     let n = c.args.least.now.number in
     let differ : is_eq (ones_cmp county n c.args.number) ≡ false =
     ap is_eq (sym c.compare_number-ordering.ensures.order) ∙ sym c.is_eq.ensures ∙ c.if-is_eq.false in
-    least_one_first county (g.met.C.Chart.is_county c.args.chart.now) (g.met.C.Chart.within_limits c.args.chart.now) c.requires.sides
+    least_one_first county (g.met.C.Chart.is_county c.args.chart.now) (g.met.C.Chart.within_limits c.args.chart.now) c.requires.known.sides
     (choices county) n c.args.number c.requires.least c.requires.number differ

@@ -22,7 +22,7 @@ pub compare_texts-ordering-requires-clause-twos : goal.compare_texts-ordering-re
 compare_texts-ordering-requires-clause-twos g c =
     let county = g.C.Chart.county c.args.chart.now in
     ap type_2_by_chain c.requires.choice
-    ∙ twos_of_numbers county (g.met.C.Chart.is_county c.args.chart.now) c.requires.sides c.args.least.number c.args.number
+    ∙ twos_of_numbers county (g.met.C.Chart.is_county c.args.chart.now) c.requires.known.sides c.args.least.number c.args.number
     ∙ sym (ap type_2_by_chain c.in-Ok.ensures.county)
 
 pub compare_texts-ordering-requires-clause-county : goal.compare_texts-ordering-requires-clause-county
@@ -34,7 +34,7 @@ compare_texts-ordering-requires-clause-same g c =
     let first = arranged county (numbered_choice county c.args.least.number) in
     subst (λ a. AreSame a (arranged_county c.in-Ok.choice)) (sym c.requires.choice)
     (subst (AreSame first) (sym c.in-Ok.ensures.county)
-    (choices_same county (g.met.C.Chart.is_county c.args.chart.now) c.requires.sides c.args.least.number c.args.number))
+    (choices_same county (g.met.C.Chart.is_county c.args.chart.now) c.requires.known.sides c.args.least.number c.args.number))
 
 pub returns-in-Ok-clause-choice : goal.returns-in-Ok-clause-choice
 returns-in-Ok-clause-choice g c =

@@ -4,8 +4,8 @@ use Rattle.ordered_lists.specs.Orders.{has_repeat}
 use Rattle.tl_number.proofs.Names.NameOrder.{feats_stated, feats_once, few_feats}
 use Rattle.tl_number.proofs.name_order.arrange_names.Goals as goal
 
-pub feats_at-requires : goal.feats_at-requires
-feats_at-requires g c =
+pub number_feats-requires : goal.number_feats-requires
+number_feats-requires g c =
     let county = g.C.Chart.county c.args.chart.now in
     subst (λ places. has_repeat nat_cmp (filter_map (slice_get (feats county)) places) ≡ false) (sym c.deref.ensures.value)
     (feats_once county c.args.steps.now (g.met.C.Chart.is_county c.args.chart.now) c.requires.whole c.in_ok-places.places.items

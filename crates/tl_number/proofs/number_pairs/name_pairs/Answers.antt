@@ -1,21 +1,16 @@
-use Rattle.std.proofs.Common.{◌≡◌, ◌+◌, ◌++◌, ◌∷◌, [], ◌∙◌, Some, ap, arith, slice_get, sym}
-use Rattle.tl_number.proofs.Views.RenamingPairs.{all_numbered, next_numbered}
-use Rattle.tl_number.proofs.Views.StepChains.{at_place}
+use Rattle.std.proofs.Common.{◌≡◌, ◌+◌, ℕ, IfOk, rules, subst, tests}
+use Rattle.std.proofs.lemmas.Iterator.{YieldsList-from_map, YieldsList-from_slice, items_from_collect}
+use Rattle.std.proofs.lemmas.Iterator.Consumers.{YieldsList-at, YieldsList-from_enumerate}
+use Rattle.tl_number.proofs.Views.RenamingPairs.{enumerated}
 use Rattle.tl_number.proofs.number_pairs.name_pairs.Goals as goal
-use Rattle.tl_number.proofs.number_pairs.name_pairs.Goals.{in-Some+in_ok-push, in_default}
-
-pub loop-place-preserved : goal.loop-place-preserved
-loop-place-preserved c =
-    let feats = c.args.feats.now in
-    elim c.match-key_at.branch [
-      | in-Some+in_ok-push w ↦ ap (λ v. v.items) w.pairs-is ∙ w.in_ok-push.ensures.items
-          ∙ ap (λ xs. xs ++ ((w.in-Some.feat, c.loop-place.place + 1) ∷ [])) c.loop-place.invariant
-          ∙ sym (next_numbered feats c.loop-place.place w.in-Some.feat w.in-Some.ensures)
-      | in_default w ↦ (let there = at_place feats c.loop-place.place (omega arith) in
-          let some : slice_get feats c.loop-place.place ≡ Some there.0 = there.1 in
-          let none : c.key_at.result ≡ slice_get feats c.loop-place.place = c.key_at.ensures in
-          cc w.in_default.is)
-    ]
 
 pub returns : goal.returns
-returns c = c.loop-place.invariant ∙ all_numbered c.args.feats.now c.loop-place.place (omega arith)
+returns c =
+    let feats = c.args.feats.now in
+    subst (λ pairs. IfOk c.collect.result (λ made. made.items ≡ pairs)) (enumerated feats)
+    (items_from_collect _ c.collect.ensures.ran
+    (YieldsList-from_map _ (λ (pair : ℕ × ℕ). (pair.1, pair.0 + 1))
+    (YieldsList-at c.map.ensures.source
+    (YieldsList-from_enumerate (YieldsList-at c.enumerate.ensures.source (YieldsList-from_slice feats c.iter.ensures.rest))
+    c.enumerate.ensures.count))
+    c.map.ensures.closure (λ x r q k. search (rules, tests))))

@@ -8,7 +8,8 @@ use Rattle.tl_number.proofs.arranged.Arranged.place_pairs.Goals as goal
 pub returns-clause-polygons : goal.returns-clause-polygons
 unfolding renaming_of
 returns-clause-polygons g c =
-    c.in_ok-polygons.ensures ∙ ap (λ keys. map under_cenid (numbered keys)) c.args.self.now.polygons_stated.numbers
+    c.in_ok-polygons.ensures
+    ∙ ap (λ keys. map under_cenid (numbered keys)) (c.keys.ensures ∙ c.args.self.now.polygons_stated.numbers)
 
 pub returns-clause-lands : goal.returns-clause-lands
 unfolding renaming_of

@@ -16,10 +16,10 @@ returns-clause-value g c =
     let order = arrangement_of county view.steps.items in
     c.new.ensures ∙ (λ i. record {
       chains = c.in_ok-chains.ensures.chains i;
-      names = (c.in_ok-names.ensures ∙ ap numbered view.names_stated.feats) i;
+      names = (c.in_ok-names.ensures ∙ ap numbered (c.keys.ensures ∙ view.names_stated.feats)) i;
       polygons = c.in_ok-polygons.ensures.polygons i;
       lands = c.in_ok-polygons.ensures.lands i;
-      nodes = (c.in_ok-nodes.ensures ∙ ap numbered view.nodes_stated.numbers) i;
+      nodes = (c.in_ok-nodes.ensures ∙ ap numbered (c.keys-2.ensures ∙ view.nodes_stated.numbers)) i;
       turned = c.in_ok-chains.ensures.turned i;
     })
 

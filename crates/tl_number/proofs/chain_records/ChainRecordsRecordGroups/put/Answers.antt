@@ -22,7 +22,7 @@ returns g c =
     let chart = c.args.self.now.chart.now in
     let there = chain_of_group (λ entry. packed_one entry ∷ []) (g.C.Chart.county chart) (g.met.C.Chart.is_county chart)
     (g.met.C.Chart.within_limits chart) c.args.group c.requires.group in
-    let tlid_is = tlid_of there c.tlid_there.result c.tlid_there.ensures in
+    let tlid_is = tlid_of there c.chain_tlid.result c.chain_tlid.ensures.tlid in
     let numbered = c.put_number.ensures ∙ ap (λ n. (rtype_1 ∷ codes "2006") ++ number_text 10 n) tlid_is in
     let body_is = part_of (λ chain. joined (take 15 c.put_number.new.out) (body_1_texts chain.body)) there
     (take 190 c.put_chain_body.new.out) c.put_chain_body.ensures in

@@ -1,23 +1,15 @@
-use Rattle.std.proofs.Common.{◌∙◌, ◌∷◌, [], Some, sym, ap, subst}
-use Rattle.tl_layout.specs.Numbers.{IsNumber}
+use Rattle.std.proofs.Common.{◌∙◌, ◌∷◌, [], Some, sym, ap}
 use Rattle.tl_county.specs.Packing.{packed_one, first_point, last_point}
 use Rattle.tl_number.proofs.Records.ChainPlaces.{chain_of_group}
 use Rattle.tl_number.proofs.Records.RecordPlaces.{tlid_of, part_of, lone_of}
 use Rattle.tl_number.proofs.chain_records.ChainRecordsRecordGroups.record.Goals as goal
-
-pub new-requires : goal.new-requires
-new-requires g c =
-    let chart = c.args.self.now.chart.now in
-    let there = chain_of_group (λ entry. packed_one entry ∷ []) (g.C.Chart.county chart) (g.met.C.Chart.is_county chart)
-    (g.met.C.Chart.within_limits chart) c.args.group c.requires.group in
-    subst (IsNumber 10) (sym (tlid_of there c.tlid_there.result c.tlid_there.ensures)) there.is_number
 
 pub returns : goal.returns
 returns g c =
     let chart = c.args.self.now.chart.now in
     let there = chain_of_group (λ entry. packed_one entry ∷ []) (g.C.Chart.county chart) (g.met.C.Chart.is_county chart)
     (g.met.C.Chart.within_limits chart) c.args.group c.requires.group in
-    let tlid_is = tlid_of there c.tlid_there.result c.tlid_there.ensures in
+    let tlid_is = tlid_of there c.chain_tlid.result c.chain_tlid.ensures.tlid in
     let body_is = part_of (λ chain. chain.body) there c.chain_body_there.result c.chain_body_there.ensures in
     let ends_are = part_of (λ chain. (first_point chain.points, last_point chain.points)) there c.args.head c.requires.head in
     ap Some (c.new.ensures ∙ (λ i. record { tlid = tlid_is i; body = body_is i; start = (ends_are i).0; end = (ends_are i).1 }))

@@ -44,13 +44,6 @@ sequence_number-requires g c =
     c.requires.group c.requires.place in
     omega (arith, here.begins, here.there.room.feats)
 
-pub new-requires-clause-tlid : goal.new-requires-clause-tlid
-new-requires-clause-tlid g c =
-    let chart = c.args.self.now.chart.now in
-    let here = piece (g.C.Chart.county chart) (g.met.C.Chart.is_county chart) (g.met.C.Chart.within_limits chart) c.args.group c.args.place
-    c.requires.group c.requires.place in
-    subst (IsNumber 10) (sym (tlid_of here.there c.tlid_there.result c.tlid_there.ensures)) here.there.is_number
-
 pub new-requires-clause-feats : goal.new-requires-clause-feats
 new-requires-clause-feats g c =
     let chart = c.args.self.now.chart.now in
@@ -62,21 +55,14 @@ new-requires-clause-feats g c =
     subst (AllByRecursion (IsNumber 8)) (sym read)
     (all_take (IsNumber 8) 5 (drop (c.args.place * 5) xs) (all_drop (IsNumber 8) (c.args.place * 5) xs here.there.named.feats))
 
-pub new-requires-clause-rtsq : goal.new-requires-clause-rtsq
-new-requires-clause-rtsq g c =
-    let chart = c.args.self.now.chart.now in
-    let here = piece (g.C.Chart.county chart) (g.met.C.Chart.is_county chart) (g.met.C.Chart.within_limits chart) c.args.group c.args.place
-    c.requires.group c.requires.place in
-    (omega (arith, c.sequence_number.ensures), omega (arith, c.sequence_number.ensures, here.begins, here.there.room.feats))
-
 pub returns : goal.returns
 unfolding make
 returns g c =
     let chart = c.args.self.now.chart.now in
     let here = piece (g.C.Chart.county chart) (g.met.C.Chart.is_county chart) (g.met.C.Chart.within_limits chart) c.args.group c.args.place
     c.requires.group c.requires.place in
-    let tlid_is = tlid_of here.there c.tlid_there.result c.tlid_there.ensures in
+    let tlid_is = tlid_of here.there c.chain_tlid.result c.chain_tlid.ensures.tlid in
     let xs = here.there.entry.1.feats in
     let read : c.names_from-names.result.items ≡ take 5 (drop (c.args.place * 5) xs) =
     c.names_from-names.ensures ∙ ap (λ o. take 5 (drop (c.args.place * 5) (feats_of o))) here.there.chain in
-    ap Some (c.new.ensures ∙ (λ i. record { tlid = tlid_is i; rtsq = c.sequence_number.ensures i; feats = read i })) ∙ sym here.get
+    ap Some (c.new.ensures ∙ (λ i. record { tlid = tlid_is i; rtsq = c.sequence_number.ensures.number i; feats = read i })) ∙ sym here.get

@@ -1,5 +1,4 @@
 use Rattle.std.proofs.Common.{◌≡◌, ◌<◌, ◌∙◌, Some, length, slice_get, sym, ap, subst, arith}
-use Rattle.tl_layout.specs.Numbers.{IsNumber}
 use Rattle.tl_layout.specs.Fields.{Fields6}
 use Rattle.tl_layout.specs.declared.ranges.Ranges.{Ranges}
 use Rattle.std.proofs.Common.{ℕ}
@@ -36,28 +35,14 @@ sequence_number-requires g c =
     c.requires.group c.requires.place in
     omega (arith, here.count, here.there.room.ranges)
 
-pub new-requires-clause-tlid : goal.new-requires-clause-tlid
-new-requires-clause-tlid g c =
-    let chart = c.args.self.now.chart.now in
-    let here = piece (g.C.Chart.county chart) (g.met.C.Chart.is_county chart) (g.met.C.Chart.within_limits chart) c.args.group c.args.place
-    c.requires.group c.requires.place in
-    subst (IsNumber 10) (sym (tlid_of here.there c.tlid_there.result c.tlid_there.ensures)) here.there.is_number
-
-pub new-requires-clause-rtsq : goal.new-requires-clause-rtsq
-new-requires-clause-rtsq g c =
-    let chart = c.args.self.now.chart.now in
-    let here = piece (g.C.Chart.county chart) (g.met.C.Chart.is_county chart) (g.met.C.Chart.within_limits chart) c.args.group c.args.place
-    c.requires.group c.requires.place in
-    (omega (arith, c.sequence_number.ensures), omega (arith, c.sequence_number.ensures, here.count, here.there.room.ranges))
-
 pub returns : goal.returns
 unfolding make
 returns g c =
     let chart = c.args.self.now.chart.now in
     let here = piece (g.C.Chart.county chart) (g.met.C.Chart.is_county chart) (g.met.C.Chart.within_limits chart) c.args.group c.args.place
     c.requires.group c.requires.place in
-    let tlid_is = tlid_of here.there c.tlid_there.result c.tlid_there.ensures in
+    let tlid_is = tlid_of here.there c.chain_tlid.result c.chain_tlid.ensures.tlid in
     let read : slice_get here.there.entry.1.ranges c.args.place ≡ Some c.range_there-ranges.result =
     sym (c.range_there-ranges.ensures ∙ ap (λ o. slice_get (ranges_of o) c.args.place) here.there.chain) in
-    ap Some (c.new.ensures ∙ (λ i. record { tlid = tlid_is i; rtsq = c.sequence_number.ensures i; ranges = c.range_there-ranges.result }))
+    ap Some (c.new.ensures ∙ (λ i. record { tlid = tlid_is i; rtsq = c.sequence_number.ensures.number i; ranges = c.range_there-ranges.result }))
     ∙ sym (here.get c.range_there-ranges.result read)

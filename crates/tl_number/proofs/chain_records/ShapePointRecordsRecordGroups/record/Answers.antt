@@ -1,5 +1,4 @@
 use Rattle.std.proofs.Common.{◌≡◌, ◌*◌, ◌<◌, ◌∙◌, Some, take, drop, length, sym, ap, subst, arith}
-use Rattle.tl_layout.specs.Numbers.{IsNumber}
 use Rattle.tl_layout.specs.Fields.{Fields2}
 use Rattle.tl_layout.specs.Coordinates.{Coordinates}
 use Rattle.std.proofs.Common.{ℕ, List}
@@ -44,28 +43,14 @@ sequence_number-requires g c =
     c.requires.group c.requires.place in
     omega (arith, here.begins, here.there.room.points)
 
-pub new-requires-clause-tlid : goal.new-requires-clause-tlid
-new-requires-clause-tlid g c =
-    let chart = c.args.self.now.chart.now in
-    let here = piece (g.C.Chart.county chart) (g.met.C.Chart.is_county chart) (g.met.C.Chart.within_limits chart) c.args.group c.args.place
-    c.requires.group c.requires.place in
-    subst (IsNumber 10) (sym (tlid_of here.there c.tlid_there.result c.tlid_there.ensures)) here.there.is_number
-
-pub new-requires-clause-rtsq : goal.new-requires-clause-rtsq
-new-requires-clause-rtsq g c =
-    let chart = c.args.self.now.chart.now in
-    let here = piece (g.C.Chart.county chart) (g.met.C.Chart.is_county chart) (g.met.C.Chart.within_limits chart) c.args.group c.args.place
-    c.requires.group c.requires.place in
-    (omega (arith, c.sequence_number.ensures), omega (arith, c.sequence_number.ensures, here.begins, here.there.room.points))
-
 pub returns : goal.returns
 unfolding make
 returns g c =
     let chart = c.args.self.now.chart.now in
     let here = piece (g.C.Chart.county chart) (g.met.C.Chart.is_county chart) (g.met.C.Chart.within_limits chart) c.args.group c.args.place
     c.requires.group c.requires.place in
-    let tlid_is = tlid_of here.there c.tlid_there.result c.tlid_there.ensures in
+    let tlid_is = tlid_of here.there c.chain_tlid.result c.chain_tlid.ensures.tlid in
     let xs = inner_points here.there.entry.1.points in
     let read : c.shape_points_from-points.result.items ≡ take 10 (drop (c.args.place * 10) xs) =
     c.shape_points_from-points.ensures ∙ ap (λ o. take 10 (drop (c.args.place * 10) (inner_points (points_of o)))) here.there.chain in
-    ap Some (c.new.ensures ∙ (λ i. record { tlid = tlid_is i; rtsq = c.sequence_number.ensures i; points = read i })) ∙ sym here.get
+    ap Some (c.new.ensures ∙ (λ i. record { tlid = tlid_is i; rtsq = c.sequence_number.ensures.number i; points = read i })) ∙ sym here.get

@@ -1,0 +1,14 @@
+use Rattle.std.proofs.Common.{◌≡◌, IfOk, rules, slice_get, subst, tests}
+use Rattle.std.proofs.lemmas.Iterator.{YieldsList-from_slice, items_from_collect}
+use Rattle.std.proofs.lemmas.Iterator.Consumers.{YieldsList-from_filter_map}
+use Rattle.tl_county.specs.CountyRules.{tlids}
+use Rattle.tl_number.proofs.Views.RenamingPairs.{tlids_found}
+use Rattle.tl_number.proofs.number_pairs.tlids_of.Goals as goal
+
+pub returns : goal.returns
+returns g c =
+    let county = g.C.Chart.county c.args.chart.now in
+    subst (λ found. IfOk c.collect.result (λ made. made.items ≡ found)) (tlids_found county c.args.steps.now c.requires)
+    (items_from_collect _ c.collect.ensures.ran
+    (YieldsList-from_filter_map _ (λ step. slice_get (tlids county) step.place) (YieldsList-from_slice c.args.steps.now cc)
+    c.filter_map.ensures.closure (λ x r q k. search (rules, tests))))

@@ -1,0 +1,13 @@
+use Rattle.std.proofs.Common.{◌∙◌, ap}
+use Rattle.ordered_lists.proofs.Lists.Distinct.{apart_from_no_repeat}
+use Rattle.ordered_lists.proofs.ByKey.Keys.{IsKeyOrder}
+use Rattle.tl_number.specs.Growth.{first_seen_after}
+use Rattle.tl_number.proofs.Names.NameOrder.{first_seen-itself}
+use Rattle.tl_number.proofs.numbers.Interner.of_distinct.Goals as goal
+
+pub returns : goal.returns
+returns g c =
+    let o : IsKeyOrder g.K.Ord.cmp = record { total = g.met.K.Ord.total; exact = g.met.K.Key.exact } in
+    let keys = c.args.keys.now in
+    c.in_ok-see_all.ensures ∙ ap (λ seen. first_seen_after g.K.Ord.cmp seen keys) c.in_ok-numbers.ensures
+    ∙ first_seen-itself o keys (apart_from_no_repeat o keys c.requires)
