@@ -14,8 +14,7 @@ use crate::arranged::{Arranged, Evidence, old_place};
 use crate::numbers::Interner;
 use std::alloc::{AllocError, Global};
 use tl_cert::Renaming;
-use tl_county::{Chart, PolygonKey};
-use tl_profile::DirectedChain;
+use tl_county::{Chart, DirectedChain, PolygonKey};
 
 /// The TLIDs of the chains of these steps, each with the new one.
 fn chain_pairs<C: Chart>(

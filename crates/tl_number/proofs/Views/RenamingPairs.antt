@@ -14,7 +14,7 @@ use Rattle.tl_number.specs.Growth.{numbered}
 use Rattle.tl_number.specs.Steps.{arrangement_of, tlid_at}
 use Rattle.ordered_lists.proofs.Lists.Places.{one_more_taken}
 use Rattle.tl_number.specs.ViewFacts.{AreReadAt}
-use Rattle.tl_profile.specs.declared.directed_chain.DirectedChain.{DirectedChain}
+use Rattle.tl_county.specs.declared.directed_chain.DirectedChain.{DirectedChain}
 use Rattle.tl_number.proofs.Polygons.PolygonNumbers.{key_numbered}
 use Rattle.tl_number.proofs.Views.StepChains.{at_place}
 use Rattle.tl_number.proofs.Views.ViewChains.{read_length}

@@ -2,7 +2,7 @@ use Rattle.std.proofs.Common.{◌+◌, ◌++◌, ◌∷◌, [], ◌∙◌, ap, a
 use Rattle.std.proofs.lemmas.Option.{slice_get-get_or}
 use Rattle.tl_number.specs.Arrangement.{arranged_tlids}
 use Rattle.tl_number.specs.Steps.{arrangement_of}
-use Rattle.tl_profile.specs.declared.directed_chain.DirectedChain.{DirectedChain}
+use Rattle.tl_county.specs.declared.directed_chain.DirectedChain.{DirectedChain}
 use Rattle.tl_number.proofs.Views.RenamingPairs.{all_numbered, length-arranged, next_numbered, step_tlid}
 use Rattle.tl_number.proofs.number_pairs.chain_pairs.Goals as goal
 

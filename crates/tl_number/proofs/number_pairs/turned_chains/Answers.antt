@@ -3,7 +3,7 @@ use Rattle.std.proofs.lemmas.List.{take_all}
 use Rattle.std.proofs.lemmas.Option.{slice_get-get_or}
 use Rattle.tl_number.specs.Arrangement.{turned_tlids}
 use Rattle.tl_number.specs.Steps.{arrangement_of}
-use Rattle.tl_profile.specs.declared.directed_chain.DirectedChain.{DirectedChain}
+use Rattle.tl_county.specs.declared.directed_chain.DirectedChain.{DirectedChain}
 use Rattle.tl_number.proofs.Views.RenamingPairs.{turned_more, unturned_more}
 use Rattle.tl_number.proofs.number_pairs.turned_chains.Goals as goal
 use Rattle.tl_number.proofs.number_pairs.turned_chains.Goals.{then-step+in_ok-push, else-step}
