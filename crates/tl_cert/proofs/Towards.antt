@@ -1,30 +1,16 @@
--- Chains that may be turned: their parts, and that chains with the same parts are the same.
-use Rattle.std.proofs.Common.{◌≡◌, Bool, true, false, Option, Some, None, option_map, map, refl, ap, nat_cmp}
+-- The parts of chains under new numbers, and that chains with the same parts are the same.
+use Rattle.std.proofs.Common.{◌≡◌, Option, Some, None, option_map, map, refl, ap, nat_cmp}
 use Rattle.tl_shape.specs.Chain.{Chain}
-use Rattle.tl_shape.specs.Turned.{turned_if}
 use Rattle.tl_county.specs.ChartWords.{points_of, feats_of, ranges_of}
 use Rattle.tl_county.specs.Renumbering.{Renumbering, renumbered}
 use Rattle.ordered_lists.specs.Pairs.{image}
-use Rattle.tl_cert.specs.PartsThere.{points_towards, ranges_towards, HaveSameContent, HaveSameEnds, HaveSameLists}
+use Rattle.tl_cert.specs.PartsThere.{HaveSameContent, HaveSameEnds, HaveSameLists}
 
 -- a field of a chain under its new numbers, if there is such a chain
 pub read_renumbered : {X : Type 0} (r : Renumbering) (read : Chain → X) (new : X → X) → ((c : Chain) → read (renumbered r c) ≡ new (read c))
     → (o : Option Chain) → option_map read (option_map (renumbered r) o) ≡ option_map new (option_map read o)
 read_renumbered r read new h None = refl
 read_renumbered r read new h (Some c) = ap Some (h c)
-
--- the lists of a chain that is turned or not
-pub points_turned : (turned : Bool) (o : Option Chain) → points_of (option_map (turned_if turned) o) ≡ points_towards turned (points_of o)
-points_turned true None = refl
-points_turned false None = refl
-points_turned true (Some c) = refl
-points_turned false (Some c) = refl
-
-pub ranges_turned : (turned : Bool) (o : Option Chain) → ranges_of (option_map (turned_if turned) o) ≡ ranges_towards turned (ranges_of o)
-ranges_turned true None = refl
-ranges_turned false None = refl
-ranges_turned true (Some c) = refl
-ranges_turned false (Some c) = refl
 
 -- the content and the lists of a chain under its new numbers
 module _ (r : Renumbering) where
@@ -40,19 +26,13 @@ module _ (r : Renumbering) where
   ranges_kept None = refl
   ranges_kept (Some c) = refl
 
-  pub feats_renumbered : (turned : Bool) (o : Option Chain)
-      → feats_of (option_map (renumbered r) (option_map (turned_if turned) o)) ≡ map (image nat_cmp r.names) (feats_of o)
-  feats_renumbered true None = refl
-  feats_renumbered false None = refl
-  feats_renumbered true (Some c) = refl
-  feats_renumbered false (Some c) = refl
+  pub feats_renumbered : (o : Option Chain) → feats_of (option_map (renumbered r) o) ≡ map (image nat_cmp r.names) (feats_of o)
+  feats_renumbered None = refl
+  feats_renumbered (Some c) = refl
 
-  pub link_body_kept : (turned : Bool) (o : Option Chain)
-      → option_map (λ c. c.topology) (option_map (renumbered r) (option_map (turned_if turned) o)) ≡ option_map (λ c. c.topology) o
-  link_body_kept true None = refl
-  link_body_kept false None = refl
-  link_body_kept true (Some c) = refl
-  link_body_kept false (Some c) = refl
+  pub link_body_kept : (o : Option Chain) → option_map (λ c. c.topology) (option_map (renumbered r) o) ≡ option_map (λ c. c.topology) o
+  link_body_kept None = refl
+  link_body_kept (Some c) = refl
 
 -- chains with the same parts are the same
 pub agree : (o p : Option Chain) → HaveSameContent o p → HaveSameEnds o p → HaveSameLists o p → o ≡ p

@@ -1,35 +1,23 @@
 -- The conditions under which a county has the parts of another under their new numbers.
-use Rattle.std.specs.Prelude.{◌≡◌, ℕ, List, Bool, Option, Some, option_map, map, reverse, cond}
+use Rattle.std.specs.Prelude.{◌≡◌, ℕ, List, Option, Some, option_map}
 use Rattle.std.specs.List.{AllByRecursion}
 use Rattle.std.specs.Ordering.{nat_cmp}
-use Rattle.tl_layout.specs.Coordinates.{Coordinates}
-use Rattle.tl_layout.specs.Turned.{turned_ranges}
-use Rattle.tl_layout.specs.declared.ranges.Ranges.{Ranges}
 use Rattle.tl_layout.specs.declared.type5.Body5.{Body5}
 use Rattle.tl_layout.specs.declared.type7.Body7.{Body7}
 use Rattle.tl_layout.specs.declared.type_p.BodyP.{BodyP}
 use Rattle.tl_shape.specs.Chain.{Chain}
 use Rattle.tl_shape.specs.Turned.{turned_if}
-use Rattle.tl_county.specs.ChartWords.{chain_at, points_of, feats_of, ranges_of, chain_under, name_under, polygon_under, bodies_under}
+use Rattle.tl_county.specs.ChartWords.{points_of, feats_of, ranges_of, chain_under, name_under, polygon_under, bodies_under}
 use Rattle.tl_county.specs.County.{County}
+use Rattle.tl_county.specs.DirectedChains.{directed_chain}
+use Rattle.tl_county.specs.declared.directed_chain.DirectedChain.{DirectedChain}
 use Rattle.tl_county.specs.PolygonKeys.{PolygonKey, key_cmp}
 use Rattle.tl_county.specs.Renumbering.{Renumbering, turns, renumbered}
 use Rattle.ordered_lists.specs.Pairs.{image}
 
--- the chain at a place, which may be turned
-abbrev pub chain_towards : County → ℕ → Bool → Option Chain
-chain_towards county place turned = option_map (turned_if turned) (chain_at county place)
-
--- the same under its new numbers
-abbrev pub chain_carried : Renumbering → County → ℕ → Bool → Option Chain
-chain_carried r county place turned = option_map (renumbered r) (chain_towards county place turned)
-
--- the points and the address ranges of a chain, which may be turned
-abbrev pub points_towards : Bool → List Coordinates → List Coordinates
-points_towards turned points = cond turned (reverse points) points
-
-abbrev pub ranges_towards : Bool → List Ranges → List Ranges
-ranges_towards turned ranges = cond turned (map turned_ranges ranges) ranges
+-- a directed chain under its new numbers
+abbrev pub chain_carried : Renumbering → County → DirectedChain → Option Chain
+chain_carried r county directed = option_map (renumbered r) (directed_chain county directed)
 
 -- b has the chain under its new TLID, turned if the renaming turns it
 abbrev pub IsChainThere : Renumbering → County → ℕ × Chain → Type 0

@@ -3,74 +3,17 @@
 ghost use Rattle.std.specs.Bool.{Decides};
 ghost use Rattle.std.specs.Ordering.{nat_cmp};
 ghost use Rattle.std.specs.Prelude.{◌≡◌, map, option_map};
-ghost use Rattle.tl_cert.specs.PartsThere.{HaveSameContent, HaveSameEnds, HaveSameLists, chain_carried, chain_towards};
+ghost use Rattle.tl_cert.specs.PartsThere.{HaveSameContent, HaveSameEnds, HaveSameLists, chain_carried};
 ghost use Rattle.tl_county.specs.ChartWords.{chain_at, feats_of, points_of, ranges_of};
+ghost use Rattle.tl_county.specs.DirectedChains.{directed_chain};
 ghost use Rattle.ordered_lists.specs.Pairs.{image};
 ghost use Rattle.tl_county.specs.Renumbering.{renumbered_side};
 
 use crate::renaming_tables::RenamingTables;
-use tl_county::{Chart, Listed, Same, Tested, are_same};
-use tl_layout::{Body1, Point, Ranges, Side, Turn};
-
-/// The content of the type 1 record of the chain at a place, which may be turned.
-fn body_towards<C: Chart>(chart: &C, place: usize, turned: bool) -> Option<Body1>
-    ensures { result ≡ option_map (λ c. c.body) (chain_towards (C.county chart.now) place turned) }
-{
-    match chart.chain_body_at(place) {
-        Some(body) => {
-            let mut body = body;
-            if turned {
-                body.turn();
-            }
-            Some(body)
-        }
-        None => None,
-    }
-}
-
-/// The node where the chain at a place starts, or where it ends if it is turned.
-fn start_towards<C: Chart>(chart: &C, place: usize, turned: bool) -> Option<Option<u64>>
-    ensures { result ≡ option_map (λ c. c.start_node) (chain_towards (C.county chart.now) place turned) }
-{
-    if turned {
-        chart.end_node_at(place)
-    } else {
-        chart.start_node_at(place)
-    }
-}
-
-/// The node where the chain at a place ends, or where it starts if it is turned.
-fn end_towards<C: Chart>(chart: &C, place: usize, turned: bool) -> Option<Option<u64>>
-    ensures { result ≡ option_map (λ c. c.end_node) (chain_towards (C.county chart.now) place turned) }
-{
-    if turned {
-        chart.start_node_at(place)
-    } else {
-        chart.end_node_at(place)
-    }
-}
-
-/// The left side of the chain at a place, or its right side if it is turned.
-fn left_towards<C: Chart>(chart: &C, place: usize, turned: bool) -> Option<Side>
-    ensures { result ≡ option_map (λ c. c.left) (chain_towards (C.county chart.now) place turned) }
-{
-    if turned {
-        chart.right_at(place)
-    } else {
-        chart.left_at(place)
-    }
-}
-
-/// The right side of the chain at a place, or its left side if it is turned.
-fn right_towards<C: Chart>(chart: &C, place: usize, turned: bool) -> Option<Side>
-    ensures { result ≡ option_map (λ c. c.right) (chain_towards (C.county chart.now) place turned) }
-{
-    if turned {
-        chart.left_at(place)
-    } else {
-        chart.right_at(place)
-    }
-}
+use tl_county::{
+    ChainFeats, ChainPoints, ChainRanges, Chart, DirectedChain, Listed, Same, Tested, are_same,
+};
+use tl_layout::Side;
 
 /// The new number of a node, if there is one.
 fn new_node(tables: &RenamingTables, node: Option<u64>) -> Option<u64>
@@ -122,87 +65,6 @@ fn is_side_there(tables: &RenamingTables, old: Option<Side>, new: Option<Side>) 
     }
 }
 
-/// The points of the chain at a place, from its end if it is turned.
-#[derive(Drop)]
-struct Points<'a, C> {
-    chart: &'a C,
-    place: usize,
-    turned: bool,
-}
-
-impl<'a, C: Chart> Listed for Points<'a, C> {
-    ghost use Rattle.tl_cert.specs.PartsThere.{points_towards};
-    ghost use Rattle.tl_county.specs.ChartWords.{chain_at, points_of};
-
-    type Item = Point;
-
-    ghost items = { λ l. points_towards l.turned (points_of (chain_at (C.county l.chart.now) l.place)) };
-
-    fn count(&self) -> usize {
-        self.chart.point_count_at(self.place)
-    }
-
-    fn item(&self, place: usize) -> Point {
-        if !self.turned {
-            return self.chart.point_there(self.place, place);
-        }
-        let count = self.chart.point_count_at(self.place);
-        self.chart.point_there(self.place, count - 1 - place)
-    }
-}
-
-/// The further address ranges of the chain at a place, each turned if the chain is.
-#[derive(Drop)]
-struct ChainRanges<'a, C> {
-    chart: &'a C,
-    place: usize,
-    turned: bool,
-}
-
-impl<'a, C: Chart> Listed for ChainRanges<'a, C> {
-    ghost use Rattle.tl_cert.specs.PartsThere.{ranges_towards};
-    ghost use Rattle.tl_county.specs.ChartWords.{chain_at, ranges_of};
-
-    type Item = Ranges;
-
-    ghost items = { λ l. ranges_towards l.turned (ranges_of (chain_at (C.county l.chart.now) l.place)) };
-
-    fn count(&self) -> usize {
-        self.chart.range_count_at(self.place)
-    }
-
-    fn item(&self, place: usize) -> Ranges {
-        let mut ranges = self.chart.range_there(self.place, place);
-        if self.turned {
-            ranges.turn();
-        }
-        ranges
-    }
-}
-
-/// The FEATs of the further names of the chain at a place.
-#[derive(Drop)]
-struct ChainFeats<'a, C> {
-    chart: &'a C,
-    place: usize,
-}
-
-impl<'a, C: Chart> Listed for ChainFeats<'a, C> {
-    ghost use Rattle.tl_county.specs.ChartWords.{chain_at, feats_of};
-
-    type Item = u32;
-
-    ghost items = { λ l. feats_of (chain_at (C.county l.chart.now) l.place) };
-
-    fn count(&self) -> usize {
-        self.chart.feat_count_at(self.place)
-    }
-
-    fn item(&self, place: usize) -> u32 {
-        self.chart.chain_feat_there(self.place, place)
-    }
-}
-
 /// The new FEATs of the further names of a chain.
 #[derive(Drop)]
 struct NewFeats<'a, C> {
@@ -229,115 +91,85 @@ impl<'a, C: Chart> Listed for NewFeats<'a, C> {
     }
 }
 
-/// Whether a chain of `b` has the content of a chain of `a` in its records of types 1 and I; that chain of `a` may be turned.
+/// Whether a chain of `b` has the content of a directed chain of `a` in its records of types 1 and I.
 fn have_same_content<A: Chart, B: Chart>(
     a: &A,
-    place: usize,
-    turned: bool,
+    directed: DirectedChain,
     b: &B,
     other: usize,
     tables: &RenamingTables,
 ) -> bool
-    ensures { Decides result (HaveSameContent (chain_at (B.county b.now) other) (chain_carried tables.now (A.county a.now) place turned)) }
+    ensures { Decides result (HaveSameContent (chain_at (B.county b.now) other) (chain_carried tables.now (A.county a.now) directed)) }
 {
-    let body = b
-        .chain_body_at(other)
-        .is_same(body_towards(a, place, turned));
+    let body = b.chain_body_at(other).is_same(directed.body(a));
     if !body {
         return false;
     }
-    b.link_body_at(other).is_same(a.link_body_at(place))
+    b.link_body_at(other).is_same(directed.link_body(a))
 }
 
-/// Whether a chain of `b` has the nodes and the sides of a chain of `a` under their new numbers; that chain of `a` may be turned.
+/// Whether a chain of `b` has the nodes and the sides of a directed chain of `a` under their new numbers.
 fn have_same_ends<A: Chart, B: Chart>(
     a: &A,
-    place: usize,
-    turned: bool,
+    directed: DirectedChain,
     b: &B,
     other: usize,
     tables: &RenamingTables,
 ) -> bool
-    ensures { Decides result (HaveSameEnds (chain_at (B.county b.now) other) (chain_carried tables.now (A.county a.now) place turned)) }
+    ensures { Decides result (HaveSameEnds (chain_at (B.county b.now) other) (chain_carried tables.now (A.county a.now) directed)) }
 {
-    let start = is_node_there(
-        tables,
-        start_towards(a, place, turned),
-        b.start_node_at(other),
-    );
+    let start = is_node_there(tables, directed.start_node(a), b.start_node_at(other));
     if !start {
         return false;
     }
-    let end = is_node_there(tables, end_towards(a, place, turned), b.end_node_at(other));
+    let end = is_node_there(tables, directed.end_node(a), b.end_node_at(other));
     if !end {
         return false;
     }
-    let left = is_side_there(tables, left_towards(a, place, turned), b.left_at(other));
+    let left = is_side_there(tables, directed.left(a), b.left_at(other));
     if !left {
         return false;
     }
-    is_side_there(tables, right_towards(a, place, turned), b.right_at(other))
+    is_side_there(tables, directed.right(a), b.right_at(other))
 }
 
-/// Whether a chain of `b` has the points of a chain of `a`, which may be turned.
-fn have_same_points<A: Chart, B: Chart>(
-    a: &A,
-    place: usize,
-    turned: bool,
-    b: &B,
-    other: usize,
-) -> bool
-    ensures { Decides result (points_of (chain_at (B.county b.now) other) ≡ points_of (chain_towards (A.county a.now) place turned)) }
+/// Whether a chain of `b` has the points of a directed chain of `a`.
+fn have_same_points<A: Chart, B: Chart>(a: &A, directed: DirectedChain, b: &B, other: usize) -> bool
+    ensures { Decides result (points_of (chain_at (B.county b.now) other) ≡ points_of (directed_chain (A.county a.now) directed)) }
 {
-    let points = Points {
-        chart: a,
-        place,
-        turned,
-    };
-    let others = Points {
+    let others = ChainPoints {
         chart: b,
         place: other,
         turned: false,
     };
-    are_same(&points, &others)
+    are_same(&directed.points(a), &others)
 }
 
-/// Whether a chain of `b` has the further address ranges of a chain of `a`, which may be turned.
-fn have_same_ranges<A: Chart, B: Chart>(
-    a: &A,
-    place: usize,
-    turned: bool,
-    b: &B,
-    other: usize,
-) -> bool
-    ensures { Decides result (ranges_of (chain_at (B.county b.now) other) ≡ ranges_of (chain_towards (A.county a.now) place turned)) }
+/// Whether a chain of `b` has the further address ranges of a directed chain of `a`.
+fn have_same_ranges<A: Chart, B: Chart>(a: &A, directed: DirectedChain, b: &B, other: usize) -> bool
+    ensures { Decides result (ranges_of (chain_at (B.county b.now) other) ≡ ranges_of (directed_chain (A.county a.now) directed)) }
 {
-    let ranges = ChainRanges {
-        chart: a,
-        place,
-        turned,
-    };
     let others = ChainRanges {
         chart: b,
         place: other,
         turned: false,
     };
-    are_same(&ranges, &others)
+    are_same(&directed.ranges(a), &others)
 }
 
-/// Whether a chain of `b` has the further names of a chain of `a` under their new FEATs.
+/// Whether a chain of `b` has the further names of a directed chain of `a` under their new FEATs.
 fn have_same_feats<A: Chart, B: Chart>(
     a: &A,
-    place: usize,
+    directed: DirectedChain,
     b: &B,
     other: usize,
     tables: &RenamingTables,
 ) -> bool
     ensures { Decides result (feats_of (chain_at (B.county b.now) other) ≡
-        map (image nat_cmp tables.now.names) (feats_of (chain_at (A.county a.now) place))) }
+        map (image nat_cmp tables.now.names) (feats_of (directed_chain (A.county a.now) directed))) }
 {
     let feats = NewFeats {
-        feats: ChainFeats { chart: a, place },
+        feats: directed.feats(a),
         tables,
     };
     let others = ChainFeats {
@@ -347,49 +179,47 @@ fn have_same_feats<A: Chart, B: Chart>(
     are_same(&feats, &others)
 }
 
-/// Whether a chain of `b` has the points, the further names and the further address ranges of a chain of `a` under their new
-/// numbers; that chain of `a` may be turned.
+/// Whether a chain of `b` has the points, the further names and the further address ranges of a directed chain of `a` under their
+/// new numbers.
 fn have_same_lists<A: Chart, B: Chart>(
     a: &A,
-    place: usize,
-    turned: bool,
+    directed: DirectedChain,
     b: &B,
     other: usize,
     tables: &RenamingTables,
 ) -> bool
-    ensures { Decides result (HaveSameLists (chain_at (B.county b.now) other) (chain_carried tables.now (A.county a.now) place turned)) }
+    ensures { Decides result (HaveSameLists (chain_at (B.county b.now) other) (chain_carried tables.now (A.county a.now) directed)) }
 {
-    let points = have_same_points(a, place, turned, b, other);
+    let points = have_same_points(a, directed, b, other);
     if !points {
         return false;
     }
-    let feats = have_same_feats(a, place, b, other, tables);
+    let feats = have_same_feats(a, directed, b, other, tables);
     if !feats {
         return false;
     }
-    have_same_ranges(a, place, turned, b, other)
+    have_same_ranges(a, directed, b, other)
 }
 
-/// Whether the chain at a place of `b` is that at a place of `a` under its new numbers; that chain of `a` may be turned.
+/// Whether the chain at a place of `b` is a directed chain of `a` under its new numbers.
 fn is_same_chain<A: Chart, B: Chart>(
     a: &A,
-    place: usize,
-    turned: bool,
+    directed: DirectedChain,
     b: &B,
     other: usize,
     tables: &RenamingTables,
 ) -> bool
-    ensures { Decides result (chain_at (B.county b.now) other ≡ chain_carried tables.now (A.county a.now) place turned) }
+    ensures { Decides result (chain_at (B.county b.now) other ≡ chain_carried tables.now (A.county a.now) directed) }
 {
-    let content = have_same_content(a, place, turned, b, other, tables);
+    let content = have_same_content(a, directed, b, other, tables);
     if !content {
         return false;
     }
-    let ends = have_same_ends(a, place, turned, b, other, tables);
+    let ends = have_same_ends(a, directed, b, other, tables);
     if !ends {
         return false;
     }
-    have_same_lists(a, place, turned, b, other, tables)
+    have_same_lists(a, directed, b, other, tables)
 }
 
 /// The chains of `a`, each looked for in `b` under its new TLID, turned if the renaming turns it.
@@ -418,7 +248,10 @@ impl<'a, A: Chart, B: Chart> Tested for Chains<'a, A, B> {
     fn holds(&self, place: usize) -> bool {
         let tlid = self.a.tlid_there(place);
         let other = self.b.chain_place_or_end(self.tables.tlid(tlid));
-        let turned = self.tables.is_turned(tlid);
-        is_same_chain(self.a, place, turned, self.b, other, self.tables)
+        let directed = DirectedChain {
+            place: place as u32,
+            turned: self.tables.is_turned(tlid),
+        };
+        is_same_chain(self.a, directed, self.b, other, self.tables)
     }
 }

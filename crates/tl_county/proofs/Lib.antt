@@ -6,3 +6,4 @@ pub mod Samples
 pub mod Packing
 pub mod Limits
 pub mod Masks
+pub mod DirectedChains

@@ -2,3 +2,4 @@ pub mod FitsPacked
 pub mod FitsCounty
 pub mod FieldsFit
 pub mod CarriedLimits
+pub mod FewChains

@@ -1,3 +1,4 @@
 pub mod OfNumber
 pub mod LinkPlaces
 pub mod Groups
+pub mod Compared

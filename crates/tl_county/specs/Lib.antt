@@ -7,6 +7,7 @@ pub mod LandmarkParts
 pub mod KeptCounty
 pub mod Building
 pub mod ChartWords
+pub mod DirectedChains
 pub mod CountyProps
 pub mod PolygonKeys
 pub mod PolygonSets

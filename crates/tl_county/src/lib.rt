@@ -9,6 +9,7 @@
 mod body_order;
 mod chart;
 mod chart_lists;
+mod directed_chain;
 mod fault;
 mod joined_lists;
 mod kept;
@@ -23,6 +24,7 @@ mod masked_bodies;
 pub use body_order::cmp_landmark_bodies;
 pub use chart::Chart;
 pub use chart_lists::LandmarkBodies;
+pub use directed_chain::{ChainFeats, ChainPoints, ChainRanges, DirectedChain};
 pub use fault::{LinkFault, LinkedType, SequencedType};
 pub use kept::{County, CountyIn, CountyOver};
 pub use keys::key_set::KeySet;
@@ -36,5 +38,5 @@ pub use laws::{
 pub use lent::Lent;
 pub use linking::linked_records::{LinkedRecords, link_in_order};
 pub use linking::{link, link_in};
-pub use listed::{Listed, Same, Tested, all_hold, are_same, push_all};
+pub use listed::{Listed, Same, Tested, all_hold, are_same, compare, push_all};
 pub use masked::Masked;

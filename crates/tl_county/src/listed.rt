@@ -1,11 +1,13 @@
 //! Lists that are read by place: one loop for each question that is asked of all their items.
 
 ghost use Rattle.std.specs.Bool.{Decides};
+ghost use Rattle.std.specs.Cmp.Lexicographic.{slice_cmp};
 ghost use Rattle.std.specs.List.{AllByRecursion};
 ghost use Rattle.std.specs.Prelude.{◌≡◌, ◌++◌, OnOk};
 
 use std::alloc::AllocError;
-use tl_layout::{Body1, Body5, Body7, BodyI, BodyP, Point, Ranges};
+use std::cmp::Ordering;
+use tl_layout::{Body1, Body5, Body7, BodyI, BodyP, NumberOrNone, Point, Ranges, Side};
 
 /// A value that can be compared with another of its type.
 pub trait Same: Copy + Drop {
@@ -29,8 +31,32 @@ impl Same for u64 {
     }
 }
 
+impl<const N: usize> Same for [u8; N] {
+    fn is_same(self, other: [u8; N]) -> bool {
+        self == other
+    }
+}
+
+impl Same for NumberOrNone {
+    fn is_same(self, other: NumberOrNone) -> bool {
+        self == other
+    }
+}
+
+impl<A: Same, B: Same> Same for (A, B) {
+    fn is_same(self, other: (A, B)) -> bool {
+        self.0.is_same(other.0) && self.1.is_same(other.1)
+    }
+}
+
 impl Same for Point {
     fn is_same(self, other: Point) -> bool {
+        self == other
+    }
+}
+
+impl Same for Side {
+    fn is_same(self, other: Side) -> bool {
         self == other
     }
 }
@@ -108,6 +134,17 @@ pub trait Listed {
     fn item(&self, place: usize) -> Self::Item
         requires { place < length (items self.now) }
         ensures { Some result ≡ slice_get (items self.now) place };
+
+    /// The item at a place, or `None` past the last item.
+    final fn get(&self, place: usize) -> Option<Self::Item>
+        ensures { result ≡ slice_get (items self.now) place }
+    {
+        if place < self.count() {
+            Some(self.item(place))
+        } else {
+            None
+        }
+    }
 }
 
 /// Whether two lists have the same items in the same order.
@@ -127,6 +164,26 @@ where
         }
     }
     true
+}
+
+/// Compares two lists. The first items that differ decide; a list comes after each of its beginnings.
+pub fn compare<T: Ord + Drop, A: Listed<Item = T>, B: Listed<Item = T>>(a: &A, b: &B) -> Ordering
+    ensures { result ≡ slice_cmp T.cmp (A.items a.now) (B.items b.now) }
+{
+    let count = a.count();
+    let other_count = b.count();
+    let shared = if count < other_count {
+        count
+    } else {
+        other_count
+    };
+    for place in 0..shared {
+        match a.item(place).cmp(&b.item(place)) {
+            Ordering::Equal => {}
+            unequal => return unequal,
+        }
+    }
+    count.cmp(&other_count)
 }
 
 /// Appends the items of a list.

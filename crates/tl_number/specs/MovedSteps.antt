@@ -2,7 +2,7 @@
 use Rattle.std.specs.Prelude.{ℕ, ◌≡◌, ◌+◌, ◌<◌, ◌≤◌, List, [], ◌∷◌, length, map, not, slice_get, ⊤}
 use Rattle.std.specs.List.{AllByRecursion}
 use Rattle.tl_county.specs.County.{County}
-use Rattle.tl_profile.specs.declared.directed_chain.DirectedChain.{DirectedChain}
+use Rattle.tl_county.specs.declared.directed_chain.DirectedChain.{DirectedChain}
 use Rattle.tl_profile.specs.declared.open_places.OpenPlace.{OpenPlace}
 use Rattle.tl_number.specs.Steps.{step_chain}
 use Rattle.tl_number.specs.ViewFacts.{AreWhole}

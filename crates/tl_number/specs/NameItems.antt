@@ -9,7 +9,7 @@ use Rattle.tl_county.specs.ChartWords.{feats_of, name_at}
 use Rattle.tl_county.specs.County.{County}
 use Rattle.tl_county.specs.CountyRules.{feats}
 use Rattle.tl_number.specs.Steps.{step_chain}
-use Rattle.tl_profile.specs.declared.directed_chain.DirectedChain.{DirectedChain}
+use Rattle.tl_county.specs.declared.directed_chain.DirectedChain.{DirectedChain}
 use Rattle.tl_number.specs.declared.name_order.RankedName.{RankedName}
 
 -- the FEATs that chains list, along steps

@@ -6,7 +6,7 @@ use Rattle.tl_county.specs.CountyProps.{IsCounty-prop}
 use Rattle.tl_county.specs.CountyRules.{AllKeysStandIn, polygon_keys, polygons_along}
 use Rattle.tl_county.specs.LimitsProps.{IsWithinLimits-prop}
 use Rattle.tl_number.specs.ViewFacts.{AreWhole, MatchesNodes, MatchesPolygons, MatchesNames, MatchesLandmarks}
-use Rattle.tl_profile.specs.declared.directed_chain.DirectedChain.{DirectedChain}
+use Rattle.tl_county.specs.declared.directed_chain.DirectedChain.{DirectedChain}
 use Rattle.tl_number.specs.declared.arranged_tables.LandmarkTables.{LandmarkTables}
 use Rattle.tl_number.specs.declared.arranged_tables.NameTables.{NameTables}
 use Rattle.tl_number.specs.declared.arranged_tables.NodeTables.{NodeTables}

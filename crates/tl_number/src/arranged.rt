@@ -18,9 +18,8 @@ use crate::arranged_tables::{Ends, LandmarkTables, NameTables, NodeTables, Polyg
 use crate::numbers::stands_at;
 use crate::renumbering::new_feat;
 use std::marker::PhantomData;
-use tl_county::{Chart, PolygonKey};
+use tl_county::{Chart, DirectedChain, PolygonKey};
 use tl_layout::{BodyP, Rec8};
-use tl_profile::DirectedChain;
 
 /// A fact about an arranged county, in terms of its source county and of itself.
 pub trait Evidence {

@@ -10,14 +10,9 @@ ghost use Rattle.tl_number.specs.Growth.{up_to};
 
 use crate::arranged::{Arranged, Evidence, old_place};
 use crate::landmark_links::{link_at, links_of_landmark};
-use crate::step_readers::{
-    body_of_step, feat_count_of_step, feat_of_step, link_body_of_step, point_count_of_step,
-    put_body_of_step, range_count_of_step, range_of_step,
-};
 use ordered_lists::place_of;
-use tl_county::{Chart, PolygonKey};
+use tl_county::{Chart, Listed, PolygonKey};
 use tl_layout::{Body1, Body5, Body7, BodyI, BodyP, Point, Ranges, Rec8, Side};
-use tl_profile::point_along;
 
 /// The number at a place, counted from 0, or `None` past the last one.
 pub(crate) fn number_at(count: usize, place: usize) -> Option<u64>
@@ -113,63 +108,63 @@ impl<C: Chart, S: Evidence> Chart for Arranged<C, S> {
 
     fn chain_body_at(&self, place: usize) -> Option<Body1> {
         match self.step_at(place) {
-            Some(step) => body_of_step(&self.chart, step),
+            Some(step) => step.body(&self.chart),
             None => None,
         }
     }
 
     fn put_chain_body(&self, place: usize, turned: bool, out: &mut [u8]) {
         match self.step_at(place) {
-            Some(step) => put_body_of_step(&self.chart, step, turned, out),
+            Some(step) => step.put_body(&self.chart, turned, out),
             None => {}
         }
     }
 
     fn point_count_at(&self, place: usize) -> usize {
         match self.step_at(place) {
-            Some(step) => point_count_of_step(&self.chart, step),
+            Some(step) => step.points(&self.chart).count(),
             None => 0,
         }
     }
 
     fn point_at(&self, place: usize, point: usize) -> Option<Point> {
         match self.step_at(place) {
-            Some(step) => point_along(&self.chart, step, point),
+            Some(step) => step.points(&self.chart).get(point),
             None => None,
         }
     }
 
     fn feat_count_at(&self, place: usize) -> usize {
         match self.step_at(place) {
-            Some(step) => feat_count_of_step(&self.chart, step),
+            Some(step) => step.feats(&self.chart).count(),
             None => 0,
         }
     }
 
     fn chain_feat_at(&self, place: usize, name: usize) -> Option<u32> {
         match self.step_at(place) {
-            Some(step) => self.renumbered_feat(feat_of_step(&self.chart, step, name)),
+            Some(step) => self.renumbered_feat(step.feats(&self.chart).get(name)),
             None => None,
         }
     }
 
     fn range_count_at(&self, place: usize) -> usize {
         match self.step_at(place) {
-            Some(step) => range_count_of_step(&self.chart, step),
+            Some(step) => step.ranges(&self.chart).count(),
             None => 0,
         }
     }
 
     fn range_at(&self, place: usize, range: usize) -> Option<Ranges> {
         match self.step_at(place) {
-            Some(step) => range_of_step(&self.chart, step, range),
+            Some(step) => step.ranges(&self.chart).get(range),
             None => None,
         }
     }
 
     fn link_body_at(&self, place: usize) -> Option<BodyI> {
         match self.step_at(place) {
-            Some(step) => link_body_of_step(&self.chart, step),
+            Some(step) => step.link_body(&self.chart),
             None => None,
         }
     }

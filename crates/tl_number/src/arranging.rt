@@ -23,8 +23,8 @@ use crate::polygon_order::arrange_nodes_and_polygons;
 use std::alloc::{AllocError, Global};
 use std::marker::PhantomData;
 use tl_cert::Renaming;
-use tl_county::{Chart, CountyIn, PolygonKey};
-use tl_profile::{Admitted, AdmittedIn, DirectedChain, ShapeOrder};
+use tl_county::{Chart, CountyIn, DirectedChain, PolygonKey};
+use tl_profile::{Admitted, AdmittedIn, ShapeOrder};
 
 /// The tables of a county in an arrangement, for its nodes, polygons, names and landmarks.
 type Tables = (NodeTables, PolygonTables, NameTables, LandmarkTables);

@@ -5,8 +5,8 @@ ghost use Rattle.tl_number.specs.Arrangement.{ascending};
 ghost use Rattle.tl_number.specs.Steps.{AreSteps, arrangement_of};
 
 use std::alloc::{AllocError, Global};
-use tl_county::Chart;
-use tl_profile::{DirectedChain, ShapeOrder, order_by_shape};
+use tl_county::{Chart, DirectedChain};
+use tl_profile::{ShapeOrder, order_by_shape};
 
 /// The steps along chains that are already in the order of their shapes.
 pub(crate) fn steps_in_order(

@@ -18,9 +18,8 @@ use crate::arranged_tables::{Ends, NodeTables, Sides};
 use crate::numbers::{Interner, marks_for};
 use crate::step_readers::{ends_of_step, sides_of_step};
 use std::alloc::{AllocError, Global};
-use tl_county::{Chart, PolygonKey};
+use tl_county::{Chart, DirectedChain, PolygonKey};
 use tl_layout::{NumberOrNone, Side};
-use tl_profile::DirectedChain;
 
 /// The ends and the sides of the chains of these steps, each one after the other. They are read before any node or polygon is numbered, so
 /// that reading one chain need not wait for another, and in one walk, since a chain may lie anywhere in memory.

@@ -20,9 +20,8 @@ use crate::landmark_links::{bounds_of, links_of_landmark, links_under};
 use crate::numbers::Interner;
 use std::alloc::{AllocError, Global};
 use std::cmp::Ordering;
-use tl_county::{Chart, PolygonKey, cmp_landmark_bodies};
+use tl_county::{Chart, DirectedChain, PolygonKey, cmp_landmark_bodies};
 use tl_layout::{Body7, Rec8};
-use tl_profile::DirectedChain;
 
 /// The fields of a link without its LAND in the order of comparison: POLYID, CENID, FILE.
 type LinkBytes = (u64, ([u8; 5], [u8; 5]));

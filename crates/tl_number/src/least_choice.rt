@@ -34,8 +34,8 @@ use crate::type_1_order::compare_ones;
 use std::alloc::{AllocError, Global};
 use std::cmp::Ordering;
 use std::mem::swap;
-use tl_county::{Chart, Lent};
-use tl_profile::{DirectedChain, ShapeOrder};
+use tl_county::{Chart, DirectedChain, Lent};
+use tl_profile::ShapeOrder;
 
 /// The steps of the choice with this number.
 fn steps_of_number(

@@ -19,12 +19,10 @@ ghost use Rattle.tl_number.specs.ViewFacts.{AreReadAt, AreWhole, MatchesNames};
 
 use crate::arranged_tables::NameTables;
 use crate::numbers::{Interner, marks_for};
-use crate::step_readers::{feat_count_of_step, feat_of_step};
 use std::alloc::{AllocError, Global};
 use std::cmp::Ordering;
-use tl_county::Chart;
+use tl_county::{Chart, DirectedChain, Listed};
 use tl_layout::Body5;
-use tl_profile::DirectedChain;
 
 /// A name, given by its place, with the rank of its first use.
 #[derive(Clone, Copy, Debug, PartialEq, Eq)]
@@ -84,8 +82,9 @@ fn see_feats<C: Chart>(
 ) -> Result<(), AllocError>
     ensures { OnOk result (feats.new ≡ first_seen_after nat_cmp feats.old (feats_of (step_chain (C.county chart.now) step))) }
 {
-    for name in 0..feat_count_of_step(chart, step) {
-        see_feat(feats, feat_of_step(chart, step, name))?;
+    let further = step.feats(chart);
+    for name in 0..further.count() {
+        see_feat(feats, further.get(name))?;
     }
     Ok(())
 }

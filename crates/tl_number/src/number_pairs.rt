@@ -14,8 +14,7 @@ use crate::arranged::{Arranged, Evidence};
 use crate::landmark_order::lands_there;
 use std::alloc::{AllocError, Global};
 use tl_cert::Renaming;
-use tl_county::{Chart, PolygonKey};
-use tl_profile::DirectedChain;
+use tl_county::{Chart, DirectedChain, PolygonKey};
 
 /// Numbers, each with its place, counted from 1.
 fn number_all(alloc: Global, olds: &[u64]) -> Result<Vec<(u64, u64)>, AllocError>

@@ -6,7 +6,8 @@ ghost use Rattle.std.specs.Prelude.{◌≡◌, ◌++◌, drop, length, take};
 ghost use Rattle.tl_number.specs.MovedSteps.{AgreeApart, AreWithin, IsWithin, other_way};
 ghost use Rattle.tl_number.specs.NumberedChoices.{moved, moved_at};
 
-use tl_profile::{DirectedChain, OpenPlace};
+use tl_county::DirectedChain;
+use tl_profile::OpenPlace;
 
 /// Inserts the step at an open place among those of its shape that come after it, by the last two digits of a number. The last
 /// digit is how many of these come before it, and the next one whether it takes the other direction. Returns the rest of the

@@ -18,7 +18,7 @@ use ordered_lists::Key;
 use std::alloc::{AllocError, Global};
 use std::hash::Hash;
 use std::marker::Model;
-use tl_county::PolygonKey;
+use tl_county::{Listed, PolygonKey};
 
 /// The most keys that a list can hold: each takes at least a byte.
 const MOST_KEYS: usize = isize::MAX as usize;
@@ -98,6 +98,21 @@ impl<K: Key + Hash + NumericKey> Model for Interner<K> {
     ghost invariant = { λ n. AreApart n.keys.items × ArePlaced (λ key. K.number_of key % length n.marks.items)
         (found_by_either (found_in_order K.cmp n.others.many) (found_by_hash K.eq n.others.few)) n.marks.items n.keys.items
         × (length n.keys.items < 2 ^ 63) };
+}
+
+/// The keys, by place.
+impl<K: Key + Hash + NumericKey> Listed for Interner<K> {
+    type Item = K;
+
+    ghost items = { λ numbers. numbers };
+
+    fn count(&self) -> usize {
+        self.keys.len()
+    }
+
+    fn item(&self, place: usize) -> K {
+        self.keys[place]
+    }
 }
 
 /// The slot of a number in a table of marks of this length, or the number itself if there is no slot.

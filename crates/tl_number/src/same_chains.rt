@@ -2,179 +2,119 @@
 //! arrangements that only differ in the order of such chains make the same county.
 
 ghost use Rattle.std.specs.Bool.{Decides};
-ghost use Rattle.std.specs.Prelude.{◌≡◌, ◌<◌, ◌+◌, length, map};
+ghost use Rattle.std.specs.Prelude.{◌≡◌, ◌+◌, length, map};
 ghost use Rattle.tl_cert.specs.PartsThere.{HaveSameContent, HaveSameEnds, HaveSameLists};
-ghost use Rattle.tl_county.specs.ChartWords.{feats_of, points_of, ranges_of};
+ghost use Rattle.tl_county.specs.ChartWords.{points_of};
 ghost use Rattle.tl_number.specs.MovedSteps.{AgreeButOpen, HaveSameChainsBelow, IsWithin};
-ghost use Rattle.tl_number.specs.Steps.{feats_along, ranges_along, step_chain};
-ghost use Rattle.tl_number.specs.ViewFacts.{AreWhole};
+ghost use Rattle.tl_number.specs.Steps.{parts_along, step_chain};
 
-use crate::arranged_tables::{Ends, Sides};
-use crate::step_readers::{
-    body_of_step, ends_of_step, feat_count_of_step, feat_of_step, link_body_of_step,
-    point_count_of_step, range_count_of_step, range_of_step, sides_of_step,
-};
-use tl_county::Chart;
-use tl_layout::{Body1, BodyI, Point, Ranges};
-use tl_profile::{DirectedChain, OpenPlace, point_along};
-
-/// Whether two points are the same, or both are missing.
-fn is_same_point(a: Option<Point>, b: Option<Point>) -> bool
-    ensures { Decides result (a ≡ b) }
-{
-    a == b
-}
-
-/// Whether two FEATs are the same, or both are missing.
-fn is_same_feat(a: Option<u32>, b: Option<u32>) -> bool
-    ensures { Decides result (a ≡ b) }
-{
-    a == b
-}
-
-/// Whether two address ranges are the same, or both are missing.
-fn is_same_range(a: Option<Ranges>, b: Option<Ranges>) -> bool
-    ensures { Decides result (a ≡ b) }
-{
-    a == b
-}
-
-/// Whether two contents of type 1 records are the same, or both are missing.
-fn is_same_body(a: Option<Body1>, b: Option<Body1>) -> bool
-    ensures { Decides result (a ≡ b) }
-{
-    a == b
-}
-
-/// Whether two contents of type I records are the same, or both are missing.
-fn is_same_link_body(a: Option<BodyI>, b: Option<BodyI>) -> bool
-    ensures { Decides result (a ≡ b) }
-{
-    a == b
-}
-
-/// Whether two steps are the same.
-fn is_same_step(one: DirectedChain, other: DirectedChain) -> bool
-    ensures { Decides result (one ≡ other) }
-{
-    one == other
-}
-
-/// Whether chains have the same nodes at their ends.
-fn are_same_ends(a: Ends, b: Ends) -> bool
-    ensures { Decides result (a ≡ b) }
-{
-    a == b
-}
-
-/// Whether chains have the same polygons on their sides.
-fn are_same_sides(a: Sides, b: Sides) -> bool
-    ensures { Decides result (a ≡ b) }
-{
-    a == b
-}
+use crate::arranged::{Arranged, Evidence};
+use tl_county::{Chart, DirectedChain, Same, are_same};
+use tl_profile::OpenPlace;
 
 /// Whether the chains of two steps have the same points.
 fn have_same_points<C: Chart>(chart: &C, one: DirectedChain, other: DirectedChain) -> bool
     ensures { Decides result (points_of (step_chain (C.county chart.now) one) ≡ points_of (step_chain (C.county chart.now) other)) }
 {
-    let count = point_count_of_step(chart, one);
-    if point_count_of_step(chart, other) != count {
-        return false;
-    }
-    for place in 0..count {
-        let point = point_along(chart, one, place);
-        let same = is_same_point(point, point_along(chart, other, place));
-        if !same {
-            return false;
-        }
-    }
-    true
+    are_same(&other.points(chart), &one.points(chart))
 }
 
-/// Whether the chains of two steps have the same further names.
-fn have_same_feats<C: Chart>(chart: &C, one: DirectedChain, other: DirectedChain) -> bool
-    ensures { Decides result (feats_of (step_chain (C.county chart.now) one) ≡ feats_of (step_chain (C.county chart.now) other)) }
-{
-    let count = feat_count_of_step(chart, one);
-    if feat_count_of_step(chart, other) != count {
-        return false;
-    }
-    for place in 0..count {
-        let feat = feat_of_step(chart, one, place);
-        let same = is_same_feat(feat, feat_of_step(chart, other, place));
-        if !same {
-            return false;
-        }
-    }
-    true
+/// A list that each chain has.
+pub(crate) trait ChainList {
+    ghost use Rattle.std.specs.Bool.{Decides};
+    ghost use Rattle.std.specs.Prelude.{◌≡◌, List, Option};
+    ghost use Rattle.tl_number.specs.Steps.{step_chain};
+    ghost use Rattle.tl_shape.specs.Chain.{Chain};
+
+    /// An item.
+    ghost Entry: { Type 0 };
+
+    /// The list of a chain, or an empty list without a chain.
+    ghost list: { Option Chain → List Entry };
+
+    /// Whether the chains of two steps have the same list.
+    fn is_same<C: Chart>(&self, chart: &C, one: DirectedChain, other: DirectedChain) -> bool
+        ensures { Decides result (list (step_chain (C.county chart.now) one) ≡ list (step_chain (C.county chart.now) other)) };
 }
 
-/// Whether the chains of two steps have the same further address ranges.
-fn have_same_ranges<C: Chart>(chart: &C, one: DirectedChain, other: DirectedChain) -> bool
-    ensures { Decides result (ranges_of (step_chain (C.county chart.now) one) ≡ ranges_of (step_chain (C.county chart.now) other)) }
-{
-    let count = range_count_of_step(chart, one);
-    if range_count_of_step(chart, other) != count {
-        return false;
+/// The FEATs of the further names.
+#[derive(Drop)]
+pub(crate) struct FurtherNames;
+
+impl ChainList for FurtherNames {
+    ghost use Rattle.std.specs.Prelude.{ℕ};
+    ghost use Rattle.tl_county.specs.ChartWords.{feats_of};
+
+    ghost Entry = { ℕ };
+
+    ghost list = { feats_of };
+
+    fn is_same<C: Chart>(&self, chart: &C, one: DirectedChain, other: DirectedChain) -> bool {
+        are_same(&other.feats(chart), &one.feats(chart))
     }
-    for place in 0..count {
-        let ranges = range_of_step(chart, one, place);
-        let same = is_same_range(ranges, range_of_step(chart, other, place));
-        if !same {
-            return false;
-        }
-    }
-    true
 }
 
-/// The same as [`have_same_feats`], without reading anything if the steps are the same.
-fn have_same_feats_at<C: Chart>(chart: &C, one: DirectedChain, other: DirectedChain) -> bool
-    ensures { Decides result (feats_of (step_chain (C.county chart.now) one) ≡ feats_of (step_chain (C.county chart.now) other)) }
+/// The further address ranges.
+#[derive(Drop)]
+pub(crate) struct FurtherRanges;
+
+impl ChainList for FurtherRanges {
+    ghost use Rattle.tl_county.specs.ChartWords.{ranges_of};
+    ghost use Rattle.tl_layout.specs.declared.ranges.Ranges.{Ranges};
+
+    ghost Entry = { Ranges };
+
+    ghost list = { ranges_of };
+
+    fn is_same<C: Chart>(&self, chart: &C, one: DirectedChain, other: DirectedChain) -> bool {
+        are_same(&other.ranges(chart), &one.ranges(chart))
+    }
+}
+
+/// Whether the chains of two steps have the same list. Nothing is read if the steps are the same.
+fn have_same_list_at<L: ChainList, C: Chart>(
+    list: &L,
+    chart: &C,
+    one: DirectedChain,
+    other: DirectedChain,
+) -> bool
+    ensures { Decides result (L.list (step_chain (C.county chart.now) one) ≡ L.list (step_chain (C.county chart.now) other)) }
 {
-    let same = is_same_step(one, other);
+    let same = one.is_same(other);
     if same {
         return true;
     }
-    have_same_feats(chart, one, other)
-}
-
-/// The same as [`have_same_ranges`], without reading anything if the steps are the same.
-fn have_same_ranges_at<C: Chart>(chart: &C, one: DirectedChain, other: DirectedChain) -> bool
-    ensures { Decides result (ranges_of (step_chain (C.county chart.now) one) ≡ ranges_of (step_chain (C.county chart.now) other)) }
-{
-    let same = is_same_step(one, other);
-    if same {
-        return true;
-    }
-    have_same_ranges(chart, one, other)
+    list.is_same(chart, one, other)
 }
 
 /// Whether the chains of two steps have the same content in their records of types 1 and I.
 fn have_same_content<C: Chart>(chart: &C, one: DirectedChain, other: DirectedChain) -> bool
     ensures { Decides result (HaveSameContent (step_chain (C.county chart.now) one) (step_chain (C.county chart.now) other)) }
 {
-    let body = is_same_body(body_of_step(chart, one), body_of_step(chart, other));
+    let body = one.body(chart).is_same(other.body(chart));
     if !body {
         return false;
     }
-    is_same_link_body(
-        link_body_of_step(chart, one),
-        link_body_of_step(chart, other),
-    )
+    one.link_body(chart).is_same(other.link_body(chart))
 }
 
 /// Whether the chains of two steps have the same nodes and the same sides.
 fn have_same_ends<C: Chart>(chart: &C, one: DirectedChain, other: DirectedChain) -> bool
-    requires one { one.place < length (C.county chart.now).chains }
-    requires other { other.place < length (C.county chart.now).chains }
     ensures { Decides result (HaveSameEnds (step_chain (C.county chart.now) one) (step_chain (C.county chart.now) other)) }
 {
-    let ends = are_same_ends(ends_of_step(chart, one), ends_of_step(chart, other));
-    if !ends {
+    let start = one.start_node(chart).is_same(other.start_node(chart));
+    if !start {
         return false;
     }
-    are_same_sides(sides_of_step(chart, one), sides_of_step(chart, other))
+    let end = one.end_node(chart).is_same(other.end_node(chart));
+    if !end {
+        return false;
+    }
+    let left = one.left(chart).is_same(other.left(chart));
+    if !left {
+        return false;
+    }
+    one.right(chart).is_same(other.right(chart))
 }
 
 /// Whether the chains of two steps have the same points, further names and further address ranges.
@@ -185,17 +125,15 @@ fn have_same_lists<C: Chart>(chart: &C, one: DirectedChain, other: DirectedChain
     if !points {
         return false;
     }
-    let feats = have_same_feats(chart, one, other);
+    let feats = FurtherNames.is_same(chart, one, other);
     if !feats {
         return false;
     }
-    have_same_ranges(chart, one, other)
+    FurtherRanges.is_same(chart, one, other)
 }
 
 /// Whether the chains of two steps are the same except for their TLIDs.
 fn is_same_chain<C: Chart>(chart: &C, one: DirectedChain, other: DirectedChain) -> bool
-    requires one { one.place < length (C.county chart.now).chains }
-    requires other { other.place < length (C.county chart.now).chains }
     ensures { Decides result (step_chain (C.county chart.now) one ≡ step_chain (C.county chart.now) other) }
 {
     let content = have_same_content(chart, one, other);
@@ -217,8 +155,6 @@ fn have_same_chains_at<C: Chart>(
     one: &[DirectedChain],
     other: &[DirectedChain],
 ) -> bool
-    requires one { AreWhole (C.county chart.now) one.now }
-    requires other { AreWhole (C.county chart.now) other.now }
     requires count { length one.now ≡ length other.now }
     requires within { IsWithin (length one.now) at }
     requires before { HaveSameChainsBelow (C.county chart.now) at.place one.now other.now }
@@ -255,17 +191,18 @@ pub(crate) fn have_same_chains<C: Chart>(
     true
 }
 
-/// Whether two arrangements with equally many steps have the same further names, place by place.
-pub(crate) fn have_same_feats_along<C: Chart>(
+/// Whether the chains of two arrangements with equally many steps have the same list, place by place.
+fn have_same_list_along<L: ChainList, C: Chart>(
+    list: &L,
     chart: &C,
     one: &[DirectedChain],
     other: &[DirectedChain],
 ) -> bool
     requires { length one.now ≡ length other.now }
-    ensures { Decides result (feats_along (C.county chart.now) one.now ≡ feats_along (C.county chart.now) other.now) }
+    ensures { Decides result (parts_along L.list (C.county chart.now) one.now ≡ parts_along L.list (C.county chart.now) other.now) }
 {
     for place in 0..one.len() {
-        let same = have_same_feats_at(chart, one[place], other[place]);
+        let same = have_same_list_at(list, chart, one[place], other[place]);
         if !same {
             return false;
         }
@@ -273,20 +210,14 @@ pub(crate) fn have_same_feats_along<C: Chart>(
     true
 }
 
-/// Whether two arrangements with equally many steps have the same further address ranges, place by place.
-pub(crate) fn have_same_ranges_along<C: Chart>(
-    chart: &C,
-    one: &[DirectedChain],
-    other: &[DirectedChain],
+/// Whether the chains of two arrangements of a county have the same list, place by place.
+pub(crate) fn have_same_list<L: ChainList, A: Chart, R: Evidence, B: Chart, S: Evidence>(
+    list: &L,
+    a: &Arranged<A, R>,
+    b: &Arranged<B, S>,
 ) -> bool
-    requires { length one.now ≡ length other.now }
-    ensures { Decides result (ranges_along (C.county chart.now) one.now ≡ ranges_along (C.county chart.now) other.now) }
+    requires { A.county a.now.chart ≡ B.county b.now.chart }
+    ensures { Decides result (parts_along L.list (A.county a.now.chart) a.now.steps.items ≡ parts_along L.list (A.county a.now.chart) b.now.steps.items) }
 {
-    for place in 0..one.len() {
-        let same = have_same_ranges_at(chart, one[place], other[place]);
-        if !same {
-            return false;
-        }
-    }
-    true
+    have_same_list_along(list, &a.chart, &a.steps, &b.steps)
 }

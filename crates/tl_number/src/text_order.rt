@@ -24,7 +24,7 @@ use crate::arranged::{Arranged, Evidence};
 use crate::chain_records::{FurtherNameRecords, RangeRecords};
 use crate::group_order::compare_groups;
 use crate::name_records::{LandmarkLinkRecords, LandmarkRecords, NameRecords};
-use crate::same_chains::{have_same_feats_along, have_same_ranges_along};
+use crate::same_chains::{FurtherNames, FurtherRanges, have_same_list};
 use crate::type_i_and_p_order::{compare_links, compare_polygons};
 use std::cmp::Ordering;
 use tl_county::Chart;
@@ -37,7 +37,7 @@ fn compare_further_names<A: Chart, R: Evidence, B: Chart, S: Evidence>(
     requires { A.county a.now.chart ≡ B.county b.now.chart }
     ensures { result ≡ groups_cmp Four (type_4_by_chain (arranged_county a.now)) (type_4_by_chain (arranged_county b.now)) }
 {
-    if have_same_feats_along(&a.chart, &a.steps, &b.steps) {
+    if have_same_list(&FurtherNames, a, b) {
         return Ordering::Equal;
     }
     compare_groups(
@@ -54,7 +54,7 @@ fn compare_names<A: Chart, R: Evidence, B: Chart, S: Evidence>(
     requires { A.county a.now.chart ≡ B.county b.now.chart }
     ensures { result ≡ groups_cmp Five (type_5_by_name (arranged_county a.now)) (type_5_by_name (arranged_county b.now)) }
 {
-    if have_same_feats_along(&a.chart, &a.steps, &b.steps) {
+    if have_same_list(&FurtherNames, a, b) {
         return Ordering::Equal;
     }
     compare_groups(&NameRecords { chart: a }, &NameRecords { chart: b })
@@ -68,7 +68,7 @@ fn compare_ranges<A: Chart, R: Evidence, B: Chart, S: Evidence>(
     requires { A.county a.now.chart ≡ B.county b.now.chart }
     ensures { result ≡ groups_cmp Six (type_6_by_chain (arranged_county a.now)) (type_6_by_chain (arranged_county b.now)) }
 {
-    if have_same_ranges_along(&a.chart, &a.steps, &b.steps) {
+    if have_same_list(&FurtherRanges, a, b) {
         return Ordering::Equal;
     }
     compare_groups(&RangeRecords { chart: a }, &RangeRecords { chart: b })

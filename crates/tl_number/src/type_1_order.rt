@@ -14,11 +14,10 @@ ghost use Rattle.tl_number.specs.TypeOneOrder.{one_at, ones_of};
 ghost use Rattle.tl_number.specs.ViewFacts.{AreWhole, stepped};
 
 use crate::group_order::compare_records;
-use crate::step_readers::{body_of_step, point_count_of_step};
 use std::cmp::Ordering;
-use tl_county::Chart;
+use tl_county::{Chart, DirectedChain, Listed, Same};
 use tl_layout::Rec1;
-use tl_profile::{DirectedChain, OpenPlace, point_along};
+use tl_profile::OpenPlace;
 
 /// The record of type 1 of a step's chain if the step is at a place.
 fn record_of_step<C: Chart>(chart: &C, step: DirectedChain, place: usize) -> Rec1
@@ -26,11 +25,10 @@ fn record_of_step<C: Chart>(chart: &C, step: DirectedChain, place: usize) -> Rec
     requires place { place < length (C.county chart.now).chains }
     ensures { Some result ≡ option_map (λ chain. packed_one (place + 1, chain)) (step_chain (C.county chart.now) step) }
 {
-    let last = point_count_of_step(chart, step) - 1;
-    let body = body_of_step(chart, step).unwrap();
-    let start = point_along(chart, step, 0).unwrap();
-    let end = point_along(chart, step, last).unwrap();
-    Rec1::new(place as u64 + 1, body, start, end)
+    let points = step.points(chart);
+    let last = points.count() - 1;
+    let body = step.body(chart).unwrap();
+    Rec1::new(place as u64 + 1, body, points.item(0), points.item(last))
 }
 
 /// Compares the records of type 1 of two steps' chains if both steps are at the same place.
@@ -45,7 +43,7 @@ fn compare_at<C: Chart>(
     requires place { place < length (C.county chart.now).chains }
     ensures { result ≡ option_cmp spelling_cmp (one_at (C.county chart.now) one place) (one_at (C.county chart.now) other place) }
 {
-    if one.place == other.place && one.turned == other.turned {
+    if one.is_same(other) {
         return Ordering::Equal;
     }
     let first = record_of_step(chart, one, place);

@@ -4,7 +4,6 @@
 //! on its sides. Its record of type I is then the same and isn't made. If polygons have the same new numbers, all records of
 //! type P are the same.
 
-ghost use Rattle.std.specs.Bool.{Decides};
 ghost use Rattle.std.specs.Option.{option_cmp};
 ghost use Rattle.std.specs.Prelude.{◌≡◌, ◌<◌, Some, length, slice_get, true};
 ghost use Rattle.tl_layout.specs.declared.record_type.Record.TheVariants.{I, P};
@@ -13,37 +12,13 @@ ghost use Rattle.tl_number.specs.RecordOrder.{groups_cmp, links_of, spelling_cmp
 ghost use Rattle.tl_number.specs.Views.{arranged_county};
 
 use crate::arranged::{Arranged, Evidence};
-use crate::arranged_tables::{Ends, Sides};
 use crate::chain_records::TopologyRecords;
 use crate::group_order::{compare_groups, compare_records};
 use crate::groups::RecordGroups;
-use crate::numbers::Interner;
 use crate::polygon_records::PolygonRecords;
 use std::cmp::Ordering;
-use tl_county::{Chart, PolygonKey};
+use tl_county::{Chart, Same, are_same};
 use tl_layout::RecI;
-use tl_profile::DirectedChain;
-
-/// Whether two steps are the same.
-fn is_same_step(a: Option<DirectedChain>, b: Option<DirectedChain>) -> bool
-    ensures { Decides result (a ≡ b) }
-{
-    a == b
-}
-
-/// Whether two chains have the same ends.
-fn has_same_ends(a: Option<Ends>, b: Option<Ends>) -> bool
-    ensures { Decides result (a ≡ b) }
-{
-    a == b
-}
-
-/// Whether two chains have the same sides.
-fn has_same_sides(a: Option<Sides>, b: Option<Sides>) -> bool
-    ensures { Decides result (a ≡ b) }
-{
-    a == b
-}
 
 /// Whether two arrangements of a county have the same chain at a place, in the same direction, with the same nodes at its ends
 /// and the same polygons on its sides.
@@ -55,13 +30,15 @@ fn is_same_link<A: Chart, R: Evidence, B: Chart, S: Evidence>(
     requires { A.county a.now.chart ≡ B.county b.now.chart }
     ensures { result ≡ true → slice_get (links_of (arranged_county a.now)) place ≡ slice_get (links_of (arranged_county b.now)) place }
 {
-    if !is_same_step(a.step_at(place), b.step_at(place)) {
+    let steps = a.step_at(place).is_same(b.step_at(place));
+    if !steps {
         return false;
     }
-    if !has_same_ends(a.ends_at(place), b.ends_at(place)) {
+    let ends = a.ends_at(place).is_same(b.ends_at(place));
+    if !ends {
         return false;
     }
-    has_same_sides(a.sides_at(place), b.sides_at(place))
+    a.sides_at(place).is_same(b.sides_at(place))
 }
 
 /// The record of type I of the chain at a place.
@@ -108,29 +85,6 @@ pub(crate) fn compare_links<A: Chart, R: Evidence, B: Chart, S: Evidence>(
     Ordering::Equal
 }
 
-/// Whether two keys are the same.
-fn is_same_key(a: Option<PolygonKey>, b: Option<PolygonKey>) -> bool
-    ensures { Decides result (a ≡ b) }
-{
-    a == b
-}
-
-/// Whether polygons have the same new numbers.
-fn have_same_numbers(a: &Interner<PolygonKey>, b: &Interner<PolygonKey>) -> bool
-    ensures { result ≡ true → a.now ≡ b.now }
-{
-    let count = a.len();
-    if count != b.len() {
-        return false;
-    }
-    for place in 0..count {
-        if !is_same_key(a.key_at(place), b.key_at(place)) {
-            return false;
-        }
-    }
-    true
-}
-
 /// Compares two arrangements of a county by their records of type P.
 pub(crate) fn compare_polygons<A: Chart, R: Evidence, B: Chart, S: Evidence>(
     a: &Arranged<A, R>,
@@ -139,7 +93,7 @@ pub(crate) fn compare_polygons<A: Chart, R: Evidence, B: Chart, S: Evidence>(
     requires { A.county a.now.chart ≡ B.county b.now.chart }
     ensures { result ≡ groups_cmp P (type_p_by_number (arranged_county a.now)) (type_p_by_number (arranged_county b.now)) }
 {
-    if have_same_numbers(&a.polygons.numbers, &b.polygons.numbers) {
+    if are_same(&b.polygons.numbers, &a.polygons.numbers) {
         return Ordering::Equal;
     }
     compare_groups(&PolygonRecords { county: a }, &PolygonRecords { county: b })

@@ -15,11 +15,11 @@ use Rattle.ordered_lists.proofs.Lists.Elements.{map-map}
 use Rattle.tl_profile.specs.Choices.{choices, counted_choices, is_either_way, is_settled, most_choices, open_places, place_of, running, ways_at}
 use Rattle.tl_profile.specs.PlacedShapes.{placed_walk, whole_shape}
 use Rattle.tl_profile.specs.ShapeOrder.{AreWalksInOrder, least_walk, least_walks, points_along, walk_cmp}
-use Rattle.tl_profile.specs.declared.directed_chain.DirectedChain.{DirectedChain}
+use Rattle.tl_county.specs.declared.directed_chain.DirectedChain.{DirectedChain}
 use Rattle.tl_profile.specs.declared.open_places.OpenPlace.{OpenPlace}
 use Rattle.tl_profile.specs.declared.shapes.PlacedShape.{PlacedShape}
 use Rattle.tl_profile.proofs.CountedChoices.{IsCounted, counted_next, more_choices-append}
-use Rattle.tl_profile.proofs.FewChains.{few_chains}
+use Rattle.tl_county.proofs.Limits.FewChains.{few_chains}
 use Rattle.tl_profile.proofs.SameChoices.{choices_stated}
 
 first_not_greater : (a b : Ordering) → is_gt (ordering_then a b) ≡ false → is_gt a ≡ false

@@ -3,12 +3,10 @@ pub mod SameProfile
 pub mod OnSamples
 pub mod PointRanks
 pub mod PlacedOrder
-pub mod Walks
 pub mod Places
 pub mod ShapesOfCounty
 pub mod SideKeys
 pub mod FirstClauses
-pub mod FewChains
 pub mod Factorials
 pub mod CountedChoices
 pub mod ShapePoints

@@ -1,7 +1,7 @@
 -- The chain at a place of a county.
 use Rattle.std.proofs.Common.{◌≡◌, ℕ, zero, suc, ◌<◌, ◌≤◌, List, [], ◌∷◌, ◌++◌, length, take, drop, slice_get, reverse}
 use Rattle.std.proofs.Common.{Bool, true, false, Option, Some, option_map, refl, sym, ap, ◌∙◌, subst, inl, inr, arith}
-use Rattle.std.proofs.Common.{IsSome}
+use Rattle.std.proofs.Common.{IsSome, Ordering}
 use Rattle.std.specs.List.{AllByRecursion}
 use Rattle.std.specs.Ordering.{is_lt}
 use Rattle.std.proofs.lemmas.List.{length-reverse}
@@ -13,6 +13,9 @@ use Rattle.tl_county.specs.ChartWords.{chain_at, points_of}
 use Rattle.tl_county.specs.County.{County}
 use Rattle.tl_county.specs.CountyRules.{IsCounty}
 use Rattle.ordered_lists.proofs.Lists.Among.{Among, all_among}
+use Rattle.tl_county.specs.declared.directed_chain.DirectedChain.{DirectedChain}
+use Rattle.tl_county.proofs.DirectedChains.{points_turned}
+use Rattle.tl_profile.specs.ShapeOrder.{points_along}
 use Rattle.tl_profile.specs.Shapes.{least_points, points_at, points_from}
 
 -- an item, and the lists before and after it
@@ -87,6 +90,24 @@ shape_two county is place h =
     behind : (xs : List (ℕ × Chain)) (y : ℕ × Chain) (zs : List (ℕ × Chain)) → Among y (xs ++ (y ∷ zs))
     behind [] y zs = inl refl
     behind (x ∷ xs) y zs = inr (behind xs y zs)
+
+-- the points along a walk are those of its chain, or their reverse
+pub along_from : (county : County) (walk : DirectedChain) → points_along county walk ≡ points_from walk.turned (points_at county walk.place)
+along_from county walk = points_turned walk.turned (chain_at county walk.place)
+
+-- so a walk along a chain's shape has a start and an end
+pub two_along : (county : County) → IsCounty county → (place : ℕ) → place < length county.chains → (turned : Bool) (reversed : Ordering)
+    → turned ≡ is_lt reversed → reversed ≡ points_cmp (reverse (points_at county place)) (points_at county place)
+    → HasTwo (points_along county (record { place = place; turned = turned }))
+two_along county is place h turned reversed turns compared =
+    let two = shape_two county is place h in
+    record {
+      one = two.one;
+      two = two.two;
+      rest = two.rest;
+      is = along_from county (record { place = place; turned = turned })
+          ∙ ap (λ b. points_from b (points_at county place)) (turns ∙ ap is_lt compared) ∙ two.is;
+    }
 
 pub some-same : {X : Type 0} (o : Option X) (x y : X) → o ≡ Some x → o ≡ Some y → x ≡ y
 some-same o x y e f = cc

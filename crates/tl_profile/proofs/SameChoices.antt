@@ -13,7 +13,7 @@ use Rattle.ordered_lists.proofs.Lists.Reordered.{SameElements, from_permutation,
 use Rattle.tl_profile.specs.Choices.{choices, is_either_way, running, shapes}
 use Rattle.tl_profile.specs.Shapes.{least_points}
 use Rattle.tl_profile.specs.ShapeOrder.{AreWalksInOrder, least_walks, points_along}
-use Rattle.tl_profile.specs.declared.directed_chain.DirectedChain.{DirectedChain}
+use Rattle.tl_county.specs.declared.directed_chain.DirectedChain.{DirectedChain}
 use Rattle.tl_profile.proofs.Factorials.{running_is, running-same}
 use Rattle.tl_profile.proofs.ShapePoints.{least_reverse}
 use Rattle.tl_profile.proofs.ShapesOfCounty.{shapes_along}

@@ -8,6 +8,7 @@ use Rattle.tl_county.specs.ChartWords.{points_of}
 use Rattle.tl_county.specs.County.{County}
 use Rattle.ordered_lists.proofs.Lists.Elements.{map-map}
 use Rattle.tl_profile.specs.Choices.{shapes}
+use Rattle.tl_profile.proofs.Places.{along_from}
 use Rattle.tl_profile.specs.Shapes.{least_points}
 use Rattle.tl_profile.specs.ShapeOrder.{least_walk, least_walks, points_along}
 
@@ -31,5 +32,6 @@ shapes_along county =
     here i e got =
         let same : 0 + i ≡ i = omega arith in
         ap (λ n. points_along county (least_walk county n)) same
+        ∙ along_from county (least_walk county i)
         ∙ ap (λ o. least_points (points_of o))
         (slice_get-map (λ (d : ℕ × Chain). d.1) county.chains i ∙ ap (option_map (λ (d : ℕ × Chain). d.1)) got)

@@ -8,7 +8,7 @@ use Rattle.tl_county.specs.County.{County}
 use Rattle.tl_profile.specs.Choices.{is_either_way}
 use Rattle.tl_profile.specs.PointRanks.{IsRankOf}
 use Rattle.tl_profile.specs.ShapeOrder.{points_along}
-use Rattle.tl_profile.specs.declared.directed_chain.DirectedChain.{DirectedChain}
+use Rattle.tl_county.specs.declared.directed_chain.DirectedChain.{DirectedChain}
 use Rattle.tl_profile.specs.declared.shapes.PlacedShape.{PlacedShape}
 
 -- the walk along the chain

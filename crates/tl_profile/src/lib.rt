@@ -6,12 +6,11 @@
 //!
 //! Start with `admit`, or with `admit_in` for a county in an arena. The whole calls use `admit_linked`, which takes what
 //! linking found: the least polygon that is on no side. An `Admitted` county is in the profile and keeps the order of its
-//! chains by their shapes, a `ShapeOrder`, so neither is computed again. `point_along` reads a chain along a `DirectedChain`. The
+//! chains by their shapes, a `ShapeOrder`, so neither is computed again. The
 //! crate `uses` has a proved caller, in `layers.rt`.
 #![tactic(auto)]
 
 mod admission;
-mod directed_chain;
 mod fault;
 mod laws;
 mod open_places;
@@ -21,7 +20,6 @@ mod shapes;
 mod sides;
 
 pub use admission::{Admitted, AdmittedIn, admit, admit_in, admit_linked};
-pub use directed_chain::{DirectedChain, point_along};
 pub use fault::ProfileFault;
 pub use laws::{
     in_profile_or_one_first_broken_clause, same_counties_agree_on_the_profile,

@@ -5,12 +5,11 @@ ghost use Rattle.std.specs.Prelude.{◌≡◌, map, IfOk};
 ghost use Rattle.tl_profile.specs.PlacedShapes.{HasHead, placed_walk};
 ghost use Rattle.tl_profile.specs.ShapeOrder.{AreWalksInOrder, IsShapeOrder};
 
-use crate::directed_chain::DirectedChain;
 use crate::open_places::{OpenPlace, find_choices};
 use crate::shapes::{PlacedShape, ordered_shapes};
 use std::alloc::{AllocError, Global};
 use std::marker::Model;
-use tl_county::Chart;
+use tl_county::{Chart, DirectedChain};
 
 /// The chains of a county in the order of their shapes, each with the direction in which its points are its shape, which is the
 /// lesser of the points and their reverse. It also has the places at which several chains have the same shape, or at which a

@@ -4,16 +4,17 @@
 //! while chains are sorted, and the county is read only if both are equal. Afterwards chains of the same shape are neighbours.
 
 ghost use Rattle.std.specs.List.{AllByRecursion};
-ghost use Rattle.std.specs.Prelude.{◌≡◌, ◌<◌, length, map, IfOk, IsPermutation};
+ghost use Rattle.std.specs.Prelude.{◌≡◌, ◌<◌, length, map, reverse, IfOk, IsPermutation};
 ghost use Rattle.ordered_lists.specs.Orders.{IsInOrder};
 ghost use Rattle.tl_profile.specs.PlacedShapes.{HasHead, beyond_first_cmp, placed_cmp, placed_key_cmp, placed_walk};
-ghost use Rattle.tl_profile.specs.ShapeOrder.{AreWalksInOrder, least_walk, least_walks};
+ghost use Rattle.tl_profile.specs.ShapeOrder.{AreWalksInOrder, least_walk, least_walks, points_along};
+ghost use Rattle.tl_profile.specs.Shapes.{points_at};
+ghost use Rattle.tl_shape.specs.PointOrder.{points_cmp};
 
-use crate::directed_chain::{DirectedChain, compare_reverse, compare_walks, point_along};
 use crate::point_rank::PointRank;
 use std::alloc::{AllocError, Global};
 use std::cmp::Ordering;
-use tl_county::Chart;
+use tl_county::{Chart, DirectedChain, Listed, compare};
 
 /// A chain with the beginning of its shape, in which most shapes differ. Its shape is the lesser of its points and their
 /// reverse.
@@ -43,6 +44,28 @@ impl PlacedShape {
     }
 }
 
+/// Compares the points along two walks. The first points that differ decide; a list comes after each of its beginnings.
+fn compare_walks<C: Chart>(chart: &C, walk: DirectedChain, other: DirectedChain) -> Ordering
+    ensures { result ≡ points_cmp (points_along (C.county chart.now) walk) (points_along (C.county chart.now) other) }
+{
+    compare(&walk.points(chart), &other.points(chart))
+}
+
+/// Compares the points of the chain at a place, in reverse, with the points themselves.
+fn compare_reverse<C: Chart>(chart: &C, place: u32) -> Ordering
+    ensures { let points = points_at (C.county chart.now) place in result ≡ points_cmp (reverse points) points }
+{
+    let backward = DirectedChain {
+        place,
+        turned: true,
+    };
+    let forward = DirectedChain {
+        place,
+        turned: false,
+    };
+    compare_walks(chart, backward, forward)
+}
+
 /// The chain at a place, with the beginning of its shape.
 fn placed_shape<C: Chart>(chart: &C, place: u32) -> PlacedShape
     requires { place < length (C.county chart.now).chains }
@@ -52,9 +75,10 @@ fn placed_shape<C: Chart>(chart: &C, place: u32) -> PlacedShape
     let reversed = compare_reverse(chart, place);
     let turned = reversed.is_lt();
     let walk = DirectedChain { place, turned };
+    let points = walk.points(chart);
     PlacedShape {
-        first: PointRank::of(point_along(chart, walk, 0).unwrap()),
-        second: PointRank::of(point_along(chart, walk, 1).unwrap()),
+        first: PointRank::of(points.item(0)),
+        second: PointRank::of(points.item(1)),
         place,
         turned,
         either_way: reversed.is_eq(),

@@ -20,11 +20,12 @@ use Rattle.ordered_lists.specs.Orders.{in_order}
 use Rattle.tl_county.specs.Laws.KeyOrders.{points_keys}
 use Rattle.ordered_lists.proofs.ByKey.KeyedLists.{lt_reversed}
 use Rattle.ordered_lists.proofs.Lists.Elements.{all_unmap}
+use Rattle.tl_profile.proofs.Places.{along_from}
 use Rattle.tl_profile.specs.ShapeOrder.{AreWalksInOrder, least_walk, points_along, walk_cmp}
 use Rattle.tl_profile.specs.Shapes.{least_points, points_from}
 use Rattle.tl_number.specs.Arrangement.{ascending, entry_shape, comes_turned}
 use Rattle.tl_number.specs.Steps.{arrangement_of, AreSteps, tlid_at}
-use Rattle.tl_profile.specs.declared.directed_chain.DirectedChain.{DirectedChain}
+use Rattle.tl_county.specs.declared.directed_chain.DirectedChain.{DirectedChain}
 use Rattle.tl_number.proofs.Lists.SortedPlaces.{sorted_items, each_item, item_places, places_below}
 
 -- an order of optional values with none first
@@ -69,7 +70,7 @@ module _ (county : County) where
   chain_read i x e = slice_get-map (λ (d : ℕ × Chain). d.1) county.chains i ∙ ap (option_map (λ (d : ℕ × Chain). d.1)) e
 
   along_read : (i : ℕ) (x : ℕ × Chain) → slice_get county.chains i ≡ Some x → points_along county (least_walk county i) ≡ entry_shape x
-  along_read i x e = ap (λ o. least_points (points_of o)) (chain_read i x e)
+  along_read i x e = along_from county (least_walk county i) ∙ ap (λ o. least_points (points_of o)) (chain_read i x e)
 
   turned_read : (i : ℕ) (x : ℕ × Chain) → slice_get county.chains i ≡ Some x → (least_walk county i).turned ≡ comes_turned x.1
   turned_read i x e =

@@ -13,7 +13,7 @@ use Rattle.tl_county.specs.Laws.KeyOrders.{points_keys}
 use Rattle.ordered_lists.proofs.ByKey.Keys.{IsKeyOrder, nat_keys, times-permutation}
 use Rattle.tl_profile.specs.Choices.{is_either_way, is_settled, open_places, place_of}
 use Rattle.tl_profile.specs.ShapeOrder.{AreWalksInOrder, points_along}
-use Rattle.tl_profile.specs.declared.directed_chain.DirectedChain.{DirectedChain}
+use Rattle.tl_county.specs.declared.directed_chain.DirectedChain.{DirectedChain}
 use Rattle.tl_profile.specs.declared.open_places.OpenPlace.{OpenPlace}
 use Rattle.tl_profile.proofs.CountedChoices.{alike_few}
 use Rattle.tl_number.specs.Arrangement.{arranged_tlids}

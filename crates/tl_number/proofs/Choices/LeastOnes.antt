@@ -12,9 +12,9 @@ use Rattle.tl_county.specs.Packing.{packed}
 use Rattle.ordered_lists.proofs.Lists.InOrder.{not_greater}
 use Rattle.tl_profile.specs.Choices.{is_either_way, open_places}
 use Rattle.tl_profile.specs.ShapeOrder.{AreWalksInOrder, points_along}
-use Rattle.tl_profile.specs.declared.directed_chain.DirectedChain.{DirectedChain}
+use Rattle.tl_county.specs.declared.directed_chain.DirectedChain.{DirectedChain}
 use Rattle.tl_profile.specs.declared.open_places.OpenPlace.{OpenPlace}
-use Rattle.tl_profile.proofs.FewChains.{few_chains}
+use Rattle.tl_county.proofs.Limits.FewChains.{few_chains}
 use Rattle.tl_shape.specs.PointOrder.{points_cmp}
 use Rattle.tl_number.specs.Arrangement.{arranged}
 use Rattle.tl_number.specs.LeastNumber.{choice_list}

@@ -35,7 +35,7 @@ use Rattle.tl_number.specs.LandmarkItems.{link_under, lands_at, numbered_links, 
 use Rattle.tl_number.specs.Steps.{arrangement_of}
 use Rattle.tl_number.specs.Uses.{links_of, landmark_key, landmark_key_cmp}
 use Rattle.tl_number.specs.ViewFacts.{AreWhole, AreReadAt, stepped}
-use Rattle.tl_profile.specs.declared.directed_chain.DirectedChain.{DirectedChain}
+use Rattle.tl_county.specs.declared.directed_chain.DirectedChain.{DirectedChain}
 use Rattle.tl_number.proofs.Arrangements.Carrying.{landmarks_permutation, links_arranged, lands_renamed, images-numbered}
 use Rattle.tl_number.proofs.Lists.Counting.{up_to-strict}
 use Rattle.tl_number.proofs.Names.NameOrder.{filter_map_all, then_assoc}

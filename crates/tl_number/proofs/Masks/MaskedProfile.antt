@@ -17,11 +17,12 @@ use Rattle.tl_county.specs.Laws.MaskedCounties.{sides_masked}
 use Rattle.tl_county.proofs.Masks.MaskedReads.{chain_count_masked, points_masked}
 use Rattle.tl_profile.specs.Profile.{is_clause_broken, IsInProfile}
 use Rattle.tl_profile.specs.Choices.{choices, is_either_way, most_choices, open_places, running}
+use Rattle.tl_profile.proofs.Places.{along_from}
 use Rattle.tl_profile.specs.ShapeOrder.{least_walk, least_walks, points_along, walk_cmp, AreWalksInOrder, IsShapeOrder, OrderOfShapes}
 use Rattle.tl_profile.specs.Shapes.{least_points, points_at, points_from}
 use Rattle.tl_profile.proofs.SameChoices.{choices_of_shapes}
 use Rattle.ordered_lists.proofs.Lists.Elements.{map-map}
-use Rattle.tl_profile.specs.declared.directed_chain.DirectedChain.{DirectedChain}
+use Rattle.tl_county.specs.declared.directed_chain.DirectedChain.{DirectedChain}
 use Rattle.tl_profile.specs.declared.fault.ProfileFault.{ProfileFault}
 use Rattle.tl_profile.specs.declared.fault.ProfileFault.TheVariants.{PolygonWithoutChain, TooSymmetric, Memory}
 
@@ -56,18 +57,21 @@ module _ (mask : Mask) (county : County) where
       } in w) (range_with_len 0 (length (masked mask county).chains))) points_kept
       ∙ ap (λ count. map (least_walk county) (range_with_len 0 count)) (chain_count_masked mask county)
 
+  points_along_kept : (walk : DirectedChain) → points_along (masked mask county) walk ≡ points_along county walk
+  points_along_kept walk = along_from (masked mask county) walk ∙ ap (points_from walk.turned) (λ i. points_kept i walk.place)
+      ∙ sym (along_from county walk)
+
+  along_kept : points_along (masked mask county) ≡ points_along county
+  along_kept = λ i walk. points_along_kept walk i
+
   order_kept : walk_cmp (masked mask county) ≡ walk_cmp county
-  order_kept = λ i a b. ordering_then
-      (points_cmp (points_from a.turned (points_kept i a.place)) (points_from b.turned (points_kept i b.place))) (nat_cmp a.place b.place)
+  order_kept = λ i a b. ordering_then (points_cmp (along_kept i a) (along_kept i b)) (nat_cmp a.place b.place)
 
   walks_in_order : (walks : List DirectedChain) → AreWalksInOrder county walks → AreWalksInOrder (masked mask county) walks
   walks_in_order walks h = record {
     all = subst (λ ws. IsPermutation ws walks) (sym walks_kept) h.all;
     in_order = subst (λ cmp. IsInOrder cmp walks) (sym order_kept) h.in_order;
   }
-
-  along_kept : points_along (masked mask county) ≡ points_along county
-  along_kept = λ i walk. points_from walk.turned (points_kept i walk.place)
 
   pub masked_shape_order : (order : OrderOfShapes) → IsShapeOrder county order → IsShapeOrder (masked mask county) order
   masked_shape_order order h = record {

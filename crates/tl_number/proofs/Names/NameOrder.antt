@@ -32,7 +32,7 @@ use Rattle.tl_number.specs.NameItems.{feats_along_steps, from_one, rank_of, rank
 use Rattle.tl_number.specs.Steps.{arrangement_of}
 use Rattle.tl_number.specs.Uses.{Use, use_cmp, all_uses, uses_from, uses_of_name, name_key, name_key_cmp}
 use Rattle.tl_number.specs.ViewFacts.{AreWhole, AreReadAt}
-use Rattle.tl_profile.specs.declared.directed_chain.DirectedChain.{DirectedChain}
+use Rattle.tl_county.specs.declared.directed_chain.DirectedChain.{DirectedChain}
 use Rattle.tl_number.specs.declared.name_order.RankedName.{RankedName}
 use Rattle.tl_number.proofs.Choices.AscendingSteps.{options_total}
 use Rattle.tl_number.proofs.Arrangements.Carrying.{names_permutation}

@@ -15,7 +15,7 @@ use Rattle.tl_county.specs.CountyRules.{IsCounty}
 use Rattle.tl_county.specs.Packing.{packed_i, packed_p}
 use Rattle.tl_county.specs.PolygonKeys.{PolygonKey}
 use Rattle.tl_county.specs.Renumbering.{renumbered}
-use Rattle.tl_profile.specs.declared.directed_chain.DirectedChain.{DirectedChain}
+use Rattle.tl_county.specs.declared.directed_chain.DirectedChain.{DirectedChain}
 use Rattle.tl_number.specs.Arrangement.{placed, renaming_of}
 use Rattle.tl_number.specs.ByStep.{ends_of, sides_of}
 use Rattle.tl_number.specs.ByNumber.{polygons_by_number}
@@ -25,7 +25,6 @@ use Rattle.tl_number.specs.RecordOrder.{AreTiedAt, AreTiedBelow, groups_cmp, lin
 use Rattle.tl_number.specs.Steps.{arrangement_of, step_chain}
 use Rattle.tl_number.specs.ViewFacts.{AreWhole, stepped}
 use Rattle.tl_number.proofs.Arrangements.Carrying.{chains_arranged}
-use Rattle.tl_number.proofs.Choices.KeptPlaces.{same_everywhere}
 use Rattle.tl_number.proofs.Texts.GroupOrders.{records_total}
 use Rattle.tl_number.proofs.Records.PackedGroups.{is}
 use Rattle.tl_number.proofs.Unique.SameNumbers.{kept_entry}
@@ -143,17 +142,6 @@ same_further xs ys end below here place l = go (nat_lt place end) refl
         let past : end ≤ place = ltb-false place end e in
         let same : end ≡ place = omega (arith, l, past) in
         subst (λ k. slice_get xs k ≡ slice_get ys k) same here
-
--- and up to the end of both
-pub same_lists : {X : Type 0} (xs ys : List X) (end : ℕ) → length xs ≤ end → length ys ≤ end
-    → ((place : ℕ) → place < end → slice_get xs place ≡ slice_get ys place) → xs ≡ ys
-same_lists xs ys end xs_end ys_end below = same_everywhere xs ys (λ place. go place (nat_lt place end) refl)
-  where
-    go : (place : ℕ) (b : Bool) → nat_lt place end ≡ b → slice_get xs place ≡ slice_get ys place
-    go place true e = below place (ltb-true place end e)
-    go place false e =
-        let past : end ≤ place = ltb-false place end e in
-        slice_get_past xs place (omega (arith, past, xs_end)) ∙ sym (slice_get_past ys place (omega (arith, past, ys_end)))
 
 -- type I records that are tied up to the last chain of both counties
 pub all_links_tied : (a b : County) (end : ℕ) → length a.chains ≤ end → length b.chains ≤ end

@@ -3,7 +3,6 @@ use Rattle.std.proofs.Common.{◌≡◌, ◌<◌, ◌∙◌, ℕ, List, get_or, 
 use Rattle.std.proofs.lemmas.Option.{slice_get-get_or, slice_get-map}
 use Rattle.std.specs.Ordering.{on}
 use Rattle.tl_layout.specs.Fields.{Fields8}
-use Rattle.tl_layout.specs.PolygonSide.{PolygonSide}
 use Rattle.tl_layout.specs.declared.type5.Body5.{Body5}
 use Rattle.tl_layout.specs.declared.type7.Body7.{Body7}
 use Rattle.tl_layout.specs.declared.type_p.BodyP.{BodyP}
@@ -17,56 +16,21 @@ use Rattle.tl_county.specs.PolygonKeys.{PolygonKey, key_cmp}
 use Rattle.tl_county.specs.Renumbering.{Renumbering, renumbered, renumbered_polygon, side_of}
 use Rattle.ordered_lists.specs.Pairs.{image}
 use Rattle.ordered_lists.proofs.Lists.Elements.{map_agree_everywhere}
-use Rattle.tl_cert.specs.PartsThere.{HaveSameEnds}
 use Rattle.tl_number.specs.Arrangement.{Arrangement, Arranges, arranged, landmarks_in_order, names_in_order, new_keys, nodes_in_order, placed}
 use Rattle.tl_number.specs.Arrangement.{relinked, renaming_of, under_cenid}
-use Rattle.tl_number.specs.ByStep.{ends_of, sides_of}
 use Rattle.tl_number.specs.Growth.{first_seen, numbered}
-use Rattle.tl_number.specs.Steps.{arrangement_of, step_chain}
+use Rattle.tl_number.specs.Steps.{arrangement_of, parts_along, step_chain}
 use Rattle.tl_number.specs.Uses.{all_uses, landmark_key, landmark_key_cmp, name_key, name_key_cmp}
 use Rattle.tl_number.specs.ViewFacts.{AreWhole, stepped}
-use Rattle.tl_profile.specs.declared.directed_chain.DirectedChain.{DirectedChain}
+use Rattle.tl_county.specs.declared.directed_chain.DirectedChain.{DirectedChain}
 use Rattle.tl_number.proofs.Arrangements.Carrying.{chains_arranged, lands_renamed, landmarks_arranged, links_arranged, names_arranged, names_renamed}
 use Rattle.tl_number.proofs.Arrangements.Carrying.{nodes_renamed, polygons_arranged, polygons_renamed}
 use Rattle.tl_number.proofs.Unique.SameNumbers.{kept_entry}
 use Rattle.tl_number.proofs.Views.StepTables.{same_somes}
 use Rattle.tl_number.proofs.Views.ViewChains.{arranges, bodies_read, chains}
 
--- a value read from a part of a chain is read from the chain
-through : {X Y : Type 0} (f : Chain → X) (g : X → Y) (o : Option Chain) → option_map (λ c. g (f c)) o ≡ option_map g (option_map f o)
-through f g None = refl
-through f g (Some c) = refl
-
 pub the_same : {X : Type 0} (x y : X) → Some x ≡ Some y → x ≡ y
 the_same x y e = cc
-
--- chains with the same ends and the same sides, or two missing chains
-pub ends_from : (o p : Option Chain) → option_map ends_of o ≡ option_map ends_of p → option_map sides_of o ≡ option_map sides_of p
-    → HaveSameEnds o p
-ends_from o p ends sides = record {
-  start_node = by_ends (λ e. e.0);
-  end_node = by_ends (λ e. e.1);
-  left = by_sides (λ s. s.0);
-  right = by_sides (λ s. s.1);
-}
-  where
-    by_ends : {Y : Type 0} (g : Option ℕ × Option ℕ → Y) → option_map (λ c. g (ends_of c)) o ≡ option_map (λ c. g (ends_of c)) p
-    by_ends g = through ends_of g o ∙ ap (option_map g) ends ∙ sym (through ends_of g p)
-
-    by_sides : {Y : Type 0} (g : PolygonSide × PolygonSide → Y) → option_map (λ c. g (sides_of c)) o ≡ option_map (λ c. g (sides_of c)) p
-    by_sides g = through sides_of g o ∙ ap (option_map g) sides ∙ sym (through sides_of g p)
-
-pub ends_to : (o p : Option Chain) → HaveSameEnds o p → option_map ends_of o ≡ option_map ends_of p
-ends_to None None h = refl
-ends_to None (Some d) h = let no : None ≡ Some d.start_node = h.start_node in cc
-ends_to (Some c) None h = let no : Some c.start_node ≡ None = h.start_node in cc
-ends_to (Some c) (Some d) h = λ i. Some (the_same c.start_node d.start_node h.start_node i, the_same c.end_node d.end_node h.end_node i)
-
-pub sides_to : (o p : Option Chain) → HaveSameEnds o p → option_map sides_of o ≡ option_map sides_of p
-sides_to None None h = refl
-sides_to None (Some d) h = let no : None ≡ Some d.left = h.left in cc
-sides_to (Some c) None h = let no : Some c.left ≡ None = h.left in cc
-sides_to (Some c) (Some d) h = λ i. Some (the_same c.left d.left h.left i, the_same c.right d.right h.right i)
 
 -- the chain of the step at a place
 pub chain_read : (county : County) (steps : List DirectedChain) (i : ℕ) → i < length steps
@@ -76,7 +40,7 @@ chain_read county steps i there = slice_get-map (step_chain county) steps i
 
 -- and a component of it
 pub part_read : {X : Type 0} (county : County) (part : Option Chain → X) (steps : List DirectedChain) (i : ℕ) → i < length steps
-    → slice_get (map (λ step. part (step_chain county step)) steps) i
+    → slice_get (parts_along part county steps) i
     ≡ Some (part (step_chain county (get_or steps i (record { place = 0; turned = false }))))
 part_read county part steps i there = slice_get-map (λ step. part (step_chain county step)) steps i
     ∙ ap (option_map (λ step. part (step_chain county step))) (slice_get-get_or steps i (record { place = 0; turned = false }) there)

@@ -22,10 +22,10 @@ use Rattle.tl_number.specs.CountyGroups.{type_4_by_chain, type_5_by_name, type_6
 use Rattle.tl_number.specs.Groups.{grouped}
 use Rattle.tl_number.specs.Growth.{numbered}
 use Rattle.tl_number.specs.RecordOrder.{groups_cmp}
-use Rattle.tl_number.specs.Steps.{arrangement_of, feats_along, ranges_along, step_chain}
+use Rattle.tl_number.specs.Steps.{arrangement_of, parts_along, step_chain}
 use Rattle.tl_number.specs.Uses.{all_uses, name_key, name_key_cmp, uses_from}
 use Rattle.tl_number.specs.ViewFacts.{AreWhole, stepped}
-use Rattle.tl_profile.specs.declared.directed_chain.DirectedChain.{DirectedChain}
+use Rattle.tl_county.specs.declared.directed_chain.DirectedChain.{DirectedChain}
 use Rattle.tl_number.proofs.Arrangements.Carrying.{chains_arranged, names_arranged, names_renamed}
 use Rattle.tl_number.proofs.Texts.GroupOrders.{records_total}
 use Rattle.tl_number.proofs.Unique.SameNumbers.{kept_entry}
@@ -85,7 +85,7 @@ module _ (county : County) (is : IsCounty county) (one other : List DirectedChai
     read_along part steps w = sym (map-map part (step_chain county) steps) ∙ ap (map part) (bodies_read county steps is w steps w.there)
         ∙ map-map part Some (chains county steps is w)
 
-    module _ (same : feats_along county one ≡ feats_along county other) where
+    module _ (same : parts_along feats_of county one ≡ parts_along feats_of county other) where
       feats_same : map (λ (c : Chain). c.feats) (chains county one is whole) ≡ map (λ (c : Chain). c.feats) (chains county other is other_whole)
       feats_same = sym (read_along feats_of one whole) ∙ same ∙ read_along feats_of other other_whole
 
@@ -110,7 +110,7 @@ module _ (county : County) (is : IsCounty county) (one other : List DirectedChai
           ∙ (λ j. map (λ (e : ℕ × Body5). (image nat_cmp (names_same j) e.0, e.1)) (names_ordered j))
           ∙ sym (names_arranged county (arrangement_of county other) is (arranges county other is other_whole)))
 
-    pub type_6_same : ranges_along county one ≡ ranges_along county other
+    pub type_6_same : parts_along ranges_of county one ≡ parts_along ranges_of county other
         → type_6_by_chain (stepped county one) ≡ type_6_by_chain (stepped county other)
     type_6_same same = ap (map packed_sixes) (chains_arranged county (arrangement_of county one) is (arranges county one is whole))
         ∙ same_sixes (renaming_of county (arrangement_of county one)) (renaming_of county (arrangement_of county other))
@@ -123,19 +123,19 @@ module _ (a b : County) (stated : a ≡ b) (is : IsCounty a) (one other : List D
   through : (Same : County → Type 0) → ((w : AreWhole a other) → Same a) → AreWhole b other → Same b
   through Same f w = subst Same stated (f (subst (λ c. AreWhole c other) (sym stated) w))
 
-  pub type_4_through : AreWhole b other → feats_along a one ≡ feats_along a other
+  pub type_4_through : AreWhole b other → parts_along feats_of a one ≡ parts_along feats_of a other
       → Equal ≡ groups_cmp Four (type_4_by_chain (stepped a one)) (type_4_by_chain (stepped b other))
   type_4_through w same = through (λ c. Equal ≡ groups_cmp Four (type_4_by_chain (stepped a one)) (type_4_by_chain (stepped c other)))
       (λ v. same_groups Four (type_4_by_chain (stepped a one)) (type_4_by_chain (stepped a other))
       (type_4_same a is one other whole v same)) w
 
-  pub type_5_through : AreWhole b other → feats_along a one ≡ feats_along a other
+  pub type_5_through : AreWhole b other → parts_along feats_of a one ≡ parts_along feats_of a other
       → Equal ≡ groups_cmp Five (type_5_by_name (stepped a one)) (type_5_by_name (stepped b other))
   type_5_through w same = through (λ c. Equal ≡ groups_cmp Five (type_5_by_name (stepped a one)) (type_5_by_name (stepped c other)))
       (λ v. same_groups Five (type_5_by_name (stepped a one)) (type_5_by_name (stepped a other))
       (type_5_same a is one other whole v same)) w
 
-  pub type_6_through : AreWhole b other → ranges_along a one ≡ ranges_along a other
+  pub type_6_through : AreWhole b other → parts_along ranges_of a one ≡ parts_along ranges_of a other
       → Equal ≡ groups_cmp Six (type_6_by_chain (stepped a one)) (type_6_by_chain (stepped b other))
   type_6_through w same = through (λ c. Equal ≡ groups_cmp Six (type_6_by_chain (stepped a one)) (type_6_by_chain (stepped c other)))
       (λ v. same_groups Six (type_6_by_chain (stepped a one)) (type_6_by_chain (stepped a other))

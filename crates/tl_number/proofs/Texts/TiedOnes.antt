@@ -8,7 +8,7 @@ use Rattle.std.specs.Ordering.{ordering_then}
 use Rattle.tl_layout.specs.declared.record_type.Record.{Record}
 use Rattle.tl_county.specs.County.{County}
 use Rattle.tl_county.specs.CountyRules.{IsCounty}
-use Rattle.tl_profile.specs.declared.directed_chain.DirectedChain.{DirectedChain}
+use Rattle.tl_county.specs.declared.directed_chain.DirectedChain.{DirectedChain}
 use Rattle.tl_number.specs.RecordOrder.{AreTiedAt, AreTiedBelow, records_cmp, spelling_cmp}
 use Rattle.tl_number.specs.TypeOneOrder.{one_at, ones_of}
 use Rattle.tl_number.specs.ViewFacts.{AreWhole, stepped}

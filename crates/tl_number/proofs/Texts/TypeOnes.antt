@@ -1,8 +1,6 @@
 -- The type 1 records of a county in an arrangement, from its steps.
 use Rattle.std.proofs.Common.{◌≡◌, ◌<◌, ◌≤◌, ◌+◌, ℕ, zero, suc, List, [], ◌∷◌, map, length, Bool, true, false, Option, Some, None}
 use Rattle.std.proofs.Common.{option_map, slice_get, Equal, sym, refl, ap, ◌∙◌, subst, arith}
-use Rattle.std.proofs.lemmas.Bool.{false≢true}
-use mathlib.Core.Bool.{beq}
 use Rattle.std.proofs.lemmas.Cmp.{nat_list_cmp_total, tied_itself}
 use Rattle.std.proofs.lemmas.List.{length-map, length-reverse}
 use Rattle.std.proofs.lemmas.List.Sorted.{length_permutation}
@@ -13,13 +11,11 @@ use Rattle.tl_layout.specs.declared.record_type.Record.{Record}
 use Rattle.tl_layout.specs.declared.record_type.Record.TheVariants.{One}
 use Rattle.tl_shape.specs.Chain.{Chain}
 use Rattle.tl_shape.specs.Turned.{turned_if}
-use Rattle.tl_county.specs.ChartWords.{points_of}
 use Rattle.tl_county.specs.County.{County}
 use Rattle.tl_county.specs.CountyRules.{IsCounty, tlids}
 use Rattle.tl_county.specs.Limits.{IsWithinLimits, most_records}
 use Rattle.tl_county.specs.Packing.{numbered_from, packed_one}
-use Rattle.tl_profile.specs.ShapeOrder.{points_along}
-use Rattle.tl_profile.specs.declared.directed_chain.DirectedChain.{DirectedChain}
+use Rattle.tl_county.specs.declared.directed_chain.DirectedChain.{DirectedChain}
 use Rattle.tl_number.specs.Arrangement.{arranged_tlids, placed, renaming_of}
 use Rattle.tl_number.specs.RecordOrder.{spelling_cmp}
 use Rattle.tl_number.specs.Steps.{arrangement_of, step_chain, tlid_at}
@@ -29,14 +25,7 @@ use Rattle.tl_number.proofs.Arrangements.Carrying.{chains_arranged}
 use Rattle.tl_number.proofs.Records.ChainPlaces.{chain_there}
 use Rattle.tl_number.proofs.Records.PackedGroups.{ones}
 use Rattle.tl_number.proofs.Unique.SameNumbers.{kept_entry}
-use Rattle.tl_number.proofs.Views.StepChains.{points_stepped}
 use Rattle.tl_number.proofs.Views.ViewChains.{arranges, bodies_read, chains, chains_stepped, read_there}
-
-pub same_turns : (a b : Bool) → beq a b ≡ true → a ≡ b
-same_turns true true e = refl
-same_turns false false e = refl
-same_turns true false e = absurd (false≢true e)
-same_turns false true e = absurd (false≢true e)
 
 -- a record compared with itself, if there is one
 pub same_one : (r : Option Record) → Equal ≡ option_cmp spelling_cmp r r
@@ -48,7 +37,6 @@ pub record StepThere (county : County) (step : DirectedChain) : Type 0 where
   pub chain : Chain
   pub there : step_chain county step ≡ Some chain
   pub two : 2 ≤ length chain.points
-  pub along : points_along county step ≡ chain.points
 
 pub step_there : (county : County) → IsCounty county → IsWithinLimits most_records county → (step : DirectedChain)
     → step.place < length county.chains → StepThere county step
@@ -59,7 +47,6 @@ step_there county is within step h =
       chain = turned_if step.turned at.entry.1;
       there = there;
       two = either step.turned at.entry.1 at.two;
-      along = points_stepped county step ∙ ap points_of there;
     }
   where
     either : (turned : Bool) (chain : Chain) → 2 ≤ length chain.points → 2 ≤ length (turned_if turned chain).points

@@ -8,7 +8,7 @@ use Rattle.ordered_lists.proofs.Lists.Permutations.{apart-permutation_of}
 use Rattle.tl_number.specs.Arrangement.{Arrangement, Arranges, arranged_tlids}
 use Rattle.tl_number.specs.Steps.{AreSteps, arrangement_of}
 use Rattle.tl_number.specs.ViewFacts.{AreWhole, NamesEachOnce}
-use Rattle.tl_profile.specs.declared.directed_chain.DirectedChain.{DirectedChain}
+use Rattle.tl_county.specs.declared.directed_chain.DirectedChain.{DirectedChain}
 use Rattle.tl_number.proofs.Arrangements.ArrangedCounties.{arranged_county}
 use Rattle.tl_number.proofs.Arrangements.ArrangedNumbers.{arrangement_within}
 use Rattle.std.proofs.Common.{List}

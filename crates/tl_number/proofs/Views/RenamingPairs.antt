@@ -14,7 +14,7 @@ use Rattle.tl_number.specs.Growth.{numbered}
 use Rattle.tl_number.specs.LandmarkItems.{lands_at}
 use Rattle.tl_number.specs.Steps.{AreSteps, arrangement_of, tlid_at}
 use Rattle.tl_number.specs.ViewFacts.{AreReadAt}
-use Rattle.tl_profile.specs.declared.directed_chain.DirectedChain.{DirectedChain}
+use Rattle.tl_county.specs.declared.directed_chain.DirectedChain.{DirectedChain}
 use Rattle.tl_number.proofs.Names.NameOrder.{filter_map_all}
 use Rattle.tl_number.proofs.Polygons.PolygonOrder.{read_mapped}
 

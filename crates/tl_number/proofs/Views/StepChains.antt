@@ -1,11 +1,11 @@
 -- The chains of an arrangement given by steps are those at the steps' places.
-use Rattle.std.proofs.Common.{◌≡◌, ◌⊎◌, ◌<◌, ◌≤◌, ◌==◌, ℕ, zero, suc, List, [], ◌∷◌, ◌++◌, map, flat_map, length, Bool, true, false, Option, Some, None}
+use Rattle.std.proofs.Common.{◌≡◌, ◌⊎◌, ◌<◌, ◌≤◌, ◌==◌, ℕ, zero, suc, List, [], ◌∷◌, ◌++◌, map, flat_map, length, Option, Some, None}
 use Rattle.std.proofs.Common.{option_map, slice_get, sym, refl, ap, ap₂, ◌∙◌, inl, inr, arith, append-nil, append_assoc}
 use Rattle.std.proofs.lemmas.Bool.{eq-eqb}
 use Rattle.std.proofs.lemmas.Option.{slice_get-map, get_or_from_slice_get}
 use Rattle.tl_shape.specs.Chain.{Chain}
 use Rattle.tl_shape.specs.Turned.{turned_if}
-use Rattle.tl_county.specs.ChartWords.{chain_at, feats_of, points_of}
+use Rattle.tl_county.specs.ChartWords.{chain_at, feats_of}
 use Rattle.tl_county.specs.County.{County}
 use Rattle.tl_county.specs.CountyRules.{IsCounty, tlids}
 use Rattle.tl_county.specs.Packing.{numbered_from}
@@ -15,21 +15,9 @@ use Rattle.ordered_lists.proofs.ByKey.Keys.{nat_keys, apart_from_sorted}
 use Rattle.ordered_lists.proofs.Lists.Elements.{flat_map_agree}
 use Rattle.tl_county.proofs.Lists.OfNumber.{times-of_number}
 use Rattle.ordered_lists.proofs.Lists.Reordered.{to_filter}
-use Rattle.tl_profile.specs.ShapeOrder.{points_along}
-use Rattle.tl_profile.specs.Shapes.{points_from}
 use Rattle.tl_number.specs.Arrangement.{Arrangement, entries_of, chains_in_order, placed}
 use Rattle.tl_number.specs.Steps.{arrangement_of, AreSteps, tlid_at, step_chain}
-use Rattle.tl_profile.specs.declared.directed_chain.DirectedChain.{DirectedChain}
-
--- the points along a walk are the points of its chain in its direction
-pub points_stepped : (county : County) (step : DirectedChain) → points_along county step ≡ points_of (step_chain county step)
-points_stepped county step = go step.turned (chain_at county step.place)
-  where
-    go : (turned : Bool) (o : Option Chain) → points_from turned (points_of o) ≡ points_of (option_map (turned_if turned) o)
-    go true (Some chain) = refl
-    go false (Some chain) = refl
-    go true None = refl
-    go false None = refl
+use Rattle.tl_county.specs.declared.directed_chain.DirectedChain.{DirectedChain}
 
 -- the element at a place is in the list
 pub among-get : {X : Type 0} (xs : List X) (i : ℕ) (x : X) → slice_get xs i ≡ Some x → Among x xs

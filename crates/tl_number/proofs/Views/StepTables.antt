@@ -17,7 +17,7 @@ use Rattle.tl_number.specs.ByStep.{ends_among, ends_of, nodes_at, polygon_among,
 use Rattle.tl_number.specs.Growth.{first_seen}
 use Rattle.tl_number.specs.Steps.{arrangement_of, step_chain}
 use Rattle.tl_number.specs.ViewFacts.{AreWhole, stepped}
-use Rattle.tl_profile.specs.declared.directed_chain.DirectedChain.{DirectedChain}
+use Rattle.tl_county.specs.declared.directed_chain.DirectedChain.{DirectedChain}
 use Rattle.tl_number.proofs.Polygons.PolygonOrder.{few_polygons}
 use Rattle.tl_number.proofs.Views.StepChains.{flat_map-map}
 use Rattle.tl_number.proofs.Views.ViewChains.{bodies_read, chains, values}

@@ -18,7 +18,7 @@ use Rattle.tl_number.specs.Arrangement.{Arrangement, Arranges, arranged_tlids, e
 use Rattle.tl_number.specs.Growth.{up_to}
 use Rattle.tl_number.specs.Steps.{AreSteps, arrangement_of, step_chain, tlid_at}
 use Rattle.tl_number.specs.ViewFacts.{AreWhole, stepped}
-use Rattle.tl_profile.specs.declared.directed_chain.DirectedChain.{DirectedChain}
+use Rattle.tl_county.specs.declared.directed_chain.DirectedChain.{DirectedChain}
 use Rattle.tl_number.proofs.Arrangements.Carrying.{chains_arranged, tlids_arranged}
 use Rattle.tl_number.proofs.Unique.SameNumbers.{kept_entry}
 use Rattle.tl_number.proofs.Views.StepChains.{one_here}

@@ -9,8 +9,8 @@ use std::alloc::Global;
 use std::process::Abort;
 use tigercanon::{Fault, normalise_with_renaming};
 use tl_cert::Renaming;
-use tl_county::{Chart, LinkedRecords};
-use tl_profile::{Admitted, AdmittedIn, DirectedChain, ShapeOrder};
+use tl_county::{Chart, DirectedChain, LinkedRecords};
+use tl_profile::{Admitted, AdmittedIn, ShapeOrder};
 
 pub(super) struct Link;
 

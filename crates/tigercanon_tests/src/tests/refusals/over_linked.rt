@@ -13,8 +13,8 @@ use bumpalo::Bump;
 use std::alloc::Global;
 use std::process::Abort;
 use tigercanon::Fault;
-use tl_county::{Chart, CountyOver, LinkedRecords, link_in_order};
-use tl_profile::{Admitted, DirectedChain, ProfileFault, admit_linked};
+use tl_county::{Chart, CountyOver, DirectedChain, LinkedRecords, link_in_order};
+use tl_profile::{Admitted, ProfileFault, admit_linked};
 
 /// Admits the county of these linked records.
 fn admit_over<'a>(

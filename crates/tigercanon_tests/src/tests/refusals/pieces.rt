@@ -14,9 +14,9 @@ use std::alloc::{AllocError, Global};
 use std::process::Abort;
 use tigercanon::Fault;
 use tl_cert::Renaming;
-use tl_county::Chart;
+use tl_county::{Chart, DirectedChain};
 use tl_number::{Arranged, arrange, ascending_steps, canonise_alone};
-use tl_profile::{Admitted, DirectedChain};
+use tl_profile::Admitted;
 use tl_write::{CountedOut, write_to};
 
 /// The text of an admitted county, in memory.

@@ -2,14 +2,14 @@ use Rattle.std.proofs.Common.{◌≡◌, true, rules, sym, ap, refl, ◌∙◌, 
 use Rattle.tl_shape.specs.Chain.{Chain}
 use Rattle.ordered_lists.specs.Pairs.{image}
 use Rattle.tl_county.specs.Renumbering.{renumbered_side}
-use Rattle.tl_cert.specs.PartsThere.{chain_towards}
+use Rattle.tl_county.specs.DirectedChains.{directed_chain}
 use Rattle.ordered_lists.proofs.Lists.ByPlace.{decides_same}
 use Rattle.tl_cert.proofs.Towards.{read_renumbered}
 use Rattle.tl_cert.proofs.chains.have_same_ends.Goals as goal
 
 pub returns : goal.returns
 returns g c =
-    let q = chain_towards (g.A.Chart.county c.args.a.now) c.args.place c.args.turned in
+    let q = directed_chain (g.A.Chart.county c.args.a.now) c.args.directed in
     let r = c.args.tables.now in
     let node = option_map (image nat_cmp r.nodes) in
     let right = read_renumbered r (λ (d : Chain). d.right) (renumbered_side r) (λ d. refl) q in
@@ -18,12 +18,12 @@ returns g c =
     let left : c.is_side_there-left.result ≡ true = search rules in
     decides_same c.is_side_there.result c.is_side_there.ensures
     (λ e. record {
-      start_node = sym c.start_node_at.ensures ∙ c.is_node_there-start.ensures.0 start ∙ ap (option_map node) c.start_towards.ensures
+      start_node = sym c.start_node_at.ensures ∙ c.is_node_there-start.ensures.0 start ∙ ap (option_map node) c.start_node.ensures
           ∙ sym (read_renumbered r (λ (d : Chain). d.start_node) node (λ d. refl) q);
-      end_node = sym c.end_node_at.ensures ∙ c.is_node_there-end.ensures.0 end ∙ ap (option_map node) c.end_towards.ensures
+      end_node = sym c.end_node_at.ensures ∙ c.is_node_there-end.ensures.0 end ∙ ap (option_map node) c.end_node.ensures
           ∙ sym (read_renumbered r (λ (d : Chain). d.end_node) node (λ d. refl) q);
-      left = sym c.left_at.ensures ∙ c.is_side_there-left.ensures.0 left ∙ ap (option_map (renumbered_side r)) c.left_towards.ensures
+      left = sym c.left_at.ensures ∙ c.is_side_there-left.ensures.0 left ∙ ap (option_map (renumbered_side r)) c.left.ensures
           ∙ sym (read_renumbered r (λ (d : Chain). d.left) (renumbered_side r) (λ d. refl) q);
-      right = sym c.right_at.ensures ∙ e ∙ ap (option_map (renumbered_side r)) c.right_towards.ensures ∙ sym right;
+      right = sym c.right_at.ensures ∙ e ∙ ap (option_map (renumbered_side r)) c.right.ensures ∙ sym right;
     })
-    (λ h. c.right_at.ensures ∙ h.right ∙ right ∙ ap (option_map (renumbered_side r)) (sym c.right_towards.ensures))
+    (λ h. c.right_at.ensures ∙ h.right ∙ right ∙ ap (option_map (renumbered_side r)) (sym c.right.ensures))

@@ -1,7 +1,7 @@
 use Rattle.std.proofs.Common.{◌≡◌, true, rules, option_map}
 use Rattle.tl_county.specs.ChartWords.{chain_at}
 use Rattle.tl_county.specs.Renumbering.{renumbered}
-use Rattle.tl_cert.specs.PartsThere.{chain_towards}
+use Rattle.tl_county.specs.DirectedChains.{directed_chain}
 use Rattle.ordered_lists.proofs.Lists.ByPlace.{decides_same}
 use Rattle.tl_cert.proofs.Towards.{agree, agree_lists}
 use Rattle.tl_cert.proofs.chains.is_same_chain.Goals as goal
@@ -9,7 +9,7 @@ use Rattle.tl_cert.proofs.chains.is_same_chain.Goals as goal
 pub returns : goal.returns
 returns g c =
     let o = chain_at (g.B.Chart.county c.args.b.now) c.args.other in
-    let p = option_map (renumbered c.args.tables.now) (chain_towards (g.A.Chart.county c.args.a.now) c.args.place c.args.turned) in
+    let p = option_map (renumbered c.args.tables.now) (directed_chain (g.A.Chart.county c.args.a.now) c.args.directed) in
     let content : c.have_same_content-content.result ≡ true = search rules in
     let ends : c.have_same_ends-ends.result ≡ true = search rules in
     decides_same c.have_same_lists.result c.have_same_lists.ensures

@@ -6,5 +6,5 @@ use Rattle.tl_number.proofs.name_order.see_feats.Given as goal
 
 abbrev pub invariant-loop-name : goal.invariant-loop-name
 invariant-loop-name g l =
-    first_seen_after nat_cmp l.feats (drop l.name (feats_of (step_chain (g.C.Chart.county l.chart) l.step))) ≡ first_seen_after nat_cmp
-    l.initial.feats (feats_of (step_chain (g.C.Chart.county l.chart) l.step))
+    first_seen_after nat_cmp l.feats (drop l.name (feats_of (step_chain (g.C.Chart.county l.chart) l.fn.step))) ≡ first_seen_after nat_cmp
+    l.initial.feats (feats_of (step_chain (g.C.Chart.county l.chart) l.fn.step))

@@ -5,7 +5,7 @@ use Rattle.tl_number.proofs.same_chains.have_same_lists.Goals as goal
 pub returns : goal.returns
 returns g c =
     let points : c.have_same_points-points.result ≡ true = search rules in
-    let feats : c.have_same_feats-feats.result ≡ true = search rules in
-    decides_same c.have_same_ranges.result c.have_same_ranges.ensures
-    (λ e. record { points = c.have_same_points-points.ensures.0 points; feats = c.have_same_feats-feats.ensures.0 feats; ranges = e })
+    let feats : c.is_same-feats.result ≡ true = search rules in
+    decides_same c.is_same.result c.is_same.ensures
+    (λ e. record { points = c.have_same_points-points.ensures.0 points; feats = c.is_same-feats.ensures.0 feats; ranges = e })
     (λ h. h.ranges)

@@ -4,7 +4,7 @@ use Rattle.std.specs.Option.{option_cmp}
 use Rattle.tl_number.specs.RecordOrder.{spelling_cmp}
 use Rattle.tl_number.specs.TypeOneOrder.{ones_of}
 use Rattle.tl_number.specs.ViewFacts.{stepped}
-use Rattle.tl_profile.specs.declared.directed_chain.DirectedChain.{DirectedChain}
+use Rattle.tl_county.specs.declared.directed_chain.DirectedChain.{DirectedChain}
 use Rattle.tl_number.proofs.Texts.TiedOnes.{first_untied, tied_more}
 use Rattle.tl_number.proofs.Texts.TypeOnes.{length_whole, ones_stepped}
 use Rattle.tl_number.proofs.type_1_order.compare_at_open.Goals as goal

@@ -5,11 +5,11 @@ use Rattle.tl_number.specs.ViewFacts.{stepped}
 use Rattle.tl_number.proofs.Texts.LinkOrder.{same_polygons}
 use Rattle.tl_number.proofs.type_i_and_p_order.compare_polygons.Goals as goal
 
-pub returns-then-have_same_numbers : goal.returns-then-have_same_numbers
-returns-then-have_same_numbers g c =
+pub returns-then-are_same : goal.returns-then-are_same
+returns-then-are_same g c =
     let a = stepped (g.A.Chart.county c.args.a.now.chart) c.args.a.now.steps.items in
     let b = stepped (g.B.Chart.county c.args.b.now.chart) c.args.b.now.steps.items in
     same_polygons a b
     (sym c.args.a.now.polygons_stated.by_number
-    ∙ ap₂ (λ county numbers. map (under_number county) (numbered numbers)) c.requires (c.have_same_numbers.ensures c.if-have_same_numbers.true)
+    ∙ ap₂ (λ county numbers. map (under_number county) (numbered numbers)) c.requires (c.are_same.ensures.0 c.if-are_same.true)
     ∙ c.args.b.now.polygons_stated.by_number)

@@ -1,12 +1,14 @@
-use Rattle.std.proofs.Common.{◌∙◌, sym}
+use Rattle.std.proofs.Common.{◌≡◌, ◌∙◌, true, rules, sym}
 use Rattle.tl_number.proofs.Texts.LinkOrder.{same_link_through}
 use Rattle.tl_number.proofs.type_i_and_p_order.is_same_link.Goals as goal
 
 pub returns : goal.returns
 returns g c = λ yes.
+    let steps : c.is_same-steps.result ≡ true = search rules in
+    let ends : c.is_same-ends.result ≡ true = search rules in
     same_link_through (g.A.Chart.county c.args.a.now.chart) (g.B.Chart.county c.args.b.now.chart) c.requires
     (g.met.A.Chart.is_county c.args.a.now.chart) c.args.a.now.steps.items c.args.b.now.steps.items c.args.a.now.whole c.args.b.now.whole
     c.args.place
-    (sym c.step_at.ensures ∙ c.is_same_step.ensures.0 c.if-not-is_same_step.false ∙ c.step_at-2.ensures)
-    (sym c.ends_at.ensures ∙ c.has_same_ends.ensures.0 c.if-not-has_same_ends.false ∙ c.ends_at-2.ensures)
-    (sym c.sides_at.ensures ∙ c.has_same_sides.ensures.0 yes ∙ c.sides_at-2.ensures)
+    (sym c.step_at.ensures ∙ c.is_same-steps.ensures.0 steps ∙ c.step_at-2.ensures)
+    (sym c.ends_at.ensures ∙ c.is_same-ends.ensures.0 ends ∙ c.ends_at-2.ensures)
+    (sym c.sides_at.ensures ∙ c.is_same.ensures.0 yes ∙ c.sides_at-2.ensures)

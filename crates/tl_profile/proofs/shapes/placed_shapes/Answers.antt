@@ -4,7 +4,7 @@ use Rattle.std.proofs.lemmas.List.{map-append}
 use Rattle.std.proofs.lemmas.List.FromFn.{map-range_with_len_more}
 use Rattle.tl_profile.specs.ShapeOrder.{least_walk}
 use Rattle.tl_profile.specs.PlacedShapes.{HasHead, placed_walk}
-use Rattle.tl_profile.proofs.FewChains.{few_chains}
+use Rattle.tl_county.proofs.Limits.FewChains.{few_chains}
 use Rattle.tl_profile.proofs.Places.{all_next}
 use Rattle.tl_profile.proofs.shapes.placed_shapes.Goals as goal
 

@@ -1,12 +1,18 @@
-use Rattle.std.proofs.Common.{◌≡◌, ap, ◌∙◌, nat_cmp, option_map}
+use Rattle.std.proofs.Common.{◌≡◌, ap, ◌∙◌, nat_cmp, option_map, arith}
 use Rattle.tl_shape.specs.Turned.{turned_if}
 use Rattle.tl_county.specs.ChartWords.{chain_at, chain_under}
 use Rattle.ordered_lists.specs.Pairs.{image}
 use Rattle.tl_county.specs.Renumbering.{turns, renumbered}
 use Rattle.tl_cert.specs.PartsThere.{chain_carried}
+use Rattle.tl_county.proofs.Limits.FewChains.{few_chains}
 use Rattle.ordered_lists.proofs.Lists.ByPlace.{decides_over}
 use Rattle.tl_cert.proofs.Places.{decides_entry}
 use Rattle.tl_cert.proofs.chains.ChainsTested.holds.Goals as goal
+
+pub overflow_cast-directed : goal.overflow_cast-directed
+overflow_cast-directed g c =
+    let chart = c.args.self.now.a.now in
+    omega (arith, few_chains (g.A.Chart.county chart) (g.met.A.Chart.within_limits chart), c.requires)
 
 pub returns : goal.returns
 returns g c =
@@ -19,6 +25,7 @@ returns g c =
     (option_map (turned_if (turns r number)) value))
     c.is_same_chain.result
     (decides_over c.is_same_chain.result (chain_at b c.chain_place_or_end-other.result) (chain_under b (image nat_cmp r.chains tlid))
-    (chain_carried r a c.args.place c.is_turned-turned.result) (chain_carried r a c.args.place (turns r tlid))
+    (chain_carried r a (record { place = c.args.place; turned = c.is_turned.result }))
+    (chain_carried r a (record { place = c.args.place; turned = turns r tlid }))
     (c.chain_place_or_end-other.ensures ∙ ap (chain_under b) c.tlid.ensures)
-    (ap (chain_carried r a c.args.place) c.is_turned-turned.ensures) c.is_same_chain.ensures)
+    (ap (λ turned. chain_carried r a (record { place = c.args.place; turned = turned })) c.is_turned.ensures) c.is_same_chain.ensures)

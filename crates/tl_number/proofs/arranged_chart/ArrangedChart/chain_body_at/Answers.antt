@@ -5,7 +5,7 @@ use Rattle.tl_number.proofs.arranged_chart.ArrangedChart.chain_body_at.Goals as 
 
 pub returns-in-Some : goal.returns-in-Some
 returns-in-Some g c =
-    c.body_of_step.ensures
+    c.body.ensures
     ∙ stated (g.C.Chart.county c.args.self.now.chart) c.args.self.now.steps.items
     (g.met.C.Chart.is_county c.args.self.now.chart) c.args.self.now.whole
     (λ (o : Option Chain). option_map (λ (chain : Chain). chain.body) o) (λ (o : Option Chain). option_map (λ

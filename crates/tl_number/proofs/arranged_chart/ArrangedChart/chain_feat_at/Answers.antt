@@ -12,7 +12,7 @@ pub returns-in-Some : goal.returns-in-Some
 returns-in-Some g c =
     let county = g.C.Chart.county c.args.self.now.chart in
     let renaming = renaming_of county (arrangement_of county c.args.self.now.steps.items) in
-    c.renumbered_feat.ensures ∙ ap (option_map (image nat_cmp renaming.names)) c.feat_of_step.ensures
+    c.renumbered_feat.ensures ∙ ap (option_map (image nat_cmp renaming.names)) (c.get.ensures ∙ ap (λ feats. slice_get feats c.args.name) c.feats.ensures)
     ∙ stated (g.C.Chart.county c.args.self.now.chart) c.args.self.now.steps.items
     (g.met.C.Chart.is_county c.args.self.now.chart) c.args.self.now.whole
     (λ (o : Option Chain). slice_get (feats_of o) c.args.name) (λ (o : Option Chain). option_map (image nat_cmp renaming.names)

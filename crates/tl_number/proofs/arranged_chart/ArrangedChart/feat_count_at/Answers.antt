@@ -1,4 +1,4 @@
-use Rattle.std.proofs.Common.{◌∙◌, Option, length, sym}
+use Rattle.std.proofs.Common.{◌∙◌, Option, length, sym, ap}
 use Rattle.tl_county.specs.ChartWords.{feats_of}
 use Rattle.std.proofs.lemmas.List.{length-map}
 use Rattle.tl_shape.specs.Chain.{Chain}
@@ -7,7 +7,7 @@ use Rattle.tl_number.proofs.arranged_chart.ArrangedChart.feat_count_at.Goals as 
 
 pub returns-in-Some : goal.returns-in-Some
 returns-in-Some g c =
-    c.feat_count_of_step.ensures
+    c.count.ensures ∙ ap length c.feats.ensures
     ∙ stated (g.C.Chart.county c.args.self.now.chart) c.args.self.now.steps.items
     (g.met.C.Chart.is_county c.args.self.now.chart) c.args.self.now.whole
     (λ (o : Option Chain). length (feats_of o)) (λ (o : Option Chain). length (feats_of o)) (λ chain. sym

@@ -5,7 +5,7 @@ use Rattle.tl_number.proofs.arranged_chart.ArrangedChart.link_body_at.Goals as g
 
 pub returns-in-Some : goal.returns-in-Some
 returns-in-Some g c =
-    c.link_body_of_step.ensures
+    c.link_body.ensures
     ∙ stated (g.C.Chart.county c.args.self.now.chart) c.args.self.now.steps.items
     (g.met.C.Chart.is_county c.args.self.now.chart) c.args.self.now.whole
     (λ (o : Option Chain). option_map (λ (chain : Chain). chain.topology) o) (λ (o : Option Chain). option_map (λ

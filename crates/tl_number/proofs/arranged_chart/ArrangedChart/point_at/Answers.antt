@@ -1,14 +1,12 @@
 use Rattle.std.proofs.Common.{refl, ap, ◌∙◌, Option, slice_get}
 use Rattle.tl_county.specs.ChartWords.{points_of}
 use Rattle.tl_shape.specs.Chain.{Chain}
-use Rattle.tl_number.proofs.Views.StepChains.{points_stepped}
 use Rattle.tl_number.proofs.Views.ViewChains.{stated, unstated}
 use Rattle.tl_number.proofs.arranged_chart.ArrangedChart.point_at.Goals as goal
 
 pub returns-in-Some : goal.returns-in-Some
 returns-in-Some g c =
-    c.point_along.ensures
-    ∙ ap (λ points. slice_get points c.args.point) (points_stepped (g.C.Chart.county c.args.self.now.chart) c.in-Some.step)
+    c.get.ensures ∙ ap (λ points. slice_get points c.args.point) c.points.ensures
     ∙ stated (g.C.Chart.county c.args.self.now.chart) c.args.self.now.steps.items
     (g.met.C.Chart.is_county c.args.self.now.chart) c.args.self.now.whole
     (λ (o : Option Chain). slice_get (points_of o) c.args.point) (λ (o : Option Chain). slice_get (points_of o) c.args.point)

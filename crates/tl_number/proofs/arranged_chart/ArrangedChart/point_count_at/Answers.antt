@@ -1,4 +1,4 @@
-use Rattle.std.proofs.Common.{refl, ◌∙◌, Option, length}
+use Rattle.std.proofs.Common.{refl, ap, ◌∙◌, Option, length}
 use Rattle.tl_county.specs.ChartWords.{points_of}
 use Rattle.tl_shape.specs.Chain.{Chain}
 use Rattle.tl_number.proofs.Views.ViewChains.{stated, unstated}
@@ -6,7 +6,7 @@ use Rattle.tl_number.proofs.arranged_chart.ArrangedChart.point_count_at.Goals as
 
 pub returns-in-Some : goal.returns-in-Some
 returns-in-Some g c =
-    c.point_count_of_step.ensures
+    c.count.ensures ∙ ap length c.points.ensures
     ∙ stated (g.C.Chart.county c.args.self.now.chart) c.args.self.now.steps.items
     (g.met.C.Chart.is_county c.args.self.now.chart) c.args.self.now.whole
     (λ (o : Option Chain). length (points_of o)) (λ (o : Option Chain). length (points_of o))

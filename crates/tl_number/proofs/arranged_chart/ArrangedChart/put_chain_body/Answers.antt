@@ -8,8 +8,8 @@ use Rattle.tl_number.specs.ViewFacts.{stepped}
 use Rattle.tl_shape.specs.Chain.{Chain}
 use Rattle.tl_number.proofs.arranged_chart.ArrangedChart.put_chain_body.Goals as goal
 
-pub put_body_of_step-requires-clause-place : goal.put_body_of_step-requires-clause-place
-put_body_of_step-requires-clause-place g c =
+pub put_body-requires-clause-place : goal.put_body-requires-clause-place
+put_body-requires-clause-place g c =
     let view = c.args.self.now in
     all_at (λ step. step.place < length (g.C.Chart.county view.chart).chains) view.steps.items c.args.place c.in-Some.step view.whole.there
     (sym c.in-Some.ensures)
@@ -17,7 +17,7 @@ put_body_of_step-requires-clause-place g c =
 pub returns-in-Some : goal.returns-in-Some
 returns-in-Some g c =
     let seen : Chain → List ℕ = λ chain. joined (take 15 c.args.out.now) (body_1_texts (body_towards c.args.turned chain.body)) in
-    c.put_body_of_step.ensures
+    c.put_body.ensures
     ∙ stated (g.C.Chart.county c.args.self.now.chart) c.args.self.now.steps.items
     (g.met.C.Chart.is_county c.args.self.now.chart) c.args.self.now.whole
     (λ (o : Option Chain). option_map seen o) (λ (o : Option Chain). option_map seen o) (λ chain. refl) c.args.place c.in-Some.step

@@ -1,4 +1,4 @@
-use Rattle.std.proofs.Common.{refl, ◌∙◌, Option, slice_get}
+use Rattle.std.proofs.Common.{refl, ap, ◌∙◌, Option, slice_get}
 use Rattle.tl_county.specs.ChartWords.{ranges_of}
 use Rattle.tl_shape.specs.Chain.{Chain}
 use Rattle.tl_number.proofs.Views.ViewChains.{stated, unstated}
@@ -6,7 +6,7 @@ use Rattle.tl_number.proofs.arranged_chart.ArrangedChart.range_at.Goals as goal
 
 pub returns-in-Some : goal.returns-in-Some
 returns-in-Some g c =
-    c.range_of_step.ensures
+    c.get.ensures ∙ ap (λ ranges. slice_get ranges c.args.range) c.ranges-in-Some.ensures
     ∙ stated (g.C.Chart.county c.args.self.now.chart) c.args.self.now.steps.items
     (g.met.C.Chart.is_county c.args.self.now.chart) c.args.self.now.whole
     (λ (o : Option Chain). slice_get (ranges_of o) c.args.range) (λ (o : Option Chain). slice_get (ranges_of o) c.args.range)
