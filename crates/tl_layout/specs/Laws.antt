@@ -19,3 +19,4 @@ pub mod RecordLaws
 pub mod TurnedFits
 pub mod MaskLaws
 pub mod TabledLaws
+pub mod RecordTypeLaws

@@ -36,4 +36,5 @@ pub mod Limits
 pub mod Turned
 pub mod Masked
 pub mod ByType
+pub mod RecordTypes
 pub mod Tables

@@ -2,27 +2,19 @@
 use Rattle.std.specs.Prelude.{All}
 use Rattle.std.proofs.lemmas.List.Elements.{All-nil, All-cons}
 use Rattle.tl_layout.specs.Limits.{IsWithinLimit}
-use Rattle.std.proofs.Common.{◌≡◌, ℕ, Bool, true, false, cond, List, [], ◌∷◌, take, Result, Ok, Err, refl, sym, ap, ◌∙◌, eqb}
+use Rattle.std.proofs.Common.{◌≡◌, ◌⊎◌, ℕ, Bool, true, false, cond, List, [], ◌∷◌, take, Result, Ok, Err, refl, sym, ap, ◌∙◌, eqb}
+use Rattle.std.proofs.Common.{subst, inl, inr}
 use Rattle.std.specs.List.{AllByRecursion}
 use Rattle.std.proofs.lemmas.Bool.{eqb-true, eqb-false, ne_eqb}
-use Rattle.tl_layout.specs.RecordTables.{rtype_1, rtype_2, rtype_4, rtype_5, rtype_6, rtype_7, rtype_8, rtype_i, rtype_p}
-use Rattle.tl_layout.specs.RecordTables.{len_1, len_2, len_4, len_5, len_6, len_7, len_8, len_i, len_p}
+use Rattle.tl_layout.specs.FieldFaults.{IsLeftmostFault}
 use Rattle.tl_layout.specs.RecordText.{type_of, FitsRecord}
+use Rattle.tl_layout.specs.RecordTypes.{RecordType, Type1, Type2, Type4, Type5, Type6, Type7, Type8, TypeI, TypeP, types, FieldsOf, byte_of}
+use Rattle.tl_layout.specs.RecordTypes.{line_length, table_of, SpellsFields, reading_of, record_of}
+use Rattle.tl_layout.specs.Laws.RecordTypeLaws.{every_record, type_of_record, record_exact, layout_laws}
 use Rattle.tl_layout.specs.declared.record_type.Record.{Record}
-use Rattle.tl_layout.specs.declared.record_type.Record.TheVariants.{One, Two, Four, Five, Six, Seven, Eight, I, P}
-use Rattle.tl_layout.specs.Type1.{type_1_reading, SpellsType1}
-use Rattle.tl_layout.specs.Type2.{type_2_reading, SpellsType2}
-use Rattle.tl_layout.specs.Type4.{type_4_reading, SpellsType4}
-use Rattle.tl_layout.specs.Type5.{type_5_reading, SpellsType5}
-use Rattle.tl_layout.specs.Type6.{type_6_reading, SpellsType6}
-use Rattle.tl_layout.specs.Type7.{type_7_reading, SpellsType7}
-use Rattle.tl_layout.specs.Type8.{type_8_reading, SpellsType8}
-use Rattle.tl_layout.specs.TypeI.{type_i_reading, SpellsTypeI}
-use Rattle.tl_layout.specs.TypeP.{type_p_reading, SpellsTypeP}
-use Rattle.tl_layout.specs.Laws.TypeLaws.{type_1_laws, type_2_laws, type_4_laws, type_5_laws, type_6_laws, type_7_laws, type_8_laws, type_i_laws, type_p_laws}
 use Rattle.tl_load.specs.declared.fault.LineFault.{LineFault}
 use Rattle.tl_load.specs.declared.fault.LineFault.TheVariants as line_faults
-use Rattle.tl_load.specs.LineOf.{judged_as}
+use Rattle.tl_load.specs.LineOf.{IsLineOf, IsFaultIn, judged_as}
 use Rattle.tl_load.specs.Choice.{as_record, judged_by, judged, tiger}
 use Rattle.tl_load.specs.Places.{PlacedLine, placed_lines}
 use Rattle.tl_load.specs.Outcome.{AreLinesSpelled, Spells, SpellsWithin}
@@ -33,32 +25,42 @@ use Rattle.tl_load.proofs.LineLaws.{Reading, judged_is_line, line_is_judged, lin
 
 -- ---- the layouts
 
-reading_1 : Reading rtype_1 len_1 type_1_reading SpellsType1
-reading_1 = record { found = λ l r is e. (type_1_laws.reads_spelled l r is e).1; only = λ l r is h. type_1_laws.spelled_is_read l r is h }
+-- how a line of this type is judged
+abbrev judged_of : (t : RecordType) → List ℕ → Result (FieldsOf t) LineFault
+judged_of t line = judged_as (line_length t) (reading_of t) line
 
-reading_2 : Reading rtype_2 len_2 type_2_reading SpellsType2
-reading_2 = record { found = λ l r is e. (type_2_laws.reads_spelled l r is e).1; only = λ l r is h. type_2_laws.spelled_is_read l r is h }
+-- what a layout promises about its reading
+layout_reading : (t : RecordType) → Reading (byte_of t) (line_length t) (reading_of t) (SpellsFields t)
+layout_reading t = record {
+  found = λ l r is e. ((layout_laws t).reads_spelled l r is e).1;
+  only = λ l r is h. (layout_laws t).spelled_is_read l r is h;
+}
 
-reading_4 : Reading rtype_4 len_4 type_4_reading SpellsType4
-reading_4 = record { found = λ l r is e. (type_4_laws.reads_spelled l r is e).1; only = λ l r is h. type_4_laws.spelled_is_read l r is h }
+-- a line with a record of a type is a line of that type
+line_of_type : (t : RecordType) (line : List ℕ) (fields : FieldsOf t)
+    → HasRecord line (record_of t fields) ≡ IsLineOf (byte_of t) (line_length t) (SpellsFields t) line fields
+unfolding HasRecord
+line_of_type Type1 line fields = refl
+line_of_type _ line fields = refl
 
-reading_5 : Reading rtype_5 len_5 type_5_reading SpellsType5
-reading_5 = record { found = λ l r is e. (type_5_laws.reads_spelled l r is e).1; only = λ l r is h. type_5_laws.spelled_is_read l r is h }
+-- a line that begins with the byte of a type is judged as a line of that type
+judged_by_own : (t : RecordType) (line : List ℕ) → judged_by (byte_of t) line ≡ as_record (record_of t) (judged_of t line)
+unfolding judged_by
+judged_by_own Type1 line = refl
+judged_by_own _ line = refl
 
-reading_6 : Reading rtype_6 len_6 type_6_reading SpellsType6
-reading_6 = record { found = λ l r is e. (type_6_laws.reads_spelled l r is e).1; only = λ l r is h. type_6_laws.spelled_is_read l r is h }
-
-reading_7 : Reading rtype_7 len_7 type_7_reading SpellsType7
-reading_7 = record { found = λ l r is e. (type_7_laws.reads_spelled l r is e).1; only = λ l r is h. type_7_laws.spelled_is_read l r is h }
-
-reading_8 : Reading rtype_8 len_8 type_8_reading SpellsType8
-reading_8 = record { found = λ l r is e. (type_8_laws.reads_spelled l r is e).1; only = λ l r is h. type_8_laws.spelled_is_read l r is h }
-
-reading_i : Reading rtype_i len_i type_i_reading SpellsTypeI
-reading_i = record { found = λ l r is e. (type_i_laws.reads_spelled l r is e).1; only = λ l r is h. type_i_laws.spelled_is_read l r is h }
-
-reading_p : Reading rtype_p len_p type_p_reading SpellsTypeP
-reading_p = record { found = λ l r is e. (type_p_laws.reads_spelled l r is e).1; only = λ l r is h. type_p_laws.spelled_is_read l r is h }
+-- the fault of a line that begins with the byte of a type
+fault_of_type : (t : RecordType) (line : List ℕ) (fault : LineFault) → BeginsWith (byte_of t) line
+    → IsFaultIn (line_length t) (IsLeftmostFault (table_of t)) line fault → IsFaultOfLine line fault
+fault_of_type Type1 line fault = of_type_1
+fault_of_type Type2 line fault = of_type_2
+fault_of_type Type4 line fault = of_type_4
+fault_of_type Type5 line fault = of_type_5
+fault_of_type Type6 line fault = of_type_6
+fault_of_type Type7 line fault = of_type_7
+fault_of_type Type8 line fault = of_type_8
+fault_of_type TypeI line fault = of_type_i
+fault_of_type TypeP line fault = of_type_p
 
 pub by_first : (rtype : ℕ) (line : List ℕ) → take 1 line ≡ rtype ∷ [] → judged line ≡ judged_by rtype line
 unfolding judged
@@ -67,91 +69,60 @@ by_first rtype (b ∷ line) e = let same : b ≡ rtype = cc in ap (λ (t : ℕ).
 
 -- ---- the choice
 
+-- how a line is judged if it begins with the byte of one of these types
+abbrev judged_among : List RecordType → ℕ → List ℕ → Result Record LineFault
+judged_among [] rtype line = Err line_faults.UnknownType
+judged_among (t ∷ ts) rtype line = cond (eqb rtype (byte_of t)) (as_record (record_of t) (judged_of t line)) (judged_among ts rtype line)
+
+judged_among_all : (rtype : ℕ) (line : List ℕ) → judged_by rtype line ≡ judged_among types rtype line
+unfolding judged_by
+judged_among_all rtype line = refl
+
 -- the record that a layout returns has its type
-typed_record : {R : Type 0} (rtype t : ℕ) (wrap : R → Record) → ((x : R) → type_of (wrap x) ≡ t)
-    → (v : Result R LineFault) (rest : Result Record LineFault) (r : Record)
-    → cond (eqb rtype t) (as_record wrap v) rest ≡ Ok r → (rest ≡ Ok r → type_of r ≡ rtype) → type_of r ≡ rtype
-typed_record {R} rtype t wrap typed v rest r e later = go (eqb rtype t) refl v e
+typed_among : (ts : List RecordType) (rtype : ℕ) (line : List ℕ) (r : Record) → judged_among ts rtype line ≡ Ok r → type_of r ≡ rtype
+typed_among [] rtype line r e = absurd cc
+typed_among (t ∷ ts) rtype line r e = go (eqb rtype (byte_of t)) refl (judged_of t line) e (typed_among ts rtype line r)
   where
-    go : (b : Bool) → eqb rtype t ≡ b → (w : Result R LineFault) → cond b (as_record wrap w) rest ≡ Ok r → type_of r ≡ rtype
-    go true is (Ok x) h = let same : wrap x ≡ r = cc in ap type_of (sym same) ∙ typed x ∙ sym (eqb-true rtype t is)
-    go true is (Err f) h = absurd cc
-    go false is w h = later h
+    go : (b : Bool) → eqb rtype (byte_of t) ≡ b → (v : Result (FieldsOf t) LineFault)
+        → cond b (as_record (record_of t) v) (judged_among ts rtype line) ≡ Ok r
+        → (judged_among ts rtype line ≡ Ok r → type_of r ≡ rtype) → type_of r ≡ rtype
+    go true is (Ok fields) h later = let same : record_of t fields ≡ r = cc in
+        ap type_of (sym same) ∙ type_of_record t fields ∙ sym (eqb-true rtype (byte_of t) is)
+    go true is (Err f) h later = absurd cc
+    go false is v h later = later h
 
-no_record : (r : Record) → ◌≡◌ {A = Result Record LineFault} (Err line_faults.UnknownType) (Ok r) → ⊥
-no_record r e = cc
-
-typed_by : (rtype : ℕ) (line : List ℕ) (r : Record) → judged_by rtype line ≡ Ok r → type_of r ≡ rtype
-unfolding judged_by type_of
-typed_by rtype line r e =
-    typed_record rtype rtype_1 One (λ x. refl) (judged_as len_1 type_1_reading line) _ r e (λ e0.
-    typed_record rtype rtype_2 Two (λ x. refl) (judged_as len_2 type_2_reading line) _ r e0 (λ e1.
-    typed_record rtype rtype_4 Four (λ x. refl) (judged_as len_4 type_4_reading line) _ r e1 (λ e2.
-    typed_record rtype rtype_5 Five (λ x. refl) (judged_as len_5 type_5_reading line) _ r e2 (λ e3.
-    typed_record rtype rtype_6 Six (λ x. refl) (judged_as len_6 type_6_reading line) _ r e3 (λ e4.
-    typed_record rtype rtype_7 Seven (λ x. refl) (judged_as len_7 type_7_reading line) _ r e4 (λ e5.
-    typed_record rtype rtype_8 Eight (λ x. refl) (judged_as len_8 type_8_reading line) _ r e5 (λ e6.
-    typed_record rtype rtype_i I (λ x. refl) (judged_as len_i type_i_reading line) _ r e6 (λ e7.
-    typed_record rtype rtype_p P (λ x. refl) (judged_as len_p type_p_reading line) _ r e7 (λ e8.
-    absurd (no_record r e8))))))))))
-
-unwrapped : {R : Type 0} (wrap : R → Record) → ((x y : R) → wrap x ≡ wrap y → x ≡ y) → (v : Result R LineFault) (r : R)
-    → as_record wrap v ≡ Ok (wrap r) → v ≡ Ok r
-unwrapped {R} wrap apart (Ok x) r e = let same : wrap x ≡ wrap r = cc in ap (λ (z : R). Ok z) (apart x r same)
-unwrapped wrap apart (Err f) r e = absurd cc
-
-first_byte : (b : ℕ) (line : List ℕ) → take 1 (b ∷ line) ≡ b ∷ []
-first_byte b line = refl
-
--- a line that begins with the type of its record has that record
-has_record : (line : List ℕ) (r : Record) → take 1 line ≡ type_of r ∷ [] → judged_by (type_of r) line ≡ Ok r → HasRecord line r
-unfolding judged_by type_of HasRecord
-has_record line (One r) begins e =
-    judged_is_line rtype_1 len_1 type_1_reading SpellsType1 reading_1 line r begins (unwrapped One (λ x y h. cc) _ r e)
-has_record line (Two r) begins e =
-    judged_is_line rtype_2 len_2 type_2_reading SpellsType2 reading_2 line r begins (unwrapped Two (λ x y h. cc) _ r e)
-has_record line (Four r) begins e =
-    judged_is_line rtype_4 len_4 type_4_reading SpellsType4 reading_4 line r begins (unwrapped Four (λ x y h. cc) _ r e)
-has_record line (Five r) begins e =
-    judged_is_line rtype_5 len_5 type_5_reading SpellsType5 reading_5 line r begins (unwrapped Five (λ x y h. cc) _ r e)
-has_record line (Six r) begins e =
-    judged_is_line rtype_6 len_6 type_6_reading SpellsType6 reading_6 line r begins (unwrapped Six (λ x y h. cc) _ r e)
-has_record line (Seven r) begins e =
-    judged_is_line rtype_7 len_7 type_7_reading SpellsType7 reading_7 line r begins (unwrapped Seven (λ x y h. cc) _ r e)
-has_record line (Eight r) begins e =
-    judged_is_line rtype_8 len_8 type_8_reading SpellsType8 reading_8 line r begins (unwrapped Eight (λ x y h. cc) _ r e)
-has_record line (I r) begins e =
-    judged_is_line rtype_i len_i type_i_reading SpellsTypeI reading_i line r begins (unwrapped I (λ x y h. cc) _ r e)
-has_record line (P r) begins e =
-    judged_is_line rtype_p len_p type_p_reading SpellsTypeP reading_p line r begins (unwrapped P (λ x y h. cc) _ r e)
+unwrapped : (t : RecordType) (v : Result (FieldsOf t) LineFault) (fields : FieldsOf t)
+    → as_record (record_of t) v ≡ Ok (record_of t fields) → v ≡ Ok fields
+unwrapped t (Ok others) fields e =
+    let same : record_of t others ≡ record_of t fields = cc in ap (λ (z : FieldsOf t). Ok z) (record_exact t others fields same)
+unwrapped t (Err f) fields e = absurd cc
 
 pub record_of_judged : (line : List ℕ) (r : Record) → judged line ≡ Ok r → HasRecord line r
 unfolding judged
 record_of_judged [] r e = absurd cc
 record_of_judged (b ∷ line) r e =
-    let typed = typed_by b (b ∷ line) r e in
-    has_record (b ∷ line) r (ap (λ (t : ℕ). t ∷ []) (sym typed)) (ap (λ (t : ℕ). judged_by t (b ∷ line)) typed ∙ e)
+    every_record (λ r. judged_by b (b ∷ line) ≡ Ok r → type_of r ≡ b → HasRecord (b ∷ line) r) found r e
+    (typed_among types b (b ∷ line) r (sym (judged_among_all b (b ∷ line)) ∙ e))
+  where
+    found : (t : RecordType) (fields : FieldsOf t) → judged_by b (b ∷ line) ≡ Ok (record_of t fields) → type_of (record_of t fields) ≡ b
+        → HasRecord (b ∷ line) (record_of t fields)
+    found t fields h own =
+        let byte : byte_of t ≡ b = sym (type_of_record t fields) ∙ own in
+        subst (λ T. T) (sym (line_of_type t (b ∷ line) fields))
+        (judged_is_line (byte_of t) (line_length t) (reading_of t) (SpellsFields t) (layout_reading t) (b ∷ line) fields
+        (ap (λ (n : ℕ). n ∷ []) (sym byte))
+        (unwrapped t (judged_of t (b ∷ line)) fields
+        (sym (judged_by_own t (b ∷ line)) ∙ ap (λ n. judged_by n (b ∷ line)) byte ∙ h)))
 
 pub judged_of_record : (line : List ℕ) (r : Record) → HasRecord line r → judged line ≡ Ok r
-unfolding judged_by HasRecord
-judged_of_record line (One r) h = by_first rtype_1 line h.begins
-    ∙ ap (as_record One) (line_is_judged rtype_1 len_1 type_1_reading SpellsType1 reading_1 line r h)
-judged_of_record line (Two r) h = by_first rtype_2 line h.begins
-    ∙ ap (as_record Two) (line_is_judged rtype_2 len_2 type_2_reading SpellsType2 reading_2 line r h)
-judged_of_record line (Four r) h = by_first rtype_4 line h.begins
-    ∙ ap (as_record Four) (line_is_judged rtype_4 len_4 type_4_reading SpellsType4 reading_4 line r h)
-judged_of_record line (Five r) h = by_first rtype_5 line h.begins
-    ∙ ap (as_record Five) (line_is_judged rtype_5 len_5 type_5_reading SpellsType5 reading_5 line r h)
-judged_of_record line (Six r) h = by_first rtype_6 line h.begins
-    ∙ ap (as_record Six) (line_is_judged rtype_6 len_6 type_6_reading SpellsType6 reading_6 line r h)
-judged_of_record line (Seven r) h = by_first rtype_7 line h.begins
-    ∙ ap (as_record Seven) (line_is_judged rtype_7 len_7 type_7_reading SpellsType7 reading_7 line r h)
-judged_of_record line (Eight r) h = by_first rtype_8 line h.begins
-    ∙ ap (as_record Eight) (line_is_judged rtype_8 len_8 type_8_reading SpellsType8 reading_8 line r h)
-judged_of_record line (I r) h = by_first rtype_i line h.begins
-    ∙ ap (as_record I) (line_is_judged rtype_i len_i type_i_reading SpellsTypeI reading_i line r h)
-judged_of_record line (P r) h = by_first rtype_p line h.begins
-    ∙ ap (as_record P) (line_is_judged rtype_p len_p type_p_reading SpellsTypeP reading_p line r h)
+judged_of_record line = every_record (λ r. HasRecord line r → judged line ≡ Ok r) found
+  where
+    found : (t : RecordType) (fields : FieldsOf t) → HasRecord line (record_of t fields) → judged line ≡ Ok (record_of t fields)
+    found t fields h =
+        let is = subst (λ T. T) (line_of_type t line fields) h in
+        by_first (byte_of t) line is.begins ∙ judged_by_own t line
+        ∙ ap (as_record (record_of t))
+        (line_is_judged (byte_of t) (line_length t) (reading_of t) (SpellsFields t) (layout_reading t) line fields is)
 
 -- ---- faults
 
@@ -172,52 +143,35 @@ begins_otherwise b t line e h = let same : b ≡ t = cc in eqb-false b t e same
 not_so : (b t : ℕ) (line : List ℕ) → ¬ BeginsWith t (b ∷ line) → eqb b t ≡ false
 not_so b t line h = ne_eqb b t (λ e. h (ap (λ (x : ℕ). x ∷ []) e))
 
--- the fault of a line that begins with one type or with another
-fails_by : {R : Type 0} (b t : ℕ) (line : List ℕ) (wrap : R → Record) (v : Result R LineFault) (rest : Result Record LineFault)
-    (fault : LineFault) → cond (eqb b t) (as_record wrap v) rest ≡ Err fault
-    → (BeginsWith t (b ∷ line) → v ≡ Err fault → IsFaultOfLine (b ∷ line) fault)
-    → (¬ BeginsWith t (b ∷ line) → rest ≡ Err fault → IsFaultOfLine (b ∷ line) fault) → IsFaultOfLine (b ∷ line) fault
-fails_by {R} b t line wrap v rest fault h here later = go (eqb b t) refl h
-  where
-    go : (x : Bool) → eqb b t ≡ x → cond x (as_record wrap v) rest ≡ Err fault → IsFaultOfLine (b ∷ line) fault
-    go true e k = here (begins_so b t line e) (unwrapped_err wrap v fault k)
-    go false e k = later (begins_otherwise b t line e) k
-
 no_type_reported : (fault : LineFault) → ◌≡◌ {A = Result Record LineFault} (Err line_faults.UnknownType) (Err fault)
     → fault ≡ line_faults.UnknownType
 no_type_reported fault e = cc
 
-fault_by_first : (b : ℕ) (line : List ℕ) (fault : LineFault) → judged_by b (b ∷ line) ≡ Err fault → IsFaultOfLine (b ∷ line) fault
-unfolding judged_by
-fault_by_first b line fault e =
-    fails_by b rtype_1 line One (judged_as len_1 type_1_reading (b ∷ line)) _ fault e
-    (λ begins failed. of_type_1 begins
-    (judged_fault_found rtype_1 len_1 type_1_reading _ type_1_laws.shows_leftmost (b ∷ line) fault begins failed)) (λ n0 e0.
-    fails_by b rtype_2 line Two (judged_as len_2 type_2_reading (b ∷ line)) _ fault e0
-    (λ begins failed. of_type_2 begins
-    (judged_fault_found rtype_2 len_2 type_2_reading _ type_2_laws.shows_leftmost (b ∷ line) fault begins failed)) (λ n1 e1.
-    fails_by b rtype_4 line Four (judged_as len_4 type_4_reading (b ∷ line)) _ fault e1
-    (λ begins failed. of_type_4 begins
-    (judged_fault_found rtype_4 len_4 type_4_reading _ type_4_laws.shows_leftmost (b ∷ line) fault begins failed)) (λ n2 e2.
-    fails_by b rtype_5 line Five (judged_as len_5 type_5_reading (b ∷ line)) _ fault e2
-    (λ begins failed. of_type_5 begins
-    (judged_fault_found rtype_5 len_5 type_5_reading _ type_5_laws.shows_leftmost (b ∷ line) fault begins failed)) (λ n3 e3.
-    fails_by b rtype_6 line Six (judged_as len_6 type_6_reading (b ∷ line)) _ fault e3
-    (λ begins failed. of_type_6 begins
-    (judged_fault_found rtype_6 len_6 type_6_reading _ type_6_laws.shows_leftmost (b ∷ line) fault begins failed)) (λ n4 e4.
-    fails_by b rtype_7 line Seven (judged_as len_7 type_7_reading (b ∷ line)) _ fault e4
-    (λ begins failed. of_type_7 begins
-    (judged_fault_found rtype_7 len_7 type_7_reading _ type_7_laws.shows_leftmost (b ∷ line) fault begins failed)) (λ n5 e5.
-    fails_by b rtype_8 line Eight (judged_as len_8 type_8_reading (b ∷ line)) _ fault e5
-    (λ begins failed. of_type_8 begins
-    (judged_fault_found rtype_8 len_8 type_8_reading _ type_8_laws.shows_leftmost (b ∷ line) fault begins failed)) (λ n6 e6.
-    fails_by b rtype_i line I (judged_as len_i type_i_reading (b ∷ line)) _ fault e6
-    (λ begins failed. of_type_i begins
-    (judged_fault_found rtype_i len_i type_i_reading _ type_i_laws.shows_leftmost (b ∷ line) fault begins failed)) (λ n7 e7.
-    fails_by b rtype_p line P (judged_as len_p type_p_reading (b ∷ line)) _ fault e7
-    (λ begins failed. of_type_p begins
-    (judged_fault_found rtype_p len_p type_p_reading _ type_p_laws.shows_leftmost (b ∷ line) fault begins failed)) (λ n8 e8.
-    of_no_type (n0, (n1, (n2, (n3, (n4, (n5, (n6, (n7, (n8, tt))))))))) (no_type_reported fault e8))))))))))
+-- the line begins with the byte of none of these types
+abbrev IsOfNone : List RecordType → List ℕ → Type 0
+IsOfNone ts line = AllByRecursion (λ t. ¬ BeginsWith (byte_of t) line) ts
+
+-- the fault of a line is that of the type whose byte it begins with, or that it begins with none
+fault_among : (ts : List RecordType) (b : ℕ) (line : List ℕ) (fault : LineFault) → judged_among ts b (b ∷ line) ≡ Err fault
+    → IsFaultOfLine (b ∷ line) fault ⊎ (IsOfNone ts (b ∷ line) × (fault ≡ line_faults.UnknownType))
+fault_among [] b line fault e = inr (tt, no_type_reported fault e)
+fault_among (t ∷ ts) b line fault e = go (eqb b (byte_of t)) refl e (fault_among ts b line fault)
+  where
+    go : (x : Bool) → eqb b (byte_of t) ≡ x
+        → cond x (as_record (record_of t) (judged_of t (b ∷ line))) (judged_among ts b (b ∷ line)) ≡ Err fault
+        → (judged_among ts b (b ∷ line) ≡ Err fault
+        → IsFaultOfLine (b ∷ line) fault ⊎ (IsOfNone ts (b ∷ line) × (fault ≡ line_faults.UnknownType)))
+        → IsFaultOfLine (b ∷ line) fault ⊎ (IsOfNone (t ∷ ts) (b ∷ line) × (fault ≡ line_faults.UnknownType))
+    go true is h rest = let begins = begins_so b (byte_of t) line is in
+        inl (fault_of_type t (b ∷ line) fault begins
+        (judged_fault_found (byte_of t) (line_length t) (reading_of t) _ (layout_laws t).shows_leftmost (b ∷ line) fault begins
+        (unwrapped_err (record_of t) (judged_of t (b ∷ line)) fault h)))
+    go false is h rest = later (rest h)
+      where
+        later : IsFaultOfLine (b ∷ line) fault ⊎ (IsOfNone ts (b ∷ line) × (fault ≡ line_faults.UnknownType))
+            → IsFaultOfLine (b ∷ line) fault ⊎ (IsOfNone (t ∷ ts) (b ∷ line) × (fault ≡ line_faults.UnknownType))
+        later (inl found) = inl found
+        later (inr none) = inr ((begins_otherwise b (byte_of t) line is, none.0), none.1)
 
 empty_has_no_type : AllByRecursion (λ (rtype : ℕ). ¬ BeginsWith rtype []) record_types
 empty_has_no_type = ((λ e. cc), ((λ e. cc), ((λ e. cc), ((λ e. cc), ((λ e. cc), ((λ e. cc), ((λ e. cc), ((λ e. cc), ((λ e. cc), tt)))))))))
@@ -226,47 +180,44 @@ empty_has_no_type = ((λ e. cc), ((λ e. cc), ((λ e. cc), ((λ e. cc), ((λ e. 
 pub fault_of_judged : (line : List ℕ) (fault : LineFault) → judged line ≡ Err fault → IsFaultOfLine line fault
 unfolding judged
 fault_of_judged [] fault e = of_no_type empty_has_no_type (no_type_reported fault e)
-fault_of_judged (b ∷ line) fault e = fault_by_first b line fault e
+fault_of_judged (b ∷ line) fault e = go (fault_among types b line fault (sym (judged_among_all b (b ∷ line)) ∙ e))
+  where
+    go : IsFaultOfLine (b ∷ line) fault ⊎ (IsOfNone types (b ∷ line) × (fault ≡ line_faults.UnknownType)) → IsFaultOfLine (b ∷ line) fault
+    go (inl found) = found
+    go (inr none) = of_no_type none.0 none.1
+
+unknown_among : (ts : List RecordType) (b : ℕ) (line : List ℕ) → IsOfNone ts (b ∷ line)
+    → judged_among ts b (b ∷ line) ≡ Err line_faults.UnknownType
+unknown_among [] b line h = refl
+unknown_among (t ∷ ts) b line h =
+    ap (λ x. cond x (as_record (record_of t) (judged_of t (b ∷ line))) (judged_among ts b (b ∷ line))) (not_so b (byte_of t) line h.0)
+    ∙ unknown_among ts b line h.1
 
 unknown_judged : (line : List ℕ) → AllByRecursion (λ (rtype : ℕ). ¬ BeginsWith rtype line) record_types
     → judged line ≡ Err line_faults.UnknownType
-unfolding judged judged_by
+unfolding judged
 unknown_judged [] h = refl
-unknown_judged (b ∷ line) h =
-    rw (
-      not_so b rtype_1 line h.0,
-      not_so b rtype_2 line h.1.0,
-      not_so b rtype_4 line h.1.1.0,
-      not_so b rtype_5 line h.1.1.1.0,
-      not_so b rtype_6 line h.1.1.1.1.0,
-      not_so b rtype_7 line h.1.1.1.1.1.0,
-      not_so b rtype_8 line h.1.1.1.1.1.1.0,
-      not_so b rtype_i line h.1.1.1.1.1.1.1.0,
-      not_so b rtype_p line h.1.1.1.1.1.1.1.1.0,
-    ) refl
+unknown_judged (b ∷ line) h = judged_among_all b (b ∷ line) ∙ unknown_among types b line h
+
+-- a line is judged to have the fault that a line of its type has
+judged_of_type : (t : RecordType) (line : List ℕ) (fault : LineFault) → BeginsWith (byte_of t) line
+    → IsFaultIn (line_length t) (IsLeftmostFault (table_of t)) line fault → judged line ≡ Err fault
+judged_of_type t line fault begins h = by_first (byte_of t) line begins ∙ judged_by_own t line
+    ∙ wrapped_err (record_of t) (judged_of t line) fault
+    (judged_fault_only (byte_of t) (line_length t) (reading_of t) _ (layout_laws t).shows_leftmost line fault begins h)
 
 -- a line is judged to have the fault that it has
 pub judged_of_fault : (line : List ℕ) (fault : LineFault) → IsFaultOfLine line fault → judged line ≡ Err fault
-unfolding judged_by
 judged_of_fault line fault (of_no_type h e) = unknown_judged line h ∙ ap (λ (z : LineFault). Err z) (sym e)
-judged_of_fault line fault (of_type_1 begins h) = by_first rtype_1 line begins
-    ∙ wrapped_err One _ fault (judged_fault_only rtype_1 len_1 type_1_reading _ type_1_laws.shows_leftmost line fault begins h)
-judged_of_fault line fault (of_type_2 begins h) = by_first rtype_2 line begins
-    ∙ wrapped_err Two _ fault (judged_fault_only rtype_2 len_2 type_2_reading _ type_2_laws.shows_leftmost line fault begins h)
-judged_of_fault line fault (of_type_4 begins h) = by_first rtype_4 line begins
-    ∙ wrapped_err Four _ fault (judged_fault_only rtype_4 len_4 type_4_reading _ type_4_laws.shows_leftmost line fault begins h)
-judged_of_fault line fault (of_type_5 begins h) = by_first rtype_5 line begins
-    ∙ wrapped_err Five _ fault (judged_fault_only rtype_5 len_5 type_5_reading _ type_5_laws.shows_leftmost line fault begins h)
-judged_of_fault line fault (of_type_6 begins h) = by_first rtype_6 line begins
-    ∙ wrapped_err Six _ fault (judged_fault_only rtype_6 len_6 type_6_reading _ type_6_laws.shows_leftmost line fault begins h)
-judged_of_fault line fault (of_type_7 begins h) = by_first rtype_7 line begins
-    ∙ wrapped_err Seven _ fault (judged_fault_only rtype_7 len_7 type_7_reading _ type_7_laws.shows_leftmost line fault begins h)
-judged_of_fault line fault (of_type_8 begins h) = by_first rtype_8 line begins
-    ∙ wrapped_err Eight _ fault (judged_fault_only rtype_8 len_8 type_8_reading _ type_8_laws.shows_leftmost line fault begins h)
-judged_of_fault line fault (of_type_i begins h) = by_first rtype_i line begins
-    ∙ wrapped_err I _ fault (judged_fault_only rtype_i len_i type_i_reading _ type_i_laws.shows_leftmost line fault begins h)
-judged_of_fault line fault (of_type_p begins h) = by_first rtype_p line begins
-    ∙ wrapped_err P _ fault (judged_fault_only rtype_p len_p type_p_reading _ type_p_laws.shows_leftmost line fault begins h)
+judged_of_fault line fault (of_type_1 begins h) = judged_of_type Type1 line fault begins h
+judged_of_fault line fault (of_type_2 begins h) = judged_of_type Type2 line fault begins h
+judged_of_fault line fault (of_type_4 begins h) = judged_of_type Type4 line fault begins h
+judged_of_fault line fault (of_type_5 begins h) = judged_of_type Type5 line fault begins h
+judged_of_fault line fault (of_type_6 begins h) = judged_of_type Type6 line fault begins h
+judged_of_fault line fault (of_type_7 begins h) = judged_of_type Type7 line fault begins h
+judged_of_fault line fault (of_type_8 begins h) = judged_of_type Type8 line fault begins h
+judged_of_fault line fault (of_type_i begins h) = judged_of_type TypeI line fault begins h
+judged_of_fault line fault (of_type_p begins h) = judged_of_type TypeP line fault begins h
 
 -- the judge of TIGER/Line 2006 finds exactly the records and the faults of lines
 pub tiger_is_sound : IsSound tiger
@@ -283,25 +234,10 @@ tiger_is_sound = record {
 
 -- a line has only records that fit
 pub record_fits : (line : List ℕ) (r : Record) → HasRecord line r → FitsRecord r
-unfolding HasRecord FitsRecord
-record_fits line (One r) h =
-    line_fits rtype_1 len_1 SpellsType1 _ (λ l x is s. (type_1_laws.reads_spelled l x is (type_1_laws.spelled_is_read l x is s)).0) line r h
-record_fits line (Two r) h =
-    line_fits rtype_2 len_2 SpellsType2 _ (λ l x is s. (type_2_laws.reads_spelled l x is (type_2_laws.spelled_is_read l x is s)).0) line r h
-record_fits line (Four r) h =
-    line_fits rtype_4 len_4 SpellsType4 _ (λ l x is s. (type_4_laws.reads_spelled l x is (type_4_laws.spelled_is_read l x is s)).0) line r h
-record_fits line (Five r) h =
-    line_fits rtype_5 len_5 SpellsType5 _ (λ l x is s. (type_5_laws.reads_spelled l x is (type_5_laws.spelled_is_read l x is s)).0) line r h
-record_fits line (Six r) h =
-    line_fits rtype_6 len_6 SpellsType6 _ (λ l x is s. (type_6_laws.reads_spelled l x is (type_6_laws.spelled_is_read l x is s)).0) line r h
-record_fits line (Seven r) h =
-    line_fits rtype_7 len_7 SpellsType7 _ (λ l x is s. (type_7_laws.reads_spelled l x is (type_7_laws.spelled_is_read l x is s)).0) line r h
-record_fits line (Eight r) h =
-    line_fits rtype_8 len_8 SpellsType8 _ (λ l x is s. (type_8_laws.reads_spelled l x is (type_8_laws.spelled_is_read l x is s)).0) line r h
-record_fits line (I r) h =
-    line_fits rtype_i len_i SpellsTypeI _ (λ l x is s. (type_i_laws.reads_spelled l x is (type_i_laws.spelled_is_read l x is s)).0) line r h
-record_fits line (P r) h =
-    line_fits rtype_p len_p SpellsTypeP _ (λ l x is s. (type_p_laws.reads_spelled l x is (type_p_laws.spelled_is_read l x is s)).0) line r h
+record_fits line = every_record (λ r. HasRecord line r → FitsRecord r) (λ t fields h.
+    line_fits (byte_of t) (line_length t) (SpellsFields t) (λ r. FitsRecord (record_of t r))
+    (λ l r is s. ((layout_laws t).reads_spelled l r is ((layout_laws t).spelled_is_read l r is s)).0) line fields
+    (subst (λ T. T) (line_of_type t line fields) h))
 
 -- if lines have records, these fit
 lines_fit : (lines : List PlacedLine) (records : List Record) → AreLinesSpelled tiger lines records → All FitsRecord records

@@ -14,7 +14,6 @@ use Rattle.tl_layout.specs.Bytes.{IsText}
 use Rattle.tl_layout.specs.Coordinates.{Coordinates, IsOnMap}
 use Rattle.tl_layout.specs.Turned.{turned_ranges}
 use Rattle.tl_layout.specs.Laws.TurnedFits.{body_turned_fits, ranges_turned_fit}
-use Rattle.tl_layout.specs.declared.ranges.Ranges.{Ranges}
 use Rattle.tl_layout.specs.declared.type5.Body5.{Body5}
 use Rattle.tl_layout.specs.declared.type7.Body7.{Body7}
 use Rattle.tl_layout.specs.declared.type_p.BodyP.{BodyP}

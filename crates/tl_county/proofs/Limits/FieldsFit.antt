@@ -1,11 +1,16 @@
 -- The fact that a record fits its columns, split by name: its numbers and its content.
-use Rattle.std.proofs.Common.{ℕ, ◌≤◌, List, length, arith, lit<}
+use Rattle.std.proofs.Common.{◌≡◌, ℕ, ◌≤◌, List, Some, length, subst, arith, lit<}
 use Rattle.std.specs.List.{AllByRecursion}
 use Rattle.tl_layout.specs.AddressRanges.{FitsRanges}
 use Rattle.tl_layout.specs.Bytes.{IsText}
 use Rattle.tl_layout.specs.Coordinates.{IsOnMap}
 use Rattle.tl_layout.specs.Fields.{Fields1, Fields2, Fields4, Fields5, Fields6, Fields7, Fields8, FieldsI, FieldsP}
 use Rattle.tl_layout.specs.Numbers.{IsNumber, IsNumberOrNone}
+use Rattle.tl_layout.specs.RecordText.{FitsRecord}
+use Rattle.tl_layout.specs.RecordTypes.{RecordType, Type1, Type2, Type4, Type5, Type6, Type7, Type8, TypeI, TypeP, FieldsOf, record_of}
+use Rattle.tl_layout.specs.RecordTypes.{as_type}
+use Rattle.tl_layout.specs.Laws.RecordTypeLaws.{record_selected}
+use Rattle.tl_layout.specs.declared.record_type.Record.{Record}
 use Rattle.tl_layout.specs.Type1.{FitsType1}
 use Rattle.tl_layout.specs.Type1Groups.{FitsBody1}
 use Rattle.tl_layout.specs.Laws.Type1Laws.{type_1_fits}
@@ -70,9 +75,22 @@ pub record FitP (r : FieldsP) : Type 0 where
   pub polyid : IsNumber 10 r.polyid
   pub body : FitsPolygon r.cenid r.body
 
-pub named_1 : (r : Fields1) → FitsType1 r → Fit1 r
-unfolding FitsType1
-named_1 r h = record {
+-- what is above, as functions of the type
+abbrev pub Fit : (t : RecordType) → FieldsOf t → Type 0
+Fit Type1 = Fit1
+Fit Type2 = Fit2
+Fit Type4 = Fit4
+Fit Type5 = Fit5
+Fit Type6 = Fit6
+Fit Type7 = Fit7
+Fit Type8 = Fit8
+Fit TypeI = FitI
+Fit TypeP = FitP
+
+-- fields that fit their columns fit as named here
+named : (t : RecordType) (r : FieldsOf t) → FitsRecord (record_of t r) → Fit t r
+unfolding FitsRecord FitsType1 FitsType2 FitsType4 FitsType5 FitsType6 FitsType7 FitsType8 FitsTypeI FitsTypeP
+named Type1 r h = record {
   tlid = h.0;
   body = record {
     side1 = h.1.0;
@@ -139,38 +157,11 @@ named_1 r h = record {
   start = h.1.1.1.1.1.1.1.1.1.1.1.1.1.1.1.1.1.1.1.1.1.1.1.1.1.1.1.1.1.1.1.1.1.1.1.1.1.1.0;
   end = h.1.1.1.1.1.1.1.1.1.1.1.1.1.1.1.1.1.1.1.1.1.1.1.1.1.1.1.1.1.1.1.1.1.1.1.1.1.1.1.0;
 }
-
-pub columns_1 : (r : Fields1) → Fit1 r → FitsType1 r
-columns_1 r f = type_1_fits r f.tlid f.body f.start f.end
-
-pub named_2 : (r : Fields2) → FitsType2 r → Fit2 r
-unfolding FitsType2
-named_2 r h = record { tlid = h.0; rtsq = h.1.0; len = h.1.1.0.0; points = h.1.1.0.1 }
-
-pub columns_2 : (r : Fields2) → Fit2 r → FitsType2 r
-unfolding FitsType2
-columns_2 r f = (f.tlid, (f.rtsq, ((f.len, f.points), tt)))
-
-pub named_4 : (r : Fields4) → FitsType4 r → Fit4 r
-unfolding FitsType4
-named_4 r h = record { tlid = h.0; rtsq = h.1.0; len = h.1.1.0.0; feats = h.1.1.0.1 }
-
-pub columns_4 : (r : Fields4) → Fit4 r → FitsType4 r
-unfolding FitsType4
-columns_4 r f = (f.tlid, (f.rtsq, ((f.len, f.feats), tt)))
-
+named Type2 r h = record { tlid = h.0; rtsq = h.1.0; len = h.1.1.0.0; points = h.1.1.0.1 }
+named Type4 r h = record { tlid = h.0; rtsq = h.1.0; len = h.1.1.0.0; feats = h.1.1.0.1 }
 -- content that fits with the number 1 fits with any other number that fits
-pub named_5 : (r : Fields5) → FitsType5 r → Fit5 r
-unfolding FitsType5
-named_5 r h = record { feat = h.1.0; body = (h.0, ((omega arith, lit< tt), h.1.1)) }
-
-pub columns_5 : (r : Fields5) → Fit5 r → FitsType5 r
-unfolding FitsType5
-columns_5 r f = (f.body.0, (f.feat, f.body.1.1))
-
-pub named_6 : (r : Fields6) → FitsType6 r → Fit6 r
-unfolding FitsType6
-named_6 r h = record {
+named Type5 r h = record { feat = h.1.0; body = (h.0, ((omega arith, lit< tt), h.1.1)) }
+named Type6 r h = record {
   tlid = h.0;
   rtsq = h.1.0;
   ranges = record {
@@ -185,10 +176,26 @@ named_6 r h = record {
     zip = record { left = h.1.1.1.1.1.1.1.1.1.1.0; right = h.1.1.1.1.1.1.1.1.1.1.1.0 };
   };
 }
+named Type7 r h = record { land = h.1.0; body = (h.0, ((omega arith, lit< tt), h.1.1)) }
+named Type8 r h = record { file = h.0; cenid = h.1.0; polyid = h.1.1.0; land = h.1.1.1.0 }
+named TypeI r h = record {
+  tlid = h.1.0;
+  start_node = h.1.1.0;
+  end_node = h.1.1.1.0;
+  left_polyid = h.1.1.1.1.1.0;
+  right_polyid = h.1.1.1.1.1.1.1.0;
+  content = (h.0, ((omega arith, lit< tt), (tt, (tt, (h.1.1.1.1.0, (tt, (h.1.1.1.1.1.1.0, (tt, h.1.1.1.1.1.1.1.1))))))));
+}
+named TypeP r h = record { polyid = h.1.1.0; body = (h.0, (h.1.0, ((omega arith, lit< tt), h.1.1.1))) }
 
-pub columns_6 : (r : Fields6) → Fit6 r → FitsType6 r
-unfolding FitsType6
-columns_6 r f = (
+-- fields that fit as named here fit their columns
+pub columns : (t : RecordType) (r : FieldsOf t) → Fit t r → FitsRecord (record_of t r)
+unfolding FitsRecord FitsType1 FitsType2 FitsType4 FitsType5 FitsType6 FitsType7 FitsType8 FitsTypeI FitsTypeP
+columns Type1 r f = type_1_fits r f.tlid f.body f.start f.end
+columns Type2 r f = (f.tlid, (f.rtsq, ((f.len, f.points), tt)))
+columns Type4 r f = (f.tlid, (f.rtsq, ((f.len, f.feats), tt)))
+columns Type5 r f = (f.body.0, (f.feat, f.body.1.1))
+columns Type6 r f = (
   f.tlid,
   (
     f.rtsq,
@@ -207,37 +214,9 @@ columns_6 r f = (
     ),
   ),
 )
-
-pub named_7 : (r : Fields7) → FitsType7 r → Fit7 r
-unfolding FitsType7
-named_7 r h = record { land = h.1.0; body = (h.0, ((omega arith, lit< tt), h.1.1)) }
-
-pub columns_7 : (r : Fields7) → Fit7 r → FitsType7 r
-unfolding FitsType7
-columns_7 r f = (f.body.0, (f.land, f.body.1.1))
-
-pub named_8 : (r : Fields8) → FitsType8 r → Fit8 r
-unfolding FitsType8
-named_8 r h = record { file = h.0; cenid = h.1.0; polyid = h.1.1.0; land = h.1.1.1.0 }
-
-pub columns_8 : (r : Fields8) → Fit8 r → FitsType8 r
-unfolding FitsType8
-columns_8 r f = (f.file, (f.cenid, (f.polyid, (f.land, (tt, tt)))))
-
-pub named_i : (r : FieldsI) → FitsTypeI r → FitI r
-unfolding FitsTypeI
-named_i r h = record {
-  tlid = h.1.0;
-  start_node = h.1.1.0;
-  end_node = h.1.1.1.0;
-  left_polyid = h.1.1.1.1.1.0;
-  right_polyid = h.1.1.1.1.1.1.1.0;
-  content = (h.0, ((omega arith, lit< tt), (tt, (tt, (h.1.1.1.1.0, (tt, (h.1.1.1.1.1.1.0, (tt, h.1.1.1.1.1.1.1.1))))))));
-}
-
-pub columns_i : (r : FieldsI) → FitI r → FitsTypeI r
-unfolding FitsTypeI
-columns_i r f = (
+columns Type7 r f = (f.body.0, (f.land, f.body.1.1))
+columns Type8 r f = (f.file, (f.cenid, (f.polyid, (f.land, (tt, tt)))))
+columns TypeI r f = (
   f.content.0,
   (
     f.tlid,
@@ -250,14 +229,11 @@ columns_i r f = (
     ),
   ),
 )
+columns TypeP r f = (f.body.0, (f.body.1.0, (f.polyid, f.body.1.1.1)))
 
-pub named_p : (r : FieldsP) → FitsTypeP r → FitP r
-unfolding FitsTypeP
-named_p r h = record { polyid = h.1.1.0; body = (h.0, (h.1.0, ((omega arith, lit< tt), h.1.1.1))) }
-
-pub columns_p : (r : FieldsP) → FitP r → FitsTypeP r
-unfolding FitsTypeP
-columns_p r f = (f.body.0, (f.body.1.0, (f.polyid, f.body.1.1.1)))
+-- the fields of a record that fits
+pub selected_fit : (t : RecordType) (r : Record) (fields : FieldsOf t) → as_type t r ≡ Some fields → FitsRecord r → Fit t fields
+selected_fit t r fields e h = named t fields (subst FitsRecord (record_selected t r fields e) h)
 
 -- the CENIDs of content that fits
 pub left_cenid_fits : (body : BodyI) (left right : List ℕ) → FitsLinkContent body left right → IsText 5 left

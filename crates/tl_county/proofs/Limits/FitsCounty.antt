@@ -7,17 +7,16 @@ use Rattle.std.specs.List.{AllByRecursion, cons_option}
 use Rattle.std.specs.Ordering.{on}
 use Rattle.tl_layout.specs.AddressRanges.{FitsRanges}
 use Rattle.tl_layout.specs.Bytes.{IsText}
-use Rattle.tl_layout.specs.ByType.{as_type_1, as_type_2, as_type_4, as_type_5, as_type_6, as_type_7, as_type_8, as_type_i}
-use Rattle.tl_layout.specs.ByType.{as_type_p, of_type_1, of_type_2, of_type_4, of_type_5, of_type_6, of_type_7, of_type_8}
+use Rattle.tl_layout.specs.ByType.{of_type_1, of_type_2, of_type_4, of_type_5, of_type_6, of_type_7, of_type_8}
 use Rattle.tl_layout.specs.ByType.{of_type_i, of_type_p, of_number}
 use Rattle.tl_layout.specs.Coordinates.{Coordinates, IsOnMap}
-use Rattle.tl_layout.specs.Fields.{Fields1, Fields2, Fields4, Fields5, Fields6, Fields7, Fields8, FieldsI, FieldsP}
+use Rattle.tl_layout.specs.Fields.{Fields1, Fields2, Fields4, Fields5, Fields6, Fields7, FieldsI, FieldsP}
 use Rattle.tl_layout.specs.Limits.{IsWithinLimit}
 use Rattle.tl_layout.specs.Numbers.{IsNumber, IsNumberOrNone}
 use Rattle.tl_layout.specs.RecordText.{FitsRecord}
 use Rattle.tl_layout.specs.declared.ranges.Ranges.{Ranges}
 use Rattle.tl_layout.specs.declared.record_type.Record.{Record}
-use Rattle.tl_layout.specs.declared.record_type.Record.TheVariants.{One, Two, Four, Five, Six, Seven, Eight, I, P}
+use Rattle.tl_layout.specs.RecordTypes.{RecordType, Type1, Type2, Type4, Type5, Type6, Type7, Type8, TypeI, TypeP, as_type, of_type}
 use Rattle.tl_layout.specs.declared.type5.Body5.{Body5}
 use Rattle.tl_layout.specs.declared.type7.Body7.{Body7}
 use Rattle.tl_layout.specs.declared.type_p.BodyP.{BodyP}
@@ -43,8 +42,8 @@ use Rattle.ordered_lists.proofs.Lists.Counted.{all_selected}
 use Rattle.tl_county.proofs.Packing.Pieces.{length-numbered_from}
 use Rattle.tl_county.specs.Laws.TypeCounts.{HasWithin, by_type_within, packed_within}
 use Rattle.ordered_lists.proofs.Lists.Distinct.{apart-distinct, apart_from_no_repeat, known_from_distinct}
-use Rattle.tl_county.proofs.Limits.FieldsFit.{Fit1, Fit2, Fit4, Fit5, Fit6, Fit7, Fit8, FitI, FitP, named_1, named_2, named_4, named_5}
-use Rattle.tl_county.proofs.Limits.FieldsFit.{named_6, named_7, named_8, named_i, named_p, left_cenid_fits, right_cenid_fits}
+use Rattle.tl_county.proofs.Limits.FieldsFit.{Fit, Fit1, Fit2, Fit4, Fit5, Fit6, Fit7, Fit8, FitI, FitP, selected_fit}
+use Rattle.tl_county.proofs.Limits.FieldsFit.{left_cenid_fits, right_cenid_fits}
 use Rattle.tl_county.proofs.Limits.FieldsFit.{polygon_cenid_fits}
 use Rattle.ordered_lists.proofs.Lists.Among.{all_among}
 use Rattle.tl_county.specs.Laws.KeyOrders.{key_keys}
@@ -59,52 +58,6 @@ use Rattle.ordered_lists.proofs.ByKey.Numbers.{all-in_order, count-map}
 flat_map-one : {X Y : Type 0} (f : X → Y) (xs : List X) → flat_map (λ x. f x ∷ []) xs ≡ map f xs
 flat_map-one f [] = refl
 flat_map-one f (x ∷ xs) = ap (λ ys. f x ∷ ys) (flat_map-one f xs)
-
--- the records of one type fit
-fits_1 : (x : Record) (y : Fields1) → as_type_1 x ≡ Some y → FitsRecord x → Fit1 y
-unfolding FitsRecord
-fits_1 (One r) y e h = subst Fit1 (let same : r ≡ y = cc in same) (named_1 r h)
-fits_1 _ y e h = cc
-
-fits_2 : (x : Record) (y : Fields2) → as_type_2 x ≡ Some y → FitsRecord x → Fit2 y
-unfolding FitsRecord
-fits_2 (Two r) y e h = subst Fit2 (let same : r ≡ y = cc in same) (named_2 r h)
-fits_2 _ y e h = cc
-
-fits_4 : (x : Record) (y : Fields4) → as_type_4 x ≡ Some y → FitsRecord x → Fit4 y
-unfolding FitsRecord
-fits_4 (Four r) y e h = subst Fit4 (let same : r ≡ y = cc in same) (named_4 r h)
-fits_4 _ y e h = cc
-
-fits_5 : (x : Record) (y : Fields5) → as_type_5 x ≡ Some y → FitsRecord x → Fit5 y
-unfolding FitsRecord
-fits_5 (Five r) y e h = subst Fit5 (let same : r ≡ y = cc in same) (named_5 r h)
-fits_5 _ y e h = cc
-
-fits_6 : (x : Record) (y : Fields6) → as_type_6 x ≡ Some y → FitsRecord x → Fit6 y
-unfolding FitsRecord
-fits_6 (Six r) y e h = subst Fit6 (let same : r ≡ y = cc in same) (named_6 r h)
-fits_6 _ y e h = cc
-
-fits_7 : (x : Record) (y : Fields7) → as_type_7 x ≡ Some y → FitsRecord x → Fit7 y
-unfolding FitsRecord
-fits_7 (Seven r) y e h = subst Fit7 (let same : r ≡ y = cc in same) (named_7 r h)
-fits_7 _ y e h = cc
-
-fits_8 : (x : Record) (y : Fields8) → as_type_8 x ≡ Some y → FitsRecord x → Fit8 y
-unfolding FitsRecord
-fits_8 (Eight r) y e h = subst Fit8 (let same : r ≡ y = cc in same) (named_8 r h)
-fits_8 _ y e h = cc
-
-fits_i : (x : Record) (y : FieldsI) → as_type_i x ≡ Some y → FitsRecord x → FitI y
-unfolding FitsRecord
-fits_i (I r) y e h = subst FitI (let same : r ≡ y = cc in same) (named_i r h)
-fits_i _ y e h = cc
-
-fits_p : (x : Record) (y : FieldsP) → as_type_p x ≡ Some y → FitsRecord x → FitP y
-unfolding FitsRecord
-fits_p (P r) y e h = subst FitP (let same : r ≡ y = cc in same) (named_p r h)
-fits_p _ y e h = cc
 
 -- a property of each content is a property of the contents joined in the order of their RTSQs
 all_joined_in_order : {X Y : Type 0} (Q : Y → Type 0) (content : X → List Y) (by : X → X → Ordering) (test : X → Bool) (xs : List X)
@@ -167,48 +120,25 @@ bodies_of_key key (r ∷ rs) a = go (is_eq (key_cmp key (p_key r))) refl (bodies
     go false e ih = ih
 
 module _ (records : List Record) (linked : IsLinked records) (fits : AllByRecursion FitsRecord records) where
-  fit_1 : AllByRecursion Fit1 (of_type_1 records)
-  fit_1 = all_selected FitsRecord Fit1 as_type_1 fits_1 records fits
-
-  fit_2 : AllByRecursion Fit2 (of_type_2 records)
-  fit_2 = all_selected FitsRecord Fit2 as_type_2 fits_2 records fits
-
-  fit_4 : AllByRecursion Fit4 (of_type_4 records)
-  fit_4 = all_selected FitsRecord Fit4 as_type_4 fits_4 records fits
-
-  fit_5 : AllByRecursion Fit5 (of_type_5 records)
-  fit_5 = all_selected FitsRecord Fit5 as_type_5 fits_5 records fits
-
-  fit_6 : AllByRecursion Fit6 (of_type_6 records)
-  fit_6 = all_selected FitsRecord Fit6 as_type_6 fits_6 records fits
-
-  fit_7 : AllByRecursion Fit7 (of_type_7 records)
-  fit_7 = all_selected FitsRecord Fit7 as_type_7 fits_7 records fits
-
-  fit_8 : AllByRecursion Fit8 (of_type_8 records)
-  fit_8 = all_selected FitsRecord Fit8 as_type_8 fits_8 records fits
-
-  fit_i : AllByRecursion FitI (of_type_i records)
-  fit_i = all_selected FitsRecord FitI as_type_i fits_i records fits
-
-  fit_p : AllByRecursion FitP (of_type_p records)
-  fit_p = all_selected FitsRecord FitP as_type_p fits_p records fits
+  -- the records of each type fit
+  fit : (t : RecordType) → AllByRecursion (Fit t) (of_type t records)
+  fit t = all_selected FitsRecord (Fit t) (as_type t) (selected_fit t) records fits
 
   shape_points_fit : (tlid : ℕ) → AllByRecursion IsOnMap (shape_points records tlid)
   shape_points_fit tlid =
       all_joined_in_order IsOnMap (λ (r : Fields2). r.points) (on two_rtsq nat_cmp) (λ r. two_tlid r == tlid) (of_type_2 records)
-      (all_weaker Fit2 (λ r. AllByRecursion IsOnMap r.points) (λ r f. f.points) (of_type_2 records) fit_2)
+      (all_weaker Fit2 (λ r. AllByRecursion IsOnMap r.points) (λ r f. f.points) (of_type_2 records) (fit Type2))
 
   names_fit : (tlid : ℕ) → AllByRecursion (IsNumber 8) (further_names records tlid)
   names_fit tlid = all_joined_in_order (IsNumber 8) (λ (r : Fields4). r.feats) (on four_rtsq nat_cmp) (λ r. four_tlid r == tlid)
-      (of_type_4 records) (all_weaker Fit4 (λ r. AllByRecursion (IsNumber 8) r.feats) (λ r f. f.feats) (of_type_4 records) fit_4)
+      (of_type_4 records) (all_weaker Fit4 (λ r. AllByRecursion (IsNumber 8) r.feats) (λ r f. f.feats) (of_type_4 records) (fit Type4))
 
   ranges_fit : (tlid : ℕ) → AllByRecursion FitsRanges (further_ranges records tlid)
   ranges_fit tlid = all_map FitsRanges (λ (r : Fields6). r.ranges)
       (in_order (on six_rtsq nat_cmp) (of_number six_tlid tlid (of_type_6 records)))
       (all-in_order (λ r. FitsRanges r.ranges) (on six_rtsq nat_cmp) (of_number six_tlid tlid (of_type_6 records))
       (all_filter (λ r. FitsRanges r.ranges) (λ r. six_tlid r == tlid) (of_type_6 records)
-      (all_weaker Fit6 (λ r. FitsRanges r.ranges) (λ r f. f.ranges) (of_type_6 records) fit_6)))
+      (all_weaker Fit6 (λ r. FitsRanges r.ranges) (λ r f. f.ranges) (of_type_6 records) (fit Type6))))
 
   chain_fits : (r : Fields1) (link : FieldsI) → Fit1 r → FitI link → FitsChain (chain_of records r link)
   chain_fits r link f l = record {
@@ -241,10 +171,10 @@ module _ (records : List Record) (linked : IsLinked records) (fits : AllByRecurs
       (key_fits link.left.cenid link.left.polyid (left_cenid_fits link.body link.left.cenid link.right.cenid f.content) f.left_polyid)
       (key_fits link.right.cenid link.right.polyid
       (right_cenid_fits link.body link.left.cenid link.right.cenid f.content) f.right_polyid))
-      (of_type_i records) fit_i))
+      (of_type_i records) (fit TypeI)))
       (all_map (λ (key : PolygonKey). IsText 5 key.0 × IsNumber 10 key.1) p_key (of_type_p records)
       (all_weaker FitP (λ r. IsText 5 r.cenid × IsNumber 10 r.polyid) (λ r f. (polygon_cenid_fits r.cenid r.body f.body, f.polyid))
-      (of_type_p records) fit_p)))
+      (of_type_p records) (fit TypeP))))
 
   abbrev keys : List PolygonKey
   keys = flat_map side_keys (of_type_i records) ++ map p_key (of_type_p records)
@@ -257,7 +187,7 @@ module _ (records : List Record) (linked : IsLinked records) (fits : AllByRecurs
   polygon_body_fits key =
       first_of (FitsPolygon key.0) (map (λ (r : FieldsP). r.body) (filter (λ r. is_eq (key_cmp key (p_key r))) (of_type_p records)))
       (all_map (FitsPolygon key.0) (λ (r : FieldsP). r.body) (filter (λ r. is_eq (key_cmp key (p_key r))) (of_type_p records))
-      (bodies_of_key key (of_type_p records) fit_p))
+      (bodies_of_key key (of_type_p records) (fit TypeP)))
 
   bodies_fit : (land : ℕ) → AllByRecursion FitsLandmark (in_order landmark_body_cmp
       (map (λ (r : Fields7). r.body) (of_number seven_land land (of_type_7 records))))
@@ -265,12 +195,12 @@ module _ (records : List Record) (linked : IsLinked records) (fits : AllByRecurs
       (map (λ (r : Fields7). r.body) (of_number seven_land land (of_type_7 records)))
       (all_map FitsLandmark (λ (r : Fields7). r.body) (of_number seven_land land (of_type_7 records))
       (all_filter (λ r. FitsLandmark r.body) (λ r. seven_land r == land) (of_type_7 records)
-      (all_weaker Fit7 (λ r. FitsLandmark r.body) (λ r f. f.body) (of_type_7 records) fit_7)))
+      (all_weaker Fit7 (λ r. FitsLandmark r.body) (λ r f. f.body) (of_type_7 records) (fit Type7))))
 
   land_fits : (land : ℕ) → Known nat_cmp (distinct nat_cmp (map seven_land (of_type_7 records))) land → IsNumber 10 land
   land_fits land k = known_all nat_keys (IsNumber 10) (map seven_land (of_type_7 records))
       (all_map (IsNumber 10) seven_land (of_type_7 records)
-      (all_weaker Fit7 (λ r. IsNumber 10 r.land) (λ r f. f.land) (of_type_7 records) fit_7)) land
+      (all_weaker Fit7 (λ r. IsNumber 10 r.land) (λ r f. f.land) (of_type_7 records) (fit Type7))) land
       (known_from_distinct nat_keys (map seven_land (of_type_7 records)) land k)
 
   abbrev landmark_at : ℕ → ℕ × List Body7
@@ -279,8 +209,8 @@ module _ (records : List Record) (linked : IsLinked records) (fits : AllByRecurs
   -- the known facts about a type 1 record and the type I record of its chain
   all_chains : (Q : ℕ × Chain → Type 0) → ((r : Fields1) (link : FieldsI) → Fit1 r → FitI link → Q (r.tlid, chain_of records r link))
       → AllByRecursion Q (chains_of records)
-  all_chains Q h = chains_all records linked Q (λ r link m n. h r link (all_among Fit1 r (of_type_1 records) fit_1 m)
-      (all_among FitI link (of_type_i records) fit_i n))
+  all_chains Q h = chains_all records linked Q (λ r link m n. h r link (all_among Fit1 r (of_type_1 records) (fit Type1) m)
+      (all_among FitI link (of_type_i records) (fit TypeI) n))
 
   contents : ContentsFit (county_of records)
   contents = record {
@@ -288,7 +218,7 @@ module _ (records : List Record) (linked : IsLinked records) (fits : AllByRecurs
     names = all_map (λ (entry : ℕ × Body5). FitsNameBody entry.1) (λ (r : Fields5). (r.feat, r.body))
         (in_order (on five_feat nat_cmp) (of_type_5 records))
         (all-in_order (λ r. FitsNameBody r.body) (on five_feat nat_cmp) (of_type_5 records)
-        (all_weaker Fit5 (λ r. FitsNameBody r.body) (λ r f. f.body) (of_type_5 records) fit_5));
+        (all_weaker Fit5 (λ r. FitsNameBody r.body) (λ r f. f.body) (of_type_5 records) (fit Type5)));
     cenids = all_map (λ (entry : PolygonKey × Option BodyP). IsText 5 entry.0.0) (λ key. (key, polygon_body records key))
         (distinct key_cmp keys)
         (all_weaker (λ key. IsText 5 key.0 × IsNumber 10 key.1) (λ key. IsText 5 key.0) (λ key f. f.0)
@@ -301,7 +231,7 @@ module _ (records : List Record) (linked : IsLinked records) (fits : AllByRecurs
         (all_everywhere (λ land. AllByRecursion FitsLandmark (landmark_at land).1) bodies_fit
         (distinct nat_cmp (map seven_land (of_type_7 records))));
     links = all-in_order FitsLink link_cmp (of_type_8 records)
-        (all_weaker Fit8 FitsLink (λ link f. record { file = f.file; cenid = f.cenid }) (of_type_8 records) fit_8);
+        (all_weaker Fit8 FitsLink (λ link f. record { file = f.file; cenid = f.cenid }) (of_type_8 records) (fit Type8));
   }
 
   numbers : NumbersFit (county_of records)
@@ -311,7 +241,7 @@ module _ (records : List Record) (linked : IsLinked records) (fits : AllByRecurs
     names = all_map (λ (entry : ℕ × Body5). IsNumber 8 entry.0) (λ (r : Fields5). (r.feat, r.body))
         (in_order (on five_feat nat_cmp) (of_type_5 records))
         (all-in_order (λ r. IsNumber 8 r.feat) (on five_feat nat_cmp) (of_type_5 records)
-        (all_weaker Fit5 (λ r. IsNumber 8 r.feat) (λ r f. f.feat) (of_type_5 records) fit_5));
+        (all_weaker Fit5 (λ r. IsNumber 8 r.feat) (λ r f. f.feat) (of_type_5 records) (fit Type5)));
     polygons = all_map (λ (entry : PolygonKey × Option BodyP). IsNumber 10 entry.0.1) (λ key. (key, polygon_body records key))
         (distinct key_cmp keys)
         (all_weaker (λ key. IsText 5 key.0 × IsNumber 10 key.1) (λ key. IsNumber 10 key.1) (λ key f. f.1)
@@ -320,9 +250,9 @@ module _ (records : List Record) (linked : IsLinked records) (fits : AllByRecurs
         (distinct nat_cmp (map seven_land (of_type_7 records)))
         (all_known nat_keys (IsNumber 10) (distinct nat_cmp (map seven_land (of_type_7 records))) land_fits);
     link_polygons = all-in_order (λ link. IsNumber 10 link.polyid) link_cmp (of_type_8 records)
-        (all_weaker Fit8 (λ link. IsNumber 10 link.polyid) (λ link f. f.polyid) (of_type_8 records) fit_8);
+        (all_weaker Fit8 (λ link. IsNumber 10 link.polyid) (λ link f. f.polyid) (of_type_8 records) (fit Type8));
     link_lands = all-in_order (λ link. IsNumber 10 link.land) link_cmp (of_type_8 records)
-        (all_weaker Fit8 (λ link. IsNumber 10 link.land) (λ link f. f.land) (of_type_8 records) fit_8);
+        (all_weaker Fit8 (λ link. IsNumber 10 link.land) (λ link f. f.land) (of_type_8 records) (fit Type8));
   }
 
   -- a chain has at most as many records of a type as there are RTSQs
@@ -341,15 +271,15 @@ module _ (records : List Record) (linked : IsLinked records) (fits : AllByRecurs
 
   few_twos : (n : ℕ) → length (of_number two_tlid n (of_type_2 records)) ≤ greatest_rtsq
   few_twos n = few_records two_tlid two_rtsq n (of_type_2 records)
-      (all_weaker Fit2 (λ r. IsNumber 3 r.rtsq) (λ r f. f.rtsq) (of_type_2 records) fit_2) (linked (SequenceBroken sequenced.Two n))
+      (all_weaker Fit2 (λ r. IsNumber 3 r.rtsq) (λ r f. f.rtsq) (of_type_2 records) (fit Type2)) (linked (SequenceBroken sequenced.Two n))
 
   few_fours : (n : ℕ) → length (of_number four_tlid n (of_type_4 records)) ≤ greatest_rtsq
   few_fours n = few_records four_tlid four_rtsq n (of_type_4 records)
-      (all_weaker Fit4 (λ r. IsNumber 3 r.rtsq) (λ r f. f.rtsq) (of_type_4 records) fit_4) (linked (SequenceBroken sequenced.Four n))
+      (all_weaker Fit4 (λ r. IsNumber 3 r.rtsq) (λ r f. f.rtsq) (of_type_4 records) (fit Type4)) (linked (SequenceBroken sequenced.Four n))
 
   few_sixes : (n : ℕ) → length (of_number six_tlid n (of_type_6 records)) ≤ greatest_rtsq
   few_sixes n = few_records six_tlid six_rtsq n (of_type_6 records)
-      (all_weaker Fit6 (λ r. IsNumber 3 r.rtsq) (λ r f. f.rtsq) (of_type_6 records) fit_6) (linked (SequenceBroken sequenced.Six n))
+      (all_weaker Fit6 (λ r. IsNumber 3 r.rtsq) (λ r f. f.rtsq) (of_type_6 records) (fit Type6)) (linked (SequenceBroken sequenced.Six n))
 
   -- the records of a chain hold its lists
   held : {X Y : Type 0} (width : ℕ) (tlid rtsq : X → ℕ) (content : X → List Y) (n : ℕ) (xs : List X)
@@ -364,11 +294,11 @@ module _ (records : List Record) (linked : IsLinked records) (fits : AllByRecurs
 
   points_held : (n : ℕ) → length (shape_points records n) ≤ 10 * length (of_number two_tlid n (of_type_2 records))
   points_held n = held 10 two_tlid two_rtsq (λ (r : Fields2). r.points) n (of_type_2 records)
-      (all_weaker Fit2 (λ r. length r.points ≤ 10) (λ r f. f.len) (of_type_2 records) fit_2)
+      (all_weaker Fit2 (λ r. length r.points ≤ 10) (λ r f. f.len) (of_type_2 records) (fit Type2))
 
   feats_held : (n : ℕ) → length (further_names records n) ≤ 5 * length (of_number four_tlid n (of_type_4 records))
   feats_held n = held 5 four_tlid four_rtsq (λ (r : Fields4). r.feats) n (of_type_4 records)
-      (all_weaker Fit4 (λ r. length r.feats ≤ 5) (λ r f. f.len) (of_type_4 records) fit_4)
+      (all_weaker Fit4 (λ r. length r.feats ≤ 5) (λ r f. f.len) (of_type_4 records) (fit Type4))
 
   ranges_held : (n : ℕ) → length (further_ranges records n) ≡ length (of_number six_tlid n (of_type_6 records))
   ranges_held n = length-map (in_order (on six_rtsq nat_cmp) (of_number six_tlid n (of_type_6 records))) (λ (r : Fields6). r.ranges)

@@ -8,9 +8,10 @@ use Rattle.tl_layout.specs.Coordinates.{Coordinates, IsOnMap}
 use Rattle.tl_layout.specs.Fields.{Fields8, FieldsP}
 use Rattle.tl_layout.specs.Numbers.{IsNumber}
 use Rattle.tl_layout.specs.RecordText.{FitsRecord}
+use Rattle.tl_layout.specs.RecordTypes.{RecordType, Type1, Type2, Type4, Type5, Type6, Type7, Type8, TypeI, TypeP, record_of}
+use Rattle.tl_layout.specs.RecordTypes.{ListsByType, listed_by_type, later_types}
 use Rattle.tl_layout.specs.declared.ranges.Ranges.{Ranges}
 use Rattle.tl_layout.specs.declared.record_type.Record.{Record}
-use Rattle.tl_layout.specs.declared.record_type.Record.TheVariants.{One, Two, Four, Five, Six, Seven, Eight, I, P}
 use Rattle.tl_layout.specs.declared.type5.Body5.{Body5}
 use Rattle.tl_layout.specs.declared.type7.Body7.{Body7}
 use Rattle.tl_layout.specs.declared.type_p.BodyP.{BodyP}
@@ -22,14 +23,21 @@ use Rattle.tl_county.specs.Limits.{NumbersFit, greatest_rtsq}
 use Rattle.ordered_lists.specs.Orders.{in_order}
 use Rattle.tl_county.specs.Packing.{in_pieces, numbered_from, first_point, last_point, without_last, inner_points, packed_one}
 use Rattle.tl_county.specs.Packing.{packed_twos, packed_fours, packed_five, packed_sixes, packed_sevens, packed_i, packed_body}
-use Rattle.tl_county.specs.Packing.{packed_p, p_polyid, packed}
+use Rattle.tl_county.specs.Packing.{packed_p, p_polyid, packed_by_type, packed}
 use Rattle.tl_county.specs.PolygonKeys.{PolygonKey}
 use Rattle.tl_county.proofs.Packing.Pieces.{few_pieces, short_pieces, all_in_pieces, all_numbered_from}
 use Rattle.ordered_lists.proofs.Lists.Counted.{all_selected}
-use Rattle.tl_county.proofs.Limits.FieldsFit.{Fit1, Fit2, Fit4, Fit5, Fit6, Fit7, Fit8, FitI, FitP, columns_1, columns_2, columns_4}
-use Rattle.tl_county.proofs.Limits.FieldsFit.{columns_5, columns_6, columns_7, columns_8, columns_i, columns_p}
+use Rattle.tl_county.proofs.Limits.FieldsFit.{Fit, Fit1, Fit2, Fit4, Fit5, Fit6, Fit7, Fit8, FitI, FitP, columns}
+use Rattle.tl_county.specs.Laws.PackedTypes.{lists_of}
 use Rattle.ordered_lists.proofs.Lists.Elements.{all_weaker, all_both, all_map, all_append, all_joined}
 use Rattle.ordered_lists.proofs.ByKey.Numbers.{all-in_order}
+
+-- records type after type have a property that the records of each type have
+all_by_type : (P : Record → Type 0) (lists : ListsByType) (t : RecordType) (us : List RecordType)
+    → ((u : RecordType) → AllByRecursion (λ fields. P (record_of u fields)) (lists u)) → AllByRecursion P (listed_by_type lists t us)
+all_by_type P lists t [] all = all_map P (record_of t) (lists t) (all t)
+all_by_type P lists t (u ∷ us) all = all_append P (map (record_of t) (lists t)) (listed_by_type lists u us)
+    (all_map P (record_of t) (lists t) (all t)) (all_by_type P lists u us all)
 
 first_holds : (Q : Coordinates → Type 0) (points : List Coordinates) → 1 ≤ length points → AllByRecursion Q points → Q (first_point points)
 first_holds Q [] h a = absurd (omega (arith, h))
@@ -169,40 +177,23 @@ module _ (county : County) (whole : IsWhole county) (contents : ContentsFit coun
       (all_both (λ entry. IfSome entry.1 (FitsPolygon entry.0.0))
       (λ entry. IsNumber 10 entry.0.1) county.polygons contents.polygons numbers.polygons))
 
-  -- records of one type, as records of any type
-  wrapped : {X : Type 0} (Fit : X → Type 0) (wrap : X → Record) → ((x : X) → Fit x → FitsRecord (wrap x)) → (xs : List X)
-      → AllByRecursion Fit xs → AllByRecursion FitsRecord (map wrap xs)
-  wrapped Fit wrap w xs a = all_map FitsRecord wrap xs (all_weaker Fit (λ x. FitsRecord (wrap x)) w xs a)
-
-  pub packed-fits : AllByRecursion FitsRecord (packed county)
-  unfolding FitsRecord
-  packed-fits =
-      all_append FitsRecord (map One (map packed_one county.chains)) _
-      (wrapped Fit1 One columns_1 (map packed_one county.chains)
-      (all_map Fit1 packed_one county.chains
-      (all_weaker IsFitEntry (λ entry. Fit1 (packed_one entry))
-      (λ entry h. one_fits entry h.1.0 h.0 h.1.1.0) county.chains fit_entries)))
-      (all_append FitsRecord (map Two (flat_map packed_twos county.chains)) _
-      (wrapped Fit2 Two columns_2 (flat_map packed_twos county.chains)
-      (each_chain Fit2 packed_twos (λ entry h. twos_fit entry h.1.0 h.1.1.0 h.1.1.1.1)))
-      (all_append FitsRecord (map Four (flat_map packed_fours county.chains)) _
-      (wrapped Fit4 Four columns_4 (flat_map packed_fours county.chains)
-      (each_chain Fit4 packed_fours (λ entry h. fours_fit entry h.1.0 h.1.1.1.0 h.1.1.1.1)))
-      (all_append FitsRecord (map Five (map packed_five county.names)) _
-      (wrapped Fit5 Five columns_5 (map packed_five county.names)
-      (all_map Fit5 packed_five county.names
+  -- the records of each type fit
+  fit : (t : RecordType) → AllByRecursion (Fit t) (lists_of (packed_by_type county) t)
+  fit Type1 = all_map Fit1 packed_one county.chains (all_weaker IsFitEntry (λ entry. Fit1 (packed_one entry))
+      (λ entry h. one_fits entry h.1.0 h.0 h.1.1.0) county.chains fit_entries)
+  fit Type2 = each_chain Fit2 packed_twos (λ entry h. twos_fit entry h.1.0 h.1.1.0 h.1.1.1.1)
+  fit Type4 = each_chain Fit4 packed_fours (λ entry h. fours_fit entry h.1.0 h.1.1.1.0 h.1.1.1.1)
+  fit Type5 = all_map Fit5 packed_five county.names
       (all_weaker (λ (entry : ℕ × Body5). IsNumber 8 entry.0 × FitsNameBody entry.1) (λ entry. Fit5 (packed_five entry))
       (λ entry h. record { feat = h.0; body = h.1 }) county.names
-      (all_both (λ (entry : ℕ × Body5). IsNumber 8 entry.0) (λ entry. FitsNameBody entry.1) county.names numbers.names contents.names))))
-      (all_append FitsRecord (map Six (flat_map packed_sixes county.chains)) _
-      (wrapped Fit6 Six columns_6 (flat_map packed_sixes county.chains)
-      (each_chain Fit6 packed_sixes (λ entry h. sixes_fit entry h.1.0 h.1.1.0 h.1.1.1.1)))
-      (all_append FitsRecord (map Seven (flat_map packed_sevens county.landmarks)) _
-      (wrapped Fit7 Seven columns_7 (flat_map packed_sevens county.landmarks) sevens_fit)
-      (all_append FitsRecord (map Eight county.links) _ (wrapped Fit8 Eight columns_8 county.links eights_fit)
-      (all_append FitsRecord (map I (map packed_i county.chains)) _
-      (wrapped FitI I columns_i (map packed_i county.chains)
-      (all_map FitI packed_i county.chains
-      (all_weaker IsFitEntry (λ entry. FitI (packed_i entry))
-      (λ entry h. i_fits entry h.1.0 h.1.1.0 h.1.1.1.0) county.chains fit_entries)))
-      (wrapped FitP P columns_p (in_order (on p_polyid nat_cmp) (filter_map packed_p county.polygons)) ps_fit))))))))
+      (all_both (λ (entry : ℕ × Body5). IsNumber 8 entry.0) (λ entry. FitsNameBody entry.1) county.names numbers.names contents.names))
+  fit Type6 = each_chain Fit6 packed_sixes (λ entry h. sixes_fit entry h.1.0 h.1.1.0 h.1.1.1.1)
+  fit Type7 = sevens_fit
+  fit Type8 = eights_fit
+  fit TypeI = all_map FitI packed_i county.chains (all_weaker IsFitEntry (λ entry. FitI (packed_i entry))
+      (λ entry h. i_fits entry h.1.0 h.1.1.0 h.1.1.1.0) county.chains fit_entries)
+  fit TypeP = ps_fit
+
+  pub packed-fits : AllByRecursion FitsRecord (packed county)
+  packed-fits = all_by_type FitsRecord (lists_of (packed_by_type county)) Type1 later_types
+      (λ t. all_weaker (Fit t) (λ fields. FitsRecord (record_of t fields)) (columns t) (lists_of (packed_by_type county) t) (fit t))

@@ -21,7 +21,8 @@ use Rattle.tl_county.specs.Packing.{packed_five, packed_sevens, packed_i, packed
 use Rattle.ordered_lists.proofs.ByKey.Keys.{IsApart, nat_keys}
 use Rattle.ordered_lists.proofs.ByKey.Keys.{apart_from_sorted}
 use Rattle.ordered_lists.proofs.Lists.Elements.{map-map, all_map, all_everywhere}
-use Rattle.tl_county.specs.Laws.PackedTypes.{type_1, type_2, type_4, type_5, type_6, type_7, type_8, type_i, type_p}
+use Rattle.tl_layout.specs.RecordTypes.{Type1, Type2, Type4, Type5, Type6, Type7, Type8, TypeI, TypeP}
+use Rattle.tl_county.specs.Laws.PackedTypes.{of_its_type}
 
 -- each record of an entry has its number
 pub two_own : (e : ℕ × Chain) → AllByRecursion (λ x. two_tlid x ≡ e.0) (packed_twos e)
@@ -61,31 +62,31 @@ module _ (c : County) (is : IsCounty c) where
 
   -- the records of each type
   pub ones : of_type_1 (packed c) ≡ map packed_one c.chains
-  ones = type_1 (packed_by_type c)
+  ones = of_its_type (packed_by_type c) Type1
 
   pub twos : of_type_2 (packed c) ≡ flat_map packed_twos c.chains
-  twos = type_2 (packed_by_type c)
+  twos = of_its_type (packed_by_type c) Type2
 
   pub fours : of_type_4 (packed c) ≡ flat_map packed_fours c.chains
-  fours = type_4 (packed_by_type c)
+  fours = of_its_type (packed_by_type c) Type4
 
   pub fives : of_type_5 (packed c) ≡ map packed_five c.names
-  fives = type_5 (packed_by_type c)
+  fives = of_its_type (packed_by_type c) Type5
 
   pub sixes : of_type_6 (packed c) ≡ flat_map packed_sixes c.chains
-  sixes = type_6 (packed_by_type c)
+  sixes = of_its_type (packed_by_type c) Type6
 
   pub sevens : of_type_7 (packed c) ≡ flat_map packed_sevens c.landmarks
-  sevens = type_7 (packed_by_type c)
+  sevens = of_its_type (packed_by_type c) Type7
 
   pub eights : of_type_8 (packed c) ≡ c.links
-  eights = type_8 (packed_by_type c)
+  eights = of_its_type (packed_by_type c) Type8
 
   pub links_of_chains : of_type_i (packed c) ≡ map packed_i c.chains
-  links_of_chains = type_i (packed_by_type c)
+  links_of_chains = of_its_type (packed_by_type c) TypeI
 
   pub polygons_packed : of_type_p (packed c) ≡ in_order (on p_polyid nat_cmp) (filter_map packed_p c.polygons)
-  polygons_packed = type_p (packed_by_type c)
+  polygons_packed = of_its_type (packed_by_type c) TypeP
 
   -- their numbers
   pub chain_numbers : chain_tlids (packed c) ≡ tlids c

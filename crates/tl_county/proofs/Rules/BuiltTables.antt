@@ -44,7 +44,8 @@ use Rattle.ordered_lists.proofs.Lists.Reordered.{SameElements, from_permutation}
 use Rattle.tl_county.proofs.Rules.RuleTests.{in_order-first}
 use Rattle.tl_county.proofs.Sameness.SameCounty.{reordered-county}
 use Rattle.tl_county.proofs.Sameness.SameRules.{same-sym, same-linked, same-first}
-use Rattle.tl_county.proofs.Rules.TypedRecords.{by_type-after, grouped, permuted-after}
+use Rattle.tl_county.proofs.Rules.TypedRecords.{grouped, permuted-after}
+use Rattle.tl_county.specs.Laws.PackedTypes.{by_type_of}
 
 pub length-chains_along : (twos : List Fields2) (fours : List Fields4) (sixes : List Fields6) (rs : List Fields1) (ls : List FieldsI)
     → map one_tlid rs ≡ map i_tlid ls → length (map one_tlid rs) ≡ length (chains_along twos fours sixes rs ls)
@@ -80,18 +81,18 @@ module _ (t : Typed) (order : AreInOrder t) where
 
   module _ (linked : IsLinked (type_after_type t)) where
     ordered : AreInOrder (by_type (type_after_type t))
-    ordered = subst AreInOrder (sym (by_type-after t)) order
+    ordered = subst AreInOrder (sym (by_type_of t)) order
 
     pub tlids-ascend : IsStrictlySortedBy nat_cmp (map one_tlid t.of_type_1)
-    tlids-ascend = subst (λ (u : Typed). IsStrictlySortedBy nat_cmp (map one_tlid u.of_type_1)) (by_type-after t)
+    tlids-ascend = subst (λ (u : Typed). IsStrictlySortedBy nat_cmp (map one_tlid u.of_type_1)) (by_type_of t)
         (tlids-strict (type_after_type t) ordered linked)
 
     pub feats-ascend : IsStrictlySortedBy nat_cmp (map five_feat t.of_type_5)
-    feats-ascend = subst (λ (u : Typed). IsStrictlySortedBy nat_cmp (map five_feat u.of_type_5)) (by_type-after t)
+    feats-ascend = subst (λ (u : Typed). IsStrictlySortedBy nat_cmp (map five_feat u.of_type_5)) (by_type_of t)
         (feats-strict (type_after_type t) ordered linked)
 
     pub beside : map one_tlid t.of_type_1 ≡ map i_tlid t.of_type_i
-    beside = subst (λ (u : Typed). map one_tlid u.of_type_1 ≡ map i_tlid u.of_type_i) (by_type-after t)
+    beside = subst (λ (u : Typed). map one_tlid u.of_type_1 ≡ map i_tlid u.of_type_i) (by_type_of t)
         (side_by_side (type_after_type t) ordered linked)
 
     pub nodes-built : nodes (county_along t) ≡ distinct nat_cmp (flat_map link_nodes t.of_type_i)
@@ -103,7 +104,7 @@ module _ (t : Typed) (order : AreInOrder t) where
         ∙ nodes-chains_along t.of_type_2 t.of_type_4 t.of_type_6 t.of_type_1 t.of_type_i beside)
 
     pub as_built : county_of (type_after_type t) ≡ county_along t
-    as_built = county-built (type_after_type t) ordered linked ∙ ap county_along (by_type-after t)
+    as_built = county-built (type_after_type t) ordered linked ∙ ap county_along (by_type_of t)
 
     pub built-is_county : IsCounty (county_along t)
     built-is_county = subst IsCounty as_built (county-is_county (type_after_type t) linked)

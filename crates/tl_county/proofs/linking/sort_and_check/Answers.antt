@@ -1,20 +1,19 @@
-use Rattle.std.proofs.Common.{◌≡◌, ◌≢◌, List, Result, IfErr, IsErrAnd}
+use Rattle.std.proofs.Common.{◌≢◌, List}
 use Rattle.tl_layout.proofs.Exits.{exit_with}
 use Rattle.tl_layout.specs.Tables.{HoldsByType}
 use Rattle.tl_layout.specs.declared.record_type.Record.{Record}
 use Rattle.tl_county.specs.LinkRules.{IsFirstBrokenRule}
 use Rattle.tl_county.specs.OrderedTables.{typed_of}
 use Rattle.tl_county.specs.Packing.{type_after_type}
-use Rattle.tl_county.specs.declared.fault.LinkFault.{LinkFault}
 use Rattle.tl_county.specs.declared.fault.LinkFault.TheVariants.{Memory}
 use Rattle.tl_county.proofs.Rules.BuiltTables.{also_first, held}
-use Rattle.tl_county.proofs.Rules.TypedRecords.{by_type-after}
+use Rattle.tl_county.specs.Laws.PackedTypes.{by_type_of}
 use Rattle.tl_county.proofs.linking.sort_and_check.Goals as goal
 
 pub returns-clause-linked : goal.returns-clause-linked
 returns-clause-linked c =
     let u = typed_of c.order_tables.new.tables in
-    c.in_ok-check_rules.ensures.linked (type_after_type u) (by_type-after u)
+    c.in_ok-check_rules.ensures.linked (type_after_type u) (by_type_of u)
 
 pub returns-in_err-check_rules-clause-broken : goal.returns-in_err-check_rules-clause-broken
 returns-in_err-check_rules-clause-broken c =
@@ -24,4 +23,4 @@ returns-in_err-check_rules-clause-broken c =
     c.from_residual-in_err-check_rules.ensures.1
     (λ ne records h. also_first records (typed_of c.args.tables.now) u (held c.args.tables.now records h) c.in_ok-ordered.ensures.same
     _
-    (c.in_err-check_rules.ensures.broken (type_after_type u) (by_type-after u)))
+    (c.in_err-check_rules.ensures.broken (type_after_type u) (by_type_of u)))

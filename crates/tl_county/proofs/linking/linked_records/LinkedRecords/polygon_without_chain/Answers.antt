@@ -6,7 +6,7 @@ use Rattle.tl_county.specs.OrderedTables.{typed_of}
 use Rattle.tl_county.specs.Packing.{Typed, type_after_type}
 use Rattle.tl_county.specs.PolygonKeys.{key_cmp}
 use Rattle.ordered_lists.proofs.ByKey.KeyedLists.{least-same}
-use Rattle.tl_county.proofs.Rules.TypedRecords.{by_type-after}
+use Rattle.tl_county.specs.Laws.PackedTypes.{by_type_of}
 use Rattle.tl_county.proofs.Rules.WithoutChain.{same_without_chain}
 use Rattle.tl_county.proofs.linking.linked_records.LinkedRecords.polygon_without_chain.Goals as goal
 
@@ -17,6 +17,6 @@ returns c =
     (c.self.view_is)
     (least-same key_cmp (is_unknown key_cmp (map p_key t.of_type_p) (flat_map side_keys t.of_type_i))
     (is_without_chain (county_of (type_after_type t)))
-    (λ key. ap (λ (u : Typed). is_unknown key_cmp (map p_key u.of_type_p) (flat_map side_keys u.of_type_i) key) (sym (by_type-after t))
+    (λ key. ap (λ (u : Typed). is_unknown key_cmp (map p_key u.of_type_p) (flat_map side_keys u.of_type_i) key) (sym (by_type_of t))
     ∙ same_without_chain (type_after_type t) c.self.invariant.1 key)
     c.self.inside.polygons.without_side c.self.invariant.6)
