@@ -9,8 +9,8 @@ use Rattle.tl_county.specs.declared.fault.LinkFault.TheVariants.{ChainTwice, Seq
 use Rattle.tl_county.specs.declared.fault.LinkFault.TheVariants.{NameTwice, PolygonTwice}
 use Rattle.tl_county.specs.declared.fault.SequencedType.TheVariants as sequenced
 use Rattle.tl_county.specs.BodyOrder.{landmark_body_cmp}
-use Rattle.tl_layout.specs.ByType.{as_type_1, as_type_2, as_type_4, as_type_5, as_type_6, as_type_7, as_type_8, as_type_i}
-use Rattle.tl_layout.specs.ByType.{as_type_p, of_type_1, of_type_2, of_type_4, of_type_5, of_type_6, of_type_7, of_type_8}
+use Rattle.tl_layout.specs.ByType.{of_type_1, of_type_2, of_type_4, of_type_5, of_type_6, of_type_7, of_type_8}
+use Rattle.tl_layout.specs.RecordTypes.{RecordType, Type1, Type2, Type4, Type5, Type6, Type7, Type8, TypeI, TypeP, of_type}
 use Rattle.tl_layout.specs.ByType.{of_type_i, of_type_p, of_number}
 use Rattle.tl_county.specs.County.{one_tlid, two_tlid, two_rtsq, four_tlid, four_rtsq, five_feat, six_tlid, six_rtsq, seven_land}
 use Rattle.tl_county.specs.County.{i_tlid, p_key, chain_of, chains_of, side_keys, first, polygon_body}
@@ -19,46 +19,22 @@ use Rattle.tl_county.specs.LinkRules.{chain_tlids, IsLinked}
 use Rattle.ordered_lists.specs.Orders.{times, has_repeat, in_order, distinct}
 use Rattle.tl_county.specs.PolygonKeys.{PolygonKey, key_cmp}
 use Rattle.tl_county.proofs.Sameness.SameChains.{chains_alike}
-use Rattle.tl_county.proofs.Sameness.SameRules.{keys_alike, s_lands, same-linked}
+use Rattle.tl_county.proofs.Sameness.SameRules.{keys_alike, same_of_type, same_in_type, same-linked}
 use Rattle.ordered_lists.proofs.Lists.Distinct.{apart_from_no_repeat}
 use Rattle.tl_county.specs.Laws.KeyOrders.{key_keys, landmark_body_keys, link_keys}
 use Rattle.ordered_lists.proofs.ByKey.Keys.{nat_keys}
 use Rattle.ordered_lists.proofs.Lists.Elements.{map_agree_everywhere}
 use Rattle.tl_county.proofs.Lists.OfNumber.{times-of_number}
 use Rattle.ordered_lists.proofs.ByKey.Numbers.{count-map}
-use Rattle.ordered_lists.proofs.Lists.Reordered.{SameElements, from_permutation, same-filter_map, same-filter, same-map, times-same}
+use Rattle.ordered_lists.proofs.Lists.Reordered.{SameElements, from_permutation, same-filter, same-map, times-same}
 use Rattle.ordered_lists.proofs.Lists.Reordered.{few_same, numbered_same, ordered_same, distinct_same}
 
 module _ (xs ys : List Record) (p : IsPermutation xs ys) (linked : IsLinked xs) where
   s_all : SameElements xs ys
   s_all = from_permutation xs ys p
 
-  s_ones : SameElements (of_type_1 xs) (of_type_1 ys)
-  s_ones = same-filter_map as_type_1 xs ys s_all
-
-  s_twos : SameElements (of_type_2 xs) (of_type_2 ys)
-  s_twos = same-filter_map as_type_2 xs ys s_all
-
-  s_fours : SameElements (of_type_4 xs) (of_type_4 ys)
-  s_fours = same-filter_map as_type_4 xs ys s_all
-
-  s_fives : SameElements (of_type_5 xs) (of_type_5 ys)
-  s_fives = same-filter_map as_type_5 xs ys s_all
-
-  s_sixes : SameElements (of_type_6 xs) (of_type_6 ys)
-  s_sixes = same-filter_map as_type_6 xs ys s_all
-
-  s_sevens : SameElements (of_type_7 xs) (of_type_7 ys)
-  s_sevens = same-filter_map as_type_7 xs ys s_all
-
-  s_eights : SameElements (of_type_8 xs) (of_type_8 ys)
-  s_eights = same-filter_map as_type_8 xs ys s_all
-
-  s_is : SameElements (of_type_i xs) (of_type_i ys)
-  s_is = same-filter_map as_type_i xs ys s_all
-
-  s_ps : SameElements (of_type_p xs) (of_type_p ys)
-  s_ps = same-filter_map as_type_p xs ys s_all
+  same : (t : RecordType) → SameElements (of_type t xs) (of_type t ys)
+  same = same_of_type xs ys s_all
 
   pub reordered-linked : IsLinked ys
   reordered-linked = same-linked xs ys s_all linked
@@ -74,11 +50,11 @@ module _ (xs ys : List Record) (p : IsPermutation xs ys) (linked : IsLinked xs) 
   chain_same : (r : Fields1) (link : FieldsI) → chain_of xs r link ≡ chain_of ys r link
   chain_same r link = λ i. record (chain_of xs r link) {
     points = r.start ∷ (flat_map (λ (q : Fields2). q.points)
-        (in_sequence two_tlid two_rtsq r.tlid (of_type_2 xs) (of_type_2 ys) s_twos (linked (SequenceBroken sequenced.Two r.tlid)) i) ++
+        (in_sequence two_tlid two_rtsq r.tlid (of_type_2 xs) (of_type_2 ys) (same Type2) (linked (SequenceBroken sequenced.Two r.tlid)) i) ++
         (r.end ∷ []));
-    feats = flat_map (λ (q : Fields4). q.feats) (in_sequence four_tlid four_rtsq r.tlid (of_type_4 xs) (of_type_4 ys) s_fours
+    feats = flat_map (λ (q : Fields4). q.feats) (in_sequence four_tlid four_rtsq r.tlid (of_type_4 xs) (of_type_4 ys) (same Type4)
         (linked (SequenceBroken sequenced.Four r.tlid)) i);
-    ranges = map (λ (q : Fields6). q.ranges) (in_sequence six_tlid six_rtsq r.tlid (of_type_6 xs) (of_type_6 ys) s_sixes
+    ranges = map (λ (q : Fields6). q.ranges) (in_sequence six_tlid six_rtsq r.tlid (of_type_6 xs) (of_type_6 ys) (same Type6)
         (linked (SequenceBroken sequenced.Six r.tlid)) i);
   }
 
@@ -88,10 +64,10 @@ module _ (xs ys : List Record) (p : IsPermutation xs ys) (linked : IsLinked xs) 
       times-of_number i_tlid n (of_type_i xs) in
       let u : times nat_cmp n (map i_tlid (of_type_i xs)) ≤ 1 =
       ltb-false 1 (times nat_cmp n (map i_tlid (of_type_i xs))) (linked (LinkTwice n)) in omega arith)
-      (same-filter (λ l. l.tlid == n) (of_type_i xs) (of_type_i ys) s_is)
+      (same-filter (λ l. l.tlid == n) (of_type_i xs) (of_type_i ys) (same TypeI))
 
   chains_same : chains_of xs ≡ chains_of ys
-  chains_same = chains_alike xs ys chain_same links_same (numbered_same one_tlid (of_type_1 xs) (of_type_1 ys) s_ones
+  chains_same = chains_alike xs ys chain_same links_same (numbered_same one_tlid (of_type_1 xs) (of_type_1 ys) (same Type1)
       (λ n. ltb-false 1 (times nat_cmp n (chain_tlids xs)) (linked (ChainTwice n))))
 
   body_same : (k : PolygonKey) → polygon_body xs k ≡ polygon_body ys k
@@ -101,7 +77,7 @@ module _ (xs ys : List Record) (p : IsPermutation xs ys) (linked : IsLinked xs) 
       count-map (λ j. is_eq (key_cmp k j)) p_key (of_type_p xs) in
       let u : times key_cmp k (map p_key (of_type_p xs)) ≤ 1 =
       ltb-false 1 (times key_cmp k (map p_key (of_type_p xs))) (linked (PolygonTwice k.0 k.1)) in omega arith)
-      (same-filter (λ q. is_eq (key_cmp k (p_key q))) (of_type_p xs) (of_type_p ys) s_ps))
+      (same-filter (λ q. is_eq (key_cmp k (p_key q))) (of_type_p xs) (of_type_p ys) (same TypeP)))
 
   polygons_same : polygons_of xs ≡ polygons_of ys
   polygons_same =
@@ -123,20 +99,20 @@ module _ (xs ys : List Record) (p : IsPermutation xs ys) (linked : IsLinked xs) 
         ordered_same landmark_body_keys (map (λ (q : Fields7). q.body) (of_number seven_land land (of_type_7 xs)))
             (map (λ (q : Fields7). q.body) (of_number seven_land land (of_type_7 ys)))
             (same-map (λ (q : Fields7). q.body) (of_number seven_land land (of_type_7 xs)) (of_number seven_land land (of_type_7 ys))
-            (same-filter (λ q. q.land == land) (of_type_7 xs) (of_type_7 ys) s_sevens)) i,
+            (same-filter (λ q. q.land == land) (of_type_7 xs) (of_type_7 ys) (same Type7))) i,
       ))
       (distinct nat_cmp (map seven_land (of_type_7 xs)))
       ∙ ap (map (λ land. (land, in_order landmark_body_cmp (map (λ (q : Fields7). q.body) (of_number seven_land land (of_type_7 ys))))))
       (distinct_same nat_keys (map seven_land (of_type_7 xs)) (map seven_land (of_type_7 ys)) (λ n. ap (nat_lt 0) (times-same nat_cmp (map seven_land (of_type_7 xs)) (map seven_land (of_type_7 ys))
-      (s_lands xs ys s_all) n)))
+      (same_in_type xs ys s_all Type7 seven_land) n)))
 
   pub reordered-county : county_of ys ≡ county_of xs
   reordered-county = λ i. record {
     chains = sym chains_same i;
     names = map (λ (r : Fields5). (r.feat, r.body))
-        (sym (numbered_same five_feat (of_type_5 xs) (of_type_5 ys) s_fives
+        (sym (numbered_same five_feat (of_type_5 xs) (of_type_5 ys) (same Type5)
         (λ n. ltb-false 1 (times nat_cmp n (map five_feat (of_type_5 xs))) (linked (NameTwice n)))) i);
     polygons = sym polygons_same i;
     landmarks = sym landmarks_same i;
-    links = sym (ordered_same link_keys (of_type_8 xs) (of_type_8 ys) s_eights) i;
+    links = sym (ordered_same link_keys (of_type_8 xs) (of_type_8 ys) (same Type8)) i;
   }

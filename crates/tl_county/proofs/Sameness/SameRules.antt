@@ -2,9 +2,9 @@
 use Rattle.std.proofs.Common.{◌≡◌, ◌⊎◌, ℕ, nat_lt, ◌==◌, List, ◌++◌, map, flat_map, Bool, true, false, not, ◌&&◌}
 use Rattle.std.proofs.Common.{sym, refl, ap, ap₂, ◌∙◌, subst, inl, inr, nat_cmp}
 use Rattle.std.proofs.lemmas.Bool.{false≢true}
-use Rattle.tl_layout.specs.ByType.{as_type_1, as_type_2, as_type_4, as_type_5, as_type_6, as_type_7, as_type_8, as_type_i}
-use Rattle.tl_layout.specs.ByType.{as_type_p, of_type_1, of_type_2, of_type_4, of_type_5, of_type_6, of_type_7, of_type_8}
+use Rattle.tl_layout.specs.ByType.{of_type_2, of_type_4, of_type_5, of_type_6, of_type_7, of_type_8}
 use Rattle.tl_layout.specs.ByType.{of_type_i, of_type_p, of_number}
+use Rattle.tl_layout.specs.RecordTypes.{RecordType, Type1, Type2, Type4, Type5, Type6, Type7, Type8, TypeI, TypeP, FieldsOf, as_type, of_type}
 use Rattle.tl_layout.specs.Fields.{Fields4, FieldsI, FieldsP}
 use Rattle.tl_layout.specs.declared.record_type.Record.{Record}
 use Rattle.tl_county.specs.declared.fault.LinkFault.{LinkFault}
@@ -49,32 +49,21 @@ sequence_of : {X : Type 0} (number rtsq : X → ℕ) (n : ℕ) (us vs : List X) 
 sequence_of number rtsq n us vs s = same-map rtsq (of_number number n us) (of_number number n vs) (same-filter (λ x. number x == n) us vs s)
 
 module _ (xs ys : List Record) (s : SameElements xs ys) where
-  s_ones : SameElements (chain_tlids xs) (chain_tlids ys)
-  s_ones = same-map one_tlid (of_type_1 xs) (of_type_1 ys) (same-filter_map as_type_1 xs ys s)
+  -- the same records of each type
+  pub same_of_type : (t : RecordType) → SameElements (of_type t xs) (of_type t ys)
+  same_of_type t = same-filter_map (as_type t) xs ys s
+
+  pub same_in_type : {Y : Type 0} (t : RecordType) (f : FieldsOf t → Y) → SameElements (map f (of_type t xs)) (map f (of_type t ys))
+  same_in_type t f = same-map f (of_type t xs) (of_type t ys) (same_of_type t)
 
   s_linked : (t : LinkedType) → SameElements (linked_tlids t xs) (linked_tlids t ys)
-  s_linked Two = same-map two_tlid (of_type_2 xs) (of_type_2 ys) (same-filter_map as_type_2 xs ys s)
-  s_linked Four = same-map four_tlid (of_type_4 xs) (of_type_4 ys) (same-filter_map as_type_4 xs ys s)
-  s_linked Six = same-map six_tlid (of_type_6 xs) (of_type_6 ys) (same-filter_map as_type_6 xs ys s)
-  s_linked I = same-map i_tlid (of_type_i xs) (of_type_i ys) (same-filter_map as_type_i xs ys s)
-
-  s_feats : SameElements (map five_feat (of_type_5 xs)) (map five_feat (of_type_5 ys))
-  s_feats = same-map five_feat (of_type_5 xs) (of_type_5 ys) (same-filter_map as_type_5 xs ys s)
-
-  s_eights : {Y : Type 0} (f : _ → Y) → SameElements (map f (of_type_8 xs)) (map f (of_type_8 ys))
-  s_eights f = same-map f (of_type_8 xs) (of_type_8 ys) (same-filter_map as_type_8 xs ys s)
-
-  pub s_lands : SameElements (map seven_land (of_type_7 xs)) (map seven_land (of_type_7 ys))
-  s_lands = same-map seven_land (of_type_7 xs) (of_type_7 ys) (same-filter_map as_type_7 xs ys s)
+  s_linked Two = same_in_type Type2 two_tlid
+  s_linked Four = same_in_type Type4 four_tlid
+  s_linked Six = same_in_type Type6 six_tlid
+  s_linked I = same_in_type TypeI i_tlid
 
   s_fours_of : (n : ℕ) → SameElements (of_number four_tlid n (of_type_4 xs)) (of_number four_tlid n (of_type_4 ys))
-  s_fours_of n = same-filter (λ r. r.tlid == n) (of_type_4 xs) (of_type_4 ys) (same-filter_map as_type_4 xs ys s)
-
-  s_is : SameElements (of_type_i xs) (of_type_i ys)
-  s_is = same-filter_map as_type_i xs ys s
-
-  s_ps : SameElements (of_type_p xs) (of_type_p ys)
-  s_ps = same-filter_map as_type_p xs ys s
+  s_fours_of n = same-filter (λ r. r.tlid == n) (of_type_4 xs) (of_type_4 ys) (same_of_type Type4)
 
   -- the FEATs that a chain names
   named_alike : (n y : ℕ) → stands_in nat_cmp y (named_feats n xs) ≡ stands_in nat_cmp y (named_feats n ys)
@@ -109,40 +98,40 @@ module _ (xs ys : List Record) (s : SameElements xs ys) where
       (flat_map side_keys (of_type_i ys) ++ map p_key (of_type_p ys))
   keys_alike k = stands_alike key_keys (flat_map side_keys (of_type_i xs) ++ map p_key (of_type_p xs))
       (flat_map side_keys (of_type_i ys) ++ map p_key (of_type_p ys)) k
-      (one_way xs ys s_is.there s_ps.there k) (one_way ys xs s_is.back s_ps.back k)
+      (one_way xs ys (same_of_type TypeI).there (same_of_type TypeP).there k) (one_way ys xs (same_of_type TypeI).back (same_of_type TypeP).back k)
 
   pub same-broken : (f : LinkFault) → is_rule_broken xs f ≡ is_rule_broken ys f
-  same-broken (ChainTwice n) = ap (nat_lt 1) (times-same nat_cmp (chain_tlids xs) (chain_tlids ys) s_ones n)
+  same-broken (ChainTwice n) = ap (nat_lt 1) (times-same nat_cmp (chain_tlids xs) (chain_tlids ys) (same_in_type Type1 one_tlid) n)
   same-broken (NoChain t n) =
       ap₂ (λ a b. nat_lt 0 a && not (nat_lt 0 b)) (times-same nat_cmp (linked_tlids t xs) (linked_tlids t ys) (s_linked t) n)
-      (times-same nat_cmp (chain_tlids xs) (chain_tlids ys) s_ones n)
+      (times-same nat_cmp (chain_tlids xs) (chain_tlids ys) (same_in_type Type1 one_tlid) n)
   same-broken (SequenceBroken sequenced.Two n) =
       repeat_same (rtsqs sequenced.Two n xs) (rtsqs sequenced.Two n ys)
-      (sequence_of two_tlid two_rtsq n (of_type_2 xs) (of_type_2 ys) (same-filter_map as_type_2 xs ys s))
+      (sequence_of two_tlid two_rtsq n (of_type_2 xs) (of_type_2 ys) (same_of_type Type2))
   same-broken (SequenceBroken sequenced.Four n) =
       repeat_same (rtsqs sequenced.Four n xs) (rtsqs sequenced.Four n ys)
-      (sequence_of four_tlid four_rtsq n (of_type_4 xs) (of_type_4 ys) (same-filter_map as_type_4 xs ys s))
+      (sequence_of four_tlid four_rtsq n (of_type_4 xs) (of_type_4 ys) (same_of_type Type4))
   same-broken (SequenceBroken sequenced.Six n) =
       repeat_same (rtsqs sequenced.Six n xs) (rtsqs sequenced.Six n ys)
-      (sequence_of six_tlid six_rtsq n (of_type_6 xs) (of_type_6 ys) (same-filter_map as_type_6 xs ys s))
+      (sequence_of six_tlid six_rtsq n (of_type_6 xs) (of_type_6 ys) (same_of_type Type6))
   same-broken (LinkMissing n) =
-      ap₂ (λ a b. nat_lt 0 a && not (nat_lt 0 b)) (times-same nat_cmp (chain_tlids xs) (chain_tlids ys) s_ones n)
+      ap₂ (λ a b. nat_lt 0 a && not (nat_lt 0 b)) (times-same nat_cmp (chain_tlids xs) (chain_tlids ys) (same_in_type Type1 one_tlid) n)
       (times-same nat_cmp (linked_tlids I xs) (linked_tlids I ys) (s_linked I) n)
   same-broken (LinkTwice n) = ap (nat_lt 1) (times-same nat_cmp (linked_tlids I xs) (linked_tlids I ys) (s_linked I) n)
-  same-broken (NameTwice n) = ap (nat_lt 1) (times-same nat_cmp (map five_feat (of_type_5 xs)) (map five_feat (of_type_5 ys)) s_feats n)
+  same-broken (NameTwice n) = ap (nat_lt 1) (times-same nat_cmp (map five_feat (of_type_5 xs)) (map five_feat (of_type_5 ys)) (same_in_type Type5 five_feat) n)
   same-broken (NameUnknown n y) =
       ap₂ (λ a b. a && not (nat_lt 0 b)) (named_alike n y)
-      (times-same nat_cmp (map five_feat (of_type_5 xs)) (map five_feat (of_type_5 ys)) s_feats y)
+      (times-same nat_cmp (map five_feat (of_type_5 xs)) (map five_feat (of_type_5 ys)) (same_in_type Type5 five_feat) y)
   same-broken (PolygonTwice c k) =
       ap (nat_lt 1)
-      (times-same key_cmp (map p_key (of_type_p xs)) (map p_key (of_type_p ys)) (same-map p_key (of_type_p xs) (of_type_p ys) s_ps) (c, k))
+      (times-same key_cmp (map p_key (of_type_p xs)) (map p_key (of_type_p ys)) (same_in_type TypeP p_key) (c, k))
   same-broken (LandUnknown n) =
       ap₂ (λ a b. nat_lt 0 a && not (nat_lt 0 b))
-      (times-same nat_cmp (map eight_land (of_type_8 xs)) (map eight_land (of_type_8 ys)) (s_eights eight_land) n)
-      (times-same nat_cmp (map seven_land (of_type_7 xs)) (map seven_land (of_type_7 ys)) s_lands n)
+      (times-same nat_cmp (map eight_land (of_type_8 xs)) (map eight_land (of_type_8 ys)) (same_in_type Type8 eight_land) n)
+      (times-same nat_cmp (map seven_land (of_type_7 xs)) (map seven_land (of_type_7 ys)) (same_in_type Type7 seven_land) n)
   same-broken (PolygonUnknown c k) =
       ap₂ (λ a b. nat_lt 0 a && not b)
-      (times-same key_cmp (map link_key (of_type_8 xs)) (map link_key (of_type_8 ys)) (s_eights link_key) (c, k)) (keys_alike (c, k))
+      (times-same key_cmp (map link_key (of_type_8 xs)) (map link_key (of_type_8 ys)) (same_in_type Type8 link_key) (c, k)) (keys_alike (c, k))
   same-broken Memory = refl
 
   pub same-linked : IsLinked xs → IsLinked ys

@@ -1,8 +1,10 @@
 -- The records of each type of a packed county.
-use Rattle.std.proofs.Common.{◌≡◌, ◌==◌, List, [], ◌∷◌, ◌++◌, map, cond, refl, ap₂, ◌∙◌, append-nil}
+use Rattle.std.proofs.Common.{◌≡◌, ◌==◌, List, [], ◌∷◌, ◌++◌, map, cond, refl, sym, ap, ap₂, ◌∙◌, append-nil}
+use Rattle.std.proofs.lemmas.Bool.{eq-eqb}
 use Rattle.std.proofs.lemmas.List.Elements.{filter_map-append}
 use Rattle.tl_layout.specs.RecordTypes.{RecordType, Type1, Type2, Type4, Type5, Type6, Type7, Type8, TypeI, TypeP, FieldsOf, byte_of}
 use Rattle.tl_layout.specs.RecordTypes.{record_of, as_type, of_type, ListsByType, listed_by_type, later_types}
+use Rattle.tl_layout.specs.Laws.RecordTypeLaws.{every_type, own_selected}
 use Rattle.tl_county.specs.Packing.{Typed, by_type, type_after_type}
 use Rattle.ordered_lists.proofs.Lists.Elements.{selected_none, selected_own}
 
@@ -24,24 +26,10 @@ module _ (lists : ListsByType) where
   own_or_none t u = cond (byte_of u == byte_of t) (lists t) []
 
   of_one_type : (t u : RecordType) → of_type t (map (record_of u) (lists u)) ≡ own_or_none t u
-  of_one_type Type1 Type1 = selected_own (as_type Type1) (record_of Type1) (λ x. refl) (lists Type1)
-  of_one_type Type1 u = selected_none (as_type Type1) (record_of u) (λ x. refl) (lists u)
-  of_one_type Type2 Type2 = selected_own (as_type Type2) (record_of Type2) (λ x. refl) (lists Type2)
-  of_one_type Type2 u = selected_none (as_type Type2) (record_of u) (λ x. refl) (lists u)
-  of_one_type Type4 Type4 = selected_own (as_type Type4) (record_of Type4) (λ x. refl) (lists Type4)
-  of_one_type Type4 u = selected_none (as_type Type4) (record_of u) (λ x. refl) (lists u)
-  of_one_type Type5 Type5 = selected_own (as_type Type5) (record_of Type5) (λ x. refl) (lists Type5)
-  of_one_type Type5 u = selected_none (as_type Type5) (record_of u) (λ x. refl) (lists u)
-  of_one_type Type6 Type6 = selected_own (as_type Type6) (record_of Type6) (λ x. refl) (lists Type6)
-  of_one_type Type6 u = selected_none (as_type Type6) (record_of u) (λ x. refl) (lists u)
-  of_one_type Type7 Type7 = selected_own (as_type Type7) (record_of Type7) (λ x. refl) (lists Type7)
-  of_one_type Type7 u = selected_none (as_type Type7) (record_of u) (λ x. refl) (lists u)
-  of_one_type Type8 Type8 = selected_own (as_type Type8) (record_of Type8) (λ x. refl) (lists Type8)
-  of_one_type Type8 u = selected_none (as_type Type8) (record_of u) (λ x. refl) (lists u)
-  of_one_type TypeI TypeI = selected_own (as_type TypeI) (record_of TypeI) (λ x. refl) (lists TypeI)
-  of_one_type TypeI u = selected_none (as_type TypeI) (record_of u) (λ x. refl) (lists u)
-  of_one_type TypeP TypeP = selected_own (as_type TypeP) (record_of TypeP) (λ x. refl) (lists TypeP)
-  of_one_type TypeP u = selected_none (as_type TypeP) (record_of u) (λ x. refl) (lists u)
+  of_one_type t = every_type t (λ u. of_type t (map (record_of u) (lists u)) ≡ own_or_none t u)
+      (selected_own (as_type t) (record_of t) (own_selected t) (lists t)
+      ∙ sym (ap (λ b. cond b (lists t) []) (eq-eqb (byte_of t) (byte_of t) refl)))
+      (λ u apart. selected_none (as_type t) (record_of u) apart.1 (lists u) ∙ sym (ap (λ b. cond b (lists t) []) apart.0))
 
   -- of the lists of several types, the records of type t
   abbrev own_alone : (t u : RecordType) → List RecordType → List (FieldsOf t)

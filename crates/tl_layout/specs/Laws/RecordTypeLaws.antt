@@ -1,5 +1,6 @@
 -- Laws of the record types: each record has one of them, and is selected by that one alone.
-use Rattle.std.proofs.Common.{◌≡◌, ◌==◌, Bool, true, false, Option, Some, None, refl, sym, subst}
+use Rattle.std.proofs.Common.{◌≡◌, ◌==◌, ◌⊎◌, Bool, true, false, Option, Some, None, refl, sym, ap, ◌∙◌, subst, inl, inr}
+use Rattle.std.proofs.lemmas.Bool.{eq-eqb}
 use Rattle.tl_layout.specs.RecordText.{type_of, FitsRecord, spelling_of}
 use Rattle.tl_layout.specs.RecordTypes.{RecordType, Type1, Type2, Type4, Type5, Type6, Type7, Type8, TypeI, TypeP, FieldsOf, byte_of}
 use Rattle.tl_layout.specs.RecordTypes.{line_length, table_of, SpellsFields, reading_of, record_of, as_type}
@@ -36,26 +37,51 @@ pub record_exact : (t : RecordType) (fields others : FieldsOf t) → record_of t
 record_exact Type1 fields others e = cc
 record_exact _ fields others e = cc
 
+-- the fields of a record of a type are selected
+pub own_selected : (t : RecordType) (fields : FieldsOf t) → as_type t (record_of t fields) ≡ Some fields
+own_selected Type1 fields = refl
+own_selected _ fields = refl
+
+-- the two types differ, and a record of the second isn't selected as one of the first
+abbrev pub AreApart : RecordType → RecordType → Type 0
+AreApart t u = ((byte_of u == byte_of t) ≡ false) × ((fields : FieldsOf u) → as_type t (record_of u fields) ≡ None)
+
+-- two types are one or differ
+same_or_apart : (t u : RecordType) → (t ≡ u) ⊎ AreApart t u
+same_or_apart Type1 Type1 = inl refl
+same_or_apart Type1 _ = inr (refl, λ fields. refl)
+same_or_apart Type2 Type2 = inl refl
+same_or_apart Type2 _ = inr (refl, λ fields. refl)
+same_or_apart Type4 Type4 = inl refl
+same_or_apart Type4 _ = inr (refl, λ fields. refl)
+same_or_apart Type5 Type5 = inl refl
+same_or_apart Type5 _ = inr (refl, λ fields. refl)
+same_or_apart Type6 Type6 = inl refl
+same_or_apart Type6 _ = inr (refl, λ fields. refl)
+same_or_apart Type7 Type7 = inl refl
+same_or_apart Type7 _ = inr (refl, λ fields. refl)
+same_or_apart Type8 Type8 = inl refl
+same_or_apart Type8 _ = inr (refl, λ fields. refl)
+same_or_apart TypeI TypeI = inl refl
+same_or_apart TypeI _ = inr (refl, λ fields. refl)
+same_or_apart TypeP TypeP = inl refl
+same_or_apart TypeP _ = inr (refl, λ fields. refl)
+
+-- all types have a property that one type has and that the types have which differ from it
+pub every_type : (t : RecordType) (Holds : RecordType → Type 0) → Holds t → ((u : RecordType) → AreApart t u → Holds u)
+    → (u : RecordType) → Holds u
+every_type t Holds own other u = go (same_or_apart t u)
+  where
+    go : (t ≡ u) ⊎ AreApart t u → Holds u
+    go (inl same) = subst Holds same own
+    go (inr apart) = other u apart
+
 -- a record whose fields are selected as those of a type is the record of this type with these fields
 pub record_selected : (t : RecordType) (r : Record) (fields : FieldsOf t) → as_type t r ≡ Some fields → r ≡ record_of t fields
-record_selected Type1 (One r) fields e = cc
-record_selected Type1 _ fields e = cc
-record_selected Type2 (Two r) fields e = cc
-record_selected Type2 _ fields e = cc
-record_selected Type4 (Four r) fields e = cc
-record_selected Type4 _ fields e = cc
-record_selected Type5 (Five r) fields e = cc
-record_selected Type5 _ fields e = cc
-record_selected Type6 (Six r) fields e = cc
-record_selected Type6 _ fields e = cc
-record_selected Type7 (Seven r) fields e = cc
-record_selected Type7 _ fields e = cc
-record_selected Type8 (Eight r) fields e = cc
-record_selected Type8 _ fields e = cc
-record_selected TypeI (I r) fields e = cc
-record_selected TypeI _ fields e = cc
-record_selected TypeP (P r) fields e = cc
-record_selected TypeP _ fields e = cc
+record_selected t r fields = every_record (λ q. as_type t q ≡ Some fields → q ≡ record_of t fields)
+    (every_type t (λ u. (others : FieldsOf u) → as_type t (record_of u others) ≡ Some fields → record_of u others ≡ record_of t fields)
+    (λ own e. let selected = own_selected t own in let same : own ≡ fields = cc in ap (record_of t) same)
+    (λ u apart others e. let unselected = apart.1 others in cc)) r
 
 -- whether there is a value
 abbrev pub is_selected : {Y : Type 0} → Option Y → Bool
@@ -64,25 +90,10 @@ is_selected (Some y) = true
 
 -- a record is selected by the type whose byte it begins with, and by no other
 pub selected_by_byte : (t : RecordType) (r : Record) → (type_of r == byte_of t) ≡ is_selected (as_type t r)
-unfolding type_of
-selected_by_byte Type1 (One r) = refl
-selected_by_byte Type1 _ = refl
-selected_by_byte Type2 (Two r) = refl
-selected_by_byte Type2 _ = refl
-selected_by_byte Type4 (Four r) = refl
-selected_by_byte Type4 _ = refl
-selected_by_byte Type5 (Five r) = refl
-selected_by_byte Type5 _ = refl
-selected_by_byte Type6 (Six r) = refl
-selected_by_byte Type6 _ = refl
-selected_by_byte Type7 (Seven r) = refl
-selected_by_byte Type7 _ = refl
-selected_by_byte Type8 (Eight r) = refl
-selected_by_byte Type8 _ = refl
-selected_by_byte TypeI (I r) = refl
-selected_by_byte TypeI _ = refl
-selected_by_byte TypeP (P r) = refl
-selected_by_byte TypeP _ = refl
+selected_by_byte t = every_record (λ r. (type_of r == byte_of t) ≡ is_selected (as_type t r))
+    (every_type t (λ u. (fields : FieldsOf u) → (type_of (record_of u fields) == byte_of t) ≡ is_selected (as_type t (record_of u fields)))
+    (λ fields. eq-eqb (type_of (record_of t fields)) (byte_of t) (type_of_record t fields) ∙ sym (ap is_selected (own_selected t fields)))
+    (λ u apart fields. ap (λ b. b == byte_of t) (type_of_record u fields) ∙ apart.0 ∙ sym (ap is_selected (apart.1 fields))))
 
 -- the laws of the layout of each type
 pub layout_laws : (t : RecordType) → AreLaws (byte_of t) (line_length t) (table_of t) (λ r. FitsRecord (record_of t r)) (SpellsFields t)
