@@ -2,7 +2,7 @@
 
 pub(crate) mod checking;
 pub(crate) mod comparing;
-pub(crate) mod concluding;
+pub(crate) mod comparison;
 pub(crate) mod fingerprinting;
 pub(crate) mod hashing;
 pub(crate) mod linked;

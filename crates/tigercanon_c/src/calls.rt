@@ -1,6 +1,6 @@
 //! The calls over parts as C lends them. Each makes the library's call and restates its contract.
 
-ghost use Rattle.std.specs.Prelude.{◌≡◌, ◌≢◌, Ok, Err, ℕ, List, ◌∷◌, [], IfErr, IfOk, OnOk, map, true, false};
+ghost use Rattle.std.specs.Prelude.{◌≡◌, ◌≢◌, Ok, Err, ℕ, List, ◌∷◌, [], IfErr, IfOk, OnOk, true, false};
 ghost use Rattle.tigercanon.specs.Comparing.{AreDifferentThrough, AreOneMapThrough, ReportsMemoryOfAccepted, ReportsRefusalOfOne};
 ghost use Rattle.tigercanon.specs.Faults.{IsWantOfMemory, ReportsRefusalOfRead};
 ghost use Rattle.tigercanon.specs.Fingerprints.{IsFingerprintThrough};

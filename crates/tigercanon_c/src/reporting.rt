@@ -1,7 +1,7 @@
 //! A fault reported as numbers, and its status.
 
 ghost use Rattle.std.specs.Prelude.{◌≡◌, ◌≢◌, ◌<◌, ◌⊎◌, ℕ, List};
-ghost use Rattle.tigercanon.specs.Comparing.{ReportsMemoryOfAccepted, ReportsRefusalOfOne};
+ghost use Rattle.tigercanon.specs.Comparing.{ReportsRefusalOfOne};
 ghost use Rattle.tigercanon.specs.Faults.{IsWantOfMemory, ReportsRefusalOfRead};
 ghost use Rattle.tigercanon.specs.Statuses.{status_of};
 ghost use Rattle.tigercanon_c.specs.Answers.{ReportsFirstFaultOfRead, status_of_two};

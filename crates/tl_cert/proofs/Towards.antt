@@ -30,9 +30,9 @@ module _ (r : Renumbering) where
   feats_renumbered None = refl
   feats_renumbered (Some c) = refl
 
-  pub link_body_kept : (o : Option Chain) → option_map (λ c. c.topology) (option_map (renumbered r) o) ≡ option_map (λ c. c.topology) o
-  link_body_kept None = refl
-  link_body_kept (Some c) = refl
+  pub topology_kept : (o : Option Chain) → option_map (λ c. c.topology) (option_map (renumbered r) o) ≡ option_map (λ c. c.topology) o
+  topology_kept None = refl
+  topology_kept (Some c) = refl
 
 -- chains with the same parts are the same
 pub agree : (o p : Option Chain) → HaveSameContent o p → HaveSameEnds o p → HaveSameLists o p → o ≡ p

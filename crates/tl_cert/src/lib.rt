@@ -13,7 +13,7 @@ mod composing;
 mod county_numbers;
 mod images;
 mod links;
-mod number_set;
+mod sorted_numbers;
 mod numbers_paired;
 mod pairing;
 mod pairs;

@@ -10,7 +10,7 @@ ghost use Rattle.ordered_lists.specs.Pairs.{ArePaired};
 ghost use Rattle.tl_county.specs.Renumbering.{NumbersArePaired};
 
 use crate::county_numbers::{Feats, Lands, Nodes, NumberKind, PolygonKeys, Tlids, numbers_of};
-use crate::number_set::NumberSet;
+use crate::sorted_numbers::SortedNumbers;
 use crate::pairing::{are_known, new_numbers, old_numbers};
 use crate::renaming::Renaming;
 use ordered_lists::Key;
@@ -163,7 +163,7 @@ fn are_turned_once<C: Chart>(
         × AllByRecursion (λ tlid. IsTrue (stands_in nat_cmp tlid (tlids (C.county chart.now)))) renaming.now.turned)) }
 {
     let turned = renaming.turned();
-    let set = NumberSet::new(alloc, turned)?;
+    let set = SortedNumbers::new(alloc, turned)?;
     Ok(set.has_no_repeat() && all_hold(&TurnedTlids { chart, turned }))
 }
 

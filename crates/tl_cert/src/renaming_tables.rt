@@ -7,7 +7,7 @@ ghost use Rattle.ordered_lists.specs.Pairs.{image};
 ghost use Rattle.tl_county.specs.Renumbering.{turns};
 
 use crate::images::Images;
-use crate::number_set::NumberSet;
+use crate::sorted_numbers::SortedNumbers;
 use crate::renaming::Renaming;
 use std::alloc::{AllocError, Global};
 use std::marker::Model;
@@ -18,7 +18,7 @@ use tl_county::PolygonKey;
 struct ChainTables<'a> {
     tlids: Images<'a, u64>,
     feats: Images<'a, u32>,
-    turned: NumberSet<'a>,
+    turned: SortedNumbers<'a>,
 }
 
 impl<'a> ChainTables<'a> {
@@ -30,7 +30,7 @@ impl<'a> ChainTables<'a> {
     {
         let tlids = Images::new(alloc, renaming.chains())?;
         let feats = Images::new(alloc, renaming.names())?;
-        let turned = NumberSet::new(alloc, renaming.turned())?;
+        let turned = SortedNumbers::new(alloc, renaming.turned())?;
         Ok(ChainTables {
             tlids,
             feats,

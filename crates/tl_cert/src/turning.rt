@@ -6,13 +6,13 @@ ghost use Rattle.tl_cert.specs.Images.{is_turned_once};
 ghost use Rattle.ordered_lists.specs.Pairs.{image, is_named};
 
 use crate::images::Images;
-use crate::number_set::NumberSet;
+use crate::sorted_numbers::SortedNumbers;
 use crate::pairs::named_images_of;
 use std::alloc::{AllocError, Global};
 
 /// Whether exactly one of two renamings turns the chain of an old TLID. The first one turns the chains of `firsts`. The next one
 /// turns those of `nexts`, under the TLIDs that the first one gives.
-fn turns_once(images: &Images<u64>, firsts: &NumberSet, nexts: &NumberSet, tlid: u64) -> bool
+fn turns_once(images: &Images<u64>, firsts: &SortedNumbers, nexts: &SortedNumbers, tlid: u64) -> bool
     ensures { result ≡ is_turned_once images.now firsts.now nexts.now tlid }
 {
     let by_first = firsts.contains(tlid);
@@ -25,8 +25,8 @@ fn turned_by_one(
     alloc: Global,
     pairs: &[(u64, u64)],
     images: &Images<u64>,
-    firsts: &NumberSet,
-    nexts: &NumberSet,
+    firsts: &SortedNumbers,
+    nexts: &SortedNumbers,
 ) -> Result<Vec<u64>, AllocError>
     ensures { IfOk result (λ turned.
         turned.items ≡ filter (is_turned_once images.now firsts.now nexts.now) (map (λ pair. pair.0) pairs.now)) }
@@ -51,8 +51,8 @@ pub(crate) fn turned_once(
         turned.items ≡ filter (is_turned_once chains.now firsts.now nexts.now) (map (λ pair. pair.0) pairs.now)) }
 {
     let images = Images::new(alloc, chains)?;
-    let firsts = NumberSet::new(alloc, firsts)?;
-    let nexts = NumberSet::new(alloc, nexts)?;
+    let firsts = SortedNumbers::new(alloc, firsts)?;
+    let nexts = SortedNumbers::new(alloc, nexts)?;
     let turned = turned_by_one(alloc, pairs, &images, &firsts, &nexts)?;
     Ok(turned)
 }

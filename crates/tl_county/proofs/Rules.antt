@@ -10,4 +10,4 @@ pub mod TypedRecords
 pub mod WithoutChain
 pub mod LinkedTables
 pub mod BuiltTables
-pub mod KeptParts
+pub mod StoredParts

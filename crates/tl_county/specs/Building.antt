@@ -7,7 +7,7 @@ use Rattle.tl_layout.specs.Fields.{Fields1, Fields2, Fields4, Fields6, Fields7, 
 use Rattle.tl_layout.specs.declared.type_p.BodyP.{BodyP}
 use Rattle.tl_shape.specs.Chain.{Chain}
 use Rattle.tl_county.specs.County.{County, one_tlid, two_tlid, four_tlid, six_tlid, seven_land, eight_land, p_key, side_keys, first}
-use Rattle.tl_county.specs.KeptCounty.{county_with}
+use Rattle.tl_county.specs.StoredCounty.{county_with}
 use Rattle.ordered_lists.specs.Orders.{distinct}
 use Rattle.tl_county.specs.Packing.{Typed}
 use Rattle.tl_county.specs.LandmarkParts.{LandmarkParts}

@@ -4,7 +4,7 @@ use Rattle.std.specs.declared.cmp.Ordering.{Ordering}
 use Rattle.std.proofs.Props.{props}
 use Rattle.tl_county.specs.County.{County}
 use Rattle.tl_county.specs.CountyRules.{IsCounty}
-use Rattle.tl_county.specs.KeptCounty.{LinksUnderLands}
+use Rattle.tl_county.specs.StoredCounty.{LinksUnderLands}
 use Rattle.tl_county.specs.LandmarkParts.{LandmarkParts}
 use Rattle.ordered_lists.specs.Orders.{IsInOrder}
 

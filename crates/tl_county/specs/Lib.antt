@@ -4,7 +4,7 @@ pub mod RepeatedKeys
 pub mod RuleOrder
 pub mod OrderedTables
 pub mod LandmarkParts
-pub mod KeptCounty
+pub mod StoredCounty
 pub mod Building
 pub mod ChartWords
 pub mod DirectedChains

@@ -69,7 +69,7 @@ pub record FitsChain (chain : Chain) : Type 0 where
   pub link : FitsLinkContent chain.topology chain.left.cenid chain.right.cenid
 
 -- its lists fit into records that each have an RTSQ of their own
-pub record HasRoom (chain : Chain) : Type 0 where
+pub record ListsFit (chain : Chain) : Type 0 where
   pub points : length (inner_points chain.points) ≤ most_shape_points
   pub feats : length chain.feats ≤ most_names
   pub ranges : length chain.ranges ≤ greatest_rtsq
@@ -111,7 +111,7 @@ pub record NumbersFit (county : County) : Type 0 where
 pub record IsWithinLimits (limit : ℕ) (county : County) : Type 0 where
   pub contents : ContentsFit county
   pub numbers : NumbersFit county
-  pub room : AllByRecursion (λ entry. HasRoom entry.1) county.chains
+  pub lists : AllByRecursion (λ entry. ListsFit entry.1) county.chains
   pub counts : IsWithinLimit limit (packed county)
 
 -- The tables hold records that fit, and at most `most_records` of each type.

@@ -14,11 +14,11 @@ use Rattle.tl_county.specs.County.{County}
 use Rattle.ordered_lists.specs.Orders.{in_order}
 use Rattle.tl_county.specs.PolygonKeys.{PolygonKey}
 
--- the list in pieces of n, the last one with the rest; at most `room` pieces are made
+-- the list in pieces of n, the last one with the rest; at most `most` pieces are made
 abbrev pub pieces : {X : Type 0} → ℕ → ℕ → List X → List (List X)
 pieces n zero xs = []
-pieces n (suc room) [] = []
-pieces n (suc room) (x ∷ xs) = take n (x ∷ xs) ∷ pieces n room (drop n (x ∷ xs))
+pieces n (suc most) [] = []
+pieces n (suc most) (x ∷ xs) = take n (x ∷ xs) ∷ pieces n most (drop n (x ∷ xs))
 
 -- the list in pieces of n, the last one with the rest
 abbrev pub in_pieces : {X : Type 0} → ℕ → List X → List (List X)

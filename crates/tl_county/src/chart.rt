@@ -97,7 +97,7 @@ pub trait Chart {
     /// than the number of chains.
     fn put_chain_body(&self, place: usize, turned: bool, out: &mut [u8])
         requires place { place < length (county self.now).chains }
-        requires room { 190 ≤ length out.old }
+        requires columns { 190 ≤ length out.old }
         ensures { Some (take 190 out.new)
             ≡ option_map (λ c. joined (take 15 out.old) (body_1_texts (body_towards turned c.body))) (chain_at (county self.now) place) }
     {
@@ -130,7 +130,7 @@ pub trait Chart {
         ensures { result ≡ slice_get (ranges_of (chain_at (county self.now) place)) range };
 
     /// The content of the type I record of the chain at a place.
-    fn link_body_at(&self, place: usize) -> Option<BodyI>
+    fn topology_at(&self, place: usize) -> Option<BodyI>
         ensures { result ≡ option_map (λ c. c.topology) (chain_at (county self.now) place) };
 
     /// The node where the chain at a place starts (record type I, TZIDS), or none.
@@ -228,11 +228,11 @@ pub trait Chart {
     }
 
     /// The content of the type I record of the chain at a place, which must be less than the number of chains.
-    final fn link_body_there(&self, place: usize) -> BodyI
+    final fn topology_there(&self, place: usize) -> BodyI
         requires { place < length (county self.now).chains }
         ensures { Some result ≡ option_map (λ c. c.topology) (chain_at (county self.now) place) }
     {
-        self.link_body_at(place).unwrap()
+        self.topology_at(place).unwrap()
     }
 
     /// The node where the chain at a place starts (record type I, TZIDS), or none. The place must be less than the number of
@@ -363,10 +363,10 @@ pub trait Chart {
     }
 
     /// The content of the type I record of the chain with this TLID.
-    final fn link_body_of(&self, tlid: u64) -> Option<BodyI>
+    final fn topology_of(&self, tlid: u64) -> Option<BodyI>
         ensures { result ≡ option_map (λ c. c.topology) (chain_under (county self.now) tlid) }
     {
-        self.link_body_at(self.chain_place_or_end(tlid))
+        self.topology_at(self.chain_place_or_end(tlid))
     }
 
     /// The node where the chain with this TLID starts (record type I, TZIDS), or none.

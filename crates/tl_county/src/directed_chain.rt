@@ -48,7 +48,7 @@ impl DirectedChain {
     /// `turned`.
     pub fn put_body<C: Chart>(self, chart: &C, turned: bool, out: &mut [u8])
         requires place { self.place < length (C.county chart.now).chains }
-        requires room { 190 ≤ length out.old }
+        requires columns { 190 ≤ length out.old }
         ensures { Some (take 190 out.new)
             ≡ option_map (λ c. joined (take 15 out.old) (body_1_texts (body_towards turned c.body))) (directed_chain (C.county chart.now) self) }
     {
@@ -60,7 +60,7 @@ impl DirectedChain {
     pub fn link_body<C: Chart>(self, chart: &C) -> Option<BodyI>
         ensures { result ≡ option_map (λ c. c.topology) (directed_chain (C.county chart.now) self) }
     {
-        chart.link_body_at(self.place as usize)
+        chart.topology_at(self.place as usize)
     }
 
     /// The node where it starts.

@@ -117,8 +117,8 @@ impl<'a, C: Chart> Chart for Lent<'a, C> {
         self.chart.range_at(place, range)
     }
 
-    fn link_body_at(&self, place: usize) -> Option<BodyI> {
-        self.chart.link_body_at(place)
+    fn topology_at(&self, place: usize) -> Option<BodyI> {
+        self.chart.topology_at(place)
     }
 
     fn start_node_at(&self, place: usize) -> Option<Option<u64>> {

@@ -34,9 +34,9 @@ mod table_order;
 
 use crate::chart::Chart;
 use crate::fault::LinkFault;
-use crate::kept::keeping::{StoredChain, StoredLandmark, StoredName};
-use crate::kept::table::Table;
-use crate::kept::{County, CountyIn, StoredCounty};
+use crate::stored::storage::{StoredChain, StoredLandmark, StoredName};
+use crate::stored::table::Table;
+use crate::stored::{County, CountyIn, StoredCounty};
 use crate::keys::keyed::keys_of;
 use crate::keys::record_keys::PolygonKey;
 use crate::linking::building::{

@@ -183,9 +183,9 @@ impl<C: Chart> Chart for Masked<C> {
         self.chart.range_at(place, range)
     }
 
-    #[tactic(auto, using(crate::proofs::Masks::MaskedReads::link_body_masked))]
-    fn link_body_at(&self, place: usize) -> Option<BodyI> {
-        match self.chart.link_body_at(place) {
+    #[tactic(auto, using(crate::proofs::Masks::MaskedReads::topology_masked))]
+    fn topology_at(&self, place: usize) -> Option<BodyI> {
+        match self.chart.topology_at(place) {
             Some(link) => Some(under_mask(link, self.mask)),
             None => None,
         }

@@ -146,10 +146,10 @@ columns_shown a b c d e f g h word la lb lc ld le lf lg lh is =
 -- how the two halves of a number in a word are split
 pub record AreParted (high low hundreds pairs tens : ℕ) : Type 0 where
   pub hundredfold : 100 * hundreds ≤ low * 4294967296 + high
-  pub room_for_tens : 103 * pairs < 2 ^ 64
+  pub tens_fit : 103 * pairs < 2 ^ 64
   pub tenfold : 10 * tens ≤ pairs
-  pub room_for_digits : (pairs - 10 * tens) * 256 < 2 ^ 64
-  pub room : tens + (pairs - 10 * tens) * 256 < 2 ^ 64
+  pub digits_fit : (pairs - 10 * tens) * 256 < 2 ^ 64
+  pub word_fits : tens + (pairs - 10 * tens) * 256 < 2 ^ 64
   pub word : tens + (pairs - 10 * tens) * 256
       ≡ ((((((low % 10 * 256 + low / 10 % 10) * 256 + low / 100 % 10) * 256 + low / 1000) * 256 + high % 10) * 256 + high / 10 % 10) * 256
       + high / 100 % 10) * 256 + high / 1000
@@ -184,10 +184,10 @@ parted high low hundreds pairs tens lh ll h p t =
     let f : high / 100 / 10 ≡ high / 1000 = omega arith in
     record {
       hundredfold = omega arith;
-      room_for_tens = all.0;
+      tens_fit = all.0;
       tenfold = all.1;
-      room_for_digits = all.2;
-      room = all.3;
+      digits_fit = all.2;
+      word_fits = all.3;
       word = all.4
           ∙ (λ i. ((((((a i * 256 + b i) * 256 + low / 100 % 10) * 256 + c i) * 256 + d i) * 256 + e i) * 256 + high / 100 % 10) * 256 + f i);
     }

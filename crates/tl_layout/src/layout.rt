@@ -1,6 +1,6 @@
 //! What every record type provides.
 
-ghost use Rattle.std.specs.Prelude.{◌≡◌, ◌↔◌, ◌≤◌, ◌<◌, ℕ, List, Result, Ok, Err, length, IfOk, IfErr, IsOk};
+ghost use Rattle.std.specs.Prelude.{◌≡◌, ◌↔◌, ◌≤◌, ◌<◌, ℕ, List, Result, Ok, Err, length, IfOk};
 ghost use Rattle.tl_layout.specs.Bytes.{IsLine};
 ghost use Rattle.tl_layout.specs.declared.fault.FieldFault.{FieldFault};
 ghost use Rattle.tl_layout.specs.declared.layout.TheConstants.{LONGEST_LINE};

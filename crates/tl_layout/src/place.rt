@@ -184,7 +184,7 @@ fn write_point_place(out: &mut [u8], column: usize, place: &Option<Point>)
 
 /// Writes ten places for points, from column 19 on.
 pub fn write_points(out: &mut [u8], points: &[Point])
-    requires room { 208 ≤ length out.old }
+    requires columns { 208 ≤ length out.old }
     requires count { length points.now ≤ 10 }
     ensures written { take 208 out.new ≡ take 18 out.old ++ places_text point_place_text 10 points.now }
     ensures on_map { AllByRecursion IsOnMap points.now }
@@ -196,7 +196,7 @@ pub fn write_points(out: &mut [u8], points: &[Point])
 
 /// Writes five places for FEATs, from column 19 on.
 pub fn write_feats(out: &mut [u8], feats: &[u32])
-    requires room { 58 ≤ length out.old }
+    requires columns { 58 ≤ length out.old }
     requires count { length feats.now ≤ 5 }
     ensures { take 58 out.new ≡ take 18 out.old ++ places_text number_place_text 5 feats.now }
 {

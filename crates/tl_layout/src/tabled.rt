@@ -1,6 +1,6 @@
 //! Records that know the table of their type.
 
-ghost use Rattle.std.specs.Prelude.{◌≡◌, ℕ, OnOk, OnErr};
+ghost use Rattle.std.specs.Prelude.{◌≡◌, OnOk, OnErr};
 ghost use Rattle.tl_layout.specs.declared.record_type.Record.{Record};
 ghost use Rattle.tl_layout.specs.RecordText.{type_of, spelling_of};
 ghost use Rattle.tl_layout.specs.Tables.{AddsRecord, AreSameTables};

@@ -1,6 +1,6 @@
 //! The records of a set, by type.
 
-ghost use Rattle.std.specs.Prelude.{◌≡◌, [], All, IfOk, OnOk, OnErr};
+ghost use Rattle.std.specs.Prelude.{[], All, IfOk, OnOk, OnErr};
 ghost use Rattle.tl_layout.specs.RecordText.{FitsRecord};
 ghost use Rattle.tl_layout.specs.Tables.{HoldsByType, AddsRecord, AreSameTables};
 

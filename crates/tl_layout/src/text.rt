@@ -1,6 +1,6 @@
 //! Opaque fields: text of a fixed width, in bytes that are allowed in a line.
 
-ghost use Rattle.std.specs.Prelude.{◌≡◌, ℕ, length, List};
+ghost use Rattle.std.specs.Prelude.{◌≡◌, ℕ, List};
 ghost use Rattle.tl_layout.specs.Bytes.{IsText, AreAllowed, blanks_if};
 
 use std::marker::Model;

@@ -130,7 +130,6 @@ impl Rec1 {
 
 impl Layout for Rec1 {
     ghost use Rattle.std.proofs.Common.{lit≤};
-    ghost use Rattle.std.specs.Prelude.{ℕ, List};
     ghost use Rattle.tl_layout.specs.FieldFaults.{IsLeftmostFault};
     ghost use Rattle.tl_layout.specs.RecordTables.{rtype_1, table_1};
     ghost use Rattle.tl_layout.specs.Type1.{FitsType1, SpellsType1, type_1_reading, type_1_spelling};

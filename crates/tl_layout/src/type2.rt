@@ -1,11 +1,6 @@
 //! Record type 2: shape points of a chain.
 
-ghost use Rattle.std.specs.List.{AllByRecursion};
-ghost use Rattle.std.specs.Prelude.{◌≡◌, ◌≤◌, ◌++◌, length, take, false};
-ghost use Rattle.tl_layout.specs.Bytes.{IsText};
-ghost use Rattle.tl_layout.specs.Coordinates.{IsOnMap};
-ghost use Rattle.tl_layout.specs.FieldReading.{Gives, point_or_none_at, places_reading};
-ghost use Rattle.tl_layout.specs.FieldTexts.{point_place_text, places_text};
+ghost use Rattle.std.specs.Prelude.{◌≡◌, ◌≤◌, length};
 ghost use Rattle.tl_layout.specs.Numbers.{IsNumber};
 ghost use Rattle.tl_layout.specs.RecordTables.{len_2};
 
@@ -84,7 +79,6 @@ impl Rec2 {
 
 impl Layout for Rec2 {
     ghost use Rattle.std.proofs.Common.{lit≤};
-    ghost use Rattle.std.specs.Prelude.{ℕ, List};
     ghost use Rattle.tl_layout.specs.FieldFaults.{IsLeftmostFault};
     ghost use Rattle.tl_layout.specs.RecordTables.{rtype_2, table_2};
     ghost use Rattle.tl_layout.specs.Type2.{FitsType2, SpellsType2, type_2_reading, type_2_spelling};

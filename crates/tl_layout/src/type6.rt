@@ -1,7 +1,6 @@
 //! Record type 6: further address ranges of a chain.
 
 ghost use Rattle.std.specs.Prelude.{◌≡◌};
-ghost use Rattle.tl_layout.specs.Bytes.{IsText};
 ghost use Rattle.tl_layout.specs.Numbers.{IsNumber};
 ghost use Rattle.tl_layout.specs.RecordTables.{len_6};
 
@@ -79,7 +78,6 @@ impl Rec6 {
 
 impl Layout for Rec6 {
     ghost use Rattle.std.proofs.Common.{lit≤};
-    ghost use Rattle.std.specs.Prelude.{ℕ, List};
     ghost use Rattle.tl_layout.specs.FieldFaults.{IsLeftmostFault};
     ghost use Rattle.tl_layout.specs.RecordTables.{rtype_6, table_6};
     ghost use Rattle.tl_layout.specs.Type6.{FitsType6, SpellsType6, type_6_reading, type_6_spelling};

@@ -155,7 +155,6 @@ impl Rec7 {
 
 impl Layout for Rec7 {
     ghost use Rattle.std.proofs.Common.{lit≤};
-    ghost use Rattle.std.specs.Prelude.{ℕ, List};
     ghost use Rattle.tl_layout.specs.FieldFaults.{IsLeftmostFault};
     ghost use Rattle.tl_layout.specs.RecordTables.{rtype_7, table_7};
     ghost use Rattle.tl_layout.specs.Type7.{FitsType7, SpellsType7, type_7_reading, type_7_spelling};

@@ -1,7 +1,7 @@
 //! Record type I: the nodes of a chain and the polygons on its sides.
 
-ghost use Rattle.std.specs.Prelude.{◌≡◌, ◌≤◌, ◌<◌, ℕ, List, Option, Result, Ok, Err, length};
-ghost use Rattle.tl_layout.specs.Bytes.{IsLine, AreAllowed, IsText};
+ghost use Rattle.std.specs.Prelude.{◌≡◌, ◌≤◌, ◌<◌, Option, Result, Ok, length};
+ghost use Rattle.tl_layout.specs.Bytes.{AreAllowed, IsText};
 ghost use Rattle.tl_layout.specs.Numbers.{IsNumber, IsNumberOrNone};
 ghost use Rattle.tl_layout.specs.RecordTables.{len_i};
 ghost use Rattle.tl_layout.specs.TypeI.{FitsTypeI, body_i_at, type_i_reading, type_i_spelling};
@@ -281,7 +281,6 @@ impl RecI {
 
 impl Layout for RecI {
     ghost use Rattle.std.proofs.Common.{lit≤};
-    ghost use Rattle.std.specs.Prelude.{ℕ, List};
     ghost use Rattle.tl_layout.specs.FieldFaults.{IsLeftmostFault};
     ghost use Rattle.tl_layout.specs.RecordTables.{rtype_i, table_i};
     ghost use Rattle.tl_layout.specs.TypeI.{FitsTypeI, SpellsTypeI, type_i_reading, type_i_spelling};

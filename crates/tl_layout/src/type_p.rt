@@ -138,7 +138,6 @@ impl RecP {
 
 impl Layout for RecP {
     ghost use Rattle.std.proofs.Common.{lit≤};
-    ghost use Rattle.std.specs.Prelude.{ℕ, List};
     ghost use Rattle.tl_layout.specs.FieldFaults.{IsLeftmostFault};
     ghost use Rattle.tl_layout.specs.RecordTables.{rtype_p, table_p};
     ghost use Rattle.tl_layout.specs.Laws.TypeLaws.{type_p_laws};

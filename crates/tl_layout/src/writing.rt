@@ -114,11 +114,11 @@ pub fn write_point_or_blanks(out: &mut [u8], column: usize, point: &Option<Point
 }
 
 /// Writes a record's line, which is its canonical spelling and LF, into a buffer of that length.
-pub fn put_line<L: Layout>(found: &L, room: &mut [u8])
-    requires { length room.old ≡ L.LEN + 1 }
-    ensures { room.new ≡ L.spelling found.now ++ 10 ∷ [] }
+pub fn put_line<L: Layout>(found: &L, line: &mut [u8])
+    requires { length line.old ≡ L.LEN + 1 }
+    ensures { line.new ≡ L.spelling found.now ++ 10 ∷ [] }
 {
     let len = L::LEN;
-    found.put(&mut room[..len]);
-    room[len] = b'\n';
+    found.put(&mut line[..len]);
+    line[len] = b'\n';
 }

@@ -46,9 +46,9 @@ adds_full counts records limit added rtype counted is full =
     (le-leb limit (count_of tiger (tiger.rtype added) records) (omega arith))
     ∙ ap (λ (t : ℕ). Err (faults.TooManyRecords t)) (tiger_rtype added ∙ is)
 
-pub adds_room : (counts : List ℕ) (records : List Record) (limit : ℕ) (added : Record) (rtype : ℕ) → AreCounted counts records
+pub adds_below : (counts : List ℕ) (records : List Record) (limit : ℕ) (added : Record) (rtype : ℕ) → AreCounted counts records
     → type_of added ≡ rtype → get_or counts rtype 0 < limit → with_record tiger limit records added ≡ Ok (records ++ added ∷ [])
-adds_room counts records limit added rtype counted is room =
+adds_below counts records limit added rtype counted is below =
     let e = type_count counts records added rtype counted is in
     ap (λ (b : Bool). cond b (Err (faults.TooManyRecords (tiger.rtype added))) (Ok (records ++ added ∷ [])))
     (lt-leb limit (count_of tiger (tiger.rtype added) records) (omega arith))
@@ -121,7 +121,7 @@ total_up counts added rtype len is = ap (λ (t : ℕ). total (set counts t (get_
 pub loader_with : (counts : List ℕ) (unfinished : List ℕ) (parts judged limit : ℕ) (added : Record) (rtype : ℕ)
     → IsLoader counts unfinished parts judged limit → type_of added ≡ rtype → get_or counts rtype 0 < limit
     → IsLoader (set counts rtype (get_or counts rtype 0 + 1)) unfinished parts (judged + 1) limit
-loader_with counts unfinished parts judged limit added rtype l is room = record {
+loader_with counts unfinished parts judged limit added rtype l is below = record {
   counts_len = omega (arith, length-set counts rtype (get_or counts rtype 0 + 1), l.counts_len);
   within = λ t low. elim (cases_eq rtype t) [
     | inl same ↦

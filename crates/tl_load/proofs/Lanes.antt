@@ -38,9 +38,9 @@ allowed_past_controls b byte from = elim (cases_lt b 127) [
 block_at : (n low : ℕ) (lane : ℕ → ℕ) → ((b : ℕ) → b < 256 → low ≤ lane b → is_allowed b ≡ true) → (bytes : List ℕ) (at : ℕ)
     → at + n ≤ length bytes → Each1 (λ x. low ≤ x) (map lane (chunk at n bytes))
     → (k : ℕ) → at ≤ k → k < at + n → get_or bytes k 0 < 256 → is_allowed (get_or bytes k 0) ≡ true
-block_at n low lane allowed bytes at room each k from below byte =
+block_at n low lane allowed bytes at within each k from below byte =
     let block = chunk at n bytes in
-    let long : length block ≡ n = length-chunk at n bytes room in
+    let long : length block ≡ n = length-chunk at n bytes within in
     let here : at + (k - at) ≡ k = omega arith in
     let mapped : length (map lane block) ≡ n = length-map block lane ∙ long in
     let at_lane : get_or (map lane block) (k - at) 0 ≡ lane (get_or bytes k 0) =

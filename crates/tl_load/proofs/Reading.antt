@@ -106,7 +106,7 @@ outcome_after-append judge limit records (x ∷ a) b =
 pub record Takes_one {R : Type 0} (judge : Judge R) (limit : ℕ) (records : List R) (line : PlacedLine) (more : List R) : Type 0 where
   pub found : R
   pub verdict : judge.verdict line.bytes ≡ Ok found
-  pub room : count_of judge (judge.rtype found) records < limit
+  pub below : count_of judge (judge.rtype found) records < limit
   pub after : more ≡ records ++ found ∷ []
 
 takes_by : {R : Type 0} (judge : Judge R) (limit : ℕ) (records : List R) (line : PlacedLine) (more : List R) (v : Result R LineFault)
@@ -117,7 +117,7 @@ takes_by {R} judge limit records line more (Ok r) e h = go (leb limit (count_of 
     go : (b : Bool) → leb limit (count_of judge (judge.rtype r) records) ≡ b
         → cond b (Err (faults.TooManyRecords (judge.rtype r))) (Ok (records ++ r ∷ [])) ≡ Ok more → Takes_one judge limit records line more
     go true t k = absurd cc
-    go false t k = record { found = r; verdict = e; room = leb-false _ _ t; after = cc }
+    go false t k = record { found = r; verdict = e; below = leb-false _ _ t; after = cc }
 
 pub next_ok : {R : Type 0} (judge : Judge R) (limit : ℕ) (records : List R) (line : PlacedLine) (more : List R)
     → next judge limit records line ≡ Ok more → Takes_one judge limit records line more
@@ -173,16 +173,16 @@ count_push judge records r t = sum_by-append (λ s. cond (eqb (judge.rtype s) t)
 
 pub within_push : {R : Type 0} (judge : Judge R) (limit : ℕ) (records : List R) (r : R) → IsWithinLimitBy judge limit records
     → count_of judge (judge.rtype r) records < limit → IsWithinLimitBy judge limit (records ++ r ∷ [])
-within_push judge limit records r h room t = elim (cases_eq (judge.rtype r) t) [
+within_push judge limit records r h below t = elim (cases_eq (judge.rtype r) t) [
   | inl same ↦ let e = count_push judge records r t in let b = eq-eqb (judge.rtype r) t same in let le : count_of judge t records < limit =
-      subst (λ (u : ℕ). count_of judge u records < limit) same room in rw (e, b) (omega arith)
+      subst (λ (u : ℕ). count_of judge u records < limit) same below in rw (e, b) (omega arith)
   | inr other ↦ let e = count_push judge records r t in let b = ne_eqb (judge.rtype r) t other in let le = h t in rw (e, b) (omega arith)
 ]
 
 -- if a list with one more record is within the limit, it has fewer than limit records of that record's type
-pub room_before : {R : Type 0} (judge : Judge R) (limit : ℕ) (records : List R) (r : R) (more : List R)
+pub below_before : {R : Type 0} (judge : Judge R) (limit : ℕ) (records : List R) (r : R) (more : List R)
     → IsWithinLimitBy judge limit (records ++ r ∷ more) → count_of judge (judge.rtype r) records < limit
-room_before judge limit records r more h =
+below_before judge limit records r more h =
     let e = sum_by-append (λ s. cond (eqb (judge.rtype s) (judge.rtype r)) 1 0) records (r ∷ more) in
     let b = eq-eqb (judge.rtype r) (judge.rtype r) refl in
     let all = h (judge.rtype r) in
@@ -218,7 +218,7 @@ reads_ok {R} judge limit records (x ∷ lines) all h e =
     let b = bind_ok (next judge limit records x) (λ more. outcome_after judge limit more lines) all e in
     let t = next_ok judge limit records x b.0 b.1 in
     let mid : IsWithinLimitBy judge limit b.0 =
-    subst (IsWithinLimitBy judge limit) (sym t.after) (within_push judge limit records t.found h t.room) in
+    subst (IsWithinLimitBy judge limit) (sym t.after) (within_push judge limit records t.found h t.below) in
     let rest = reads_ok judge limit b.0 lines all mid b.2 in
     record {
       found = t.found ∷ rest.found;
@@ -239,7 +239,7 @@ reads_from {R} judge limit records (x ∷ lines) (r ∷ found) e h =
     let first : judge.verdict x.bytes ≡ Ok r = cc in
     let rest : AreJudged judge lines found = cc in
     let joined : (records ++ r ∷ []) ++ found ≡ records ++ r ∷ found = append_assoc records (r ∷ []) found in
-    let step = next_from judge limit records x r first (room_before judge limit records r found h) in
+    let step = next_from judge limit records x r first (below_before judge limit records r found h) in
     let again = reads_from judge limit (records ++ r ∷ []) lines found rest (subst (IsWithinLimitBy judge limit) (sym joined) h) in
     ap (λ (z : Result (List R) LoadFault). z then_with λ more. outcome_after judge limit more lines) step ∙ again ∙ ap (λ (z : List R). Ok z)
     joined
@@ -275,7 +275,7 @@ stops_err {R} judge limit records (x ∷ lines) fault h e =
       | inr b ↦
           let t = next_ok judge limit records x b.0 b.1 in
           let mid : IsWithinLimitBy judge limit b.0 =
-          subst (IsWithinLimitBy judge limit) (sym t.after) (within_push judge limit records t.found h t.room) in
+          subst (IsWithinLimitBy judge limit) (sym t.after) (within_push judge limit records t.found h t.below) in
           let rest = stops_err judge limit b.0 lines fault mid b.2 in
           let joined : b.0 ++ rest.found ≡ records ++ t.found ∷ rest.found = ap (λ (z : List R). z ++ rest.found) t.after
           ∙ append_assoc records (t.found ∷ []) rest.found in

@@ -26,7 +26,7 @@ pub trait Collector: Drop + Sized {
     /// # Errors
     ///
     /// `AllocError` if an allocation failed; the contract then says nothing about what is kept.
-    fn keep<L: Tabled>(&mut self, found: L) -> Result<(), AllocError>
+    fn push_record<L: Tabled>(&mut self, found: L) -> Result<(), AllocError>
         ensures { (records : List Record) → holds self.old records → OnOk result (holds self.new (records ++ L.as_record found ∷ [])) };
 
     /// Appends the record of a full line without reading the line, if the collector can. Returns whether it did.
@@ -35,7 +35,7 @@ pub trait Collector: Drop + Sized {
     ///
     /// `AllocError` if an allocation failed; the contract then says nothing about what is kept.
     #[inline(always)]
-    fn keep_line<L: Canonical>(&mut self, line: &[u8]) -> Result<bool, AllocError>
+    fn push_line<L: Canonical>(&mut self, line: &[u8]) -> Result<bool, AllocError>
         requires { IsLine L.RTYPE L.LEN line.now }
         ensures kept { IfOk result (λ was_kept. IsTrue was_kept → KeepsLine holds L.reading L.as_record line.now self.old self.new) }
         ensures unchanged { IfOk result (λ was_kept. was_kept ≡ false → self.new ≡ self.old) }
@@ -52,7 +52,7 @@ impl Collector for Vec<Record> {
         Vec::new(alloc)
     }
 
-    fn keep<L: Tabled>(&mut self, found: L) -> Result<(), AllocError> {
+    fn push_record<L: Tabled>(&mut self, found: L) -> Result<(), AllocError> {
         Ok(self.push(found.into_record())?)
     }
 }
@@ -65,7 +65,7 @@ impl Collector for Tables {
         Tables::new(alloc)
     }
 
-    fn keep<L: Tabled>(&mut self, found: L) -> Result<(), AllocError> {
+    fn push_record<L: Tabled>(&mut self, found: L) -> Result<(), AllocError> {
         found.push_into(self)
     }
 }
@@ -97,12 +97,12 @@ impl Collector for CanonicalText {
         }
     }
 
-    fn keep<L: Tabled>(&mut self, found: L) -> Result<(), AllocError> {
+    fn push_record<L: Tabled>(&mut self, found: L) -> Result<(), AllocError> {
         append_line(&mut self.bytes, &found)
     }
 
     #[inline(always)]
-    fn keep_line<L: Canonical>(&mut self, line: &[u8]) -> Result<bool, AllocError> {
+    fn push_line<L: Canonical>(&mut self, line: &[u8]) -> Result<bool, AllocError> {
         if !L::is_canonical(line) {
             return Ok(false);
         }

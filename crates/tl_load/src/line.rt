@@ -1,6 +1,6 @@
 //! Finding the end of a line, and removing its line ending.
 
-ghost use Rattle.std.specs.Prelude.{◌≡◌, ◌≤◌, length, true, IfSome, MatchOption};
+ghost use Rattle.std.specs.Prelude.{◌≡◌, true, IfSome, MatchOption};
 ghost use Rattle.tl_load.specs.Lines.{without_return, IsLineEnd, IsWithoutLineFeed};
 
 use crate::bytes::is_ascii;

@@ -1,7 +1,7 @@
 //! The loader over any collector: splits pieces of bytes into lines, judges each line when it ends, and keeps its record.
 
 ghost use Rattle.std.specs.Io.KnownBytes.{IsAtEnd};
-ghost use Rattle.std.specs.Prelude.{◌≡◌, ◌≤◌, ◌<◌, ◌+◌, ◌*◌, ℕ, List, [], ◌∷◌, ◌++◌, None, Some, length, take, replicate, IfSome, Err, MatchResult, IfOk, IfErr, OnOk, IsTrue, false, is_ok, if◌then◌else◌};
+ghost use Rattle.std.specs.Prelude.{◌≡◌, ◌≤◌, ◌<◌, ◌+◌, ℕ, List, [], ◌∷◌, ◌++◌, None, Some, length, take, replicate, IfSome, Err, MatchResult, IfOk, IfErr, OnOk, IsTrue, false, is_ok, if◌then◌else◌};
 ghost use Rattle.std.specs.Result.{IsErr};
 ghost use Rattle.tl_layout.specs.Bytes.{AreAllowed};
 ghost use Rattle.tl_layout.specs.declared.record_type.Record.{Record};
@@ -121,7 +121,7 @@ impl<K: Collector> LoaderFor<K> {
         if self.limit <= count {
             return Err(LoadFault::TooManyRecords { rtype });
         }
-        match self.kept.keep(found) {
+        match self.kept.push_record(found) {
             Ok(()) => {
                 self.counts[rtype as usize] = count + 1;
                 self.judged += 1;
@@ -134,7 +134,7 @@ impl<K: Collector> LoaderFor<K> {
     /// Keeps and counts the record of a full line without reading the line, if the collector can and there are fewer than
     /// `limit` of its type. Returns whether it did.
     #[inline(always)]
-    fn keep_unread<L: Canonical>(&mut self, line: &[u8], is_clean: bool) -> Result<bool, LoadFault>
+    fn push_unread<L: Canonical>(&mut self, line: &[u8], is_clean: bool) -> Result<bool, LoadFault>
         requires begins { take 1 line.now ≡ L.RTYPE ∷ [] }
         requires clean { IsTrue is_clean → AreAllowed line.now }
         ensures kept { IfOk result (λ was_kept. IsTrue was_kept → KeepsUnread K.holds line.now (as_record L.as_record (judged_as L.LEN L.reading line.now)) self.old self.new) }
@@ -151,7 +151,7 @@ impl<K: Collector> LoaderFor<K> {
         if count >= self.limit {
             return Ok(false);
         }
-        match self.kept.keep_line::<L>(line) {
+        match self.kept.push_line::<L>(line) {
             Ok(true) => {
                 self.counts[rtype as usize] = count + 1;
                 self.judged += 1;
@@ -164,7 +164,7 @@ impl<K: Collector> LoaderFor<K> {
 
     /// Reads the next line by the layout of its type, and keeps its record.
     fn read_as<L: Tabled>(&mut self, line: &[u8], is_clean: bool) -> Result<(), LoadFault>
-        requires room { self.old.parts < u64.MAX }
+        requires parts { self.old.parts < u64.MAX }
         requires begins { take 1 line.now ≡ L.RTYPE ∷ [] }
         requires clean { IsTrue is_clean → AreAllowed line.now }
         ensures judges { Lifts K.holds (JudgesAs line.now (as_record L.as_record (judged_as L.LEN L.reading line.now))) self.old result self.new }
@@ -183,7 +183,7 @@ impl<K: Collector> LoaderFor<K> {
 
     /// Judges the next line by the layout of its type.
     fn judge_as<L: Canonical>(&mut self, line: &[u8], is_clean: bool) -> Result<(), LoadFault>
-        requires room { self.old.parts < u64.MAX }
+        requires parts { self.old.parts < u64.MAX }
         requires begins { take 1 line.now ≡ L.RTYPE ∷ [] }
         requires clean { IsTrue is_clean → AreAllowed line.now }
         ensures judges { Lifts K.holds (JudgesAs line.now (as_record L.as_record (judged_as L.LEN L.reading line.now))) self.old result self.new }
@@ -194,7 +194,7 @@ impl<K: Collector> LoaderFor<K> {
         ensures one_more { OnOk result (total self.new.counts ≡ total self.old.counts + 1) }
         ensures no_device { IfErr result IsNotDevice }
     {
-        match self.keep_unread::<L>(line, is_clean) {
+        match self.push_unread::<L>(line, is_clean) {
             Ok(true) => Ok(()),
             Ok(false) => self.read_as::<L>(line, is_clean),
             Err(fault) => Err(fault),
@@ -203,7 +203,7 @@ impl<K: Collector> LoaderFor<K> {
 
     /// Rejects a line whose first byte isn't a record type.
     fn refuse_unknown(&mut self, line: &[u8]) -> Result<(), LoadFault>
-        requires room { self.old.parts < u64.MAX }
+        requires parts { self.old.parts < u64.MAX }
         requires unknown { judged line.now ≡ Err UnknownType }
         ensures judges { Lifts K.holds (Judges line.now) self.old result self.new }
         ensures refused { IsErr result }
@@ -217,7 +217,7 @@ impl<K: Collector> LoaderFor<K> {
     /// bytes is known to be allowed in a line.
     #[tactic(auto, unfolding(crate::specs::Choice::judged, crate::specs::Choice::judged_by))]
     fn judge_next(&mut self, line: &[u8], is_clean: bool) -> Result<(), LoadFault>
-        requires room { self.old.parts < u64.MAX }
+        requires parts { self.old.parts < u64.MAX }
         requires clean { IsTrue is_clean → AreAllowed line.now }
         ensures judges { Lifts K.holds (Judges line.now) self.old result self.new }
         ensures short { OnOk result (length line.now ≤ LONGEST_LINE) }
@@ -243,7 +243,7 @@ impl<K: Collector> LoaderFor<K> {
 
     /// Judges a line at its 230th byte, by its first 229 bytes: it is too long or has no known type.
     fn refuse_long(&mut self, bytes: &[u8]) -> Result<(), LoadFault>
-        requires room { self.old.parts < u64.MAX }
+        requires parts { self.old.parts < u64.MAX }
         requires too_long { LINE_BYTES < length self.old.unfinished + length bytes.now }
         requires no_feed { IsWithoutLineFeed bytes.now }
         ensures takes { Lifts K.holds (Takes bytes.now) self.old result self.new }
@@ -259,7 +259,7 @@ impl<K: Collector> LoaderFor<K> {
 
     /// Stores bytes of a line that hasn't ended yet.
     fn buffer_bytes(&mut self, bytes: &[u8]) -> Result<(), LoadFault>
-        requires room { self.old.parts < u64.MAX }
+        requires parts { self.old.parts < u64.MAX }
         requires no_feed { IsWithoutLineFeed bytes.now }
         ensures takes { Lifts K.holds (Takes bytes.now) self.old result self.new }
         ensures same_part { IsSamePart self.old self.new }
@@ -289,7 +289,7 @@ impl<K: Collector> LoaderFor<K> {
     /// Takes the bytes before an LF, and the LF. If no line was begun, it judges the bytes in place, without copying them. If
     /// `is_clean`, they are known to be allowed in a line.
     fn end_line(&mut self, bytes: &[u8], is_clean: bool) -> Result<(), LoadFault>
-        requires room { self.old.parts < u64.MAX }
+        requires parts { self.old.parts < u64.MAX }
         requires no_feed { IsWithoutLineFeed bytes.now }
         requires clean { IsTrue is_clean → AreAllowed bytes.now }
         ensures takes { Lifts K.holds (Takes (bytes.now ++ 10 ∷ [])) self.old result self.new }
@@ -357,7 +357,7 @@ impl<K: Collector> LoaderFor<K> {
     /// Feeds the bytes that the source returns until it returns none, and closes the part.
     fn read_to_end<R: Source>(&mut self, source: &mut R, buffer: &mut [u8]) -> Result<(), LoadFault>
         requires parts { self.old.parts < u64.MAX }
-        requires some_room { 0 < length buffer.old }
+        requires buffer { 0 < length buffer.old }
         requires failures { R.failed source.old < u64.MAX }
         ensures reads { (taken : List ℕ) × Gave R.remaining R.given source.old source.new taken × (length taken ≤ MOST_BYTES + length buffer.old)
             × Lifts K.holds (ReadsPart taken (IsAtEnd (R.remaining source.new))) self.old result self.new }
@@ -489,7 +489,7 @@ impl<K: Collector> LoaderFor<K> {
         buffer: &mut [u8],
     ) -> Result<(), LoadFault>
         requires parts { self.old.parts < u64.MAX }
-        requires some_room { 0 < length buffer.old }
+        requires buffer { 0 < length buffer.old }
         requires failures { R.failed source.old < u64.MAX }
         // The source's bytes were fed into the open part. There is a bound on them, so even an endless source can't keep the
         // call from returning.

@@ -28,11 +28,11 @@ Arrangement = List (ℕ × Bool)
 
 -- the TLIDs of an arrangement
 abbrev pub arranged_tlids : Arrangement → List ℕ
-arranged_tlids steps = map (λ step. step.0) steps
+arranged_tlids arrangement = map (λ directed. directed.0) arrangement
 
 -- the arrangement names each TLID of the county once
 abbrev pub Arranges : Arrangement → County → Type 0
-Arranges steps county = IsPermutation (arranged_tlids steps) (tlids county)
+Arranges arrangement county = IsPermutation (arranged_tlids arrangement) (tlids county)
 
 -- the list's entries with this TLID
 abbrev pub entries_of : List (ℕ × Chain) → ℕ → List (ℕ × Chain)
@@ -40,19 +40,19 @@ entries_of chains tlid = of_number (λ entry. entry.0) tlid chains
 
 -- the chains in their new order
 abbrev pub chains_in_order : County → Arrangement → List (ℕ × Chain)
-chains_in_order county steps = flat_map (λ step. entries_of county.chains step.0) steps
+chains_in_order county arrangement = flat_map (λ directed. entries_of county.chains directed.0) arrangement
 
 -- the chains in their new order and direction, with the TLIDs 1, 2, 3, ..; all other numbers are the old ones
 abbrev pub placed : County → Arrangement → List (ℕ × Chain)
-placed county steps = numbered_from 1 (flat_map (λ step. map (λ entry. turned_if step.1 entry.1) (entries_of county.chains step.0)) steps)
+placed county arrangement = numbered_from 1 (flat_map (λ directed. map (λ entry. turned_if directed.1 entry.1) (entries_of county.chains directed.0)) arrangement)
 
 -- nodes in the order of their first appearance, start before end
 abbrev pub nodes_in_order : County → Arrangement → List ℕ
-nodes_in_order county steps = first_seen nat_cmp (nodes_along (placed county steps))
+nodes_in_order county arrangement = first_seen nat_cmp (nodes_along (placed county arrangement))
 
 -- polygons in the order of their first appearance, left before right
 abbrev pub polygons_in_order : County → Arrangement → List PolygonKey
-polygons_in_order county steps = first_seen key_cmp (polygons_along (placed county steps))
+polygons_in_order county arrangement = first_seen key_cmp (polygons_along (placed county arrangement))
 
 -- a polygon's old key and its new one, which has the same CENID
 abbrev pub under_cenid : PolygonKey × ℕ → PolygonKey × PolygonKey
@@ -60,11 +60,11 @@ under_cenid pair = (pair.0, (pair.0.0, pair.1))
 
 -- the old and the new keys of polygons, in one numbering over all CENIDs
 abbrev pub new_keys : County → Arrangement → List (PolygonKey × PolygonKey)
-new_keys county steps = map under_cenid (numbered (polygons_in_order county steps))
+new_keys county arrangement = map under_cenid (numbered (polygons_in_order county arrangement))
 
 -- names in the order of their content and then of their uses under the new TLIDs
 abbrev pub names_in_order : County → Arrangement → List (ℕ × Body5)
-names_in_order county steps = in_order (on (name_key (all_uses (placed county steps))) name_key_cmp) county.names
+names_in_order county arrangement = in_order (on (name_key (all_uses (placed county arrangement))) name_key_cmp) county.names
 
 -- a link with the new key of its polygon
 abbrev pub relinked : List (PolygonKey × PolygonKey) → Fields8 → Fields8
@@ -77,35 +77,35 @@ relinked keys link = record {
 
 -- the links with the new keys of their polygons, in order; LANDs are the old ones
 abbrev pub links_relinked : County → Arrangement → List Fields8
-links_relinked county steps = in_order link_cmp (map (relinked (new_keys county steps)) county.links)
+links_relinked county arrangement = in_order link_cmp (map (relinked (new_keys county arrangement)) county.links)
 
 -- landmarks in the order of their bodies and then of their links with the new POLYIDs
 abbrev pub landmarks_in_order : County → Arrangement → List (ℕ × List Body7)
-landmarks_in_order county steps = in_order (on (landmark_key (links_relinked county steps)) landmark_key_cmp) county.landmarks
+landmarks_in_order county arrangement = in_order (on (landmark_key (links_relinked county arrangement)) landmark_key_cmp) county.landmarks
 
 -- the old TLIDs of the turned chains
 abbrev pub turned_tlids : Arrangement → List ℕ
-turned_tlids steps = arranged_tlids (filter (λ step. step.1) steps)
+turned_tlids arrangement = arranged_tlids (filter (λ directed. directed.1) arrangement)
 
 -- the renaming that results from an arrangement
 unfoldable pub renaming_of : County → Arrangement → Renumbering
-renaming_of county steps = record {
-  chains = numbered (arranged_tlids steps);
-  names = numbered (map (λ entry. entry.0) (names_in_order county steps));
-  polygons = new_keys county steps;
-  lands = numbered (map (λ entry. entry.0) (landmarks_in_order county steps));
-  nodes = numbered (nodes_in_order county steps);
-  turned = turned_tlids steps;
+renaming_of county arrangement = record {
+  chains = numbered (arranged_tlids arrangement);
+  names = numbered (map (λ entry. entry.0) (names_in_order county arrangement));
+  polygons = new_keys county arrangement;
+  lands = numbered (map (λ entry. entry.0) (landmarks_in_order county arrangement));
+  nodes = numbered (nodes_in_order county arrangement);
+  turned = turned_tlids arrangement;
 }
 
 -- the county with its new numbers
 unfoldable pub arranged : County → Arrangement → County
-arranged county steps = record {
-  chains = map (carried_chain (renaming_of county steps)) (chains_in_order county steps);
-  names = map (carried_name (renaming_of county steps)) (names_in_order county steps);
-  polygons = in_order (on (λ entry. entry.0) key_cmp) (map (carried_polygon (renaming_of county steps)) county.polygons);
-  landmarks = map (carried_landmark (renaming_of county steps)) (landmarks_in_order county steps);
-  links = in_order link_cmp (map (carried_link (renaming_of county steps)) county.links);
+arranged county arrangement = record {
+  chains = map (carried_chain (renaming_of county arrangement)) (chains_in_order county arrangement);
+  names = map (carried_name (renaming_of county arrangement)) (names_in_order county arrangement);
+  polygons = in_order (on (λ entry. entry.0) key_cmp) (map (carried_polygon (renaming_of county arrangement)) county.polygons);
+  landmarks = map (carried_landmark (renaming_of county arrangement)) (landmarks_in_order county arrangement);
+  links = in_order link_cmp (map (carried_link (renaming_of county arrangement)) county.links);
 }
 
 -- whether a chain's points come after their reverse

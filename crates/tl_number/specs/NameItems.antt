@@ -8,13 +8,13 @@ use Rattle.tl_county.specs.BodyOrder.{name_body_cmp}
 use Rattle.tl_county.specs.ChartWords.{feats_of, name_at}
 use Rattle.tl_county.specs.County.{County}
 use Rattle.tl_county.specs.CountyRules.{feats}
-use Rattle.tl_number.specs.Steps.{step_chain}
+use Rattle.tl_county.specs.DirectedChains.{directed_chain}
 use Rattle.tl_county.specs.declared.directed_chain.DirectedChain.{DirectedChain}
 use Rattle.tl_number.specs.declared.name_order.RankedName.{RankedName}
 
--- the FEATs that chains list, along steps
-abbrev pub feats_along_steps : County → List DirectedChain → List ℕ
-feats_along_steps county steps = flat_map (λ step. feats_of (step_chain county step)) steps
+-- the FEATs that chains list, along directed chains
+abbrev pub feats_along_arrangement : County → List DirectedChain → List ℕ
+feats_along_arrangement county arrangement = flat_map (λ directed. feats_of (directed_chain county directed)) arrangement
 
 -- a place counted from 1, and 0 for none
 abbrev pub from_one : Option ℕ → ℕ

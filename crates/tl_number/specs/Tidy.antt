@@ -14,33 +14,33 @@ use Rattle.tl_number.specs.Canonical.{IsNotAfter}
 use Rattle.tl_number.specs.NumberedChoices.{chosen}
 
 -- a choice: an arrangement that makes the county tidy
-pub record IsChoice (county : County) (steps : Arrangement) : Type 0 where
-  pub arranges : Arranges steps county
-  pub tidy : IsTidy (arranged county steps)
+pub record IsChoice (county : County) (arrangement : Arrangement) : Type 0 where
+  pub arranges : Arranges arrangement county
+  pub tidy : IsTidy (arranged county arrangement)
 
 -- the list of records of an arrangement
 abbrev pub arranged_list : County → Arrangement → List Record
-arranged_list county steps = packed (arranged county steps)
+arranged_list county arrangement = packed (arranged county arrangement)
 
 -- a choice whose text comes after that of no other choice
-pub record IsLeastChoice (county : County) (steps : Arrangement) : Type 0 where
-  pub choice : IsChoice county steps
-  pub least : (other : Arrangement) → IsChoice county other → IsNotAfter (arranged_list county steps) (arranged_list county other)
+pub record IsLeastChoice (county : County) (arrangement : Arrangement) : Type 0 where
+  pub choice : IsChoice county arrangement
+  pub least : (other : Arrangement) → IsChoice county other → IsNotAfter (arranged_list county arrangement) (arranged_list county other)
 
 -- no two chains have the same shape, and no shape is the same from both ends
 pub record HasShapesApart (county : County) : Type 0 where
   pub apart : has_repeat points_cmp (shapes county) ≡ false
   pub one_way : AllByRecursion (λ points. is_either_way points ≡ false) (shapes county)
 
--- the shape of the chain of a step
-abbrev pub step_shape : County → ℕ × Bool → List Coordinates
-step_shape county step = flat_map entry_shape (entries_of county.chains step.0)
+-- the shape of a directed chain
+abbrev pub directed_shape : County → ℕ × Bool → List Coordinates
+directed_shape county directed = flat_map entry_shape (entries_of county.chains directed.0)
 
--- the step in the other direction
-abbrev pub turned_step : ℕ × Bool → ℕ × Bool
-turned_step step = (step.0, not step.1)
+-- the chain in the other direction
+abbrev pub turned_directed : ℕ × Bool → ℕ × Bool
+turned_directed directed = (directed.0, not directed.1)
 
 -- The choice with this number. Number 0 is the ascending arrangement; others have chains with the same shape in another order, or
 -- turn chains that are their own reverse.
 unfoldable pub numbered_choice : County → ℕ → Arrangement
-numbered_choice county n = (chosen points_cmp is_either_way (step_shape county) turned_step (ascending county) n).0
+numbered_choice county n = (chosen points_cmp is_either_way (directed_shape county) turned_directed (ascending county) n).0

@@ -12,13 +12,13 @@ use Rattle.tl_number.specs.CountyGroups.{type_1_by_chain}
 use Rattle.tl_number.specs.Groups.{grouped}
 use Rattle.tl_number.specs.LeastNumber.{choice_list}
 use Rattle.tl_number.specs.RecordOrder.{groups_cmp}
-use Rattle.tl_number.specs.Steps.{step_chain}
+use Rattle.tl_county.specs.DirectedChains.{directed_chain}
 use Rattle.tl_number.specs.Canonical.{IsNotAfter}
 use Rattle.tl_number.specs.Tidy.{numbered_choice}
 
--- the record of type 1 of a step's chain if the step is at a place
+-- the record of type 1 of a directed chain, if there is one at a place
 abbrev pub one_at : County → DirectedChain → ℕ → Option Record
-one_at county step place = option_map (λ chain. One (packed_one (place + 1, chain))) (step_chain county step)
+one_at county directed place = option_map (λ chain. One (packed_one (place + 1, chain))) (directed_chain county directed)
 
 -- the type 1 records of a county
 abbrev pub ones_of : County → List Record

@@ -10,10 +10,10 @@ use Rattle.tl_county.specs.Limits.{IsWithinLimits, most_records}
 use Rattle.ordered_lists.specs.Orders.{times}
 use Rattle.tl_number.specs.Arrangement.{Arrangement, arranged_tlids, nodes_in_order, polygons_in_order, names_in_order}
 use Rattle.tl_number.specs.Arrangement.{landmarks_in_order, arranged}
-use Rattle.tl_number.specs.ByStep.{ends_of, sides_of}
+use Rattle.tl_number.specs.EndsAndSides.{ends_of, sides_of}
 use Rattle.tl_number.specs.ByNumber.{polygons_by_number, under_number}
 use Rattle.tl_number.specs.Growth.{numbered}
-use Rattle.tl_number.specs.Steps.{AreSteps, arrangement_of}
+use Rattle.tl_number.specs.DirectedChains.{HasChainsOf, arrangement_of}
 use Rattle.tl_county.specs.declared.directed_chain.DirectedChain.{DirectedChain}
 use Rattle.tl_number.specs.declared.arranged_tables.LandmarkTables.{LandmarkTables}
 use Rattle.tl_number.specs.declared.arranged_tables.NameTables.{NameTables}
@@ -26,7 +26,7 @@ AreReadAt xs places ys = map (slice_get xs) places ≡ map Some ys
 
 -- an arrangement names each TLID as often as the county
 abbrev pub NamesEachOnce : County → Arrangement → Type 0
-NamesEachOnce county steps = (tlid : ℕ) → times nat_cmp tlid (arranged_tlids steps) ≡ times nat_cmp tlid (tlids county)
+NamesEachOnce county arrangement = (tlid : ℕ) → times nat_cmp tlid (arranged_tlids arrangement) ≡ times nat_cmp tlid (tlids county)
 
 -- how many links have a LAND up to this one
 abbrev pub links_up_to : List Fields8 → ℕ → ℕ
@@ -36,40 +36,40 @@ links_up_to links land = length (filter (λ link. nat_le link.land land) links)
 abbrev pub link_bounds : List Fields8 → ℕ → List ℕ
 link_bounds links count = map (links_up_to links) (range_with_len 0 (count + 1))
 
--- the county in the arrangement of these steps
-abbrev pub stepped : County → List DirectedChain → County
-stepped county steps = arranged county (arrangement_of county steps)
+-- the county in this arrangement
+abbrev pub arranged_by : County → List DirectedChain → County
+arranged_by county arrangement = arranged county (arrangement_of county arrangement)
 
--- the steps make an arrangement, with each chain once, and the arranged county is a county within its limits
-pub record AreWhole (county : County) (steps : List DirectedChain) : Type 0 where
-  pub there : AreSteps county steps
-  pub once : NamesEachOnce county (arrangement_of county steps)
+-- the directed chains make an arrangement, with each chain once, and the arranged county is a county within its limits
+pub record AreWhole (county : County) (arrangement : List DirectedChain) : Type 0 where
+  pub there : HasChainsOf county arrangement
+  pub once : NamesEachOnce county (arrangement_of county arrangement)
   pub few : length county.chains < 2 ^ 32
-  pub is_county : IsCounty (stepped county steps)
-  pub within_limits : IsWithinLimits most_records (stepped county steps)
+  pub is_county : IsCounty (arranged_by county arrangement)
+  pub within_limits : IsWithinLimits most_records (arranged_by county arrangement)
 
 -- the nodes by first appearance, and the ends of each chain
-pub record MatchesNodes (county : County) (steps : List DirectedChain) (tables : NodeTables) : Type 0 where
-  pub numbers : tables.numbers ≡ nodes_in_order county (arrangement_of county steps)
-  pub ends : tables.ends.items ≡ map ends_of (entry_values (stepped county steps).chains)
+pub record MatchesNodes (county : County) (arrangement : List DirectedChain) (tables : NodeTables) : Type 0 where
+  pub numbers : tables.numbers ≡ nodes_in_order county (arrangement_of county arrangement)
+  pub ends : tables.ends.items ≡ map ends_of (entry_values (arranged_by county arrangement).chains)
 
 -- the polygons by first appearance, the sides of each chain, the new keys in order, and the places of the contents
-pub record MatchesPolygons (county : County) (steps : List DirectedChain) (tables : PolygonTables) : Type 0 where
-  pub numbers : tables.numbers ≡ polygons_in_order county (arrangement_of county steps)
+pub record MatchesPolygons (county : County) (arrangement : List DirectedChain) (tables : PolygonTables) : Type 0 where
+  pub numbers : tables.numbers ≡ polygons_in_order county (arrangement_of county arrangement)
   pub few : length tables.numbers < 10 ^ 10
-  pub sides : tables.sides.items ≡ map sides_of (entry_values (stepped county steps).chains)
-  pub keys : tables.keys.items ≡ polygon_keys (stepped county steps)
-  pub bodies : AreReadAt (entry_values county.polygons) tables.places.items (entry_values (stepped county steps).polygons)
-  pub by_number : map (under_number county) (numbered tables.numbers) ≡ polygons_by_number (stepped county steps)
+  pub sides : tables.sides.items ≡ map sides_of (entry_values (arranged_by county arrangement).chains)
+  pub keys : tables.keys.items ≡ polygon_keys (arranged_by county arrangement)
+  pub bodies : AreReadAt (entry_values county.polygons) tables.places.items (entry_values (arranged_by county arrangement).polygons)
+  pub by_number : map (under_number county) (numbered tables.numbers) ≡ polygons_by_number (arranged_by county arrangement)
 
 -- the names in their new order
-pub record MatchesNames (county : County) (steps : List DirectedChain) (tables : NameTables) : Type 0 where
-  pub feats : tables.feats ≡ entry_keys (names_in_order county (arrangement_of county steps))
-  pub names : AreReadAt county.names tables.places.items (names_in_order county (arrangement_of county steps))
+pub record MatchesNames (county : County) (arrangement : List DirectedChain) (tables : NameTables) : Type 0 where
+  pub feats : tables.feats ≡ entry_keys (names_in_order county (arrangement_of county arrangement))
+  pub names : AreReadAt county.names tables.places.items (names_in_order county (arrangement_of county arrangement))
   pub few : length tables.feats < 2 ^ 32
 
 -- the landmarks in their new order, their links, and the bounds between which the links of each are
-pub record MatchesLandmarks (county : County) (steps : List DirectedChain) (tables : LandmarkTables) : Type 0 where
-  pub landmarks : AreReadAt county.landmarks tables.places.items (landmarks_in_order county (arrangement_of county steps))
-  pub links : tables.links.items ≡ (stepped county steps).links
-  pub bounds : tables.bounds.items ≡ link_bounds (stepped county steps).links (length tables.places.items)
+pub record MatchesLandmarks (county : County) (arrangement : List DirectedChain) (tables : LandmarkTables) : Type 0 where
+  pub landmarks : AreReadAt county.landmarks tables.places.items (landmarks_in_order county (arrangement_of county arrangement))
+  pub links : tables.links.items ≡ (arranged_by county arrangement).links
+  pub bounds : tables.bounds.items ≡ link_bounds (arranged_by county arrangement).links (length tables.places.items)

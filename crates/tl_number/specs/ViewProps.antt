@@ -12,20 +12,20 @@ use Rattle.tl_number.specs.declared.arranged_tables.NameTables.{NameTables}
 use Rattle.tl_number.specs.declared.arranged_tables.NodeTables.{NodeTables}
 use Rattle.tl_number.specs.declared.arranged_tables.PolygonTables.{PolygonTables}
 
-pub AreWhole-prop : (county : County) (steps : List DirectedChain) → IsProp (AreWhole county steps)
-AreWhole-prop county steps = hlevel (props, IsCounty-prop, IsWithinLimits-prop)
+pub AreWhole-prop : (county : County) (arrangement : List DirectedChain) → IsProp (AreWhole county arrangement)
+AreWhole-prop county arrangement = hlevel (props, IsCounty-prop, IsWithinLimits-prop)
 
 pub StandOnSides-prop : (county : County) → IsProp (AllKeysStandIn (polygons_along county.chains) (polygon_keys county))
 StandOnSides-prop county = hlevel props
 
-pub MatchesNodes-prop : (county : County) (steps : List DirectedChain) (tables : NodeTables) → IsProp (MatchesNodes county steps tables)
-MatchesNodes-prop county steps tables = hlevel props
+pub MatchesNodes-prop : (county : County) (arrangement : List DirectedChain) (tables : NodeTables) → IsProp (MatchesNodes county arrangement tables)
+MatchesNodes-prop county arrangement tables = hlevel props
 
-pub MatchesPolygons-prop : (county : County) (steps : List DirectedChain) (tables : PolygonTables) → IsProp (MatchesPolygons county steps tables)
-MatchesPolygons-prop county steps tables = hlevel props
+pub MatchesPolygons-prop : (county : County) (arrangement : List DirectedChain) (tables : PolygonTables) → IsProp (MatchesPolygons county arrangement tables)
+MatchesPolygons-prop county arrangement tables = hlevel props
 
-pub MatchesNames-prop : (county : County) (steps : List DirectedChain) (tables : NameTables) → IsProp (MatchesNames county steps tables)
-MatchesNames-prop county steps tables = hlevel props
+pub MatchesNames-prop : (county : County) (arrangement : List DirectedChain) (tables : NameTables) → IsProp (MatchesNames county arrangement tables)
+MatchesNames-prop county arrangement tables = hlevel props
 
-pub MatchesLandmarks-prop : (county : County) (steps : List DirectedChain) (tables : LandmarkTables) → IsProp (MatchesLandmarks county steps tables)
-MatchesLandmarks-prop county steps tables = hlevel props
+pub MatchesLandmarks-prop : (county : County) (arrangement : List DirectedChain) (tables : LandmarkTables) → IsProp (MatchesLandmarks county arrangement tables)
+MatchesLandmarks-prop county arrangement tables = hlevel props

@@ -9,9 +9,9 @@ ghost use Rattle.ordered_lists.specs.Entries.{entry_values};
 ghost use Rattle.ordered_lists.specs.Pairs.{image};
 ghost use Rattle.tl_number.specs.Arrangement.{renaming_of};
 ghost use Rattle.tl_number.specs.ByNumber.{polygons_by_number};
-ghost use Rattle.tl_number.specs.ByStep.{ends_of, sides_of};
-ghost use Rattle.tl_number.specs.Steps.{arrangement_of};
-ghost use Rattle.tl_number.specs.ViewFacts.{AreWhole, stepped, MatchesNodes, MatchesPolygons, MatchesNames, MatchesLandmarks};
+ghost use Rattle.tl_number.specs.EndsAndSides.{ends_of, sides_of};
+ghost use Rattle.tl_number.specs.DirectedChains.{arrangement_of};
+ghost use Rattle.tl_number.specs.ViewFacts.{AreWhole, arranged_by, MatchesNodes, MatchesPolygons, MatchesNames, MatchesLandmarks};
 ghost use Rattle.tl_number.specs.ViewProps.{AreWhole-prop, StandOnSides-prop, MatchesNodes-prop, MatchesPolygons-prop, MatchesNames-prop, MatchesLandmarks-prop};
 
 use crate::arranged_tables::{Ends, LandmarkTables, NameTables, NodeTables, PolygonTables, Sides};
@@ -42,19 +42,19 @@ impl Evidence for Unknown {
 #[derive(Drop)]
 pub struct Arranged<C: Chart, S: Evidence = Unknown> {
     pub(crate) chart: C,
-    pub(crate) steps: Vec<DirectedChain>,
+    pub(crate) arrangement: Vec<DirectedChain>,
     pub(crate) nodes: NodeTables,
     pub(crate) polygons: PolygonTables,
     pub(crate) names: NameTables,
     pub(crate) landmarks: LandmarkTables,
-    pub(crate) standing: PhantomData<S>,
-    ghost whole: { AreWhole (C.county chart) steps.items } by { AreWhole-prop (C.county chart) steps.items },
+    pub(crate) evidence: PhantomData<S>,
+    ghost whole: { AreWhole (C.county chart) arrangement.items } by { AreWhole-prop (C.county chart) arrangement.items },
     ghost sides: { AllKeysStandIn (polygons_along (C.county chart).chains) (polygon_keys (C.county chart)) } by { StandOnSides-prop (C.county chart) },
-    ghost nodes_stated: { MatchesNodes (C.county chart) steps.items nodes } by { MatchesNodes-prop (C.county chart) steps.items nodes },
-    ghost polygons_stated: { MatchesPolygons (C.county chart) steps.items polygons } by { MatchesPolygons-prop (C.county chart) steps.items polygons },
-    ghost names_stated: { MatchesNames (C.county chart) steps.items names } by { MatchesNames-prop (C.county chart) steps.items names },
-    ghost landmarks_stated: { MatchesLandmarks (C.county chart) steps.items landmarks } by { MatchesLandmarks-prop (C.county chart) steps.items landmarks },
-    ghost stands: { ∥ S.holds (C.county chart) (stepped (C.county chart) steps.items) ∥₁ },
+    ghost nodes_stated: { MatchesNodes (C.county chart) arrangement.items nodes } by { MatchesNodes-prop (C.county chart) arrangement.items nodes },
+    ghost polygons_stated: { MatchesPolygons (C.county chart) arrangement.items polygons } by { MatchesPolygons-prop (C.county chart) arrangement.items polygons },
+    ghost names_stated: { MatchesNames (C.county chart) arrangement.items names } by { MatchesNames-prop (C.county chart) arrangement.items names },
+    ghost landmarks_stated: { MatchesLandmarks (C.county chart) arrangement.items landmarks } by { MatchesLandmarks-prop (C.county chart) arrangement.items landmarks },
+    ghost stands: { ∥ S.holds (C.county chart) (arranged_by (C.county chart) arrangement.items) ∥₁ },
 }
 
 /// The old place for a new one, or `None` past the last one.
@@ -75,30 +75,30 @@ fn sides_there(sides: &[Sides], place: usize) -> Option<Sides>
 }
 
 impl<C: Chart, S: Evidence> Arranged<C, S> {
-    /// The step of the chain at a place in the new order, or `None` past the last one.
-    pub(crate) fn step_at(&self, place: usize) -> Option<DirectedChain>
-        ensures { result ≡ slice_get self.now.steps.items place }
+    /// The directed chain at a place in the new order, or `None` past the last one.
+    pub(crate) fn directed_at(&self, place: usize) -> Option<DirectedChain>
+        ensures { result ≡ slice_get self.now.arrangement.items place }
     {
-        self.steps.as_slice().get(place).copied()
+        self.arrangement.as_slice().get(place).copied()
     }
 
     /// The start node and the end node of the chain at a place, or `None` past the last chain.
     pub(crate) fn ends_at(&self, place: usize) -> Option<Ends>
-        ensures { result ≡ option_map ends_of (chain_at (stepped (C.county self.now.chart) self.now.steps.items) place) }
+        ensures { result ≡ option_map ends_of (chain_at (arranged_by (C.county self.now.chart) self.now.arrangement.items) place) }
     {
         self.nodes.ends.as_slice().get(place).copied()
     }
 
     /// The left and the right side of the chain at a place, or `None` past the last chain.
     pub(crate) fn sides_at(&self, place: usize) -> Option<Sides>
-        ensures { result ≡ option_map sides_of (chain_at (stepped (C.county self.now.chart) self.now.steps.items) place) }
+        ensures { result ≡ option_map sides_of (chain_at (arranged_by (C.county self.now.chart) self.now.arrangement.items) place) }
     {
         sides_there(&self.polygons.sides, place)
     }
 
     /// A further name with its new FEAT, if there is one.
     pub(crate) fn renumbered_feat(&self, feat: Option<u32>) -> Option<u32>
-        ensures { result ≡ option_map (image nat_cmp (renaming_of (C.county self.now.chart) (arrangement_of (C.county self.now.chart) self.now.steps.items)).names) feat }
+        ensures { result ≡ option_map (image nat_cmp (renaming_of (C.county self.now.chart) (arrangement_of (C.county self.now.chart) self.now.arrangement.items)).names) feat }
     {
         match feat {
             Some(number) => Some(new_feat(&self.names.feats, number)),
@@ -108,7 +108,7 @@ impl<C: Chart, S: Evidence> Arranged<C, S> {
 
     /// The content of the type P record of the polygon at a place in the order of the new keys, or `None` past the last one.
     pub(crate) fn polygon_body_at_key(&self, place: usize) -> Option<Option<BodyP>>
-        ensures { result ≡ slice_get (entry_values (stepped (C.county self.now.chart) self.now.steps.items).polygons) place }
+        ensures { result ≡ slice_get (entry_values (arranged_by (C.county self.now.chart) self.now.arrangement.items).polygons) place }
     {
         match old_place(&self.polygons.places, place) {
             Some(old) => self.chart.polygon_body_at(old),
@@ -133,7 +133,7 @@ impl<C: Chart, S: Evidence> Arranged<C, S> {
     /// The polygon at a place in the order of the new numbers, or `None` past the last one: its new key, and the content of its
     /// type P record, if it has one.
     pub(crate) fn polygon_at_number(&self, place: usize) -> Option<(PolygonKey, Option<BodyP>)>
-        ensures { result ≡ slice_get (polygons_by_number (stepped (C.county self.now.chart) self.now.steps.items)) place }
+        ensures { result ≡ slice_get (polygons_by_number (arranged_by (C.county self.now.chart) self.now.arrangement.items)) place }
     {
         match self.polygons.numbers.key_at(place) {
             Some(old) => {

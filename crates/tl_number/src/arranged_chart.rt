@@ -39,20 +39,20 @@ pub(crate) fn place_of_number(count: usize, number: u64) -> Option<usize>
 
 /// The county that the arrangement makes from the source county.
 impl<C: Chart, S: Evidence> Chart for Arranged<C, S> {
-    ghost use Rattle.tl_number.specs.ViewFacts.{stepped};
+    ghost use Rattle.tl_number.specs.ViewFacts.{arranged_by};
 
-    ghost county = { λ view. stepped (C.county view.chart) view.steps.items };
+    ghost county = { λ view. arranged_by (C.county view.chart) view.arrangement.items };
 
     fn chain_count(&self) -> usize {
-        self.steps.as_slice().len()
+        self.arrangement.as_slice().len()
     }
 
     fn tlid_at(&self, place: usize) -> Option<u64> {
-        number_at(self.steps.as_slice().len(), place)
+        number_at(self.arrangement.as_slice().len(), place)
     }
 
     fn chain_place(&self, tlid: u64) -> Option<usize> {
-        place_of_number(self.steps.as_slice().len(), tlid)
+        place_of_number(self.arrangement.as_slice().len(), tlid)
     }
 
     fn name_count(&self) -> usize {
@@ -107,64 +107,64 @@ impl<C: Chart, S: Evidence> Chart for Arranged<C, S> {
     }
 
     fn chain_body_at(&self, place: usize) -> Option<Body1> {
-        match self.step_at(place) {
-            Some(step) => step.body(&self.chart),
+        match self.directed_at(place) {
+            Some(directed) => directed.body(&self.chart),
             None => None,
         }
     }
 
     fn put_chain_body(&self, place: usize, turned: bool, out: &mut [u8]) {
-        match self.step_at(place) {
-            Some(step) => step.put_body(&self.chart, turned, out),
+        match self.directed_at(place) {
+            Some(directed) => directed.put_body(&self.chart, turned, out),
             None => {}
         }
     }
 
     fn point_count_at(&self, place: usize) -> usize {
-        match self.step_at(place) {
-            Some(step) => step.points(&self.chart).count(),
+        match self.directed_at(place) {
+            Some(directed) => directed.points(&self.chart).count(),
             None => 0,
         }
     }
 
     fn point_at(&self, place: usize, point: usize) -> Option<Point> {
-        match self.step_at(place) {
-            Some(step) => step.points(&self.chart).get(point),
+        match self.directed_at(place) {
+            Some(directed) => directed.points(&self.chart).get(point),
             None => None,
         }
     }
 
     fn feat_count_at(&self, place: usize) -> usize {
-        match self.step_at(place) {
-            Some(step) => step.feats(&self.chart).count(),
+        match self.directed_at(place) {
+            Some(directed) => directed.feats(&self.chart).count(),
             None => 0,
         }
     }
 
     fn chain_feat_at(&self, place: usize, name: usize) -> Option<u32> {
-        match self.step_at(place) {
-            Some(step) => self.renumbered_feat(step.feats(&self.chart).get(name)),
+        match self.directed_at(place) {
+            Some(directed) => self.renumbered_feat(directed.feats(&self.chart).get(name)),
             None => None,
         }
     }
 
     fn range_count_at(&self, place: usize) -> usize {
-        match self.step_at(place) {
-            Some(step) => step.ranges(&self.chart).count(),
+        match self.directed_at(place) {
+            Some(directed) => directed.ranges(&self.chart).count(),
             None => 0,
         }
     }
 
     fn range_at(&self, place: usize, range: usize) -> Option<Ranges> {
-        match self.step_at(place) {
-            Some(step) => step.ranges(&self.chart).get(range),
+        match self.directed_at(place) {
+            Some(directed) => directed.ranges(&self.chart).get(range),
             None => None,
         }
     }
 
-    fn link_body_at(&self, place: usize) -> Option<BodyI> {
-        match self.step_at(place) {
-            Some(step) => step.link_body(&self.chart),
+    fn topology_at(&self, place: usize) -> Option<BodyI> {
+        match self.directed_at(place) {
+            Some(directed) => directed.link_body(&self.chart),
             None => None,
         }
     }

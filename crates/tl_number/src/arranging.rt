@@ -5,10 +5,10 @@ ghost use Rattle.tl_county.specs.CountyRules.{AllKeysStandIn, polygon_keys, poly
 ghost use Rattle.tl_county.specs.Renumbering.{AreSame, Carries};
 ghost use Rattle.tl_number.specs.Arrangement.{arranged, polygons_in_order, renaming_of};
 ghost use Rattle.tl_number.specs.CanonCounties.{IsCanonCounty};
-ghost use Rattle.tl_number.specs.Steps.{AreSteps, arrangement_of};
+ghost use Rattle.tl_number.specs.DirectedChains.{HasChainsOf, arrangement_of};
 ghost use Rattle.tl_number.specs.Tidy.{IsLeastChoice};
-ghost use Rattle.tl_number.specs.ViewFacts.{stepped, AreWhole, NamesEachOnce, MatchesLandmarks, MatchesNames, MatchesNodes, MatchesPolygons};
-ghost use Rattle.tl_number.specs.Views.{arranged_county, arrangement_in, source_of, steps_of};
+ghost use Rattle.tl_number.specs.ViewFacts.{arranged_by, AreWhole, NamesEachOnce, MatchesLandmarks, MatchesNames, MatchesNodes, MatchesPolygons};
+ghost use Rattle.tl_number.specs.Views.{arranged_county, arrangement_in, source_of, directed_chains_of};
 ghost use Rattle.tl_profile.specs.Profile.{IsInProfile};
 ghost use Rattle.tl_profile.specs.ShapeOrder.{IsShapeOrder};
 
@@ -16,7 +16,7 @@ use crate::arranged::Arranged;
 use crate::arranged_tables::{LandmarkTables, NameTables, NodeTables, PolygonTables};
 use crate::canon_county::{CanonCounty, CanonCountyIn};
 use crate::landmark_order::arrange_landmarks;
-use crate::least_choice::least_steps;
+use crate::least_choice::least_arrangement;
 use crate::name_order::arrange_names;
 use crate::numbers::Interner;
 use crate::polygon_order::arrange_nodes_and_polygons;
@@ -29,49 +29,48 @@ use tl_profile::{Admitted, AdmittedIn, ShapeOrder};
 /// The tables of a county in an arrangement, for its nodes, polygons, names and landmarks.
 type Tables = (NodeTables, PolygonTables, NameTables, LandmarkTables);
 
-/// The names and the landmarks of a county in the arrangement of these steps, with its polygons by first appearance.
+/// The names and the landmarks of a county in this arrangement, with its polygons by first appearance.
 fn arrange_names_and_landmarks<C: Chart>(
     alloc: Global,
     chart: &C,
-    steps: &[DirectedChain],
+    arrangement: &[DirectedChain],
     polygons: &Interner<PolygonKey>,
 ) -> Result<(NameTables, LandmarkTables), AllocError>
-    requires whole { AreWhole (C.county chart.now) steps.now }
-    requires polygons { polygons.now ≡ polygons_in_order (C.county chart.now) (arrangement_of (C.county chart.now) steps.now) }
+    requires whole { AreWhole (C.county chart.now) arrangement.now }
+    requires polygons { polygons.now ≡ polygons_in_order (C.county chart.now) (arrangement_of (C.county chart.now) arrangement.now) }
     requires few_polygons { length polygons.now < 10 ^ 10 }
     requires few_names { length (C.county chart.now).names < 2 ^ 32 }
     requires few_landmarks { length (C.county chart.now).landmarks < 2 ^ 32 }
-    ensures names { IfOk result (λ tables. MatchesNames (C.county chart.now) steps.now tables.0) }
-    ensures landmarks { IfOk result (λ tables. MatchesLandmarks (C.county chart.now) steps.now tables.1) }
+    ensures names { IfOk result (λ tables. MatchesNames (C.county chart.now) arrangement.now tables.0) }
+    ensures landmarks { IfOk result (λ tables. MatchesLandmarks (C.county chart.now) arrangement.now tables.1) }
 {
-    let names = arrange_names(alloc, chart, steps)?;
-    let landmarks = arrange_landmarks(alloc, chart, steps, polygons)?;
+    let names = arrange_names(alloc, chart, arrangement)?;
+    let landmarks = arrange_landmarks(alloc, chart, arrangement, polygons)?;
     Ok((names, landmarks))
 }
 
-/// All tables of a county in the arrangement of these steps.
+/// All tables of a county in this arrangement.
 fn arrange_tables<C: Chart>(
     alloc: Global,
     chart: &C,
-    steps: &[DirectedChain],
+    arrangement: &[DirectedChain],
 ) -> Result<Tables, AllocError>
-    requires whole { AreWhole (C.county chart.now) steps.now }
+    requires whole { AreWhole (C.county chart.now) arrangement.now }
     requires sides { AllKeysStandIn (polygons_along (C.county chart.now).chains) (polygon_keys (C.county chart.now)) }
     requires few_polygons { length (C.county chart.now).polygons < 2 ^ 32 }
     requires few_names { length (C.county chart.now).names < 2 ^ 32 }
     requires few_landmarks { length (C.county chart.now).landmarks < 2 ^ 32 }
-    ensures nodes { IfOk result (λ tables. MatchesNodes (C.county chart.now) steps.now tables.0) }
-    ensures polygons { IfOk result (λ tables. MatchesPolygons (C.county chart.now) steps.now tables.1) }
-    ensures names { IfOk result (λ tables. MatchesNames (C.county chart.now) steps.now tables.2) }
-    ensures landmarks { IfOk result (λ tables. MatchesLandmarks (C.county chart.now) steps.now tables.3) }
+    ensures nodes { IfOk result (λ tables. MatchesNodes (C.county chart.now) arrangement.now tables.0) }
+    ensures polygons { IfOk result (λ tables. MatchesPolygons (C.county chart.now) arrangement.now tables.1) }
+    ensures names { IfOk result (λ tables. MatchesNames (C.county chart.now) arrangement.now tables.2) }
+    ensures landmarks { IfOk result (λ tables. MatchesLandmarks (C.county chart.now) arrangement.now tables.3) }
 {
-    let (nodes, polygons) = arrange_nodes_and_polygons(alloc, chart, steps)?;
-    let (names, landmarks) = arrange_names_and_landmarks(alloc, chart, steps, &polygons.numbers)?;
+    let (nodes, polygons) = arrange_nodes_and_polygons(alloc, chart, arrangement)?;
+    let (names, landmarks) = arrange_names_and_landmarks(alloc, chart, arrangement, &polygons.numbers)?;
     Ok((nodes, polygons, names, landmarks))
 }
 
-/// A county in the arrangement of these steps. Its polygons on sides must be in the county, and the steps must name each of its
-/// chains once.
+/// A county in this arrangement. Its polygons on sides must be in the county, and the arrangement must name each of its chains once.
 ///
 /// # Errors
 ///
@@ -79,43 +78,43 @@ fn arrange_tables<C: Chart>(
 pub fn arrange<C: Chart + Drop>(
     alloc: Global,
     chart: C,
-    steps: Vec<DirectedChain>,
+    arrangement: Vec<DirectedChain>,
 ) -> Result<Arranged<C>, AllocError>
-    requires there { AreSteps (C.county chart) steps.items }
-    requires once { NamesEachOnce (C.county chart) (arrangement_of (C.county chart) steps.items) }
+    requires there { HasChainsOf (C.county chart) arrangement.items }
+    requires once { NamesEachOnce (C.county chart) (arrangement_of (C.county chart) arrangement.items) }
     requires sides { AllKeysStandIn (polygons_along (C.county chart).chains) (polygon_keys (C.county chart)) }
     ensures source { IfOk result (λ view. source_of view ≡ chart) }
-    ensures order { IfOk result (λ view. steps_of view ≡ steps) }
+    ensures order { IfOk result (λ view. directed_chains_of view ≡ arrangement) }
     ensures county { IfOk result
-        (λ view. arranged_county view ≡ arranged (C.county chart) (arrangement_of (C.county chart) steps.items)) }
+        (λ view. arranged_county view ≡ arranged (C.county chart) (arrangement_of (C.county chart) arrangement.items)) }
 {
-    let (nodes, polygons, names, landmarks) = arrange_tables(alloc, &chart, &steps)?;
+    let (nodes, polygons, names, landmarks) = arrange_tables(alloc, &chart, &arrangement)?;
     Ok(Arranged {
         chart,
-        steps,
+        arrangement,
         nodes,
         polygons,
         names,
         landmarks,
-        standing: PhantomData,
+        evidence: PhantomData,
     })
 }
 
 /// Marks an arranged county as canonical. It must be canonical and the same map as its source county.
 fn known_as_canonical<C: Chart + Drop>(view: Arranged<C>) -> CanonCounty<C>
-    requires canonical { IsCanonCounty (stepped (C.county view.chart) view.steps.items) }
-    requires same { AreSame (C.county view.chart) (stepped (C.county view.chart) view.steps.items) }
+    requires canonical { IsCanonCounty (arranged_by (C.county view.chart) view.arrangement.items) }
+    requires same { AreSame (C.county view.chart) (arranged_by (C.county view.chart) view.arrangement.items) }
     ensures source { result.chart ≡ view.chart }
-    ensures order { result.steps ≡ view.steps }
+    ensures order { result.arrangement ≡ view.arrangement }
 {
     Arranged {
         chart: view.chart,
-        steps: view.steps,
+        arrangement: view.arrangement,
         nodes: view.nodes,
         polygons: view.polygons,
         names: view.names,
         landmarks: view.landmarks,
-        standing: PhantomData,
+        evidence: PhantomData,
     }
 }
 
@@ -136,8 +135,8 @@ fn canonise_in_order<C: Chart + Drop>(
         (arranged_county canon)) }
     ensures canonical { IfOk result (λ canon. IsCanonCounty (arranged_county canon)) }
 {
-    let steps = least_steps(alloc, &chart, order)?;
-    let view = arrange(alloc, chart, steps)?;
+    let arrangement = least_arrangement(alloc, &chart, order)?;
+    let view = arrange(alloc, chart, arrangement)?;
     Ok(known_as_canonical(view))
 }
 

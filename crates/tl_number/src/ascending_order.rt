@@ -2,20 +2,20 @@
 
 ghost use Rattle.std.specs.Prelude.{◌≡◌, IfOk};
 ghost use Rattle.tl_number.specs.Arrangement.{ascending};
-ghost use Rattle.tl_number.specs.Steps.{AreSteps, arrangement_of};
+ghost use Rattle.tl_number.specs.DirectedChains.{HasChainsOf, arrangement_of};
 
 use std::alloc::{AllocError, Global};
 use tl_county::{Chart, DirectedChain};
 use tl_profile::{ShapeOrder, order_by_shape};
 
-/// The steps along chains that are already in the order of their shapes.
-pub(crate) fn steps_in_order(
+/// The directed chains that are already in the order of their shapes.
+pub(crate) fn arrangement_in_order(
     alloc: Global,
     order: &ShapeOrder,
 ) -> Result<Vec<DirectedChain>, AllocError>
-    ensures { IfOk result (λ steps. steps.items ≡ order.now.walks) }
+    ensures { IfOk result (λ arrangement. arrangement.items ≡ order.now.by_shape) }
 {
-    Vec::from_slice(alloc, order.walks())
+    Vec::from_slice(alloc, order.by_shape())
 }
 
 /// The ascending arrangement of a county: each chain runs so that its points come before their reverse, and the chains are in the
@@ -24,10 +24,10 @@ pub(crate) fn steps_in_order(
 /// # Errors
 ///
 /// `AllocError` if an allocation failed.
-pub fn ascending_steps<C: Chart>(alloc: Global, chart: &C) -> Result<Vec<DirectedChain>, AllocError>
-    ensures arrangement { IfOk result (λ steps. arrangement_of (C.county chart.now) steps.items ≡ ascending (C.county chart.now)) }
-    ensures there { IfOk result (λ steps. AreSteps (C.county chart.now) steps.items) }
+pub fn ascending_arrangement<C: Chart>(alloc: Global, chart: &C) -> Result<Vec<DirectedChain>, AllocError>
+    ensures arrangement { IfOk result (λ arrangement. arrangement_of (C.county chart.now) arrangement.items ≡ ascending (C.county chart.now)) }
+    ensures there { IfOk result (λ arrangement. HasChainsOf (C.county chart.now) arrangement.items) }
 {
     let order = order_by_shape(alloc, chart)?;
-    steps_in_order(alloc, &order)
+    arrangement_in_order(alloc, &order)
 }

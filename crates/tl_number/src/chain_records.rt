@@ -282,7 +282,7 @@ impl<C: Chart> RecordGroups for TopologyRecords<'_, C> {
     }
 
     fn head(&self, group: usize) -> u8 {
-        let body = self.chart.link_body_there(group);
+        let body = self.chart.topology_there(group);
         body.file.as_bytes()[0] ^ body.rs_i3.as_bytes()[9]
     }
 
@@ -293,7 +293,7 @@ impl<C: Chart> RecordGroups for TopologyRecords<'_, C> {
     fn record(&self, group: usize, _head: u8, _place: usize) -> RecI {
         RecI::new(
             chain_tlid(self.chart, group),
-            self.chart.link_body_there(group),
+            self.chart.topology_there(group),
             self.chart.start_node_there(group),
             self.chart.end_node_there(group),
             self.chart.left_there(group),
@@ -304,7 +304,7 @@ impl<C: Chart> RecordGroups for TopologyRecords<'_, C> {
     fn put(&self, group: usize, _head: u8, _place: usize, out: &mut [u8]) {
         RecI::put_fields(
             chain_tlid(self.chart, group),
-            &self.chart.link_body_there(group),
+            &self.chart.topology_there(group),
             self.chart.start_node_there(group),
             self.chart.end_node_there(group),
             &self.chart.left_there(group),

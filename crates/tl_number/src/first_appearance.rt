@@ -9,34 +9,35 @@ ghost use Rattle.std.specs.Prelude.{◌≡◌, [], ◌<◌, ◌^◌, ℕ, List, 
 ghost use Rattle.ordered_lists.specs.Entries.{entry_values};
 ghost use Rattle.tl_county.specs.PolygonKeys.{PolygonKey, key_cmp, key_on};
 ghost use Rattle.tl_number.specs.Arrangement.{polygons_in_order};
-ghost use Rattle.tl_number.specs.ByStep.{ends_among, ends_of, node_among, nodes_at, polygons_at, side_among, sides_among, sides_of};
+ghost use Rattle.tl_number.specs.EndsAndSides.{ends_among, ends_of, node_among, nodes_at, polygons_at, side_among, sides_among, sides_of};
 ghost use Rattle.tl_number.specs.Growth.{first_seen, first_seen_after};
-ghost use Rattle.tl_number.specs.Steps.{AreSteps, arrangement_of, step_chain};
-ghost use Rattle.tl_number.specs.ViewFacts.{AreWhole, MatchesNodes, stepped};
+ghost use Rattle.tl_number.specs.DirectedChains.{HasChainsOf, arrangement_of};
+ghost use Rattle.tl_county.specs.DirectedChains.{directed_chain};
+ghost use Rattle.tl_number.specs.ViewFacts.{AreWhole, MatchesNodes, arranged_by};
 
 use crate::arranged_tables::{Ends, NodeTables, Sides};
 use crate::numbers::{Interner, marks_for};
-use crate::step_readers::{ends_of_step, sides_of_step};
+use crate::directed_readers::{ends_of_directed, sides_of_directed};
 use std::alloc::{AllocError, Global};
 use tl_county::{Chart, DirectedChain, PolygonKey};
 use tl_layout::{NumberOrNone, Side};
 
-/// The ends and the sides of the chains of these steps, each one after the other. They are read before any node or polygon is numbered, so
+/// The ends and the sides of these directed chains, each one after the other. They are read before any node or polygon is numbered, so
 /// that reading one chain need not wait for another, and in one walk, since a chain may lie anywhere in memory.
 fn links_along<C: Chart>(
     alloc: Global,
     chart: &C,
-    steps: &[DirectedChain],
+    arrangement: &[DirectedChain],
 ) -> Result<(Vec<Ends>, Vec<Sides>), AllocError>
-    requires { AreSteps (C.county chart.now) steps.now }
-    ensures ends { IfOk result (λ met. map Some met.0.items ≡ map (λ step. option_map ends_of (step_chain (C.county chart.now) step)) steps.now) }
-    ensures sides { IfOk result (λ met. map Some met.1.items ≡ map (λ step. option_map sides_of (step_chain (C.county chart.now) step)) steps.now) }
+    requires { HasChainsOf (C.county chart.now) arrangement.now }
+    ensures ends { IfOk result (λ met. map Some met.0.items ≡ map (λ directed. option_map ends_of (directed_chain (C.county chart.now) directed)) arrangement.now) }
+    ensures sides { IfOk result (λ met. map Some met.1.items ≡ map (λ directed. option_map sides_of (directed_chain (C.county chart.now) directed)) arrangement.now) }
 {
-    let mut ends = Vec::with_capacity(alloc, steps.len())?;
-    let mut sides = Vec::with_capacity(alloc, steps.len())?;
-    for step in steps {
-        ends.push(ends_of_step(chart, *step))?;
-        sides.push(sides_of_step(chart, *step))?;
+    let mut ends = Vec::with_capacity(alloc, arrangement.len())?;
+    let mut sides = Vec::with_capacity(alloc, arrangement.len())?;
+    for directed in arrangement {
+        ends.push(ends_of_directed(chart, *directed))?;
+        sides.push(sides_of_directed(chart, *directed))?;
     }
     Ok((ends, sides))
 }
@@ -128,19 +129,19 @@ fn number_sides(
     Ok((numbers, sides))
 }
 
-/// The nodes and the polygons of a county in the order of their first appearance along the chains of these steps, start before
-/// end and left before right, and the ends and the sides of these chains with the new numbers and keys.
+/// The nodes and the polygons of a county in the order of their first appearance along these directed chains, start before end and left
+/// before right, and the ends and the sides of these chains with the new numbers and keys.
 pub(crate) fn number_links<C: Chart>(
     alloc: Global,
     chart: &C,
-    steps: &[DirectedChain],
+    arrangement: &[DirectedChain],
 ) -> Result<(NodeTables, Interner<PolygonKey>, Vec<Sides>), AllocError>
-    requires { AreWhole (C.county chart.now) steps.now }
-    ensures nodes { IfOk result (λ tables. MatchesNodes (C.county chart.now) steps.now tables.0) }
-    ensures polygons { IfOk result (λ tables. tables.1 ≡ polygons_in_order (C.county chart.now) (arrangement_of (C.county chart.now) steps.now)) }
-    ensures sides { IfOk result (λ tables. tables.2.items ≡ map sides_of (entry_values (stepped (C.county chart.now) steps.now).chains)) }
+    requires { AreWhole (C.county chart.now) arrangement.now }
+    ensures nodes { IfOk result (λ tables. MatchesNodes (C.county chart.now) arrangement.now tables.0) }
+    ensures polygons { IfOk result (λ tables. tables.1 ≡ polygons_in_order (C.county chart.now) (arrangement_of (C.county chart.now) arrangement.now)) }
+    ensures sides { IfOk result (λ tables. tables.2.items ≡ map sides_of (entry_values (arranged_by (C.county chart.now) arrangement.now).chains)) }
 {
-    let (ends, sides) = links_along(alloc, chart, steps)?;
+    let (ends, sides) = links_along(alloc, chart, arrangement)?;
     let nodes = number_ends(alloc, ends)?;
     let (numbers, sides) = number_sides(alloc, sides)?;
     Ok((nodes, numbers, sides))

@@ -4,7 +4,7 @@
 //! the current record is made, so one loop serves all nine types. The head of a group is what a type reads before the group's
 //! records. Heads are read one after another before any of their records, because each may have to wait for memory.
 
-ghost use Rattle.std.specs.Prelude.{◌≡◌, ◌<◌, ◌≤◌, ◌+◌, ◌-◌, ℕ, List, Some, length, drop, map, min, take, flat_map, slice_get, option_map, OnOk};
+ghost use Rattle.std.specs.Prelude.{◌≡◌, ◌<◌, ◌≤◌, ◌+◌, ◌-◌, ℕ, List, Some, length, drop, map, min, take, slice_get, option_map, OnOk};
 ghost use Rattle.tl_number.specs.Groups.{AreHeads, group_at, grouped};
 
 use crate::heads::HeadBuffers;

@@ -11,8 +11,8 @@ ghost use Rattle.tl_county.specs.County.{eight_land};
 ghost use Rattle.tl_county.specs.CountyProps.{IsInOrder-prop};
 ghost use Rattle.ordered_lists.specs.Orders.{IsInOrder, has_repeat};
 ghost use Rattle.tl_number.specs.Arrangement.{polygons_in_order};
-ghost use Rattle.tl_number.specs.LandmarkItems.{landmark_place_cmp, lands_at, numbered_links, own_links, place_cmp_under};
-ghost use Rattle.tl_number.specs.Steps.{arrangement_of};
+ghost use Rattle.tl_number.specs.LandmarkItems.{landmark_place_cmp, lands_at, numbered_links, place_cmp_under};
+ghost use Rattle.tl_number.specs.DirectedChains.{arrangement_of};
 ghost use Rattle.tl_number.specs.ViewFacts.{AreWhole, MatchesLandmarks, link_bounds};
 
 use crate::arranged_tables::LandmarkTables;
@@ -198,18 +198,18 @@ fn places_in_order<C: Chart>(
     sort_places(alloc, chart, &lists)
 }
 
-/// The landmarks of a county in the arrangement of these steps, with its polygons by first appearance.
+/// The landmarks of a county in this arrangement, with its polygons by first appearance.
 pub(crate) fn arrange_landmarks<C: Chart>(
     alloc: Global,
     chart: &C,
-    steps: &[DirectedChain],
+    arrangement: &[DirectedChain],
     polygons: &Interner<PolygonKey>,
 ) -> Result<LandmarkTables, AllocError>
-    requires whole { AreWhole (C.county chart.now) steps.now }
-    requires polygons { polygons.now ≡ polygons_in_order (C.county chart.now) (arrangement_of (C.county chart.now) steps.now) }
+    requires whole { AreWhole (C.county chart.now) arrangement.now }
+    requires polygons { polygons.now ≡ polygons_in_order (C.county chart.now) (arrangement_of (C.county chart.now) arrangement.now) }
     requires few_polygons { length polygons.now < 10 ^ 10 }
     requires few { length (C.county chart.now).landmarks < 2 ^ 32 }
-    ensures { IfOk result (MatchesLandmarks (C.county chart.now) steps.now) }
+    ensures { IfOk result (MatchesLandmarks (C.county chart.now) arrangement.now) }
 {
     let places = places_in_order(alloc, chart, polygons)?;
     let (links, bounds) = links_by_land(alloc, chart, polygons, &places)?;

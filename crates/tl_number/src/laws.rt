@@ -45,12 +45,12 @@ pub fn canonical_lists_of_one_county_have_one_text()
 /// Any arrangement of a county whose polygons are all on sides makes a county that is the same map, with canonical numbers for
 /// the arrangement's order and directions, and an arranged list of records.
 pub fn an_arrangement_gives_an_arranged_list()
-    ensures carries { (county : County) (steps : Arrangement) →
-        IsCounty county → Arranges steps county → AllKeysStandIn (polygons_along county.chains) (polygon_keys county) →
-        Carries (renaming_of county steps) county (arranged county steps) }
-    ensures county { (county : County) (steps : Arrangement) →
-        IsCounty county → Arranges steps county → AllKeysStandIn (polygons_along county.chains) (polygon_keys county) →
-        IsCounty (arranged county steps) × IsArranged (arranged county steps) }
+    ensures carries { (county : County) (arrangement : Arrangement) →
+        IsCounty county → Arranges arrangement county → AllKeysStandIn (polygons_along county.chains) (polygon_keys county) →
+        Carries (renaming_of county arrangement) county (arranged county arrangement) }
+    ensures county { (county : County) (arrangement : Arrangement) →
+        IsCounty county → Arranges arrangement county → AllKeysStandIn (polygons_along county.chains) (polygon_keys county) →
+        IsCounty (arranged county arrangement) × IsArranged (arranged county arrangement) }
     ensures list { (county : County) → IsCounty county → IsArranged county → IsArrangedList (packed county) }
 {}
 
@@ -64,8 +64,8 @@ pub fn a_packed_county_is_read_back()
 /// canonical list: the packing of the county in the ascending arrangement.
 pub fn each_accepted_list_has_one_canonical_text()
     ensures exists { (records : List Record) → IsAccepted records → (answer : List Record) × IsCanonicalOf records answer }
-    ensures choice { (records : List Record) (steps : Arrangement) →
-        IsAccepted records → IsLeastChoice (county_of records) steps → IsCanonicalOf records (arranged_list (county_of records) steps) }
+    ensures choice { (records : List Record) (arrangement : Arrangement) →
+        IsAccepted records → IsLeastChoice (county_of records) arrangement → IsCanonicalOf records (arranged_list (county_of records) arrangement) }
     ensures only { (records c d : List Record) → IsCanonicalOf records c → IsCanonicalOf records d → text_of c ≡ text_of d }
     ensures apart { (records answer : List Record) →
         HasShapesApart (county_of records) → IsCanonicalOf records answer →
@@ -194,9 +194,9 @@ pub fn strict_lists_are_canonical()
 /// of a later chain. Each choice has a number below the number of choices, and number 0 is the ascending arrangement.
 pub fn choices_are_numbered()
     ensures stated { (county : County) (number : ℕ) → IsCounty county → IsChoice county (numbered_choice county number) }
-    ensures each { (county : County) (steps : Arrangement) →
-        IsCounty county → IsChoice county steps →
-        (number : ℕ) × (number < choices county) × (numbered_choice county number ≡ steps) }
+    ensures each { (county : County) (arrangement : Arrangement) →
+        IsCounty county → IsChoice county arrangement →
+        (number : ℕ) × (number < choices county) × (numbered_choice county number ≡ arrangement) }
     ensures first { (county : County) → IsCounty county → numbered_choice county 0 ≡ ascending county }
 {}
 
@@ -204,20 +204,20 @@ pub fn choices_are_numbered()
 /// arrangement.
 pub fn one_choice_where_shapes_are_apart()
     ensures count { (county : County) → HasShapesApart county → choices county ≡ 1 }
-    ensures only { (county : County) (steps : Arrangement) →
-        IsCounty county → HasShapesApart county → IsChoice county steps → steps ≡ ascending county }
+    ensures only { (county : County) (arrangement : Arrangement) →
+        IsCounty county → HasShapesApart county → IsChoice county arrangement → arrangement ≡ ascending county }
 {}
 
 /// For a county whose polygons are all on sides, each choice makes a tidy list of the same map, and each tidy list of the same
 /// map is made by a choice.
 pub fn tidy_lists_are_those_of_choices()
-    ensures list { (county : County) (steps : Arrangement) →
-        IsCounty county → AllKeysStandIn (polygons_along county.chains) (polygon_keys county) → IsChoice county steps →
-        IsTidyList (arranged_list county steps) × AreSame county (county_of (arranged_list county steps)) }
+    ensures list { (county : County) (arrangement : Arrangement) →
+        IsCounty county → AllKeysStandIn (polygons_along county.chains) (polygon_keys county) → IsChoice county arrangement →
+        IsTidyList (arranged_list county arrangement) × AreSame county (county_of (arranged_list county arrangement)) }
     ensures choice { (county : County) (records : List Record) →
         IsCounty county → AllKeysStandIn (polygons_along county.chains) (polygon_keys county) →
         IsTidyList records → AreSame county (county_of records) →
-        (steps : Arrangement) × IsChoice county steps × (records ≡ arranged_list county steps) }
+        (arrangement : Arrangement) × IsChoice county arrangement × (records ≡ arranged_list county arrangement) }
 {}
 
 /// For a county whose polygons are all on sides, some choice has the least text. The list of such a choice is a canonical list
@@ -226,11 +226,11 @@ pub fn canonical_lists_are_those_of_least_choices()
     ensures exists { (county : County) →
         IsCounty county → AllKeysStandIn (polygons_along county.chains) (polygon_keys county) →
         (number : ℕ) × (number < choices county) × IsLeastChoice county (numbered_choice county number) }
-    ensures list { (county : County) (steps : Arrangement) →
-        IsCounty county → AllKeysStandIn (polygons_along county.chains) (polygon_keys county) → IsLeastChoice county steps →
-        IsCanonical (arranged_list county steps) × AreSame county (county_of (arranged_list county steps)) }
+    ensures list { (county : County) (arrangement : Arrangement) →
+        IsCounty county → AllKeysStandIn (polygons_along county.chains) (polygon_keys county) → IsLeastChoice county arrangement →
+        IsCanonical (arranged_list county arrangement) × AreSame county (county_of (arranged_list county arrangement)) }
     ensures choice { (county : County) (records : List Record) →
         IsCounty county → AllKeysStandIn (polygons_along county.chains) (polygon_keys county) →
         IsCanonical records → AreSame county (county_of records) →
-        (steps : Arrangement) × IsLeastChoice county steps × (records ≡ arranged_list county steps) }
+        (arrangement : Arrangement) × IsLeastChoice county arrangement × (records ≡ arranged_list county arrangement) }
 {}

@@ -1,10 +1,10 @@
-//! The steps of the choice with the least text.
+//! The choice with the least text.
 //!
-//! Records of type 1 come first in a text, and a choice's steps alone determine them. So this first searches all choices for
-//! the one whose records of type 1 are least; from one choice to the next it only reads what moves at open places. Only other
-//! choices with the same records of type 1 are arranged and compared as texts. There are few of these: chains with the same
-//! shape mostly differ in an address, a name or a code. Choices with the same chains at every place aren't arranged either: if
-//! chains were entered twice with all their data, every order of them makes the same county.
+//! Records of type 1 come first in a text, and a choice alone determines them. So this first searches all choices for the one whose
+//! records of type 1 are least; from one choice to the next it only reads what moves at open places. Only other choices with the same
+//! records of type 1 are arranged and compared as texts. There are few of these: chains with the same shape mostly differ in an
+//! address, a name or a code. Choices with the same chains at every place aren't arranged either: if chains were entered twice with all
+//! their data, every order of them makes the same county.
 
 ghost use Rattle.std.specs.declared.cmp.Ordering.TheVariants.{Equal};
 ghost use Rattle.std.specs.Ordering.{is_gt};
@@ -14,9 +14,9 @@ ghost use Rattle.tl_number.specs.Arrangement.{arranged};
 ghost use Rattle.tl_number.specs.Canonical.{IsNotAfter};
 ghost use Rattle.tl_number.specs.ChoiceSearch.{LeavesChoices};
 ghost use Rattle.tl_number.specs.LeastNumber.{IsLeastBelow, choice_list};
-ghost use Rattle.tl_number.specs.MovedSteps.{AgreeApart, AreWithin, other_way};
+ghost use Rattle.tl_number.specs.MovedChains.{AgreeApart, AreWithin, other_way};
 ghost use Rattle.tl_number.specs.NumberedChoices.{moved};
-ghost use Rattle.tl_number.specs.Steps.{AreSteps, arrangement_of};
+ghost use Rattle.tl_number.specs.DirectedChains.{HasChainsOf, arrangement_of};
 ghost use Rattle.tl_number.specs.Tidy.{IsLeastChoice, numbered_choice};
 ghost use Rattle.tl_number.specs.TypeOneOrder.{IsLeastFrom, IsLeastOne, ones_cmp};
 ghost use Rattle.tl_number.specs.ViewFacts.{NamesEachOnce};
@@ -26,8 +26,8 @@ ghost use Rattle.tl_profile.specs.ShapeOrder.{IsShapeOrder};
 
 use crate::arranged::Arranged;
 use crate::arranging::arrange;
-use crate::ascending_order::steps_in_order;
-use crate::numbered_steps::{choose, put_back};
+use crate::ascending_order::arrangement_in_order;
+use crate::numbered_arrangement::{choose, put_back};
 use crate::same_chains::have_same_chains;
 use crate::text_order::compare_texts;
 use crate::type_1_order::compare_ones;
@@ -37,18 +37,18 @@ use std::mem::swap;
 use tl_county::{Chart, DirectedChain, Lent};
 use tl_profile::ShapeOrder;
 
-/// The steps of the choice with this number.
-fn steps_of_number(
+/// The choice with this number.
+fn arrangement_of_number(
     alloc: Global,
     order: &ShapeOrder,
     number: u64,
 ) -> Result<Vec<DirectedChain>, AllocError>
-    requires { AreWithin (length order.now.walks) order.now.places }
-    ensures { IfOk result (λ steps. steps.items ≡ (moved other_way order.now.places (order.now.walks, number)).0) }
+    requires { AreWithin (length order.now.by_shape) order.now.places }
+    ensures { IfOk result (λ arrangement. arrangement.items ≡ (moved other_way order.now.places (order.now.by_shape, number)).0) }
 {
-    let mut steps = steps_in_order(alloc, order)?;
-    choose(&mut steps, order.open_places(), number);
-    Ok(steps)
+    let mut arrangement = arrangement_in_order(alloc, order)?;
+    choose(&mut arrangement, order.open_places(), number);
+    Ok(arrangement)
 }
 
 /// Arranges the choice with this number.
@@ -62,8 +62,8 @@ fn arrange_choice<'a, C: Chart>(
     ensures county { IfOk result (λ view. arranged_county view ≡ arranged (C.county chart.now) (numbered_choice (C.county chart.now) number)) }
     ensures source { IfOk result (λ view. ⟦<Lent<'a, C> as Chart>⟧.county (source_of view) ≡ C.county chart.now) }
 {
-    let steps = steps_of_number(alloc, order, number)?;
-    arrange(alloc, Lent::new(chart), steps)
+    let arrangement = arrangement_of_number(alloc, order, number)?;
+    arrange(alloc, Lent::new(chart), arrangement)
 }
 
 /// A choice in some form, and its number.
@@ -122,97 +122,97 @@ fn next_least<'a, C: Chart>(
     }
 }
 
-/// Compares the least choice so far and the choice with another number by their records of type 1. `steps` may be those of any
+/// Compares the least choice so far and the choice with another number by their records of type 1. `arrangement` may be those of any
 /// choice and become those of the latter.
 fn compare_number<C: Chart>(
     chart: &C,
     order: &ShapeOrder,
     least: &Numbered<Vec<DirectedChain>>,
-    steps: &mut [DirectedChain],
+    arrangement: &mut [DirectedChain],
     number: u64,
 ) -> Ordering
     requires known { LeavesChoices (C.county chart.now) order.now }
-    requires least { least.now.choice.items ≡ (moved other_way order.now.places (order.now.walks, least.now.number)).0 }
-    requires count { length steps.old ≡ length order.now.walks }
-    requires apart { AgreeApart order.now.places steps.old order.now.walks }
+    requires least { least.now.choice.items ≡ (moved other_way order.now.places (order.now.by_shape, least.now.number)).0 }
+    requires count { length arrangement.old ≡ length order.now.by_shape }
+    requires apart { AgreeApart order.now.places arrangement.old order.now.by_shape }
     ensures order { result ≡ ones_cmp (C.county chart.now) least.now.number number }
-    ensures steps { steps.new ≡ (moved other_way order.now.places (order.now.walks, number)).0 }
-    ensures count { length steps.new ≡ length order.now.walks }
-    ensures apart { AgreeApart order.now.places steps.new order.now.walks }
+    ensures arrangement { arrangement.new ≡ (moved other_way order.now.places (order.now.by_shape, number)).0 }
+    ensures count { length arrangement.new ≡ length order.now.by_shape }
+    ensures apart { AgreeApart order.now.places arrangement.new order.now.by_shape }
 {
     let places = order.open_places();
-    put_back(steps, order.walks(), places);
-    choose(steps, places, number);
-    compare_ones(chart, places, &least.choice, steps)
+    put_back(arrangement, order.by_shape(), places);
+    choose(arrangement, places, number);
+    compare_ones(chart, places, &least.choice, arrangement)
 }
 
-/// The same for steps in a vector.
+/// The same for an arrangement in a vector.
 fn compare_next<C: Chart>(
     chart: &C,
     order: &ShapeOrder,
     least: &Numbered<Vec<DirectedChain>>,
-    steps: &mut Vec<DirectedChain>,
+    arrangement: &mut Vec<DirectedChain>,
     number: u64,
 ) -> Ordering
     requires known { LeavesChoices (C.county chart.now) order.now }
-    requires least { least.now.choice.items ≡ (moved other_way order.now.places (order.now.walks, least.now.number)).0 }
-    requires count { length steps.old.items ≡ length order.now.walks }
-    requires apart { AgreeApart order.now.places steps.old.items order.now.walks }
+    requires least { least.now.choice.items ≡ (moved other_way order.now.places (order.now.by_shape, least.now.number)).0 }
+    requires count { length arrangement.old.items ≡ length order.now.by_shape }
+    requires apart { AgreeApart order.now.places arrangement.old.items order.now.by_shape }
     ensures order { result ≡ ones_cmp (C.county chart.now) least.now.number number }
-    ensures steps { steps.new.items ≡ (moved other_way order.now.places (order.now.walks, number)).0 }
-    ensures count { length steps.new.items ≡ length order.now.walks }
-    ensures apart { AgreeApart order.now.places steps.new.items order.now.walks }
+    ensures arrangement { arrangement.new.items ≡ (moved other_way order.now.places (order.now.by_shape, number)).0 }
+    ensures count { length arrangement.new.items ≡ length order.now.by_shape }
+    ensures apart { AgreeApart order.now.places arrangement.new.items order.now.by_shape }
 {
-    compare_number(chart, order, least, steps, number)
+    compare_number(chart, order, least, arrangement, number)
 }
 
-/// The steps of the choice with the least records of type 1, and its number.
+/// The choice with the least records of type 1, and its number.
 fn least_of_type_1<C: Chart>(
     alloc: Global,
     chart: &C,
     order: &ShapeOrder,
 ) -> Result<Numbered<Vec<DirectedChain>>, AllocError>
     requires { LeavesChoices (C.county chart.now) order.now }
-    ensures steps { IfOk result (λ least. least.choice.items ≡ (moved other_way order.now.places (order.now.walks, least.number)).0) }
+    ensures arrangement { IfOk result (λ least. least.choice.items ≡ (moved other_way order.now.places (order.now.by_shape, least.number)).0) }
     ensures least { IfOk result (λ least. IsLeastOne (C.county chart.now) (choices (C.county chart.now)) least.number) }
 {
-    let mut steps = steps_in_order(alloc, order)?;
-    let choice = steps_of_number(alloc, order, 0)?;
+    let mut arrangement = arrangement_in_order(alloc, order)?;
+    let choice = arrangement_of_number(alloc, order, 0)?;
     let mut least = Numbered { number: 0, choice };
     for number in 1..order.choices() {
-        let ordering = compare_next(chart, order, &least, &mut steps, number);
+        let ordering = compare_next(chart, order, &least, &mut arrangement, number);
         if ordering.is_le() {
             continue;
         }
-        swap(&mut least.choice, &mut steps);
+        swap(&mut least.choice, &mut arrangement);
         least.number = number;
     }
     Ok(least)
 }
 
-/// Whether the choice with a number has the same records of type 1 as the one with the least of them, but not the same chains.
-/// If it has the same chains, it is the same county. `steps` may be those of any choice and become those of this one.
+/// Whether the choice with a number has the same records of type 1 as the one with the least of them, but not the same chains. If it
+/// has the same chains, it is the same county. `arrangement` may be those of any choice and becomes that of this one.
 fn is_other_tie<C: Chart>(
     chart: &C,
     order: &ShapeOrder,
     least: &Numbered<Vec<DirectedChain>>,
-    steps: &mut [DirectedChain],
+    arrangement: &mut [DirectedChain],
     number: u64,
 ) -> bool
     requires known { LeavesChoices (C.county chart.now) order.now }
-    requires steps { least.now.choice.items ≡ (moved other_way order.now.places (order.now.walks, least.now.number)).0 }
+    requires arrangement { least.now.choice.items ≡ (moved other_way order.now.places (order.now.by_shape, least.now.number)).0 }
     requires least { IsLeastOne (C.county chart.now) (choices (C.county chart.now)) least.now.number }
     requires number { number < choices (C.county chart.now) }
-    requires count { length steps.old ≡ length order.now.walks }
-    requires apart { AgreeApart order.now.places steps.old order.now.walks }
+    requires count { length arrangement.old ≡ length order.now.by_shape }
+    requires apart { AgreeApart order.now.places arrangement.old order.now.by_shape }
     ensures tied { result ≡ true → ones_cmp (C.county chart.now) least.now.number number ≡ Equal }
     ensures least { result ≡ false → IsNotAfter (choice_list (C.county chart.now) least.now.number) (choice_list (C.county chart.now) number) }
-    ensures count { length steps.new ≡ length order.now.walks }
-    ensures apart { AgreeApart order.now.places steps.new order.now.walks }
+    ensures count { length arrangement.new ≡ length order.now.by_shape }
+    ensures apart { AgreeApart order.now.places arrangement.new order.now.by_shape }
 {
-    let ordering = compare_number(chart, order, least, steps, number);
+    let ordering = compare_number(chart, order, least, arrangement, number);
     if ordering.is_eq() {
-        return !have_same_chains(chart, order.open_places(), &least.choice, steps);
+        return !have_same_chains(chart, order.open_places(), &least.choice, arrangement);
     }
     false
 }
@@ -223,23 +223,23 @@ fn next_tie<C: Chart>(
     chart: &C,
     order: &ShapeOrder,
     least: &Numbered<Vec<DirectedChain>>,
-    steps: &mut [DirectedChain],
+    arrangement: &mut [DirectedChain],
     first: u64,
 ) -> Option<u64>
     requires known { LeavesChoices (C.county chart.now) order.now }
-    requires steps { least.now.choice.items ≡ (moved other_way order.now.places (order.now.walks, least.now.number)).0 }
+    requires arrangement { least.now.choice.items ≡ (moved other_way order.now.places (order.now.by_shape, least.now.number)).0 }
     requires least { IsLeastOne (C.county chart.now) (choices (C.county chart.now)) least.now.number }
-    requires count { length steps.old ≡ length order.now.walks }
-    requires apart { AgreeApart order.now.places steps.old order.now.walks }
-    ensures count { length steps.new ≡ length order.now.walks }
-    ensures apart { AgreeApart order.now.places steps.new order.now.walks }
+    requires count { length arrangement.old ≡ length order.now.by_shape }
+    requires apart { AgreeApart order.now.places arrangement.old order.now.by_shape }
+    ensures count { length arrangement.new ≡ length order.now.by_shape }
+    ensures apart { AgreeApart order.now.places arrangement.new order.now.by_shape }
     ensures tie { MatchOption result (IsLeastFrom (C.county chart.now) first (choices (C.county chart.now)) least.now.number)
         (λ tie. IsLeastFrom (C.county chart.now) first tie least.now.number) }
     ensures within { IfSome result (λ tie. (first ≤ tie) × (tie < choices (C.county chart.now))) }
     ensures tied { IfSome result (λ tie. ones_cmp (C.county chart.now) least.now.number tie ≡ Equal) }
 {
     for number in first..order.choices() {
-        let tied = is_other_tie(chart, order, least, steps, number);
+        let tied = is_other_tie(chart, order, least, arrangement, number);
         if tied {
             return Some(number);
         }
@@ -253,15 +253,15 @@ fn least_of_ties<C: Chart>(
     chart: &C,
     order: &ShapeOrder,
     first: &Numbered<Vec<DirectedChain>>,
-    steps: &mut [DirectedChain],
+    arrangement: &mut [DirectedChain],
     tie: u64,
 ) -> Result<u64, AllocError>
     requires known { LeavesChoices (C.county chart.now) order.now }
-    requires steps { first.now.choice.items ≡ (moved other_way order.now.places (order.now.walks, first.now.number)).0 }
+    requires arrangement { first.now.choice.items ≡ (moved other_way order.now.places (order.now.by_shape, first.now.number)).0 }
     requires least { IsLeastOne (C.county chart.now) (choices (C.county chart.now)) first.now.number }
     requires before { IsLeastFrom (C.county chart.now) 0 tie first.now.number }
-    requires count { length steps.old ≡ length order.now.walks }
-    requires apart { AgreeApart order.now.places steps.old order.now.walks }
+    requires count { length arrangement.old ≡ length order.now.by_shape }
+    requires apart { AgreeApart order.now.places arrangement.old order.now.by_shape }
     ensures { IfOk result (IsLeastBelow (C.county chart.now) (choices (C.county chart.now))) }
 {
     let choice = arrange_choice(alloc, chart, order, first.number)?;
@@ -270,7 +270,7 @@ fn least_of_ties<C: Chart>(
         choice,
     };
     let mut from = tie;
-    while let Some(next) = next_tie(chart, order, first, steps, from) {
+    while let Some(next) = next_tie(chart, order, first, arrangement, from) {
         least = next_least(alloc, chart, order, least, next)?;
         from = next + 1;
     }
@@ -282,10 +282,10 @@ fn least_number<C: Chart>(alloc: Global, chart: &C, order: &ShapeOrder) -> Resul
     requires { LeavesChoices (C.county chart.now) order.now }
     ensures { IfOk result (IsLeastBelow (C.county chart.now) (choices (C.county chart.now))) }
 {
-    let mut steps = steps_in_order(alloc, order)?;
+    let mut arrangement = arrangement_in_order(alloc, order)?;
     let first = least_of_type_1(alloc, chart, order)?;
-    match next_tie(chart, order, &first, &mut steps, 0) {
-        Some(tie) => least_of_ties(alloc, chart, order, &first, &mut steps, tie),
+    match next_tie(chart, order, &first, &mut arrangement, 0) {
+        Some(tie) => least_of_ties(alloc, chart, order, &first, &mut arrangement, tie),
         None => Ok(first.number),
     }
 }
@@ -305,8 +305,8 @@ fn number_of_least<C: Chart>(
     least_number(alloc, chart, order)
 }
 
-/// The steps of a choice with the least text, given the order of the chains by their shapes.
-pub(crate) fn least_steps<C: Chart>(
+/// A choice with the least text, given the order of the chains by their shapes.
+pub(crate) fn least_arrangement<C: Chart>(
     alloc: Global,
     chart: &C,
     order: &ShapeOrder,
@@ -314,10 +314,10 @@ pub(crate) fn least_steps<C: Chart>(
     requires order { IsShapeOrder (C.county chart.now) order.now }
     requires few { choices (C.county chart.now) ≤ most_choices }
     requires sides { AllKeysStandIn (polygons_along (C.county chart.now).chains) (polygon_keys (C.county chart.now)) }
-    ensures least { IfOk result (λ steps. IsLeastChoice (C.county chart.now) (arrangement_of (C.county chart.now) steps.items)) }
-    ensures there { IfOk result (λ steps. AreSteps (C.county chart.now) steps.items) }
-    ensures once { IfOk result (λ steps. NamesEachOnce (C.county chart.now) (arrangement_of (C.county chart.now) steps.items)) }
+    ensures least { IfOk result (λ arrangement. IsLeastChoice (C.county chart.now) (arrangement_of (C.county chart.now) arrangement.items)) }
+    ensures there { IfOk result (λ arrangement. HasChainsOf (C.county chart.now) arrangement.items) }
+    ensures once { IfOk result (λ arrangement. NamesEachOnce (C.county chart.now) (arrangement_of (C.county chart.now) arrangement.items)) }
 {
     let number = number_of_least(alloc, chart, order)?;
-    steps_of_number(alloc, order, number)
+    arrangement_of_number(alloc, order, number)
 }

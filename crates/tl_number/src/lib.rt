@@ -30,7 +30,7 @@ mod masking;
 mod name_order;
 mod name_records;
 mod number_pairs;
-mod numbered_steps;
+mod numbered_arrangement;
 mod numbers;
 mod other_places;
 mod polygon_order;
@@ -39,7 +39,7 @@ mod record_eq;
 mod renumbering;
 mod same_chains;
 mod sameness;
-mod step_readers;
+mod directed_readers;
 mod text_order;
 mod type_1_order;
 mod type_i_and_p_order;
@@ -48,7 +48,7 @@ mod visitor;
 
 pub use arranged::{Arranged, Evidence, Unknown};
 pub use arranging::{arrange, canonise, canonise_alone, canonise_in};
-pub use ascending_order::ascending_steps;
+pub use ascending_order::ascending_arrangement;
 pub use canon_county::{CanonCounty, CanonCountyIn, Canonical};
 pub use chain_records::{
     ChainRecords, FurtherNameRecords, RangeRecords, ShapePointRecords, TopologyRecords,

@@ -13,8 +13,9 @@ ghost use Rattle.tl_county.specs.CountyRules.{feats};
 ghost use Rattle.ordered_lists.specs.Orders.{has_repeat};
 ghost use Rattle.tl_number.specs.Arrangement.{names_in_order};
 ghost use Rattle.tl_number.specs.Growth.{first_seen, first_seen_after};
-ghost use Rattle.tl_number.specs.NameItems.{feats_along_steps, rank_of, ranked_at, ranked_cmp, ranked_place};
-ghost use Rattle.tl_number.specs.Steps.{arrangement_of, step_chain};
+ghost use Rattle.tl_number.specs.NameItems.{feats_along_arrangement, rank_of, ranked_at, ranked_cmp, ranked_place};
+ghost use Rattle.tl_number.specs.DirectedChains.{arrangement_of};
+ghost use Rattle.tl_county.specs.DirectedChains.{directed_chain};
 ghost use Rattle.tl_number.specs.ViewFacts.{AreReadAt, AreWhole, MatchesNames};
 
 use crate::arranged_tables::NameTables;
@@ -74,33 +75,33 @@ fn see_feat(feats: &mut Interner<u32>, feat: Option<u32>) -> Result<(), AllocErr
     }
 }
 
-/// Sees the further names of the chain of a step, one after another.
+/// Sees the further names of a directed chain, one after another.
 fn see_feats<C: Chart>(
     feats: &mut Interner<u32>,
     chart: &C,
-    step: DirectedChain,
+    directed: DirectedChain,
 ) -> Result<(), AllocError>
-    ensures { OnOk result (feats.new ≡ first_seen_after nat_cmp feats.old (feats_of (step_chain (C.county chart.now) step))) }
+    ensures { OnOk result (feats.new ≡ first_seen_after nat_cmp feats.old (feats_of (directed_chain (C.county chart.now) directed))) }
 {
-    let further = step.feats(chart);
+    let further = directed.feats(chart);
     for name in 0..further.count() {
         see_feat(feats, further.get(name))?;
     }
     Ok(())
 }
 
-/// The FEATs that chains list, in the order of their first appearance along these steps.
+/// The FEATs that chains list, in the order of their first appearance along these directed chains.
 fn number_uses<C: Chart>(
     alloc: Global,
     chart: &C,
-    steps: &[DirectedChain],
+    arrangement: &[DirectedChain],
 ) -> Result<Interner<u32>, AllocError>
-    ensures { IfOk result (λ feats. feats ≡ first_seen nat_cmp (feats_along_steps (C.county chart.now) steps.now)) }
+    ensures { IfOk result (λ feats. feats ≡ first_seen nat_cmp (feats_along_arrangement (C.county chart.now) arrangement.now)) }
 {
     let mut feats = Interner::with_marks(alloc, marks_for(chart.name_count()))?;
-    let mut rest = steps;
-    while let Some((step, later)) = rest.split_first() {
-        see_feats(&mut feats, chart, *step)?;
+    let mut rest = arrangement;
+    while let Some((directed, later)) = rest.split_first() {
+        see_feats(&mut feats, chart, *directed)?;
         rest = later;
     }
     Ok(feats)
@@ -196,30 +197,30 @@ fn number_feats<C: Chart>(
 fn places_in_order<C: Chart>(
     alloc: Global,
     chart: &C,
-    steps: &[DirectedChain],
+    arrangement: &[DirectedChain],
 ) -> Result<Vec<u32>, AllocError>
-    requires whole { AreWhole (C.county chart.now) steps.now }
+    requires whole { AreWhole (C.county chart.now) arrangement.now }
     requires few { length (C.county chart.now).names < 2 ^ 32 }
     ensures { IfOk result (λ places. AreReadAt (C.county chart.now).names places.items
-        (names_in_order (C.county chart.now) (arrangement_of (C.county chart.now) steps.now))) }
+        (names_in_order (C.county chart.now) (arrangement_of (C.county chart.now) arrangement.now))) }
 {
-    let uses = number_uses(alloc, chart, steps)?;
+    let uses = number_uses(alloc, chart, arrangement)?;
     let mut names = ranked_names(alloc, chart, &uses)?;
     names.sort_unstable_by(|a, b| cmp_names(chart, a, b));
     places_of(alloc, &names)
 }
 
-/// The names of a county in the arrangement of these steps.
+/// The names of a county in this arrangement.
 pub(crate) fn arrange_names<C: Chart>(
     alloc: Global,
     chart: &C,
-    steps: &[DirectedChain],
+    arrangement: &[DirectedChain],
 ) -> Result<NameTables, AllocError>
-    requires whole { AreWhole (C.county chart.now) steps.now }
+    requires whole { AreWhole (C.county chart.now) arrangement.now }
     requires few { length (C.county chart.now).names < 2 ^ 32 }
-    ensures { IfOk result (MatchesNames (C.county chart.now) steps.now) }
+    ensures { IfOk result (MatchesNames (C.county chart.now) arrangement.now) }
 {
-    let places = places_in_order(alloc, chart, steps)?;
+    let places = places_in_order(alloc, chart, arrangement)?;
     let feats = number_feats(alloc, chart, &places)?;
     Ok(NameTables { feats, places })
 }

@@ -6,7 +6,7 @@ ghost use Rattle.tl_county.specs.Renumbering.{Carries};
 ghost use Rattle.tl_layout.specs.declared.type7.Body7.{Body7};
 ghost use Rattle.tl_number.specs.Arrangement.{arranged_tlids, renaming_of, turned_tlids, under_cenid};
 ghost use Rattle.tl_number.specs.Growth.{numbered};
-ghost use Rattle.tl_number.specs.Steps.{AreSteps, arrangement_of};
+ghost use Rattle.tl_number.specs.DirectedChains.{HasChainsOf, arrangement_of};
 ghost use Rattle.tl_number.specs.ViewFacts.{AreReadAt};
 ghost use Rattle.tl_number.specs.Views.{arranged_county, arrangement_in, source_of};
 
@@ -26,48 +26,48 @@ fn number_all(alloc: Global, olds: &[u64]) -> Result<Vec<(u64, u64)>, AllocError
         .collect(alloc)
 }
 
-/// The TLIDs of the chains of these steps.
+/// The TLIDs of these directed chains.
 fn tlids_of<C: Chart>(
     alloc: Global,
     chart: &C,
-    steps: &[DirectedChain],
+    arrangement: &[DirectedChain],
 ) -> Result<Vec<u64>, AllocError>
-    requires { AreSteps (C.county chart.now) steps.now }
-    ensures { IfOk result (λ tlids. tlids.items ≡ arranged_tlids (arrangement_of (C.county chart.now) steps.now)) }
+    requires { HasChainsOf (C.county chart.now) arrangement.now }
+    ensures { IfOk result (λ tlids. tlids.items ≡ arranged_tlids (arrangement_of (C.county chart.now) arrangement.now)) }
 {
-    steps
+    arrangement
         .iter()
-        .filter_map(|step| chart.tlid_at(step.place as usize))
+        .filter_map(|directed| chart.tlid_at(directed.place as usize))
         .collect(alloc)
 }
 
-/// The TLIDs of the chains of these steps, each with the new one.
+/// The TLIDs of these directed chains, each with the new one.
 fn chain_pairs<C: Chart>(
     alloc: Global,
     chart: &C,
-    steps: &[DirectedChain],
+    arrangement: &[DirectedChain],
 ) -> Result<Vec<(u64, u64)>, AllocError>
-    requires { AreSteps (C.county chart.now) steps.now }
-    ensures { IfOk result (λ pairs. pairs.items ≡ numbered (arranged_tlids (arrangement_of (C.county chart.now) steps.now))) }
+    requires { HasChainsOf (C.county chart.now) arrangement.now }
+    ensures { IfOk result (λ pairs. pairs.items ≡ numbered (arranged_tlids (arrangement_of (C.county chart.now) arrangement.now))) }
 {
-    let tlids = tlids_of(alloc, chart, steps)?;
+    let tlids = tlids_of(alloc, chart, arrangement)?;
     let pairs = number_all(alloc, &tlids)?;
     Ok(pairs)
 }
 
-/// The TLIDs of the chains that these steps turn.
+/// The TLIDs of the chains that the arrangement turns.
 fn turned_chains<C: Chart>(
     alloc: Global,
     chart: &C,
-    steps: &[DirectedChain],
+    arrangement: &[DirectedChain],
 ) -> Result<Vec<u64>, AllocError>
-    requires { AreSteps (C.county chart.now) steps.now }
-    ensures { IfOk result (λ tlids. tlids.items ≡ turned_tlids (arrangement_of (C.county chart.now) steps.now)) }
+    requires { HasChainsOf (C.county chart.now) arrangement.now }
+    ensures { IfOk result (λ tlids. tlids.items ≡ turned_tlids (arrangement_of (C.county chart.now) arrangement.now)) }
 {
-    steps
+    arrangement
         .iter()
-        .filter(|step| step.turned)
-        .filter_map(|step| chart.tlid_at(step.place as usize))
+        .filter(|directed| directed.turned)
+        .filter_map(|directed| chart.tlid_at(directed.place as usize))
         .collect(alloc)
 }
 
@@ -126,9 +126,9 @@ impl<C: Chart, S: Evidence> Arranged<C, S> {
         alloc: Global,
     ) -> Result<(Vec<(PolygonKey, PolygonKey)>, Vec<(u64, u64)>), AllocError>
         ensures polygons { IfOk result (λ pairs. pairs.0.items ≡
-            (renaming_of (C.county self.now.chart) (arrangement_of (C.county self.now.chart) self.now.steps.items)).polygons) }
+            (renaming_of (C.county self.now.chart) (arrangement_of (C.county self.now.chart) self.now.arrangement.items)).polygons) }
         ensures lands { IfOk result (λ pairs. pairs.1.items ≡
-            (renaming_of (C.county self.now.chart) (arrangement_of (C.county self.now.chart) self.now.steps.items)).lands) }
+            (renaming_of (C.county self.now.chart) (arrangement_of (C.county self.now.chart) self.now.arrangement.items)).lands) }
     {
         let polygons = polygon_pairs(alloc, self.polygons.numbers.keys())?;
         let lands = land_pairs(alloc, &self.chart, &self.landmarks.places)?;
@@ -139,12 +139,12 @@ impl<C: Chart, S: Evidence> Arranged<C, S> {
     /// chains.
     fn tlid_pairs(&self, alloc: Global) -> Result<(Vec<(u64, u64)>, Vec<u64>), AllocError>
         ensures chains { IfOk result (λ stated. stated.0.items ≡
-            (renaming_of (C.county self.now.chart) (arrangement_of (C.county self.now.chart) self.now.steps.items)).chains) }
+            (renaming_of (C.county self.now.chart) (arrangement_of (C.county self.now.chart) self.now.arrangement.items)).chains) }
         ensures turned { IfOk result (λ stated. stated.1.items ≡
-            (renaming_of (C.county self.now.chart) (arrangement_of (C.county self.now.chart) self.now.steps.items)).turned) }
+            (renaming_of (C.county self.now.chart) (arrangement_of (C.county self.now.chart) self.now.arrangement.items)).turned) }
     {
-        let chains = chain_pairs(alloc, &self.chart, &self.steps)?;
-        let turned = turned_chains(alloc, &self.chart, &self.steps)?;
+        let chains = chain_pairs(alloc, &self.chart, &self.arrangement)?;
+        let turned = turned_chains(alloc, &self.chart, &self.arrangement)?;
         Ok((chains, turned))
     }
 

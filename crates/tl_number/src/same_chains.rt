@@ -1,20 +1,21 @@
-//! Whether steps lead along the same chains. Chains that were entered twice are the same except for their TLIDs. Two
-//! arrangements that only differ in the order of such chains make the same county.
+//! Whether arrangements have the same chains. Chains that were entered twice are the same except for their TLIDs. Two arrangements that
+//! only differ in the order of such chains make the same county.
 
 ghost use Rattle.std.specs.Bool.{Decides};
 ghost use Rattle.std.specs.Prelude.{◌≡◌, ◌+◌, length, map};
 ghost use Rattle.tl_cert.specs.PartsThere.{HaveSameContent, HaveSameEnds, HaveSameLists};
 ghost use Rattle.tl_county.specs.ChartWords.{points_of};
-ghost use Rattle.tl_number.specs.MovedSteps.{AgreeButOpen, HaveSameChainsBelow, IsWithin};
-ghost use Rattle.tl_number.specs.Steps.{parts_along, step_chain};
+ghost use Rattle.tl_number.specs.MovedChains.{AgreeButOpen, HaveSameChainsBelow, IsWithin};
+ghost use Rattle.tl_number.specs.DirectedChains.{parts_along};
+ghost use Rattle.tl_county.specs.DirectedChains.{directed_chain};
 
 use crate::arranged::{Arranged, Evidence};
 use tl_county::{Chart, DirectedChain, Same, are_same};
 use tl_profile::OpenPlace;
 
-/// Whether the chains of two steps have the same points.
+/// Whether two directed chains have the same points.
 fn have_same_points<C: Chart>(chart: &C, one: DirectedChain, other: DirectedChain) -> bool
-    ensures { Decides result (points_of (step_chain (C.county chart.now) one) ≡ points_of (step_chain (C.county chart.now) other)) }
+    ensures { Decides result (points_of (directed_chain (C.county chart.now) one) ≡ points_of (directed_chain (C.county chart.now) other)) }
 {
     are_same(&other.points(chart), &one.points(chart))
 }
@@ -23,7 +24,7 @@ fn have_same_points<C: Chart>(chart: &C, one: DirectedChain, other: DirectedChai
 pub(crate) trait ChainList {
     ghost use Rattle.std.specs.Bool.{Decides};
     ghost use Rattle.std.specs.Prelude.{◌≡◌, List, Option};
-    ghost use Rattle.tl_number.specs.Steps.{step_chain};
+    ghost use Rattle.tl_county.specs.DirectedChains.{directed_chain};
     ghost use Rattle.tl_shape.specs.Chain.{Chain};
 
     /// An item.
@@ -32,9 +33,9 @@ pub(crate) trait ChainList {
     /// The list of a chain, or an empty list without a chain.
     ghost list: { Option Chain → List Entry };
 
-    /// Whether the chains of two steps have the same list.
+    /// Whether two directed chains have the same list.
     fn is_same<C: Chart>(&self, chart: &C, one: DirectedChain, other: DirectedChain) -> bool
-        ensures { Decides result (list (step_chain (C.county chart.now) one) ≡ list (step_chain (C.county chart.now) other)) };
+        ensures { Decides result (list (directed_chain (C.county chart.now) one) ≡ list (directed_chain (C.county chart.now) other)) };
 }
 
 /// The FEATs of the further names.
@@ -71,14 +72,14 @@ impl ChainList for FurtherRanges {
     }
 }
 
-/// Whether the chains of two steps have the same list. Nothing is read if the steps are the same.
+/// Whether two directed chains have the same list. Nothing is read if the directed chains are the same.
 fn have_same_list_at<L: ChainList, C: Chart>(
     list: &L,
     chart: &C,
     one: DirectedChain,
     other: DirectedChain,
 ) -> bool
-    ensures { Decides result (L.list (step_chain (C.county chart.now) one) ≡ L.list (step_chain (C.county chart.now) other)) }
+    ensures { Decides result (L.list (directed_chain (C.county chart.now) one) ≡ L.list (directed_chain (C.county chart.now) other)) }
 {
     let same = one.is_same(other);
     if same {
@@ -87,9 +88,9 @@ fn have_same_list_at<L: ChainList, C: Chart>(
     list.is_same(chart, one, other)
 }
 
-/// Whether the chains of two steps have the same content in their records of types 1 and I.
+/// Whether two directed chains have the same content in their records of types 1 and I.
 fn have_same_content<C: Chart>(chart: &C, one: DirectedChain, other: DirectedChain) -> bool
-    ensures { Decides result (HaveSameContent (step_chain (C.county chart.now) one) (step_chain (C.county chart.now) other)) }
+    ensures { Decides result (HaveSameContent (directed_chain (C.county chart.now) one) (directed_chain (C.county chart.now) other)) }
 {
     let body = one.body(chart).is_same(other.body(chart));
     if !body {
@@ -98,9 +99,9 @@ fn have_same_content<C: Chart>(chart: &C, one: DirectedChain, other: DirectedCha
     one.link_body(chart).is_same(other.link_body(chart))
 }
 
-/// Whether the chains of two steps have the same nodes and the same sides.
+/// Whether two directed chains have the same nodes and the same sides.
 fn have_same_ends<C: Chart>(chart: &C, one: DirectedChain, other: DirectedChain) -> bool
-    ensures { Decides result (HaveSameEnds (step_chain (C.county chart.now) one) (step_chain (C.county chart.now) other)) }
+    ensures { Decides result (HaveSameEnds (directed_chain (C.county chart.now) one) (directed_chain (C.county chart.now) other)) }
 {
     let start = one.start_node(chart).is_same(other.start_node(chart));
     if !start {
@@ -117,9 +118,9 @@ fn have_same_ends<C: Chart>(chart: &C, one: DirectedChain, other: DirectedChain)
     one.right(chart).is_same(other.right(chart))
 }
 
-/// Whether the chains of two steps have the same points, further names and further address ranges.
+/// Whether two directed chains have the same points, further names and further address ranges.
 fn have_same_lists<C: Chart>(chart: &C, one: DirectedChain, other: DirectedChain) -> bool
-    ensures { Decides result (HaveSameLists (step_chain (C.county chart.now) one) (step_chain (C.county chart.now) other)) }
+    ensures { Decides result (HaveSameLists (directed_chain (C.county chart.now) one) (directed_chain (C.county chart.now) other)) }
 {
     let points = have_same_points(chart, one, other);
     if !points {
@@ -132,9 +133,9 @@ fn have_same_lists<C: Chart>(chart: &C, one: DirectedChain, other: DirectedChain
     FurtherRanges.is_same(chart, one, other)
 }
 
-/// Whether the chains of two steps are the same except for their TLIDs.
+/// Whether two directed chains are the same except for their TLIDs.
 fn is_same_chain<C: Chart>(chart: &C, one: DirectedChain, other: DirectedChain) -> bool
-    ensures { Decides result (step_chain (C.county chart.now) one ≡ step_chain (C.county chart.now) other) }
+    ensures { Decides result (directed_chain (C.county chart.now) one ≡ directed_chain (C.county chart.now) other) }
 {
     let content = have_same_content(chart, one, other);
     if !content {
@@ -147,8 +148,8 @@ fn is_same_chain<C: Chart>(chart: &C, one: DirectedChain, other: DirectedChain) 
     have_same_lists(chart, one, other)
 }
 
-/// Whether two arrangements have the same chains up to the last of those among which an open place inserts its step. They must
-/// have the same chains before them.
+/// Whether two arrangements have the same chains up to the last of those among which an open place inserts a chain. They must have the
+/// same chains before them.
 fn have_same_chains_at<C: Chart>(
     chart: &C,
     at: OpenPlace,
@@ -178,7 +179,7 @@ pub(crate) fn have_same_chains<C: Chart>(
     other: &[DirectedChain],
 ) -> bool
     requires { AgreeButOpen (C.county chart.now) places.now one.now other.now }
-    ensures { Decides result (map (step_chain (C.county chart.now)) one.now ≡ map (step_chain (C.county chart.now)) other.now) }
+    ensures { Decides result (map (directed_chain (C.county chart.now)) one.now ≡ map (directed_chain (C.county chart.now)) other.now) }
 {
     let mut rest = places;
     while let Some((at, behind)) = rest.split_first() {
@@ -191,7 +192,7 @@ pub(crate) fn have_same_chains<C: Chart>(
     true
 }
 
-/// Whether the chains of two arrangements with equally many steps have the same list, place by place.
+/// Whether the chains of two arrangements of equally many chains have the same list, place by place.
 fn have_same_list_along<L: ChainList, C: Chart>(
     list: &L,
     chart: &C,
@@ -217,7 +218,7 @@ pub(crate) fn have_same_list<L: ChainList, A: Chart, R: Evidence, B: Chart, S: E
     b: &Arranged<B, S>,
 ) -> bool
     requires { A.county a.now.chart ≡ B.county b.now.chart }
-    ensures { Decides result (parts_along L.list (A.county a.now.chart) a.now.steps.items ≡ parts_along L.list (A.county a.now.chart) b.now.steps.items) }
+    ensures { Decides result (parts_along L.list (A.county a.now.chart) a.now.arrangement.items ≡ parts_along L.list (A.county a.now.chart) b.now.arrangement.items) }
 {
-    have_same_list_along(list, &a.chart, &a.steps, &b.steps)
+    have_same_list_along(list, &a.chart, &a.arrangement, &b.arrangement)
 }

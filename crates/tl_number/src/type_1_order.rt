@@ -1,5 +1,5 @@
-//! Comparing choices by their records of type 1, which come first in a text. A choice's steps alone determine them, so nothing
-//! needs to be arranged. All choices have the same records of type 1, except those among which an open place inserts its step.
+//! Comparing choices by their records of type 1, which come first in a text. A choice alone determines them, so nothing needs to be
+//! arranged. All choices have the same records of type 1, except those among which an open place inserts a chain.
 
 ghost use Rattle.std.specs.declared.cmp.Ordering.TheVariants.{Equal};
 ghost use Rattle.std.specs.Option.{option_cmp};
@@ -7,11 +7,11 @@ ghost use Rattle.std.specs.Prelude.{◌≡◌, ◌≢◌, ◌<◌, ◌+◌, Some
 ghost use Rattle.tl_county.specs.Packing.{packed_one};
 ghost use Rattle.tl_layout.specs.declared.record_type.Record.TheVariants.{One};
 ghost use Rattle.tl_number.specs.CountyGroups.{type_1_by_chain};
-ghost use Rattle.tl_number.specs.MovedSteps.{AgreeButOpen, IsWithin};
+ghost use Rattle.tl_number.specs.MovedChains.{AgreeButOpen, IsWithin};
 ghost use Rattle.tl_number.specs.RecordOrder.{AreTiedBelow, groups_cmp, records_cmp, spelling_cmp};
-ghost use Rattle.tl_number.specs.Steps.{step_chain};
+ghost use Rattle.tl_county.specs.DirectedChains.{directed_chain};
 ghost use Rattle.tl_number.specs.TypeOneOrder.{one_at, ones_of};
-ghost use Rattle.tl_number.specs.ViewFacts.{AreWhole, stepped};
+ghost use Rattle.tl_number.specs.ViewFacts.{AreWhole, arranged_by};
 
 use crate::group_order::compare_records;
 use std::cmp::Ordering;
@@ -19,19 +19,19 @@ use tl_county::{Chart, DirectedChain, Listed, Same};
 use tl_layout::Rec1;
 use tl_profile::OpenPlace;
 
-/// The record of type 1 of a step's chain if the step is at a place.
-fn record_of_step<C: Chart>(chart: &C, step: DirectedChain, place: usize) -> Rec1
-    requires step { step.place < length (C.county chart.now).chains }
+/// The record of type 1 of a directed chain, if there is one at a place.
+fn record_of_directed<C: Chart>(chart: &C, directed: DirectedChain, place: usize) -> Rec1
+    requires directed { directed.place < length (C.county chart.now).chains }
     requires place { place < length (C.county chart.now).chains }
-    ensures { Some result ≡ option_map (λ chain. packed_one (place + 1, chain)) (step_chain (C.county chart.now) step) }
+    ensures { Some result ≡ option_map (λ chain. packed_one (place + 1, chain)) (directed_chain (C.county chart.now) directed) }
 {
-    let points = step.points(chart);
+    let points = directed.points(chart);
     let last = points.count() - 1;
-    let body = step.body(chart).unwrap();
+    let body = directed.body(chart).unwrap();
     Rec1::new(place as u64 + 1, body, points.item(0), points.item(last))
 }
 
-/// Compares the records of type 1 of two steps' chains if both steps are at the same place.
+/// Compares the records of type 1 of two directed chains, if both are at the same place.
 fn compare_at<C: Chart>(
     chart: &C,
     one: DirectedChain,
@@ -46,13 +46,13 @@ fn compare_at<C: Chart>(
     if one.is_same(other) {
         return Ordering::Equal;
     }
-    let first = record_of_step(chart, one, place);
-    let second = record_of_step(chart, other, place);
+    let first = record_of_directed(chart, one, place);
+    let second = record_of_directed(chart, other, place);
     compare_records(&first, &second)
 }
 
-/// Compares two arrangements of a county by the records of type 1 among which an open place inserts its step. The records
-/// before these must be tied.
+/// Compares two arrangements of a county by the records of type 1 among which an open place inserts a chain. The records before these
+/// must be tied.
 fn compare_at_open<C: Chart>(
     chart: &C,
     at: OpenPlace,
@@ -63,11 +63,11 @@ fn compare_at_open<C: Chart>(
     requires other { AreWhole (C.county chart.now) other.now }
     requires count { length one.now ≡ length other.now }
     requires within { IsWithin (length one.now) at }
-    requires before { AreTiedBelow at.place (ones_of (stepped (C.county chart.now) one.now)) (ones_of (stepped (C.county chart.now) other.now)) }
+    requires before { AreTiedBelow at.place (ones_of (arranged_by (C.county chart.now) one.now)) (ones_of (arranged_by (C.county chart.now) other.now)) }
     ensures tied { result ≡ Equal → AreTiedBelow (at.place + at.alike)
-        (ones_of (stepped (C.county chart.now) one.now)) (ones_of (stepped (C.county chart.now) other.now)) }
+        (ones_of (arranged_by (C.county chart.now) one.now)) (ones_of (arranged_by (C.county chart.now) other.now)) }
     ensures untied { result ≢ Equal → result ≡ records_cmp
-        (ones_of (stepped (C.county chart.now) one.now)) (ones_of (stepped (C.county chart.now) other.now)) }
+        (ones_of (arranged_by (C.county chart.now) one.now)) (ones_of (arranged_by (C.county chart.now) other.now)) }
 {
     let first = at.place as usize;
     for place in first..first + at.alike as usize {
@@ -87,7 +87,7 @@ pub(crate) fn compare_ones<C: Chart>(
     other: &[DirectedChain],
 ) -> Ordering
     requires { AgreeButOpen (C.county chart.now) places.now one.now other.now }
-    ensures { result ≡ groups_cmp One (type_1_by_chain (stepped (C.county chart.now) one.now)) (type_1_by_chain (stepped (C.county chart.now) other.now)) }
+    ensures { result ≡ groups_cmp One (type_1_by_chain (arranged_by (C.county chart.now) one.now)) (type_1_by_chain (arranged_by (C.county chart.now) other.now)) }
 {
     let mut rest = places;
     while let Some((at, behind)) = rest.split_first() {

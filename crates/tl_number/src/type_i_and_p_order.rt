@@ -30,8 +30,8 @@ fn is_same_link<A: Chart, R: Evidence, B: Chart, S: Evidence>(
     requires { A.county a.now.chart ≡ B.county b.now.chart }
     ensures { result ≡ true → slice_get (links_of (arranged_county a.now)) place ≡ slice_get (links_of (arranged_county b.now)) place }
 {
-    let steps = a.step_at(place).is_same(b.step_at(place));
-    if !steps {
+    let arrangement = a.directed_at(place).is_same(b.directed_at(place));
+    if !arrangement {
         return false;
     }
     let ends = a.ends_at(place).is_same(b.ends_at(place));

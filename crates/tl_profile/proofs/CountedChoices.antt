@@ -6,7 +6,7 @@ use Rattle.std.specs.List.{AllByRecursion}
 use Rattle.ordered_lists.specs.Orders.{times, IsInOrder}
 use Rattle.ordered_lists.proofs.ByKey.Keys.{IsKeyOrder, same_or_not, same-true, times-yes, times-no}
 use Rattle.ordered_lists.proofs.ByKey.KeyedLists.{before_all, less_from}
-use Rattle.tl_profile.specs.Choices.{alike_first, is_first, is_settled, open_places, place_of, running, ways_at}
+use Rattle.tl_profile.specs.Choices.{alike_first, is_first, is_settled, open_places, open_place_at, running, ways_at}
 use Rattle.tl_profile.specs.declared.open_places.OpenPlace.{OpenPlace}
 
 module _ {K : Type 0} {cmp : K → K → Ordering} (o : IsKeyOrder cmp) where
@@ -75,7 +75,7 @@ module _ {K : Type 0} (cmp : K → K → Ordering) (either : K → Bool) where
 
   -- one more key before the others
   pub counted_next : (place : ℕ) (k : K) (ks : List K) (count alike : ℕ) (places : List OpenPlace) → IsCounted (suc place) ks count alike places
-      → (at : OpenPlace) → at ≡ place_of cmp either place k ks → (counted alike_now : ℕ) (now : List OpenPlace)
+      → (at : OpenPlace) → at ≡ open_place_at cmp either place k ks → (counted alike_now : ℕ) (now : List OpenPlace)
       → counted ≡ at.alike * (ways_at at * count) → alike_now ≡ at.alike → now ≡ cond (is_settled at) places (places ++ (at ∷ []))
       → IsCounted place (k ∷ ks) counted alike_now now
   counted_next place k ks count alike places was at is counted alike_now now c a p = record {
@@ -83,11 +83,11 @@ module _ {K : Type 0} (cmp : K → K → Ordering) (either : K → Bool) where
         ∙ ap (λ n. suc (times cmp k ks) * (cond (either k) 2 1 * n)) was.count_is;
     alike_is = a ∙ ap (λ (o : OpenPlace). o.alike) is;
     places_are = ap reverse (p ∙ ap (λ (o : OpenPlace). cond (is_settled o) places (places ++ (o ∷ []))) is)
-        ∙ go (is_settled (place_of cmp either place k ks));
+        ∙ go (is_settled (open_place_at cmp either place k ks));
   }
     where
       here : OpenPlace
-      here = place_of cmp either place k ks
+      here = open_place_at cmp either place k ks
 
       go : (b : Bool) → reverse (cond b places (places ++ (here ∷ [])))
           ≡ cond b (open_places cmp either (suc place) ks) (here ∷ open_places cmp either (suc place) ks)
@@ -101,14 +101,14 @@ module _ {K : Type 0} {cmp : K → K → Ordering} (o : IsKeyOrder cmp) (either 
       → AllByRecursion P (open_places cmp either place keys)
   open_places_within P place [] h = tt
   open_places_within P place (k ∷ ks) h =
-      go (is_settled (place_of cmp either place k ks))
+      go (is_settled (open_place_at cmp either place k ks))
       (open_places_within P (suc place) ks (λ at some there. h at some (omega (arith, there))))
     where
-      here : P (place_of cmp either place k ks)
-      here = h (place_of cmp either place k ks) (omega arith) (let few = times_few o k ks in omega (arith, few))
+      here : P (open_place_at cmp either place k ks)
+      here = h (open_place_at cmp either place k ks) (omega arith) (let few = times_few o k ks in omega (arith, few))
 
       go : (b : Bool) → AllByRecursion P (open_places cmp either (suc place) ks)
           → AllByRecursion P (cond b (open_places cmp either (suc place) ks)
-          (place_of cmp either place k ks ∷ open_places cmp either (suc place) ks))
+          (open_place_at cmp either place k ks ∷ open_places cmp either (suc place) ks))
       go true rest = rest
       go false rest = (here, rest)

@@ -12,9 +12,9 @@ use Rattle.tl_county.specs.County.{County}
 use Rattle.tl_county.specs.Limits.{IsWithinLimits, most_records}
 use Rattle.ordered_lists.specs.Orders.{IsInOrder}
 use Rattle.ordered_lists.proofs.Lists.Elements.{map-map}
-use Rattle.tl_profile.specs.Choices.{choices, counted_choices, is_either_way, is_settled, most_choices, open_places, place_of, running, ways_at}
-use Rattle.tl_profile.specs.PlacedShapes.{placed_walk, whole_shape}
-use Rattle.tl_profile.specs.ShapeOrder.{AreWalksInOrder, least_walk, least_walks, points_along, walk_cmp}
+use Rattle.tl_profile.specs.Choices.{choices, counted_choices, is_either_way, is_settled, most_choices, open_places, open_place_at, running, ways_at}
+use Rattle.tl_profile.specs.PlacedShapes.{placed_directed, whole_shape}
+use Rattle.tl_profile.specs.ShapeOrder.{AreInShapeOrder, along_shape, along_shapes, points_along, directed_cmp}
 use Rattle.tl_county.specs.declared.directed_chain.DirectedChain.{DirectedChain}
 use Rattle.tl_profile.specs.declared.open_places.OpenPlace.{OpenPlace}
 use Rattle.tl_profile.specs.declared.shapes.PlacedShape.{PlacedShape}
@@ -47,32 +47,32 @@ capped : (m n : ℕ) → most_choices < m → m ≤ n → min m (suc most_choice
 capped m n h k = omega (arith, h, k)
 
 module _ (county : County) where
-  pub walks_in_order : (walks : List DirectedChain) → IsInOrder (walk_cmp county) walks → IsInOrder points_cmp (map (points_along county) walks)
-  walks_in_order [] h = tt
-  walks_in_order (w ∷ ws) h = (each ws h.0, walks_in_order ws h.1)
+  pub in_shape_order : (by_shape : List DirectedChain) → IsInOrder (directed_cmp county) by_shape → IsInOrder points_cmp (map (points_along county) by_shape)
+  in_shape_order [] h = tt
+  in_shape_order (w ∷ ws) h = (each ws h.0, in_shape_order ws h.1)
     where
-      each : (vs : List DirectedChain) → AllByRecursion (λ v. is_gt (walk_cmp county w v) ≡ false) vs
+      each : (vs : List DirectedChain) → AllByRecursion (λ v. is_gt (directed_cmp county w v) ≡ false) vs
           → AllByRecursion (λ k. is_gt (points_cmp (points_along county w) k) ≡ false) (map (points_along county) vs)
       each [] a = tt
       each (v ∷ vs) a = (first_not_greater (points_cmp (points_along county w) (points_along county v)) (nat_cmp w.place v.place) a.0, each vs a.1)
 
-  module _ (shapes : List PlacedShape) (order : AreWalksInOrder county (map placed_walk shapes)) where
+  module _ (shapes : List PlacedShape) (order : AreInShapeOrder county (map placed_directed shapes)) where
     pub shapes_in_order : IsInOrder points_cmp (map (whole_shape county) shapes)
     shapes_in_order =
-        subst (IsInOrder points_cmp) (map-map (points_along county) placed_walk shapes) (walks_in_order (map placed_walk shapes) order.in_order)
+        subst (IsInOrder points_cmp) (map-map (points_along county) placed_directed shapes) (in_shape_order (map placed_directed shapes) order.in_order)
 
     pub choices_of_all : running points_cmp is_either_way (map (whole_shape county) shapes) ≡ choices county
     choices_of_all =
-        ap (running points_cmp is_either_way) (sym (map-map (points_along county) placed_walk shapes))
-        ∙ choices_stated county (map placed_walk shapes) order
+        ap (running points_cmp is_either_way) (sym (map-map (points_along county) placed_directed shapes))
+        ∙ choices_stated county (map placed_directed shapes) order
 
     pub few_shapes : IsWithinLimits most_records county → length shapes < 2 ^ 32
     few_shapes within =
         let few = few_chains county within in
-        let walks = length-map shapes placed_walk in
-        let same = length_permutation (least_walks county) (map placed_walk shapes) order.all in
-        let all = length-map-range_with_len (least_walk county) 0 (length county.chains) in
-        omega (arith, few, walks, same, all)
+        let by_shape = length-map shapes placed_directed in
+        let same = length_permutation (along_shapes county) (map placed_directed shapes) order.all in
+        let all = length-map-range_with_len (along_shape county) 0 (length county.chains) in
+        omega (arith, few, by_shape, same, all)
 
     -- a shape and those after it are in order
     pub rest_in_order : (rest before done : List PlacedShape) (shape : PlacedShape) → shapes ≡ rest ++ done → rest ≡ before ++ (shape ∷ [])
@@ -88,7 +88,7 @@ module _ (county : County) where
     pub counted_place : (rest before done : List PlacedShape) (shape : PlacedShape) → shapes ≡ rest ++ done
         → length before + 1 ≡ length rest → (count alike : ℕ) (places : List OpenPlace)
         → IsCounted points_cmp is_either_way (length rest) (map (whole_shape county) done) count alike places → (at : OpenPlace)
-        → at ≡ place_of points_cmp is_either_way (length before) (whole_shape county shape)
+        → at ≡ open_place_at points_cmp is_either_way (length before) (whole_shape county shape)
         (map (whole_shape county) (take (length shapes - length rest) (drop (length rest) shapes)))
         → (counted alike_now : ℕ) (now : List OpenPlace)
         → counted ≡ at.alike * (ways_at at * count) → alike_now ≡ at.alike → now ≡ cond (is_settled at) places (places ++ (at ∷ []))
@@ -96,7 +96,7 @@ module _ (county : County) where
     counted_place rest before done shape cut len count alike places was at is =
         counted_next points_cmp is_either_way (length before) (whole_shape county shape) (map (whole_shape county) done) count alike places
         (subst (λ n. IsCounted points_cmp is_either_way n (map (whole_shape county) done) count alike places) (omega (arith, len)) was)
-        at (is ∙ ap (λ l. place_of points_cmp is_either_way (length before) (whole_shape county shape) (map (whole_shape county) l))
+        at (is ∙ ap (λ l. open_place_at points_cmp is_either_way (length before) (whole_shape county shape) (map (whole_shape county) l))
         (behind shapes rest done cut))
 
     -- the result of the pass: the count, up to one more than the most, and the places, the last one first

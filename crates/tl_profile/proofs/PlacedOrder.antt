@@ -1,4 +1,4 @@
--- The order of placed shapes is the order of their walks.
+-- The order of placed shapes is the order of their chains.
 use Rattle.std.proofs.Common.{◌≡◌, ◌∷◌, [], List, map, false, Ordering, Less, Equal}
 use Rattle.std.proofs.Common.{Greater, is_gt, refl, sym, ap, ap₂, ◌∙◌, subst, nat_cmp, IsPermutation}
 use Rattle.std.specs.Cmp.{IsTotalOrder}
@@ -15,8 +15,8 @@ use Rattle.ordered_lists.proofs.Lists.Elements.{all_weaker}
 use Rattle.ordered_lists.proofs.Lists.Members.{among-permutation}
 use Rattle.ordered_lists.proofs.Lists.Among.{Among, all_among}
 use Rattle.tl_profile.proofs.PointRanks.{as_points}
-use Rattle.tl_profile.specs.ShapeOrder.{AreWalksInOrder, least_walks, walk_cmp}
-use Rattle.tl_profile.specs.PlacedShapes.{HasHead, placed_cmp, placed_key_cmp, placed_walk, whole_shape}
+use Rattle.tl_profile.specs.ShapeOrder.{AreInShapeOrder, along_shapes, directed_cmp}
+use Rattle.tl_profile.specs.PlacedShapes.{HasHead, placed_cmp, placed_key_cmp, placed_directed, whole_shape}
 use Rattle.tl_profile.specs.declared.shapes.PlacedShape.{PlacedShape}
 
 -- a property of all elements of a list is one of all elements of a permutation
@@ -52,26 +52,26 @@ placed-whole county a b h k =
     ∙ again (point_cmp h.first k.first) (point_cmp h.second k.second) (points_cmp h.rest k.rest)
     ∙ sym same
 
--- the walks of a list in this order are therefore in order
-pub walks_in_order : (county : County) (shapes : List PlacedShape) → AllByRecursion (HasHead county) shapes
-    → IsInOrder (placed_key_cmp county) shapes → IsInOrder (walk_cmp county) (map placed_walk shapes)
-walks_in_order county [] a h = tt
-walks_in_order county (s ∷ ss) a h = (each ss a.1 h.0, walks_in_order county ss a.1 h.1)
+-- the chains of a list in this order are therefore in order
+pub in_shape_order : (county : County) (shapes : List PlacedShape) → AllByRecursion (HasHead county) shapes
+    → IsInOrder (placed_key_cmp county) shapes → IsInOrder (directed_cmp county) (map placed_directed shapes)
+in_shape_order county [] a h = tt
+in_shape_order county (s ∷ ss) a h = (each ss a.1 h.0, in_shape_order county ss a.1 h.1)
   where
     each : (ts : List PlacedShape) → AllByRecursion (HasHead county) ts → AllByRecursion (λ t. is_gt (placed_key_cmp county s t) ≡ false) ts
-        → AllByRecursion (λ w. is_gt (walk_cmp county (placed_walk s) w) ≡ false) (map placed_walk ts)
+        → AllByRecursion (λ w. is_gt (directed_cmp county (placed_directed s) w) ≡ false) (map placed_directed ts)
     each [] b g = tt
     each (t ∷ ts) b g = (
       subst (λ o. is_gt (ordering_then o (nat_cmp s.place t.place)) ≡ false) (placed-whole county s t a.0 b.0) g.0,
       each ts b.1 g.1,
     )
 
--- The walks of all placed shapes, sorted, are the order of the county's shapes.
-pub sorted_walks : (county : County) (shapes sorted : List PlacedShape) → map placed_walk shapes ≡ least_walks county
+-- The chains of all placed shapes, sorted, are the order of the county's shapes.
+pub sorted_by_shape : (county : County) (shapes sorted : List PlacedShape) → map placed_directed shapes ≡ along_shapes county
     → IsPermutation shapes sorted → AllByRecursion (HasHead county) sorted → IsInOrder (placed_key_cmp county) sorted
-    → AreWalksInOrder county (map placed_walk sorted)
-sorted_walks county shapes sorted walks p heads ordered =
+    → AreInShapeOrder county (map placed_directed sorted)
+sorted_by_shape county shapes sorted by_shape p heads ordered =
     record {
-      all = subst (λ ws. IsPermutation ws (map placed_walk sorted)) walks (IsPermutation-map placed_walk shapes sorted p);
-      in_order = walks_in_order county sorted heads ordered;
+      all = subst (λ ws. IsPermutation ws (map placed_directed sorted)) by_shape (IsPermutation-map placed_directed shapes sorted p);
+      in_order = in_shape_order county sorted heads ordered;
     }

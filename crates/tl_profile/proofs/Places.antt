@@ -91,11 +91,11 @@ shape_two county is place h =
     behind [] y zs = inl refl
     behind (x ∷ xs) y zs = inr (behind xs y zs)
 
--- the points along a walk are those of its chain, or their reverse
-pub along_from : (county : County) (walk : DirectedChain) → points_along county walk ≡ points_from walk.turned (points_at county walk.place)
-along_from county walk = points_turned walk.turned (chain_at county walk.place)
+-- the points of a directed chain are those of its chain, or their reverse
+pub along_from : (county : County) (directed : DirectedChain) → points_along county directed ≡ points_from directed.turned (points_at county directed.place)
+along_from county directed = points_turned directed.turned (chain_at county directed.place)
 
--- so a walk along a chain's shape has a start and an end
+-- so a directed chain along a chain's shape has a start and an end
 pub two_along : (county : County) → IsCounty county → (place : ℕ) → place < length county.chains → (turned : Bool) (reversed : Ordering)
     → turned ≡ is_lt reversed → reversed ≡ points_cmp (reverse (points_at county place)) (points_at county place)
     → HasTwo (points_along county (record { place = place; turned = turned }))

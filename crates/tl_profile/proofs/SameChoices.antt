@@ -12,7 +12,7 @@ use Rattle.ordered_lists.proofs.Lists.Elements.{map-map, map_agree_everywhere}
 use Rattle.ordered_lists.proofs.Lists.Reordered.{SameElements, from_permutation, same-map}
 use Rattle.tl_profile.specs.Choices.{choices, is_either_way, running, shapes}
 use Rattle.tl_profile.specs.Shapes.{least_points}
-use Rattle.tl_profile.specs.ShapeOrder.{AreWalksInOrder, least_walks, points_along}
+use Rattle.tl_profile.specs.ShapeOrder.{AreInShapeOrder, along_shapes, points_along}
 use Rattle.tl_county.specs.declared.directed_chain.DirectedChain.{DirectedChain}
 use Rattle.tl_profile.proofs.Factorials.{running_is, running-same}
 use Rattle.tl_profile.proofs.ShapePoints.{least_reverse}
@@ -42,17 +42,17 @@ same_choices a b s =
     ∙ running-same points_keys is_either_way (shapes a) (shapes b) (shapes_carried s.by a b s.carries)
     ∙ choices_of_shapes b
 
--- the points along the walks, in any order of these, are the shapes
-pub shapes_of_walks : (county : County) (walks : List DirectedChain) → IsPermutation (least_walks county) walks
-    → SameElements (map (points_along county) walks) (shapes county)
-shapes_of_walks county walks p =
-    let along : SameElements (map (points_along county) walks) (map (points_along county) (least_walks county)) =
-    same-map (points_along county) walks (least_walks county)
-    (from_permutation walks (least_walks county) (IsPermutation-sym (least_walks county) walks p)) in
-    subst (SameElements (map (points_along county) walks)) (shapes_along county) along
+-- the points of the directed chains, in any order of these, are the shapes
+pub shapes_by_shape : (county : County) (by_shape : List DirectedChain) → IsPermutation (along_shapes county) by_shape
+    → SameElements (map (points_along county) by_shape) (shapes county)
+shapes_by_shape county by_shape p =
+    let along : SameElements (map (points_along county) by_shape) (map (points_along county) (along_shapes county)) =
+    same-map (points_along county) by_shape (along_shapes county)
+    (from_permutation by_shape (along_shapes county) (IsPermutation-sym (along_shapes county) by_shape p)) in
+    subst (SameElements (map (points_along county) by_shape)) (shapes_along county) along
 
-pub choices_stated : (county : County) (walks : List DirectedChain) → AreWalksInOrder county walks
-    → running points_cmp is_either_way (map (points_along county) walks) ≡ choices county
-choices_stated county walks order =
-    running-same points_keys is_either_way (map (points_along county) walks) (shapes county) (shapes_of_walks county walks order.all)
+pub choices_stated : (county : County) (by_shape : List DirectedChain) → AreInShapeOrder county by_shape
+    → running points_cmp is_either_way (map (points_along county) by_shape) ≡ choices county
+choices_stated county by_shape order =
+    running-same points_keys is_either_way (map (points_along county) by_shape) (shapes county) (shapes_by_shape county by_shape order.all)
     ∙ choices_of_shapes county

@@ -1,4 +1,4 @@
--- The points along the walks of all chains are the county's shapes.
+-- The points of all directed chains are the county's shapes.
 use Rattle.std.proofs.Common.{◌≡◌, ◌+◌, ℕ, suc, List, [], ◌∷◌, map, length, Some, slice_get, option_map}
 use Rattle.std.proofs.Common.{refl, ap, ap₂, ◌∙◌, subst, arith}
 use Rattle.std.specs.List.{range_with_len}
@@ -10,7 +10,7 @@ use Rattle.ordered_lists.proofs.Lists.Elements.{map-map}
 use Rattle.tl_profile.specs.Choices.{shapes}
 use Rattle.tl_profile.proofs.Places.{along_from}
 use Rattle.tl_profile.specs.Shapes.{least_points}
-use Rattle.tl_profile.specs.ShapeOrder.{least_walk, least_walks, points_along}
+use Rattle.tl_profile.specs.ShapeOrder.{along_shape, along_shapes, points_along}
 
 -- a function of each place that agrees with a function of the item there has the same values
 map_places : {X Y : Type 0} (f : ℕ → Y) (g : X → Y) (a : ℕ) (xs : List X)
@@ -22,16 +22,16 @@ map_places f g a (x ∷ xs) h =
     map_places f g (a + 1) xs (λ i y e. subst (λ n. f n ≡ g y) (omega arith) (h (suc i) y e)) in
     ap₂ (λ y ys. y ∷ ys) here later
 
-pub shapes_along : (county : County) → map (points_along county) (least_walks county) ≡ shapes county
+pub shapes_along : (county : County) → map (points_along county) (along_shapes county) ≡ shapes county
 shapes_along county =
-    map-map (points_along county) (least_walk county) (range_with_len 0 (length county.chains))
-    ∙ map_places (λ i. points_along county (least_walk county i)) (λ entry. least_points entry.1.points) 0 county.chains here
+    map-map (points_along county) (along_shape county) (range_with_len 0 (length county.chains))
+    ∙ map_places (λ i. points_along county (along_shape county i)) (λ entry. least_points entry.1.points) 0 county.chains here
   where
     here : (i : ℕ) (e : ℕ × Chain) → slice_get county.chains i ≡ Some e
-        → points_along county (least_walk county (0 + i)) ≡ least_points e.1.points
+        → points_along county (along_shape county (0 + i)) ≡ least_points e.1.points
     here i e got =
         let same : 0 + i ≡ i = omega arith in
-        ap (λ n. points_along county (least_walk county n)) same
-        ∙ along_from county (least_walk county i)
+        ap (λ n. points_along county (along_shape county n)) same
+        ∙ along_from county (along_shape county i)
         ∙ ap (λ o. least_points (points_of o))
         (slice_get-map (λ (d : ℕ × Chain). d.1) county.chains i ∙ ap (option_map (λ (d : ℕ × Chain). d.1)) got)

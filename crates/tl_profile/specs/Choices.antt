@@ -63,8 +63,8 @@ is_first cmp key [] = false
 is_first cmp key (other ∷ keys) = is_eq (cmp key other)
 
 -- the place of this key, with these keys after it
-abbrev pub place_of : {K : Type 0} → (K → K → Ordering) → (K → Bool) → ℕ → K → List K → OpenPlace
-place_of cmp either place key keys = record { place = place; alike = suc (times cmp key keys); either_way = either key }
+abbrev pub open_place_at : {K : Type 0} → (K → K → Ordering) → (K → Bool) → ℕ → K → List K → OpenPlace
+open_place_at cmp either place key keys = record { place = place; alike = suc (times cmp key keys); either_way = either key }
 
 -- the number of directions of a chain at a place
 abbrev pub ways_at : OpenPlace → ℕ
@@ -78,6 +78,6 @@ is_settled at = (at.alike == 1) && not at.either_way
 abbrev pub open_places : {K : Type 0} → (K → K → Ordering) → (K → Bool) → ℕ → List K → List OpenPlace
 open_places cmp either place [] = []
 open_places cmp either place (key ∷ keys) =
-    cond (is_settled (place_of cmp either place key keys))
+    cond (is_settled (open_place_at cmp either place key keys))
     (open_places cmp either (suc place) keys)
-    (place_of cmp either place key keys ∷ open_places cmp either (suc place) keys)
+    (open_place_at cmp either place key keys ∷ open_places cmp either (suc place) keys)

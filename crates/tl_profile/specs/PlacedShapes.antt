@@ -11,13 +11,13 @@ use Rattle.tl_profile.specs.ShapeOrder.{points_along}
 use Rattle.tl_county.specs.declared.directed_chain.DirectedChain.{DirectedChain}
 use Rattle.tl_profile.specs.declared.shapes.PlacedShape.{PlacedShape}
 
--- the walk along the chain
-abbrev pub placed_walk : PlacedShape → DirectedChain
-placed_walk shape = record { place = shape.place; turned = shape.turned }
+-- the chain in this direction
+abbrev pub placed_directed : PlacedShape → DirectedChain
+placed_directed shape = record { place = shape.place; turned = shape.turned }
 
 -- the whole shape of the chain
 abbrev pub whole_shape : County → PlacedShape → List Coordinates
-whole_shape county shape = points_along county (placed_walk shape)
+whole_shape county shape = points_along county (placed_directed shape)
 
 -- the shape's first two points have these ranks, and either_way states whether the shape is the same from both
 -- ends

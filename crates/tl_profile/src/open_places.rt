@@ -6,9 +6,9 @@
 ghost use Rattle.std.specs.List.{AllByRecursion};
 ghost use Rattle.std.specs.Prelude.{◌≡◌, ◌<◌, ◌≤◌, ◌+◌, ◌*◌, ◌^◌, [], ◌∷◌, ◌++◌, cond, length, map, min, reverse, suc, IfOk, OnOk};
 ghost use Rattle.ordered_lists.specs.Orders.{IsInOrder};
-ghost use Rattle.tl_profile.specs.Choices.{alike_first, choices, counted_choices, is_either_way, is_first, is_settled, most_choices, open_places, place_of, ways_at};
-ghost use Rattle.tl_profile.specs.PlacedShapes.{HasHead, placed_walk, whole_shape};
-ghost use Rattle.tl_profile.specs.ShapeOrder.{AreWalksInOrder};
+ghost use Rattle.tl_profile.specs.Choices.{alike_first, choices, counted_choices, is_either_way, is_first, is_settled, most_choices, open_places, open_place_at, ways_at};
+ghost use Rattle.tl_profile.specs.PlacedShapes.{HasHead, placed_directed, whole_shape};
+ghost use Rattle.tl_profile.specs.ShapeOrder.{AreInShapeOrder};
 ghost use Rattle.tl_shape.specs.PointOrder.{points_cmp};
 
 use crate::shapes::{PlacedShape, compare_shapes};
@@ -125,7 +125,7 @@ fn place_in_order<C: Chart>(
     requires in_order { IsInOrder points_cmp (whole_shape (C.county chart.now) shape.now ∷ map (whole_shape (C.county chart.now)) later.now) }
     requires alike { alike ≡ alike_first points_cmp (map (whole_shape (C.county chart.now)) later.now) }
     requires few { length later.now + 1 < 2 ^ 32 }
-    ensures { result ≡ place_of points_cmp is_either_way place (whole_shape (C.county chart.now) shape.now)
+    ensures { result ≡ open_place_at points_cmp is_either_way place (whole_shape (C.county chart.now) shape.now)
         (map (whole_shape (C.county chart.now)) later.now) }
 {
     let is_twin = is_twin(chart, shape, later);
@@ -144,7 +144,7 @@ pub(crate) fn find_choices<C: Chart>(
     shapes: &[PlacedShape],
 ) -> Result<OpenChoices, AllocError>
     requires heads { AllByRecursion (HasHead (C.county chart.now)) shapes.now }
-    requires order { AreWalksInOrder (C.county chart.now) (map placed_walk shapes.now) }
+    requires order { AreInShapeOrder (C.county chart.now) (map placed_directed shapes.now) }
     ensures count { IfOk result (λ found. found.count ≡ counted_choices (C.county chart.now)) }
     ensures places { choices (C.county chart.now) ≤ most_choices → IfOk result (λ found.
         found.places.items ≡ open_places points_cmp is_either_way 0 (map (whole_shape (C.county chart.now)) shapes.now)) }

@@ -2,8 +2,8 @@
 
 ghost use Rattle.std.specs.List.{AllByRecursion};
 ghost use Rattle.std.specs.Prelude.{◌≡◌, map, IfOk};
-ghost use Rattle.tl_profile.specs.PlacedShapes.{HasHead, placed_walk};
-ghost use Rattle.tl_profile.specs.ShapeOrder.{AreWalksInOrder, IsShapeOrder};
+ghost use Rattle.tl_profile.specs.PlacedShapes.{HasHead, placed_directed};
+ghost use Rattle.tl_profile.specs.ShapeOrder.{AreInShapeOrder, IsShapeOrder};
 
 use crate::open_places::{OpenPlace, find_choices};
 use crate::shapes::{PlacedShape, ordered_shapes};
@@ -16,7 +16,7 @@ use tl_county::{Chart, DirectedChain};
 /// shape is the same from both ends.
 #[derive(Drop)]
 pub struct ShapeOrder {
-    walks: Vec<DirectedChain>,
+    by_shape: Vec<DirectedChain>,
     open_places: Vec<OpenPlace>,
     choices: u64,
 }
@@ -26,14 +26,14 @@ impl Model for ShapeOrder {
 
     ghost Value = { OrderOfShapes };
 
-    ghost view = { λ order. record { walks = order.walks.items; places = order.open_places.items; choices = order.choices } };
+    ghost view = { λ order. record { by_shape = order.by_shape.items; places = order.open_places.items; choices = order.choices } };
 }
 
-/// The walks along shapes, one after another.
-fn walks_of(alloc: Global, shapes: &[PlacedShape]) -> Result<Vec<DirectedChain>, AllocError>
-    ensures { IfOk result (λ walks. walks.items ≡ map placed_walk shapes.now) }
+/// The chains along their shapes, one after another.
+fn chains_by_shape(alloc: Global, shapes: &[PlacedShape]) -> Result<Vec<DirectedChain>, AllocError>
+    ensures { IfOk result (λ by_shape. by_shape.items ≡ map placed_directed shapes.now) }
 {
-    shapes.iter().map(|shape| shape.walk()).collect(alloc)
+    shapes.iter().map(|shape| shape.directed()).collect(alloc)
 }
 
 impl ShapeOrder {
@@ -44,23 +44,23 @@ impl ShapeOrder {
         shapes: &[PlacedShape],
     ) -> Result<ShapeOrder, AllocError>
         requires heads { AllByRecursion (HasHead (C.county chart.now)) shapes.now }
-        requires order { AreWalksInOrder (C.county chart.now) (map placed_walk shapes.now) }
+        requires order { AreInShapeOrder (C.county chart.now) (map placed_directed shapes.now) }
         ensures { IfOk result (IsShapeOrder (C.county chart.now)) }
     {
-        let walks = walks_of(alloc, shapes)?;
+        let by_shape = chains_by_shape(alloc, shapes)?;
         let found = find_choices(alloc, chart, shapes)?;
         Ok(ShapeOrder {
-            walks,
+            by_shape,
             open_places: found.places,
             choices: found.count,
         })
     }
 
-    /// The walks along the shapes of the chains, in order.
-    pub fn walks(&self) -> &[DirectedChain]
-        ensures { result.now ≡ self.now.walks }
+    /// The chains in the order of their shapes, each in the direction of its shape.
+    pub fn by_shape(&self) -> &[DirectedChain]
+        ensures { result.now ≡ self.now.by_shape }
     {
-        &self.walks
+        &self.by_shape
     }
 
     /// The places in this order that leave a choice, provided that the county leaves at most 5,040 choices.

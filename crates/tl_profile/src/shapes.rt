@@ -6,8 +6,8 @@
 ghost use Rattle.std.specs.List.{AllByRecursion};
 ghost use Rattle.std.specs.Prelude.{◌≡◌, ◌<◌, length, map, reverse, IfOk, IsPermutation};
 ghost use Rattle.ordered_lists.specs.Orders.{IsInOrder};
-ghost use Rattle.tl_profile.specs.PlacedShapes.{HasHead, beyond_first_cmp, placed_cmp, placed_key_cmp, placed_walk};
-ghost use Rattle.tl_profile.specs.ShapeOrder.{AreWalksInOrder, least_walk, least_walks, points_along};
+ghost use Rattle.tl_profile.specs.PlacedShapes.{HasHead, beyond_first_cmp, placed_cmp, placed_key_cmp, placed_directed};
+ghost use Rattle.tl_profile.specs.ShapeOrder.{AreInShapeOrder, along_shape, along_shapes, points_along};
 ghost use Rattle.tl_profile.specs.Shapes.{points_at};
 ghost use Rattle.tl_shape.specs.PointOrder.{points_cmp};
 
@@ -33,9 +33,9 @@ pub(crate) struct PlacedShape {
 }
 
 impl PlacedShape {
-    /// The walk along the chain on which its points are the shape.
-    pub(crate) fn walk(&self) -> DirectedChain
-        ensures { result ≡ placed_walk self.now }
+    /// The chain in the direction in which its points are its shape.
+    pub(crate) fn directed(&self) -> DirectedChain
+        ensures { result ≡ placed_directed self.now }
     {
         DirectedChain {
             place: self.place,
@@ -44,11 +44,11 @@ impl PlacedShape {
     }
 }
 
-/// Compares the points along two walks. The first points that differ decide; a list comes after each of its beginnings.
-fn compare_walks<C: Chart>(chart: &C, walk: DirectedChain, other: DirectedChain) -> Ordering
-    ensures { result ≡ points_cmp (points_along (C.county chart.now) walk) (points_along (C.county chart.now) other) }
+/// Compares the points of two directed chains. The first points that differ decide; a list comes after each of its beginnings.
+fn compare_directed<C: Chart>(chart: &C, directed: DirectedChain, other: DirectedChain) -> Ordering
+    ensures { result ≡ points_cmp (points_along (C.county chart.now) directed) (points_along (C.county chart.now) other) }
 {
-    compare(&walk.points(chart), &other.points(chart))
+    compare(&directed.points(chart), &other.points(chart))
 }
 
 /// Compares the points of the chain at a place, in reverse, with the points themselves.
@@ -63,19 +63,19 @@ fn compare_reverse<C: Chart>(chart: &C, place: u32) -> Ordering
         place,
         turned: false,
     };
-    compare_walks(chart, backward, forward)
+    compare_directed(chart, backward, forward)
 }
 
 /// The chain at a place, with the beginning of its shape.
 fn placed_shape<C: Chart>(chart: &C, place: u32) -> PlacedShape
     requires { place < length (C.county chart.now).chains }
-    ensures walk { placed_walk result ≡ least_walk (C.county chart.now) place }
+    ensures directed { placed_directed result ≡ along_shape (C.county chart.now) place }
     ensures head { HasHead (C.county chart.now) result }
 {
     let reversed = compare_reverse(chart, place);
     let turned = reversed.is_lt();
-    let walk = DirectedChain { place, turned };
-    let points = walk.points(chart);
+    let directed = DirectedChain { place, turned };
+    let points = directed.points(chart);
     PlacedShape {
         first: PointRank::of(points.item(0)),
         second: PointRank::of(points.item(1)),
@@ -87,7 +87,7 @@ fn placed_shape<C: Chart>(chart: &C, place: u32) -> PlacedShape
 
 /// The chains with the beginnings of their shapes, in the order of their places.
 fn placed_shapes<C: Chart>(alloc: Global, chart: &C) -> Result<Vec<PlacedShape>, AllocError>
-    ensures walks { IfOk result (λ shapes. map placed_walk shapes.items ≡ least_walks (C.county chart.now)) }
+    ensures by_shape { IfOk result (λ shapes. map placed_directed shapes.items ≡ along_shapes (C.county chart.now)) }
     ensures heads { IfOk result (λ shapes. AllByRecursion (HasHead (C.county chart.now)) shapes.items) }
 {
     let count = chart.chain_count();
@@ -104,7 +104,7 @@ fn compare_beyond_first<C: Chart>(chart: &C, shape: &PlacedShape, other: &Placed
     ensures { result ≡ beyond_first_cmp (C.county chart.now) shape.now other.now }
 {
     match shape.second.cmp(&other.second) {
-        Ordering::Equal => compare_walks(chart, shape.walk(), other.walk()),
+        Ordering::Equal => compare_directed(chart, shape.directed(), other.directed()),
         unequal => unequal,
     }
 }
@@ -153,7 +153,7 @@ pub(crate) fn ordered_shapes<C: Chart>(
     alloc: Global,
     chart: &C,
 ) -> Result<Vec<PlacedShape>, AllocError>
-    ensures order { IfOk result (λ shapes. AreWalksInOrder (C.county chart.now) (map placed_walk shapes.items)) }
+    ensures order { IfOk result (λ shapes. AreInShapeOrder (C.county chart.now) (map placed_directed shapes.items)) }
     ensures heads { IfOk result (λ shapes. AllByRecursion (HasHead (C.county chart.now)) shapes.items) }
 {
     let mut shapes = placed_shapes(alloc, chart)?;

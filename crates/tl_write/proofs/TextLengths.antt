@@ -95,5 +95,5 @@ few_bytes county is within =
     let records : length (packed county) ≤ 9 * most_records =
     type_lengths (packed_by_type county) most_records
     (subst (HasAtMost most_records) (by_type_of (packed_by_type county)) (by_type_within most_records (packed county) within.counts)) in
-    let bytes = text_length (packed county) (packed-fits county is.whole within.contents within.numbers within.room) in
+    let bytes = text_length (packed county) (packed-fits county is.whole within.contents within.numbers within.lists) in
     omega (arith, records, bytes)

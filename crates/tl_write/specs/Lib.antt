@@ -1,4 +1,4 @@
-pub mod Room
+pub mod LentBuffer
 pub mod GoingOut
 pub mod Taking
 pub mod TakingLaws

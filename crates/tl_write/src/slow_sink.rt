@@ -18,11 +18,11 @@ pub struct SlowSink<'a> {
 
 impl<'a> Model for SlowSink<'a> {
     ghost use Rattle.std.specs.Prelude.{◌<◌, ◌≤◌, length, take};
-    ghost use Rattle.tl_write.specs.Room.{LentRoom};
+    ghost use Rattle.tl_write.specs.LentBuffer.{LentBuffer};
 
-    ghost Value = { LentRoom };
+    ghost Value = { LentBuffer };
 
-    ghost view = { λ s. record { held = take s.held s.buffer.now; room = length s.buffer.now; most = s.most; failures = s.failures } };
+    ghost view = { λ s. record { held = take s.held s.buffer.now; capacity = length s.buffer.now; most = s.most; failures = s.failures } };
 
     ghost invariant = { λ s. (0 < s.most) × (s.held ≤ length s.buffer.now) };
 }
@@ -31,7 +31,7 @@ impl<'a> SlowSink<'a> {
     /// Makes a sink that takes at most `most` bytes per write and as many bytes in all as the buffer has; `most` must not be 0.
     pub fn new(buffer: &'a mut [u8], most: usize) -> Self
         requires { 0 < most }
-        ensures { result ≡ record { held = []; room = length buffer.old; most = most; failures = 0 } }
+        ensures { result ≡ record { held = []; capacity = length buffer.old; most = most; failures = 0 } }
     {
         SlowSink {
             buffer,
@@ -66,10 +66,10 @@ impl Sink for SlowSink<'_> {
         ensures bytes { (held : List ℕ) → self.old.held ≡ held
             → MatchResult result (λ n. self.new.held ≡ held ++ take n buf.now) (λ _. self.new.held ≡ held) }
         // The minimum of the most that one write takes, the number of bytes given, and the free space.
-        ensures count { IfOk result (λ n. n ≡ min self.old.most (min (length buf.now) (self.old.room - length self.old.held))) }
+        ensures count { IfOk result (λ n. n ≡ min self.old.most (min (length buf.now) (self.old.capacity - length self.old.held))) }
         // It fails exactly if bytes are given and there is no free space.
-        ensures fails { IsErr result ↔ ((0 < length buf.now) × (length self.old.held ≡ self.old.room)) }
-        ensures room { self.new.room ≡ self.old.room }
+        ensures fails { IsErr result ↔ ((0 < length buf.now) × (length self.old.held ≡ self.old.capacity)) }
+        ensures capacity { self.new.capacity ≡ self.old.capacity }
         ensures most { self.new.most ≡ self.old.most }
     {
         let count = self.most.min(buf.len().min(self.buffer.len() - self.held));

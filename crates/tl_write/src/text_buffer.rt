@@ -44,7 +44,7 @@ fn put_line_of<G: RecordGroups>(
     requires group { group < length (G.groups groups.now) }
     requires head { G.IsHead groups.now group head }
     requires place { place < length (group_at (G.groups groups.now) group) }
-    requires room { length buffer.old ≡ G.Item.LEN + 1 }
+    requires buffer { length buffer.old ≡ G.Item.LEN + 1 }
     ensures { (found : G.Item) → slice_get (group_at (G.groups groups.now) group) place ≡ Some found
         → buffer.new ≡ G.Item.spelling found ++ 10 ∷ [] }
 {
@@ -88,11 +88,11 @@ impl TextBuffer {
     }
 
     /// Sends the waiting bytes if there isn't enough space for `count` more.
-    fn make_room<W: Sink>(&mut self, count: usize, w: &mut W) -> Result<(), WriteFault>
+    fn make_space<W: Sink>(&mut self, count: usize, w: &mut W) -> Result<(), WriteFault>
         requires failures { W.failed w.old < u64.MAX }
         requires count { count ≤ BUFFER_BYTES }
         ensures failures { W.failed w.new ≡ (if is_ok result then W.failed w.old else W.failed w.old + 1) }
-        ensures room { OnOk result (length self.new.waiting + count ≤ BUFFER_BYTES) }
+        ensures space { OnOk result (length self.new.waiting + count ≤ BUFFER_BYTES) }
         ensures counted { (total : ℕ) → HasCounted total self.old → MatchResult result (λ _. HasCounted total self.new) (λ f. f.written < total) }
         ensures sent { (held text : List ℕ) → IsGoingOut W.holds held text self.old w.old
             → MatchResult result (λ _. IsGoingOut W.holds held text self.new w.new)
@@ -128,7 +128,7 @@ impl TextBuffer {
             → MatchResult result (λ _. IsGoingOut W.holds held (text ++ (L.spelling found.now ++ 10 ∷ [])) self.new w.new)
             (λ f. HoldsBeginning W.holds held text f.written w.new) }
     {
-        self.make_room(L::LEN + 1, w)?;
+        self.make_space(L::LEN + 1, w)?;
         self.append(found);
         Ok(())
     }
@@ -144,7 +144,7 @@ impl TextBuffer {
         requires group { group < length (G.groups groups.now) }
         requires head { G.IsHead groups.now group head }
         requires place { place < length (group_at (G.groups groups.now) group) }
-        requires room { length self.old.waiting + G.Item.LEN < BUFFER_BYTES }
+        requires space { length self.old.waiting + G.Item.LEN < BUFFER_BYTES }
         ensures { (found : G.Item) → slice_get (group_at (G.groups groups.now) group) place ≡ Some found
             → self.new ≡ record { waiting = self.old.waiting ++ (G.Item.spelling found ++ 10 ∷ []); sent = self.old.sent } }
     {
@@ -176,7 +176,7 @@ impl TextBuffer {
             → MatchResult result (λ _. IsGoingOut W.holds held (text ++ (G.Item.spelling found ++ 10 ∷ [])) self.new w.new)
             (λ f. HoldsBeginning W.holds held text f.written w.new) }
     {
-        self.make_room(<G::Item as Layout>::LEN + 1, w)?;
+        self.make_space(<G::Item as Layout>::LEN + 1, w)?;
         self.append_from(groups, group, head, place);
         Ok(())
     }

@@ -1,6 +1,6 @@
 //! Visitors of a county's records: a text that is written to a sink, and a list.
 
-ghost use Rattle.std.specs.Prelude.{◌≡◌, ◌<◌};
+ghost use Rattle.std.specs.Prelude.{◌<◌};
 ghost use Rattle.tl_layout.specs.RecordText.{text_of};
 
 use crate::fault::WriteFault;

@@ -1,6 +1,6 @@
 //! A canonical text made by calling the layers directly, one call each, for a program that wants the results in between.
 
-ghost use Rattle.std.specs.Prelude.{◌≡◌, ◌∷◌, [], List, ℕ, IfOk};
+ghost use Rattle.std.specs.Prelude.{◌≡◌, ◌∷◌, [], IfOk};
 ghost use Rattle.tigercanon.specs.Sets.{IsCanonicalText};
 ghost use Rattle.tl_county.specs.Limits.{most_records};
 ghost use Rattle.tl_county.specs.Packing.{packed};

@@ -31,7 +31,7 @@ apart number place ne same =
 -- one more number of the list is marked, if it has a place
 pub marked_more : (numbers : List ℕ) (marks : List Bool) (place : ℕ) → AreMarksOf numbers marks → place < length marks
     → AreMarksOf (numbers ++ (place ∷ [])) (set marks place true)
-marked_more numbers marks place known room number within = go (same_or_not nat_keys number place)
+marked_more numbers marks place known fits number within = go (same_or_not nat_keys number place)
   where
     inside : number < length marks
     inside = omega (arith, within, length-set marks place true)
@@ -41,7 +41,7 @@ marked_more numbers marks place known room number within = go (same_or_not nat_k
 
     go : (number ≡ place) ⊎ (is_eq (nat_cmp number place) ≡ false)
         → slice_get (set marks place true) number ≡ Some (stands_in nat_cmp number (numbers ++ (place ∷ [])))
-    go (inl same) = read ∙ ap Some (ap (λ n. get_or (set marks place true) n false) same ∙ get_or-set_same marks place true false room
+    go (inl same) = read ∙ ap Some (ap (λ n. get_or (set marks place true) n false) same ∙ get_or-set_same marks place true false fits
         ∙ sym (ap (λ n. stands_in nat_cmp n (numbers ++ (place ∷ []))) same ∙ known-end numbers place))
     go (inr ne) = read ∙ ap Some (get_or-set_other marks place number true false (apart number place ne))
         ∙ sym (slice_get-get_or marks number false inside) ∙ known number inside ∙ ap Some (sym (stands_in-end numbers place number ne))

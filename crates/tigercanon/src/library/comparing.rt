@@ -14,7 +14,7 @@ ghost use Rattle.tl_county.specs.Renumbering.{Renumbering};
 ghost use Rattle.tl_number.specs.Views.{arranged_county, source_of};
 
 use crate::fault::Fault;
-use crate::library::concluding::Conclusion;
+use crate::library::comparison::Comparison;
 use crate::library::making::{Product, make_of};
 use crate::library::unlinked::UnlinkedSet;
 use std::alloc::{AllocError, Global};
@@ -83,7 +83,7 @@ struct Compared<'a, A: Chart, V> {
     conclusion: PhantomData<V>,
 }
 
-impl<'a, A: Chart, V: Conclusion> Product<()> for Compared<'a, A, V> {
+impl<'a, A: Chart, V: Comparison> Product<()> for Compared<'a, A, V> {
     type Out = V;
 
     ghost IsReady = { λ _ _. Unit {0} };
@@ -110,7 +110,7 @@ struct Against<S, V> {
     conclusion: PhantomData<V>,
 }
 
-impl<S: UnlinkedSet, V: Conclusion> Product<()> for Against<S, V> {
+impl<S: UnlinkedSet, V: Comparison> Product<()> for Against<S, V> {
     type Out = Result<V, Fault>;
 
     ghost IsReady = { λ self _. S.IsReady self.second };
@@ -135,7 +135,7 @@ impl<S: UnlinkedSet, V: Conclusion> Product<()> for Against<S, V> {
 }
 
 /// The conclusion under a mask on two sets that aren't linked yet. The first set is judged completely before the second is linked.
-pub(crate) fn compare_unlinked<A: UnlinkedSet, B: UnlinkedSet, V: Conclusion>(
+pub(crate) fn compare_unlinked<A: UnlinkedSet, B: UnlinkedSet, V: Comparison>(
     alloc: Global,
     first: A,
     second: B,

@@ -27,7 +27,7 @@ const BYTES_A_CHAIN: usize = 512;
 
 /// An empty text. If the county has many chains, capacity for its text is reserved. Capacity that is never written takes no memory,
 /// and if the allocation fails, the text grows like any other.
-fn text_with_room(alloc: Global, chains: usize) -> Vec<u8>
+fn text_with_capacity(alloc: Global, chains: usize) -> Vec<u8>
     ensures { result.items ≡ [] }
 {
     let mut text = Vec::new(alloc);
@@ -41,7 +41,7 @@ fn text_with_room(alloc: Global, chains: usize) -> Vec<u8>
 fn text_in_memory<C: Chart>(alloc: Global, county: &CanonCounty<C>) -> Result<Vec<u8>, AllocError>
     ensures { IfOk result (λ text. text.items ≡ text_of (packed (arranged_county county.now))) }
 {
-    let mut sink = CountedOut::new(text_with_room(alloc, county.chain_count()));
+    let mut sink = CountedOut::new(text_with_capacity(alloc, county.chain_count()));
     match write_to(county, &mut sink) {
         Ok(_) => Ok(sink.into_inner()),
         // A vector fails only if it can't grow.

@@ -75,7 +75,7 @@ fn read_to_end<K: Collector, R: Source>(
     buffer: &mut [u8],
 ) -> Result<(), LoadFault>
     requires parts { loader.old.parts < u64.MAX }
-    requires some_room { 0 < length buffer.old }
+    requires buffer { 0 < length buffer.old }
     requires failures { R.failed source.old < u64.MAX }
     requires no_device { IfSome loader.old.fault IsNotDevice }
     // The whole source was read, and no read failed.

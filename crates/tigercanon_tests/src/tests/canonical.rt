@@ -9,7 +9,7 @@ use std::alloc::Global;
 use std::process::Abort;
 use tigercanon::{check, normalise, normalise_with_renaming};
 use tl_county::Chart;
-use tl_number::ascending_steps;
+use tl_number::ascending_arrangement;
 use tl_profile::{Admitted, admit, order_by_shape};
 
 /// The set is accepted, its text is this one, and the renaming returned with it carries the set onto it.
@@ -26,12 +26,12 @@ fn becomes(rt: &impl Abort, alloc: Global, set: &Set<'_>) {
 /// The number of chains of an admitted county, by its chart, by its list of TLIDs, by its order of shapes and by its arrangement.
 fn has_chains(rt: &impl Abort, alloc: Global, row: &str, admitted: &Admitted, chains: usize) {
     let shapes = order_by_shape(alloc, admitted.county()).expect(rt, row);
-    let steps = ascending_steps(alloc, admitted.county()).expect(rt, row);
+    let arrangement = ascending_arrangement(alloc, admitted.county()).expect(rt, row);
     let counts = [
         admitted.chart().chain_count(),
         admitted.county().tlids().len(),
-        shapes.walks().len(),
-        steps.len(),
+        shapes.by_shape().len(),
+        arrangement.len(),
     ];
     same(rt, row, &counts, &[chains; 4]);
 }

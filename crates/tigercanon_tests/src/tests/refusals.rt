@@ -36,7 +36,7 @@ pub(super) use canonising::{
 use carrying::{CheckMasked, CheckRenaming, Inverse, NewShape, Then};
 use linking::{Admit, AdmitIn, Link, LinkIn, LinkInOrder, OrderByShape};
 use over_linked::AdmitLinked;
-use pieces::{ArrangeSteps, WriteAdmitted};
+use pieces::{ArrangeChains, WriteAdmitted};
 use reading::{EndPart, Feed, ReadPart, TablesOf};
 use std::alloc::Global;
 use std::fmt::Debug;
@@ -310,7 +310,7 @@ pub(super) fn sweep_others(rt: &(impl Abort + Print), alloc: Global, of: Swept<'
     sweep::<NewShape>(rt, alloc, "NewShape", of);
     sweep::<TablesOf>(rt, alloc, "TablesOf", of);
     sweep::<OrderByShape>(rt, alloc, "OrderByShape", of);
-    sweep::<ArrangeSteps>(rt, alloc, "Arrange", of);
+    sweep::<ArrangeChains>(rt, alloc, "Arrange", of);
     sweep::<Canonise>(rt, alloc, "Canonise", of);
     sweep::<CanoniseIn>(rt, alloc, "CanoniseIn", of);
     sweep::<CanoniseMasked>(rt, alloc, "CanoniseMasked", of);

@@ -87,8 +87,8 @@ type Passing = (
 const DEVICE: Result<u64, Fault> = Err(Fault::Load(LoadFault::Device));
 
 const PASSING: &[Passing] = &[
-    ("more room than needed", [None, None], 400, Ok(357), [0, 0]),
-    ("room for the text", [None, None], 357, Ok(357), [0, 0]),
+    ("a sink that takes more than the text", [None, None], 400, Ok(357), [0, 0]),
+    ("a sink that takes just the text", [None, None], 357, Ok(357), [0, 0]),
     (
         "all but the last byte",
         [None, None],
@@ -118,7 +118,7 @@ const PASSING: &[Passing] = &[
         [0, 0],
     ),
     (
-        "no room",
+        "a sink that takes nothing",
         [None, None],
         0,
         Err(Fault::Write(WriteFault { written: 0 })),

@@ -20,7 +20,7 @@ use Rattle.tl_layout.specs.declared.type_p.BodyP.{BodyP}
 use Rattle.tl_shape.specs.Chain.{Chain}
 use Rattle.tl_shape.specs.Turned.{turned_if}
 use Rattle.tl_county.specs.County.{County, link_key}
-use Rattle.tl_county.specs.Limits.{FitsNameBody, FitsLandmark, FitsPolygon, FitsLinkContent, FitsChain, FitsLink, HasRoom, ContentsFit}
+use Rattle.tl_county.specs.Limits.{FitsNameBody, FitsLandmark, FitsPolygon, FitsLinkContent, FitsChain, FitsLink, ListsFit, ContentsFit}
 use Rattle.tl_county.specs.Packing.{pieces, in_pieces, numbered_from, without_last, inner_points, packed_one, packed_twos}
 use Rattle.tl_county.specs.Packing.{packed_fours, packed_five, packed_sixes, packed_sevens, packed_i, packed_body, packed_p}
 use Rattle.tl_county.specs.Packing.{p_polyid, packed_by_type}
@@ -76,19 +76,19 @@ ranges_turned false c = refl
 ranges_turned true c = length-map c.ranges turned_ranges
 
 -- the number of pieces depends only on the length
-pieces_by_length : {X Y : Type 0} (n room : ℕ) (xs : List X) (ys : List Y) → length xs ≡ length ys
-    → length (pieces n room xs) ≡ length (pieces n room ys)
+pieces_by_length : {X Y : Type 0} (n most : ℕ) (xs : List X) (ys : List Y) → length xs ≡ length ys
+    → length (pieces n most xs) ≡ length (pieces n most ys)
 pieces_by_length n zero xs ys e = refl
-pieces_by_length n (suc room) [] [] e = refl
-pieces_by_length n (suc room) [] (y ∷ ys) e = absurd (omega (arith, e))
-pieces_by_length n (suc room) (x ∷ xs) [] e = absurd (omega (arith, e))
-pieces_by_length n (suc room) (x ∷ xs) (y ∷ ys) e =
-    ap suc (pieces_by_length n room (drop n (x ∷ xs)) (drop n (y ∷ ys)) (length-drop n (x ∷ xs) ∙ ap (λ m. m - n) e
+pieces_by_length n (suc most) [] [] e = refl
+pieces_by_length n (suc most) [] (y ∷ ys) e = absurd (omega (arith, e))
+pieces_by_length n (suc most) (x ∷ xs) [] e = absurd (omega (arith, e))
+pieces_by_length n (suc most) (x ∷ xs) (y ∷ ys) e =
+    ap suc (pieces_by_length n most (drop n (x ∷ xs)) (drop n (y ∷ ys)) (length-drop n (x ∷ xs) ∙ ap (λ m. m - n) e
     ∙ sym (length-drop n (y ∷ ys))))
 
 in_pieces_by_length : {X Y : Type 0} (n : ℕ) (xs : List X) (ys : List Y) → length xs ≡ length ys
     → length (in_pieces n xs) ≡ length (in_pieces n ys)
-in_pieces_by_length n xs ys e = ap (λ room. length (pieces n room xs)) e ∙ pieces_by_length n (length ys) xs ys e
+in_pieces_by_length n xs ys e = ap (λ most. length (pieces n most xs)) e ∙ pieces_by_length n (length ys) xs ys e
 
 -- joined lists of equal lengths, under a permutation
 same_count : {X Y : Type 0} (pack : X → List Y) (carried : X → X) (xs ys : List X) → ((x : X) → length (pack (carried x)) ≡ length (pack x))
@@ -191,10 +191,10 @@ module _ (r : Renumbering) (a b : County) (h : Carries r a b) where
   ranges_carried : (e : ℕ × Chain) → length (carried_chain r e).1.ranges ≡ length e.1.ranges
   ranges_carried e = ranges_turned (turns r e.0) e.1
 
-  pub carried_room : AllByRecursion (λ e. HasRoom e.1) a.chains → AllByRecursion (λ e. HasRoom e.1) b.chains
-  carried_room room = each_from (λ e. HasRoom e.1) b.chains (λ e m. let o = old_chain e m in
-      let f : HasRoom o.0.1 = all_among (λ d. HasRoom d.1) o.0 a.chains room o.1 in
-      subst (λ (c : ℕ × Chain). HasRoom c.1) (sym o.2) (record {
+  pub carried_lists : AllByRecursion (λ e. ListsFit e.1) a.chains → AllByRecursion (λ e. ListsFit e.1) b.chains
+  carried_lists lists = each_from (λ e. ListsFit e.1) b.chains (λ e m. let o = old_chain e m in
+      let f : ListsFit o.0.1 = all_among (λ d. ListsFit d.1) o.0 a.chains lists o.1 in
+      subst (λ (c : ℕ × Chain). ListsFit c.1) (sym o.2) (record {
         points = subst (λ n. n ≤ 9990) (sym (inner_carried o.0)) f.points;
         feats = subst (λ n. n ≤ 4995) (sym (feats_carried o.0)) f.feats;
         ranges = subst (λ n. n ≤ 999) (sym (ranges_carried o.0)) f.ranges;

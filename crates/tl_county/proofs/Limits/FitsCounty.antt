@@ -26,7 +26,7 @@ use Rattle.tl_county.specs.County.{i_tlid, one_tlid, two_tlid, two_rtsq, four_tl
 use Rattle.tl_county.specs.County.{p_key, first, side_keys, shape_points, further_names, further_ranges, chain_of, chains_of}
 use Rattle.tl_county.specs.County.{polygon_body, county_of}
 use Rattle.tl_county.specs.CountyRules.{tlids}
-use Rattle.tl_county.specs.Limits.{FitsNameBody, FitsLandmark, FitsPolygon, FitsChain, FitsLink, FitsNumbers, HasRoom, ContentsFit}
+use Rattle.tl_county.specs.Limits.{FitsNameBody, FitsLandmark, FitsPolygon, FitsChain, FitsLink, FitsNumbers, ListsFit, ContentsFit}
 use Rattle.tl_county.specs.Limits.{NumbersFit, IsWithinLimits, greatest_rtsq}
 use Rattle.tl_county.specs.LinkRules.{IsLinked, chain_tlids}
 use Rattle.ordered_lists.specs.Orders.{in_order, distinct, has_repeat}
@@ -309,8 +309,8 @@ module _ (records : List Record) (linked : IsLinked records) (fits : AllByRecurs
   inner_held r = subst (λ points. length points ≤ 10 * length (of_number two_tlid r.tlid (of_type_2 records)))
       (sym (inner_back (shape_points records r.tlid) r.end)) (points_held r.tlid)
 
-  room : AllByRecursion (λ entry. HasRoom entry.1) (chains_of records)
-  room = all_chains (λ entry. HasRoom entry.1) (λ r link f l. record {
+  lists : AllByRecursion (λ entry. ListsFit entry.1) (chains_of records)
+  lists = all_chains (λ entry. ListsFit entry.1) (λ r link f l. record {
     points = (let held : length (inner_points (r.start ∷ (shape_points records r.tlid ++ (r.end ∷ [])))) ≤ 10 * length
         (of_number two_tlid r.tlid (of_type_2 records)) = inner_held r in
         let few : length (of_number two_tlid r.tlid (of_type_2 records)) ≤ 999 = few_twos r.tlid in omega arith);
@@ -451,7 +451,7 @@ module _ (records : List Record) (linked : IsLinked records) (fits : AllByRecurs
       record {
         contents = contents;
         numbers = numbers;
-        room = room;
+        lists = lists;
         counts =
             packed_within limit (county_of records) (county_counts (λ _. limit) (by_type_within limit records h));
       }

@@ -18,7 +18,7 @@ use Rattle.tl_layout.specs.declared.type_p.BodyP.{BodyP}
 use Rattle.tl_shape.specs.Chain.{Chain}
 use Rattle.tl_county.specs.County.{County}
 use Rattle.tl_county.specs.CountyRules.{IsWhole}
-use Rattle.tl_county.specs.Limits.{FitsNameBody, FitsLandmark, FitsPolygon, FitsChain, FitsLink, FitsNumbers, HasRoom, ContentsFit}
+use Rattle.tl_county.specs.Limits.{FitsNameBody, FitsLandmark, FitsPolygon, FitsChain, FitsLink, FitsNumbers, ListsFit, ContentsFit}
 use Rattle.tl_county.specs.Limits.{NumbersFit, greatest_rtsq}
 use Rattle.ordered_lists.specs.Orders.{in_order}
 use Rattle.tl_county.specs.Packing.{in_pieces, numbered_from, first_point, last_point, without_last, inner_points, packed_one}
@@ -85,19 +85,19 @@ module _ {X Y : Type 0} (width : ℕ) (P : X → Type 0) (make : ℕ × List X �
       (all_both (λ piece. length piece ≤ width) (AllByRecursion P) (in_pieces width xs) (short_pieces width (length xs) xs)
       (all_in_pieces P width (length xs) xs a))))
 
-twos_fit : (entry : ℕ × Chain) → IsNumber 10 entry.0 → FitsChain entry.1 → HasRoom entry.1 → AllByRecursion Fit2 (packed_twos entry)
-twos_fit entry n f room =
+twos_fit : (entry : ℕ × Chain) → IsNumber 10 entry.0 → FitsChain entry.1 → ListsFit entry.1 → AllByRecursion Fit2 (packed_twos entry)
+twos_fit entry n f lists =
     pieces_fit 10 IsOnMap (λ piece. record { tlid = entry.0; rtsq = piece.0; points = piece.1 }) Fit2
-    (λ rtsq piece r few a. record { tlid = n; rtsq = r; len = few; points = a }) (inner_points entry.1.points) room.points
+    (λ rtsq piece r few a. record { tlid = n; rtsq = r; len = few; points = a }) (inner_points entry.1.points) lists.points
     (all_inner IsOnMap entry.1.points f.points)
 
-fours_fit : (entry : ℕ × Chain) → IsNumber 10 entry.0 → FitsNumbers entry.1 → HasRoom entry.1 → AllByRecursion Fit4 (packed_fours entry)
-fours_fit entry n f room =
+fours_fit : (entry : ℕ × Chain) → IsNumber 10 entry.0 → FitsNumbers entry.1 → ListsFit entry.1 → AllByRecursion Fit4 (packed_fours entry)
+fours_fit entry n f lists =
     pieces_fit 5 (IsNumber 8) (λ piece. record { tlid = entry.0; rtsq = piece.0; feats = piece.1 }) Fit4
-    (λ rtsq piece r few a. record { tlid = n; rtsq = r; len = few; feats = a }) entry.1.feats room.feats f.feats
+    (λ rtsq piece r few a. record { tlid = n; rtsq = r; len = few; feats = a }) entry.1.feats lists.feats f.feats
 
-sixes_fit : (entry : ℕ × Chain) → IsNumber 10 entry.0 → FitsChain entry.1 → HasRoom entry.1 → AllByRecursion Fit6 (packed_sixes entry)
-sixes_fit entry n f room =
+sixes_fit : (entry : ℕ × Chain) → IsNumber 10 entry.0 → FitsChain entry.1 → ListsFit entry.1 → AllByRecursion Fit6 (packed_sixes entry)
+sixes_fit entry n f lists =
     all_map Fit6 (λ (piece : ℕ × Ranges). record { tlid = entry.0; rtsq = piece.0; ranges = piece.1 }) (numbered_from 1 entry.1.ranges)
     (all_weaker (λ (piece : ℕ × Ranges). (1 ≤ piece.0) × ((piece.0 < 1 + length entry.1.ranges) × FitsRanges piece.1))
     (λ piece. Fit6 (record { tlid = entry.0; rtsq = piece.0; ranges = piece.1 }))
@@ -105,7 +105,7 @@ sixes_fit entry n f room =
       tlid = n;
       rtsq = (
         (let low : 1 ≤ piece.0 = h.0 in omega arith),
-        (let high : piece.0 < 1 + length entry.1.ranges = h.1.0 in let few : length entry.1.ranges ≤ 999 = room.ranges in omega arith),
+        (let high : piece.0 < 1 + length entry.1.ranges = h.1.0 in let few : length entry.1.ranges ≤ 999 = lists.ranges in omega arith),
       );
       ranges = h.1.1;
     })
@@ -136,17 +136,17 @@ p_fits key (Some body) r e f =
 
 -- the known facts about each chain of such a county
 abbrev IsFitEntry : ℕ × Chain → Type 0
-IsFitEntry entry = (2 ≤ length entry.1.points) × (IsNumber 10 entry.0 × (FitsChain entry.1 × (FitsNumbers entry.1 × HasRoom entry.1)))
+IsFitEntry entry = (2 ≤ length entry.1.points) × (IsNumber 10 entry.0 × (FitsChain entry.1 × (FitsNumbers entry.1 × ListsFit entry.1)))
 
 module _ (county : County) (whole : IsWhole county) (contents : ContentsFit county) (numbers : NumbersFit county)
-    (room : AllByRecursion (λ entry. HasRoom entry.1) county.chains) where
+    (lists : AllByRecursion (λ entry. ListsFit entry.1) county.chains) where
   fit_entries : AllByRecursion IsFitEntry county.chains
   fit_entries = all_both (λ entry. 2 ≤ length entry.1.points)
-      (λ entry. IsNumber 10 entry.0 × (FitsChain entry.1 × (FitsNumbers entry.1 × HasRoom entry.1))) county.chains whole.points
+      (λ entry. IsNumber 10 entry.0 × (FitsChain entry.1 × (FitsNumbers entry.1 × ListsFit entry.1))) county.chains whole.points
       (all_both (λ entry. IsNumber 10 entry.0) (λ entry. FitsChain entry.1
-      × (FitsNumbers entry.1 × HasRoom entry.1)) county.chains numbers.chains
-      (all_both (λ entry. FitsChain entry.1) (λ entry. FitsNumbers entry.1 × HasRoom entry.1) county.chains contents.chains
-      (all_both (λ entry. FitsNumbers entry.1) (λ entry. HasRoom entry.1) county.chains numbers.named room)))
+      × (FitsNumbers entry.1 × ListsFit entry.1)) county.chains numbers.chains
+      (all_both (λ entry. FitsChain entry.1) (λ entry. FitsNumbers entry.1 × ListsFit entry.1) county.chains contents.chains
+      (all_both (λ entry. FitsNumbers entry.1) (λ entry. ListsFit entry.1) county.chains numbers.named lists)))
 
   -- records of chains fit if those of each chain do
   each_chain : {Y : Type 0} (Fits : Y → Type 0) (pack : ℕ × Chain → List Y)

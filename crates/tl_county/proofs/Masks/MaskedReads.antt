@@ -54,9 +54,9 @@ module _ (mask : Mask) where
         go None = refl
         go (Some c) = refl
 
-    pub link_body_masked : option_map (λ c. c.topology) (chain_at (masked mask county) place) ≡ option_map (masked_body_i mask)
+    pub topology_masked : option_map (λ c. c.topology) (chain_at (masked mask county) place) ≡ option_map (masked_body_i mask)
         (option_map (λ c. c.topology) (chain_at county place))
-    link_body_masked = ap (option_map (λ (c : Chain). c.topology)) (chain_at_masked mask county place) ∙ go (chain_at county place)
+    topology_masked = ap (option_map (λ (c : Chain). c.topology)) (chain_at_masked mask county place) ∙ go (chain_at county place)
       where
         go : (o : Option Chain) → option_map (λ (c : Chain). c.topology) (option_map (masked_chain mask) o) ≡ option_map
             (masked_body_i mask) (option_map (λ (c : Chain). c.topology) o)

@@ -56,12 +56,12 @@ ends_and_inner [] h = absurd (omega (arith, h))
 ends_and_inner (p ∷ points) h = ap (λ rest. p ∷ rest) (last_behind p points (omega arith))
 
 -- pieces joined again
-pub pieces_together : {X : Type 0} (n room : ℕ) (xs : List X) → 1 ≤ n → length xs ≤ room → flat_map (λ piece. piece) (pieces n room xs) ≡ xs
+pub pieces_together : {X : Type 0} (n most : ℕ) (xs : List X) → 1 ≤ n → length xs ≤ most → flat_map (λ piece. piece) (pieces n most xs) ≡ xs
 pieces_together n zero [] one h = refl
-pieces_together n (suc room) [] one h = refl
+pieces_together n (suc most) [] one h = refl
 pieces_together n zero (x ∷ xs) one h = absurd (omega arith)
-pieces_together n (suc room) (x ∷ xs) one h =
-    ap (λ rest. take n (x ∷ xs) ++ rest) (pieces_together n room (drop n (x ∷ xs)) one (let t = length-drop n (x ∷ xs) in omega arith))
+pieces_together n (suc most) (x ∷ xs) one h =
+    ap (λ rest. take n (x ∷ xs) ++ rest) (pieces_together n most (drop n (x ∷ xs)) one (let t = length-drop n (x ∷ xs) in omega arith))
     ∙ take-append-drop n (x ∷ xs)
 
 flat_map-map : {X Y Z : Type 0} (f : Y → List Z) (g : X → Y) (xs : List X) → flat_map f (map g xs) ≡ flat_map (λ x. f (g x)) xs

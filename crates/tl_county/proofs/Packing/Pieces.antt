@@ -7,26 +7,26 @@ use Rattle.ordered_lists.proofs.Lists.Elements.{all_weaker}
 use Rattle.ordered_lists.proofs.Lists.Counted.{all_take, all_drop}
 
 -- pieces of n: at most c of them if there are at most n * c elements, none longer than n
-pub few_pieces : {X : Type 0} (n c room : ℕ) (xs : List X) → length xs ≤ n * c → length (pieces n room xs) ≤ c
+pub few_pieces : {X : Type 0} (n c most : ℕ) (xs : List X) → length xs ≤ n * c → length (pieces n most xs) ≤ c
 few_pieces n c zero xs h = omega arith
-few_pieces n c (suc room) [] h = omega arith
-few_pieces n zero (suc room) (x ∷ xs) h = absurd (omega arith)
-few_pieces n (suc c) (suc room) (x ∷ xs) h =
-    let rest : length (pieces n room (drop n (x ∷ xs))) ≤ c =
-    few_pieces n c room (drop n (x ∷ xs)) (omega (arith, length-drop n (x ∷ xs), h)) in
+few_pieces n c (suc most) [] h = omega arith
+few_pieces n zero (suc most) (x ∷ xs) h = absurd (omega arith)
+few_pieces n (suc c) (suc most) (x ∷ xs) h =
+    let rest : length (pieces n most (drop n (x ∷ xs))) ≤ c =
+    few_pieces n c most (drop n (x ∷ xs)) (omega (arith, length-drop n (x ∷ xs), h)) in
     omega arith
 
-pub short_pieces : {X : Type 0} (n room : ℕ) (xs : List X) → AllByRecursion (λ piece. length piece ≤ n) (pieces n room xs)
+pub short_pieces : {X : Type 0} (n most : ℕ) (xs : List X) → AllByRecursion (λ piece. length piece ≤ n) (pieces n most xs)
 short_pieces n zero xs = tt
-short_pieces n (suc room) [] = tt
-short_pieces n (suc room) (x ∷ xs) = ((let t = length-take n (x ∷ xs) in omega arith), short_pieces n room (drop n (x ∷ xs)))
+short_pieces n (suc most) [] = tt
+short_pieces n (suc most) (x ∷ xs) = ((let t = length-take n (x ∷ xs) in omega arith), short_pieces n most (drop n (x ∷ xs)))
 
 -- a property of each element is a property of each element of a piece
-pub all_in_pieces : {X : Type 0} (P : X → Type 0) (n room : ℕ) (xs : List X) → AllByRecursion P xs
-    → AllByRecursion (AllByRecursion P) (pieces n room xs)
+pub all_in_pieces : {X : Type 0} (P : X → Type 0) (n most : ℕ) (xs : List X) → AllByRecursion P xs
+    → AllByRecursion (AllByRecursion P) (pieces n most xs)
 all_in_pieces P n zero xs a = tt
-all_in_pieces P n (suc room) [] a = tt
-all_in_pieces P n (suc room) (x ∷ xs) a = (all_take P n (x ∷ xs) a, all_in_pieces P n room (drop n (x ∷ xs)) (all_drop P n (x ∷ xs) a))
+all_in_pieces P n (suc most) [] a = tt
+all_in_pieces P n (suc most) (x ∷ xs) a = (all_take P n (x ∷ xs) a, all_in_pieces P n most (drop n (x ∷ xs)) (all_drop P n (x ∷ xs) a))
 
 -- a property of each content, with RTSQs from i
 pub all_numbered_from : {X : Type 0} (P : X → Type 0) (i : ℕ) (xs : List X) → AllByRecursion P xs

@@ -17,7 +17,7 @@ use Rattle.tl_county.specs.Building.{chains_along, county_along, landmark_of, la
 use Rattle.tl_county.specs.ChartWords.{links_with}
 use Rattle.ordered_lists.specs.Entries.{entry_keys, entry_values, value_under}
 use Rattle.ordered_lists.proofs.Lists.EntryLists.{value-at_place, values-zip}
-use Rattle.tl_county.specs.KeptCounty.{LinksUnderLands, landmark_entry}
+use Rattle.tl_county.specs.StoredCounty.{LinksUnderLands, landmark_entry}
 use Rattle.tl_county.specs.LandmarkParts.{LandmarkParts}
 use Rattle.tl_layout.specs.ByType.{of_number}
 use Rattle.tl_shape.specs.Chain.{Chain}

@@ -14,7 +14,7 @@ use Rattle.tl_layout.specs.declared.record_type.Record.{Record}
 use Rattle.tl_county.specs.declared.fault.LinkFault.TheVariants.{NoChain, LinkTwice, NameTwice, LandUnknown}
 use Rattle.tl_county.specs.declared.fault.LinkedType.TheVariants.{I}
 use Rattle.tl_county.specs.BodyOrder.{landmark_body_cmp, link_cmp, link_part, link_part_cmp}
-use Rattle.tl_county.specs.KeptCounty.{landmark_entry}
+use Rattle.tl_county.specs.StoredCounty.{landmark_entry}
 use Rattle.tl_county.specs.LandmarkParts.{LandmarkParts}
 use Rattle.tl_county.proofs.Rules.RuleTests.{in_order-first}
 use Rattle.tl_county.specs.Building.{chain_with, chains_along, landmark_of, county_along}

@@ -17,7 +17,7 @@ use Rattle.tl_layout.specs.declared.type_i.BodyI.{BodyI}
 use Rattle.tl_shape.specs.Chain.{Chain}
 use Rattle.tl_county.specs.BodyOrder.{landmark_body_cmp}
 use Rattle.tl_county.specs.County.{County}
-use Rattle.tl_county.specs.Limits.{FitsLandmark, FitsLinkContent, FitsChain, HasRoom, ContentsFit, FitsNumbers, NumbersFit, IsWithinLimits}
+use Rattle.tl_county.specs.Limits.{FitsLandmark, FitsLinkContent, FitsChain, ListsFit, ContentsFit, FitsNumbers, NumbersFit, IsWithinLimits}
 use Rattle.ordered_lists.specs.Orders.{in_order}
 use Rattle.tl_county.specs.Packing.{packed_one, packed_twos, packed_fours, packed_sixes, packed_sevens, packed_i, packed_by_type, packed}
 use Rattle.tl_county.specs.MaskedCounty.{masked_chain, masked_bodies, masked}
@@ -176,9 +176,9 @@ module _ (mask : Mask) where
   masked_within_limits limit county w = record {
     contents = contents_masked county w.contents;
     numbers = numbers_masked county w.numbers;
-    room = all_chains_masked mask (λ entry. HasRoom entry.1) county.chains
-        (all_weaker (λ entry. HasRoom entry.1) (λ entry. HasRoom (masked_chain mask entry.1))
-        (λ entry r. record { points = r.points; feats = r.feats; ranges = r.ranges }) county.chains w.room);
+    lists = all_chains_masked mask (λ entry. ListsFit entry.1) county.chains
+        (all_weaker (λ entry. ListsFit entry.1) (λ entry. ListsFit (masked_chain mask entry.1))
+        (λ entry r. record { points = r.points; feats = r.feats; ranges = r.ranges }) county.chains w.lists);
     counts = packed_within limit (masked mask county)
         (counts_masked (λ _. limit) county
         (subst (HasAtMost limit) (by_type_of (packed_by_type county)) (by_type_within limit (packed county) w.counts)));

@@ -2,9 +2,9 @@
 
 ghost use Rattle.std.specs.declared.cmp.Ordering.TheVariants.{Equal};
 ghost use Rattle.std.specs.Ordering.{nat_cmp, on, is_eq, is_gt, is_lt};
-ghost use Rattle.std.specs.Prelude.{◌≡◌, List, map, filter, not, false, true, Some, None, OnOk, IfOk, IfSome, IsPermutation, slice_get, is_some};
+ghost use Rattle.std.specs.Prelude.{◌≡◌, map, filter, not, true, Some, None, OnOk, IfOk, IfSome, IsPermutation};
 ghost use Rattle.ordered_lists.specs.Keyed.{IsLeastPassing, is_repeated, is_unknown};
-ghost use Rattle.ordered_lists.specs.Orders.{IsInOrder, distinct, stands_in};
+ghost use Rattle.ordered_lists.specs.Orders.{IsInOrder};
 
 use crate::keys::by_number::bring_by_number;
 use ordered_lists::Key;

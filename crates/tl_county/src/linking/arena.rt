@@ -6,8 +6,8 @@ ghost use Rattle.std.specs.Prelude.{◌≡◌, ◌∷◌, [], ◌++◌, IfOk, fl
 ghost use Rattle.tl_layout.specs.Fields.{Fields2, Fields4, Fields5, Fields6};
 ghost use Rattle.tl_layout.specs.Numbers.{IsNumber};
 
-use crate::kept::chain_over::ChainOver;
-use crate::kept::lent::{LandmarkIn, NameIn};
+use crate::stored::chain_over::ChainOver;
+use crate::stored::lent::{LandmarkIn, NameIn};
 use crate::linking::building::{
     ChainBuilder, LandmarkBuilder, OneChain, join_bodies, join_feats, join_points, join_ranges,
     name_bodies, surroundings_of,

@@ -14,7 +14,7 @@ ghost use Rattle.tl_layout.specs.Tables.{HoldsByType};
 
 use crate::chart::Chart;
 use crate::fault::LinkFault;
-use crate::kept::{County, CountyIn, CountyOver};
+use crate::stored::{County, CountyIn, CountyOver};
 use crate::keys::record_keys::PolygonKey;
 use crate::linking::arena::{InArena, names_in, names_over};
 use crate::linking::building::name_bodies;

@@ -3,7 +3,7 @@
 ghost use Rattle.std.specs.Prelude.{◌≡◌, ◌∷◌, [], ◌++◌, IfOk, flat_map};
 ghost use Rattle.tl_layout.specs.Fields.{Fields2};
 
-use crate::kept::landmark::Landmark;
+use crate::stored::landmark::Landmark;
 use crate::linking::building::{
     ChainBuilder, LandmarkBuilder, OneChain, join_bodies, join_feats, join_points, join_ranges,
     surroundings_of,

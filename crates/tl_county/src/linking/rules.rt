@@ -1,7 +1,7 @@
 //! The rules for records that fit together, over tables in order.
 
 ghost use Rattle.std.specs.Ordering.{nat_cmp};
-ghost use Rattle.std.specs.Prelude.{◌≡◌, false, true, List, map, flat_map, ◌++◌, MatchResult, IfOk, OnOk, IsPermutation};
+ghost use Rattle.std.specs.Prelude.{◌≡◌, false, true, List, map, flat_map, ◌++◌, MatchResult, IfOk, IsPermutation};
 ghost use Rattle.tl_county.specs.County.{link_key, five_feat, i_tlid, one_tlid, p_key, side_keys};
 ghost use Rattle.ordered_lists.specs.Keyed.{IsLeastPassing, is_repeated};
 ghost use Rattle.tl_county.specs.Marks.{AllNamed, AreNamed};

@@ -121,8 +121,8 @@ value_below n (digit ∷ digits) d =
     let parts = and_parts (is_digit digit) (list_all is_digit digits) d in
     let high : digit ≤ 57 = leb-true digit 57 (and_parts (nat_le 48 digit) (nat_le digit 57) parts.0).1 in
     let rest = value_below (10 * n + (digit - 48)) digits parts.1 in
-    let room : 10 * n + (digit - 48) + 1 ≤ 10 * (n + 1) = omega arith in
-    let step = mul-le-mul_left (10 ^ length digits) room in
+    let above : 10 * n + (digit - 48) + 1 ≤ 10 * (n + 1) = omega arith in
+    let step = mul-le-mul_left (10 ^ length digits) above in
     rw (pow-succ' 10 (length digits)) (omega arith)
 
 -- a number that a field spells has at most as many digits as the field has columns

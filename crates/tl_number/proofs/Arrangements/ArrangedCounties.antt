@@ -95,43 +95,43 @@ in_order-kept {X} cmp old new f (x ∷ xs) a h = (each xs a.1 h.0, in_order-kept
     each [] b g = tt
     each (y ∷ ys) b g = (ap₂ (λ k j. is_gt (cmp k j)) a.0 b.0 ∙ g.0, each ys b.1 g.1)
 
-module _ (county : County) (steps : Arrangement) (is : IsCounty county) (arranges : Arranges steps county)
+module _ (county : County) (arrangement : Arrangement) (is : IsCounty county) (arranges : Arranges arrangement county)
     (sides : AllKeysStandIn (polygons_along county.chains) (polygon_keys county)) where
-  h : Carries (renaming_of county steps) county (arranged county steps)
-  h = arrangement_carries county steps is arranges sides
+  h : Carries (renaming_of county arrangement) county (arranged county arrangement)
+  h = arrangement_carries county arrangement is arranges sides
 
   -- numbers of nodes grow
-  nodes_grow : Grows (nodes_along (arranged county steps).chains)
+  nodes_grow : Grows (nodes_along (arranged county arrangement).chains)
   nodes_grow =
-      let along : List ℕ = nodes_along (placed county steps) in
-      let places : map (image nat_cmp (renaming_of county steps).nodes) along ≡ map
+      let along : List ℕ = nodes_along (placed county arrangement) in
+      let places : map (image nat_cmp (renaming_of county arrangement).nodes) along ≡ map
       (place_from nat_keys 1 (first_seen nat_cmp along)) along =
-      ap (λ pairs. map (image nat_cmp pairs) along) (nodes_renamed county steps is arranges)
-      ∙ map_agree nat_keys (image nat_cmp (numbered (nodes_in_order county steps))) (place_from nat_keys 1 (first_seen nat_cmp along)) along
-      (λ n k. image-numbered (nodes_in_order county steps) n (to_first_seen nat_keys along n k)) in
-      subst Grows (sym (nodes_along_arranged county steps is arranges ∙ places)) (first_seen-grows nat_keys along)
+      ap (λ pairs. map (image nat_cmp pairs) along) (nodes_renamed county arrangement is arranges)
+      ∙ map_agree nat_keys (image nat_cmp (numbered (nodes_in_order county arrangement))) (place_from nat_keys 1 (first_seen nat_cmp along)) along
+      (λ n k. image-numbered (nodes_in_order county arrangement) n (to_first_seen nat_keys along n k)) in
+      subst Grows (sym (nodes_along_arranged county arrangement is arranges ∙ places)) (first_seen-grows nat_keys along)
 
   -- polygons, each with the place of its first occurrence
   abbrev along : List PolygonKey
-  along = polygons_along (placed county steps)
+  along = polygons_along (placed county arrangement)
 
   abbrev new_key : PolygonKey → PolygonKey
-  new_key k = (k.0, place_from key_keys 1 (polygons_in_order county steps) k)
+  new_key k = (k.0, place_from key_keys 1 (polygons_in_order county arrangement) k)
 
-  image_new : (k : PolygonKey) → Known key_cmp along k → image key_cmp (renaming_of county steps).polygons k ≡ new_key k
-  image_new k l = ap (λ pairs. image key_cmp pairs k) (polygons_renamed county steps is arranges)
-      ∙ image-under_cenid (polygons_in_order county steps) k (to_first_seen key_keys along k l)
+  image_new : (k : PolygonKey) → Known key_cmp along k → image key_cmp (renaming_of county arrangement).polygons k ≡ new_key k
+  image_new k l = ap (λ pairs. image key_cmp pairs k) (polygons_renamed county arrangement is arranges)
+      ∙ image-under_cenid (polygons_in_order county arrangement) k (to_first_seen key_keys along k l)
 
-  polygons_are : polygons_along (arranged county steps).chains ≡ map new_key along
-  polygons_are = ap polygons_along (chains_arranged county steps is arranges)
-      ∙ polygons_along-kept (renaming_of county steps) (placed county steps)
-      ∙ map_agree key_keys (image key_cmp (renaming_of county steps).polygons) new_key along image_new
+  polygons_are : polygons_along (arranged county arrangement).chains ≡ map new_key along
+  polygons_are = ap polygons_along (chains_arranged county arrangement is arranges)
+      ∙ polygons_along-kept (renaming_of county arrangement) (placed county arrangement)
+      ∙ map_agree key_keys (image key_cmp (renaming_of county arrangement).polygons) new_key along image_new
 
-  polygons_grow : Grows (map (λ (k : PolygonKey). k.1) (polygons_along (arranged county steps).chains))
+  polygons_grow : Grows (map (λ (k : PolygonKey). k.1) (polygons_along (arranged county arrangement).chains))
   polygons_grow = subst Grows (sym (ap (map (λ (k : PolygonKey). k.1)) polygons_are ∙ map-map (λ (k : PolygonKey). k.1) new_key along))
       (first_seen-grows key_keys along)
 
-  one_cenid : HasOneCenidEach (polygons_along (arranged county steps).chains)
+  one_cenid : HasOneCenidEach (polygons_along (arranged county arrangement).chains)
   one_cenid = subst HasOneCenidEach (sym polygons_are)
       (each_from (λ key. AllByRecursion (λ other. key.1 ≡ other.1 → key ≡ other) (map new_key along)) (map new_key along)
       (λ key m. each_from (λ other. key.1 ≡ other.1 → key ≡ other) (map new_key along)
@@ -140,48 +140,48 @@ module _ (county : County) (steps : Arrangement) (is : IsCounty county) (arrange
       same : (key other : PolygonKey) → (k : PolygonKey) × Among k along × (key ≡ new_key k)
           → (j : PolygonKey) × Among j along × (other ≡ new_key j) → key.1 ≡ other.1 → key ≡ other
       same key other k j e =
-          let known : (i : PolygonKey) → Among i along → Known key_cmp (polygons_in_order county steps) i =
+          let known : (i : PolygonKey) → Among i along → Known key_cmp (polygons_in_order county arrangement) i =
           λ i m. to_first_seen key_keys along i (among_known key_keys i along m) in
-          let places : place_from key_keys 1 (polygons_in_order county steps) k.0 ≡ place_from key_keys 1
-          (polygons_in_order county steps) j.0 = sym (ap (λ (i : PolygonKey). i.1) k.2) ∙ e ∙ ap (λ (i : PolygonKey). i.1) j.2 in
-          k.2 ∙ ap new_key (place-injective key_keys 1 (polygons_in_order county steps) k.0 j.0 (known k.0 k.1) (known j.0 j.1) places)
+          let places : place_from key_keys 1 (polygons_in_order county arrangement) k.0 ≡ place_from key_keys 1
+          (polygons_in_order county arrangement) j.0 = sym (ap (λ (i : PolygonKey). i.1) k.2) ∙ e ∙ ap (λ (i : PolygonKey). i.1) j.2 in
+          k.2 ∙ ap new_key (place-injective key_keys 1 (polygons_in_order county arrangement) k.0 j.0 (known k.0 k.1) (known j.0 j.1) places)
           ∙ sym j.2
 
-  on_sides : AllKeysStandIn (polygons_along (arranged county steps).chains) (polygon_keys (arranged county steps))
-  on_sides = each_from (λ k. IsTrue (stands_in key_cmp k (polygons_along (arranged county steps).chains)))
-      (polygon_keys (arranged county steps))
-      (λ k m. let old = among-unmap (image key_cmp (renaming_of county steps).polygons) k (polygon_keys county)
-      (among-permutation k (polygon_keys (arranged county steps))
-      (map (image key_cmp (renaming_of county steps).polygons) (polygon_keys county))
-      (IsPermutation-sym (map (image key_cmp (renaming_of county steps).polygons) (polygon_keys county))
-      (polygon_keys (arranged county steps)) (keys_arranged county steps is arranges sides)) m) in
+  on_sides : AllKeysStandIn (polygons_along (arranged county arrangement).chains) (polygon_keys (arranged county arrangement))
+  on_sides = each_from (λ k. IsTrue (stands_in key_cmp k (polygons_along (arranged county arrangement).chains)))
+      (polygon_keys (arranged county arrangement))
+      (λ k m. let old = among-unmap (image key_cmp (renaming_of county arrangement).polygons) k (polygon_keys county)
+      (among-permutation k (polygon_keys (arranged county arrangement))
+      (map (image key_cmp (renaming_of county arrangement).polygons) (polygon_keys county))
+      (IsPermutation-sym (map (image key_cmp (renaming_of county arrangement).polygons) (polygon_keys county))
+      (polygon_keys (arranged county arrangement)) (keys_arranged county arrangement is arranges sides)) m) in
       let listed : Known key_cmp (polygon_keys county) old.0 = among_known key_keys old.0 (polygon_keys county) old.1 in
       let there : Known key_cmp along old.0 =
-      polygons_to_placed county steps is arranges old.0
+      polygons_to_placed county arrangement is arranges old.0
       (ltb-true 0 (times key_cmp old.0 (polygons_along county.chains))
       (known_all key_keys (λ j. IsTrue (stands_in key_cmp j (polygons_along county.chains)))
       (polygon_keys county) sides old.0 listed)) in
       let new : Among k (map new_key along) =
       subst (λ i. Among i (map new_key along)) (sym (old.2 ∙ image_new old.0 there))
       (among-map new_key old.0 along (known_is_among key_keys old.0 along there)) in
-      lt-ltb 0 (times key_cmp k (polygons_along (arranged county steps).chains))
-      (among_known key_keys k (polygons_along (arranged county steps).chains) (subst (Among k) (sym polygons_are) new)))
+      lt-ltb 0 (times key_cmp k (polygons_along (arranged county arrangement).chains))
+      (among_known key_keys k (polygons_along (arranged county arrangement).chains) (subst (Among k) (sym polygons_are) new)))
 
   -- names keep their uses
   name_injective : (n m : ℕ) → Known nat_cmp (feats county) n → Known nat_cmp (feats county) m
-      → image nat_cmp (renaming_of county steps).names n ≡ image nat_cmp (renaming_of county steps).names m → n ≡ m
-  name_injective n m k l = image-injective nat_keys (renaming_of county steps).names n m
-      (apart-permutation nat_keys (rights (renaming_of county steps).names) (feats (arranged county steps)) h.numbers.names.right
-      (subst (IsApart nat_cmp) (sym (feats_arranged county steps is arranges))
-      (apart_from_sorted nat_keys (up_to (length (names_in_order county steps)))
-      (up_to-strict (length (names_in_order county steps))))))
-      (known-permutation nat_keys n (lefts (renaming_of county steps).names) (feats county) h.numbers.names.left k)
-      (known-permutation nat_keys m (lefts (renaming_of county steps).names) (feats county) h.numbers.names.left l)
+      → image nat_cmp (renaming_of county arrangement).names n ≡ image nat_cmp (renaming_of county arrangement).names m → n ≡ m
+  name_injective n m k l = image-injective nat_keys (renaming_of county arrangement).names n m
+      (apart-permutation nat_keys (rights (renaming_of county arrangement).names) (feats (arranged county arrangement)) h.numbers.names.right
+      (subst (IsApart nat_cmp) (sym (feats_arranged county arrangement is arranges))
+      (apart_from_sorted nat_keys (up_to (length (names_in_order county arrangement)))
+      (up_to-strict (length (names_in_order county arrangement))))))
+      (known-permutation nat_keys n (lefts (renaming_of county arrangement).names) (feats county) h.numbers.names.left k)
+      (known-permutation nat_keys m (lefts (renaming_of county arrangement).names) (feats county) h.numbers.names.left l)
 
-  uses_known : AllByRecursion (λ u. Known nat_cmp (feats county) u.1) (all_uses (placed county steps))
-  uses_known = all_uses-all (Known nat_cmp (feats county)) (placed county steps)
-      (each_from (λ e. AllByRecursion (Known nat_cmp (feats county)) e.1.feats) (placed county steps)
-      (λ e m. let o = from_placed county steps is arranges e m in
+  uses_known : AllByRecursion (λ u. Known nat_cmp (feats county) u.1) (all_uses (placed county arrangement))
+  uses_known = all_uses-all (Known nat_cmp (feats county)) (placed county arrangement)
+      (each_from (λ e. AllByRecursion (Known nat_cmp (feats county)) e.1.feats) (placed county arrangement)
+      (λ e m. let o = from_placed county arrangement is arranges e m in
       let same : e.1.feats ≡ o.0.1.feats = ap (λ (c : Chain). c.feats) o.2.1 ∙ feats-turned o.2.0 o.0.1 in
       subst (AllByRecursion (Known nat_cmp (feats county))) (sym same)
       (all_weaker (λ n. IsTrue (stands_in nat_cmp n (feats county))) (Known nat_cmp (feats county))
@@ -189,104 +189,104 @@ module _ (county : County) (steps : Arrangement) (is : IsCounty county) (arrange
       (all_among (λ d. AllStandIn (feats county) d.1.feats) o.0 county.chains is.closed.names o.1))))
 
   uses_kept : (n : ℕ) → Known nat_cmp (feats county) n
-      → uses_of_name (all_uses (arranged county steps).chains) (image nat_cmp (renaming_of county steps).names n) ≡ uses_of_name
-      (all_uses (placed county steps)) n
+      → uses_of_name (all_uses (arranged county arrangement).chains) (image nat_cmp (renaming_of county arrangement).names n) ≡ uses_of_name
+      (all_uses (placed county arrangement)) n
   uses_kept n k =
-      ap (λ us. uses_of_name us (image nat_cmp (renaming_of county steps).names n)) (ap all_uses (chains_arranged county steps is arranges)
-      ∙ all_uses-kept (renaming_of county steps) (placed county steps))
-      ∙ uses_of-renamed (image nat_cmp (renaming_of county steps).names) (Known nat_cmp (feats county)) name_injective
-      (all_uses (placed county steps)) uses_known n k
+      ap (λ us. uses_of_name us (image nat_cmp (renaming_of county arrangement).names n)) (ap all_uses (chains_arranged county arrangement is arranges)
+      ∙ all_uses-kept (renaming_of county arrangement) (placed county arrangement))
+      ∙ uses_of-renamed (image nat_cmp (renaming_of county arrangement).names) (Known nat_cmp (feats county)) name_injective
+      (all_uses (placed county arrangement)) uses_known n k
 
-  names_ordered : IsInOrder (on (name_key (all_uses (arranged county steps).chains)) name_key_cmp) (arranged county steps).names
+  names_ordered : IsInOrder (on (name_key (all_uses (arranged county arrangement).chains)) name_key_cmp) (arranged county arrangement).names
   names_ordered =
-      let by : ℕ × Body5 → ℕ × Body5 → Ordering = on (name_key (all_uses (placed county steps))) name_key_cmp in
-      subst (IsInOrder (on (name_key (all_uses (arranged county steps).chains)) name_key_cmp))
-      (sym (names_arranged county steps is arranges))
-      (in_order-kept name_key_cmp (name_key (all_uses (placed county steps))) (name_key (all_uses (arranged county steps).chains))
-      (carried_name (renaming_of county steps)) (names_in_order county steps)
-      (all-in_order (λ e. name_key (all_uses (arranged county steps).chains) (carried_name (renaming_of county steps) e) ≡ name_key
-      (all_uses (placed county steps)) e) by county.names
+      let by : ℕ × Body5 → ℕ × Body5 → Ordering = on (name_key (all_uses (placed county arrangement))) name_key_cmp in
+      subst (IsInOrder (on (name_key (all_uses (arranged county arrangement).chains)) name_key_cmp))
+      (sym (names_arranged county arrangement is arranges))
+      (in_order-kept name_key_cmp (name_key (all_uses (placed county arrangement))) (name_key (all_uses (arranged county arrangement).chains))
+      (carried_name (renaming_of county arrangement)) (names_in_order county arrangement)
+      (all-in_order (λ e. name_key (all_uses (arranged county arrangement).chains) (carried_name (renaming_of county arrangement) e) ≡ name_key
+      (all_uses (placed county arrangement)) e) by county.names
       (all_weaker (λ e. Known nat_cmp (feats county) e.0)
-      (λ e. name_key (all_uses (arranged county steps).chains) (carried_name (renaming_of county steps) e) ≡ name_key
-      (all_uses (placed county steps)) e) (λ e k i. (e.1, uses_kept e.0 k i)) county.names (keys_known nat_keys county.names)))
-      (in_order-in_order (on_total (name_key (all_uses (placed county steps))) name_key_keys.total) county.names))
+      (λ e. name_key (all_uses (arranged county arrangement).chains) (carried_name (renaming_of county arrangement) e) ≡ name_key
+      (all_uses (placed county arrangement)) e) (λ e k i. (e.1, uses_kept e.0 k i)) county.names (keys_known nat_keys county.names)))
+      (in_order-in_order (on_total (name_key (all_uses (placed county arrangement))) name_key_keys.total) county.names))
 
   -- landmarks keep their links
   land_injective : (n m : ℕ) → Known nat_cmp (lands county) n → Known nat_cmp (lands county) m
-      → image nat_cmp (renaming_of county steps).lands n ≡ image nat_cmp (renaming_of county steps).lands m → n ≡ m
-  land_injective n m k l = image-injective nat_keys (renaming_of county steps).lands n m
-      (apart-permutation nat_keys (rights (renaming_of county steps).lands) (lands (arranged county steps)) h.numbers.lands.right
-      (subst (IsApart nat_cmp) (sym (lands_arranged county steps is arranges))
-      (apart_from_sorted nat_keys (up_to (length (landmarks_in_order county steps)))
-      (up_to-strict (length (landmarks_in_order county steps))))))
-      (known-permutation nat_keys n (lefts (renaming_of county steps).lands) (lands county) h.numbers.lands.left k)
-      (known-permutation nat_keys m (lefts (renaming_of county steps).lands) (lands county) h.numbers.lands.left l)
+      → image nat_cmp (renaming_of county arrangement).lands n ≡ image nat_cmp (renaming_of county arrangement).lands m → n ≡ m
+  land_injective n m k l = image-injective nat_keys (renaming_of county arrangement).lands n m
+      (apart-permutation nat_keys (rights (renaming_of county arrangement).lands) (lands (arranged county arrangement)) h.numbers.lands.right
+      (subst (IsApart nat_cmp) (sym (lands_arranged county arrangement is arranges))
+      (apart_from_sorted nat_keys (up_to (length (landmarks_in_order county arrangement)))
+      (up_to-strict (length (landmarks_in_order county arrangement))))))
+      (known-permutation nat_keys n (lefts (renaming_of county arrangement).lands) (lands county) h.numbers.lands.left k)
+      (known-permutation nat_keys m (lefts (renaming_of county arrangement).lands) (lands county) h.numbers.lands.left l)
 
   abbrev f_land : ℕ → ℕ
-  f_land = image nat_cmp (renaming_of county steps).lands
+  f_land = image nat_cmp (renaming_of county arrangement).lands
 
   abbrev relinks : List Fields8
-  relinks = map (relinked (new_keys county steps)) county.links
+  relinks = map (relinked (new_keys county arrangement)) county.links
 
-  links_carried : map (carried_link (renaming_of county steps)) county.links ≡ map (relanded f_land) relinks
+  links_carried : map (carried_link (renaming_of county arrangement)) county.links ≡ map (relanded f_land) relinks
   links_carried = ap (λ pairs. map (λ (l : Fields8). record {
     file = l.file;
     cenid = (image key_cmp pairs (l.cenid, l.polyid)).0;
     polyid =
         (image key_cmp pairs (l.cenid, l.polyid)).1;
     land = f_land l.land;
-  }) county.links) (polygons_renamed county steps is arranges)
-      ∙ sym (map-map (relanded f_land) (relinked (new_keys county steps)) county.links)
+  }) county.links) (polygons_renamed county arrangement is arranges)
+      ∙ sym (map-map (relanded f_land) (relinked (new_keys county arrangement)) county.links)
 
-  links_permutation : IsPermutation (map (relanded f_land) relinks) (arranged county steps).links
-  links_permutation = subst (λ ls. IsPermutation ls (arranged county steps).links) links_carried h.links
+  links_permutation : IsPermutation (map (relanded f_land) relinks) (arranged county arrangement).links
+  links_permutation = subst (λ ls. IsPermutation ls (arranged county arrangement).links) links_carried h.links
 
   relinks_known : AllByRecursion (λ (l : Fields8). Known nat_cmp (lands county) l.land) relinks
-  relinks_known = all_map (λ (l : Fields8). Known nat_cmp (lands county) l.land) (relinked (new_keys county steps)) county.links
+  relinks_known = all_map (λ (l : Fields8). Known nat_cmp (lands county) l.land) (relinked (new_keys county arrangement)) county.links
       (all_weaker (λ (l : Fields8). IsTrue (stands_in nat_cmp l.land (lands county))) (λ l. Known nat_cmp (lands county) l.land)
       (λ l t. ltb-true 0 (times nat_cmp l.land (lands county)) t) county.links is.closed.link_lands)
 
-  links_ordered : IsInOrder link_cmp (arranged county steps).links
-  links_ordered = subst (IsInOrder link_cmp) (sym (links_arranged county steps is arranges))
-      (in_order-in_order link_keys.total (map (carried_link (renaming_of county steps)) county.links))
+  links_ordered : IsInOrder link_cmp (arranged county arrangement).links
+  links_ordered = subst (IsInOrder link_cmp) (sym (links_arranged county arrangement is arranges))
+      (in_order-in_order link_keys.total (map (carried_link (renaming_of county arrangement)) county.links))
 
   links_kept : (n : ℕ) → Known nat_cmp (lands county) n
-      → links_of (arranged county steps).links (f_land n) ≡ links_of (links_relinked county steps) n
-  links_kept n d = in_order-equal link_part_keys (links_of (arranged county steps).links (f_land n))
-      (links_of (links_relinked county steps) n)
-      (links_of-in_order (arranged county steps).links links_ordered (f_land n))
-      (links_of-in_order (links_relinked county steps) (in_order-in_order link_keys.total relinks) n)
-      (λ k. times-links (arranged county steps).links (f_land n) k
-      ∙ sym (count-permutation (is_link (f_land n) k) (map (relanded f_land) relinks) (arranged county steps).links links_permutation)
+      → links_of (arranged county arrangement).links (f_land n) ≡ links_of (links_relinked county arrangement) n
+  links_kept n d = in_order-equal link_part_keys (links_of (arranged county arrangement).links (f_land n))
+      (links_of (links_relinked county arrangement) n)
+      (links_of-in_order (arranged county arrangement).links links_ordered (f_land n))
+      (links_of-in_order (links_relinked county arrangement) (in_order-in_order link_keys.total relinks) n)
+      (λ k. times-links (arranged county arrangement).links (f_land n) k
+      ∙ sym (count-permutation (is_link (f_land n) k) (map (relanded f_land) relinks) (arranged county arrangement).links links_permutation)
       ∙ count-relanded f_land (Known nat_cmp (lands county)) land_injective relinks relinks_known n d k
-      ∙ sym (count-permutation (is_link n k) (links_relinked county steps) relinks (in_order-is_permutation link_cmp relinks))
-      ∙ sym (times-links (links_relinked county steps) n k))
+      ∙ sym (count-permutation (is_link n k) (links_relinked county arrangement) relinks (in_order-is_permutation link_cmp relinks))
+      ∙ sym (times-links (links_relinked county arrangement) n k))
 
-  landmarks_ordered : IsInOrder (on (landmark_key (arranged county steps).links) landmark_key_cmp) (arranged county steps).landmarks
+  landmarks_ordered : IsInOrder (on (landmark_key (arranged county arrangement).links) landmark_key_cmp) (arranged county arrangement).landmarks
   landmarks_ordered =
-      let by : ℕ × List Body7 → ℕ × List Body7 → Ordering = on (landmark_key (links_relinked county steps)) landmark_key_cmp in
-      subst (IsInOrder (on (landmark_key (arranged county steps).links) landmark_key_cmp))
-      (sym (landmarks_arranged county steps is arranges))
-      (in_order-kept landmark_key_cmp (landmark_key (links_relinked county steps)) (landmark_key (arranged county steps).links)
-      (carried_landmark (renaming_of county steps)) (landmarks_in_order county steps)
-      (all-in_order (λ e. landmark_key (arranged county steps).links (carried_landmark (renaming_of county steps) e) ≡ landmark_key
-      (links_relinked county steps) e) by county.landmarks
+      let by : ℕ × List Body7 → ℕ × List Body7 → Ordering = on (landmark_key (links_relinked county arrangement)) landmark_key_cmp in
+      subst (IsInOrder (on (landmark_key (arranged county arrangement).links) landmark_key_cmp))
+      (sym (landmarks_arranged county arrangement is arranges))
+      (in_order-kept landmark_key_cmp (landmark_key (links_relinked county arrangement)) (landmark_key (arranged county arrangement).links)
+      (carried_landmark (renaming_of county arrangement)) (landmarks_in_order county arrangement)
+      (all-in_order (λ e. landmark_key (arranged county arrangement).links (carried_landmark (renaming_of county arrangement) e) ≡ landmark_key
+      (links_relinked county arrangement) e) by county.landmarks
       (all_weaker (λ e. Known nat_cmp (lands county) e.0)
-      (λ e. landmark_key (arranged county steps).links (carried_landmark (renaming_of county steps) e) ≡ landmark_key
-      (links_relinked county steps) e) (λ e k i. (e.1, links_kept e.0 k i)) county.landmarks (keys_known nat_keys county.landmarks)))
-      (in_order-in_order (on_total (landmark_key (links_relinked county steps)) landmark_key_keys.total) county.landmarks))
+      (λ e. landmark_key (arranged county arrangement).links (carried_landmark (renaming_of county arrangement) e) ≡ landmark_key
+      (links_relinked county arrangement) e) (λ e k i. (e.1, links_kept e.0 k i)) county.landmarks (keys_known nat_keys county.landmarks)))
+      (in_order-in_order (on_total (landmark_key (links_relinked county arrangement)) landmark_key_keys.total) county.landmarks))
 
-  pub is_arranged : IsArranged (arranged county steps)
+  pub is_arranged : IsArranged (arranged county arrangement)
   is_arranged = record {
-    tlids = tlids_arranged county steps is arranges
-        ∙ ap up_to (sym (ap length (chains_arranged county steps is arranges)
-        ∙ length-map (placed county steps) (kept_entry (renaming_of county steps)) ∙ chain_count county steps is arranges));
-    feats = feats_arranged county steps is arranges
-        ∙ ap up_to (sym (ap length (names_arranged county steps is arranges)
-        ∙ length-map (names_in_order county steps) (carried_name (renaming_of county steps))));
-    lands = lands_arranged county steps is arranges
-        ∙ ap up_to (sym (ap length (landmarks_arranged county steps is arranges)
-        ∙ length-map (landmarks_in_order county steps) (carried_landmark (renaming_of county steps))));
+    tlids = tlids_arranged county arrangement is arranges
+        ∙ ap up_to (sym (ap length (chains_arranged county arrangement is arranges)
+        ∙ length-map (placed county arrangement) (kept_entry (renaming_of county arrangement)) ∙ chain_count county arrangement is arranges));
+    feats = feats_arranged county arrangement is arranges
+        ∙ ap up_to (sym (ap length (names_arranged county arrangement is arranges)
+        ∙ length-map (names_in_order county arrangement) (carried_name (renaming_of county arrangement))));
+    lands = lands_arranged county arrangement is arranges
+        ∙ ap up_to (sym (ap length (landmarks_arranged county arrangement is arranges)
+        ∙ length-map (landmarks_in_order county arrangement) (carried_landmark (renaming_of county arrangement))));
     nodes = nodes_grow;
     polygons = polygons_grow;
     one_cenid = one_cenid;
@@ -296,55 +296,55 @@ module _ (county : County) (steps : Arrangement) (is : IsCounty county) (arrange
   }
 
   -- the new keys are distinct, since no two have the same number
-  keys_apart : IsApart key_cmp (polygon_keys (arranged county steps))
+  keys_apart : IsApart key_cmp (polygon_keys (arranged county arrangement))
   keys_apart k =
-      let new : List PolygonKey = rights (renaming_of county steps).polygons in
-      let numbers : map (λ (i : PolygonKey). i.1) new ≡ up_to (length (polygons_in_order county steps)) =
+      let new : List PolygonKey = rights (renaming_of county arrangement).polygons in
+      let numbers : map (λ (i : PolygonKey). i.1) new ≡ up_to (length (polygons_in_order county arrangement)) =
       ap (λ (pairs : List (PolygonKey × PolygonKey)). map (λ (i : PolygonKey). i.1) (rights pairs))
-      (polygons_renamed county steps is arranges)
+      (polygons_renamed county arrangement is arranges)
       ∙ ap (map (λ (i : PolygonKey). i.1)) (map-map (λ (pair : PolygonKey × PolygonKey). pair.1) under_cenid
-      (numbered (polygons_in_order county steps)))
-      ∙ map-map (λ (i : PolygonKey). i.1) (λ (pair : PolygonKey × ℕ). (pair.0.0, pair.1)) (numbered (polygons_in_order county steps))
-      ∙ rights-numbered (polygons_in_order county steps) in
+      (numbered (polygons_in_order county arrangement)))
+      ∙ map-map (λ (i : PolygonKey). i.1) (λ (pair : PolygonKey × ℕ). (pair.0.0, pair.1)) (numbered (polygons_in_order county arrangement))
+      ∙ rights-numbered (polygons_in_order county arrangement) in
       let few : times nat_cmp k.1 (map (λ (i : PolygonKey). i.1) new) ≤ 1 =
       subst (IsApart nat_cmp) (sym numbers)
-      (apart_from_sorted nat_keys (up_to (length (polygons_in_order county steps)))
-      (up_to-strict (length (polygons_in_order county steps)))) k.1 in
+      (apart_from_sorted nat_keys (up_to (length (polygons_in_order county arrangement)))
+      (up_to-strict (length (polygons_in_order county arrangement)))) k.1 in
       let stated : times key_cmp k new ≤ times nat_cmp k.1 (map (λ (i : PolygonKey). i.1) new) =
       times-stated key_keys nat_keys (λ (i : PolygonKey). i.1) k new in
-      let same : times key_cmp k (polygon_keys (arranged county steps)) ≡ times key_cmp k new =
-      times-permutation key_keys k new (polygon_keys (arranged county steps)) h.numbers.polygons.right in
+      let same : times key_cmp k (polygon_keys (arranged county arrangement)) ≡ times key_cmp k new =
+      times-permutation key_keys k new (polygon_keys (arranged county arrangement)) h.numbers.polygons.right in
       omega arith
 
-  arranged_ascending : IsAscending (arranged county steps)
+  arranged_ascending : IsAscending (arranged county arrangement)
   arranged_ascending = record {
-    chains = subst (IsStrictlySortedBy nat_cmp) (sym (tlids_arranged county steps is arranges))
-        (up_to-strict (length (arranged_tlids steps)));
-    names = subst (IsStrictlySortedBy nat_cmp) (sym (feats_arranged county steps is arranges))
-        (up_to-strict (length (names_in_order county steps)));
-    polygons = strict_from_order key_keys (polygon_keys (arranged county steps))
+    chains = subst (IsStrictlySortedBy nat_cmp) (sym (tlids_arranged county arrangement is arranges))
+        (up_to-strict (length (arranged_tlids arrangement)));
+    names = subst (IsStrictlySortedBy nat_cmp) (sym (feats_arranged county arrangement is arranges))
+        (up_to-strict (length (names_in_order county arrangement)));
+    polygons = strict_from_order key_keys (polygon_keys (arranged county arrangement))
         (subst (λ (es : List (PolygonKey × Option BodyP)). IsInOrder key_cmp (map (λ (e : PolygonKey × Option BodyP). e.0) es))
-        (sym (polygons_arranged county steps is arranges))
+        (sym (polygons_arranged county arrangement is arranges))
         (in_order-map key_cmp (λ (e : PolygonKey × Option BodyP). e.0)
         (in_order (on (λ (e : PolygonKey × Option BodyP). e.0) key_cmp)
-        (map (carried_polygon (renaming_of county steps)) county.polygons))
+        (map (carried_polygon (renaming_of county arrangement)) county.polygons))
         (in_order-in_order (on_total (λ (e : PolygonKey × Option BodyP). e.0) key_keys.total)
-        (map (carried_polygon (renaming_of county steps)) county.polygons))))
+        (map (carried_polygon (renaming_of county arrangement)) county.polygons))))
         keys_apart;
-    landmarks = subst (IsStrictlySortedBy nat_cmp) (sym (lands_arranged county steps is arranges))
-        (up_to-strict (length (landmarks_in_order county steps)));
+    landmarks = subst (IsStrictlySortedBy nat_cmp) (sym (lands_arranged county arrangement is arranges))
+        (up_to-strict (length (landmarks_in_order county arrangement)));
     bodies = subst (AllByRecursion (λ (e : ℕ × List Body7). IsInOrder landmark_body_cmp e.1))
-        (sym (landmarks_arranged county steps is arranges))
-        (all_map (λ (e : ℕ × List Body7). IsInOrder landmark_body_cmp e.1) (carried_landmark (renaming_of county steps))
-        (landmarks_in_order county steps)
+        (sym (landmarks_arranged county arrangement is arranges))
+        (all_map (λ (e : ℕ × List Body7). IsInOrder landmark_body_cmp e.1) (carried_landmark (renaming_of county arrangement))
+        (landmarks_in_order county arrangement)
         (all-in_order (λ (e : ℕ × List Body7). IsInOrder landmark_body_cmp e.1)
-        (on (landmark_key (links_relinked county steps)) landmark_key_cmp) county.landmarks is.ascending.bodies));
+        (on (landmark_key (links_relinked county arrangement)) landmark_key_cmp) county.landmarks is.ascending.bodies));
     links = links_ordered;
   }
 
-  pub arranged_county : IsCounty (arranged county steps)
+  pub arranged_county : IsCounty (arranged county arrangement)
   arranged_county = record {
     ascending = arranged_ascending;
-    closed = carried_closed (renaming_of county steps) county (arranged county steps) h is.closed;
-    whole = carried_whole (renaming_of county steps) county (arranged county steps) h is.whole;
+    closed = carried_closed (renaming_of county arrangement) county (arranged county arrangement) h is.closed;
+    whole = carried_whole (renaming_of county arrangement) county (arranged county arrangement) h is.whole;
   }

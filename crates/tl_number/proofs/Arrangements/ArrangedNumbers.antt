@@ -20,7 +20,7 @@ use Rattle.ordered_lists.specs.Orders.{times, stands_in}
 use Rattle.tl_county.specs.Packing.{packed_one, packed_five, packed_sevens, packed_by_type, packed}
 use Rattle.tl_county.specs.PolygonKeys.{PolygonKey, key_cmp, key_on, key_under}
 use Rattle.tl_county.specs.Renumbering.{Carries}
-use Rattle.tl_county.proofs.Limits.CarriedLimits.{carried_contents, carried_room, carried_counts}
+use Rattle.tl_county.proofs.Limits.CarriedLimits.{carried_contents, carried_lists, carried_counts}
 use Rattle.tl_county.proofs.Limits.FitsCounty.{county_counts, county-within_limits}
 use Rattle.tl_county.proofs.Limits.FitsPacked.{packed-fits}
 use Rattle.tl_county.specs.Laws.KeyOrders.{key_keys}
@@ -176,39 +176,39 @@ module _ (county : County) (is : IsCounty county) (in_form : IsArranged county)
   }
 
 -- the county of any arrangement is within the limits of its source county
-module _ (limit : ℕ) (low : limit ≤ most_records) (county : County) (is : IsCounty county) (steps : Arrangement)
-    (arranges : Arranges steps county) (sides : AllKeysStandIn (polygons_along county.chains) (polygon_keys county))
+module _ (limit : ℕ) (low : limit ≤ most_records) (county : County) (is : IsCounty county) (arrangement : Arrangement)
+    (arranges : Arranges arrangement county) (sides : AllKeysStandIn (polygons_along county.chains) (polygon_keys county))
     (within : IsWithinLimits limit county) where
-  new_is_county : IsCounty (arranged county steps)
-  new_is_county = arranged_county county steps is arranges sides
+  new_is_county : IsCounty (arranged county arrangement)
+  new_is_county = arranged_county county arrangement is arranges sides
 
-  carries : Carries (renaming_of county steps) county (arranged county steps)
-  carries = arrangement_carries county steps is arranges sides
+  carries : Carries (renaming_of county arrangement) county (arranged county arrangement)
+  carries = arrangement_carries county arrangement is arranges sides
 
-  counts : HasAtMost limit (packed_by_type (arranged county steps))
-  counts = carried_counts (renaming_of county steps) county (arranged county steps) carries (λ _. limit)
+  counts : HasAtMost limit (packed_by_type (arranged county arrangement))
+  counts = carried_counts (renaming_of county arrangement) county (arranged county arrangement) carries (λ _. limit)
       (subst (HasAtMost limit) (by_type_of (packed_by_type county)) (by_type_within limit (packed county) within.counts))
 
-  pub arrangement_small : NumbersSmall (arranged county steps)
+  pub arrangement_small : NumbersSmall (arranged county arrangement)
   arrangement_small =
-      let ones : length (map packed_one (arranged county steps).chains) ≤ limit = counts.of_type_1 in
-      let fives : length (map packed_five (arranged county steps).names) ≤ limit = counts.of_type_5 in
-      let sevens : length (flat_map packed_sevens (arranged county steps).landmarks) ≤ limit = counts.of_type_7 in
-      let some : length (arranged county steps).landmarks ≤ length (flat_map packed_sevens (arranged county steps).landmarks) =
-      long_joined packed_sevens (arranged county steps).landmarks
+      let ones : length (map packed_one (arranged county arrangement).chains) ≤ limit = counts.of_type_1 in
+      let fives : length (map packed_five (arranged county arrangement).names) ≤ limit = counts.of_type_5 in
+      let sevens : length (flat_map packed_sevens (arranged county arrangement).landmarks) ≤ limit = counts.of_type_7 in
+      let some : length (arranged county arrangement).landmarks ≤ length (flat_map packed_sevens (arranged county arrangement).landmarks) =
+      long_joined packed_sevens (arranged county arrangement).landmarks
       (all_weaker (λ (e : ℕ × List Body7). 1 ≤ length e.1) (λ e. 1 ≤ length (packed_sevens e))
       (λ e one. subst (λ n. 1 ≤ n) (sym (length-map e.1 (λ body. record { land = e.0; body = body }))) one)
-      (arranged county steps).landmarks new_is_county.whole.bodies) in
-      arranged_numbers_small (arranged county steps) new_is_county (is_arranged county steps is arranges sides)
-      (omega (arith, ones, length-map (arranged county steps).chains packed_one, low))
-      (omega (arith, fives, length-map (arranged county steps).names packed_five, low)) (omega (arith, sevens, some, low))
+      (arranged county arrangement).landmarks new_is_county.whole.bodies) in
+      arranged_numbers_small (arranged county arrangement) new_is_county (is_arranged county arrangement is arranges sides)
+      (omega (arith, ones, length-map (arranged county arrangement).chains packed_one, low))
+      (omega (arith, fives, length-map (arranged county arrangement).names packed_five, low)) (omega (arith, sevens, some, low))
 
-  pub arrangement_within : IsWithinLimits limit (arranged county steps)
+  pub arrangement_within : IsWithinLimits limit (arranged county arrangement)
   arrangement_within = record {
-    contents = carried_contents (renaming_of county steps) county (arranged county steps) carries within.contents;
-    numbers = small_numbers_fit (arranged county steps) arrangement_small;
-    room = carried_room (renaming_of county steps) county (arranged county steps) carries within.room;
-    counts = packed_within limit (arranged county steps) counts;
+    contents = carried_contents (renaming_of county arrangement) county (arranged county arrangement) carries within.contents;
+    numbers = small_numbers_fit (arranged county arrangement) arrangement_small;
+    lists = carried_lists (renaming_of county arrangement) county (arranged county arrangement) carries within.lists;
+    counts = packed_within limit (arranged county arrangement) counts;
   }
 
 -- a canonical list of what a view shows of an accepted list
@@ -224,16 +224,16 @@ module _ (seen : County → County) (sight : IsSight seen) (records : List Recor
 
   module _ (canonical : List Record) (h : IsCanonicalThrough seen records canonical) where
     -- it is the list of a choice
-    made : (steps : Arrangement) × IsLeastChoice old steps × (canonical ≡ arranged_list old steps)
+    made : (arrangement : Arrangement) × IsLeastChoice old arrangement × (canonical ≡ arranged_list old arrangement)
     made = canonical_is_choice old old_is_county old_sides canonical h.canonical h.same
 
-    abbrev steps : Arrangement
-    steps = made.0
+    abbrev arrangement : Arrangement
+    arrangement = made.0
 
     abbrev new : County
-    new = arranged old steps
+    new = arranged old arrangement
 
-    arranges : Arranges steps old
+    arranges : Arranges arrangement old
     arranges = made.1.choice.arranges
 
     -- it has at most as many records of each type as the packing of what the view shows
@@ -241,7 +241,7 @@ module _ (seen : County → County) (sight : IsSight seen) (records : List Recor
     counts_kept limits few =
         subst (KeepsLimits limits) (sym made.2)
         (packed_keeps limits new
-        (carried_counts (renaming_of old steps) old new (arrangement_carries old steps old_is_county arranges old_sides) limits few))
+        (carried_counts (renaming_of old arrangement) old new (arrangement_carries old arrangement old_is_county arranges old_sides) limits few))
 
     -- and so at most as many as the list, if the view takes no more records than the county
     pub canonical_counts : ShowsNoMore seen → AllByRecursion FitsRecord records → (rtype : ℕ)
@@ -259,14 +259,14 @@ module _ (seen : County → County) (sight : IsSight seen) (records : List Recor
 
       -- the arranged county is within the limits of the original records
       arranged_within : IsWithinLimits limit new
-      arranged_within = arrangement_within limit low old old_is_county steps arranges old_sides within_limits
+      arranged_within = arrangement_within limit low old old_is_county arrangement arranges old_sides within_limits
 
       -- the canonical list keeps the limits
       pub canonical_within : AllByRecursion FitsRecord canonical × IsWithinLimit limit canonical
       canonical_within =
-          let whole : IsCounty new = arranged_county old steps old_is_county arranges old_sides in
+          let whole : IsCounty new = arranged_county old arrangement old_is_county arranges old_sides in
           subst (λ (l : List Record). AllByRecursion FitsRecord l × IsWithinLimit limit l) (sym made.2) (
-            packed-fits new whole.whole arranged_within.contents arranged_within.numbers arranged_within.room,
+            packed-fits new whole.whole arranged_within.contents arranged_within.numbers arranged_within.lists,
             arranged_within.counts,
           )
 
@@ -274,4 +274,4 @@ module _ (seen : County → County) (sight : IsSight seen) (records : List Recor
       pub canonical_low : AllByRecursion (λ r. AllByRecursion (λ n. n ≤ greatest_number) (numbers_of r)) canonical
       canonical_low =
           subst (λ (l : List Record). AllByRecursion (λ r. AllByRecursion (λ n. n ≤ greatest_number) (numbers_of r)) l) (sym made.2)
-          (packed_low new (arrangement_small limit low old old_is_county steps arranges old_sides within_limits))
+          (packed_low new (arrangement_small limit low old old_is_county arrangement arranges old_sides within_limits))

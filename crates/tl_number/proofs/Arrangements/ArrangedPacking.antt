@@ -34,13 +34,13 @@ use Rattle.tl_number.specs.Growth.{up_to}
 use Rattle.tl_number.specs.ArrangedCounty.{IsArranged}
 
 -- pieces except the last are full
-full_pieces : {X : Type 0} (n room : ℕ) (xs : List X) → 1 ≤ n → length xs ≤ room → AreFull n (pieces n room xs)
+full_pieces : {X : Type 0} (n most : ℕ) (xs : List X) → 1 ≤ n → length xs ≤ most → AreFull n (pieces n most xs)
 full_pieces n zero [] one h = tt
-full_pieces n (suc room) [] one h = tt
+full_pieces n (suc most) [] one h = tt
 full_pieces n zero (x ∷ xs) one h = absurd (omega arith)
-full_pieces {X} n (suc room) (x ∷ xs) one h =
-    go room (drop n (x ∷ xs)) (length-drop n (x ∷ xs)) (length-take n (x ∷ xs)) (omega (arith, length-drop n (x ∷ xs)))
-    (full_pieces n room (drop n (x ∷ xs)) one (omega (arith, length-drop n (x ∷ xs))))
+full_pieces {X} n (suc most) (x ∷ xs) one h =
+    go most (drop n (x ∷ xs)) (length-drop n (x ∷ xs)) (length-take n (x ∷ xs)) (omega (arith, length-drop n (x ∷ xs)))
+    (full_pieces n most (drop n (x ∷ xs)) one (omega (arith, length-drop n (x ∷ xs))))
   where
     go : (left : ℕ) (rest : List X) → length rest ≡ length (x ∷ xs) - n → length (take n (x ∷ xs)) ≡ min n (length (x ∷ xs))
         → length rest ≤ left → AreFull n (pieces n left rest) → AreFull n (take n (x ∷ xs) ∷ pieces n left rest)

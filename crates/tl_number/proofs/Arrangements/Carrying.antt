@@ -40,7 +40,7 @@ use Rattle.tl_number.specs.Uses.{all_uses, name_key, name_key_cmp, landmark_key,
 use Rattle.tl_number.proofs.Lists.Counting.{up_to-strict}
 use Rattle.tl_county.proofs.Packing.Pieces.{rights-numbered_from}
 use Rattle.tl_number.proofs.Numbering.FirstSeen.{first_seen-apart, from_first_seen, to_first_seen}
-use Rattle.tl_number.proofs.Arrangements.Placed.{lefts-numbered, rights-numbered, steps_apart, order-permutation, placed_tlids, carried_placed}
+use Rattle.tl_number.proofs.Arrangements.Placed.{lefts-numbered, rights-numbered, arrangement_apart, order-permutation, placed_tlids, carried_placed}
 use Rattle.tl_number.proofs.Arrangements.Placed.{turned_apart, turned_known}
 use Rattle.tl_number.proofs.Unique.SameNumbers.{kept_entry, nodes_along-kept}
 
@@ -54,17 +54,17 @@ images-numbered keys a =
     ∙ images-lefts nat_keys (numbered keys) (subst (IsApart nat_cmp) (sym (lefts-numbered keys)) a)
     ∙ rights-numbered keys
 
-module _ (county : County) (steps : Arrangement) (is : IsCounty county) (arranges : Arranges steps county) where
+module _ (county : County) (arrangement : Arrangement) (is : IsCounty county) (arranges : Arranges arrangement county) where
   -- each placed chain is one of the county, turned or not
-  pub from_placed : (entry : ℕ × Chain) → Among entry (placed county steps)
+  pub from_placed : (entry : ℕ × Chain) → Among entry (placed county arrangement)
       → (e : ℕ × Chain) × Among e county.chains × ((b : Bool) × (entry.1 ≡ turned_if b e.1))
   from_placed entry m =
       let bodies : List Chain =
-      flat_map (λ (s : ℕ × Bool). map (λ (e : ℕ × Chain). turned_if s.1 e.1) (entries_of county.chains s.0)) steps in
+      flat_map (λ (s : ℕ × Bool). map (λ (e : ℕ × Chain). turned_if s.1 e.1) (entries_of county.chains s.0)) arrangement in
       let body : Among entry.1 bodies =
-      subst (Among entry.1) (rights-numbered_from 1 bodies) (among-map (λ (e : ℕ × Chain). e.1) entry (placed county steps) m) in
+      subst (Among entry.1) (rights-numbered_from 1 bodies) (among-map (λ (e : ℕ × Chain). e.1) entry (placed county arrangement) m) in
       let s = among-unpieces (λ (s : ℕ × Bool). map (λ (e : ℕ × Chain). turned_if s.1 e.1)
-      (entries_of county.chains s.0)) entry.1 steps body in
+      (entries_of county.chains s.0)) entry.1 arrangement body in
       let e = among-unmap (λ (e : ℕ × Chain). turned_if s.0.1 e.1) entry.1 (entries_of county.chains s.0.0) s.2 in (
         e.0,
         all_among (λ x. Among x county.chains) e.0 (entries_of county.chains s.0.0)
@@ -74,117 +74,117 @@ module _ (county : County) (steps : Arrangement) (is : IsCounty county) (arrange
 
   -- and each chain of the county is placed
   to_placed : (e : ℕ × Chain) → Among e county.chains
-      → (entry : ℕ × Chain) × Among entry (placed county steps) × ((b : Bool) × (entry.1 ≡ turned_if b e.1))
+      → (entry : ℕ × Chain) × Among entry (placed county arrangement) × ((b : Bool) × (entry.1 ≡ turned_if b e.1))
   to_placed e m =
       let bodies : List Chain =
-      flat_map (λ (s : ℕ × Bool). map (λ (x : ℕ × Chain). turned_if s.1 x.1) (entries_of county.chains s.0)) steps in
-      let ordered : Among e (chains_in_order county steps) =
-      among-permutation e county.chains (chains_in_order county steps)
-      (IsPermutation-sym (chains_in_order county steps) county.chains (order-permutation county steps is arranges)) m in
-      let s = among-unpieces (λ (s : ℕ × Bool). entries_of county.chains s.0) e steps ordered in
+      flat_map (λ (s : ℕ × Bool). map (λ (x : ℕ × Chain). turned_if s.1 x.1) (entries_of county.chains s.0)) arrangement in
+      let ordered : Among e (chains_in_order county arrangement) =
+      among-permutation e county.chains (chains_in_order county arrangement)
+      (IsPermutation-sym (chains_in_order county arrangement) county.chains (order-permutation county arrangement is arranges)) m in
+      let s = among-unpieces (λ (s : ℕ × Bool). entries_of county.chains s.0) e arrangement ordered in
       let body : Among (turned_if s.0.1 e.1) bodies =
       among-pieces (λ (t : ℕ × Bool). map (λ (x : ℕ × Chain). turned_if t.1 x.1) (entries_of county.chains t.0)) s.0
-      (turned_if s.0.1 e.1) steps s.1 (among-map (λ (x : ℕ × Chain). turned_if s.0.1 x.1) e (entries_of county.chains s.0.0) s.2) in
-      let entry = among-unmap (λ (x : ℕ × Chain). x.1) (turned_if s.0.1 e.1) (placed county steps)
+      (turned_if s.0.1 e.1) arrangement s.1 (among-map (λ (x : ℕ × Chain). turned_if s.0.1 x.1) e (entries_of county.chains s.0.0) s.2) in
+      let entry = among-unmap (λ (x : ℕ × Chain). x.1) (turned_if s.0.1 e.1) (placed county arrangement)
       (subst (Among (turned_if s.0.1 e.1)) (sym (rights-numbered_from 1 bodies)) body) in
       (entry.0, entry.1, (s.0.1, sym entry.2))
 
   -- the nodes and polygons along the placed chains are those along the county's
-  pub nodes_from_placed : (n : ℕ) → Known nat_cmp (nodes_along (placed county steps)) n → Known nat_cmp (nodes_along county.chains) n
+  pub nodes_from_placed : (n : ℕ) → Known nat_cmp (nodes_along (placed county arrangement)) n → Known nat_cmp (nodes_along county.chains) n
   nodes_from_placed n k =
-      let entry = among-unpieces (λ (x : ℕ × Chain). chain_nodes x.1) n (placed county steps)
-      (known_is_among nat_keys n (nodes_along (placed county steps)) k) in
+      let entry = among-unpieces (λ (x : ℕ × Chain). chain_nodes x.1) n (placed county arrangement)
+      (known_is_among nat_keys n (nodes_along (placed county arrangement)) k) in
       let e = from_placed entry.0 entry.1 in
       among_known nat_keys n (nodes_along county.chains)
       (among-pieces (λ (x : ℕ × Chain). chain_nodes x.1) e.0 n county.chains e.1
       (nodes-unturned n e.2.0 e.0.1 (subst (λ c. Among n (chain_nodes c)) e.2.1 entry.2)))
 
-  pub nodes_to_placed : (n : ℕ) → Known nat_cmp (nodes_along county.chains) n → Known nat_cmp (nodes_along (placed county steps)) n
+  pub nodes_to_placed : (n : ℕ) → Known nat_cmp (nodes_along county.chains) n → Known nat_cmp (nodes_along (placed county arrangement)) n
   nodes_to_placed n k =
       let e = among-unpieces (λ (x : ℕ × Chain). chain_nodes x.1) n county.chains
       (known_is_among nat_keys n (nodes_along county.chains) k) in
       let entry = to_placed e.0 e.1 in
-      among_known nat_keys n (nodes_along (placed county steps))
-      (among-pieces (λ (x : ℕ × Chain). chain_nodes x.1) entry.0 n (placed county steps) entry.1
+      among_known nat_keys n (nodes_along (placed county arrangement))
+      (among-pieces (λ (x : ℕ × Chain). chain_nodes x.1) entry.0 n (placed county arrangement) entry.1
       (subst (λ c. Among n (chain_nodes c)) (sym entry.2.1) (nodes-turned n entry.2.0 e.0.1 e.2)))
 
-  pub polygons_from_placed : (k : PolygonKey) → Known key_cmp (polygons_along (placed county steps)) k
+  pub polygons_from_placed : (k : PolygonKey) → Known key_cmp (polygons_along (placed county arrangement)) k
       → Known key_cmp (polygons_along county.chains) k
   polygons_from_placed k l =
-      let entry = among-unpieces (λ (x : ℕ × Chain). chain_polygons x.1) k (placed county steps)
-      (known_is_among key_keys k (polygons_along (placed county steps)) l) in
+      let entry = among-unpieces (λ (x : ℕ × Chain). chain_polygons x.1) k (placed county arrangement)
+      (known_is_among key_keys k (polygons_along (placed county arrangement)) l) in
       let e = from_placed entry.0 entry.1 in
       among_known key_keys k (polygons_along county.chains)
       (among-pieces (λ (x : ℕ × Chain). chain_polygons x.1) e.0 k county.chains e.1
       (polygons-unturned k e.2.0 e.0.1 (subst (λ c. Among k (chain_polygons c)) e.2.1 entry.2)))
 
   pub polygons_to_placed : (k : PolygonKey) → Known key_cmp (polygons_along county.chains) k
-      → Known key_cmp (polygons_along (placed county steps)) k
+      → Known key_cmp (polygons_along (placed county arrangement)) k
   polygons_to_placed k l =
       let e = among-unpieces (λ (x : ℕ × Chain). chain_polygons x.1) k county.chains
       (known_is_among key_keys k (polygons_along county.chains) l) in
       let entry = to_placed e.0 e.1 in
-      among_known key_keys k (polygons_along (placed county steps))
-      (among-pieces (λ (x : ℕ × Chain). chain_polygons x.1) entry.0 k (placed county steps) entry.1
+      among_known key_keys k (polygons_along (placed county arrangement))
+      (among-pieces (λ (x : ℕ × Chain). chain_polygons x.1) entry.0 k (placed county arrangement) entry.1
       (subst (λ c. Among k (chain_polygons c)) (sym entry.2.1) (among-turned k entry.2.0 e.0.1 e.2)))
 
   -- the renaming and the arranged county, component by component
-  pub chains_renamed : (renaming_of county steps).chains ≡ numbered (arranged_tlids steps)
+  pub chains_renamed : (renaming_of county arrangement).chains ≡ numbered (arranged_tlids arrangement)
   unfolding renaming_of
   chains_renamed = refl
 
-  pub names_renamed : (renaming_of county steps).names ≡ numbered (map (λ (e : ℕ × Body5). e.0) (names_in_order county steps))
+  pub names_renamed : (renaming_of county arrangement).names ≡ numbered (map (λ (e : ℕ × Body5). e.0) (names_in_order county arrangement))
   unfolding renaming_of
   names_renamed = refl
 
-  pub polygons_renamed : (renaming_of county steps).polygons ≡ new_keys county steps
+  pub polygons_renamed : (renaming_of county arrangement).polygons ≡ new_keys county arrangement
   unfolding renaming_of
   polygons_renamed = refl
 
-  pub lands_renamed : (renaming_of county steps).lands ≡ numbered (map (λ (e : ℕ × List Body7). e.0) (landmarks_in_order county steps))
+  pub lands_renamed : (renaming_of county arrangement).lands ≡ numbered (map (λ (e : ℕ × List Body7). e.0) (landmarks_in_order county arrangement))
   unfolding renaming_of
   lands_renamed = refl
 
-  pub nodes_renamed : (renaming_of county steps).nodes ≡ numbered (nodes_in_order county steps)
+  pub nodes_renamed : (renaming_of county arrangement).nodes ≡ numbered (nodes_in_order county arrangement)
   unfolding renaming_of
   nodes_renamed = refl
 
-  pub turned_renamed : (renaming_of county steps).turned ≡ turned_tlids steps
+  pub turned_renamed : (renaming_of county arrangement).turned ≡ turned_tlids arrangement
   unfolding renaming_of
   turned_renamed = refl
 
-  pub chains_arranged : (arranged county steps).chains ≡ map (kept_entry (renaming_of county steps)) (placed county steps)
+  pub chains_arranged : (arranged county arrangement).chains ≡ map (kept_entry (renaming_of county arrangement)) (placed county arrangement)
   unfolding arranged
-  chains_arranged = carried_placed county steps is arranges (renaming_of county steps) chains_renamed turned_renamed
+  chains_arranged = carried_placed county arrangement is arranges (renaming_of county arrangement) chains_renamed turned_renamed
 
-  chains_carried : (arranged county steps).chains ≡ map (carried_chain (renaming_of county steps)) (chains_in_order county steps)
+  chains_carried : (arranged county arrangement).chains ≡ map (carried_chain (renaming_of county arrangement)) (chains_in_order county arrangement)
   unfolding arranged
   chains_carried = refl
 
-  pub names_arranged : (arranged county steps).names ≡ map (carried_name (renaming_of county steps)) (names_in_order county steps)
+  pub names_arranged : (arranged county arrangement).names ≡ map (carried_name (renaming_of county arrangement)) (names_in_order county arrangement)
   unfolding arranged
   names_arranged = refl
 
-  pub polygons_arranged : (arranged county steps).polygons ≡ in_order (on (λ entry. entry.0) key_cmp)
-      (map (carried_polygon (renaming_of county steps)) county.polygons)
+  pub polygons_arranged : (arranged county arrangement).polygons ≡ in_order (on (λ entry. entry.0) key_cmp)
+      (map (carried_polygon (renaming_of county arrangement)) county.polygons)
   unfolding arranged
   polygons_arranged = refl
 
-  pub landmarks_arranged : (arranged county steps).landmarks ≡ map (carried_landmark (renaming_of county steps))
-      (landmarks_in_order county steps)
+  pub landmarks_arranged : (arranged county arrangement).landmarks ≡ map (carried_landmark (renaming_of county arrangement))
+      (landmarks_in_order county arrangement)
   unfolding arranged
   landmarks_arranged = refl
 
-  pub links_arranged : (arranged county steps).links ≡ in_order link_cmp (map (carried_link (renaming_of county steps)) county.links)
+  pub links_arranged : (arranged county arrangement).links ≡ in_order link_cmp (map (carried_link (renaming_of county arrangement)) county.links)
   unfolding arranged
   links_arranged = refl
 
   -- the numbers of each kind
-  pub names_permutation : IsPermutation (names_in_order county steps) county.names
-  names_permutation = in_order-is_permutation (on (name_key (all_uses (placed county steps))) name_key_cmp) county.names
+  pub names_permutation : IsPermutation (names_in_order county arrangement) county.names
+  names_permutation = in_order-is_permutation (on (name_key (all_uses (placed county arrangement))) name_key_cmp) county.names
 
-  pub landmarks_permutation : IsPermutation (landmarks_in_order county steps) county.landmarks
-  landmarks_permutation = in_order-is_permutation (on (landmark_key (links_relinked county steps)) landmark_key_cmp) county.landmarks
+  pub landmarks_permutation : IsPermutation (landmarks_in_order county arrangement) county.landmarks
+  landmarks_permutation = in_order-is_permutation (on (landmark_key (links_relinked county arrangement)) landmark_key_cmp) county.landmarks
 
   -- a kind of entries in a new order, numbered in that order
   numbered_kind : {V : Type 0} (pairs : List (ℕ × ℕ)) (ordered entries : List (ℕ × V)) → pairs ≡ numbered (map (λ (e : ℕ × V). e.0) ordered)
@@ -199,22 +199,22 @@ module _ (county : County) (steps : Arrangement) (is : IsCounty county) (arrange
       ∙ images-numbered (map (λ (e : ℕ × V). e.0) ordered) apart_ordered
       ∙ ap up_to (length-map ordered (λ (e : ℕ × V). e.0))
 
-  pub tlids_arranged : tlids (arranged county steps) ≡ up_to (length (arranged_tlids steps))
+  pub tlids_arranged : tlids (arranged county arrangement) ≡ up_to (length (arranged_tlids arrangement))
   tlids_arranged = ap (map (λ (e : ℕ × Chain). e.0)) chains_arranged
-      ∙ map-map (λ (e : ℕ × Chain). e.0) (kept_entry (renaming_of county steps)) (placed county steps)
-      ∙ placed_tlids county steps is arranges
+      ∙ map-map (λ (e : ℕ × Chain). e.0) (kept_entry (renaming_of county arrangement)) (placed county arrangement)
+      ∙ placed_tlids county arrangement is arranges
 
-  pub feats_arranged : feats (arranged county steps) ≡ up_to (length (names_in_order county steps))
+  pub feats_arranged : feats (arranged county arrangement) ≡ up_to (length (names_in_order county arrangement))
   feats_arranged = ap (map (λ (e : ℕ × Body5). e.0)) names_arranged
-      ∙ map-map (λ (e : ℕ × Body5). e.0) (carried_name (renaming_of county steps)) (names_in_order county steps)
-      ∙ numbered_kind (renaming_of county steps).names (names_in_order county steps) county.names names_renamed names_permutation
+      ∙ map-map (λ (e : ℕ × Body5). e.0) (carried_name (renaming_of county arrangement)) (names_in_order county arrangement)
+      ∙ numbered_kind (renaming_of county arrangement).names (names_in_order county arrangement) county.names names_renamed names_permutation
       (apart_from_sorted nat_keys (feats county) is.ascending.names)
 
-  pub lands_arranged : lands (arranged county steps) ≡ up_to (length (landmarks_in_order county steps))
+  pub lands_arranged : lands (arranged county arrangement) ≡ up_to (length (landmarks_in_order county arrangement))
   lands_arranged = ap (map (λ (e : ℕ × List Body7). e.0)) landmarks_arranged
-      ∙ map-map (λ (e : ℕ × List Body7). e.0) (carried_landmark (renaming_of county steps)) (landmarks_in_order county steps)
-      ∙ numbered_kind (renaming_of county steps).lands
-      (landmarks_in_order county steps) county.landmarks lands_renamed landmarks_permutation
+      ∙ map-map (λ (e : ℕ × List Body7). e.0) (carried_landmark (renaming_of county arrangement)) (landmarks_in_order county arrangement)
+      ∙ numbered_kind (renaming_of county arrangement).lands
+      (landmarks_in_order county arrangement) county.landmarks lands_renamed landmarks_permutation
       (apart_from_sorted nat_keys (lands county) is.ascending.landmarks)
 
   paired_kind : {V : Type 0} (pairs : List (ℕ × ℕ)) (ordered entries : List (ℕ × V)) (news : List ℕ)
@@ -228,182 +228,182 @@ module _ (county : County) (steps : Arrangement) (is : IsCounty county) (arrange
         ∙ ap up_to (length-map ordered (λ (d : ℕ × V). d.0)) ∙ sym e);
   }
 
-  paired_chains : ArePaired (renaming_of county steps).chains (tlids county) (tlids (arranged county steps))
+  paired_chains : ArePaired (renaming_of county arrangement).chains (tlids county) (tlids (arranged county arrangement))
   paired_chains = record {
-    left = subst (λ ks. IsPermutation ks (tlids county)) (sym (ap lefts chains_renamed ∙ lefts-numbered (arranged_tlids steps))) arranges;
-    right = permutation_of_equal (rights (renaming_of county steps).chains) (tlids (arranged county steps)) (ap rights chains_renamed
-        ∙ rights-numbered (arranged_tlids steps) ∙ sym tlids_arranged);
+    left = subst (λ ks. IsPermutation ks (tlids county)) (sym (ap lefts chains_renamed ∙ lefts-numbered (arranged_tlids arrangement))) arranges;
+    right = permutation_of_equal (rights (renaming_of county arrangement).chains) (tlids (arranged county arrangement)) (ap rights chains_renamed
+        ∙ rights-numbered (arranged_tlids arrangement) ∙ sym tlids_arranged);
   }
 
   -- nodes
-  pub nodes_along_arranged : nodes_along (arranged county steps).chains ≡ map (image nat_cmp (renaming_of county steps).nodes)
-      (nodes_along (placed county steps))
-  nodes_along_arranged = ap nodes_along chains_arranged ∙ nodes_along-kept (renaming_of county steps) (placed county steps)
+  pub nodes_along_arranged : nodes_along (arranged county arrangement).chains ≡ map (image nat_cmp (renaming_of county arrangement).nodes)
+      (nodes_along (placed county arrangement))
+  nodes_along_arranged = ap nodes_along chains_arranged ∙ nodes_along-kept (renaming_of county arrangement) (placed county arrangement)
 
-  node_lefts : lefts (renaming_of county steps).nodes ≡ nodes_in_order county steps
-  node_lefts = ap lefts nodes_renamed ∙ lefts-numbered (nodes_in_order county steps)
+  node_lefts : lefts (renaming_of county arrangement).nodes ≡ nodes_in_order county arrangement
+  node_lefts = ap lefts nodes_renamed ∙ lefts-numbered (nodes_in_order county arrangement)
 
-  pub node_rights : rights (renaming_of county steps).nodes ≡ up_to (length (nodes_in_order county steps))
-  node_rights = ap rights nodes_renamed ∙ rights-numbered (nodes_in_order county steps)
+  pub node_rights : rights (renaming_of county arrangement).nodes ≡ up_to (length (nodes_in_order county arrangement))
+  node_rights = ap rights nodes_renamed ∙ rights-numbered (nodes_in_order county arrangement)
 
-  lefts_apart : IsApart nat_cmp (lefts (renaming_of county steps).nodes)
-  lefts_apart = subst (IsApart nat_cmp) (sym node_lefts) (first_seen-apart nat_keys (nodes_along (placed county steps)))
+  lefts_apart : IsApart nat_cmp (lefts (renaming_of county arrangement).nodes)
+  lefts_apart = subst (IsApart nat_cmp) (sym node_lefts) (first_seen-apart nat_keys (nodes_along (placed county arrangement)))
 
-  rights_apart : IsApart nat_cmp (rights (renaming_of county steps).nodes)
+  rights_apart : IsApart nat_cmp (rights (renaming_of county arrangement).nodes)
   rights_apart = subst (IsApart nat_cmp) (sym node_rights)
-      (apart_from_sorted nat_keys (up_to (length (nodes_in_order county steps))) (up_to-strict (length (nodes_in_order county steps))))
+      (apart_from_sorted nat_keys (up_to (length (nodes_in_order county arrangement))) (up_to-strict (length (nodes_in_order county arrangement))))
 
-  new_node : (n : ℕ) → Known nat_cmp (rights (renaming_of county steps).nodes) n → Known nat_cmp (nodes (arranged county steps)) n
+  new_node : (n : ℕ) → Known nat_cmp (rights (renaming_of county arrangement).nodes) n → Known nat_cmp (nodes (arranged county arrangement)) n
   new_node n k =
-      let images : map (image nat_cmp (renaming_of county steps).nodes) (lefts (renaming_of county steps).nodes) ≡ rights
-      (renaming_of county steps).nodes = images-lefts nat_keys (renaming_of county steps).nodes lefts_apart in
-      let old = among-unmap (image nat_cmp (renaming_of county steps).nodes) n (lefts (renaming_of county steps).nodes)
-      (subst (Among n) (sym images) (known_is_among nat_keys n (rights (renaming_of county steps).nodes) k)) in
-      let seen : Known nat_cmp (nodes_in_order county steps) old.0 =
-      subst (λ l. Known nat_cmp l old.0) node_lefts (among_known nat_keys old.0 (lefts (renaming_of county steps).nodes) old.1) in
-      let along : Among old.0 (nodes_along (placed county steps)) =
-      known_is_among nat_keys old.0 (nodes_along (placed county steps))
-      (from_first_seen nat_keys (nodes_along (placed county steps)) old.0 seen) in
-      let new : Among n (nodes_along (arranged county steps).chains) =
+      let images : map (image nat_cmp (renaming_of county arrangement).nodes) (lefts (renaming_of county arrangement).nodes) ≡ rights
+      (renaming_of county arrangement).nodes = images-lefts nat_keys (renaming_of county arrangement).nodes lefts_apart in
+      let old = among-unmap (image nat_cmp (renaming_of county arrangement).nodes) n (lefts (renaming_of county arrangement).nodes)
+      (subst (Among n) (sym images) (known_is_among nat_keys n (rights (renaming_of county arrangement).nodes) k)) in
+      let seen : Known nat_cmp (nodes_in_order county arrangement) old.0 =
+      subst (λ l. Known nat_cmp l old.0) node_lefts (among_known nat_keys old.0 (lefts (renaming_of county arrangement).nodes) old.1) in
+      let along : Among old.0 (nodes_along (placed county arrangement)) =
+      known_is_among nat_keys old.0 (nodes_along (placed county arrangement))
+      (from_first_seen nat_keys (nodes_along (placed county arrangement)) old.0 seen) in
+      let new : Among n (nodes_along (arranged county arrangement).chains) =
       subst (Among n) (sym nodes_along_arranged)
-      (subst (λ m. Among m (map (image nat_cmp (renaming_of county steps).nodes) (nodes_along (placed county steps)))) (sym old.2)
-      (among-map (image nat_cmp (renaming_of county steps).nodes) old.0 (nodes_along (placed county steps)) along)) in
-      known-distinct nat_keys (nodes_along (arranged county steps).chains) n
-      (among_known nat_keys n (nodes_along (arranged county steps).chains) new)
+      (subst (λ m. Among m (map (image nat_cmp (renaming_of county arrangement).nodes) (nodes_along (placed county arrangement)))) (sym old.2)
+      (among-map (image nat_cmp (renaming_of county arrangement).nodes) old.0 (nodes_along (placed county arrangement)) along)) in
+      known-distinct nat_keys (nodes_along (arranged county arrangement).chains) n
+      (among_known nat_keys n (nodes_along (arranged county arrangement).chains) new)
 
-  old_node : (n : ℕ) → Known nat_cmp (nodes (arranged county steps)) n → Known nat_cmp (rights (renaming_of county steps).nodes) n
+  old_node : (n : ℕ) → Known nat_cmp (nodes (arranged county arrangement)) n → Known nat_cmp (rights (renaming_of county arrangement).nodes) n
   old_node n k =
-      let along : Among n (map (image nat_cmp (renaming_of county steps).nodes) (nodes_along (placed county steps))) =
+      let along : Among n (map (image nat_cmp (renaming_of county arrangement).nodes) (nodes_along (placed county arrangement))) =
       subst (Among n) nodes_along_arranged
-      (known_is_among nat_keys n (nodes_along (arranged county steps).chains)
-      (known_from_distinct nat_keys (nodes_along (arranged county steps).chains) n k)) in
-      let old = among-unmap (image nat_cmp (renaming_of county steps).nodes) n (nodes_along (placed county steps)) along in
-      let seen : Known nat_cmp (lefts (renaming_of county steps).nodes) old.0 =
+      (known_is_among nat_keys n (nodes_along (arranged county arrangement).chains)
+      (known_from_distinct nat_keys (nodes_along (arranged county arrangement).chains) n k)) in
+      let old = among-unmap (image nat_cmp (renaming_of county arrangement).nodes) n (nodes_along (placed county arrangement)) along in
+      let seen : Known nat_cmp (lefts (renaming_of county arrangement).nodes) old.0 =
       subst (λ l. Known nat_cmp l old.0) (sym node_lefts)
-      (to_first_seen nat_keys (nodes_along (placed county steps)) old.0
-      (among_known nat_keys old.0 (nodes_along (placed county steps)) old.1)) in
-      subst (Known nat_cmp (rights (renaming_of county steps).nodes)) (sym old.2)
-      (image-known nat_keys (renaming_of county steps).nodes old.0 seen)
+      (to_first_seen nat_keys (nodes_along (placed county arrangement)) old.0
+      (among_known nat_keys old.0 (nodes_along (placed county arrangement)) old.1)) in
+      subst (Known nat_cmp (rights (renaming_of county arrangement).nodes)) (sym old.2)
+      (image-known nat_keys (renaming_of county arrangement).nodes old.0 seen)
 
-  pub paired_nodes : ArePaired (renaming_of county steps).nodes (nodes county) (nodes (arranged county steps))
+  pub paired_nodes : ArePaired (renaming_of county arrangement).nodes (nodes county) (nodes (arranged county arrangement))
   paired_nodes = record {
     left = subst (λ ks. IsPermutation ks (nodes county)) (sym node_lefts)
-        (apart-permutation_of nat_keys (nodes_in_order county steps) (nodes county)
-        (first_seen-apart nat_keys (nodes_along (placed county steps))) (apart-distinct nat_keys (nodes_along county.chains))
+        (apart-permutation_of nat_keys (nodes_in_order county arrangement) (nodes county)
+        (first_seen-apart nat_keys (nodes_along (placed county arrangement))) (apart-distinct nat_keys (nodes_along county.chains))
         (λ n k. known-distinct nat_keys (nodes_along county.chains) n
-        (nodes_from_placed n (from_first_seen nat_keys (nodes_along (placed county steps)) n k)))
-        (λ n k. to_first_seen nat_keys (nodes_along (placed county steps)) n
+        (nodes_from_placed n (from_first_seen nat_keys (nodes_along (placed county arrangement)) n k)))
+        (λ n k. to_first_seen nat_keys (nodes_along (placed county arrangement)) n
         (nodes_to_placed n (known_from_distinct nat_keys (nodes_along county.chains) n k))));
-    right = apart-permutation_of nat_keys (rights (renaming_of county steps).nodes) (nodes (arranged county steps)) rights_apart
-        (apart-distinct nat_keys (nodes_along (arranged county steps).chains)) new_node old_node;
+    right = apart-permutation_of nat_keys (rights (renaming_of county arrangement).nodes) (nodes (arranged county arrangement)) rights_apart
+        (apart-distinct nat_keys (nodes_along (arranged county arrangement).chains)) new_node old_node;
   }
 
   -- polygons, if each is on a side
   module _ (sides : AllKeysStandIn (polygons_along county.chains) (polygon_keys county)) where
-    pub polygon_lefts : lefts (renaming_of county steps).polygons ≡ polygons_in_order county steps
+    pub polygon_lefts : lefts (renaming_of county arrangement).polygons ≡ polygons_in_order county arrangement
     polygon_lefts = ap lefts polygons_renamed ∙ map-map (λ (pair : PolygonKey × PolygonKey). pair.0) under_cenid
-        (numbered (polygons_in_order county steps)) ∙ lefts-numbered (polygons_in_order county steps)
+        (numbered (polygons_in_order county arrangement)) ∙ lefts-numbered (polygons_in_order county arrangement)
 
-    pub known_polygon : (k : PolygonKey) → Known key_cmp (polygon_keys county) k → Known key_cmp (polygons_in_order county steps) k
-    known_polygon k l = to_first_seen key_keys (polygons_along (placed county steps)) k
+    pub known_polygon : (k : PolygonKey) → Known key_cmp (polygon_keys county) k → Known key_cmp (polygons_in_order county arrangement) k
+    known_polygon k l = to_first_seen key_keys (polygons_along (placed county arrangement)) k
         (polygons_to_placed k
         (ltb-true 0 (times key_cmp k (polygons_along county.chains))
         (known_all key_keys (λ j. IsTrue (stands_in key_cmp j (polygons_along county.chains))) (polygon_keys county) sides k l)))
 
-    polygon_known : (k : PolygonKey) → Known key_cmp (polygons_in_order county steps) k → Known key_cmp (polygon_keys county) k
+    polygon_known : (k : PolygonKey) → Known key_cmp (polygons_in_order county arrangement) k → Known key_cmp (polygon_keys county) k
     polygon_known k l =
         let all : AllByRecursion (λ j. IsTrue (stands_in key_cmp j (polygon_keys county))) (polygons_along county.chains) =
         all_joined (λ j. IsTrue (stands_in key_cmp j (polygon_keys county)))
         (λ (e : ℕ × Chain). chain_polygons e.1) county.chains is.closed.sides in
         ltb-true 0 (times key_cmp k (polygon_keys county))
         (known_all key_keys (λ j. IsTrue (stands_in key_cmp j (polygon_keys county))) (polygons_along county.chains) all k
-        (polygons_from_placed k (from_first_seen key_keys (polygons_along (placed county steps)) k l)))
+        (polygons_from_placed k (from_first_seen key_keys (polygons_along (placed county arrangement)) k l)))
 
-    pub polygons_permutation : IsPermutation (polygons_in_order county steps) (polygon_keys county)
-    polygons_permutation = apart-permutation_of key_keys (polygons_in_order county steps) (polygon_keys county)
-        (first_seen-apart key_keys (polygons_along (placed county steps)))
+    pub polygons_permutation : IsPermutation (polygons_in_order county arrangement) (polygon_keys county)
+    polygons_permutation = apart-permutation_of key_keys (polygons_in_order county arrangement) (polygon_keys county)
+        (first_seen-apart key_keys (polygons_along (placed county arrangement)))
         (apart_from_sorted key_keys (polygon_keys county) is.ascending.polygons) polygon_known known_polygon
 
-    polygons_left : IsPermutation (lefts (renaming_of county steps).polygons) (polygon_keys county)
+    polygons_left : IsPermutation (lefts (renaming_of county arrangement).polygons) (polygon_keys county)
     polygons_left = subst (λ ks. IsPermutation ks (polygon_keys county)) (sym polygon_lefts) polygons_permutation
 
     -- the new keys are the images of the old ones
-    pub keys_arranged : IsPermutation (map (image key_cmp (renaming_of county steps).polygons) (polygon_keys county))
-        (polygon_keys (arranged county steps))
+    pub keys_arranged : IsPermutation (map (image key_cmp (renaming_of county arrangement).polygons) (polygon_keys county))
+        (polygon_keys (arranged county arrangement))
     keys_arranged =
-        let mapped : List (PolygonKey × Option BodyP) = map (carried_polygon (renaming_of county steps)) county.polygons in
+        let mapped : List (PolygonKey × Option BodyP) = map (carried_polygon (renaming_of county arrangement)) county.polygons in
         let ordered : IsPermutation (map (λ (e : PolygonKey × Option BodyP). e.0)
         (in_order (on (λ (e : PolygonKey × Option BodyP). e.0) key_cmp) mapped)) (map (λ (e : PolygonKey × Option BodyP). e.0) mapped) =
         IsPermutation-map (λ (e : PolygonKey × Option BodyP). e.0)
         (in_order (on (λ (e : PolygonKey × Option BodyP). e.0) key_cmp) mapped) mapped
         (in_order-is_permutation (on (λ (e : PolygonKey × Option BodyP). e.0) key_cmp) mapped) in
-        let images : map (λ (e : PolygonKey × Option BodyP). e.0) mapped ≡ map (image key_cmp (renaming_of county steps).polygons)
+        let images : map (λ (e : PolygonKey × Option BodyP). e.0) mapped ≡ map (image key_cmp (renaming_of county arrangement).polygons)
         (polygon_keys county) =
-        map-map (λ (e : PolygonKey × Option BodyP). e.0) (carried_polygon (renaming_of county steps)) county.polygons
-        ∙ sym (map-map (image key_cmp (renaming_of county steps).polygons) (λ (e : PolygonKey × Option BodyP). e.0) county.polygons) in
-        IsPermutation-sym (polygon_keys (arranged county steps))
-        (map (image key_cmp (renaming_of county steps).polygons) (polygon_keys county))
+        map-map (λ (e : PolygonKey × Option BodyP). e.0) (carried_polygon (renaming_of county arrangement)) county.polygons
+        ∙ sym (map-map (image key_cmp (renaming_of county arrangement).polygons) (λ (e : PolygonKey × Option BodyP). e.0) county.polygons) in
+        IsPermutation-sym (polygon_keys (arranged county arrangement))
+        (map (image key_cmp (renaming_of county arrangement).polygons) (polygon_keys county))
         (subst (λ es. IsPermutation (map (λ (e : PolygonKey × Option BodyP). e.0) es)
-        (map (image key_cmp (renaming_of county steps).polygons) (polygon_keys county))) (sym polygons_arranged)
+        (map (image key_cmp (renaming_of county arrangement).polygons) (polygon_keys county))) (sym polygons_arranged)
         (subst (IsPermutation (map (λ (e : PolygonKey × Option BodyP). e.0)
         (in_order (on (λ (e : PolygonKey × Option BodyP). e.0) key_cmp) mapped))) images ordered))
 
-    paired_polygons : ArePaired (renaming_of county steps).polygons (polygon_keys county) (polygon_keys (arranged county steps))
+    paired_polygons : ArePaired (renaming_of county arrangement).polygons (polygon_keys county) (polygon_keys (arranged county arrangement))
     paired_polygons =
-        let apart : IsApart key_cmp (lefts (renaming_of county steps).polygons) =
-        apart-permutation key_keys (lefts (renaming_of county steps).polygons) (polygon_keys county) polygons_left
+        let apart : IsApart key_cmp (lefts (renaming_of county arrangement).polygons) =
+        apart-permutation key_keys (lefts (renaming_of county arrangement).polygons) (polygon_keys county) polygons_left
         (apart_from_sorted key_keys (polygon_keys county) is.ascending.polygons) in
-        let images : map (image key_cmp (renaming_of county steps).polygons) (lefts (renaming_of county steps).polygons) ≡ rights
-        (renaming_of county steps).polygons = images-lefts key_keys (renaming_of county steps).polygons apart in
+        let images : map (image key_cmp (renaming_of county arrangement).polygons) (lefts (renaming_of county arrangement).polygons) ≡ rights
+        (renaming_of county arrangement).polygons = images-lefts key_keys (renaming_of county arrangement).polygons apart in
         record {
           left = polygons_left;
-          right = subst (λ ks. IsPermutation ks (polygon_keys (arranged county steps))) images
-              (IsPermutation-trans (map (image key_cmp (renaming_of county steps).polygons) (lefts (renaming_of county steps).polygons))
-              (map (image key_cmp (renaming_of county steps).polygons) (polygon_keys county)) (polygon_keys (arranged county steps))
-              (IsPermutation-map (image key_cmp (renaming_of county steps).polygons) (lefts (renaming_of county steps).polygons)
+          right = subst (λ ks. IsPermutation ks (polygon_keys (arranged county arrangement))) images
+              (IsPermutation-trans (map (image key_cmp (renaming_of county arrangement).polygons) (lefts (renaming_of county arrangement).polygons))
+              (map (image key_cmp (renaming_of county arrangement).polygons) (polygon_keys county)) (polygon_keys (arranged county arrangement))
+              (IsPermutation-map (image key_cmp (renaming_of county arrangement).polygons) (lefts (renaming_of county arrangement).polygons)
               (polygon_keys county) polygons_left) keys_arranged);
         }
 
-    numbers_paired : NumbersArePaired (renaming_of county steps) county (arranged county steps)
+    numbers_paired : NumbersArePaired (renaming_of county arrangement) county (arranged county arrangement)
     numbers_paired = record {
       chains = paired_chains;
-      names = paired_kind (renaming_of county steps).names (names_in_order county steps) county.names
-          (feats (arranged county steps)) names_renamed names_permutation feats_arranged;
+      names = paired_kind (renaming_of county arrangement).names (names_in_order county arrangement) county.names
+          (feats (arranged county arrangement)) names_renamed names_permutation feats_arranged;
       polygons = paired_polygons;
-      lands = paired_kind (renaming_of county steps).lands (landmarks_in_order county steps) county.landmarks
-          (lands (arranged county steps)) lands_renamed landmarks_permutation lands_arranged;
+      lands = paired_kind (renaming_of county arrangement).lands (landmarks_in_order county arrangement) county.landmarks
+          (lands (arranged county arrangement)) lands_renamed landmarks_permutation lands_arranged;
       nodes = paired_nodes;
       cenids = subst (AllByRecursion (λ (pair : PolygonKey × PolygonKey). pair.0.0 ≡ pair.1.0)) (sym polygons_renamed)
-          (all_map (λ (pair : PolygonKey × PolygonKey). pair.0.0 ≡ pair.1.0) under_cenid (numbered (polygons_in_order county steps))
+          (all_map (λ (pair : PolygonKey × PolygonKey). pair.0.0 ≡ pair.1.0) under_cenid (numbered (polygons_in_order county arrangement))
           (all_everywhere (λ pair. (under_cenid pair).0.0 ≡ (under_cenid pair).1.0) (λ pair. refl)
-          (numbered (polygons_in_order county steps))));
+          (numbered (polygons_in_order county arrangement))));
       turned_known = subst (AllByRecursion (λ t. IsTrue (stands_in nat_cmp t (tlids county)))) (sym turned_renamed)
-          (all_known nat_keys (λ t. IsTrue (stands_in nat_cmp t (tlids county))) (turned_tlids steps)
+          (all_known nat_keys (λ t. IsTrue (stands_in nat_cmp t (tlids county))) (turned_tlids arrangement)
           (λ t k. lt-ltb 0 (times nat_cmp t (tlids county))
-          (known-permutation_to nat_keys t (arranged_tlids steps) (tlids county) arranges (turned_known steps t k))));
+          (known-permutation_to nat_keys t (arranged_tlids arrangement) (tlids county) arranges (turned_known arrangement t k))));
       turned_once = ap (has_repeat nat_cmp) turned_renamed
-          ∙ has_repeat-apart nat_keys (turned_tlids steps) (turned_apart steps (steps_apart county steps is arranges));
+          ∙ has_repeat-apart nat_keys (turned_tlids arrangement) (turned_apart arrangement (arrangement_apart county arrangement is arranges));
     }
 
     -- The renaming of an arrangement carries.
-    pub arrangement_carries : Carries (renaming_of county steps) county (arranged county steps)
+    pub arrangement_carries : Carries (renaming_of county arrangement) county (arranged county arrangement)
     arrangement_carries = record {
       numbers = numbers_paired;
-      chains = subst (IsPermutation (map (carried_chain (renaming_of county steps)) county.chains)) (sym chains_carried)
-          (IsPermutation-map (carried_chain (renaming_of county steps)) county.chains (chains_in_order county steps)
-          (IsPermutation-sym (chains_in_order county steps) county.chains (order-permutation county steps is arranges)));
-      names = subst (IsPermutation (map (carried_name (renaming_of county steps)) county.names)) (sym names_arranged)
-          (IsPermutation-map (carried_name (renaming_of county steps)) county.names (names_in_order county steps)
-          (IsPermutation-sym (names_in_order county steps) county.names names_permutation));
-      polygons = subst (IsPermutation (map (carried_polygon (renaming_of county steps)) county.polygons)) (sym polygons_arranged)
-          (IsPermutation-sym (in_order (on (λ entry. entry.0) key_cmp) (map (carried_polygon (renaming_of county steps)) county.polygons))
-          (map (carried_polygon (renaming_of county steps)) county.polygons)
-          (in_order-is_permutation (on (λ entry. entry.0) key_cmp) (map (carried_polygon (renaming_of county steps)) county.polygons)));
-      landmarks = subst (IsPermutation (map (carried_landmark (renaming_of county steps)) county.landmarks)) (sym landmarks_arranged)
-          (IsPermutation-map (carried_landmark (renaming_of county steps)) county.landmarks (landmarks_in_order county steps)
-          (IsPermutation-sym (landmarks_in_order county steps) county.landmarks landmarks_permutation));
-      links = subst (IsPermutation (map (carried_link (renaming_of county steps)) county.links)) (sym links_arranged)
-          (IsPermutation-sym (in_order link_cmp (map (carried_link (renaming_of county steps)) county.links))
-          (map (carried_link (renaming_of county steps)) county.links)
-          (in_order-is_permutation link_cmp (map (carried_link (renaming_of county steps)) county.links)));
+      chains = subst (IsPermutation (map (carried_chain (renaming_of county arrangement)) county.chains)) (sym chains_carried)
+          (IsPermutation-map (carried_chain (renaming_of county arrangement)) county.chains (chains_in_order county arrangement)
+          (IsPermutation-sym (chains_in_order county arrangement) county.chains (order-permutation county arrangement is arranges)));
+      names = subst (IsPermutation (map (carried_name (renaming_of county arrangement)) county.names)) (sym names_arranged)
+          (IsPermutation-map (carried_name (renaming_of county arrangement)) county.names (names_in_order county arrangement)
+          (IsPermutation-sym (names_in_order county arrangement) county.names names_permutation));
+      polygons = subst (IsPermutation (map (carried_polygon (renaming_of county arrangement)) county.polygons)) (sym polygons_arranged)
+          (IsPermutation-sym (in_order (on (λ entry. entry.0) key_cmp) (map (carried_polygon (renaming_of county arrangement)) county.polygons))
+          (map (carried_polygon (renaming_of county arrangement)) county.polygons)
+          (in_order-is_permutation (on (λ entry. entry.0) key_cmp) (map (carried_polygon (renaming_of county arrangement)) county.polygons)));
+      landmarks = subst (IsPermutation (map (carried_landmark (renaming_of county arrangement)) county.landmarks)) (sym landmarks_arranged)
+          (IsPermutation-map (carried_landmark (renaming_of county arrangement)) county.landmarks (landmarks_in_order county arrangement)
+          (IsPermutation-sym (landmarks_in_order county arrangement) county.landmarks landmarks_permutation));
+      links = subst (IsPermutation (map (carried_link (renaming_of county arrangement)) county.links)) (sym links_arranged)
+          (IsPermutation-sym (in_order link_cmp (map (carried_link (renaming_of county arrangement)) county.links))
+          (map (carried_link (renaming_of county arrangement)) county.links)
+          (in_order-is_permutation link_cmp (map (carried_link (renaming_of county arrangement)) county.links)));
     }

@@ -86,82 +86,82 @@ pub image-under_cenid : (keys : List PolygonKey) (k : PolygonKey) → Known key_
 image-under_cenid keys k h = keys_are_places 1 keys k h
 
 -- the chains that an arrangement turns
-pub turned_known : (steps : Arrangement) (k : ℕ) → Known nat_cmp (turned_tlids steps) k → Known nat_cmp (arranged_tlids steps) k
+pub turned_known : (arrangement : Arrangement) (k : ℕ) → Known nat_cmp (turned_tlids arrangement) k → Known nat_cmp (arranged_tlids arrangement) k
 turned_known [] k h = h
-turned_known (s ∷ steps) k h = go s.1 h (turned_known steps k)
+turned_known (s ∷ arrangement) k h = go s.1 h (turned_known arrangement k)
   where
-    go : (b : Bool) → Known nat_cmp (map (λ (t : ℕ × Bool). t.0) (cond b (s ∷ filter (λ t. t.1) steps) (filter (λ t. t.1) steps))) k
-        → (Known nat_cmp (turned_tlids steps) k → Known nat_cmp (arranged_tlids steps) k) → Known nat_cmp (s.0 ∷ arranged_tlids steps) k
-    go true l ih = at (known_cases nat_keys k s.0 (turned_tlids steps) l)
+    go : (b : Bool) → Known nat_cmp (map (λ (t : ℕ × Bool). t.0) (cond b (s ∷ filter (λ t. t.1) arrangement) (filter (λ t. t.1) arrangement))) k
+        → (Known nat_cmp (turned_tlids arrangement) k → Known nat_cmp (arranged_tlids arrangement) k) → Known nat_cmp (s.0 ∷ arranged_tlids arrangement) k
+    go true l ih = at (known_cases nat_keys k s.0 (turned_tlids arrangement) l)
       where
-        at : (k ≡ s.0) ⊎ (Known nat_cmp (turned_tlids steps) k × (is_eq (nat_cmp k s.0) ≡ false))
-            → Known nat_cmp (s.0 ∷ arranged_tlids steps) k
-        at (inl e) = subst (λ n. Known nat_cmp (s.0 ∷ arranged_tlids steps) n) (sym e) (known-here nat_keys s.0 (arranged_tlids steps))
-        at (inr m) = known-later nat_keys k s.0 (arranged_tlids steps) (ih m.0)
-    go false l ih = known-later nat_keys k s.0 (arranged_tlids steps) (ih l)
+        at : (k ≡ s.0) ⊎ (Known nat_cmp (turned_tlids arrangement) k × (is_eq (nat_cmp k s.0) ≡ false))
+            → Known nat_cmp (s.0 ∷ arranged_tlids arrangement) k
+        at (inl e) = subst (λ n. Known nat_cmp (s.0 ∷ arranged_tlids arrangement) n) (sym e) (known-here nat_keys s.0 (arranged_tlids arrangement))
+        at (inr m) = known-later nat_keys k s.0 (arranged_tlids arrangement) (ih m.0)
+    go false l ih = known-later nat_keys k s.0 (arranged_tlids arrangement) (ih l)
 
-pub turned_apart : (steps : Arrangement) → IsApart nat_cmp (arranged_tlids steps) → IsApart nat_cmp (turned_tlids steps)
+pub turned_apart : (arrangement : Arrangement) → IsApart nat_cmp (arranged_tlids arrangement) → IsApart nat_cmp (turned_tlids arrangement)
 turned_apart [] a k = omega arith
-turned_apart (s ∷ steps) a k = go s.1 (turned_apart steps (apart_tail nat_keys s.0 (arranged_tlids steps) a))
+turned_apart (s ∷ arrangement) a k = go s.1 (turned_apart arrangement (apart_tail nat_keys s.0 (arranged_tlids arrangement) a))
   where
-    go : (b : Bool) → IsApart nat_cmp (turned_tlids steps)
-        → times nat_cmp k (map (λ (t : ℕ × Bool). t.0) (cond b (s ∷ filter (λ t. t.1) steps) (filter (λ t. t.1) steps))) ≤ 1
+    go : (b : Bool) → IsApart nat_cmp (turned_tlids arrangement)
+        → times nat_cmp k (map (λ (t : ℕ × Bool). t.0) (cond b (s ∷ filter (λ t. t.1) arrangement) (filter (λ t. t.1) arrangement))) ≤ 1
     go true ih = at (same_or_not nat_keys k s.0)
       where
-        at : (k ≡ s.0) ⊎ (is_eq (nat_cmp k s.0) ≡ false) → times nat_cmp k (s.0 ∷ turned_tlids steps) ≤ 1
-        at (inl e) = none (times nat_cmp k (turned_tlids steps)) refl
+        at : (k ≡ s.0) ⊎ (is_eq (nat_cmp k s.0) ≡ false) → times nat_cmp k (s.0 ∷ turned_tlids arrangement) ≤ 1
+        at (inl e) = none (times nat_cmp k (turned_tlids arrangement)) refl
           where
-            none : (n : ℕ) → times nat_cmp k (turned_tlids steps) ≡ n → times nat_cmp k (s.0 ∷ turned_tlids steps) ≤ 1
-            none zero f = omega (arith, times-yes nat_keys k s.0 (turned_tlids steps) e, f)
-            none (suc n) f = absurd (let l : Known nat_cmp (arranged_tlids steps) k = turned_known steps k (omega (arith, f)) in
-                omega (arith, l, times-yes nat_keys k s.0 (arranged_tlids steps) e, a k))
-        at (inr ne) = omega (arith, times-no nat_keys k s.0 (turned_tlids steps) ne, ih k)
+            none : (n : ℕ) → times nat_cmp k (turned_tlids arrangement) ≡ n → times nat_cmp k (s.0 ∷ turned_tlids arrangement) ≤ 1
+            none zero f = omega (arith, times-yes nat_keys k s.0 (turned_tlids arrangement) e, f)
+            none (suc n) f = absurd (let l : Known nat_cmp (arranged_tlids arrangement) k = turned_known arrangement k (omega (arith, f)) in
+                omega (arith, l, times-yes nat_keys k s.0 (arranged_tlids arrangement) e, a k))
+        at (inr ne) = omega (arith, times-no nat_keys k s.0 (turned_tlids arrangement) ne, ih k)
     go false ih = ih k
 
--- an arrangement turns exactly the chains that its steps turn
-pub turns_as_stated : (steps : Arrangement) → IsApart nat_cmp (arranged_tlids steps)
-    → AllByRecursion (λ s. stands_in nat_cmp s.0 (turned_tlids steps) ≡ s.1) steps
+-- an arrangement turns exactly the chains that it turns
+pub turns_as_stated : (arrangement : Arrangement) → IsApart nat_cmp (arranged_tlids arrangement)
+    → AllByRecursion (λ s. stands_in nat_cmp s.0 (turned_tlids arrangement) ≡ s.1) arrangement
 turns_as_stated [] a = tt
-turns_as_stated (s ∷ steps) a = (
+turns_as_stated (s ∷ arrangement) a = (
   here s.1 refl,
-  all_weaker (λ t. (stands_in nat_cmp t.0 (turned_tlids steps) ≡ t.1) × (is_eq (nat_cmp t.0 s.0) ≡ false))
-      (λ t. stands_in nat_cmp t.0 (turned_tlids (s ∷ steps)) ≡ t.1) (λ t h. later s.1 t h.0 h.1) steps
-      (both steps (turns_as_stated steps (apart_tail nat_keys s.0 (arranged_tlids steps) a)) (apart_others steps (λ t l. l))),
+  all_weaker (λ t. (stands_in nat_cmp t.0 (turned_tlids arrangement) ≡ t.1) × (is_eq (nat_cmp t.0 s.0) ≡ false))
+      (λ t. stands_in nat_cmp t.0 (turned_tlids (s ∷ arrangement)) ≡ t.1) (λ t h. later s.1 t h.0 h.1) arrangement
+      (both arrangement (turns_as_stated arrangement (apart_tail nat_keys s.0 (arranged_tlids arrangement) a)) (apart_others arrangement (λ t l. l))),
 )
   where
-    none : times nat_cmp s.0 (arranged_tlids steps) ≤ 0
-    none = omega (arith, times-yes nat_keys s.0 s.0 (arranged_tlids steps) refl, a s.0)
+    none : times nat_cmp s.0 (arranged_tlids arrangement) ≤ 0
+    none = omega (arith, times-yes nat_keys s.0 s.0 (arranged_tlids arrangement) refl, a s.0)
 
     here : (b : Bool) → s.1 ≡ b → stands_in nat_cmp s.0 (map (λ (t : ℕ × Bool). t.0)
-        (cond s.1 (s ∷ filter (λ t. t.1) steps) (filter (λ t. t.1) steps))) ≡ s.1
+        (cond s.1 (s ∷ filter (λ t. t.1) arrangement) (filter (λ t. t.1) arrangement))) ≡ s.1
     here true e = ap (λ b. stands_in nat_cmp s.0 (map (λ (t : ℕ × Bool). t.0)
-        (cond b (s ∷ filter (λ t. t.1) steps) (filter (λ t. t.1) steps)))) e
-        ∙ lt-ltb 0 (times nat_cmp s.0 (s.0 ∷ turned_tlids steps)) (known-here nat_keys s.0 (turned_tlids steps)) ∙ sym e
+        (cond b (s ∷ filter (λ t. t.1) arrangement) (filter (λ t. t.1) arrangement)))) e
+        ∙ lt-ltb 0 (times nat_cmp s.0 (s.0 ∷ turned_tlids arrangement)) (known-here nat_keys s.0 (turned_tlids arrangement)) ∙ sym e
     here false e = ap (λ b. stands_in nat_cmp s.0 (map (λ (t : ℕ × Bool). t.0)
-        (cond b (s ∷ filter (λ t. t.1) steps) (filter (λ t. t.1) steps)))) e ∙ unknown (times nat_cmp s.0 (turned_tlids steps)) refl ∙ sym e
+        (cond b (s ∷ filter (λ t. t.1) arrangement) (filter (λ t. t.1) arrangement)))) e ∙ unknown (times nat_cmp s.0 (turned_tlids arrangement)) refl ∙ sym e
       where
-        unknown : (n : ℕ) → times nat_cmp s.0 (turned_tlids steps) ≡ n → stands_in nat_cmp s.0 (turned_tlids steps) ≡ false
+        unknown : (n : ℕ) → times nat_cmp s.0 (turned_tlids arrangement) ≡ n → stands_in nat_cmp s.0 (turned_tlids arrangement) ≡ false
         unknown zero f = ap (nat_lt 0) f
-        unknown (suc n) f = absurd (let l : Known nat_cmp (arranged_tlids steps) s.0 = turned_known steps s.0 (omega (arith, f)) in
+        unknown (suc n) f = absurd (let l : Known nat_cmp (arranged_tlids arrangement) s.0 = turned_known arrangement s.0 (omega (arith, f)) in
             omega (arith, l, none))
 
-    later : (b : Bool) (t : ℕ × Bool) → stands_in nat_cmp t.0 (turned_tlids steps) ≡ t.1 → is_eq (nat_cmp t.0 s.0) ≡ false
-        → stands_in nat_cmp t.0 (map (λ (u : ℕ × Bool). u.0) (cond b (s ∷ filter (λ u. u.1) steps) (filter (λ u. u.1) steps))) ≡ t.1
-    later true t h ne = ap (nat_lt 0) (times-no nat_keys t.0 s.0 (turned_tlids steps) ne) ∙ h
+    later : (b : Bool) (t : ℕ × Bool) → stands_in nat_cmp t.0 (turned_tlids arrangement) ≡ t.1 → is_eq (nat_cmp t.0 s.0) ≡ false
+        → stands_in nat_cmp t.0 (map (λ (u : ℕ × Bool). u.0) (cond b (s ∷ filter (λ u. u.1) arrangement) (filter (λ u. u.1) arrangement))) ≡ t.1
+    later true t h ne = ap (nat_lt 0) (times-no nat_keys t.0 s.0 (turned_tlids arrangement) ne) ∙ h
     later false t h ne = h
 
-    both : (ts : Arrangement) → AllByRecursion (λ t. stands_in nat_cmp t.0 (turned_tlids steps) ≡ t.1) ts
+    both : (ts : Arrangement) → AllByRecursion (λ t. stands_in nat_cmp t.0 (turned_tlids arrangement) ≡ t.1) ts
         → AllByRecursion (λ t. is_eq (nat_cmp t.0 s.0) ≡ false) ts
-        → AllByRecursion (λ t. (stands_in nat_cmp t.0 (turned_tlids steps) ≡ t.1) × (is_eq (nat_cmp t.0 s.0) ≡ false)) ts
+        → AllByRecursion (λ t. (stands_in nat_cmp t.0 (turned_tlids arrangement) ≡ t.1) × (is_eq (nat_cmp t.0 s.0) ≡ false)) ts
     both [] g h = tt
     both (t ∷ ts) g h = ((g.0, h.0), both ts g.1 h.1)
 
-    apart_others : (ts : Arrangement) → ((k : ℕ) → Known nat_cmp (arranged_tlids ts) k → Known nat_cmp (arranged_tlids steps) k)
+    apart_others : (ts : Arrangement) → ((k : ℕ) → Known nat_cmp (arranged_tlids ts) k → Known nat_cmp (arranged_tlids arrangement) k)
         → AllByRecursion (λ t. is_eq (nat_cmp t.0 s.0) ≡ false) ts
     apart_others [] h = tt
     apart_others (t ∷ ts) h = (
-      differ nat_keys t.0 s.0 (λ e. let l : Known nat_cmp (arranged_tlids steps) s.0 =
-          subst (Known nat_cmp (arranged_tlids steps)) e (h t.0 (known-here nat_keys t.0 (arranged_tlids ts))) in omega (arith, l, none)),
+      differ nat_keys t.0 s.0 (λ e. let l : Known nat_cmp (arranged_tlids arrangement) s.0 =
+          subst (Known nat_cmp (arranged_tlids arrangement)) e (h t.0 (known-here nat_keys t.0 (arranged_tlids ts))) in omega (arith, l, none)),
       apart_others ts (λ k l. h k (known-later nat_keys k t.0 (arranged_tlids ts) l)),
     )
 
@@ -169,17 +169,17 @@ flat_map-map : {X Y Z : Type 0} (f : Y → List Z) (g : X → Y) (xs : List X) �
 flat_map-map f g [] = refl
 flat_map-map f g (x ∷ xs) = ap (λ zs. f (g x) ++ zs) (flat_map-map f g xs)
 
-module _ (county : County) (steps : Arrangement) (is : IsCounty county) (arranges : Arranges steps county) where
-  pub steps_apart : IsApart nat_cmp (arranged_tlids steps)
-  steps_apart = apart-permutation nat_keys (arranged_tlids steps) (tlids county) arranges
+module _ (county : County) (arrangement : Arrangement) (is : IsCounty county) (arranges : Arranges arrangement county) where
+  pub arrangement_apart : IsApart nat_cmp (arranged_tlids arrangement)
+  arrangement_apart = apart-permutation nat_keys (arranged_tlids arrangement) (tlids county) arranges
       (apart_from_sorted nat_keys (tlids county) is.ascending.chains)
 
   -- the chains in their new order are the chains
-  pub order-permutation : IsPermutation (chains_in_order county steps) county.chains
-  order-permutation = subst (λ es. IsPermutation es county.chains) (flat_map-map (entries_of county.chains) (λ (s : ℕ × Bool). s.0) steps)
-      (groups-permutation (λ (entry : ℕ × Chain). entry.0) (arranged_tlids steps) county.chains steps_apart
-      (all_weaker (λ entry. Known nat_cmp (tlids county) entry.0) (λ entry. Known nat_cmp (arranged_tlids steps) entry.0)
-      (λ entry k. known-permutation nat_keys entry.0 (arranged_tlids steps) (tlids county) arranges k) county.chains
+  pub order-permutation : IsPermutation (chains_in_order county arrangement) county.chains
+  order-permutation = subst (λ es. IsPermutation es county.chains) (flat_map-map (entries_of county.chains) (λ (s : ℕ × Bool). s.0) arrangement)
+      (groups-permutation (λ (entry : ℕ × Chain). entry.0) (arranged_tlids arrangement) county.chains arrangement_apart
+      (all_weaker (λ entry. Known nat_cmp (tlids county) entry.0) (λ entry. Known nat_cmp (arranged_tlids arrangement) entry.0)
+      (λ entry k. known-permutation nat_keys entry.0 (arranged_tlids arrangement) (tlids county) arranges k) county.chains
       (keys_known nat_keys county.chains)))
 
   -- a known TLID has one chain
@@ -195,9 +195,9 @@ module _ (county : County) (steps : Arrangement) (is : IsCounty county) (arrange
       (of_number-all (λ (entry : ℕ × Chain). entry.0) n county.chains) in
       (one.0, one.1, all.0)
 
-  steps_known : AllByRecursion (λ (s : ℕ × Bool). Known nat_cmp (tlids county) s.0) steps
-  steps_known = all_weaker (λ (s : ℕ × Bool). Known nat_cmp (arranged_tlids steps) s.0) (λ s. Known nat_cmp (tlids county) s.0)
-      (λ s k. known-permutation_to nat_keys s.0 (arranged_tlids steps) (tlids county) arranges k) steps (keys_known nat_keys steps)
+  arrangement_known : AllByRecursion (λ (s : ℕ × Bool). Known nat_cmp (tlids county) s.0) arrangement
+  arrangement_known = all_weaker (λ (s : ℕ × Bool). Known nat_cmp (arranged_tlids arrangement) s.0) (λ s. Known nat_cmp (tlids county) s.0)
+      (λ s k. known-permutation_to nat_keys s.0 (arranged_tlids arrangement) (tlids county) arranges k) arrangement (keys_known nat_keys arrangement)
 
   abbrev bodies_of : ℕ × Bool → List Chain
   bodies_of s = map (λ entry. turned_if s.1 entry.1) (entries_of county.chains s.0)
@@ -217,26 +217,26 @@ module _ (county : County) (steps : Arrangement) (is : IsCounty county) (arrange
       ap (λ es. length (map (λ (entry : ℕ × Chain). turned_if s.1 entry.1) es ++ flat_map bodies_of ss)) (one_chain s.0 a.0).1
       ∙ ap suc (count_bodies ss a.1)
 
-  pub chain_count : length (placed county steps) ≡ length (arranged_tlids steps)
-  chain_count = sym (length-map (placed county steps) (λ (entry : ℕ × Chain). entry.1))
-      ∙ ap length (rights-numbered_from 1 (flat_map bodies_of steps)) ∙ count_bodies steps steps_known
+  pub chain_count : length (placed county arrangement) ≡ length (arranged_tlids arrangement)
+  chain_count = sym (length-map (placed county arrangement) (λ (entry : ℕ × Chain). entry.1))
+      ∙ ap length (rights-numbered_from 1 (flat_map bodies_of arrangement)) ∙ count_bodies arrangement arrangement_known
 
-  pub placed_tlids : map (λ (entry : ℕ × Chain). entry.0) (placed county steps) ≡ up_to (length (arranged_tlids steps))
-  placed_tlids = lefts-numbered_from 1 (flat_map bodies_of steps) ∙ ap up_to (count_bodies steps steps_known)
+  pub placed_tlids : map (λ (entry : ℕ × Chain). entry.0) (placed county arrangement) ≡ up_to (length (arranged_tlids arrangement))
+  placed_tlids = lefts-numbered_from 1 (flat_map bodies_of arrangement) ∙ ap up_to (count_bodies arrangement arrangement_known)
 
   -- any renaming that numbers and turns the chains as the arrangement does
-  module _ (r : Renumbering) (chains : r.chains ≡ numbered (arranged_tlids steps)) (turning : r.turned ≡ turned_tlids steps) where
-    new_tlids : map (image nat_cmp r.chains) (arranged_tlids steps) ≡ up_to (length (arranged_tlids steps))
+  module _ (r : Renumbering) (chains : r.chains ≡ numbered (arranged_tlids arrangement)) (turning : r.turned ≡ turned_tlids arrangement) where
+    new_tlids : map (image nat_cmp r.chains) (arranged_tlids arrangement) ≡ up_to (length (arranged_tlids arrangement))
     new_tlids =
-        let ps : List (ℕ × ℕ) = numbered (arranged_tlids steps) in
-        ap (λ pairs. map (image nat_cmp pairs) (arranged_tlids steps)) chains
-        ∙ ap (map (image nat_cmp ps)) (sym (lefts-numbered (arranged_tlids steps)))
-        ∙ images-lefts nat_keys ps (subst (IsApart nat_cmp) (sym (lefts-numbered (arranged_tlids steps))) steps_apart)
-        ∙ rights-numbered (arranged_tlids steps)
+        let ps : List (ℕ × ℕ) = numbered (arranged_tlids arrangement) in
+        ap (λ pairs. map (image nat_cmp pairs) (arranged_tlids arrangement)) chains
+        ∙ ap (map (image nat_cmp ps)) (sym (lefts-numbered (arranged_tlids arrangement)))
+        ∙ images-lefts nat_keys ps (subst (IsApart nat_cmp) (sym (lefts-numbered (arranged_tlids arrangement))) arrangement_apart)
+        ∙ rights-numbered (arranged_tlids arrangement)
 
-    stated : AllByRecursion (λ (s : ℕ × Bool). turns r s.0 ≡ s.1) steps
-    stated = subst (λ ts. AllByRecursion (λ (s : ℕ × Bool). stands_in nat_cmp s.0 ts ≡ s.1) steps) (sym turning)
-        (turns_as_stated steps steps_apart)
+    stated : AllByRecursion (λ (s : ℕ × Bool). turns r s.0 ≡ s.1) arrangement
+    stated = subst (λ ts. AllByRecursion (λ (s : ℕ × Bool). stands_in nat_cmp s.0 ts ≡ s.1) arrangement) (sym turning)
+        (turns_as_stated arrangement arrangement_apart)
 
     same_bodies : (ss : Arrangement) → AllByRecursion (λ s. turns r s.0 ≡ s.1) ss
         → map (λ (entry : ℕ × Chain). renumbered r (turned_if (turns r entry.0) entry.1))
@@ -255,14 +255,14 @@ module _ (county : County) (steps : Arrangement) (is : IsCounty county) (arrange
         ∙ sym (map-append (renumbered r) (bodies_of s) (flat_map bodies_of ss))
 
     -- carried by the renaming, the chains in their new order are the placed chains with their numbers renamed
-    pub carried_placed : map (carried_chain r) (chains_in_order county steps) ≡ map (kept_entry r) (placed county steps)
-    carried_placed = entries_equal (map (carried_chain r) (chains_in_order county steps)) (map (kept_entry r) (placed county steps))
-        (map-map (λ (entry : ℕ × Chain). entry.0) (carried_chain r) (chains_in_order county steps)
-        ∙ sym (map-map (image nat_cmp r.chains) (λ (entry : ℕ × Chain). entry.0) (chains_in_order county steps))
-        ∙ ap (map (image nat_cmp r.chains)) (order_tlids steps steps_known) ∙ new_tlids
-        ∙ sym (map-map (λ (entry : ℕ × Chain). entry.0) (kept_entry r) (placed county steps) ∙ placed_tlids))
-        (map-map (λ (entry : ℕ × Chain). entry.1) (carried_chain r) (chains_in_order county steps)
-        ∙ same_bodies steps stated
-        ∙ sym (map-map (λ (entry : ℕ × Chain). entry.1) (kept_entry r) (placed county steps)
-        ∙ sym (map-map (renumbered r) (λ (entry : ℕ × Chain). entry.1) (placed county steps))
-        ∙ ap (map (renumbered r)) (rights-numbered_from 1 (flat_map bodies_of steps))))
+    pub carried_placed : map (carried_chain r) (chains_in_order county arrangement) ≡ map (kept_entry r) (placed county arrangement)
+    carried_placed = entries_equal (map (carried_chain r) (chains_in_order county arrangement)) (map (kept_entry r) (placed county arrangement))
+        (map-map (λ (entry : ℕ × Chain). entry.0) (carried_chain r) (chains_in_order county arrangement)
+        ∙ sym (map-map (image nat_cmp r.chains) (λ (entry : ℕ × Chain). entry.0) (chains_in_order county arrangement))
+        ∙ ap (map (image nat_cmp r.chains)) (order_tlids arrangement arrangement_known) ∙ new_tlids
+        ∙ sym (map-map (λ (entry : ℕ × Chain). entry.0) (kept_entry r) (placed county arrangement) ∙ placed_tlids))
+        (map-map (λ (entry : ℕ × Chain). entry.1) (carried_chain r) (chains_in_order county arrangement)
+        ∙ same_bodies arrangement stated
+        ∙ sym (map-map (λ (entry : ℕ × Chain). entry.1) (kept_entry r) (placed county arrangement)
+        ∙ sym (map-map (renumbered r) (λ (entry : ℕ × Chain). entry.1) (placed county arrangement))
+        ∙ ap (map (renumbered r)) (rights-numbered_from 1 (flat_map bodies_of arrangement))))

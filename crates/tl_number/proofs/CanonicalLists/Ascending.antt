@@ -60,21 +60,21 @@ module _ (seen : County → County) (sight : IsSight seen) (records : List Recor
   seen_sides = sides_in_profile shown seen_is_county seen_in_profile
 
   -- each choice of least text makes a canonical list
-  pub choice_is_canonical : (steps : Arrangement) → IsLeastChoice shown steps → IsCanonicalThrough seen records (arranged_list shown steps)
-  choice_is_canonical steps least = record {
+  pub choice_is_canonical : (arrangement : Arrangement) → IsLeastChoice shown arrangement → IsCanonicalThrough seen records (arranged_list shown arrangement)
+  choice_is_canonical arrangement least = record {
     accepted = accepted;
-    canonical = least_choice_is_canonical shown seen_is_county seen_sides steps least;
-    own = subst (λ county. seen county ≡ county) (sym (read_back shown seen_is_county seen_sides steps least.choice))
-        (sight.carried (renaming_of shown steps) shown (arranged shown steps)
-        (arrangement_carries shown steps seen_is_county least.choice.arranges seen_sides) (sight.once (county_of records)));
-    same = choice_is_same shown seen_is_county seen_sides steps least.choice;
+    canonical = least_choice_is_canonical shown seen_is_county seen_sides arrangement least;
+    own = subst (λ county. seen county ≡ county) (sym (read_back shown seen_is_county seen_sides arrangement least.choice))
+        (sight.carried (renaming_of shown arrangement) shown (arranged shown arrangement)
+        (arrangement_carries shown arrangement seen_is_county least.choice.arranges seen_sides) (sight.once (county_of records)));
+    same = choice_is_same shown seen_is_county seen_sides arrangement least.choice;
   }
 
   pub canonical_exists : (answer : List Record) × IsCanonicalThrough seen records answer
   canonical_exists =
       let found = least_choice shown seen_is_county seen_sides in
-      let steps : Arrangement = numbered_choice shown found.0 in
-      (arranged_list shown steps, choice_is_canonical steps found.2)
+      let arrangement : Arrangement = numbered_choice shown found.0 in
+      (arranged_list shown arrangement, choice_is_canonical arrangement found.2)
 
   -- if shapes are distinct, the only canonical list is the one of the ascending arrangement
   pub ascends_where_apart : HasShapesApart shown → (answer : List Record) → IsCanonicalThrough seen records answer

@@ -45,9 +45,9 @@ canonical_county county is h =
     }
 
 -- The county of a choice of least text is canonical.
-pub least_choice_county : (county : County) (steps : Arrangement) → IsCounty county
-    → AllKeysStandIn (polygons_along county.chains) (polygon_keys county) → IsLeastChoice county steps
-    → IsCanonCounty (arranged county steps)
-least_choice_county county steps is sides h =
-    canonical_county (arranged county steps) (arranged_county county steps is h.choice.arranges sides)
-    (least_choice_is_canonical county is sides steps h)
+pub least_choice_county : (county : County) (arrangement : Arrangement) → IsCounty county
+    → AllKeysStandIn (polygons_along county.chains) (polygon_keys county) → IsLeastChoice county arrangement
+    → IsCanonCounty (arranged county arrangement)
+least_choice_county county arrangement is sides h =
+    canonical_county (arranged county arrangement) (arranged_county county arrangement is h.choice.arranges sides)
+    (least_choice_is_canonical county is sides arrangement h)

@@ -20,7 +20,7 @@ use Rattle.tl_number.specs.Growth.{numbered, up_to}
 use Rattle.tl_number.proofs.Arrangements.ArrangedCounties.{arranged_county, is_arranged}
 use Rattle.tl_number.proofs.Arrangements.Carrying.{arrangement_carries, chains_renamed, turned_renamed, images-numbered}
 use Rattle.tl_number.proofs.Lists.Counting.{map-equal_all}
-use Rattle.tl_number.proofs.Arrangements.Placed.{steps_apart, turns_as_stated}
+use Rattle.tl_number.proofs.Arrangements.Placed.{arrangement_apart, turns_as_stated}
 use Rattle.tl_number.proofs.Unique.Rigid.{rigid}
 
 both_or_none : (a b : Bool) → exactly_one a b ≡ false → a ≡ b
@@ -37,13 +37,13 @@ exactly_one-itself false = refl
 abbrev pub old_tlid : Renumbering → ℕ → ℕ
 old_tlid r n = image nat_cmp (swapped r.chains) n
 
--- the step of the chain that gets this TLID
-abbrev pub step_to : Renumbering → ℕ → ℕ × Bool
-step_to r n = (old_tlid r n, turns r (old_tlid r n))
+-- the directed chain that gets this TLID
+abbrev pub directed_to : Renumbering → ℕ → ℕ × Bool
+directed_to r n = (old_tlid r n, turns r (old_tlid r n))
 
 -- the order and the directions of the chains that a renaming carries onto this county
 abbrev pub read_off : Renumbering → County → Arrangement
-read_off r b = map (step_to r) (tlids b)
+read_off r b = map (directed_to r) (tlids b)
 
 module _ (r : Renumbering) (a b : County) (wa : IsCounty a) (wb : IsCounty b) (h : Carries r a b) where
   back : Carries (inverse r) b a
@@ -53,7 +53,7 @@ module _ (r : Renumbering) (a b : County) (wa : IsCounty a) (wb : IsCounty b) (h
   new_apart = apart_from_sorted nat_keys (tlids b) wb.ascending.chains
 
   read_tlids : arranged_tlids (read_off r b) ≡ map (old_tlid r) (tlids b)
-  read_tlids = map-map (λ (s : ℕ × Bool). s.0) (step_to r) (tlids b)
+  read_tlids = map-map (λ (s : ℕ × Bool). s.0) (directed_to r) (tlids b)
 
   pub read_arranges : Arranges (read_off r b) a
   read_arranges =
@@ -101,17 +101,17 @@ module _ (r : Renumbering) (a b : County) (wa : IsCounty a) (wb : IsCounty b) (h
         (sym (map-map (image nat_cmp (renaming_of a (read_off r b)).chains) (old_tlid r) (tlids b))
         ∙ ap (λ ps. map (image nat_cmp ps) (map (old_tlid r) (tlids b))) (chains_renamed a (read_off r b) wa read_arranges)
         ∙ ap (map (image nat_cmp (numbered (arranged_tlids (read_off r b))))) (sym read_tlids)
-        ∙ images-numbered (arranged_tlids (read_off r b)) (steps_apart a (read_off r b) wa read_arranges)
+        ∙ images-numbered (arranged_tlids (read_off r b)) (arrangement_apart a (read_off r b) wa read_arranges)
         ∙ ap up_to (ap length read_tlids ∙ length-map (tlids b) (old_tlid r) ∙ length-map b.chains (λ e. e.0))
         ∙ sym tb.tlids ∙ sym (map-id (tlids b)))
 
     -- and the arrangement turns each chain that was turned back
     all_turned : AllByRecursion (λ n. turns (renaming_of a (read_off r b)) (old_tlid r n) ≡ turns r (old_tlid r n)) (tlids b)
     all_turned =
-        all_unmap (λ s. turns (renaming_of a (read_off r b)) s.0 ≡ s.1) (step_to r) (tlids b)
+        all_unmap (λ s. turns (renaming_of a (read_off r b)) s.0 ≡ s.1) (directed_to r) (tlids b)
         (subst (λ ts. AllByRecursion (λ s. stands_in nat_cmp s.0 ts ≡ s.1) (read_off r b))
         (sym (turned_renamed a (read_off r b) wa read_arranges))
-        (turns_as_stated (read_off r b) (steps_apart a (read_off r b) wa read_arranges)))
+        (turns_as_stated (read_off r b) (arrangement_apart a (read_off r b) wa read_arranges)))
 
     -- The county is arranged in this way.
     pub read_makes : b ≡ arranged a (read_off r b)

@@ -25,7 +25,7 @@ use Rattle.tl_number.specs.ArrangedCounty.{IsTidy, entry_points}
 use Rattle.tl_number.specs.Canonical.{IsArrangedList, IsCanonical, IsNotAfter, IsTidyList}
 use Rattle.tl_number.specs.Strict.{IsStrict}
 use Rattle.tl_number.specs.Tidy.{HasShapesApart, IsChoice, IsLeastChoice, arranged_list, numbered_choice}
-use Rattle.tl_number.proofs.Choices.AscendingSteps.{turned_same}
+use Rattle.tl_number.proofs.Choices.AscendingArrangement.{turned_same}
 use Rattle.tl_number.proofs.Lists.SortedPlaces.{in_order-unmap}
 use Rattle.tl_number.proofs.Choices.TidyChoices.{choice_number, first_choice, numbered_is_choice}
 use Rattle.tl_number.proofs.CanonicalLists.TidyLists.{tidy_is_choice, not_after_itself}
@@ -42,10 +42,10 @@ pub one_choice : (county : County) → HasShapesApart county → choices county 
 one_choice county h = sym (choices_of_shapes county) ∙ running_one points_keys is_either_way (shapes county)
     (apart_from_no_repeat points_keys (shapes county) h.apart) h.one_way
 
-pub only_choice : (county : County) → IsCounty county → HasShapesApart county → (steps : Arrangement) → IsChoice county steps
-    → steps ≡ ascending county
-only_choice county is h steps c =
-    let found = choice_number county is steps c in
+pub only_choice : (county : County) → IsCounty county → HasShapesApart county → (arrangement : Arrangement) → IsChoice county arrangement
+    → arrangement ≡ ascending county
+only_choice county is h arrangement c =
+    let found = choice_number county is arrangement c in
     let below : found.0 < choices county = found.1 in
     let first : found.0 ≡ 0 = omega (arith, below, one_choice county h) in
     sym found.2 ∙ ap (numbered_choice county) first ∙ first_choice county is
@@ -54,7 +54,7 @@ only_choice county is h steps c =
 pub only_choice_is_least : (county : County) → IsCounty county → HasShapesApart county → IsLeastChoice county (ascending county)
 only_choice_is_least county is h = record {
   choice = subst (IsChoice county) (first_choice county is) (numbered_is_choice county is 0);
-  least = λ other c. subst (λ steps. IsNotAfter (arranged_list county (ascending county)) (arranged_list county steps))
+  least = λ other c. subst (λ arrangement. IsNotAfter (arranged_list county (ascending county)) (arranged_list county arrangement))
       (sym (only_choice county is h other c)) (not_after_itself (arranged_list county (ascending county)));
 }
 

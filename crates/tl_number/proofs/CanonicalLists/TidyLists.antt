@@ -42,32 +42,32 @@ canonical_texts_equal xs ys h k s =
 
 module _ (county : County) (is : IsCounty county) (sides : AllKeysStandIn (polygons_along county.chains) (polygon_keys county)) where
   -- The list of a choice is tidy and describes the same map.
-  module _ (steps : Arrangement) (choice : IsChoice county steps) where
-    choice_county : IsCounty (arranged county steps)
-    choice_county = arranged_county county steps is choice.arranges sides
+  module _ (arrangement : Arrangement) (choice : IsChoice county arrangement) where
+    choice_county : IsCounty (arranged county arrangement)
+    choice_county = arranged_county county arrangement is choice.arranges sides
 
-    pub read_back : county_of (arranged_list county steps) ≡ arranged county steps
-    read_back = packed_county (arranged county steps) choice_county
+    pub read_back : county_of (arranged_list county arrangement) ≡ arranged county arrangement
+    read_back = packed_county (arranged county arrangement) choice_county
 
-    pub choice_is_tidy : IsTidyList (arranged_list county steps)
+    pub choice_is_tidy : IsTidyList (arranged_list county arrangement)
     choice_is_tidy = record {
-      in_form = packed_arranged (arranged county steps) choice_county (is_arranged county steps is choice.arranges sides);
+      in_form = packed_arranged (arranged county arrangement) choice_county (is_arranged county arrangement is choice.arranges sides);
       tidy = subst IsTidy (sym read_back) choice.tidy;
     }
 
-    pub choice_is_same : AreSame county (county_of (arranged_list county steps))
+    pub choice_is_same : AreSame county (county_of (arranged_list county arrangement))
     choice_is_same = record {
-      by = renaming_of county steps;
-      carries = subst (Carries (renaming_of county steps) county) (sym read_back)
-          (arrangement_carries county steps is choice.arranges sides);
+      by = renaming_of county arrangement;
+      carries = subst (Carries (renaming_of county arrangement) county) (sym read_back)
+          (arrangement_carries county arrangement is choice.arranges sides);
     }
 
-    pub list_is_county : IsCounty (county_of (arranged_list county steps))
+    pub list_is_county : IsCounty (county_of (arranged_list county arrangement))
     list_is_county = subst IsCounty (sym read_back) choice_county
 
   -- Each tidy list of the map is the list of a choice.
   pub tidy_is_choice : (records : List Record) → IsTidyList records → AreSame county (county_of records)
-      → (steps : Arrangement) × IsChoice county steps × (records ≡ arranged_list county steps)
+      → (arrangement : Arrangement) × IsChoice county arrangement × (records ≡ arranged_list county arrangement)
   tidy_is_choice records h s =
       let new : IsCounty (county_of records) = county-is_county records h.in_form.linked in
       let made : county_of records ≡ arranged county (read_off s.by (county_of records)) =
@@ -98,25 +98,25 @@ module _ (county : County) (is : IsCounty county) (sides : AllKeysStandIn (polyg
         record {
           choice = numbered_is_choice county is found.0;
           least = λ other choice. (let m = choice_number county is other choice in
-              subst (λ steps. IsNotAfter (arranged_list county (numbered_choice county found.0)) (arranged_list county steps)) m.2
+              subst (λ arrangement. IsNotAfter (arranged_list county (numbered_choice county found.0)) (arranged_list county arrangement)) m.2
               (found.2 m.0 m.1));
         },
       )
 
   -- Its list is canonical.
-  pub least_choice_is_canonical : (steps : Arrangement) → IsLeastChoice county steps → IsCanonical (arranged_list county steps)
-  least_choice_is_canonical steps h = record {
-    in_form = (choice_is_tidy steps h.choice).in_form;
-    tidy = (choice_is_tidy steps h.choice).tidy;
+  pub least_choice_is_canonical : (arrangement : Arrangement) → IsLeastChoice county arrangement → IsCanonical (arranged_list county arrangement)
+  least_choice_is_canonical arrangement h = record {
+    in_form = (choice_is_tidy arrangement h.choice).in_form;
+    tidy = (choice_is_tidy arrangement h.choice).tidy;
     least = λ other tidy s. (let found = tidy_is_choice other tidy
-        (same-transitive county (county_of (arranged_list county steps)) (county_of other) is (list_is_county steps h.choice)
-        (choice_is_same steps h.choice) s) in
-        subst (λ records. IsNotAfter (arranged_list county steps) records) (sym found.2) (h.least found.0 found.1));
+        (same-transitive county (county_of (arranged_list county arrangement)) (county_of other) is (list_is_county arrangement h.choice)
+        (choice_is_same arrangement h.choice) s) in
+        subst (λ records. IsNotAfter (arranged_list county arrangement) records) (sym found.2) (h.least found.0 found.1));
   }
 
   -- Each canonical list of the map is the list of a choice of least text.
   pub canonical_is_choice : (records : List Record) → IsCanonical records → AreSame county (county_of records)
-      → (steps : Arrangement) × IsLeastChoice county steps × (records ≡ arranged_list county steps)
+      → (arrangement : Arrangement) × IsLeastChoice county arrangement × (records ≡ arranged_list county arrangement)
   canonical_is_choice records h s =
       let found = tidy_is_choice records (tidy_of records h) s in
       let new : IsCounty (county_of records) = county-is_county records h.in_form.linked in (

@@ -101,19 +101,19 @@ module _ (county : County) (is : IsCounty county) where
   least_of_all n least = record {
     choice = numbered_is_choice county is n;
     least = λ other choice. (let m = choice_number county is other choice in
-        subst (λ steps. IsNotAfter (choice_list county n) (arranged_list county steps)) m.2 (least m.0 m.1));
+        subst (λ arrangement. IsNotAfter (choice_list county n) (arranged_list county arrangement)) m.2 (least m.0 m.1));
   }
 
   -- the counties of two choices are the same
   module _ (sides : AllKeysStandIn (polygons_along county.chains) (polygon_keys county)) where
-    same_by : (steps : Arrangement) → IsChoice county steps → AreSame county (arranged county steps)
-    same_by steps choice = record {
-      by = renaming_of county steps;
-      carries = arrangement_carries county steps is choice.arranges sides;
+    same_by : (arrangement : Arrangement) → IsChoice county arrangement → AreSame county (arranged county arrangement)
+    same_by arrangement choice = record {
+      by = renaming_of county arrangement;
+      carries = arrangement_carries county arrangement is choice.arranges sides;
     }
 
-    county_by : (steps : Arrangement) → IsChoice county steps → IsCounty (arranged county steps)
-    county_by steps choice = arranged_county county steps is choice.arranges sides
+    county_by : (arrangement : Arrangement) → IsChoice county arrangement → IsCounty (arranged county arrangement)
+    county_by arrangement choice = arranged_county county arrangement is choice.arranges sides
 
     pub choices_same : (n m : ℕ) → AreSame (arranged county (numbered_choice county n)) (arranged county (numbered_choice county m))
     choices_same n m =

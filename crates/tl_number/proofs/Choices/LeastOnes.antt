@@ -11,30 +11,30 @@ use Rattle.tl_county.specs.Limits.{IsWithinLimits, most_records}
 use Rattle.tl_county.specs.Packing.{packed}
 use Rattle.ordered_lists.proofs.Lists.InOrder.{not_greater}
 use Rattle.tl_profile.specs.Choices.{is_either_way, open_places}
-use Rattle.tl_profile.specs.ShapeOrder.{AreWalksInOrder, points_along}
+use Rattle.tl_profile.specs.ShapeOrder.{AreInShapeOrder, points_along}
 use Rattle.tl_county.specs.declared.directed_chain.DirectedChain.{DirectedChain}
 use Rattle.tl_profile.specs.declared.open_places.OpenPlace.{OpenPlace}
 use Rattle.tl_county.proofs.Limits.FewChains.{few_chains}
 use Rattle.tl_shape.specs.PointOrder.{points_cmp}
 use Rattle.tl_number.specs.Arrangement.{arranged}
 use Rattle.tl_number.specs.LeastNumber.{choice_list}
-use Rattle.tl_number.specs.MovedSteps.{AgreeApart, AgreeButOpen, AreWithin, StandInOrder, other_way}
+use Rattle.tl_number.specs.MovedChains.{AgreeApart, AgreeButOpen, AreWithin, StandInOrder, other_way}
 use Rattle.tl_number.specs.NumberedChoices.{moved}
 use Rattle.tl_number.specs.Canonical.{IsNotAfter}
-use Rattle.tl_number.specs.Steps.{step_chain}
+use Rattle.tl_county.specs.DirectedChains.{directed_chain}
 use Rattle.tl_number.specs.Tidy.{numbered_choice}
 use Rattle.tl_number.specs.TypeOneOrder.{IsLeastFrom, IsLeastOne, ones_cmp, ones_of}
 use Rattle.tl_number.specs.ViewFacts.{AreWhole}
 use Rattle.tl_number.proofs.Arrangements.ArrangedCounties.{arranged_county}
 use Rattle.tl_number.proofs.Arrangements.ArrangedNumbers.{arrangement_within}
-use Rattle.tl_number.proofs.Views.ArrangedViews.{whole_steps}
-use Rattle.tl_number.proofs.Choices.ChosenSteps.{places_in_order, places_within, steps_of_number, steps_of_number_apart, steps_of_number_count}
-use Rattle.tl_number.proofs.Choices.ChosenSteps.{steps_of_number_there, steps_of_number_once}
+use Rattle.tl_number.proofs.Views.ArrangedViews.{whole_arrangement}
+use Rattle.tl_number.proofs.Choices.ChosenArrangements.{places_in_order, places_within, arrangement_of_number, arrangement_of_number_apart, arrangement_of_number_count}
+use Rattle.tl_number.proofs.Choices.ChosenArrangements.{arrangement_of_number_there, arrangement_of_number_once}
 use Rattle.tl_number.proofs.Choices.Choosing.{one_more}
 use Rattle.tl_number.proofs.Texts.GroupOrders.{records_total}
-use Rattle.tl_number.proofs.Choices.KeptPlaces.{agree_both}
+use Rattle.tl_number.proofs.Choices.FixedPlaces.{agree_both}
 use Rattle.tl_number.proofs.Choices.LeastNumbers.{choices_same}
-use Rattle.tl_number.proofs.Texts.SameChains.{stepped_same}
+use Rattle.tl_number.proofs.Texts.SameChains.{arranged_by_same}
 use Rattle.tl_number.proofs.Choices.TidyChoices.{numbered_is_choice}
 use Rattle.tl_number.proofs.CanonicalLists.TidyLists.{not_after_itself}
 use Rattle.tl_number.proofs.Texts.TypeOrders.{texts_in_order}
@@ -131,40 +131,40 @@ module _ (county : County) (is : IsCounty county) (within : IsWithinLimits most_
       → IsNotAfter (choice_list county n) (choice_list county m)
   least_one_first count n m least l e = less_first n m (less_from_others (ones_cmp county n m) (least m l) e)
 
-  pub whole_of_number : (walks : List DirectedChain) (order : AreWalksInOrder county walks) (places : List OpenPlace)
-      → places ≡ open_places points_cmp is_either_way 0 (map (points_along county) walks) → (steps : List DirectedChain) (n : ℕ)
-      → steps ≡ (moved other_way places (walks, n)).0 → AreWhole county steps
-  whole_of_number walks order places there steps n stated =
-      whole_steps county steps is within (steps_of_number_there county is walks order places there steps n stated)
-      (steps_of_number_once county is walks order places there steps n stated) sides (few_chains county within)
+  pub whole_of_number : (by_shape : List DirectedChain) (order : AreInShapeOrder county by_shape) (places : List OpenPlace)
+      → places ≡ open_places points_cmp is_either_way 0 (map (points_along county) by_shape) → (arrangement : List DirectedChain) (n : ℕ)
+      → arrangement ≡ (moved other_way places (by_shape, n)).0 → AreWhole county arrangement
+  whole_of_number by_shape order places there arrangement n stated =
+      whole_arrangement county arrangement is within (arrangement_of_number_there county is by_shape order places there arrangement n stated)
+      (arrangement_of_number_once county is by_shape order places there arrangement n stated) sides (few_chains county within)
 
-  module _ (walks : List DirectedChain) (order : AreWalksInOrder county walks) (places : List OpenPlace)
-      (there : places ≡ open_places points_cmp is_either_way 0 (map (points_along county) walks)) (one other : List DirectedChain) (n m : ℕ)
-      (stated : one ≡ (moved other_way places (walks, n)).0) (other_stated : other ≡ (moved other_way places (walks, m)).0) where
-    -- The steps of two numbers agree, except for those moved at open places,
+  module _ (by_shape : List DirectedChain) (order : AreInShapeOrder county by_shape) (places : List OpenPlace)
+      (there : places ≡ open_places points_cmp is_either_way 0 (map (points_along county) by_shape)) (one other : List DirectedChain) (n m : ℕ)
+      (stated : one ≡ (moved other_way places (by_shape, n)).0) (other_stated : other ≡ (moved other_way places (by_shape, m)).0) where
+    -- The arrangements of two numbers agree, except for those moved at open places,
     pub agree_of_numbers : (all : List OpenPlace) → all ≡ places → AgreeButOpen county all one other
     agree_of_numbers all same =
-        let count : length one ≡ length walks = steps_of_number_count county is walks order places there one n stated in
-        let other_count : length other ≡ length walks = steps_of_number_count county is walks order places there other m other_stated in
+        let count : length one ≡ length by_shape = arrangement_of_number_count county is by_shape order places there one n stated in
+        let other_count : length other ≡ length by_shape = arrangement_of_number_count county is by_shape order places there other m other_stated in
         record {
-          whole = whole_of_number walks order places there one n stated;
-          other_whole = whole_of_number walks order places there other m other_stated;
+          whole = whole_of_number by_shape order places there one n stated;
+          other_whole = whole_of_number by_shape order places there other m other_stated;
           count = count ∙ sym other_count;
           within = subst (λ k. AreWithin k all) (sym count)
-              (subst (AreWithin (length walks)) (sym same) (places_within county is walks order places there));
-          in_order = subst StandInOrder (sym same) (places_in_order county is walks order places there);
+              (subst (AreWithin (length by_shape)) (sym same) (places_within county is by_shape order places there));
+          in_order = subst StandInOrder (sym same) (places_in_order county is by_shape order places there);
           apart = subst (λ ps. AgreeApart ps one other) (sym same)
-              (agree_both places one other walks (steps_of_number_apart county is walks order places there one n stated)
-              (steps_of_number_apart county is walks order places there other m other_stated));
+              (agree_both places one other by_shape (arrangement_of_number_apart county is by_shape order places there one n stated)
+              (arrangement_of_number_apart county is by_shape order places there other m other_stated));
         }
 
     -- and if they have the same chains, their choices have the same list.
-    pub one_list : map (step_chain county) one ≡ map (step_chain county) other
+    pub one_list : map (directed_chain county) one ≡ map (directed_chain county) other
         → IsNotAfter (choice_list county n) (choice_list county m)
     one_list same =
         let lists : choice_list county n ≡ choice_list county m =
-        ap (λ a. packed (arranged county a)) (sym (steps_of_number county is walks order places there one n stated))
-        ∙ ap packed (stepped_same county is one other (whole_of_number walks order places there one n stated)
-        (whole_of_number walks order places there other m other_stated) same)
-        ∙ ap (λ a. packed (arranged county a)) (steps_of_number county is walks order places there other m other_stated) in
+        ap (λ a. packed (arranged county a)) (sym (arrangement_of_number county is by_shape order places there one n stated))
+        ∙ ap packed (arranged_by_same county is one other (whole_of_number by_shape order places there one n stated)
+        (whole_of_number by_shape order places there other m other_stated) same)
+        ∙ ap (λ a. packed (arranged county a)) (arrangement_of_number county is by_shape order places there other m other_stated) in
         subst (IsNotAfter (choice_list county n)) lists (not_after_itself (choice_list county n))

@@ -34,8 +34,8 @@ use Rattle.tl_number.specs.Arrangement.{Arrangement, Arranges, arranged_tlids, e
 use Rattle.tl_number.specs.Arrangement.{renaming_of, arranged}
 use Rattle.tl_number.specs.ArrangedCounty.{IsTidy, entry_points}
 use Rattle.tl_number.specs.NumberedChoices.{chosen}
-use Rattle.tl_number.specs.Tidy.{IsChoice, step_shape, turned_step, numbered_choice}
-use Rattle.tl_number.proofs.Choices.AscendingSteps.{shape_turned, turned_same}
+use Rattle.tl_number.specs.Tidy.{IsChoice, directed_shape, turned_directed, numbered_choice}
+use Rattle.tl_number.proofs.Choices.AscendingArrangement.{shape_turned, turned_same}
 use Rattle.tl_number.proofs.Arrangements.Carrying.{chains_arranged}
 use Rattle.tl_number.proofs.Choices.Choosing.{IsChosen, permutation_of_times, chosen_is_choice, choice_has_number, first_stated}
 use Rattle.tl_number.proofs.Arrangements.Placed.{one_chain}
@@ -74,20 +74,20 @@ from_other : (turned : Bool) (ps : List Coordinates) → points_from (not turned
 from_other true ps = sym (reverse-reverse ps)
 from_other false ps = refl
 
--- the points of the chain of a step, in the direction of the step
-abbrev pub step_points : County → ℕ × Bool → List Coordinates
-step_points county step = flat_map (λ (entry : ℕ × Chain). points_from step.1 entry.1.points) (entries_of county.chains step.0)
+-- the points of a directed chain, in its direction
+abbrev pub directed_points : County → ℕ × Bool → List Coordinates
+directed_points county directed = flat_map (λ (entry : ℕ × Chain). points_from directed.1 entry.1.points) (entries_of county.chains directed.0)
 
 turned_points : (b : Bool) (c : Chain) → (turned_if b c).points ≡ points_from b c.points
 turned_points true c = refl
 turned_points false c = refl
 
-abbrev step_tlid : ℕ × Bool → ℕ
-step_tlid s = s.0
+abbrev directed_tlid : ℕ × Bool → ℕ
+directed_tlid s = s.0
 
--- a step of a chain in the county, in a direction in which its points are its shape
+-- a chain of the county, in a direction in which its points are its shape
 abbrev pub IsLawful : County → ℕ × Bool → Type 0
-IsLawful county s = Known nat_cmp (tlids county) s.0 × (step_points county s ≡ step_shape county s)
+IsLawful county s = Known nat_cmp (tlids county) s.0 × (directed_points county s ≡ directed_shape county s)
 
 module _ (county : County) (is : IsCounty county) where
   abbrev ordered : List (ℕ × Chain)
@@ -98,7 +98,7 @@ module _ (county : County) (is : IsCounty county) where
 
   pub shapes_arrange : Arranges (ascending county) county
   shapes_arrange = subst (λ ns. IsPermutation ns (tlids county))
-      (sym (map-map step_tlid (λ (e : ℕ × Chain). (e.0, comes_turned e.1)) ordered))
+      (sym (map-map directed_tlid (λ (e : ℕ × Chain). (e.0, comes_turned e.1)) ordered))
       (IsPermutation-map (λ (e : ℕ × Chain). e.0) ordered county.chains
       (in_order-is_permutation (on entry_shape points_cmp) county.chains))
 
@@ -118,36 +118,36 @@ module _ (county : County) (is : IsCounty county) where
       only (inr m) = absurd m
 
   points_under : (n : ℕ) (b : Bool) (e : ℕ × Chain) → entries_of county.chains n ≡ e ∷ []
-      → step_points county (n, b) ≡ points_from b e.1.points
+      → directed_points county (n, b) ≡ points_from b e.1.points
   points_under n b e one = ap (flat_map (λ (d : ℕ × Chain). points_from b d.1.points)) one ∙ append-nil (points_from b e.1.points)
 
   shape_under : (n : ℕ) (e : ℕ × Chain) → entries_of county.chains n ≡ e ∷ [] → shape n ≡ least_points e.1.points
   shape_under n e one = ap (flat_map entry_shape) one ∙ append-nil (least_points e.1.points)
 
-  opposite : (n : ℕ) (b : Bool) → Known nat_cmp (tlids county) n → step_points county (n, not b) ≡ reverse (step_points county (n, b))
+  opposite : (n : ℕ) (b : Bool) → Known nat_cmp (tlids county) n → directed_points county (n, not b) ≡ reverse (directed_points county (n, b))
   opposite n b k =
       let one = under n k in
       points_under n (not b) one.0 one.1 ∙ from_other b one.0.1.points ∙ ap reverse (sym (points_under n b one.0 one.1))
 
   -- a chain that is its own reverse may also run in the other direction, and no other chain may
-  turned_lawful : (s : ℕ × Bool) → IsLawful county s → is_either_way (shape s.0) ≡ true → IsLawful county (turned_step s)
+  turned_lawful : (s : ℕ × Bool) → IsLawful county s → is_either_way (shape s.0) ≡ true → IsLawful county (turned_directed s)
   turned_lawful s l e = (
     l.0,
     opposite s.0 s.1 l.0 ∙ ap reverse l.1 ∙ sym (same-true points_keys (shape s.0) (reverse (shape s.0)) e),
   )
 
   one_way : (s t : ℕ × Bool) → t.0 ≡ s.0 → IsLawful county s → IsLawful county t
-      → (t ≡ s) ⊎ ((is_either_way (shape s.0) ≡ true) × (t ≡ turned_step s))
+      → (t ≡ s) ⊎ ((is_either_way (shape s.0) ≡ true) × (t ≡ turned_directed s))
   one_way s t e l m = go s.1 t.1 refl refl
     where
-      other : t.1 ≡ not s.1 → (t ≡ s) ⊎ ((is_either_way (shape s.0) ≡ true) × (t ≡ turned_step s))
+      other : t.1 ≡ not s.1 → (t ≡ s) ⊎ ((is_either_way (shape s.0) ≡ true) × (t ≡ turned_directed s))
       other f =
-          let same : t ≡ turned_step s = λ i. (e i, f i) in
+          let same : t ≡ turned_directed s = λ i. (e i, f i) in
           let back : reverse (shape s.0) ≡ shape s.0 =
-          ap reverse (sym l.1) ∙ sym (opposite s.0 s.1 l.0) ∙ ap (step_points county) (sym same) ∙ m.1 ∙ ap shape e in
+          ap reverse (sym l.1) ∙ sym (opposite s.0 s.1 l.0) ∙ ap (directed_points county) (sym same) ∙ m.1 ∙ ap shape e in
           inr (subst (λ qs. is_eq (points_cmp (shape s.0) qs) ≡ true) (sym back) (same-itself points_keys (shape s.0)), same)
 
-      go : (b c : Bool) → s.1 ≡ b → t.1 ≡ c → (t ≡ s) ⊎ ((is_either_way (shape s.0) ≡ true) × (t ≡ turned_step s))
+      go : (b c : Bool) → s.1 ≡ b → t.1 ≡ c → (t ≡ s) ⊎ ((is_either_way (shape s.0) ≡ true) × (t ≡ turned_directed s))
       go true true f g = inl (λ i. (e i, (g ∙ sym f) i))
       go false false f g = inl (λ i. (e i, (g ∙ sym f) i))
       go true false f g = other (g ∙ ap not (sym f))
@@ -158,10 +158,10 @@ module _ (county : County) (is : IsCounty county) where
   among_ordered = each_from (λ e. Among e county.chains) ordered
       (λ e m. from_in_order (on entry_shape points_cmp) county.chains e m)
 
-  abbrev least_step : ℕ × Chain → ℕ × Bool
-  least_step e = (e.0, comes_turned e.1)
+  abbrev least_directed : ℕ × Chain → ℕ × Bool
+  least_directed e = (e.0, comes_turned e.1)
 
-  least_lawful : (e : ℕ × Chain) → Among e county.chains → IsLawful county (least_step e)
+  least_lawful : (e : ℕ × Chain) → Among e county.chains → IsLawful county (least_directed e)
   least_lawful e m = (
     among_known nat_keys e.0 (tlids county) (among-map (λ (d : ℕ × Chain). d.0) e county.chains m),
     points_under e.0 (comes_turned e.1) e (under_own e m) ∙ sym (turned_points (comes_turned e.1) e.1) ∙ shape_turned e
@@ -169,36 +169,36 @@ module _ (county : County) (is : IsCounty county) where
   )
 
   all_lawful : AllByRecursion (IsLawful county) (ascending county)
-  all_lawful = all_map (IsLawful county) least_step ordered
-      (all_weaker (λ e. Among e county.chains) (λ e. IsLawful county (least_step e)) least_lawful ordered among_ordered)
+  all_lawful = all_map (IsLawful county) least_directed ordered
+      (all_weaker (λ e. Among e county.chains) (λ e. IsLawful county (least_directed e)) least_lawful ordered among_ordered)
 
-  pub shapes_ascending : map (step_shape county) (ascending county) ≡ map entry_shape ordered
-  shapes_ascending = map-map (step_shape county) least_step ordered
-      ∙ map_agree_all (λ e. step_shape county (least_step e)) entry_shape (λ e. Among e county.chains)
+  pub shapes_ascending : map (directed_shape county) (ascending county) ≡ map entry_shape ordered
+  shapes_ascending = map-map (directed_shape county) least_directed ordered
+      ∙ map_agree_all (λ e. directed_shape county (least_directed e)) entry_shape (λ e. Among e county.chains)
       (λ e m. shape_under e.0 e (under_own e m)) ordered among_ordered
 
-  in_ascending : IsInOrder (on (step_shape county) points_cmp) (ascending county)
-  in_ascending = in_order-unmap points_cmp (step_shape county) (ascending county)
+  in_ascending : IsInOrder (on (directed_shape county) points_cmp) (ascending county)
+  in_ascending = in_order-unmap points_cmp (directed_shape county) (ascending county)
       (subst (IsInOrder points_cmp) (sym shapes_ascending)
       (in_order-map points_cmp entry_shape ordered (in_order-in_order (on_total entry_shape points_keys.total) county.chains)))
 
-  count_is : running points_cmp is_either_way (map (step_shape county) (ascending county)) ≡ choices county
+  count_is : running points_cmp is_either_way (map (directed_shape county) (ascending county)) ≡ choices county
   count_is = ap (running points_cmp is_either_way) shapes_ascending
       ∙ running-same points_keys is_either_way (map entry_shape ordered) (shapes county)
       (from_permutation (map entry_shape ordered) (shapes county)
       (IsPermutation-map entry_shape ordered county.chains (in_order-is_permutation (on entry_shape points_cmp) county.chains)))
       ∙ choices_of_shapes county
 
-  -- the chains of an arranged county have the points of the steps
-  module _ (steps : Arrangement) (arranges : Arranges steps county) where
-    steps_known : AllByRecursion (λ (s : ℕ × Bool). Known nat_cmp (tlids county) s.0) steps
-    steps_known = all_weaker (λ (s : ℕ × Bool). Known nat_cmp (arranged_tlids steps) s.0) (λ s. Known nat_cmp (tlids county) s.0)
-        (λ s k. known-permutation_to nat_keys s.0 (arranged_tlids steps) (tlids county) arranges k) steps (keys_known nat_keys steps)
+  -- the chains of an arranged county have the points of the directed chains
+  module _ (arrangement : Arrangement) (arranges : Arranges arrangement county) where
+    arrangement_known : AllByRecursion (λ (s : ℕ × Bool). Known nat_cmp (tlids county) s.0) arrangement
+    arrangement_known = all_weaker (λ (s : ℕ × Bool). Known nat_cmp (arranged_tlids arrangement) s.0) (λ s. Known nat_cmp (tlids county) s.0)
+        (λ s k. known-permutation_to nat_keys s.0 (arranged_tlids arrangement) (tlids county) arranges k) arrangement (keys_known nat_keys arrangement)
 
     bodies_points : (ss : Arrangement) → AllByRecursion (λ (s : ℕ × Bool). Known nat_cmp (tlids county) s.0) ss
         → map (λ (c : Chain). c.points)
         (flat_map (λ (s : ℕ × Bool). map (λ (e : ℕ × Chain). turned_if s.1 e.1) (entries_of county.chains s.0)) ss)
-        ≡ map (step_points county) ss
+        ≡ map (directed_points county) ss
     bodies_points [] a = refl
     bodies_points (s ∷ ss) a =
         let one = under s.0 a.0 in
@@ -207,99 +207,99 @@ module _ (county : County) (is : IsCounty county) where
         ap (λ es. map (λ (c : Chain). c.points) (map (λ (e : ℕ × Chain). turned_if s.1 e.1) es ++ rest)) one.1
         ∙ (λ i. (turned_points s.1 one.0.1 ∙ sym (points_under s.0 s.1 one.0 one.1)) i ∷ bodies_points ss a.1 i)
 
-    points_of_steps : map entry_points (arranged county steps).chains ≡ map (step_points county) steps
-    points_of_steps =
-        ap (map entry_points) (chains_arranged county steps is arranges)
-        ∙ map-map entry_points (kept_entry (renaming_of county steps)) (placed county steps)
-        ∙ sym (map-map (λ (c : Chain). c.points) (λ (e : ℕ × Chain). e.1) (placed county steps))
+    points_of_arrangement : map entry_points (arranged county arrangement).chains ≡ map (directed_points county) arrangement
+    points_of_arrangement =
+        ap (map entry_points) (chains_arranged county arrangement is arranges)
+        ∙ map-map entry_points (kept_entry (renaming_of county arrangement)) (placed county arrangement)
+        ∙ sym (map-map (λ (c : Chain). c.points) (λ (e : ℕ × Chain). e.1) (placed county arrangement))
         ∙ ap (map (λ (c : Chain). c.points))
         (rights-numbered_from 1 (flat_map (λ (s : ℕ × Bool). map (λ (e : ℕ × Chain). turned_if s.1 e.1)
-        (entries_of county.chains s.0)) steps))
-        ∙ bodies_points steps steps_known
+        (entries_of county.chains s.0)) arrangement))
+        ∙ bodies_points arrangement arrangement_known
 
     abbrev IsNotAfterReverse : List Coordinates → Type 0
     IsNotAfterReverse ps = is_gt (points_cmp ps (reverse ps)) ≡ false
 
-    shapes_of_lawful : AllByRecursion (IsLawful county) steps → map (step_points county) steps ≡ map (step_shape county) steps
-    shapes_of_lawful a = map_agree_all (step_points county) (step_shape county) (IsLawful county) (λ s l. l.1) steps a
+    shapes_of_lawful : AllByRecursion (IsLawful county) arrangement → map (directed_points county) arrangement ≡ map (directed_shape county) arrangement
+    shapes_of_lawful a = map_agree_all (directed_points county) (directed_shape county) (IsLawful county) (λ s l. l.1) arrangement a
 
-    -- if the county gets tidy, the steps are lawful and in order, and conversely
-    lawful_from_tidy : IsTidy (arranged county steps) → AllByRecursion (IsLawful county) steps
+    -- if the county gets tidy, the directed chains are lawful and in order, and conversely
+    lawful_from_tidy : IsTidy (arranged county arrangement) → AllByRecursion (IsLawful county) arrangement
     lawful_from_tidy tidy =
-        let directions : AllByRecursion (λ s. IsNotAfterReverse (step_points county s)) steps =
-        all_unmap IsNotAfterReverse (step_points county) steps
-        (subst (AllByRecursion IsNotAfterReverse) points_of_steps
-        (all_map IsNotAfterReverse entry_points (arranged county steps).chains tidy.directions)) in
-        all_weaker (λ s. Known nat_cmp (tlids county) s.0 × IsNotAfterReverse (step_points county s)) (IsLawful county) each steps
-        (all_both (λ s. Known nat_cmp (tlids county) s.0) (λ s. IsNotAfterReverse (step_points county s)) steps steps_known directions)
+        let directions : AllByRecursion (λ s. IsNotAfterReverse (directed_points county s)) arrangement =
+        all_unmap IsNotAfterReverse (directed_points county) arrangement
+        (subst (AllByRecursion IsNotAfterReverse) points_of_arrangement
+        (all_map IsNotAfterReverse entry_points (arranged county arrangement).chains tidy.directions)) in
+        all_weaker (λ s. Known nat_cmp (tlids county) s.0 × IsNotAfterReverse (directed_points county s)) (IsLawful county) each arrangement
+        (all_both (λ s. Known nat_cmp (tlids county) s.0) (λ s. IsNotAfterReverse (directed_points county s)) arrangement arrangement_known directions)
       where
-        each : (s : ℕ × Bool) → Known nat_cmp (tlids county) s.0 × IsNotAfterReverse (step_points county s) → IsLawful county s
+        each : (s : ℕ × Bool) → Known nat_cmp (tlids county) s.0 × IsNotAfterReverse (directed_points county s) → IsLawful county s
         each s h =
             let one = under s.0 h.0 in
-            let points : step_points county s ≡ points_from s.1 one.0.1.points = points_under s.0 s.1 one.0 one.1 in
+            let points : directed_points county s ≡ points_from s.1 one.0.1.points = points_under s.0 s.1 one.0 one.1 in
             (h.0, points ∙ least_if s.1 one.0.1.points (subst IsNotAfterReverse points h.1) ∙ sym (shape_under s.0 one.0 one.1))
 
-    ordered_from_tidy : IsTidy (arranged county steps) → IsInOrder (on (step_shape county) points_cmp) steps
-    ordered_from_tidy tidy = in_order-unmap points_cmp (step_shape county) steps
-        (subst (IsInOrder points_cmp) (points_of_steps ∙ shapes_of_lawful (lawful_from_tidy tidy))
-        (in_order-map points_cmp entry_points (arranged county steps).chains tidy.ascending))
+    ordered_from_tidy : IsTidy (arranged county arrangement) → IsInOrder (on (directed_shape county) points_cmp) arrangement
+    ordered_from_tidy tidy = in_order-unmap points_cmp (directed_shape county) arrangement
+        (subst (IsInOrder points_cmp) (points_of_arrangement ∙ shapes_of_lawful (lawful_from_tidy tidy))
+        (in_order-map points_cmp entry_points (arranged county arrangement).chains tidy.ascending))
 
-    tidy_from_lawful : AllByRecursion (IsLawful county) steps → IsInOrder (on (step_shape county) points_cmp) steps
-        → IsTidy (arranged county steps)
+    tidy_from_lawful : AllByRecursion (IsLawful county) arrangement → IsInOrder (on (directed_shape county) points_cmp) arrangement
+        → IsTidy (arranged county arrangement)
     tidy_from_lawful a h = record {
-      directions = all_unmap IsNotAfterReverse entry_points (arranged county steps).chains
-          (subst (AllByRecursion IsNotAfterReverse) (sym points_of_steps)
-          (all_map IsNotAfterReverse (step_points county) steps (all_weaker (IsLawful county)
-          (λ s. IsNotAfterReverse (step_points county s)) each steps a)));
-      ascending = in_order-unmap points_cmp entry_points (arranged county steps).chains
-          (subst (IsInOrder points_cmp) (sym (points_of_steps ∙ shapes_of_lawful a))
-          (in_order-map points_cmp (step_shape county) steps h));
+      directions = all_unmap IsNotAfterReverse entry_points (arranged county arrangement).chains
+          (subst (AllByRecursion IsNotAfterReverse) (sym points_of_arrangement)
+          (all_map IsNotAfterReverse (directed_points county) arrangement (all_weaker (IsLawful county)
+          (λ s. IsNotAfterReverse (directed_points county s)) each arrangement a)));
+      ascending = in_order-unmap points_cmp entry_points (arranged county arrangement).chains
+          (subst (IsInOrder points_cmp) (sym (points_of_arrangement ∙ shapes_of_lawful a))
+          (in_order-map points_cmp (directed_shape county) arrangement h));
     }
       where
-        each : (s : ℕ × Bool) → IsLawful county s → IsNotAfterReverse (step_points county s)
+        each : (s : ℕ × Bool) → IsLawful county s → IsNotAfterReverse (directed_points county s)
         each s l =
             let one = under s.0 l.0 in
             subst IsNotAfterReverse (sym (l.1 ∙ shape_under s.0 one.0 one.1)) (least_not_after one.0.1.points)
 
   -- Each number selects a choice.
   abbrev IsChosenHere : Arrangement → Type 0
-  IsChosenHere steps =
-      IsChosen points_keys is_either_way step_tlid shape turned_step (λ s. refl) (IsLawful county) turned_lawful one_way (ascending county) steps
+  IsChosenHere arrangement =
+      IsChosen points_keys is_either_way directed_tlid shape turned_directed (λ s. refl) (IsLawful county) turned_lawful one_way (ascending county) arrangement
 
-  choice_from_chosen : (steps : Arrangement) → IsChosenHere steps → IsChoice county steps
-  choice_from_chosen steps c =
-      let arranges : Arranges steps county =
-      IsPermutation-trans (arranged_tlids steps) (arranged_tlids (ascending county)) (tlids county)
-      (permutation_of_times nat_keys (arranged_tlids steps) (arranged_tlids (ascending county)) c.names) shapes_arrange in
-      record { arranges = arranges; tidy = tidy_from_lawful steps arranges c.lawful c.ordered }
+  choice_from_chosen : (arrangement : Arrangement) → IsChosenHere arrangement → IsChoice county arrangement
+  choice_from_chosen arrangement c =
+      let arranges : Arranges arrangement county =
+      IsPermutation-trans (arranged_tlids arrangement) (arranged_tlids (ascending county)) (tlids county)
+      (permutation_of_times nat_keys (arranged_tlids arrangement) (arranged_tlids (ascending county)) c.names) shapes_arrange in
+      record { arranges = arranges; tidy = tidy_from_lawful arrangement arranges c.lawful c.ordered }
 
-  chosen_from_choice : (steps : Arrangement) → IsChoice county steps → IsChosenHere steps
-  chosen_from_choice steps c = record {
-    names = λ n. sym (times-permutation nat_keys n (arranged_tlids steps) (tlids county) c.arranges)
+  chosen_from_choice : (arrangement : Arrangement) → IsChoice county arrangement → IsChosenHere arrangement
+  chosen_from_choice arrangement c = record {
+    names = λ n. sym (times-permutation nat_keys n (arranged_tlids arrangement) (tlids county) c.arranges)
         ∙ times-permutation nat_keys n (arranged_tlids (ascending county)) (tlids county) shapes_arrange;
-    lawful = lawful_from_tidy steps c.arranges c.tidy;
-    ordered = ordered_from_tidy steps c.arranges c.tidy;
+    lawful = lawful_from_tidy arrangement c.arranges c.tidy;
+    ordered = ordered_from_tidy arrangement c.arranges c.tidy;
   }
 
-  pub stated_here : (n : ℕ) → numbered_choice county n ≡ (chosen points_cmp is_either_way (step_shape county) turned_step (ascending county) n).0
+  pub stated_here : (n : ℕ) → numbered_choice county n ≡ (chosen points_cmp is_either_way (directed_shape county) turned_directed (ascending county) n).0
   unfolding numbered_choice
   stated_here n = refl
 
   pub numbered_is_choice : (n : ℕ) → IsChoice county (numbered_choice county n)
   numbered_is_choice n = subst (IsChoice county) (sym (stated_here n))
-      (choice_from_chosen (chosen points_cmp is_either_way (step_shape county) turned_step (ascending county) n).0
-      (chosen_is_choice points_keys is_either_way step_tlid shape turned_step (λ s. refl) (IsLawful county) turned_lawful one_way
+      (choice_from_chosen (chosen points_cmp is_either_way (directed_shape county) turned_directed (ascending county) n).0
+      (chosen_is_choice points_keys is_either_way directed_tlid shape turned_directed (λ s. refl) (IsLawful county) turned_lawful one_way
       (ascending county) all_lawful in_ascending n))
 
   -- Each choice has a number below the number of choices.
-  pub choice_number : (steps : Arrangement) → IsChoice county steps
-      → (n : ℕ) × (n < choices county) × (numbered_choice county n ≡ steps)
-  choice_number steps c =
-      let found = choice_has_number points_keys is_either_way step_tlid shape turned_step (λ s. refl) (IsLawful county) turned_lawful one_way
-      (ascending county) all_lawful in_ascending steps (chosen_from_choice steps c) in
+  pub choice_number : (arrangement : Arrangement) → IsChoice county arrangement
+      → (n : ℕ) × (n < choices county) × (numbered_choice county n ≡ arrangement)
+  choice_number arrangement c =
+      let found = choice_has_number points_keys is_either_way directed_tlid shape turned_directed (λ s. refl) (IsLawful county) turned_lawful one_way
+      (ascending county) all_lawful in_ascending arrangement (chosen_from_choice arrangement c) in
       (found.0, subst (λ m. found.0 < m) count_is found.1, stated_here found.0 ∙ found.2)
 
   -- Number 0 is the ascending arrangement.
   pub first_choice : numbered_choice county 0 ≡ ascending county
   first_choice = stated_here 0
-      ∙ ap (λ r. r.0) (first_stated points_keys is_either_way step_tlid shape turned_step (λ s. refl) (ascending county))
+      ∙ ap (λ r. r.0) (first_stated points_keys is_either_way directed_tlid shape turned_directed (λ s. refl) (ascending county))

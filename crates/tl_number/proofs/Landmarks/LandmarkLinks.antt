@@ -25,7 +25,7 @@ use Rattle.ordered_lists.proofs.Lists.Elements.{all_weaker}
 use Rattle.tl_county.proofs.Lists.OfNumber.{groups-permutation}
 use Rattle.ordered_lists.proofs.Lists.Permutations.{in_order-is_permutation}
 use Rattle.tl_number.specs.ViewFacts.{links_up_to}
-use Rattle.tl_number.proofs.Views.StepChains.{flat_map-map}
+use Rattle.tl_number.proofs.Views.DirectedChains.{flat_map-map}
 
 -- one more piece
 piece_more : {Y : Type 0} (f : ℕ → List Y) (a n : ℕ) → flat_map f (range_with_len a (suc n)) ≡ flat_map f (range_with_len a n) ++ f (a + n)

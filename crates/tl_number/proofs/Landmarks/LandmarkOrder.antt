@@ -32,9 +32,9 @@ use Rattle.ordered_lists.proofs.Lists.Permutations.{in_order-is_permutation}
 use Rattle.tl_number.specs.Arrangement.{Arrangement, landmarks_in_order, links_relinked, relinked, new_keys, polygons_in_order}
 use Rattle.tl_number.specs.Growth.{numbered, up_to}
 use Rattle.tl_number.specs.LandmarkItems.{link_under, lands_at, numbered_links, own_links, landmark_place_cmp}
-use Rattle.tl_number.specs.Steps.{arrangement_of}
+use Rattle.tl_number.specs.DirectedChains.{arrangement_of}
 use Rattle.tl_number.specs.Uses.{links_of, landmark_key, landmark_key_cmp}
-use Rattle.tl_number.specs.ViewFacts.{AreWhole, AreReadAt, stepped}
+use Rattle.tl_number.specs.ViewFacts.{AreWhole, AreReadAt, arranged_by}
 use Rattle.tl_county.specs.declared.directed_chain.DirectedChain.{DirectedChain}
 use Rattle.tl_number.proofs.Arrangements.Carrying.{landmarks_permutation, links_arranged, lands_renamed, images-numbered}
 use Rattle.tl_number.proofs.Lists.Counting.{up_to-strict}
@@ -44,7 +44,7 @@ use Rattle.tl_number.proofs.Polygons.PolygonOrder.{read_mapped}
 use Rattle.tl_number.proofs.Unique.SameLandmarks.{landmark_key_keys, relanded, count-permutation, is_link, times-links, links_of-in_order}
 use Rattle.tl_number.proofs.Unique.SameLandmarks.{count-relanded}
 use Rattle.tl_number.proofs.Lists.SortedPlaces.{sorted_places}
-use Rattle.tl_number.proofs.Views.StepChains.{among-get}
+use Rattle.tl_number.proofs.Views.DirectedChains.{among-get}
 use Rattle.tl_number.proofs.Views.ViewChains.{arranges}
 use Rattle.tl_number.proofs.Landmarks.LandmarkLinks.{listed}
 use Rattle.tl_number.proofs.Views.ViewTables.{by_land, keys_paired}
@@ -96,10 +96,10 @@ pub numbered_by_land : (county : County) (polygons : List PolygonKey) (numbers :
 numbered_by_land county polygons numbers =
     by_land (numbered_links county polygons numbers) (in_order-in_order link_keys.total (map (link_under polygons numbers) county.links))
 
-module _ (county : County) (steps : List DirectedChain) (is : IsCounty county) (whole : AreWhole county steps) (polygons : List PolygonKey)
-    (stated : polygons ≡ polygons_in_order county (arrangement_of county steps)) where
+module _ (county : County) (arrangement : List DirectedChain) (is : IsCounty county) (whole : AreWhole county arrangement) (polygons : List PolygonKey)
+    (stated : polygons ≡ polygons_in_order county (arrangement_of county arrangement)) where
   abbrev order : Arrangement
-  order = arrangement_of county steps
+  order = arrangement_of county arrangement
 
   abbrev f_old : ℕ → ℕ
   f_old = image nat_cmp (numbered (lands county))
@@ -192,7 +192,7 @@ module _ (county : County) (steps : List DirectedChain) (is : IsCounty county) (
           (read_mapped (λ (d : ℕ × List Body7). d.0) county.landmarks (landmarks_in_order county order) places landmarks_stated)
 
       permuted_landmarks : IsPermutation (landmarks_in_order county order) county.landmarks
-      permuted_landmarks = landmarks_permutation county order is (arranges county steps is whole)
+      permuted_landmarks = landmarks_permutation county order is (arranges county arrangement is whole)
 
       pub lands_once : has_repeat nat_cmp (lands_at county places) ≡ false
       lands_once = ap (has_repeat nat_cmp) lands_stated
@@ -201,7 +201,7 @@ module _ (county : County) (steps : List DirectedChain) (is : IsCounty county) (
           (IsPermutation-map (λ (d : ℕ × List Body7). d.0) (landmarks_in_order county order) county.landmarks permuted_landmarks)
           lands_apart)
 
-      pub new_links : numbered_links county polygons (lands_at county places) ≡ (stepped county steps).links
+      pub new_links : numbered_links county polygons (lands_at county places) ≡ (arranged_by county arrangement).links
       new_links =
           ap₂ (λ ps ls. in_order link_cmp (map (λ (l : Fields8). record {
             file = l.file;
@@ -209,6 +209,6 @@ module _ (county : County) (steps : List DirectedChain) (is : IsCounty county) (
             polyid = (image key_cmp ps (link_key l)).1;
             land = image nat_cmp ls l.land;
           }) county.links))
-          (keys_paired county steps is whole polygons stated)
-          (ap numbered lands_stated ∙ sym (lands_renamed county order is (arranges county steps is whole)))
-          ∙ sym (links_arranged county order is (arranges county steps is whole))
+          (keys_paired county arrangement is whole polygons stated)
+          (ap numbered lands_stated ∙ sym (lands_renamed county order is (arranges county arrangement is whole)))
+          ∙ sym (links_arranged county order is (arranges county arrangement is whole))

@@ -113,30 +113,30 @@ drop_whole (suc n) [] h = refl
 drop_whole zero (x ∷ l) h = absurd (omega arith)
 drop_whole (suc n) (x ∷ l) h = drop_whole n l (omega arith)
 
-pieces-nil : {X : Type 0} (n room : ℕ) → pieces {X = X} n room [] ≡ []
+pieces-nil : {X : Type 0} (n most : ℕ) → pieces {X = X} n most [] ≡ []
 pieces-nil n zero = refl
-pieces-nil n (suc room) = refl
+pieces-nil n (suc most) = refl
 
-pub pieces-joined : {X : Type 0} (n : ℕ) → 1 ≤ n → (ls : List (List X)) → AreFull n ls → (room : ℕ) → length (flat_map (λ l. l) ls) ≤ room
-    → pieces n room (flat_map (λ l. l) ls) ≡ ls
-pieces-joined n one [] f room h = pieces-nil n room
-pieces-joined n one ([] ∷ []) f room h = absurd (let t : 1 ≤ 0 = f.0 in omega arith)
+pub pieces-joined : {X : Type 0} (n : ℕ) → 1 ≤ n → (ls : List (List X)) → AreFull n ls → (most : ℕ) → length (flat_map (λ l. l) ls) ≤ most
+    → pieces n most (flat_map (λ l. l) ls) ≡ ls
+pieces-joined n one [] f most h = pieces-nil n most
+pieces-joined n one ([] ∷ []) f most h = absurd (let t : 1 ≤ 0 = f.0 in omega arith)
 pieces-joined n one ((x ∷ l) ∷ []) f zero h = absurd (omega arith)
-pieces-joined n one ((x ∷ l) ∷ []) f (suc room) h =
+pieces-joined n one ((x ∷ l) ∷ []) f (suc most) h =
     let whole : l ++ [] ≡ l = append-nil l in
     let le : length (x ∷ l) ≤ n = f.1 in
-    ap (λ ys. take n (x ∷ ys) ∷ pieces n room (drop n (x ∷ ys))) whole
-    ∙ ap₂ (λ ys zs. ys ∷ pieces n room zs) (take_whole n (x ∷ l) le) (drop_whole n (x ∷ l) le)
-    ∙ ap (λ ys. (x ∷ l) ∷ ys) (pieces-nil n room)
-pieces-joined n one ([] ∷ m ∷ ls) f room h = absurd (let t : 0 ≡ n = f.0 in omega arith)
+    ap (λ ys. take n (x ∷ ys) ∷ pieces n most (drop n (x ∷ ys))) whole
+    ∙ ap₂ (λ ys zs. ys ∷ pieces n most zs) (take_whole n (x ∷ l) le) (drop_whole n (x ∷ l) le)
+    ∙ ap (λ ys. (x ∷ l) ∷ ys) (pieces-nil n most)
+pieces-joined n one ([] ∷ m ∷ ls) f most h = absurd (let t : 0 ≡ n = f.0 in omega arith)
 pieces-joined n one ((x ∷ l) ∷ m ∷ ls) f zero h = absurd (omega arith)
-pieces-joined n one ((x ∷ l) ∷ m ∷ ls) f (suc room) h =
+pieces-joined n one ((x ∷ l) ∷ m ∷ ls) f (suc most) h =
     let rest : List _ = flat_map (λ l. l) (m ∷ ls) in
     let full : length (x ∷ l) ≡ n = f.0 in
-    ap₂ (λ ys zs. ys ∷ pieces n room zs)
+    ap₂ (λ ys zs. ys ∷ pieces n most zs)
     (subst (λ k. take k ((x ∷ l) ++ rest) ≡ x ∷ l) full (take_front (x ∷ l) rest))
     (subst (λ k. drop k ((x ∷ l) ++ rest) ≡ rest) full (drop_front (x ∷ l) rest))
-    ∙ ap (λ ys. (x ∷ l) ∷ ys) (pieces-joined n one (m ∷ ls) f.1 room (let t : length (l ++ rest) ≡ length l + length rest =
+    ∙ ap (λ ys. (x ∷ l) ∷ ys) (pieces-joined n one (m ∷ ls) f.1 most (let t : length (l ++ rest) ≡ length l + length rest =
     length-append l rest in omega (arith, h)))
 
 -- records with the RTSQs 1, 2, 3, .. are their contents with RTSQs

@@ -18,7 +18,7 @@ use Rattle.tl_county.proofs.Masks.MaskedReads.{chain_count_masked, points_masked
 use Rattle.tl_profile.specs.Profile.{is_clause_broken, IsInProfile}
 use Rattle.tl_profile.specs.Choices.{choices, is_either_way, most_choices, open_places, running}
 use Rattle.tl_profile.proofs.Places.{along_from}
-use Rattle.tl_profile.specs.ShapeOrder.{least_walk, least_walks, points_along, walk_cmp, AreWalksInOrder, IsShapeOrder, OrderOfShapes}
+use Rattle.tl_profile.specs.ShapeOrder.{along_shape, along_shapes, points_along, directed_cmp, AreInShapeOrder, IsShapeOrder, OrderOfShapes}
 use Rattle.tl_profile.specs.Shapes.{least_points, points_at, points_from}
 use Rattle.tl_profile.proofs.SameChoices.{choices_of_shapes}
 use Rattle.ordered_lists.proofs.Lists.Elements.{map-map}
@@ -49,34 +49,34 @@ module _ (mask : Mask) (county : County) where
   points_kept : points_at (masked mask county) ≡ points_at county
   points_kept = λ i place. points_masked mask county place i
 
-  walks_kept : least_walks (masked mask county) ≡ least_walks county
-  walks_kept =
+  by_shape_kept : along_shapes (masked mask county) ≡ along_shapes county
+  by_shape_kept =
       ap (λ (points : ℕ → List Coordinates). map (λ (place : ℕ). let w : DirectedChain = record {
         place = place;
         turned = is_lt (points_cmp (reverse (points place)) (points place));
       } in w) (range_with_len 0 (length (masked mask county).chains))) points_kept
-      ∙ ap (λ count. map (least_walk county) (range_with_len 0 count)) (chain_count_masked mask county)
+      ∙ ap (λ count. map (along_shape county) (range_with_len 0 count)) (chain_count_masked mask county)
 
-  points_along_kept : (walk : DirectedChain) → points_along (masked mask county) walk ≡ points_along county walk
-  points_along_kept walk = along_from (masked mask county) walk ∙ ap (points_from walk.turned) (λ i. points_kept i walk.place)
-      ∙ sym (along_from county walk)
+  points_along_kept : (directed : DirectedChain) → points_along (masked mask county) directed ≡ points_along county directed
+  points_along_kept directed = along_from (masked mask county) directed ∙ ap (points_from directed.turned) (λ i. points_kept i directed.place)
+      ∙ sym (along_from county directed)
 
   along_kept : points_along (masked mask county) ≡ points_along county
-  along_kept = λ i walk. points_along_kept walk i
+  along_kept = λ i directed. points_along_kept directed i
 
-  order_kept : walk_cmp (masked mask county) ≡ walk_cmp county
+  order_kept : directed_cmp (masked mask county) ≡ directed_cmp county
   order_kept = λ i a b. ordering_then (points_cmp (along_kept i a) (along_kept i b)) (nat_cmp a.place b.place)
 
-  walks_in_order : (walks : List DirectedChain) → AreWalksInOrder county walks → AreWalksInOrder (masked mask county) walks
-  walks_in_order walks h = record {
-    all = subst (λ ws. IsPermutation ws walks) (sym walks_kept) h.all;
-    in_order = subst (λ cmp. IsInOrder cmp walks) (sym order_kept) h.in_order;
+  in_shape_order : (by_shape : List DirectedChain) → AreInShapeOrder county by_shape → AreInShapeOrder (masked mask county) by_shape
+  in_shape_order by_shape h = record {
+    all = subst (λ ws. IsPermutation ws by_shape) (sym by_shape_kept) h.all;
+    in_order = subst (λ cmp. IsInOrder cmp by_shape) (sym order_kept) h.in_order;
   }
 
   pub masked_shape_order : (order : OrderOfShapes) → IsShapeOrder county order → IsShapeOrder (masked mask county) order
   masked_shape_order order h = record {
-    walks = walks_in_order order.walks h.walks;
+    by_shape = in_shape_order order.by_shape h.by_shape;
     count = h.count ∙ ap (λ n. min n (suc most_choices)) (sym choices_kept);
     places = λ few. h.places (subst (λ n. n ≤ most_choices) choices_kept few)
-        ∙ ap (λ (along : DirectedChain → List Coordinates). open_places points_cmp is_either_way 0 (map along order.walks)) (sym along_kept);
+        ∙ ap (λ (along : DirectedChain → List Coordinates). open_places points_cmp is_either_way 0 (map along order.by_shape)) (sym along_kept);
   }

@@ -28,13 +28,13 @@ use Rattle.tl_county.specs.Laws.KeyOrders.{name_body_keys}
 use Rattle.ordered_lists.proofs.ByKey.Keys.{IsKeyOrder, IsApart, nat_keys, times-append, times-yes, apart-permutation, apart_from_sorted}
 use Rattle.tl_number.specs.Arrangement.{Arrangement, arranged_tlids, placed, names_in_order}
 use Rattle.tl_number.specs.Growth.{first_seen_after, first_seen}
-use Rattle.tl_number.specs.NameItems.{feats_along_steps, from_one, rank_of, ranked_at, ranked_cmp, ranked_place}
-use Rattle.tl_number.specs.Steps.{arrangement_of}
+use Rattle.tl_number.specs.NameItems.{feats_along_arrangement, from_one, rank_of, ranked_at, ranked_cmp, ranked_place}
+use Rattle.tl_number.specs.DirectedChains.{arrangement_of}
 use Rattle.tl_number.specs.Uses.{Use, use_cmp, all_uses, uses_from, uses_of_name, name_key, name_key_cmp}
 use Rattle.tl_number.specs.ViewFacts.{AreWhole, AreReadAt}
 use Rattle.tl_county.specs.declared.directed_chain.DirectedChain.{DirectedChain}
 use Rattle.tl_number.specs.declared.name_order.RankedName.{RankedName}
-use Rattle.tl_number.proofs.Choices.AscendingSteps.{options_total}
+use Rattle.tl_number.proofs.Choices.AscendingArrangement.{options_total}
 use Rattle.tl_number.proofs.Arrangements.Carrying.{names_permutation}
 use Rattle.tl_number.proofs.Lists.Counting.{up_to-strict}
 use Rattle.tl_number.proofs.Numbering.FirstSeen.{place_from}
@@ -43,7 +43,7 @@ use Rattle.tl_number.proofs.Arrangements.Placed.{placed_tlids}
 use Rattle.tl_number.proofs.Polygons.PolygonOrder.{read_mapped}
 use Rattle.tl_number.proofs.Unique.SameNames.{name_key_keys}
 use Rattle.tl_number.proofs.Lists.SortedPlaces.{sorted_items}
-use Rattle.tl_number.proofs.Views.StepChains.{feats_placed}
+use Rattle.tl_number.proofs.Views.DirectedChains.{feats_placed}
 use Rattle.tl_number.proofs.Names.UsesOrder.{all_uses-strict}
 use Rattle.tl_number.proofs.Views.ViewChains.{arranges}
 
@@ -126,18 +126,18 @@ ranked_total county =
     then_total (on_total (λ (n : RankedName). name_at county n.place) (options_total name_body_keys.total))
     (then_total (on_total (λ (n : RankedName). n.rank) nat_cmp_total) (on_total (λ (n : RankedName). n.place) nat_cmp_total))
 
-module _ (county : County) (steps : List DirectedChain) (is : IsCounty county) (whole : AreWhole county steps) (seen : List ℕ)
-    (uses : seen ≡ first_seen nat_cmp (feats_along_steps county steps)) (items : List RankedName)
+module _ (county : County) (arrangement : List DirectedChain) (is : IsCounty county) (whole : AreWhole county arrangement) (seen : List ℕ)
+    (uses : seen ≡ first_seen nat_cmp (feats_along_arrangement county arrangement)) (items : List RankedName)
     (p : IsPermutation (map (ranked_at county seen) (range_with_len 0 (length county.names))) items)
     (ordered : IsInOrder (ranked_cmp county) items) where
   abbrev order : Arrangement
-  order = arrangement_of county steps
+  order = arrangement_of county arrangement
 
   abbrev used : List (Use × ℕ)
   used = all_uses (placed county order)
 
   seen_uses : seen ≡ first_seen_after nat_cmp [] (map (λ (u : Use × ℕ). u.1) used)
-  seen_uses = uses ∙ ap (first_seen nat_cmp) (sym (named (placed county order) ∙ feats_placed county is steps whole.there))
+  seen_uses = uses ∙ ap (first_seen nat_cmp) (sym (named (placed county order) ∙ feats_placed county is arrangement whole.there))
 
   ranked : (f : ℕ) → rank_of seen (Some f) ≡ place_from nat_keys 1 (first_seen_after nat_cmp [] (map (λ (u : Use × ℕ). u.1) used)) f
   ranked f = rank_stated seen f ∙ ap (λ ks. place_from nat_keys 1 ks f) seen_uses
@@ -147,7 +147,7 @@ module _ (county : County) (steps : List DirectedChain) (is : IsCounty county) (
   by_uses f g =
       ap₂ nat_cmp (ranked f) (ranked g)
       ∙ sym (ranks_decide [] used (all_uses-strict (placed county order)
-      (subst (IsStrictlySortedBy nat_cmp) (sym (placed_tlids county order is (arranges county steps is whole)))
+      (subst (IsStrictlySortedBy nat_cmp) (sym (placed_tlids county order is (arranges county arrangement is whole)))
       (up_to-strict (length (arranged_tlids order))))) f g refl refl)
 
   abbrev item_cmp : Option Body5 → Option ℕ → ℕ → Option Body5 → Option ℕ → ℕ → Ordering
@@ -173,13 +173,13 @@ module _ (county : County) (steps : List DirectedChain) (is : IsCounty county) (
       (on_total (name_key used) name_key_keys.total) county.names agrees items p ordered
 
 -- the tables of the names at these places, if they are those in their new order
-module _ (county : County) (steps : List DirectedChain) (is : IsCounty county) (whole : AreWhole county steps) (places : List ℕ)
-    (stated : AreReadAt county.names places (names_in_order county (arrangement_of county steps))) where
+module _ (county : County) (arrangement : List DirectedChain) (is : IsCounty county) (whole : AreWhole county arrangement) (places : List ℕ)
+    (stated : AreReadAt county.names places (names_in_order county (arrangement_of county arrangement))) where
   abbrev reordered : List (ℕ × Body5)
-  reordered = names_in_order county (arrangement_of county steps)
+  reordered = names_in_order county (arrangement_of county arrangement)
 
   permuted_names : IsPermutation reordered county.names
-  permuted_names = names_permutation county (arrangement_of county steps) is (arranges county steps is whole)
+  permuted_names = names_permutation county (arrangement_of county arrangement) is (arranges county arrangement is whole)
 
   pub feats_stated : filter_map (slice_get (feats county)) places ≡ entry_keys reordered
   feats_stated = filter_map_all (slice_get (feats county)) places (entry_keys reordered)

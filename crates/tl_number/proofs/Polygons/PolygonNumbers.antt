@@ -88,37 +88,37 @@ content_at_number county strict place polygon at_key at_number =
     value-at_place key_keys polygon.0 county.polygons place strict at_key
     ∙ subst (λ o. IfSome o Holds) at_number (all_at Holds (polygons_by_number county) all place)
 
-module _ (county : County) (steps : Arrangement) (is : IsCounty county) (arranges : Arranges steps county)
+module _ (county : County) (arrangement : Arrangement) (is : IsCounty county) (arranges : Arranges arrangement county)
     (sides : AllKeysStandIn (polygons_along county.chains) (polygon_keys county)) where
   abbrev seen : List PolygonKey
-  seen = polygons_in_order county steps
+  seen = polygons_in_order county arrangement
 
   -- a polygon with its new key and its content
   abbrev renewed : PolygonKey → PolygonKey × Option BodyP
-  renewed key = (image key_cmp (renaming_of county steps).polygons key, option_and_then (λ body. body) (polygon_under county key))
+  renewed key = (image key_cmp (renaming_of county arrangement).polygons key, option_and_then (λ body. body) (polygon_under county key))
 
-  renewed_entries : map renewed (polygon_keys county) ≡ map (carried_polygon (renaming_of county steps)) county.polygons
+  renewed_entries : map renewed (polygon_keys county) ≡ map (carried_polygon (renaming_of county arrangement)) county.polygons
   renewed_entries = map-map renewed (λ (e : PolygonKey × Option BodyP). e.0) county.polygons
-      ∙ map_agree (λ e. renewed e.0) (carried_polygon (renaming_of county steps)) county.polygons
+      ∙ map_agree (λ e. renewed e.0) (carried_polygon (renaming_of county arrangement)) county.polygons
       (each county.polygons (all_under county.polygons is.ascending.polygons))
     where
       each : (es : List (PolygonKey × Option BodyP)) → AllByRecursion (λ e. value_under key_cmp e.0 county.polygons ≡ Some e.1) es
-          → AllByRecursion (λ e. renewed e.0 ≡ carried_polygon (renaming_of county steps) e) es
+          → AllByRecursion (λ e. renewed e.0 ≡ carried_polygon (renaming_of county arrangement) e) es
       each [] a = tt
       each (e ∷ es) a = (
-        ap (λ (o : Option (Option BodyP)). (image key_cmp (renaming_of county steps).polygons e.0, option_and_then (λ body. body) o)) a.0,
+        ap (λ (o : Option (Option BodyP)). (image key_cmp (renaming_of county arrangement).polygons e.0, option_and_then (λ body. body) o)) a.0,
         each es a.1,
       )
 
   -- the new keys have the numbers of first appearance
   renewed_numbers : map renewed seen ≡ map (under_number county) (numbered seen)
   renewed_numbers =
-      let pairs : List (PolygonKey × PolygonKey) = (renaming_of county steps).polygons in
-      let left : lefts pairs ≡ seen = polygon_lefts county steps is arranges sides in
+      let pairs : List (PolygonKey × PolygonKey) = (renaming_of county arrangement).polygons in
+      let left : lefts pairs ≡ seen = polygon_lefts county arrangement is arranges sides in
       let apart : IsApart key_cmp (lefts pairs) =
-      subst (IsApart key_cmp) (sym left) (first_seen-apart key_keys (polygons_along (placed county steps))) in
+      subst (IsApart key_cmp) (sym left) (first_seen-apart key_keys (polygons_along (placed county arrangement))) in
       let images : map (image key_cmp pairs) seen ≡ map (λ (p : PolygonKey × ℕ). (p.0.0, p.1)) (numbered seen) =
-      ap (map (image key_cmp pairs)) (sym left) ∙ images-lefts key_keys pairs apart ∙ ap rights (polygons_renamed county steps is arranges)
+      ap (map (image key_cmp pairs)) (sym left) ∙ images-lefts key_keys pairs apart ∙ ap rights (polygons_renamed county arrangement is arranges)
       ∙ map-map (λ (q : PolygonKey × PolygonKey). q.1) under_cenid (numbered seen) in
       ap (map renewed) (sym (lefts-numbered seen))
       ∙ map-map renewed (λ (p : PolygonKey × ℕ). p.0) (numbered seen)
@@ -128,24 +128,24 @@ module _ (county : County) (steps : Arrangement) (is : IsCounty county) (arrange
       ∙ ap (map (image key_cmp pairs)) (lefts-numbered seen) ∙ images)))
     where
       each : (ps : List (PolygonKey × ℕ))
-          → AllByRecursion (λ p. image key_cmp (renaming_of county steps).polygons p.0 ≡ (p.0.0, p.1)) ps
+          → AllByRecursion (λ p. image key_cmp (renaming_of county arrangement).polygons p.0 ≡ (p.0.0, p.1)) ps
           → AllByRecursion (λ p. renewed p.0 ≡ under_number county p) ps
       each [] a = tt
       each (p ∷ ps) a = (ap (λ k. (k, option_and_then (λ body. body) (polygon_under county p.0))) a.0, each ps a.1)
 
   -- The order of first appearance is the order of numbers.
-  pub by_number : map (under_number county) (numbered seen) ≡ polygons_by_number (arranged county steps)
+  pub by_number : map (under_number county) (numbered seen) ≡ polygons_by_number (arranged county arrangement)
   by_number =
       let ours : List (PolygonKey × Option BodyP) = map (under_number county) (numbered seen) in
-      let theirs : List (PolygonKey × Option BodyP) = polygons_by_number (arranged county steps) in
-      let carried : List (PolygonKey × Option BodyP) = map (carried_polygon (renaming_of county steps)) county.polygons in
+      let theirs : List (PolygonKey × Option BodyP) = polygons_by_number (arranged county arrangement) in
+      let carried : List (PolygonKey × Option BodyP) = map (carried_polygon (renaming_of county arrangement)) county.polygons in
       let sorted : List (PolygonKey × Option BodyP) = in_order (on (λ (e : PolygonKey × Option BodyP). e.0) key_cmp) carried in
       let to_carried : IsPermutation ours carried =
       subst (IsPermutation ours) renewed_entries
       (subst (λ es. IsPermutation es (map renewed (polygon_keys county))) renewed_numbers
-      (IsPermutation-map renewed seen (polygon_keys county) (polygons_permutation county steps is arranges sides))) in
+      (IsPermutation-map renewed seen (polygon_keys county) (polygons_permutation county arrangement is arranges sides))) in
       let from_sorted : IsPermutation theirs sorted =
-      subst (λ es. IsPermutation (in_order (on entry_polyid nat_cmp) es) sorted) (sym (polygons_arranged county steps is arranges))
+      subst (λ es. IsPermutation (in_order (on entry_polyid nat_cmp) es) sorted) (sym (polygons_arranged county arrangement is arranges))
       (in_order-is_permutation (on entry_polyid nat_cmp) sorted) in
       let both : IsPermutation ours theirs =
       IsPermutation-trans ours carried theirs to_carried
@@ -158,7 +158,7 @@ module _ (county : County) (steps : Arrangement) (is : IsCounty county) (arrange
       let same : map entry_polyid ours ≡ map entry_polyid theirs =
       in_order-permutation nat_keys (map entry_polyid ours) (map entry_polyid theirs)
       (in_order-strict nat_cmp (map entry_polyid ours) strict)
-      (in_order-map nat_cmp entry_polyid theirs (in_order-in_order (on_total entry_polyid nat_cmp_total) (arranged county steps).polygons))
+      (in_order-map nat_cmp entry_polyid theirs (in_order-in_order (on_total entry_polyid nat_cmp_total) (arranged county arrangement).polygons))
       (IsPermutation-map entry_polyid ours theirs both) in
       strict-permutation nat_cmp_total entry_polyid ours theirs (strict-map nat_cmp entry_polyid ours strict)
       (strict-map nat_cmp entry_polyid theirs (subst (IsStrictlySortedBy nat_cmp) same strict)) both

@@ -10,7 +10,7 @@ use Rattle.tl_shape.specs.Chain.{Chain}
 use Rattle.tl_county.specs.ChartWords.{chain_at}
 use Rattle.tl_county.specs.County.{County}
 use Rattle.tl_county.specs.CountyRules.{IsCounty, tlids}
-use Rattle.tl_county.specs.Limits.{IsWithinLimits, FitsNumbers, HasRoom, most_records}
+use Rattle.tl_county.specs.Limits.{IsWithinLimits, FitsNumbers, ListsFit, most_records}
 use Rattle.tl_county.specs.Packing.{first_point, last_point, without_last, inner_points}
 
 -- a property of all elements of a list is a property of the element at a place
@@ -32,7 +32,7 @@ pub record ChainThere (county : County) (place : ℕ) : Type 0 where
   pub two : 2 ≤ length entry.1.points
   pub is_number : IsNumber 10 entry.0
   pub named : FitsNumbers entry.1
-  pub room : HasRoom entry.1
+  pub lists : ListsFit entry.1
 
 pub chain_there : (county : County) → IsCounty county → IsWithinLimits most_records county → (place : ℕ) → place < length county.chains
     → ChainThere county place
@@ -46,7 +46,7 @@ chain_there county is within place h =
       two = all_at (λ (e : ℕ × Chain). 2 ≤ length e.1.points) county.chains place at.0 is.whole.points at.1;
       is_number = all_at (λ (e : ℕ × Chain). IsNumber 10 e.0) county.chains place at.0 within.numbers.chains at.1;
       named = all_at (λ (e : ℕ × Chain). FitsNumbers e.1) county.chains place at.0 within.numbers.named at.1;
-      room = all_at (λ (e : ℕ × Chain). HasRoom e.1) county.chains place at.0 within.room at.1;
+      lists = all_at (λ (e : ℕ × Chain). ListsFit e.1) county.chains place at.0 within.lists at.1;
     }
 
 -- the chain of a group of records

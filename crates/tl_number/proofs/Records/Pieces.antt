@@ -10,34 +10,34 @@ use Rattle.tl_number.proofs.Polygons.PolygonNumbers.{numbered_at}
 
 module _ {X : Type 0} (n : ℕ) where
   -- as many pieces as needed, and not one more
-  pub pieces_bounds : (room : ℕ) (xs : List X) → length xs ≤ room
-      → (length xs ≤ length (pieces (suc n) room xs) * suc n) × (length (pieces (suc n) room xs) * suc n < length xs + suc n)
+  pub pieces_bounds : (most : ℕ) (xs : List X) → length xs ≤ most
+      → (length xs ≤ length (pieces (suc n) most xs) * suc n) × (length (pieces (suc n) most xs) * suc n < length xs + suc n)
   pieces_bounds zero [] h = (omega arith, omega arith)
   pieces_bounds zero (x ∷ xs) h = absurd (omega (arith, h))
-  pieces_bounds (suc room) [] h = (omega arith, omega arith)
-  pieces_bounds (suc room) (x ∷ xs) h =
-      let rest = pieces_bounds room (drop n xs) (let l : length (drop n xs) ≡ length xs - n = length-drop n xs in omega (arith, h)) in
+  pieces_bounds (suc most) [] h = (omega arith, omega arith)
+  pieces_bounds (suc most) (x ∷ xs) h =
+      let rest = pieces_bounds most (drop n xs) (let l : length (drop n xs) ≡ length xs - n = length-drop n xs in omega (arith, h)) in
       go (drop n xs) (length-drop n xs) rest
     where
       go : (ys : List X) → length ys ≡ length xs - n
-          → (length ys ≤ length (pieces (suc n) room ys) * suc n) × (length (pieces (suc n) room ys) * suc n < length ys + suc n)
-          → (suc (length xs) ≤ suc (length (pieces (suc n) room ys)) * suc n)
-          × (suc (length (pieces (suc n) room ys)) * suc n < suc (length xs) + suc n)
-      go [] e b = let none : length (pieces {X = X} (suc n) room []) ≡ 0 = nothing room in
+          → (length ys ≤ length (pieces (suc n) most ys) * suc n) × (length (pieces (suc n) most ys) * suc n < length ys + suc n)
+          → (suc (length xs) ≤ suc (length (pieces (suc n) most ys)) * suc n)
+          × (suc (length (pieces (suc n) most ys)) * suc n < suc (length xs) + suc n)
+      go [] e b = let none : length (pieces {X = X} (suc n) most []) ≡ 0 = nothing most in
           (omega (arith, e, b.0), (omega (arith, e, ap (λ c. c * suc n) none)))
         where
-          nothing : (room : ℕ) → length (pieces {X = X} (suc n) room []) ≡ 0
+          nothing : (most : ℕ) → length (pieces {X = X} (suc n) most []) ≡ 0
           nothing zero = refl
-          nothing (suc room) = refl
+          nothing (suc most) = refl
       go (y ∷ ys) e b = (omega (arith, e, b.0), omega (arith, e, b.1))
 
   -- the pieces are taken after dropping the earlier ones
-  pub pieces_at : (room : ℕ) (xs : List X) (k : ℕ) → k < length (pieces (suc n) room xs)
-      → slice_get (pieces (suc n) room xs) k ≡ Some (take (suc n) (drop (k * suc n) xs))
+  pub pieces_at : (most : ℕ) (xs : List X) (k : ℕ) → k < length (pieces (suc n) most xs)
+      → slice_get (pieces (suc n) most xs) k ≡ Some (take (suc n) (drop (k * suc n) xs))
   pieces_at zero xs k h = absurd (omega (arith, h))
-  pieces_at (suc room) [] k h = absurd (omega (arith, h))
-  pieces_at (suc room) (x ∷ xs) zero h = ap (λ m. Some (take (suc n) (drop m (x ∷ xs)))) (let e : 0 ≡ 0 * suc n = omega arith in e)
-  pieces_at (suc room) (x ∷ xs) (suc k) h = pieces_at room (drop n xs) k (omega (arith, h))
+  pieces_at (suc most) [] k h = absurd (omega (arith, h))
+  pieces_at (suc most) (x ∷ xs) zero h = ap (λ m. Some (take (suc n) (drop m (x ∷ xs)))) (let e : 0 ≡ 0 * suc n = omega arith in e)
+  pieces_at (suc most) (x ∷ xs) (suc k) h = pieces_at most (drop n xs) k (omega (arith, h))
       ∙ ap (λ ys. Some (take (suc n) ys)) (drop-drop (k * suc n) (suc n) (x ∷ xs))
       ∙ ap (λ m. Some (take (suc n) (drop m (x ∷ xs)))) (let e : suc n + k * suc n ≡ suc k * suc n = omega arith in e)
 

@@ -17,20 +17,21 @@ use Rattle.tl_county.specs.PolygonKeys.{PolygonKey}
 use Rattle.tl_county.specs.Renumbering.{renumbered}
 use Rattle.tl_county.specs.declared.directed_chain.DirectedChain.{DirectedChain}
 use Rattle.tl_number.specs.Arrangement.{placed, renaming_of}
-use Rattle.tl_number.specs.ByStep.{ends_of, sides_of}
+use Rattle.tl_number.specs.EndsAndSides.{ends_of, sides_of}
 use Rattle.tl_number.specs.ByNumber.{polygons_by_number}
 use Rattle.tl_number.specs.CountyGroups.{type_p_by_number}
 use Rattle.tl_number.specs.Groups.{grouped}
 use Rattle.tl_number.specs.RecordOrder.{AreTiedAt, AreTiedBelow, groups_cmp, links_of, records_cmp, spelling_cmp}
-use Rattle.tl_number.specs.Steps.{arrangement_of, step_chain}
-use Rattle.tl_number.specs.ViewFacts.{AreWhole, stepped}
+use Rattle.tl_number.specs.DirectedChains.{arrangement_of}
+use Rattle.tl_county.specs.DirectedChains.{directed_chain}
+use Rattle.tl_number.specs.ViewFacts.{AreWhole, arranged_by}
 use Rattle.tl_number.proofs.Arrangements.Carrying.{chains_arranged}
 use Rattle.tl_number.proofs.Texts.GroupOrders.{records_total}
 use Rattle.tl_number.proofs.Records.PackedGroups.{is}
 use Rattle.tl_number.proofs.Unique.SameNumbers.{kept_entry}
 use Rattle.tl_number.proofs.Texts.TiedOnes.{all_tied}
 use Rattle.tl_number.proofs.Texts.TypeOnes.{length_whole, numbered_at}
-use Rattle.tl_number.proofs.Views.ViewChains.{arranges, bodies_read, chains, chains_stepped, read_nowhere, read_there}
+use Rattle.tl_number.proofs.Views.ViewChains.{arranges, bodies_read, chains, chains_arranged_by, read_nowhere, read_there}
 
 -- the type I record of a chain
 pub link_there : (county : County) (place : ℕ) → slice_get (links_of county) place ≡ option_map (λ entry. I (packed_i entry))
@@ -48,70 +49,70 @@ link_there county place =
 pub no_link : (county : County) (place : ℕ) → length county.chains ≤ place → slice_get (links_of county) place ≡ None
 no_link county place past = link_there county place ∙ ap (option_map (λ entry. I (packed_i entry))) (slice_get_past county.chains place past)
 
-module _ (county : County) (steps : List DirectedChain) (is_county : IsCounty county) (whole : AreWhole county steps) where
-  -- the chain at a place is the chain of the step there, under the new numbers
-  entry_there : (place : ℕ) (chain : Chain) → slice_get (chains county steps is_county whole) place ≡ Some chain
-      → slice_get (stepped county steps).chains place ≡ Some (1 + place, renumbered (renaming_of county (arrangement_of county steps)) chain)
+module _ (county : County) (arrangement : List DirectedChain) (is_county : IsCounty county) (whole : AreWhole county arrangement) where
+  -- the chain at a place is the directed chain there, under the new numbers
+  entry_there : (place : ℕ) (chain : Chain) → slice_get (chains county arrangement is_county whole) place ≡ Some chain
+      → slice_get (arranged_by county arrangement).chains place ≡ Some (1 + place, renumbered (renaming_of county (arrangement_of county arrangement)) chain)
   entry_there place chain e =
-      let order = arrangement_of county steps in
-      ap (λ es. slice_get es place) (chains_arranged county order is_county (arranges county steps is_county whole))
+      let order = arrangement_of county arrangement in
+      ap (λ es. slice_get es place) (chains_arranged county order is_county (arranges county arrangement is_county whole))
       ∙ slice_get-map (kept_entry (renaming_of county order)) (placed county order) place
       ∙ ap (option_map (kept_entry (renaming_of county order)))
-      (numbered_at 1 (chains county steps is_county whole) place ∙ ap (option_map (λ (x : Chain). (1 + place, x))) e)
+      (numbered_at 1 (chains county arrangement is_county whole) place ∙ ap (option_map (λ (x : Chain). (1 + place, x))) e)
 
-  -- without a step there is no chain
-  no_entry : (place : ℕ) → slice_get steps place ≡ None → slice_get (stepped county steps).chains place ≡ None
+  -- past the last chain there is none
+  no_entry : (place : ℕ) → slice_get arrangement place ≡ None → slice_get (arranged_by county arrangement).chains place ≡ None
   no_entry place e =
-      let order = arrangement_of county steps in
-      ap (λ es. slice_get es place) (chains_arranged county order is_county (arranges county steps is_county whole))
+      let order = arrangement_of county arrangement in
+      ap (λ es. slice_get es place) (chains_arranged county order is_county (arranges county arrangement is_county whole))
       ∙ slice_get-map (kept_entry (renaming_of county order)) (placed county order) place
       ∙ ap (option_map (kept_entry (renaming_of county order)))
-      (numbered_at 1 (chains county steps is_county whole) place
+      (numbered_at 1 (chains county arrangement is_county whole) place
       ∙ ap (option_map (λ (x : Chain). (1 + place, x)))
-      (read_nowhere (step_chain county) steps (chains county steps is_county whole) (bodies_read county steps is_county whole steps whole.there)
+      (read_nowhere (directed_chain county) arrangement (chains county arrangement is_county whole) (bodies_read county arrangement is_county whole arrangement whole.there)
       place e))
 
-  pub record LinkThere (place : ℕ) (step : DirectedChain) : Type 0 where
+  pub record LinkThere (place : ℕ) (directed : DirectedChain) : Type 0 where
     pub chain : Chain
-    pub of_step : step_chain county step ≡ Some chain
-    pub entry : slice_get (stepped county steps).chains place
-        ≡ Some (1 + place, renumbered (renaming_of county (arrangement_of county steps)) chain)
+    pub of_directed : directed_chain county directed ≡ Some chain
+    pub entry : slice_get (arranged_by county arrangement).chains place
+        ≡ Some (1 + place, renumbered (renaming_of county (arrangement_of county arrangement)) chain)
 
-  pub link_of_step : (place : ℕ) (step : DirectedChain) → slice_get steps place ≡ Some step → LinkThere place step
-  link_of_step place step e =
-      let c = read_there (step_chain county) steps (chains county steps is_county whole)
-      (bodies_read county steps is_county whole steps whole.there) place step e in
-      record { chain = c.0; of_step = c.2; entry = entry_there place c.0 c.1 }
+  pub link_of_directed : (place : ℕ) (directed : DirectedChain) → slice_get arrangement place ≡ Some directed → LinkThere place directed
+  link_of_directed place directed e =
+      let c = read_there (directed_chain county) arrangement (chains county arrangement is_county whole)
+      (bodies_read county arrangement is_county whole arrangement whole.there) place directed e in
+      record { chain = c.0; of_directed = c.2; entry = entry_there place c.0 c.1 }
 
--- If two arrangements have the same step, and its chain has the same ends and sides, its type I records are the same.
+-- If two arrangements have the same directed chain at a place, with the same ends and sides, its type I records are the same.
 module _ (county : County) (is_county : IsCounty county) (one other : List DirectedChain) (whole : AreWhole county one)
     (other_whole : AreWhole county other) where
   pub same_link : (place : ℕ) → slice_get one place ≡ slice_get other place
-      → option_map ends_of (chain_at (stepped county one) place) ≡ option_map ends_of (chain_at (stepped county other) place)
-      → option_map sides_of (chain_at (stepped county one) place) ≡ option_map sides_of (chain_at (stepped county other) place)
-      → slice_get (links_of (stepped county one)) place ≡ slice_get (links_of (stepped county other)) place
+      → option_map ends_of (chain_at (arranged_by county one) place) ≡ option_map ends_of (chain_at (arranged_by county other) place)
+      → option_map sides_of (chain_at (arranged_by county one) place) ≡ option_map sides_of (chain_at (arranged_by county other) place)
+      → slice_get (links_of (arranged_by county one)) place ≡ slice_get (links_of (arranged_by county other)) place
   same_link place same ends sides = go (slice_get one place) refl
     where
       go : (o : Option DirectedChain) → slice_get one place ≡ o
-          → slice_get (links_of (stepped county one)) place ≡ slice_get (links_of (stepped county other)) place
+          → slice_get (links_of (arranged_by county one)) place ≡ slice_get (links_of (arranged_by county other)) place
       go None e =
-          link_there (stepped county one) place
+          link_there (arranged_by county one) place
           ∙ ap (option_map (λ entry. I (packed_i entry))) (no_entry county one is_county whole place e
           ∙ sym (no_entry county other is_county other_whole place (sym same ∙ e)))
-          ∙ sym (link_there (stepped county other) place)
-      go (Some step) e =
-          let a = link_of_step county one is_county whole place step e in
-          let b = link_of_step county other is_county other_whole place step (sym same ∙ e) in
+          ∙ sym (link_there (arranged_by county other) place)
+      go (Some directed) e =
+          let a = link_of_directed county one is_county whole place directed e in
+          let b = link_of_directed county other is_county other_whole place directed (sym same ∙ e) in
           let r = renaming_of county (arrangement_of county one) in
           let s = renaming_of county (arrangement_of county other) in
-          let chain_a : chain_at (stepped county one) place ≡ Some (renumbered r a.chain) =
-          slice_get-map (λ (entry : ℕ × Chain). entry.1) (stepped county one).chains place
+          let chain_a : chain_at (arranged_by county one) place ≡ Some (renumbered r a.chain) =
+          slice_get-map (λ (entry : ℕ × Chain). entry.1) (arranged_by county one).chains place
           ∙ ap (option_map (λ (entry : ℕ × Chain). entry.1)) a.entry in
-          let chain_b : chain_at (stepped county other) place ≡ Some (renumbered s b.chain) =
-          slice_get-map (λ (entry : ℕ × Chain). entry.1) (stepped county other).chains place
+          let chain_b : chain_at (arranged_by county other) place ≡ Some (renumbered s b.chain) =
+          slice_get-map (λ (entry : ℕ × Chain). entry.1) (arranged_by county other).chains place
           ∙ ap (option_map (λ (entry : ℕ × Chain). entry.1)) b.entry in
           let body : a.chain.topology ≡ b.chain.topology =
-          (let both : Some a.chain ≡ Some b.chain = sym a.of_step ∙ b.of_step in
+          (let both : Some a.chain ≡ Some b.chain = sym a.of_directed ∙ b.of_directed in
           let chain : a.chain ≡ b.chain = cc in ap (λ c. c.topology) chain) in
           let same_ends : Some (ends_of (renumbered r a.chain)) ≡ Some (ends_of (renumbered s b.chain)) =
           sym (ap (option_map ends_of) chain_a) ∙ ends ∙ ap (option_map ends_of) chain_b in
@@ -119,7 +120,7 @@ module _ (county : County) (is_county : IsCounty county) (one other : List Direc
           sym (ap (option_map sides_of) chain_a) ∙ sides ∙ ap (option_map sides_of) chain_b in
           let e1 : ends_of (renumbered r a.chain) ≡ ends_of (renumbered s b.chain) = cc in
           let e2 : sides_of (renumbered r a.chain) ≡ sides_of (renumbered s b.chain) = cc in
-          link_there (stepped county one) place
+          link_there (arranged_by county one) place
           ∙ ap (option_map (λ entry. I (packed_i entry))) a.entry
           ∙ (λ i. Some (I (record {
             tlid = 1 + place;
@@ -129,7 +130,7 @@ module _ (county : County) (is_county : IsCounty county) (one other : List Direc
             left = (e2 i).0;
             right = (e2 i).1;
           })))
-          ∙ sym (link_there (stepped county other) place ∙ ap (option_map (λ entry. I (packed_i entry))) b.entry)
+          ∙ sym (link_there (arranged_by county other) place ∙ ap (option_map (λ entry. I (packed_i entry))) b.entry)
 
 -- lists that agree up to a place, and at it
 pub same_further : {X : Type 0} (xs ys : List X) (end : ℕ) → ((place : ℕ) → place < end → slice_get xs place ≡ slice_get ys place)
@@ -156,28 +157,28 @@ all_links_tied a b end a_end b_end below = all_tied (links_of a) (links_of b) (�
 
 -- all arrangements of a county have equally many chains
 pub as_many_chains : (county : County) → IsCounty county → (one other : List DirectedChain) → AreWhole county one → AreWhole county other
-    → length (stepped county one).chains ≡ length (stepped county other).chains
+    → length (arranged_by county one).chains ≡ length (arranged_by county other).chains
 as_many_chains county is_county one other whole other_whole =
-    chains_stepped county one is_county whole ∙ length_whole county one is_county whole
-    ∙ sym (chains_stepped county other is_county other_whole ∙ length_whole county other is_county other_whole)
+    chains_arranged_by county one is_county whole ∙ length_whole county one is_county whole
+    ∙ sym (chains_arranged_by county other is_county other_whole ∙ length_whole county other is_county other_whole)
 
 pub as_many_through : (a b : County) → a ≡ b → IsCounty a → (one other : List DirectedChain) → AreWhole a one → AreWhole b other
-    → length (stepped a one).chains ≡ length (stepped b other).chains
-as_many_through a b same is_county one other whole = subst (λ c. AreWhole c other → length (stepped a one).chains
-    ≡ length (stepped c other).chains) same (as_many_chains a is_county one other whole)
+    → length (arranged_by a one).chains ≡ length (arranged_by b other).chains
+as_many_through a b same is_county one other whole = subst (λ c. AreWhole c other → length (arranged_by a one).chains
+    ≡ length (arranged_by c other).chains) same (as_many_chains a is_county one other whole)
 
 -- the same if two names denote the county
 pub same_link_through : (a b : County) → a ≡ b → IsCounty a → (one other : List DirectedChain) → AreWhole a one → AreWhole b other → (place : ℕ)
     → slice_get one place ≡ slice_get other place
-    → option_map ends_of (chain_at (stepped a one) place) ≡ option_map ends_of (chain_at (stepped b other) place)
-    → option_map sides_of (chain_at (stepped a one) place) ≡ option_map sides_of (chain_at (stepped b other) place)
-    → slice_get (links_of (stepped a one)) place ≡ slice_get (links_of (stepped b other)) place
-same_link_through a b same is_county one other whole other_whole place step =
+    → option_map ends_of (chain_at (arranged_by a one) place) ≡ option_map ends_of (chain_at (arranged_by b other) place)
+    → option_map sides_of (chain_at (arranged_by a one) place) ≡ option_map sides_of (chain_at (arranged_by b other) place)
+    → slice_get (links_of (arranged_by a one)) place ≡ slice_get (links_of (arranged_by b other)) place
+same_link_through a b same is_county one other whole other_whole place directed =
     subst (λ c. AreWhole c other
-    → option_map ends_of (chain_at (stepped a one) place) ≡ option_map ends_of (chain_at (stepped c other) place)
-    → option_map sides_of (chain_at (stepped a one) place) ≡ option_map sides_of (chain_at (stepped c other) place)
-    → slice_get (links_of (stepped a one)) place ≡ slice_get (links_of (stepped c other)) place) same
-    (λ w. same_link a is_county one other whole w place step) other_whole
+    → option_map ends_of (chain_at (arranged_by a one) place) ≡ option_map ends_of (chain_at (arranged_by c other) place)
+    → option_map sides_of (chain_at (arranged_by a one) place) ≡ option_map sides_of (chain_at (arranged_by c other) place)
+    → slice_get (links_of (arranged_by a one)) place ≡ slice_get (links_of (arranged_by c other)) place) same
+    (λ w. same_link a is_county one other whole w place directed) other_whole
 
 -- counties with the same polygons by their numbers
 pub same_polygons : (a b : County) → polygons_by_number a ≡ polygons_by_number b

@@ -19,31 +19,32 @@ use Rattle.ordered_lists.proofs.Lists.Elements.{map_agree_everywhere}
 use Rattle.tl_number.specs.Arrangement.{Arrangement, Arranges, arranged, landmarks_in_order, names_in_order, new_keys, nodes_in_order, placed}
 use Rattle.tl_number.specs.Arrangement.{relinked, renaming_of, under_cenid}
 use Rattle.tl_number.specs.Growth.{first_seen, numbered}
-use Rattle.tl_number.specs.Steps.{arrangement_of, parts_along, step_chain}
+use Rattle.tl_number.specs.DirectedChains.{arrangement_of, parts_along}
+use Rattle.tl_county.specs.DirectedChains.{directed_chain}
 use Rattle.tl_number.specs.Uses.{all_uses, landmark_key, landmark_key_cmp, name_key, name_key_cmp}
-use Rattle.tl_number.specs.ViewFacts.{AreWhole, stepped}
+use Rattle.tl_number.specs.ViewFacts.{AreWhole, arranged_by}
 use Rattle.tl_county.specs.declared.directed_chain.DirectedChain.{DirectedChain}
 use Rattle.tl_number.proofs.Arrangements.Carrying.{chains_arranged, lands_renamed, landmarks_arranged, links_arranged, names_arranged, names_renamed}
 use Rattle.tl_number.proofs.Arrangements.Carrying.{nodes_renamed, polygons_arranged, polygons_renamed}
 use Rattle.tl_number.proofs.Unique.SameNumbers.{kept_entry}
-use Rattle.tl_number.proofs.Views.StepTables.{same_somes}
+use Rattle.tl_number.proofs.Views.ArrangedTables.{same_somes}
 use Rattle.tl_number.proofs.Views.ViewChains.{arranges, bodies_read, chains}
 
 pub the_same : {X : Type 0} (x y : X) → Some x ≡ Some y → x ≡ y
 the_same x y e = cc
 
--- the chain of the step at a place
-pub chain_read : (county : County) (steps : List DirectedChain) (i : ℕ) → i < length steps
-    → slice_get (map (step_chain county) steps) i ≡ Some (step_chain county (get_or steps i (record { place = 0; turned = false })))
-chain_read county steps i there = slice_get-map (step_chain county) steps i
-    ∙ ap (option_map (step_chain county)) (slice_get-get_or steps i (record { place = 0; turned = false }) there)
+-- the directed chain at a place
+pub chain_read : (county : County) (arrangement : List DirectedChain) (i : ℕ) → i < length arrangement
+    → slice_get (map (directed_chain county) arrangement) i ≡ Some (directed_chain county (get_or arrangement i (record { place = 0; turned = false })))
+chain_read county arrangement i there = slice_get-map (directed_chain county) arrangement i
+    ∙ ap (option_map (directed_chain county)) (slice_get-get_or arrangement i (record { place = 0; turned = false }) there)
 
 -- and a component of it
-pub part_read : {X : Type 0} (county : County) (part : Option Chain → X) (steps : List DirectedChain) (i : ℕ) → i < length steps
-    → slice_get (parts_along part county steps) i
-    ≡ Some (part (step_chain county (get_or steps i (record { place = 0; turned = false }))))
-part_read county part steps i there = slice_get-map (λ step. part (step_chain county step)) steps i
-    ∙ ap (option_map (λ step. part (step_chain county step))) (slice_get-get_or steps i (record { place = 0; turned = false }) there)
+pub part_read : {X : Type 0} (county : County) (part : Option Chain → X) (arrangement : List DirectedChain) (i : ℕ) → i < length arrangement
+    → slice_get (parts_along part county arrangement) i
+    ≡ Some (part (directed_chain county (get_or arrangement i (record { place = 0; turned = false }))))
+part_read county part arrangement i there = slice_get-map (λ directed. part (directed_chain county directed)) arrangement i
+    ∙ ap (option_map (λ directed. part (directed_chain county directed))) (slice_get-get_or arrangement i (record { place = 0; turned = false }) there)
 
 -- A chain under new numbers depends only on the new numbers of names, of polygons and of nodes.
 module _ (r s : Renumbering) (names : r.names ≡ s.names) (polygons : r.polygons ≡ s.polygons) (nodes : r.nodes ≡ s.nodes) where
@@ -126,10 +127,10 @@ module _ (county : County) (is : IsCounty county) (one other : Arrangement) (arr
         ∙ sym (links_arranged county other is arranges_other)) i;
   }
 
--- the same for arrangements given by steps
-pub stepped_same : (county : County) → IsCounty county → (one other : List DirectedChain) → AreWhole county one → AreWhole county other
-    → map (step_chain county) one ≡ map (step_chain county) other → stepped county one ≡ stepped county other
-stepped_same county is one other whole other_whole same =
+-- the same for arrangements given by directed chains
+pub arranged_by_same : (county : County) → IsCounty county → (one other : List DirectedChain) → AreWhole county one → AreWhole county other
+    → map (directed_chain county) one ≡ map (directed_chain county) other → arranged_by county one ≡ arranged_by county other
+arranged_by_same county is one other whole other_whole same =
     arranged_same county is (arrangement_of county one) (arrangement_of county other) (arranges county one is whole)
     (arranges county other is other_whole)
     (ap (numbered_from 1) (same_somes (chains county one is whole) (chains county other is other_whole)

@@ -22,9 +22,10 @@ use Rattle.tl_number.specs.CountyGroups.{type_4_by_chain, type_5_by_name, type_6
 use Rattle.tl_number.specs.Groups.{grouped}
 use Rattle.tl_number.specs.Growth.{numbered}
 use Rattle.tl_number.specs.RecordOrder.{groups_cmp}
-use Rattle.tl_number.specs.Steps.{arrangement_of, parts_along, step_chain}
+use Rattle.tl_number.specs.DirectedChains.{arrangement_of, parts_along}
+use Rattle.tl_county.specs.DirectedChains.{directed_chain}
 use Rattle.tl_number.specs.Uses.{all_uses, name_key, name_key_cmp, uses_from}
-use Rattle.tl_number.specs.ViewFacts.{AreWhole, stepped}
+use Rattle.tl_number.specs.ViewFacts.{AreWhole, arranged_by}
 use Rattle.tl_county.specs.declared.directed_chain.DirectedChain.{DirectedChain}
 use Rattle.tl_number.proofs.Arrangements.Carrying.{chains_arranged, names_arranged, names_renamed}
 use Rattle.tl_number.proofs.Texts.GroupOrders.{records_total}
@@ -79,11 +80,11 @@ module _ (r s : Renumbering) where
 
 module _ (county : County) (is : IsCounty county) (one other : List DirectedChain) (whole : AreWhole county one) (other_whole : AreWhole county other)
   where
-    -- values read from each step's chain are read from the chains in their new order
-    read_along : {X : Type 0} (part : Option Chain → X) (steps : List DirectedChain) (w : AreWhole county steps)
-        → map (λ step. part (step_chain county step)) steps ≡ map (λ c. part (Some c)) (chains county steps is w)
-    read_along part steps w = sym (map-map part (step_chain county) steps) ∙ ap (map part) (bodies_read county steps is w steps w.there)
-        ∙ map-map part Some (chains county steps is w)
+    -- values read from each directed chain are read from the chains in their new order
+    read_along : {X : Type 0} (part : Option Chain → X) (arrangement : List DirectedChain) (w : AreWhole county arrangement)
+        → map (λ directed. part (directed_chain county directed)) arrangement ≡ map (λ c. part (Some c)) (chains county arrangement is w)
+    read_along part arrangement w = sym (map-map part (directed_chain county) arrangement) ∙ ap (map part) (bodies_read county arrangement is w arrangement w.there)
+        ∙ map-map part Some (chains county arrangement is w)
 
     module _ (same : parts_along feats_of county one ≡ parts_along feats_of county other) where
       feats_same : map (λ (c : Chain). c.feats) (chains county one is whole) ≡ map (λ (c : Chain). c.feats) (chains county other is other_whole)
@@ -98,20 +99,20 @@ module _ (county : County) (is : IsCounty county) (one other : List DirectedChai
           ∙ ap (λ (es : List (ℕ × Body5)). numbered (map (λ e. e.0) es)) names_ordered
           ∙ sym (names_renamed county (arrangement_of county other) is (arranges county other is other_whole))
 
-      pub type_4_same : type_4_by_chain (stepped county one) ≡ type_4_by_chain (stepped county other)
+      pub type_4_same : type_4_by_chain (arranged_by county one) ≡ type_4_by_chain (arranged_by county other)
       type_4_same = ap (map packed_fours) (chains_arranged county (arrangement_of county one) is (arranges county one is whole))
           ∙ same_fours (renaming_of county (arrangement_of county one)) (renaming_of county (arrangement_of county other)) names_same
           (chains county one is whole) (chains county other is other_whole) feats_same 1
           ∙ sym (ap (map packed_fours) (chains_arranged county (arrangement_of county other) is (arranges county other is other_whole)))
 
-      pub type_5_same : type_5_by_name (stepped county one) ≡ type_5_by_name (stepped county other)
+      pub type_5_same : type_5_by_name (arranged_by county one) ≡ type_5_by_name (arranged_by county other)
       type_5_same = ap (map (λ entry. packed_five entry ∷ []))
           (names_arranged county (arrangement_of county one) is (arranges county one is whole)
           ∙ (λ j. map (λ (e : ℕ × Body5). (image nat_cmp (names_same j) e.0, e.1)) (names_ordered j))
           ∙ sym (names_arranged county (arrangement_of county other) is (arranges county other is other_whole)))
 
     pub type_6_same : parts_along ranges_of county one ≡ parts_along ranges_of county other
-        → type_6_by_chain (stepped county one) ≡ type_6_by_chain (stepped county other)
+        → type_6_by_chain (arranged_by county one) ≡ type_6_by_chain (arranged_by county other)
     type_6_same same = ap (map packed_sixes) (chains_arranged county (arrangement_of county one) is (arranges county one is whole))
         ∙ same_sixes (renaming_of county (arrangement_of county one)) (renaming_of county (arrangement_of county other))
         (chains county one is whole) (chains county other is other_whole)
@@ -124,19 +125,19 @@ module _ (a b : County) (stated : a ≡ b) (is : IsCounty a) (one other : List D
   through Same f w = subst Same stated (f (subst (λ c. AreWhole c other) (sym stated) w))
 
   pub type_4_through : AreWhole b other → parts_along feats_of a one ≡ parts_along feats_of a other
-      → Equal ≡ groups_cmp Four (type_4_by_chain (stepped a one)) (type_4_by_chain (stepped b other))
-  type_4_through w same = through (λ c. Equal ≡ groups_cmp Four (type_4_by_chain (stepped a one)) (type_4_by_chain (stepped c other)))
-      (λ v. same_groups Four (type_4_by_chain (stepped a one)) (type_4_by_chain (stepped a other))
+      → Equal ≡ groups_cmp Four (type_4_by_chain (arranged_by a one)) (type_4_by_chain (arranged_by b other))
+  type_4_through w same = through (λ c. Equal ≡ groups_cmp Four (type_4_by_chain (arranged_by a one)) (type_4_by_chain (arranged_by c other)))
+      (λ v. same_groups Four (type_4_by_chain (arranged_by a one)) (type_4_by_chain (arranged_by a other))
       (type_4_same a is one other whole v same)) w
 
   pub type_5_through : AreWhole b other → parts_along feats_of a one ≡ parts_along feats_of a other
-      → Equal ≡ groups_cmp Five (type_5_by_name (stepped a one)) (type_5_by_name (stepped b other))
-  type_5_through w same = through (λ c. Equal ≡ groups_cmp Five (type_5_by_name (stepped a one)) (type_5_by_name (stepped c other)))
-      (λ v. same_groups Five (type_5_by_name (stepped a one)) (type_5_by_name (stepped a other))
+      → Equal ≡ groups_cmp Five (type_5_by_name (arranged_by a one)) (type_5_by_name (arranged_by b other))
+  type_5_through w same = through (λ c. Equal ≡ groups_cmp Five (type_5_by_name (arranged_by a one)) (type_5_by_name (arranged_by c other)))
+      (λ v. same_groups Five (type_5_by_name (arranged_by a one)) (type_5_by_name (arranged_by a other))
       (type_5_same a is one other whole v same)) w
 
   pub type_6_through : AreWhole b other → parts_along ranges_of a one ≡ parts_along ranges_of a other
-      → Equal ≡ groups_cmp Six (type_6_by_chain (stepped a one)) (type_6_by_chain (stepped b other))
-  type_6_through w same = through (λ c. Equal ≡ groups_cmp Six (type_6_by_chain (stepped a one)) (type_6_by_chain (stepped c other)))
-      (λ v. same_groups Six (type_6_by_chain (stepped a one)) (type_6_by_chain (stepped a other))
+      → Equal ≡ groups_cmp Six (type_6_by_chain (arranged_by a one)) (type_6_by_chain (arranged_by b other))
+  type_6_through w same = through (λ c. Equal ≡ groups_cmp Six (type_6_by_chain (arranged_by a one)) (type_6_by_chain (arranged_by c other)))
+      (λ v. same_groups Six (type_6_by_chain (arranged_by a one)) (type_6_by_chain (arranged_by a other))
       (type_6_same a is one other whole v same)) w

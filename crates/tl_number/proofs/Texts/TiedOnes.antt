@@ -11,9 +11,9 @@ use Rattle.tl_county.specs.CountyRules.{IsCounty}
 use Rattle.tl_county.specs.declared.directed_chain.DirectedChain.{DirectedChain}
 use Rattle.tl_number.specs.RecordOrder.{AreTiedAt, AreTiedBelow, records_cmp, spelling_cmp}
 use Rattle.tl_number.specs.TypeOneOrder.{one_at, ones_of}
-use Rattle.tl_number.specs.ViewFacts.{AreWhole, stepped}
+use Rattle.tl_number.specs.ViewFacts.{AreWhole, arranged_by}
 use Rattle.tl_number.proofs.Texts.GroupOrders.{decided}
-use Rattle.tl_number.proofs.Texts.TypeOnes.{length-ones_stepped, ones_stepped, same_one}
+use Rattle.tl_number.proofs.Texts.TypeOnes.{length-ones_arranged_by, ones_arranged_by, same_one}
 
 -- with one more place
 pub tied_more : (rs ss : List Record) (end : ℕ) → AreTiedBelow end rs ss → AreTiedAt rs ss end → AreTiedBelow (end + 1) rs ss
@@ -48,25 +48,25 @@ all_tied (r ∷ rs) [] tied = let e : Greater ≡ Equal = tied 0 in absurd (cc)
 all_tied (r ∷ rs) (s ∷ ss) tied =
     all_tied rs ss (λ place. tied (suc place)) ∙ sym (ap (λ o. ordering_then o (records_cmp rs ss)) (tied 0))
 
--- if two arrangements have the same step, their records are tied
+-- if two arrangements have the same directed chain at a place, their records are tied
 module _ (county : County) (is : IsCounty county) (one other : List DirectedChain) (whole : AreWhole county one) (other_whole : AreWhole county other)
     (count : length one ≡ length other) where
   pub same_tied : (place : ℕ) → slice_get one place ≡ slice_get other place
-      → AreTiedAt (ones_of (stepped county one)) (ones_of (stepped county other)) place
+      → AreTiedAt (ones_of (arranged_by county one)) (ones_of (arranged_by county other)) place
   same_tied place same = go (nat_lt place (length one)) refl
     where
       none : DirectedChain
       none = record { place = 0; turned = false }
 
-      go : (b : Bool) → nat_lt place (length one) ≡ b → AreTiedAt (ones_of (stepped county one)) (ones_of (stepped county other)) place
+      go : (b : Bool) → nat_lt place (length one) ≡ b → AreTiedAt (ones_of (arranged_by county one)) (ones_of (arranged_by county other)) place
       go true e =
-          let step = get_or one place none in
-          let there : slice_get one place ≡ Some step = slice_get-get_or one place none (ltb-true place (length one) e) in
-          ap₂ (option_cmp spelling_cmp) (ones_stepped county one is whole place step there)
-          (ones_stepped county other is other_whole place step (sym same ∙ there))
-          ∙ sym (same_one (one_at county step place))
+          let directed = get_or one place none in
+          let there : slice_get one place ≡ Some directed = slice_get-get_or one place none (ltb-true place (length one) e) in
+          ap₂ (option_cmp spelling_cmp) (ones_arranged_by county one is whole place directed there)
+          (ones_arranged_by county other is other_whole place directed (sym same ∙ there))
+          ∙ sym (same_one (one_at county directed place))
       go false e =
           let past : length one ≤ place = ltb-false place (length one) e in
           ap₂ (option_cmp spelling_cmp)
-          (slice_get_past (ones_of (stepped county one)) place (omega (arith, past, length-ones_stepped county one is whole)))
-          (slice_get_past (ones_of (stepped county other)) place (omega (arith, past, count, length-ones_stepped county other is other_whole)))
+          (slice_get_past (ones_of (arranged_by county one)) place (omega (arith, past, length-ones_arranged_by county one is whole)))
+          (slice_get_past (ones_of (arranged_by county other)) place (omega (arith, past, count, length-ones_arranged_by county other is other_whole)))

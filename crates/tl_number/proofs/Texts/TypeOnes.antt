@@ -1,4 +1,4 @@
--- The type 1 records of a county in an arrangement, from its steps.
+-- The type 1 records of a county in an arrangement.
 use Rattle.std.proofs.Common.{◌≡◌, ◌<◌, ◌≤◌, ◌+◌, ℕ, zero, suc, List, [], ◌∷◌, map, length, Bool, true, false, Option, Some, None}
 use Rattle.std.proofs.Common.{option_map, slice_get, Equal, sym, refl, ap, ◌∙◌, subst, arith}
 use Rattle.std.proofs.lemmas.Cmp.{nat_list_cmp_total, tied_itself}
@@ -18,35 +18,36 @@ use Rattle.tl_county.specs.Packing.{numbered_from, packed_one}
 use Rattle.tl_county.specs.declared.directed_chain.DirectedChain.{DirectedChain}
 use Rattle.tl_number.specs.Arrangement.{arranged_tlids, placed, renaming_of}
 use Rattle.tl_number.specs.RecordOrder.{spelling_cmp}
-use Rattle.tl_number.specs.Steps.{arrangement_of, step_chain, tlid_at}
+use Rattle.tl_number.specs.DirectedChains.{arrangement_of, tlid_at}
+use Rattle.tl_county.specs.DirectedChains.{directed_chain}
 use Rattle.tl_number.specs.TypeOneOrder.{one_at, ones_of}
-use Rattle.tl_number.specs.ViewFacts.{AreWhole, stepped}
+use Rattle.tl_number.specs.ViewFacts.{AreWhole, arranged_by}
 use Rattle.tl_number.proofs.Arrangements.Carrying.{chains_arranged}
 use Rattle.tl_number.proofs.Records.ChainPlaces.{chain_there}
 use Rattle.tl_number.proofs.Records.PackedGroups.{ones}
 use Rattle.tl_number.proofs.Unique.SameNumbers.{kept_entry}
-use Rattle.tl_number.proofs.Views.ViewChains.{arranges, bodies_read, chains, chains_stepped, read_there}
+use Rattle.tl_number.proofs.Views.ViewChains.{arranges, bodies_read, chains, chains_arranged_by, read_there}
 
 -- a record compared with itself, if there is one
 pub same_one : (r : Option Record) → Equal ≡ option_cmp spelling_cmp r r
 same_one None = refl
 same_one (Some r) = sym (tied_itself nat_list_cmp_total (spelling_of r))
 
--- The chain of a step.
-pub record StepThere (county : County) (step : DirectedChain) : Type 0 where
+-- A directed chain.
+pub record StepThere (county : County) (directed : DirectedChain) : Type 0 where
   pub chain : Chain
-  pub there : step_chain county step ≡ Some chain
+  pub there : directed_chain county directed ≡ Some chain
   pub two : 2 ≤ length chain.points
 
-pub step_there : (county : County) → IsCounty county → IsWithinLimits most_records county → (step : DirectedChain)
-    → step.place < length county.chains → StepThere county step
-step_there county is within step h =
-    let at = chain_there county is within step.place h in
-    let there : step_chain county step ≡ Some (turned_if step.turned at.entry.1) = ap (option_map (turned_if step.turned)) at.chain in
+pub directed_there : (county : County) → IsCounty county → IsWithinLimits most_records county → (directed : DirectedChain)
+    → directed.place < length county.chains → StepThere county directed
+directed_there county is within directed h =
+    let at = chain_there county is within directed.place h in
+    let there : directed_chain county directed ≡ Some (turned_if directed.turned at.entry.1) = ap (option_map (turned_if directed.turned)) at.chain in
     record {
-      chain = turned_if step.turned at.entry.1;
+      chain = turned_if directed.turned at.entry.1;
       there = there;
-      two = either step.turned at.entry.1 at.two;
+      two = either directed.turned at.entry.1 at.two;
     }
   where
     either : (turned : Bool) (chain : Chain) → 2 ≤ length chain.points → 2 ≤ length (turned_if turned chain).points
@@ -62,37 +63,37 @@ numbered_at n (x ∷ xs) (suc i) = numbered_at (suc n) xs i
 pub length-ones : (county : County) → length (ones_of county) ≡ length county.chains
 length-ones county = ap length (ones county) ∙ length-map (map packed_one county.chains) One ∙ length-map county.chains packed_one
 
-module _ (county : County) (steps : List DirectedChain) (is : IsCounty county) (whole : AreWhole county steps) where
-  pub length-ones_stepped : length (ones_of (stepped county steps)) ≡ length steps
-  length-ones_stepped = length-ones (stepped county steps) ∙ chains_stepped county steps is whole
+module _ (county : County) (arrangement : List DirectedChain) (is : IsCounty county) (whole : AreWhole county arrangement) where
+  pub length-ones_arranged_by : length (ones_of (arranged_by county arrangement)) ≡ length arrangement
+  length-ones_arranged_by = length-ones (arranged_by county arrangement) ∙ chains_arranged_by county arrangement is whole
 
-  pub length_whole : length steps ≡ length county.chains
+  pub length_whole : length arrangement ≡ length county.chains
   length_whole =
-      let order = arrangement_of county steps in
-      let stated : length order ≡ length steps = length-map steps (λ (s : DirectedChain). (tlid_at county s.place, s.turned)) in
+      let order = arrangement_of county arrangement in
+      let stated : length order ≡ length arrangement = length-map arrangement (λ (s : DirectedChain). (tlid_at county s.place, s.turned)) in
       let named : length (arranged_tlids order) ≡ length order = length-map order (λ (s : ℕ × Bool). s.0) in
       let all : length (tlids county) ≡ length county.chains = length-map county.chains (λ (e : ℕ × Chain). e.0) in
-      let same = length_permutation (arranged_tlids order) (tlids county) (arranges county steps is whole) in
+      let same = length_permutation (arranged_tlids order) (tlids county) (arranges county arrangement is whole) in
       omega (arith, stated, named, all, same)
 
-  -- the record at a place belongs to the step's chain
-  pub ones_stepped : (i : ℕ) (step : DirectedChain) → slice_get steps i ≡ Some step → slice_get (ones_of (stepped county steps)) i ≡ one_at county step i
-  ones_stepped i step e =
-      let order = arrangement_of county steps in
+  -- the record at a place belongs to the directed chain
+  pub ones_arranged_by : (i : ℕ) (directed : DirectedChain) → slice_get arrangement i ≡ Some directed → slice_get (ones_of (arranged_by county arrangement)) i ≡ one_at county directed i
+  ones_arranged_by i directed e =
+      let order = arrangement_of county arrangement in
       let r = renaming_of county order in
-      let c = read_there (step_chain county) steps (chains county steps is whole) (bodies_read county steps is whole steps whole.there) i step e in
-      ap (λ rs. slice_get rs i) (ones (stepped county steps)
-      ∙ ap (λ es. map One (map packed_one es)) (chains_arranged county order is (arranges county steps is whole)))
+      let c = read_there (directed_chain county) arrangement (chains county arrangement is whole) (bodies_read county arrangement is whole arrangement whole.there) i directed e in
+      ap (λ rs. slice_get rs i) (ones (arranged_by county arrangement)
+      ∙ ap (λ es. map One (map packed_one es)) (chains_arranged county order is (arranges county arrangement is whole)))
       ∙ slice_get-map One (map packed_one (map (kept_entry r) (placed county order))) i
       ∙ ap (option_map One) (slice_get-map packed_one (map (kept_entry r) (placed county order)) i
       ∙ ap (option_map packed_one) (slice_get-map (kept_entry r) (placed county order) i
-      ∙ ap (option_map (kept_entry r)) (numbered_at 1 (chains county steps is whole) i ∙ ap (option_map (λ x. (1 + i, x))) c.1)))
+      ∙ ap (option_map (kept_entry r)) (numbered_at 1 (chains county arrangement is whole) i ∙ ap (option_map (λ x. (1 + i, x))) c.1)))
       ∙ ap (λ n. Some (One (packed_one (n, c.0)))) (let m : 1 + i ≡ i + 1 = omega arith in m)
       ∙ sym (ap (option_map (λ chain. One (packed_one (i + 1, chain)))) c.2)
 
--- arrangements of a county have equally many steps, even if two names denote the county
-pub as_many_steps : (a b : County) → a ≡ b → IsCounty a → (one other : List DirectedChain) → AreWhole a one → AreWhole b other
+-- arrangements of a county have equally many chains, even if two names denote the county
+pub as_many_chains : (a b : County) → a ≡ b → IsCounty a → (one other : List DirectedChain) → AreWhole a one → AreWhole b other
     → length one ≡ length other
-as_many_steps a b stated is one other whole other_whole =
+as_many_chains a b stated is one other whole other_whole =
     length_whole a one is whole
     ∙ sym (length_whole a other is (subst (λ c. AreWhole c other) (sym stated) other_whole))

@@ -80,8 +80,8 @@ pub texts_in_order : (a b : County) → IsCounty a → IsCounty b → IsWithinLi
     → slice_cmp nat_cmp (text_of (packed a)) (text_of (packed b))
     ≡ ordering_then (types_1_to_4_cmp a b) (ordering_then (types_5_to_7_cmp a b) (types_8_to_p_cmp a b))
 texts_in_order a b is_a is_b within_a within_b same =
-    text_cmp (packed a) (packed b) (packed-fits a is_a.whole within_a.contents within_a.numbers within_a.room)
-    (packed-fits b is_b.whole within_b.contents within_b.numbers within_b.room)
+    text_cmp (packed a) (packed b) (packed-fits a is_a.whole within_a.contents within_a.numbers within_a.lists)
+    (packed-fits b is_b.whole within_b.contents within_b.numbers within_b.lists)
     ∙ types_in_order a b (carried_many same.by a b same.carries)
 
 -- So if their type 1 records are spelled alike and their type 2 records are the same, the records of the other types decide.

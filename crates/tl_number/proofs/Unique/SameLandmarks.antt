@@ -99,13 +99,13 @@ times-land : (links : List Fields8) (k : Fields8) → times link_cmp k links ≡
 times-land [] k = refl
 times-land (x ∷ xs) k = go (cases_eq x.land k.land) (times-land xs k)
   where
-    step : (b c : Bool) → b ≡ c → times link_cmp k xs ≡ length (filter (is_link k.land (link_part k)) xs)
+    directed : (b c : Bool) → b ≡ c → times link_cmp k xs ≡ length (filter (is_link k.land (link_part k)) xs)
         → length (cond b (x ∷ filter (λ l. is_eq (link_cmp k l)) xs) (filter (λ l. is_eq (link_cmp k l)) xs)) ≡ length
         (cond c (x ∷ filter (is_link k.land (link_part k)) xs) (filter (is_link k.land (link_part k)) xs))
-    step true true e ih = ap suc ih
-    step true false e ih = cc
-    step false true e ih = cc
-    step false false e ih = ih
+    directed true true e ih = ap suc ih
+    directed true false e ih = cc
+    directed false true e ih = cc
+    directed false false e ih = ih
 
     other : (o : Ordering) → is_eq o ≡ false → is_eq (ordering_then o (link_part_cmp (link_part k) (link_part x))) ≡ false
     other Less e = refl
@@ -114,11 +114,11 @@ times-land (x ∷ xs) k = go (cases_eq x.land k.land) (times-land xs k)
 
     go : (x.land ≡ k.land) ⊎ (x.land ≡ k.land → ⊥) → times link_cmp k xs ≡ length (filter (is_link k.land (link_part k)) xs)
         → times link_cmp k (x ∷ xs) ≡ length (filter (is_link k.land (link_part k)) (x ∷ xs))
-    go (inl e) ih = step (is_eq (link_cmp k x)) (is_link k.land (link_part k) x)
+    go (inl e) ih = directed (is_eq (link_cmp k x)) (is_link k.land (link_part k) x)
         (ap (λ o. is_eq (ordering_then o (link_part_cmp (link_part k) (link_part x)))) (ap (nat_cmp k.land) e
         ∙ tied_itself nat_cmp_total k.land)
         ∙ ap (λ b. b && is_eq (link_part_cmp (link_part k) (link_part x))) (sym (eq-eqb x.land k.land e))) ih
-    go (inr ne) ih = step (is_eq (link_cmp k x)) (is_link k.land (link_part k) x)
+    go (inr ne) ih = directed (is_eq (link_cmp k x)) (is_link k.land (link_part k) x)
         (other (nat_cmp k.land x.land) (differ nat_keys k.land x.land (λ e. ne (sym e)))
         ∙ ap (λ b. b && is_eq (link_part_cmp (link_part k) (link_part x))) (sym (ne_eqb x.land k.land ne))) ih
 
@@ -129,25 +129,25 @@ pub count-relanded : (f : ℕ → ℕ) (Dom : ℕ → Type 0) → ((n m : ℕ) �
 count-relanded f Dom inj [] a y d k = refl
 count-relanded f Dom inj (x ∷ xs) a y d k = go (cases_eq x.land y) (count-relanded f Dom inj xs a.1 y d k)
   where
-    step : (b c : Bool) → b ≡ c → length (filter (is_link (f y) k) (map (relanded f) xs)) ≡ length (filter (is_link y k) xs)
+    directed : (b c : Bool) → b ≡ c → length (filter (is_link (f y) k) (map (relanded f) xs)) ≡ length (filter (is_link y k) xs)
         → length (cond (b && is_eq (link_part_cmp k (link_part x))) (relanded f x ∷ filter (is_link (f y) k) (map (relanded f) xs))
         (filter (is_link (f y) k) (map (relanded f) xs))) ≡ length
         (cond (c && is_eq (link_part_cmp k (link_part x))) (x ∷ filter (is_link y k) xs) (filter (is_link y k) xs))
-    step true true e ih = yes (is_eq (link_part_cmp k (link_part x))) ih
+    directed true true e ih = yes (is_eq (link_part_cmp k (link_part x))) ih
       where
         yes : (v : Bool) → length (filter (is_link (f y) k) (map (relanded f) xs)) ≡ length (filter (is_link y k) xs)
             → length (cond v (relanded f x ∷ filter (is_link (f y) k) (map (relanded f) xs))
             (filter (is_link (f y) k) (map (relanded f) xs))) ≡ length (cond v (x ∷ filter (is_link y k) xs) (filter (is_link y k) xs))
         yes true ih = ap suc ih
         yes false ih = ih
-    step true false e ih = cc
-    step false true e ih = cc
-    step false false e ih = ih
+    directed true false e ih = cc
+    directed false true e ih = cc
+    directed false false e ih = ih
 
     go : (x.land ≡ y) ⊎ (x.land ≡ y → ⊥) → length (filter (is_link (f y) k) (map (relanded f) xs)) ≡ length (filter (is_link y k) xs)
         → length (filter (is_link (f y) k) (map (relanded f) (x ∷ xs))) ≡ length (filter (is_link y k) (x ∷ xs))
-    go (inl e) ih = step (f x.land == f y) (x.land == y) (eq-eqb (f x.land) (f y) (ap f e) ∙ sym (eq-eqb x.land y e)) ih
-    go (inr ne) ih = step (f x.land == f y) (x.land == y) (ne_eqb (f x.land) (f y) (λ e. ne (inj x.land y a.0 d e))
+    go (inl e) ih = directed (f x.land == f y) (x.land == y) (eq-eqb (f x.land) (f y) (ap f e) ∙ sym (eq-eqb x.land y e)) ih
+    go (inr ne) ih = directed (f x.land == f y) (x.land == y) (ne_eqb (f x.land) (f y) (λ e. ne (inj x.land y a.0 d e))
         ∙ sym (ne_eqb x.land y ne)) ih
 
 -- a LAND without a landmark has no link

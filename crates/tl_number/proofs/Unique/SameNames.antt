@@ -76,19 +76,19 @@ pub uses_of-renamed : (f : ℕ → ℕ) (Dom : ℕ → Type 0) → ((n m : ℕ) 
 uses_of-renamed f Dom inj [] a y d = refl
 uses_of-renamed f Dom inj (u ∷ us) a y d = go (cases_eq u.1 y) (uses_of-renamed f Dom inj us a.1 y d)
   where
-    step : (b c : Bool) → b ≡ c → uses_of_name (map (renamed_use f) us) (f y) ≡ uses_of_name us y
+    directed : (b c : Bool) → b ≡ c → uses_of_name (map (renamed_use f) us) (f y) ≡ uses_of_name us y
         → map (λ (v : Use × ℕ). v.0)
         (cond b ((u.0, f u.1) ∷ filter (λ v. v.1 == f y) (map (renamed_use f) us)) (filter (λ v. v.1 == f y) (map (renamed_use f) us)))
         ≡ map (λ (v : Use × ℕ). v.0) (cond c (u ∷ filter (λ v. v.1 == y) us) (filter (λ v. v.1 == y) us))
-    step true true e ih = ap (λ vs. u.0 ∷ vs) ih
-    step true false e ih = cc
-    step false true e ih = cc
-    step false false e ih = ih
+    directed true true e ih = ap (λ vs. u.0 ∷ vs) ih
+    directed true false e ih = cc
+    directed false true e ih = cc
+    directed false false e ih = ih
 
     go : (u.1 ≡ y) ⊎ (u.1 ≡ y → ⊥) → uses_of_name (map (renamed_use f) us) (f y) ≡ uses_of_name us y
         → uses_of_name (map (renamed_use f) (u ∷ us)) (f y) ≡ uses_of_name (u ∷ us) y
-    go (inl e) ih = step (f u.1 == f y) (u.1 == y) (eq-eqb (f u.1) (f y) (ap f e) ∙ sym (eq-eqb u.1 y e)) ih
-    go (inr ne) ih = step (f u.1 == f y) (u.1 == y) (ne_eqb (f u.1) (f y) (λ e. ne (inj u.1 y a.0 d e)) ∙ sym (ne_eqb u.1 y ne)) ih
+    go (inl e) ih = directed (f u.1 == f y) (u.1 == y) (eq-eqb (f u.1) (f y) (ap f e) ∙ sym (eq-eqb u.1 y e)) ih
+    go (inr ne) ih = directed (f u.1 == f y) (u.1 == y) (ne_eqb (f u.1) (f y) (λ e. ne (inj u.1 y a.0 d e)) ∙ sym (ne_eqb u.1 y ne)) ih
 
 module _ (r : Renumbering) (a b : County) (h : Carries r a b) (ca : IsClosed a) (ta : IsArranged a) (tb : IsArranged b)
     (e : KeepsChains r a b) where

@@ -1,4 +1,4 @@
--- Steps that name each chain once turn a county into a county.
+-- Directed chains that name each chain once turn a county into a county.
 use Rattle.std.proofs.Common.{◌<◌, ◌^◌, length, arith, nat_cmp}
 use Rattle.tl_county.specs.County.{County}
 use Rattle.tl_county.specs.CountyRules.{IsCounty, AllKeysStandIn, polygons_along, polygon_keys, tlids}
@@ -6,7 +6,7 @@ use Rattle.tl_county.specs.Limits.{IsWithinLimits, most_records}
 use Rattle.ordered_lists.proofs.ByKey.Keys.{IsApart, nat_keys, apart_from_sorted}
 use Rattle.ordered_lists.proofs.Lists.Permutations.{apart-permutation_of}
 use Rattle.tl_number.specs.Arrangement.{Arrangement, Arranges, arranged_tlids}
-use Rattle.tl_number.specs.Steps.{AreSteps, arrangement_of}
+use Rattle.tl_number.specs.DirectedChains.{HasChainsOf, arrangement_of}
 use Rattle.tl_number.specs.ViewFacts.{AreWhole, NamesEachOnce}
 use Rattle.tl_county.specs.declared.directed_chain.DirectedChain.{DirectedChain}
 use Rattle.tl_number.proofs.Arrangements.ArrangedCounties.{arranged_county}
@@ -20,15 +20,15 @@ arranges_once county order is once =
     (λ k. let same = once k in let few = apart k in omega (arith, same, few)) apart
     (λ k h. let same = once k in omega (arith, same, h)) (λ k h. let same = once k in omega (arith, same, h))
 
-pub whole_steps : (county : County) (steps : List DirectedChain) → IsCounty county → IsWithinLimits most_records county → AreSteps county steps
-    → NamesEachOnce county (arrangement_of county steps) → AllKeysStandIn (polygons_along county.chains) (polygon_keys county)
-    → length county.chains < 2 ^ 32 → AreWhole county steps
-whole_steps county steps is within there once sides few = record {
+pub whole_arrangement : (county : County) (arrangement : List DirectedChain) → IsCounty county → IsWithinLimits most_records county → HasChainsOf county arrangement
+    → NamesEachOnce county (arrangement_of county arrangement) → AllKeysStandIn (polygons_along county.chains) (polygon_keys county)
+    → length county.chains < 2 ^ 32 → AreWhole county arrangement
+whole_arrangement county arrangement is within there once sides few = record {
   there = there;
   once = once;
   few = few;
-  is_county = arranged_county county (arrangement_of county steps) is
-      (arranges_once county (arrangement_of county steps) is once) sides;
-  within_limits = arrangement_within most_records (omega arith) county is (arrangement_of county steps)
-      (arranges_once county (arrangement_of county steps) is once) sides within;
+  is_county = arranged_county county (arrangement_of county arrangement) is
+      (arranges_once county (arrangement_of county arrangement) is once) sides;
+  within_limits = arrangement_within most_records (omega arith) county is (arrangement_of county arrangement)
+      (arranges_once county (arrangement_of county arrangement) is once) sides within;
 }

@@ -12,7 +12,7 @@ use Rattle.tl_county.specs.Packing.{numbered_from}
 use Rattle.tl_number.specs.Arrangement.{arranged_tlids, turned_tlids}
 use Rattle.tl_number.specs.Growth.{numbered}
 use Rattle.tl_number.specs.LandmarkItems.{lands_at}
-use Rattle.tl_number.specs.Steps.{AreSteps, arrangement_of, tlid_at}
+use Rattle.tl_number.specs.DirectedChains.{HasChainsOf, arrangement_of, tlid_at}
 use Rattle.tl_number.specs.ViewFacts.{AreReadAt}
 use Rattle.tl_county.specs.declared.directed_chain.DirectedChain.{DirectedChain}
 use Rattle.tl_number.proofs.Names.NameOrder.{filter_map_all}
@@ -41,29 +41,29 @@ enumerated {K} keys = from 0 keys
         (let next : n + 1 + 1 ≡ suc (n + 1) = omega arith in next))
 
 module _ (county : County) where
-  -- the TLID of a step whose chain is there
+  -- the TLID of a directed chain whose chain is there
   tlid_there : (place : ℕ) → place < length county.chains → slice_get (tlids county) place ≡ Some (tlid_at county place)
   tlid_there place there =
       slice_get-get_or (tlids county) place 0 (let count = length-map county.chains (λ entry. entry.0) in omega (arith, count, there))
 
-  -- the TLIDs of steps whose chains are there
-  pub tlids_found : (steps : List DirectedChain) → AreSteps county steps
-      → filter_map (λ step. slice_get (tlids county) step.place) steps ≡ arranged_tlids (arrangement_of county steps)
+  -- the TLIDs of directed chains whose chains are there
+  pub tlids_found : (arrangement : List DirectedChain) → HasChainsOf county arrangement
+      → filter_map (λ directed. slice_get (tlids county) directed.place) arrangement ≡ arranged_tlids (arrangement_of county arrangement)
   tlids_found [] there = refl
   tlids_found (s ∷ ss) there = ap₂ cons_option (tlid_there s.place there.0) (tlids_found ss there.1)
 
   -- and those of the turned ones
-  pub turned_found : (steps : List DirectedChain) → AreSteps county steps
-      → filter_map (λ step. slice_get (tlids county) step.place) (filter (λ step. step.turned) steps) ≡ turned_tlids (arrangement_of county steps)
+  pub turned_found : (arrangement : List DirectedChain) → HasChainsOf county arrangement
+      → filter_map (λ directed. slice_get (tlids county) directed.place) (filter (λ directed. directed.turned) arrangement) ≡ turned_tlids (arrangement_of county arrangement)
   turned_found [] there = refl
   turned_found (s ∷ ss) there = go s.turned (turned_found ss there.1)
     where
-      go : (turned : Bool) → filter_map (λ step. slice_get (tlids county) step.place) (filter (λ step. step.turned) ss)
+      go : (turned : Bool) → filter_map (λ directed. slice_get (tlids county) directed.place) (filter (λ directed. directed.turned) ss)
           ≡ turned_tlids (arrangement_of county ss)
-          → filter_map (λ step. slice_get (tlids county) step.place) (cond turned (s ∷ filter (λ step. step.turned) ss)
-          (filter (λ step. step.turned) ss))
-          ≡ arranged_tlids (cond turned ((tlid_at county s.place, turned) ∷ filter (λ step. step.1) (arrangement_of county ss))
-          (filter (λ step. step.1) (arrangement_of county ss)))
+          → filter_map (λ directed. slice_get (tlids county) directed.place) (cond turned (s ∷ filter (λ directed. directed.turned) ss)
+          (filter (λ directed. directed.turned) ss))
+          ≡ arranged_tlids (cond turned ((tlid_at county s.place, turned) ∷ filter (λ directed. directed.1) (arrangement_of county ss))
+          (filter (λ directed. directed.1) (arrangement_of county ss)))
       go true e = ap₂ cons_option (tlid_there s.place there.0) e
       go false e = e
 

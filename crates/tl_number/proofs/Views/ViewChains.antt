@@ -1,4 +1,4 @@
--- The chains of a county in an arrangement, read at the places of its steps.
+-- The chains of a county in an arrangement, read at the places of its directed chains.
 use Rattle.std.proofs.Common.{◌≡◌, ℕ, zero, suc, List, [], ◌∷◌, ◌++◌, map, flat_map, length, Option, Some, None, option_map}
 use Rattle.std.proofs.Common.{slice_get, sym, refl, ap, ◌∙◌, arith, nat_cmp}
 use Rattle.std.proofs.lemmas.List.{length-map}
@@ -16,12 +16,13 @@ use Rattle.ordered_lists.proofs.Lists.Elements.{map-map}
 use Rattle.ordered_lists.proofs.Lists.Permutations.{apart-permutation_of}
 use Rattle.tl_number.specs.Arrangement.{Arrangement, Arranges, arranged_tlids, entries_of, placed, renaming_of}
 use Rattle.tl_number.specs.Growth.{up_to}
-use Rattle.tl_number.specs.Steps.{AreSteps, arrangement_of, step_chain, tlid_at}
-use Rattle.tl_number.specs.ViewFacts.{AreWhole, stepped}
+use Rattle.tl_number.specs.DirectedChains.{HasChainsOf, arrangement_of, tlid_at}
+use Rattle.tl_county.specs.DirectedChains.{directed_chain}
+use Rattle.tl_number.specs.ViewFacts.{AreWhole, arranged_by}
 use Rattle.tl_county.specs.declared.directed_chain.DirectedChain.{DirectedChain}
 use Rattle.tl_number.proofs.Arrangements.Carrying.{chains_arranged, tlids_arranged}
 use Rattle.tl_number.proofs.Unique.SameNumbers.{kept_entry}
-use Rattle.tl_number.proofs.Views.StepChains.{one_here}
+use Rattle.tl_number.proofs.Views.DirectedChains.{one_here}
 
 -- a list read through a function of another list's elements
 pub read_there : {X Y : Type 0} (f : X → Option Y) (xs : List X) (ys : List Y) → map f xs ≡ map Some ys → (i : ℕ) (x : X)
@@ -49,9 +50,9 @@ read_nowhere f (z ∷ zs) (y ∷ ys) e (suc i) h =
 pub read_length : {X Y : Type 0} (f : X → Option Y) (xs : List X) (ys : List Y) → map f xs ≡ map Some ys → length ys ≡ length xs
 read_length f xs ys e = sym (length-map ys Some) ∙ ap length (sym e) ∙ length-map xs f
 
-module _ (county : County) (steps : List DirectedChain) (is : IsCounty county) (whole : AreWhole county steps) where
+module _ (county : County) (arrangement : List DirectedChain) (is : IsCounty county) (whole : AreWhole county arrangement) where
   abbrev order : Arrangement
-  order = arrangement_of county steps
+  order = arrangement_of county arrangement
 
   pub arranges : Arranges order county
   arranges =
@@ -60,8 +61,8 @@ module _ (county : County) (steps : List DirectedChain) (is : IsCounty county) (
       (λ k. let once = whole.once k in let few = apart k in omega (arith, once, few)) apart
       (λ k h. let once = whole.once k in omega (arith, once, h)) (λ k h. let once = whole.once k in omega (arith, once, h))
 
-  pub bodies_read : (ss : List DirectedChain) → AreSteps county ss
-      → map (step_chain county) ss ≡ map Some (flat_map (λ s. map (λ (entry : ℕ × Chain). turned_if s.1 entry.1)
+  pub bodies_read : (ss : List DirectedChain) → HasChainsOf county ss
+      → map (directed_chain county) ss ≡ map Some (flat_map (λ s. map (λ (entry : ℕ × Chain). turned_if s.1 entry.1)
       (entries_of county.chains s.0)) (arrangement_of county ss))
   bodies_read [] h = refl
   bodies_read (s ∷ ss) h =
@@ -76,45 +77,45 @@ module _ (county : County) (steps : List DirectedChain) (is : IsCounty county) (
   abbrev pub chains : List Chain
   chains = flat_map (λ s. map (λ (entry : ℕ × Chain). turned_if s.1 entry.1) (entries_of county.chains s.0)) order
 
-  pub values : entry_values (stepped county steps).chains ≡ map (renumbered (renaming_of county order)) chains
+  pub values : entry_values (arranged_by county arrangement).chains ≡ map (renumbered (renaming_of county order)) chains
   values =
       ap entry_values (chains_arranged county order is arranges)
       ∙ map-map (λ (e : ℕ × Chain). e.1) (kept_entry (renaming_of county order)) (placed county order)
       ∙ sym (map-map (renumbered (renaming_of county order)) (λ (e : ℕ × Chain). e.1) (placed county order))
       ∙ ap (map (renumbered (renaming_of county order))) (rights-numbered_from 1 chains)
 
-  -- the chain at a place is the step's, with the new numbers
-  pub chain_there : (i : ℕ) (s : DirectedChain) → slice_get steps i ≡ Some s
-      → (c : Chain) × (step_chain county s ≡ Some c) × (chain_at (stepped county steps) i ≡ Some (renumbered (renaming_of county order) c))
+  -- the chain at a place is the directed chain's, with the new numbers
+  pub chain_there : (i : ℕ) (s : DirectedChain) → slice_get arrangement i ≡ Some s
+      → (c : Chain) × (directed_chain county s ≡ Some c) × (chain_at (arranged_by county arrangement) i ≡ Some (renumbered (renaming_of county order) c))
   chain_there i s h =
-      let c = read_there (step_chain county) steps chains (bodies_read steps whole.there) i s h in (
+      let c = read_there (directed_chain county) arrangement chains (bodies_read arrangement whole.there) i s h in (
         c.0,
         c.2,
         ap (λ cs. slice_get cs i) values ∙ slice_get-map (renumbered (renaming_of county order)) chains i
             ∙ ap (option_map (renumbered (renaming_of county order))) c.1,
       )
 
-  pub chain_missing : (i : ℕ) → slice_get steps i ≡ None → chain_at (stepped county steps) i ≡ None
+  pub chain_missing : (i : ℕ) → slice_get arrangement i ≡ None → chain_at (arranged_by county arrangement) i ≡ None
   chain_missing i h =
       ap (λ cs. slice_get cs i) values ∙ slice_get-map (renumbered (renaming_of county order)) chains i
-      ∙ ap (option_map (renumbered (renaming_of county order))) (read_nowhere (step_chain county) steps chains
-      (bodies_read steps whole.there) i h)
+      ∙ ap (option_map (renumbered (renaming_of county order))) (read_nowhere (directed_chain county) arrangement chains
+      (bodies_read arrangement whole.there) i h)
 
-  pub tlids_stepped : tlids (stepped county steps) ≡ up_to (length steps)
-  tlids_stepped = tlids_arranged county order is arranges
-      ∙ ap up_to (length-map order (λ (s : ℕ × _). s.0) ∙ length-map steps (λ s. (tlid_at county s.place, s.turned)))
+  pub tlids_arranged_by : tlids (arranged_by county arrangement) ≡ up_to (length arrangement)
+  tlids_arranged_by = tlids_arranged county order is arranges
+      ∙ ap up_to (length-map order (λ (s : ℕ × _). s.0) ∙ length-map arrangement (λ s. (tlid_at county s.place, s.turned)))
 
-  pub chains_stepped : length (stepped county steps).chains ≡ length steps
-  chains_stepped =
-      sym (length-map (stepped county steps).chains (λ (e : ℕ × Chain). e.1)) ∙ ap length values
+  pub chains_arranged_by : length (arranged_by county arrangement).chains ≡ length arrangement
+  chains_arranged_by =
+      sym (length-map (arranged_by county arrangement).chains (λ (e : ℕ × Chain). e.1)) ∙ ap length values
       ∙ length-map chains (renumbered (renaming_of county order))
-      ∙ read_length (step_chain county) steps chains (bodies_read steps whole.there)
+      ∙ read_length (directed_chain county) arrangement chains (bodies_read arrangement whole.there)
 
-  -- a value read from a step's chain, with the new numbers filled in, is the value read from the chain at the place
+  -- a value read from a directed chain, with the new numbers filled in, is the value read from the chain at the place
   pub stated : {Y : Type 0} (F G : Option Chain → Y)
       → ((c : Chain) → G (Some c) ≡ F (Some (renumbered (renaming_of county order) c)))
-      → (i : ℕ) (s : DirectedChain) → Some s ≡ slice_get steps i → G (step_chain county s) ≡ F (chain_at (stepped county steps) i)
+      → (i : ℕ) (s : DirectedChain) → Some s ≡ slice_get arrangement i → G (directed_chain county s) ≡ F (chain_at (arranged_by county arrangement) i)
   stated F G h i s e = let t = chain_there i s (sym e) in ap G t.1 ∙ h t.0 ∙ sym (ap F t.2)
 
-  pub unstated : {Y : Type 0} (F : Option Chain → Y) (i : ℕ) → None ≡ slice_get steps i → F None ≡ F (chain_at (stepped county steps) i)
+  pub unstated : {Y : Type 0} (F : Option Chain → Y) (i : ℕ) → None ≡ slice_get arrangement i → F None ≡ F (chain_at (arranged_by county arrangement) i)
   unstated F i e = sym (ap F (chain_missing i (sym e)))

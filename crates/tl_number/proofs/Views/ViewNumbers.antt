@@ -16,7 +16,7 @@ use Rattle.ordered_lists.proofs.Lists.Elements.{map-map, all_weaker}
 use Rattle.ordered_lists.proofs.Lists.Members.{among_known, known_is_among}
 use Rattle.tl_number.specs.Arrangement.{under_cenid}
 use Rattle.tl_number.specs.Growth.{numbered, up_to}
-use Rattle.tl_number.proofs.Views.StepChains.{among-get}
+use Rattle.tl_number.proofs.Views.DirectedChains.{among-get}
 
 no_cond : {X : Type 0} (b : Bool) (x : X) → None ≡ cond b (Some x) None → b ≡ false
 no_cond true x e = cc

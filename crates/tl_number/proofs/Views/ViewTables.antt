@@ -25,8 +25,8 @@ use Rattle.ordered_lists.proofs.ByKey.Numbers.{distinct-in_order}
 use Rattle.tl_number.specs.Arrangement.{Arrangement, nodes_in_order, polygons_in_order, names_in_order, landmarks_in_order}
 use Rattle.tl_number.specs.Arrangement.{renaming_of, under_cenid}
 use Rattle.tl_number.specs.Growth.{numbered, up_to}
-use Rattle.tl_number.specs.Steps.{arrangement_of}
-use Rattle.tl_number.specs.ViewFacts.{AreWhole, AreReadAt, MatchesNames, MatchesLandmarks, stepped, links_up_to, link_bounds}
+use Rattle.tl_number.specs.DirectedChains.{arrangement_of}
+use Rattle.tl_number.specs.ViewFacts.{AreWhole, AreReadAt, MatchesNames, MatchesLandmarks, arranged_by, links_up_to, link_bounds}
 use Rattle.tl_county.specs.declared.directed_chain.DirectedChain.{DirectedChain}
 use Rattle.tl_number.specs.declared.arranged_tables.LandmarkTables.{LandmarkTables}
 use Rattle.tl_number.specs.declared.arranged_tables.NameTables.{NameTables}
@@ -77,79 +77,79 @@ pub value_past : {V : Type 0} (xs ys : List (ℕ × V)) (places : List ℕ) → 
 value_past {V} xs ys places e i h =
     ap (option_map (λ (d : ℕ × V). d.1)) (read_past xs ys places e i h) ∙ sym (slice_get-map (λ (d : ℕ × V). d.1) ys i)
 
-module _ (county : County) (steps : List DirectedChain) (is : IsCounty county) (whole : AreWhole county steps) where
+module _ (county : County) (arrangement : List DirectedChain) (is : IsCounty county) (whole : AreWhole county arrangement) where
   abbrev order : Arrangement
-  order = arrangement_of county steps
+  order = arrangement_of county arrangement
 
-  pub nodes_stepped : (ns : List ℕ) → ns ≡ nodes_in_order county order → nodes (stepped county steps) ≡ up_to (length ns)
-  nodes_stepped ns e =
+  pub nodes_arranged_by : (ns : List ℕ) → ns ≡ nodes_in_order county order → nodes (arranged_by county arrangement) ≡ up_to (length ns)
+  nodes_arranged_by ns e =
       let n : ℕ = length (nodes_in_order county order) in
-      let permuted : IsPermutation (up_to n) (nodes (stepped county steps)) =
-      subst (λ ks. IsPermutation ks (nodes (stepped county steps)))
-      (node_rights county order is (arranges county steps is whole)) (paired_nodes county order is
-      (arranges county steps is whole)).right in
-      sym (in_order-permutation nat_keys (up_to n) (nodes (stepped county steps)) (order_from_strict nat_cmp (up_to n) (up_to-strict n))
-      (distinct-in_order nat_keys (nodes_along (stepped county steps).chains)) permuted) ∙ ap (λ ks. up_to (length ks)) (sym e)
+      let permuted : IsPermutation (up_to n) (nodes (arranged_by county arrangement)) =
+      subst (λ ks. IsPermutation ks (nodes (arranged_by county arrangement)))
+      (node_rights county order is (arranges county arrangement is whole)) (paired_nodes county order is
+      (arranges county arrangement is whole)).right in
+      sym (in_order-permutation nat_keys (up_to n) (nodes (arranged_by county arrangement)) (order_from_strict nat_cmp (up_to n) (up_to-strict n))
+      (distinct-in_order nat_keys (nodes_along (arranged_by county arrangement).chains)) permuted) ∙ ap (λ ks. up_to (length ks)) (sym e)
 
   -- the tables have the renaming's pairs of numbers
   pub nodes_paired : (ns : List ℕ) → ns ≡ nodes_in_order county order → numbered ns ≡ (renaming_of county order).nodes
-  nodes_paired ns e = ap numbered e ∙ sym (nodes_renamed county order is (arranges county steps is whole))
+  nodes_paired ns e = ap numbered e ∙ sym (nodes_renamed county order is (arranges county arrangement is whole))
 
   pub keys_paired : (ks : List PolygonKey) → ks ≡ polygons_in_order county order
       → map under_cenid (numbered ks) ≡ (renaming_of county order).polygons
-  keys_paired ks e = ap (λ js. map under_cenid (numbered js)) e ∙ sym (polygons_renamed county order is (arranges county steps is whole))
+  keys_paired ks e = ap (λ js. map under_cenid (numbered js)) e ∙ sym (polygons_renamed county order is (arranges county arrangement is whole))
 
-  module _ (tables : NameTables) (stated : MatchesNames county steps tables) where
+  module _ (tables : NameTables) (stated : MatchesNames county arrangement tables) where
     pub feats_paired : numbered tables.feats ≡ (renaming_of county order).names
-    feats_paired = ap numbered stated.feats ∙ sym (names_renamed county order is (arranges county steps is whole))
+    feats_paired = ap numbered stated.feats ∙ sym (names_renamed county order is (arranges county arrangement is whole))
 
-    name_values : entry_values (stepped county steps).names ≡ entry_values (names_in_order county order)
-    name_values = ap entry_values (names_arranged county order is (arranges county steps is whole))
+    name_values : entry_values (arranged_by county arrangement).names ≡ entry_values (names_in_order county order)
+    name_values = ap entry_values (names_arranged county order is (arranges county arrangement is whole))
         ∙ map-map (λ (d : ℕ × Body5). d.1) (carried_name (renaming_of county order)) (names_in_order county order)
 
     count : length tables.feats ≡ length (names_in_order county order)
     count = ap length stated.feats ∙ length-map (names_in_order county order) (λ (d : ℕ × Body5). d.0)
 
-    pub feats_stepped : feats (stepped county steps) ≡ up_to (length tables.feats)
-    feats_stepped = feats_arranged county order is (arranges county steps is whole) ∙ ap up_to (sym count)
+    pub feats_arranged_by : feats (arranged_by county arrangement) ≡ up_to (length tables.feats)
+    feats_arranged_by = feats_arranged county order is (arranges county arrangement is whole) ∙ ap up_to (sym count)
 
-    pub names_stepped : length (stepped county steps).names ≡ length tables.feats
-    names_stepped = ap length (names_arranged county order is (arranges county steps is whole))
+    pub names_arranged_by : length (arranged_by county arrangement).names ≡ length tables.feats
+    names_arranged_by = ap length (names_arranged county order is (arranges county arrangement is whole))
         ∙ length-map (names_in_order county order) (carried_name (renaming_of county order)) ∙ sym count
 
     pub name_there : (i p : ℕ) → Some p ≡ slice_get tables.places.items i
-        → slice_get (entry_values county.names) p ≡ slice_get (entry_values (stepped county steps).names) i
+        → slice_get (entry_values county.names) p ≡ slice_get (entry_values (arranged_by county arrangement).names) i
     name_there i p h = value_at county.names (names_in_order county order) tables.places.items stated.names i p h
         ∙ ap (λ vs. slice_get vs i) (sym name_values)
 
-    pub name_missing : (i : ℕ) → None ≡ slice_get tables.places.items i → None ≡ slice_get (entry_values (stepped county steps).names) i
+    pub name_missing : (i : ℕ) → None ≡ slice_get tables.places.items i → None ≡ slice_get (entry_values (arranged_by county arrangement).names) i
     name_missing i h = value_past county.names (names_in_order county order) tables.places.items stated.names i h
         ∙ ap (λ vs. slice_get vs i) (sym name_values)
 
-  module _ (tables : LandmarkTables) (stated : MatchesLandmarks county steps tables) where
-    landmark_values : entry_values (stepped county steps).landmarks ≡ entry_values (landmarks_in_order county order)
-    landmark_values = ap entry_values (landmarks_arranged county order is (arranges county steps is whole))
+  module _ (tables : LandmarkTables) (stated : MatchesLandmarks county arrangement tables) where
+    landmark_values : entry_values (arranged_by county arrangement).landmarks ≡ entry_values (landmarks_in_order county order)
+    landmark_values = ap entry_values (landmarks_arranged county order is (arranges county arrangement is whole))
         ∙ map-map (λ (d : ℕ × List Body7). d.1) (carried_landmark (renaming_of county order)) (landmarks_in_order county order)
 
     lands_count : length tables.places.items ≡ length (landmarks_in_order county order)
     lands_count = sym (read_length (slice_get county.landmarks) tables.places.items (landmarks_in_order county order) stated.landmarks)
 
-    pub lands_stepped : lands (stepped county steps) ≡ up_to (length tables.places.items)
-    lands_stepped = lands_arranged county order is (arranges county steps is whole) ∙ ap up_to (sym lands_count)
+    pub lands_arranged_by : lands (arranged_by county arrangement) ≡ up_to (length tables.places.items)
+    lands_arranged_by = lands_arranged county order is (arranges county arrangement is whole) ∙ ap up_to (sym lands_count)
 
-    pub landmarks_stepped : length (stepped county steps).landmarks ≡ length tables.places.items
-    landmarks_stepped = ap length (landmarks_arranged county order is (arranges county steps is whole))
+    pub landmarks_arranged_by : length (arranged_by county arrangement).landmarks ≡ length tables.places.items
+    landmarks_arranged_by = ap length (landmarks_arranged county order is (arranges county arrangement is whole))
         ∙ length-map (landmarks_in_order county order) (carried_landmark (renaming_of county order)) ∙ sym lands_count
 
     pub landmark_there : (i p : ℕ) → Some p ≡ slice_get tables.places.items i
         → unwrap_or (slice_get (entry_values county.landmarks) p) [] ≡ unwrap_or (slice_get (entry_values
-        (stepped county steps).landmarks) i) []
+        (arranged_by county arrangement).landmarks) i) []
     landmark_there i p h = ap (λ (o : Option (List Body7)). unwrap_or o [])
         (value_at county.landmarks (landmarks_in_order county order) tables.places.items stated.landmarks i p h
         ∙ ap (λ vs. slice_get vs i) (sym landmark_values))
 
     pub landmark_missing : (i : ℕ) → None ≡ slice_get tables.places.items i
-        → [] ≡ unwrap_or (slice_get (entry_values (stepped county steps).landmarks) i) []
+        → [] ≡ unwrap_or (slice_get (entry_values (arranged_by county arrangement).landmarks) i) []
     landmark_missing i h = ap (λ (o : Option (List Body7)). unwrap_or o [])
         (value_past county.landmarks (landmarks_in_order county order) tables.places.items stated.landmarks i h
         ∙ ap (λ vs. slice_get vs i) (sym landmark_values))
@@ -157,7 +157,7 @@ module _ (county : County) (steps : List DirectedChain) (is : IsCounty county) (
     -- the links are between their bounds
     pub bounds_counted : length tables.bounds.items ≡ suc (length tables.places.items)
     bounds_counted = ap length stated.bounds
-        ∙ length-map-range_with_len (links_up_to (stepped county steps).links) 0 (length tables.places.items + 1)
+        ∙ length-map-range_with_len (links_up_to (arranged_by county arrangement).links) 0 (length tables.places.items + 1)
         ∙ (let t : length tables.places.items + 1 ≡ suc (length tables.places.items) = omega arith in t)
 
     fewer : length tables.bounds.items - 1 ≡ length tables.places.items
@@ -170,12 +170,12 @@ module _ (county : County) (steps : List DirectedChain) (is : IsCounty county) (
         ∙ ap₂ (λ ls n. link_bounds ls n) (sym (e ∙ stated.links)) (sym (ap (λ bs. length bs - 1) f ∙ fewer))
 
     pub links_stated : (links : List Fields8) (bounds : List ℕ) → links ≡ tables.links.items → bounds ≡ tables.bounds.items → (i : ℕ)
-        → links_with links (slice_get (up_to (length bounds - 1)) i) ≡ links_at (stepped county steps) i
+        → links_with links (slice_get (up_to (length bounds - 1)) i) ≡ links_at (arranged_by county arrangement) i
     links_stated links bounds e f i =
         ap₂ (λ ls n. links_with ls (slice_get (up_to n) i)) (e ∙ stated.links) (ap (λ bs. length bs - 1) f ∙ fewer)
-        ∙ ap (λ ls. links_with (stepped county steps).links (slice_get ls i)) (sym lands_stepped)
+        ∙ ap (λ ls. links_with (arranged_by county arrangement).links (slice_get ls i)) (sym lands_arranged_by)
 
     pub links_ordered : (links : List Fields8) → links ≡ tables.links.items → IsInOrder (on eight_land nat_cmp) links
     links_ordered links e =
         subst (IsInOrder (on eight_land nat_cmp)) (sym (e ∙ stated.links)) (by_land
-        (stepped county steps).links whole.is_county.ascending.links)
+        (arranged_by county arrangement).links whole.is_county.ascending.links)

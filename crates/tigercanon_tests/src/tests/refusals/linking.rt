@@ -147,8 +147,8 @@ pub(super) fn admitted_in_of<'a>(
 }
 
 /// The chains of an order, in that order.
-pub(super) fn walks_of(rt: &impl Abort, alloc: Global, order: &ShapeOrder) -> Vec<DirectedChain> {
-    Vec::from_slice(alloc, order.walks()).expect(rt, "there is memory")
+pub(super) fn chains_by_shape(rt: &impl Abort, alloc: Global, order: &ShapeOrder) -> Vec<DirectedChain> {
+    Vec::from_slice(alloc, order.by_shape()).expect(rt, "there is memory")
 }
 
 pub(super) struct OrderByShape;
@@ -161,7 +161,7 @@ impl Call for OrderByShape {
         let refused = has_refused(alloc);
         drop(county);
         let outcome = match outcome {
-            Ok(order) => Ok(walks_of(rt, alloc, &order)),
+            Ok(order) => Ok(chains_by_shape(rt, alloc, &order)),
             Err(_) => Err(Fault::Memory),
         };
         ended(rt, alloc, refused, outcome)

@@ -6,7 +6,7 @@ ghost use Rattle.tl_county.specs.Packing.{type_after_type};
 
 use super::super::comparing::same;
 use super::super::sets::Set;
-use super::linking::{is_of_set, walks_of};
+use super::linking::{is_of_set, chains_by_shape};
 use super::reading::tables_of;
 use super::{Call, Run, ended, has_refused, refuse};
 use bumpalo::Bump;
@@ -40,7 +40,7 @@ fn order_of<C: Chart + Drop>(
             let is_same = is_of_set(rt, alloc, set, &county);
             drop(county);
             same(rt, set.row, &is_same, &Ok(true));
-            Ok(walks_of(rt, alloc, &order))
+            Ok(chains_by_shape(rt, alloc, &order))
         }
         Err(fault) => Err(Fault::Profile(fault)),
     }

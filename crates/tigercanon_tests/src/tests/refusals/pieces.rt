@@ -2,7 +2,7 @@
 
 ghost use Rattle.std.specs.Prelude.{◌≡◌};
 ghost use Rattle.tl_number.specs.Arrangement.{ascending};
-ghost use Rattle.tl_number.specs.Steps.{AreSteps, arrangement_of};
+ghost use Rattle.tl_number.specs.DirectedChains.{HasChainsOf, arrangement_of};
 ghost use Rattle.tl_profile.specs.Profile.{IsInProfile};
 
 use super::super::comparing::same;
@@ -15,7 +15,7 @@ use std::process::Abort;
 use tigercanon::Fault;
 use tl_cert::Renaming;
 use tl_county::{Chart, DirectedChain};
-use tl_number::{Arranged, arrange, ascending_steps, canonise_alone};
+use tl_number::{Arranged, arrange, ascending_arrangement, canonise_alone};
 use tl_profile::Admitted;
 use tl_write::{CountedOut, write_to};
 
@@ -51,13 +51,13 @@ impl Call for WriteAdmitted {
 fn arrange_ascending<C: Chart + Drop>(
     alloc: Global,
     chart: C,
-    steps: Vec<DirectedChain>,
+    arrangement: Vec<DirectedChain>,
 ) -> Result<Arranged<C>, AllocError>
     requires profile { IsInProfile (C.county chart) }
-    requires there { AreSteps (C.county chart) steps.items }
-    requires ascending { arrangement_of (C.county chart) steps.items ≡ ascending (C.county chart) }
+    requires there { HasChainsOf (C.county chart) arrangement.items }
+    requires ascending { arrangement_of (C.county chart) arrangement.items ≡ ascending (C.county chart) }
 {
-    arrange(alloc, chart, steps)
+    arrange(alloc, chart, arrangement)
 }
 
 /// The renaming of the set's county onto an arranged one. It carries the one onto the other.
@@ -76,14 +76,14 @@ fn renaming_onto<C: Chart>(
 }
 
 /// The arranged county. The answer is the renaming onto it.
-pub(super) struct ArrangeSteps;
+pub(super) struct ArrangeChains;
 
-impl Call for ArrangeSteps {
+impl Call for ArrangeChains {
     fn run(rt: &impl Abort, alloc: Global, set: &Set<'_>, asked: usize) -> Run {
         let chart = admitted_of(rt, alloc, set).into_chart();
-        let steps = ascending_steps(alloc, &chart).expect(rt, set.row);
+        let arrangement = ascending_arrangement(alloc, &chart).expect(rt, set.row);
         refuse(alloc, asked);
-        let outcome = arrange_ascending(alloc, chart, steps);
+        let outcome = arrange_ascending(alloc, chart, arrangement);
         let refused = has_refused(alloc);
         match outcome {
             Ok(view) => {

@@ -211,7 +211,7 @@ const BROKEN: &[Row] = &[
 /// All files are opened before one is read, and both sets are read before one is judged.
 const COMPARED: &[Row] = &[
     Row {
-        name: "one map, and just the room to say so",
+        name: "one map, and an output that takes just the answer",
         job: Job::Compare,
         files: [PARTED, &[TURNED_FILE]],
         capacity: [5, 1000],
@@ -219,7 +219,7 @@ const COMPARED: &[Row] = &[
         ..DONE
     },
     Row {
-        name: "different maps, and just the room to say so",
+        name: "different maps, and an output that takes just the answer",
         job: Job::Compare,
         files: [STEM, &[OTHER_FILE]],
         capacity: [10, 1000],
@@ -228,7 +228,7 @@ const COMPARED: &[Row] = &[
         ..DONE
     },
     Row {
-        name: "one map, and less room",
+        name: "one map, and an output that takes less than the answer",
         job: Job::Compare,
         files: [&[STREET_FILE], &[TURNED_FILE]],
         capacity: [4, 1000],
@@ -270,7 +270,7 @@ const COMPARED: &[Row] = &[
 /// The output stops when the device is full.
 const FULL: &[Row] = &[
     Row {
-        name: "no room",
+        name: "an output that takes nothing",
         files: ONE_STREET,
         step: 7,
         capacity: [0, 1000],
@@ -280,7 +280,7 @@ const FULL: &[Row] = &[
         ..STOPPED
     },
     Row {
-        name: "less room than a write",
+        name: "an output that takes less than one write",
         files: ONE_STREET,
         step: 7,
         capacity: [6, 1000],
@@ -290,7 +290,7 @@ const FULL: &[Row] = &[
         ..STOPPED
     },
     Row {
-        name: "room for some writes",
+        name: "an output that takes some writes",
         files: ONE_STREET,
         step: 7,
         capacity: [300, 1000],
@@ -300,7 +300,7 @@ const FULL: &[Row] = &[
         ..STOPPED
     },
     Row {
-        name: "room for all but the last byte",
+        name: "an output that takes all but the last byte",
         files: ONE_STREET,
         step: 1000,
         capacity: [356, 1000],
@@ -320,7 +320,7 @@ const FULL: &[Row] = &[
         ..STOPPED
     },
     Row {
-        name: "normalise, and room for some writes",
+        name: "normalise, and an output that takes some writes",
         job: Job::Normalise,
         files: ONE_STREET,
         step: 7,
@@ -331,7 +331,7 @@ const FULL: &[Row] = &[
         ..STOPPED
     },
     Row {
-        name: "check, and room for all but the last byte",
+        name: "check, and an output that takes all but the last byte",
         job: Job::Check,
         files: ONE_STREET,
         step: 4,
@@ -342,7 +342,7 @@ const FULL: &[Row] = &[
         ..STOPPED
     },
     Row {
-        name: "fingerprint, and room for all but the last byte",
+        name: "fingerprint, and an output that takes all but the last byte",
         job: Job::Fingerprint,
         files: ONE_STREET,
         step: 7,

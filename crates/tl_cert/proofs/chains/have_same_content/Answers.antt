@@ -1,7 +1,7 @@
 use Rattle.std.proofs.Common.{◌≡◌, true, rules, sym, ◌∙◌}
 use Rattle.tl_county.specs.DirectedChains.{directed_chain}
 use Rattle.ordered_lists.proofs.Lists.ByPlace.{decides_same}
-use Rattle.tl_cert.proofs.Towards.{body_kept, link_body_kept}
+use Rattle.tl_cert.proofs.Towards.{body_kept, topology_kept}
 use Rattle.tl_cert.proofs.chains.have_same_content.Goals as goal
 
 pub returns : goal.returns
@@ -12,6 +12,6 @@ returns g c =
     decides_same c.is_same.result c.is_same.ensures
     (λ e. record {
       body = sym c.chain_body_at.ensures ∙ c.is_same-body.ensures.0 yes ∙ c.body.ensures ∙ sym (body_kept r q);
-      topology = sym c.link_body_at.ensures ∙ e ∙ c.link_body.ensures ∙ sym (link_body_kept r q);
+      topology = sym c.topology_at.ensures ∙ e ∙ c.link_body.ensures ∙ sym (topology_kept r q);
     })
-    (λ h. c.link_body_at.ensures ∙ h.topology ∙ link_body_kept r q ∙ sym c.link_body.ensures)
+    (λ h. c.topology_at.ensures ∙ h.topology ∙ topology_kept r q ∙ sym c.link_body.ensures)

@@ -6,11 +6,11 @@ use Rattle.tl_county.specs.Building.{county_along}
 use Rattle.tl_county.specs.County.{five_feat}
 use Rattle.tl_county.specs.CountyRules.{IsCounty, nodes}
 use Rattle.ordered_lists.specs.Entries.{map_values}
-use Rattle.tl_county.specs.KeptCounty.{county_with, LinksUnderLands}
+use Rattle.tl_county.specs.StoredCounty.{county_with, LinksUnderLands}
 use Rattle.tl_county.specs.Limits.{IsWithinLimits, most_records}
 use Rattle.tl_county.specs.OrderedTables.{typed_of}
 use Rattle.tl_county.proofs.Rules.BuiltTables.{as_built, built-is_county, feats-ascend, nodes-built, links_under_lands-along}
-use Rattle.tl_county.proofs.Rules.KeptParts.{names-built}
+use Rattle.tl_county.proofs.Rules.StoredParts.{names-built}
 use Rattle.tl_county.proofs.linking.build_county.Goals as goal
 
 pub new-requires-clause-ascending : goal.new-requires-clause-ascending

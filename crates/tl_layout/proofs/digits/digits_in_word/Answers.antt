@@ -14,16 +14,16 @@ pub overflow_sub-pairs : goal.overflow_sub-pairs
 overflow_sub-pairs c = (parts c).hundredfold
 
 pub overflow_mul-tens : goal.overflow_mul-tens
-overflow_mul-tens c = record { fits = (parts c).room_for_tens }
+overflow_mul-tens c = record { fits = (parts c).tens_fit }
 
 pub overflow_sub-result : goal.overflow_sub-result
 overflow_sub-result c = (parts c).tenfold
 
 pub overflow_mul-result-2 : goal.overflow_mul-result-2
-overflow_mul-result-2 c = record { fits = (parts c).room_for_digits }
+overflow_mul-result-2 c = record { fits = (parts c).digits_fit }
 
 pub overflow_add-result : goal.overflow_add-result
-overflow_add-result c = record { fits = (parts c).room }
+overflow_add-result c = record { fits = (parts c).word_fits }
 
 pub returns : goal.returns
 returns c =

@@ -1,6 +1,6 @@
 use Rattle.std.proofs.Common.{sym, subst}
 use Rattle.tl_number.specs.ViewFacts.{AreWhole, MatchesNodes, MatchesPolygons, MatchesNames, MatchesLandmarks}
-use Rattle.tl_number.proofs.Views.ArrangedViews.{whole_steps}
+use Rattle.tl_number.proofs.Views.ArrangedViews.{whole_arrangement}
 use Rattle.tl_number.proofs.Arrangements.PlacesFit.{places_fit}
 use Rattle.tl_number.proofs.arranging.arrange.Goals as goal
 
@@ -12,7 +12,7 @@ arrange_tables-requires g c =
     let fit = places_fit county is within c.requires.sides in
     record {
       whole = subst (AreWhole county) (sym c.deref.ensures.value)
-          (whole_steps county c.args.steps.items is within c.requires.there c.requires.once c.requires.sides fit.chains);
+          (whole_arrangement county c.args.arrangement.items is within c.requires.there c.requires.once c.requires.sides fit.chains);
       sides = c.requires.sides;
       few_polygons = fit.polygons;
       few_names = fit.names;
@@ -26,13 +26,13 @@ invariant_of-result g c =
     let within = g.met.C.Chart.within_limits c.args.chart in
     let fit = places_fit county is within c.requires.sides in
     record {
-      whole = whole_steps county c.args.steps.items is within c.requires.there c.requires.once c.requires.sides fit.chains;
+      whole = whole_arrangement county c.args.arrangement.items is within c.requires.there c.requires.once c.requires.sides fit.chains;
       sides = c.requires.sides;
-      nodes_stated = subst (λ steps. MatchesNodes county steps c.in_ok-nodes.nodes) c.deref.ensures.value c.in_ok-nodes.ensures.nodes;
-      polygons_stated = subst (λ steps. MatchesPolygons county steps c.in_ok-nodes.polygons) c.deref.ensures.value
+      nodes_stated = subst (λ arrangement. MatchesNodes county arrangement c.in_ok-nodes.nodes) c.deref.ensures.value c.in_ok-nodes.ensures.nodes;
+      polygons_stated = subst (λ arrangement. MatchesPolygons county arrangement c.in_ok-nodes.polygons) c.deref.ensures.value
           c.in_ok-nodes.ensures.polygons;
-      names_stated = subst (λ steps. MatchesNames county steps c.in_ok-nodes.names) c.deref.ensures.value c.in_ok-nodes.ensures.names;
-      landmarks_stated = subst (λ steps. MatchesLandmarks county steps c.in_ok-nodes.landmarks) c.deref.ensures.value
+      names_stated = subst (λ arrangement. MatchesNames county arrangement c.in_ok-nodes.names) c.deref.ensures.value c.in_ok-nodes.ensures.names;
+      landmarks_stated = subst (λ arrangement. MatchesLandmarks county arrangement c.in_ok-nodes.landmarks) c.deref.ensures.value
           c.in_ok-nodes.ensures.landmarks;
       stands = ∣ tt ∣₁;
     }

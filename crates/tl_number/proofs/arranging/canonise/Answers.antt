@@ -36,11 +36,11 @@ returns-clause-choice g c =
 pub returns-clause-renaming : goal.returns-clause-renaming
 returns-clause-renaming g c =
     let county : County = g.C.Chart.county c.args.admitted in
-    let steps = arrangement_in c.in_ok-canon.canon in
+    let arrangement = arrangement_in c.in_ok-canon.canon in
     with_both c.in_ok-canon.canon c.renaming-renaming.result c.paired.result
     (λ view r. r ≡ renaming_of county (arrangement_in view)) c.paired.ensures
     (IfOk-weaker c.renaming-renaming.result _ _
-    (λ r is. is ∙ ap (λ (from : County). renaming_of from steps) c.in_ok-canon.ensures.source_county) c.renaming-renaming.ensures.value)
+    (λ r is. is ∙ ap (λ (from : County). renaming_of from arrangement) c.in_ok-canon.ensures.source_county) c.renaming-renaming.ensures.value)
 
 pub returns-clause-carried : goal.returns-clause-carried
 returns-clause-carried g c =

@@ -12,7 +12,7 @@ overflow_add-first g c =
     let county = g.C.Chart.county c.args.chart.now in
     let there = chain_there county (g.met.C.Chart.is_county c.args.chart.now) (g.met.C.Chart.within_limits c.args.chart.now) c.args.place
     c.requires.place in
-    omega (arith, c.requires.first, ap (λ o. length (feats_of o)) there.chain, there.room.feats)
+    omega (arith, c.requires.first, ap (λ o. length (feats_of o)) there.chain, there.lists.feats)
 
 pub loop-name-preserved : goal.loop-name-preserved
 loop-name-preserved g c =

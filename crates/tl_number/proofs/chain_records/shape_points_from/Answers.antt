@@ -14,7 +14,7 @@ overflow_add-first g c =
     let county = g.C.Chart.county c.args.chart.now in
     let there = chain_there county (g.met.C.Chart.is_county c.args.chart.now) (g.met.C.Chart.within_limits c.args.chart.now) c.args.place
     c.requires.place in
-    omega (arith, c.requires.first, ap (λ o. length (inner_points (points_of o))) there.chain, there.room.points)
+    omega (arith, c.requires.first, ap (λ o. length (inner_points (points_of o))) there.chain, there.lists.points)
 
 pub point_there-requires : goal.point_there-requires
 point_there-requires g c =

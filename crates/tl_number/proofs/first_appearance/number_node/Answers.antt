@@ -1,5 +1,5 @@
 use Rattle.std.proofs.Common.{◌∙◌, sym}
-use Rattle.tl_number.proofs.Views.StepPairs.{node_numbered}
+use Rattle.tl_number.proofs.Views.ArrangedPairs.{node_numbered}
 use Rattle.tl_number.proofs.first_appearance.number_node.Goals as goal
 
 pub returns-in_ok-place-in-Some-clause-number : goal.returns-in_ok-place-in-Some-clause-number

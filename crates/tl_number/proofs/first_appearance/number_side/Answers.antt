@@ -1,5 +1,5 @@
 use Rattle.std.proofs.Common.{arith, ◌∙◌}
-use Rattle.tl_number.proofs.Views.StepPairs.{number_fits, side_numbered}
+use Rattle.tl_number.proofs.Views.ArrangedPairs.{number_fits, side_numbered}
 use Rattle.tl_number.proofs.first_appearance.number_side.Goals as goal
 
 pub new-requires-clause-polyid : goal.new-requires-clause-polyid

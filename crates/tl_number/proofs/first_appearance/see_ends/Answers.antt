@@ -1,9 +1,9 @@
 use Rattle.std.proofs.Common.{◌<◌, ℕ, List, Option, ◌∙◌, flat_map, get_or, length, nat_cmp, option_to_list, arith}
 use Rattle.std.proofs.lemmas.List.{take_more_set}
 use Rattle.ordered_lists.proofs.ByKey.Keys.{nat_keys}
-use Rattle.tl_number.specs.ByStep.{node_among, nodes_at}
+use Rattle.tl_number.specs.EndsAndSides.{node_among, nodes_at}
 use Rattle.tl_number.specs.Growth.{first_seen}
-use Rattle.tl_number.proofs.Views.StepPairs.{left_later, left_there, pair_numbered, pair_seen}
+use Rattle.tl_number.proofs.Views.ArrangedPairs.{left_later, left_there, pair_numbered, pair_seen}
 use Rattle.tl_number.proofs.first_appearance.see_ends.Goals as goal
 
 pub loop-pair-preserved : goal.loop-pair-preserved

@@ -1,7 +1,7 @@
 -- The keys seen so far, and then those of the rest, are those of all ends; the numbered part has its final numbers, and the rest is
 -- unchanged.
 use Rattle.std.proofs.Common.{◌≡◌, drop, flat_map, map, nat_cmp, take}
-use Rattle.tl_number.specs.ByStep.{ends_among, nodes_at}
+use Rattle.tl_number.specs.EndsAndSides.{ends_among, nodes_at}
 use Rattle.tl_number.specs.Growth.{first_seen, first_seen_after}
 use Rattle.tl_number.proofs.first_appearance.see_ends.Given as goal
 

@@ -3,9 +3,9 @@ use Rattle.std.proofs.lemmas.List.{take_more_set}
 use Rattle.tl_layout.specs.PolygonSide.{PolygonSide}
 use Rattle.tl_county.specs.PolygonKeys.{PolygonKey, key_cmp, key_on}
 use Rattle.tl_county.specs.Laws.KeyOrders.{key_keys}
-use Rattle.tl_number.specs.ByStep.{polygons_at, side_among}
+use Rattle.tl_number.specs.EndsAndSides.{polygons_at, side_among}
 use Rattle.tl_number.specs.Growth.{first_seen}
-use Rattle.tl_number.proofs.Views.StepPairs.{first_few, left_later, left_there, pair_numbered, pair_seen, second_few}
+use Rattle.tl_number.proofs.Views.ArrangedPairs.{first_few, left_later, left_there, pair_numbered, pair_seen, second_few}
 use Rattle.tl_number.proofs.first_appearance.see_sides.Goals as goal
 
 pub number_side-requires : goal.number_side-requires

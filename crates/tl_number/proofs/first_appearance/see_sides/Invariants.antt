@@ -2,7 +2,7 @@
 -- is unchanged.
 use Rattle.std.proofs.Common.{◌≡◌, drop, flat_map, map, take}
 use Rattle.tl_county.specs.PolygonKeys.{key_cmp}
-use Rattle.tl_number.specs.ByStep.{polygons_at, sides_among}
+use Rattle.tl_number.specs.EndsAndSides.{polygons_at, sides_among}
 use Rattle.tl_number.specs.Growth.{first_seen, first_seen_after}
 use Rattle.tl_number.proofs.first_appearance.see_sides.Given as goal
 

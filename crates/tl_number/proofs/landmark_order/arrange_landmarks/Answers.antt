@@ -2,7 +2,7 @@ use Rattle.std.proofs.Common.{◌≡◌, length, nat_cmp, false, refl, sym, ap, 
 use Rattle.tl_county.specs.CountyRules.{lands}
 use Rattle.ordered_lists.specs.Orders.{has_repeat}
 use Rattle.tl_number.specs.LandmarkItems.{lands_at, numbered_links}
-use Rattle.tl_number.specs.ViewFacts.{link_bounds, stepped}
+use Rattle.tl_number.specs.ViewFacts.{link_bounds, arranged_by}
 use Rattle.tl_number.proofs.Landmarks.LandmarkOrder.{landmarks_stated, lands_once, places_counted, new_links}
 use Rattle.tl_number.proofs.landmark_order.arrange_landmarks.Goals as goal
 
@@ -18,7 +18,7 @@ links_by_land-requires-clause-once g c =
     let county = g.C.Chart.county c.args.chart.now in
     let ps = c.args.polygons.now in
     subst (λ places. has_repeat nat_cmp (lands_at county places) ≡ false) (sym c.deref.ensures.value)
-    (lands_once county c.args.steps.now (g.met.C.Chart.is_county c.args.chart.now) c.requires.whole ps c.requires.polygons
+    (lands_once county c.args.arrangement.now (g.met.C.Chart.is_county c.args.chart.now) c.requires.whole ps c.requires.polygons
     (numbered_links county ps (lands county)) refl c.in_ok-places.places.items c.in_ok-places.ensures.permutation
     c.in_ok-places.ensures.in_order)
 
@@ -26,17 +26,17 @@ pub returns : goal.returns
 returns g c =
     let county = g.C.Chart.county c.args.chart.now in
     let is = g.met.C.Chart.is_county c.args.chart.now in
-    let steps = c.args.steps.now in
+    let arrangement = c.args.arrangement.now in
     let ps = c.args.polygons.now in
     let old = numbered_links county ps (lands county) in
     let places = c.in_ok-places.places.items in
     let permuted = c.in_ok-places.ensures.permutation in
     let ordered = c.in_ok-places.ensures.in_order in
-    let links : c.in_ok-links.links.items ≡ (stepped county steps).links =
+    let links : c.in_ok-links.links.items ≡ (arranged_by county arrangement).links =
     c.in_ok-links.ensures.links ∙ ap (λ ns. numbered_links county ps (lands_at county ns)) c.deref.ensures.value
-    ∙ new_links county steps is c.requires.whole ps c.requires.polygons old refl places permuted ordered in
+    ∙ new_links county arrangement is c.requires.whole ps c.requires.polygons old refl places permuted ordered in
     record {
-      landmarks = landmarks_stated county steps is c.requires.whole ps c.requires.polygons old refl places permuted ordered;
+      landmarks = landmarks_stated county arrangement is c.requires.whole ps c.requires.polygons old refl places permuted ordered;
       links = links;
       bounds = c.in_ok-links.ensures.bounds ∙ ap₂ link_bounds links (ap length c.deref.ensures.value);
     }

@@ -8,7 +8,7 @@ returns-clause-carries c = arrangement_carries
 
 pub returns-clause-county : goal.returns-clause-county
 returns-clause-county c =
-    λ county steps is arranges sides. (arranged_county county steps is arranges sides, is_arranged county steps is arranges sides)
+    λ county arrangement is arranges sides. (arranged_county county arrangement is arranges sides, is_arranged county arrangement is arranges sides)
 
 pub returns-clause-list : goal.returns-clause-list
 returns-clause-list c = packed_arranged

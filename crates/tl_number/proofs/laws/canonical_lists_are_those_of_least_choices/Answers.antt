@@ -6,7 +6,7 @@ returns-clause-exists c = least_choice
 
 pub returns-clause-list : goal.returns-clause-list
 returns-clause-list c =
-    λ county steps is sides least. (least_choice_is_canonical county is sides steps least, choice_is_same county is sides steps least.choice)
+    λ county arrangement is sides least. (least_choice_is_canonical county is sides arrangement least, choice_is_same county is sides arrangement least.choice)
 
 pub returns-clause-choice : goal.returns-clause-choice
 returns-clause-choice c = λ county records is sides. canonical_is_choice county is sides records

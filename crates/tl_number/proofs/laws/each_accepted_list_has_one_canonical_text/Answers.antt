@@ -9,7 +9,7 @@ pub returns-clause-exists : goal.returns-clause-exists
 returns-clause-exists c = canonical_exists plain plain_sight
 
 pub returns-clause-choice : goal.returns-clause-choice
-returns-clause-choice c = λ records steps accepted. choice_is_canonical plain plain_sight records accepted steps
+returns-clause-choice c = λ records arrangement accepted. choice_is_canonical plain plain_sight records accepted arrangement
 
 pub returns-clause-only : goal.returns-clause-only
 returns-clause-only c = λ records c d h k.

@@ -5,4 +5,4 @@ pub returns-clause-count : goal.returns-clause-count
 returns-clause-count c = one_choice
 
 pub returns-clause-only : goal.returns-clause-only
-returns-clause-only c = λ county steps is apart. only_choice county is apart steps
+returns-clause-only c = λ county arrangement is apart. only_choice county is apart arrangement

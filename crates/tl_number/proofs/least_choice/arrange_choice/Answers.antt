@@ -1,31 +1,31 @@
 use Rattle.std.proofs.Common.{◌≡◌, ap, ◌∙◌, sym, subst}
 use Rattle.std.proofs.lemmas.Result.{IfOk-weaker}
 use Rattle.tl_number.specs.Arrangement.{arranged}
-use Rattle.tl_number.specs.Steps.{arrangement_of, AreSteps}
+use Rattle.tl_number.specs.DirectedChains.{arrangement_of, HasChainsOf}
 use Rattle.tl_number.specs.Tidy.{numbered_choice}
 use Rattle.tl_number.specs.ViewFacts.{NamesEachOnce}
 use Rattle.tl_number.specs.Views.{arranged_county}
-use Rattle.tl_number.proofs.Choices.ChosenSteps.{places_within, steps_of_number, steps_of_number_there, steps_of_number_once}
+use Rattle.tl_number.proofs.Choices.ChosenArrangements.{places_within, arrangement_of_number, arrangement_of_number_there, arrangement_of_number_once}
 use Rattle.tl_number.proofs.least_choice.arrange_choice.Goals as goal
 
-pub steps_of_number-requires : goal.steps_of_number-requires
-steps_of_number-requires g c =
-    places_within (g.C.Chart.county c.args.chart.now) (g.met.C.Chart.is_county c.args.chart.now) c.args.order.now.walks
-    c.requires.order.walks c.args.order.now.places (c.requires.order.places c.requires.few)
+pub arrangement_of_number-requires : goal.arrangement_of_number-requires
+arrangement_of_number-requires g c =
+    places_within (g.C.Chart.county c.args.chart.now) (g.met.C.Chart.is_county c.args.chart.now) c.args.order.now.by_shape
+    c.requires.order.by_shape c.args.order.now.places (c.requires.order.places c.requires.few)
 
 pub arrange-requires-clause-there : goal.arrange-requires-clause-there
 arrange-requires-clause-there g c =
-    subst (λ county. AreSteps county c.in_ok-steps.steps.items) (sym c.new.ensures)
-    (steps_of_number_there (g.C.Chart.county c.args.chart.now) (g.met.C.Chart.is_county c.args.chart.now) c.args.order.now.walks
-    c.requires.order.walks c.args.order.now.places (c.requires.order.places c.requires.few) c.in_ok-steps.steps.items c.args.number
-    c.in_ok-steps.ensures)
+    subst (λ county. HasChainsOf county c.in_ok-arrangement.arrangement.items) (sym c.new.ensures)
+    (arrangement_of_number_there (g.C.Chart.county c.args.chart.now) (g.met.C.Chart.is_county c.args.chart.now) c.args.order.now.by_shape
+    c.requires.order.by_shape c.args.order.now.places (c.requires.order.places c.requires.few) c.in_ok-arrangement.arrangement.items c.args.number
+    c.in_ok-arrangement.ensures)
 
 pub arrange-requires-clause-once : goal.arrange-requires-clause-once
 arrange-requires-clause-once g c =
-    subst (λ county. NamesEachOnce county (arrangement_of county c.in_ok-steps.steps.items)) (sym c.new.ensures)
-    (steps_of_number_once (g.C.Chart.county c.args.chart.now) (g.met.C.Chart.is_county c.args.chart.now) c.args.order.now.walks
-    c.requires.order.walks c.args.order.now.places (c.requires.order.places c.requires.few) c.in_ok-steps.steps.items c.args.number
-    c.in_ok-steps.ensures)
+    subst (λ county. NamesEachOnce county (arrangement_of county c.in_ok-arrangement.arrangement.items)) (sym c.new.ensures)
+    (arrangement_of_number_once (g.C.Chart.county c.args.chart.now) (g.met.C.Chart.is_county c.args.chart.now) c.args.order.now.by_shape
+    c.requires.order.by_shape c.args.order.now.places (c.requires.order.places c.requires.few) c.in_ok-arrangement.arrangement.items c.args.number
+    c.in_ok-arrangement.ensures)
 
 pub returns-clause-source : goal.returns-clause-source
 returns-clause-source g c =
@@ -36,12 +36,12 @@ returns-clause-source g c =
 pub returns-clause-county : goal.returns-clause-county
 returns-clause-county g c =
     let county = g.C.Chart.county c.args.chart.now in
-    let steps = c.in_ok-steps.steps.items in
+    let arrangement = c.in_ok-arrangement.arrangement.items in
     let lent = g.C.Chart.county c.new.result.chart.now in
-    let stated = steps_of_number county (g.met.C.Chart.is_county c.args.chart.now) c.args.order.now.walks
-    c.requires.order.walks c.args.order.now.places (c.requires.order.places c.requires.few) steps c.args.number
-    c.in_ok-steps.ensures in
-    IfOk-weaker c.arrange.result (λ view. arranged_county view ≡ arranged lent (arrangement_of lent steps))
+    let stated = arrangement_of_number county (g.met.C.Chart.is_county c.args.chart.now) c.args.order.now.by_shape
+    c.requires.order.by_shape c.args.order.now.places (c.requires.order.places c.requires.few) arrangement c.args.number
+    c.in_ok-arrangement.ensures in
+    IfOk-weaker c.arrange.result (λ view. arranged_county view ≡ arranged lent (arrangement_of lent arrangement))
     (λ view. arranged_county view ≡ arranged county (numbered_choice county c.args.number))
-    (λ view e. e ∙ (λ j. arranged (c.new.ensures j) (arrangement_of (c.new.ensures j) steps)) ∙ ap (arranged county) stated)
+    (λ view e. e ∙ (λ j. arranged (c.new.ensures j) (arrangement_of (c.new.ensures j) arrangement)) ∙ ap (arranged county) stated)
     c.arrange.ensures.county

@@ -2,62 +2,62 @@ use Rattle.std.proofs.Common.{length, sym, ap, ap₂, ◌∙◌, subst}
 use Rattle.tl_layout.specs.declared.record_type.Record.TheVariants.{One}
 use Rattle.tl_number.specs.Arrangement.{arranged}
 use Rattle.tl_number.specs.CountyGroups.{type_1_by_chain}
-use Rattle.tl_number.specs.MovedSteps.{AgreeApart, AreWithin, other_way}
+use Rattle.tl_number.specs.MovedChains.{AgreeApart, AreWithin, other_way}
 use Rattle.tl_number.specs.NumberedChoices.{moved}
 use Rattle.tl_number.specs.RecordOrder.{groups_cmp}
-use Rattle.tl_number.specs.ViewFacts.{stepped}
-use Rattle.tl_number.proofs.Choices.ChosenSteps.{places_within, steps_of_number, steps_of_number_apart}
+use Rattle.tl_number.specs.ViewFacts.{arranged_by}
+use Rattle.tl_number.proofs.Choices.ChosenArrangements.{places_within, arrangement_of_number, arrangement_of_number_apart}
 use Rattle.tl_number.proofs.Choices.LeastOnes.{agree_of_numbers}
 use Rattle.tl_number.proofs.least_choice.compare_number.Goals as goal
 
 pub put_back-requires-clause-within : goal.put_back-requires-clause-within
 put_back-requires-clause-within g c =
     subst (λ n. AreWithin n c.open_places-places.result.now) (sym c.requires.count)
-    (subst (AreWithin (length c.args.order.now.walks)) (sym c.open_places-places.ensures)
-    (places_within (g.C.Chart.county c.args.chart.now) (g.met.C.Chart.is_county c.args.chart.now) c.args.order.now.walks
-    c.requires.known.order.walks c.args.order.now.places (c.requires.known.order.places c.requires.known.few)))
+    (subst (AreWithin (length c.args.order.now.by_shape)) (sym c.open_places-places.ensures)
+    (places_within (g.C.Chart.county c.args.chart.now) (g.met.C.Chart.is_county c.args.chart.now) c.args.order.now.by_shape
+    c.requires.known.order.by_shape c.args.order.now.places (c.requires.known.order.places c.requires.known.few)))
 
 pub put_back-requires-clause-apart : goal.put_back-requires-clause-apart
 put_back-requires-clause-apart g c =
-    subst (λ walks. AgreeApart c.open_places-places.result.now c.args.steps.now walks) (sym c.walks.ensures)
-    (subst (λ places. AgreeApart places c.args.steps.now c.args.order.now.walks) (sym c.open_places-places.ensures) c.requires.apart)
+    subst (λ by_shape. AgreeApart c.open_places-places.result.now c.args.arrangement.now by_shape) (sym c.by_shape.ensures)
+    (subst (λ places. AgreeApart places c.args.arrangement.now c.args.order.now.by_shape) (sym c.open_places-places.ensures) c.requires.apart)
 
 pub choose-requires : goal.choose-requires
 choose-requires g c =
-    subst (λ n. AreWithin n c.open_places-places.result.now) (sym (ap length (c.put_back.ensures ∙ c.walks.ensures)))
-    (subst (AreWithin (length c.args.order.now.walks)) (sym c.open_places-places.ensures)
-    (places_within (g.C.Chart.county c.args.chart.now) (g.met.C.Chart.is_county c.args.chart.now) c.args.order.now.walks
-    c.requires.known.order.walks c.args.order.now.places (c.requires.known.order.places c.requires.known.few)))
+    subst (λ n. AreWithin n c.open_places-places.result.now) (sym (ap length (c.put_back.ensures ∙ c.by_shape.ensures)))
+    (subst (AreWithin (length c.args.order.now.by_shape)) (sym c.open_places-places.ensures)
+    (places_within (g.C.Chart.county c.args.chart.now) (g.met.C.Chart.is_county c.args.chart.now) c.args.order.now.by_shape
+    c.requires.known.order.by_shape c.args.order.now.places (c.requires.known.order.places c.requires.known.few)))
 
 pub compare_ones-requires : goal.compare_ones-requires
 compare_ones-requires g c =
     let county = g.C.Chart.county c.args.chart.now in
-    let stated = c.choose.ensures.steps
-    ∙ (λ i. (moved other_way (c.open_places-places.ensures i) ((c.put_back.ensures ∙ c.walks.ensures) i, c.args.number)).0) in
+    let stated = c.choose.ensures.arrangement
+    ∙ (λ i. (moved other_way (c.open_places-places.ensures i) ((c.put_back.ensures ∙ c.by_shape.ensures) i, c.args.number)).0) in
     agree_of_numbers county (g.met.C.Chart.is_county c.args.chart.now) (g.met.C.Chart.within_limits c.args.chart.now) c.requires.known.sides
-    c.args.order.now.walks c.requires.known.order.walks c.args.order.now.places (c.requires.known.order.places c.requires.known.few) c.deref.result.now
-    c.choose.new.steps c.args.least.now.number c.args.number (c.deref.ensures.value ∙ c.requires.least) stated
+    c.args.order.now.by_shape c.requires.known.order.by_shape c.args.order.now.places (c.requires.known.order.places c.requires.known.few) c.deref.result.now
+    c.choose.new.arrangement c.args.least.now.number c.args.number (c.deref.ensures.value ∙ c.requires.least) stated
     c.open_places-places.result.now c.open_places-places.ensures
 
 pub returns-clause-order : goal.returns-clause-order
 returns-clause-order g c =
     let county = g.C.Chart.county c.args.chart.now in
     let is = g.met.C.Chart.is_county c.args.chart.now in
-    let walks = c.args.order.now.walks in
+    let by_shape = c.args.order.now.by_shape in
     let places = c.args.order.now.places in
     let there = c.requires.known.order.places c.requires.known.few in
-    let stated = c.choose.ensures.steps
-    ∙ (λ i. (moved other_way (c.open_places-places.ensures i) ((c.put_back.ensures ∙ c.walks.ensures) i, c.args.number)).0) in
+    let stated = c.choose.ensures.arrangement
+    ∙ (λ i. (moved other_way (c.open_places-places.ensures i) ((c.put_back.ensures ∙ c.by_shape.ensures) i, c.args.number)).0) in
     c.compare_ones.ensures
-    ∙ ap (λ steps. groups_cmp One (type_1_by_chain (stepped county steps)) (type_1_by_chain (stepped county c.choose.new.steps)))
+    ∙ ap (λ arrangement. groups_cmp One (type_1_by_chain (arranged_by county arrangement)) (type_1_by_chain (arranged_by county c.choose.new.arrangement)))
     c.deref.ensures.value
     ∙ ap₂ (λ one other. groups_cmp One (type_1_by_chain (arranged county one)) (type_1_by_chain (arranged county other)))
-    (steps_of_number county is walks c.requires.known.order.walks places there c.args.least.now.choice.items c.args.least.now.number c.requires.least)
-    (steps_of_number county is walks c.requires.known.order.walks places there c.choose.new.steps c.args.number stated)
+    (arrangement_of_number county is by_shape c.requires.known.order.by_shape places there c.args.least.now.choice.items c.args.least.now.number c.requires.least)
+    (arrangement_of_number county is by_shape c.requires.known.order.by_shape places there c.choose.new.arrangement c.args.number stated)
 
 pub returns-clause-apart : goal.returns-clause-apart
 returns-clause-apart g c =
-    let stated = c.choose.ensures.steps
-    ∙ (λ i. (moved other_way (c.open_places-places.ensures i) ((c.put_back.ensures ∙ c.walks.ensures) i, c.args.number)).0) in
-    steps_of_number_apart (g.C.Chart.county c.args.chart.now) (g.met.C.Chart.is_county c.args.chart.now) c.args.order.now.walks
-    c.requires.known.order.walks c.args.order.now.places (c.requires.known.order.places c.requires.known.few) c.choose.new.steps c.args.number stated
+    let stated = c.choose.ensures.arrangement
+    ∙ (λ i. (moved other_way (c.open_places-places.ensures i) ((c.put_back.ensures ∙ c.by_shape.ensures) i, c.args.number)).0) in
+    arrangement_of_number_apart (g.C.Chart.county c.args.chart.now) (g.met.C.Chart.is_county c.args.chart.now) c.args.order.now.by_shape
+    c.requires.known.order.by_shape c.args.order.now.places (c.requires.known.order.places c.requires.known.few) c.choose.new.arrangement c.args.number stated

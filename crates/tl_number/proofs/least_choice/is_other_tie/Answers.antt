@@ -12,9 +12,9 @@ was_true false e = absurd (false≢true (sym e))
 pub have_same_chains-requires : goal.have_same_chains-requires
 have_same_chains-requires g c =
     agree_of_numbers (g.C.Chart.county c.args.chart.now) (g.met.C.Chart.is_county c.args.chart.now)
-    (g.met.C.Chart.within_limits c.args.chart.now) c.requires.known.sides c.args.order.now.walks c.requires.known.order.walks c.args.order.now.places
-    (c.requires.known.order.places c.requires.known.few) c.deref.result.now c.compare_number-ordering.new.steps c.args.least.now.number c.args.number
-    (c.deref.ensures.value ∙ c.requires.steps) c.compare_number-ordering.ensures.steps c.open_places.result.now c.open_places.ensures
+    (g.met.C.Chart.within_limits c.args.chart.now) c.requires.known.sides c.args.order.now.by_shape c.requires.known.order.by_shape c.args.order.now.places
+    (c.requires.known.order.places c.requires.known.few) c.deref.result.now c.compare_number-ordering.new.arrangement c.args.least.now.number c.args.number
+    (c.deref.ensures.value ∙ c.requires.arrangement) c.compare_number-ordering.ensures.arrangement c.open_places.result.now c.open_places.ensures
 
 pub returns-then-is_eq-clause-tied : goal.returns-then-is_eq-clause-tied
 returns-then-is_eq-clause-tied g c = λ e.
@@ -24,9 +24,9 @@ returns-then-is_eq-clause-tied g c = λ e.
 pub returns-then-is_eq-clause-least : goal.returns-then-is_eq-clause-least
 returns-then-is_eq-clause-least g c = λ e.
     one_list (g.C.Chart.county c.args.chart.now) (g.met.C.Chart.is_county c.args.chart.now)
-    (g.met.C.Chart.within_limits c.args.chart.now) c.requires.known.sides c.args.order.now.walks c.requires.known.order.walks c.args.order.now.places
-    (c.requires.known.order.places c.requires.known.few) c.deref.result.now c.compare_number-ordering.new.steps c.args.least.now.number c.args.number
-    (c.deref.ensures.value ∙ c.requires.steps) c.compare_number-ordering.ensures.steps
+    (g.met.C.Chart.within_limits c.args.chart.now) c.requires.known.sides c.args.order.now.by_shape c.requires.known.order.by_shape c.args.order.now.places
+    (c.requires.known.order.places c.requires.known.few) c.deref.result.now c.compare_number-ordering.new.arrangement c.args.least.now.number c.args.number
+    (c.deref.ensures.value ∙ c.requires.arrangement) c.compare_number-ordering.ensures.arrangement
     (c.have_same_chains.ensures.0 (was_true c.have_same_chains.result e))
 
 pub returns-clause-least : goal.returns-clause-least

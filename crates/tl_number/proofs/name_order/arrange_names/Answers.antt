@@ -8,7 +8,7 @@ pub number_feats-requires : goal.number_feats-requires
 number_feats-requires g c =
     let county = g.C.Chart.county c.args.chart.now in
     subst (λ places. has_repeat nat_cmp (filter_map (slice_get (feats county)) places) ≡ false) (sym c.deref.ensures.value)
-    (feats_once county c.args.steps.now (g.met.C.Chart.is_county c.args.chart.now) c.requires.whole c.in_ok-places.places.items
+    (feats_once county c.args.arrangement.now (g.met.C.Chart.is_county c.args.chart.now) c.requires.whole c.in_ok-places.places.items
     c.in_ok-places.ensures)
 
 pub returns : goal.returns
@@ -19,8 +19,8 @@ returns g c =
     let found : c.in_ok-feats.feats ≡ filter_map (slice_get (feats county)) places =
     c.in_ok-feats.ensures ∙ ap (filter_map (slice_get (feats county))) c.deref.ensures.value in
     record {
-      feats = found ∙ feats_stated county c.args.steps.now is c.requires.whole places c.in_ok-places.ensures;
+      feats = found ∙ feats_stated county c.args.arrangement.now is c.requires.whole places c.in_ok-places.ensures;
       names = c.in_ok-places.ensures;
       few = subst (λ n. n < 2 ^ 32) (sym (ap length found
-          ∙ few_feats county c.args.steps.now is c.requires.whole places c.in_ok-places.ensures)) c.requires.few;
+          ∙ few_feats county c.args.arrangement.now is c.requires.whole places c.in_ok-places.ensures)) c.requires.few;
     }

@@ -1,12 +1,12 @@
 use Rattle.std.proofs.Common.{◌≡◌, length, nat_cmp}
 use Rattle.tl_number.specs.Growth.{first_seen_after, first_seen}
-use Rattle.tl_number.specs.NameItems.{feats_along_steps}
+use Rattle.tl_number.specs.NameItems.{feats_along_arrangement}
 use Rattle.tl_number.proofs.name_order.number_uses.Given as goal
 
-abbrev pub invariant-loop-step : goal.invariant-loop-step
-invariant-loop-step g l =
-    first_seen_after nat_cmp l.feats (feats_along_steps (g.C.Chart.county l.chart) l.rest) ≡ first_seen nat_cmp
-    (feats_along_steps (g.C.Chart.county l.chart) l.steps)
+abbrev pub invariant-loop-directed : goal.invariant-loop-directed
+invariant-loop-directed g l =
+    first_seen_after nat_cmp l.feats (feats_along_arrangement (g.C.Chart.county l.chart) l.rest) ≡ first_seen nat_cmp
+    (feats_along_arrangement (g.C.Chart.county l.chart) l.arrangement)
 
-abbrev pub decreases-loop-step : goal.decreases-loop-step
-decreases-loop-step g l = length l.rest
+abbrev pub decreases-loop-directed : goal.decreases-loop-directed
+decreases-loop-directed g l = length l.rest

@@ -1,10 +1,10 @@
 use Rattle.std.proofs.Common.{◌≡◌, drop, nat_cmp}
 use Rattle.tl_county.specs.ChartWords.{feats_of}
 use Rattle.tl_number.specs.Growth.{first_seen_after}
-use Rattle.tl_number.specs.Steps.{step_chain}
+use Rattle.tl_county.specs.DirectedChains.{directed_chain}
 use Rattle.tl_number.proofs.name_order.see_feats.Given as goal
 
 abbrev pub invariant-loop-name : goal.invariant-loop-name
 invariant-loop-name g l =
-    first_seen_after nat_cmp l.feats (drop l.name (feats_of (step_chain (g.C.Chart.county l.chart) l.fn.step))) ≡ first_seen_after nat_cmp
-    l.initial.feats (feats_of (step_chain (g.C.Chart.county l.chart) l.fn.step))
+    first_seen_after nat_cmp l.feats (drop l.name (feats_of (directed_chain (g.C.Chart.county l.chart) l.fn.directed))) ≡ first_seen_after nat_cmp
+    l.initial.feats (feats_of (directed_chain (g.C.Chart.county l.chart) l.fn.directed))

@@ -1,15 +1,15 @@
 use Rattle.std.proofs.Common.{◌≡◌, ◌∙◌, length, map, option_map, slice_get, true, false, rules, refl, sym, ap, subst}
 use Rattle.std.proofs.lemmas.Option.{slice_get-map}
 use Rattle.std.specs.List.{AllByRecursion}
-use Rattle.tl_number.specs.MovedSteps.{AreWithin, HaveSameChainAt, IsApart, StandInOrder}
-use Rattle.tl_number.specs.Steps.{step_chain}
+use Rattle.tl_number.specs.MovedChains.{AreWithin, HaveSameChainAt, IsApart, StandInOrder}
+use Rattle.tl_county.specs.DirectedChains.{directed_chain}
 use Rattle.ordered_lists.proofs.Lists.ByPlace.{decides_no}
-use Rattle.tl_number.proofs.Choices.KeptPlaces.{before_apart, nothing_left, past_first, same_everywhere}
+use Rattle.tl_number.proofs.Choices.FixedPlaces.{before_apart, nothing_left, past_first, same_everywhere}
 use Rattle.tl_number.proofs.same_chains.have_same_chains.Goals as goal
 
 pub loop-at-init : goal.loop-at-init
 loop-at-init g c =
-    let read = step_chain (g.C.Chart.county c.args.chart.now) in
+    let read = directed_chain (g.C.Chart.county c.args.chart.now) in
     record {
       within = c.requires.within;
       in_order = c.requires.in_order;
@@ -48,7 +48,7 @@ loop-at-preserved g c =
 
 pub returns : goal.returns
 returns g c =
-    let read = step_chain (g.C.Chart.county c.args.chart.now) in
+    let read = directed_chain (g.C.Chart.county c.args.chart.now) in
     let none = nothing_left c.loop-at.rest.now c.in_default.ensures.cases in (
       λ e. same_everywhere (map read c.args.one.now) (map read c.args.other.now)
           (λ place. c.loop-at.invariant.same place (subst (AllByRecursion (IsApart place)) (sym none) tt)),

@@ -1,7 +1,7 @@
 -- The chains apart from the remaining open places are the same.
 use Rattle.std.proofs.Common.{ℕ, length}
 use Rattle.std.specs.List.{AllByRecursion}
-use Rattle.tl_number.specs.MovedSteps.{AreWithin, HaveSameChainAt, IsApart, StandInOrder}
+use Rattle.tl_number.specs.MovedChains.{AreWithin, HaveSameChainAt, IsApart, StandInOrder}
 use Rattle.tl_number.proofs.same_chains.have_same_chains.Given as goal
 
 abbrev pub invariant-loop-at : goal.invariant-loop-at

@@ -1,6 +1,6 @@
 use Rattle.std.proofs.Common.{◌≡◌, ◌<◌, ◌∙◌, Some, get_or, length, map, true, false, rules, refl, sym, ap, arith}
 use Rattle.tl_county.specs.declared.directed_chain.DirectedChain.{DirectedChain}
-use Rattle.tl_number.specs.Steps.{step_chain}
+use Rattle.tl_county.specs.DirectedChains.{directed_chain}
 use Rattle.ordered_lists.proofs.Lists.ByPlace.{decides_no}
 use Rattle.tl_number.proofs.Texts.LinkOrder.{same_further}
 use Rattle.tl_number.proofs.Texts.SameChains.{chain_read, the_same}
@@ -12,7 +12,7 @@ loop-place-preserved g c =
     let i = c.loop-place.place in
     let there : i < length c.args.one.now = omega (arith, c.loop-place-test.true, c.requires.within.there) in
     let yes : c.is_same_chain-same.result ≡ true = search rules in
-    same_further (map (step_chain county) c.args.one.now) (map (step_chain county) c.args.other.now) i c.loop-place.invariant
+    same_further (map (directed_chain county) c.args.one.now) (map (directed_chain county) c.args.other.now) i c.loop-place.invariant
     (chain_read county c.args.one.now i there ∙ ap Some (c.is_same_chain-same.ensures.0 yes)
     ∙ sym (chain_read county c.args.other.now i (omega (arith, there, c.requires.count))))
 
@@ -24,7 +24,7 @@ returns-then-not-same g c =
     let there : i < length c.args.one.now = omega (arith, c.loop-place-test.true, c.requires.within.there) in
     let not_same : c.is_same_chain-same.result ≡ false = search rules in
     decides_no c.is_same_chain-same.result not_same c.is_same_chain-same.ensures
-    (λ all. the_same (step_chain county (get_or c.args.one.now i none)) (step_chain county (get_or c.args.other.now i none))
+    (λ all. the_same (directed_chain county (get_or c.args.one.now i none)) (directed_chain county (get_or c.args.other.now i none))
     (sym (chain_read county c.args.one.now i there) ∙ all i (omega (arith, c.loop-place-test.true))
     ∙ chain_read county c.args.other.now i (omega (arith, there, c.requires.count))))
 

@@ -1,5 +1,5 @@
 -- the chains before a place are the same
-use Rattle.tl_number.specs.MovedSteps.{HaveSameChainsBelow}
+use Rattle.tl_number.specs.MovedChains.{HaveSameChainsBelow}
 use Rattle.tl_number.proofs.same_chains.have_same_chains_at.Given as goal
 
 abbrev pub invariant-loop-place : goal.invariant-loop-place

@@ -1,6 +1,6 @@
 -- the lists so far are the same
 use Rattle.std.proofs.Common.{◌≡◌, take}
-use Rattle.tl_number.specs.Steps.{parts_along}
+use Rattle.tl_number.specs.DirectedChains.{parts_along}
 use Rattle.tl_number.proofs.same_chains.have_same_list_along.Given as goal
 
 abbrev pub invariant-loop-place : goal.invariant-loop-place

@@ -1,15 +1,15 @@
 use Rattle.std.proofs.Common.{◌∙◌, sym, ap}
 use Rattle.std.specs.Ordering.{ordering_then}
 use Rattle.tl_number.specs.RecordOrder.{types_5_to_7_cmp, types_8_to_p_cmp}
-use Rattle.tl_number.specs.ViewFacts.{stepped}
+use Rattle.tl_number.specs.ViewFacts.{arranged_by}
 use Rattle.tl_number.proofs.Texts.GroupOrders.{decided}
 use Rattle.tl_number.proofs.Texts.TypeOrders.{tied_texts_in_order}
 use Rattle.tl_number.proofs.text_order.compare_texts.Goals as goal
 
 pub returns-in_default : goal.returns-in_default
 returns-in_default g c =
-    let a = stepped (g.A.Chart.county c.args.a.now.chart) c.args.a.now.steps.items in
-    let b = stepped (g.B.Chart.county c.args.b.now.chart) c.args.b.now.steps.items in
+    let a = arranged_by (g.A.Chart.county c.args.a.now.chart) c.args.a.now.arrangement.items in
+    let b = arranged_by (g.B.Chart.county c.args.b.now.chart) c.args.b.now.arrangement.items in
     let rest = ordering_then (types_5_to_7_cmp a b) (types_8_to_p_cmp a b) in
     sym (tied_texts_in_order a b c.args.a.now.whole.is_county c.args.b.now.whole.is_county c.args.a.now.whole.within_limits
     c.args.b.now.whole.within_limits c.requires.same c.requires.ones c.requires.twos
@@ -18,8 +18,8 @@ returns-in_default g c =
 
 pub returns-in_default-compare_types_5_to_7 : goal.returns-in_default-compare_types_5_to_7
 returns-in_default-compare_types_5_to_7 g c =
-    let a = stepped (g.A.Chart.county c.args.a.now.chart) c.args.a.now.steps.items in
-    let b = stepped (g.B.Chart.county c.args.b.now.chart) c.args.b.now.steps.items in
+    let a = arranged_by (g.A.Chart.county c.args.a.now.chart) c.args.a.now.arrangement.items in
+    let b = arranged_by (g.B.Chart.county c.args.b.now.chart) c.args.b.now.arrangement.items in
     let rest = ordering_then (types_5_to_7_cmp a b) (types_8_to_p_cmp a b) in
     sym (tied_texts_in_order a b c.args.a.now.whole.is_county c.args.b.now.whole.is_county c.args.a.now.whole.within_limits
     c.args.b.now.whole.within_limits c.requires.same c.requires.ones c.requires.twos
@@ -29,8 +29,8 @@ returns-in_default-compare_types_5_to_7 g c =
 
 pub returns : goal.returns
 returns g c =
-    let a = stepped (g.A.Chart.county c.args.a.now.chart) c.args.a.now.steps.items in
-    let b = stepped (g.B.Chart.county c.args.b.now.chart) c.args.b.now.steps.items in
+    let a = arranged_by (g.A.Chart.county c.args.a.now.chart) c.args.a.now.arrangement.items in
+    let b = arranged_by (g.B.Chart.county c.args.b.now.chart) c.args.b.now.arrangement.items in
     let rest = ordering_then (types_5_to_7_cmp a b) (types_8_to_p_cmp a b) in
     sym (tied_texts_in_order a b c.args.a.now.whole.is_county c.args.b.now.whole.is_county c.args.a.now.whole.within_limits
     c.args.b.now.whole.within_limits c.requires.same c.requires.ones c.requires.twos

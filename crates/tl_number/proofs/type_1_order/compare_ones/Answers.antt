@@ -1,10 +1,10 @@
 use Rattle.std.proofs.Common.{length, sym, subst}
 use Rattle.std.specs.List.{AllByRecursion}
-use Rattle.tl_number.specs.MovedSteps.{AreWithin, IsApart, StandInOrder}
+use Rattle.tl_number.specs.MovedChains.{AreWithin, IsApart, StandInOrder}
 use Rattle.tl_number.specs.RecordOrder.{AreTiedAt}
 use Rattle.tl_number.specs.TypeOneOrder.{ones_of}
-use Rattle.tl_number.specs.ViewFacts.{stepped}
-use Rattle.tl_number.proofs.Choices.KeptPlaces.{before_apart, nothing_left, past_first}
+use Rattle.tl_number.specs.ViewFacts.{arranged_by}
+use Rattle.tl_number.proofs.Choices.FixedPlaces.{before_apart, nothing_left, past_first}
 use Rattle.tl_number.proofs.Texts.TiedOnes.{all_tied, same_tied}
 use Rattle.tl_number.proofs.type_1_order.compare_ones.Goals as goal
 
@@ -34,8 +34,8 @@ returns-in_default-compare_at_open g c = c.compare_at_open.ensures.untied c.in_d
 pub loop-at-preserved : goal.loop-at-preserved
 loop-at-preserved g c =
     let county = g.C.Chart.county c.args.chart.now in
-    let rs = ones_of (stepped county c.args.one.now) in
-    let ss = ones_of (stepped county c.args.other.now) in
+    let rs = ones_of (arranged_by county c.args.one.now) in
+    let ss = ones_of (arranged_by county c.args.other.now) in
     let cut = c.in-Some.ensures.cases.0 in
     let at = c.in-Some.at.now in
     let behind = c.in-Some.behind.now in
@@ -51,5 +51,5 @@ pub returns : goal.returns
 returns g c =
     let county = g.C.Chart.county c.args.chart.now in
     let none = nothing_left c.loop-at.rest.now c.in_default.ensures.cases in
-    all_tied (ones_of (stepped county c.args.one.now)) (ones_of (stepped county c.args.other.now))
+    all_tied (ones_of (arranged_by county c.args.one.now)) (ones_of (arranged_by county c.args.other.now))
     (λ place. c.loop-at.invariant.tied place (subst (AllByRecursion (IsApart place)) (sym none) tt))

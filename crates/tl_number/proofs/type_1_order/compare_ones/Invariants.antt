@@ -1,10 +1,10 @@
 -- The records apart from the remaining open places are tied.
 use Rattle.std.proofs.Common.{ℕ, length}
 use Rattle.std.specs.List.{AllByRecursion}
-use Rattle.tl_number.specs.MovedSteps.{AreWithin, IsApart, StandInOrder}
+use Rattle.tl_number.specs.MovedChains.{AreWithin, IsApart, StandInOrder}
 use Rattle.tl_number.specs.RecordOrder.{AreTiedAt}
 use Rattle.tl_number.specs.TypeOneOrder.{ones_of}
-use Rattle.tl_number.specs.ViewFacts.{stepped}
+use Rattle.tl_number.specs.ViewFacts.{arranged_by}
 use Rattle.tl_number.proofs.type_1_order.compare_ones.Given as goal
 
 abbrev pub invariant-loop-at : goal.invariant-loop-at
@@ -12,7 +12,7 @@ invariant-loop-at g l = record {
   within : AreWithin (length l.one) l.rest;
   in_order : StandInOrder l.rest;
   tied : (place : ℕ) → AllByRecursion (IsApart place) l.rest
-      → AreTiedAt (ones_of (stepped (g.C.Chart.county l.chart) l.one)) (ones_of (stepped (g.C.Chart.county l.chart) l.other)) place;
+      → AreTiedAt (ones_of (arranged_by (g.C.Chart.county l.chart) l.one)) (ones_of (arranged_by (g.C.Chart.county l.chart) l.other)) place;
 }
 
 abbrev pub decreases-loop-at : goal.decreases-loop-at

@@ -1,14 +1,14 @@
 use Rattle.std.proofs.Common.{◌∙◌, slice_get, ap, ap₂}
 use Rattle.std.specs.Option.{option_cmp}
 use Rattle.tl_number.specs.RecordOrder.{links_of, spelling_cmp}
-use Rattle.tl_number.specs.ViewFacts.{stepped}
+use Rattle.tl_number.specs.ViewFacts.{arranged_by}
 use Rattle.tl_number.proofs.Texts.TypeOnes.{same_one}
 use Rattle.tl_number.proofs.type_i_and_p_order.compare_link.Goals as goal
 
 pub returns-then-is_same_link : goal.returns-then-is_same_link
 returns-then-is_same_link g c =
-    let a = stepped (g.A.Chart.county c.args.a.now.chart) c.args.a.now.steps.items in
-    let b = stepped (g.B.Chart.county c.args.b.now.chart) c.args.b.now.steps.items in
+    let a = arranged_by (g.A.Chart.county c.args.a.now.chart) c.args.a.now.arrangement.items in
+    let b = arranged_by (g.B.Chart.county c.args.b.now.chart) c.args.b.now.arrangement.items in
     same_one (slice_get (links_of a) c.args.place)
     ∙ ap (option_cmp spelling_cmp (slice_get (links_of a) c.args.place)) (c.is_same_link.ensures c.if-is_same_link.true)
 

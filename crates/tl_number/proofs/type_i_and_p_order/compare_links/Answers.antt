@@ -1,6 +1,6 @@
 use Rattle.std.proofs.Common.{◌∙◌, sym, arith}
 use Rattle.tl_number.specs.RecordOrder.{links_of}
-use Rattle.tl_number.specs.ViewFacts.{stepped}
+use Rattle.tl_number.specs.ViewFacts.{arranged_by}
 use Rattle.tl_number.proofs.Texts.LinkOrder.{all_links_tied, as_many_through}
 use Rattle.tl_number.proofs.Texts.TiedOnes.{first_untied, tied_more}
 use Rattle.tl_number.proofs.type_i_and_p_order.compare_links.Goals as goal
@@ -11,28 +11,28 @@ loop-place-init g c = λ place l. absurd (omega (arith, l))
 pub compare_link-requires-clause-other : goal.compare_link-requires-clause-other
 compare_link-requires-clause-other g c =
     let many = as_many_through (g.A.Chart.county c.args.a.now.chart) (g.B.Chart.county c.args.b.now.chart) c.requires
-    (g.met.A.Chart.is_county c.args.a.now.chart) c.args.a.now.steps.items c.args.b.now.steps.items c.args.a.now.whole c.args.b.now.whole in
+    (g.met.A.Chart.is_county c.args.a.now.chart) c.args.a.now.arrangement.items c.args.b.now.arrangement.items c.args.a.now.whole c.args.b.now.whole in
     omega (arith, c.loop-place-test.true, c.chain_count-place-end.ensures, many)
 
 pub returns-in_default : goal.returns-in_default
 returns-in_default g c =
-    let a = stepped (g.A.Chart.county c.args.a.now.chart) c.args.a.now.steps.items in
-    let b = stepped (g.B.Chart.county c.args.b.now.chart) c.args.b.now.steps.items in
+    let a = arranged_by (g.A.Chart.county c.args.a.now.chart) c.args.a.now.arrangement.items in
+    let b = arranged_by (g.B.Chart.county c.args.b.now.chart) c.args.b.now.arrangement.items in
     c.compare_link.ensures
     ∙ first_untied (links_of a) (links_of b) c.loop-place.place c.loop-place.invariant
     (λ same. c.in_default.not-Equal (c.compare_link.ensures ∙ same))
 
 pub loop-place-preserved : goal.loop-place-preserved
 loop-place-preserved g c =
-    let a = stepped (g.A.Chart.county c.args.a.now.chart) c.args.a.now.steps.items in
-    let b = stepped (g.B.Chart.county c.args.b.now.chart) c.args.b.now.steps.items in
+    let a = arranged_by (g.A.Chart.county c.args.a.now.chart) c.args.a.now.arrangement.items in
+    let b = arranged_by (g.B.Chart.county c.args.b.now.chart) c.args.b.now.arrangement.items in
     tied_more (links_of a) (links_of b) c.loop-place.place c.loop-place.invariant (sym c.compare_link.ensures ∙ c.in-Equal.is)
 
 pub returns : goal.returns
 returns g c =
-    let a = stepped (g.A.Chart.county c.args.a.now.chart) c.args.a.now.steps.items in
-    let b = stepped (g.B.Chart.county c.args.b.now.chart) c.args.b.now.steps.items in
+    let a = arranged_by (g.A.Chart.county c.args.a.now.chart) c.args.a.now.arrangement.items in
+    let b = arranged_by (g.B.Chart.county c.args.b.now.chart) c.args.b.now.arrangement.items in
     let many = as_many_through (g.A.Chart.county c.args.a.now.chart) (g.B.Chart.county c.args.b.now.chart) c.requires
-    (g.met.A.Chart.is_county c.args.a.now.chart) c.args.a.now.steps.items c.args.b.now.steps.items c.args.a.now.whole c.args.b.now.whole in
+    (g.met.A.Chart.is_county c.args.a.now.chart) c.args.a.now.arrangement.items c.args.b.now.arrangement.items c.args.a.now.whole c.args.b.now.whole in
     all_links_tied a b c.loop-place.place (omega (arith, c.loop-place-test.false, c.chain_count-place-end.ensures))
     (omega (arith, c.loop-place-test.false, c.chain_count-place-end.ensures, many)) c.loop-place.invariant

@@ -2,7 +2,7 @@ use Rattle.std.proofs.Common.{◌<◌, ◌∙◌, ◌∷◌, [], length, option_
 use Rattle.std.proofs.lemmas.List.{length-map}
 use Rattle.tl_layout.specs.declared.record_type.Record.TheVariants.{I}
 use Rattle.tl_county.specs.Packing.{packed_i}
-use Rattle.tl_number.specs.ViewFacts.{stepped}
+use Rattle.tl_number.specs.ViewFacts.{arranged_by}
 use Rattle.tl_number.proofs.Records.ChainPlaces.{some_at}
 use Rattle.tl_number.proofs.Records.Grouped.{group_of}
 use Rattle.tl_number.proofs.Texts.LinkOrder.{link_there}
@@ -10,23 +10,23 @@ use Rattle.tl_number.proofs.type_i_and_p_order.link_record.Goals as goal
 
 pub head-head-requires : goal.head-head-requires
 head-head-requires g c =
-    let county = stepped (g.C.Chart.county c.args.county.now.chart) c.args.county.now.steps.items in
+    let county = arranged_by (g.C.Chart.county c.args.county.now.chart) c.args.county.now.arrangement.items in
     subst (λ n. c.args.place < n) (sym (length-map county.chains (λ entry. packed_i entry ∷ []))) c.requires
 
 pub record-requires-clause-group : goal.record-requires-clause-group
 record-requires-clause-group g c =
-    let county = stepped (g.C.Chart.county c.args.county.now.chart) c.args.county.now.steps.items in
+    let county = arranged_by (g.C.Chart.county c.args.county.now.chart) c.args.county.now.arrangement.items in
     subst (λ n. c.args.place < n) (sym (length-map county.chains (λ entry. packed_i entry ∷ []))) c.requires
 
 pub record-requires-clause-place : goal.record-requires-clause-place
 record-requires-clause-place g c =
-    let county = stepped (g.C.Chart.county c.args.county.now.chart) c.args.county.now.steps.items in
+    let county = arranged_by (g.C.Chart.county c.args.county.now.chart) c.args.county.now.arrangement.items in
     let at = some_at county.chains c.args.place c.requires in
     subst (λ rs. 0 < length rs) (sym (group_of (λ entry. packed_i entry ∷ []) county.chains c.args.place at.0 at.1)) (omega arith)
 
 pub returns : goal.returns
 returns g c =
-    let county = stepped (g.C.Chart.county c.args.county.now.chart) c.args.county.now.steps.items in
+    let county = arranged_by (g.C.Chart.county c.args.county.now.chart) c.args.county.now.arrangement.items in
     let at = some_at county.chains c.args.place c.requires in
     ap (option_map I) (c.record.ensures
     ∙ ap (λ rs. slice_get rs 0) (group_of (λ entry. packed_i entry ∷ []) county.chains c.args.place at.0 at.1))

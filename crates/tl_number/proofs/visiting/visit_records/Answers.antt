@@ -1,6 +1,6 @@
 use Rattle.std.proofs.Common.{◌++◌, subst}
 use Rattle.std.proofs.lemmas.Result.{err_from_is_err_and}
-use Rattle.tl_number.specs.ViewFacts.{stepped}
+use Rattle.tl_number.specs.ViewFacts.{arranged_by}
 use Rattle.tl_number.specs.CountyGroups.{types_1_to_4, types_5_to_7, types_8_to_p}
 use Rattle.tl_number.proofs.Records.OneAfterAnother.{second_stops, third_ends}
 use Rattle.tl_number.proofs.Records.PackedGroups.{all_groups}
@@ -8,7 +8,7 @@ use Rattle.tl_number.proofs.visiting.visit_records.Goals as goal
 
 pub returns-in_err-visit_types_1_to_4-clause-given : goal.returns-in_err-visit_types_1_to_4-clause-given
 returns-in_err-visit_types_1_to_4-clause-given g c =
-    let county = stepped (g.C.Chart.county c.args.county.now.chart) c.args.county.now.steps.items in
+    let county = arranged_by (g.C.Chart.county c.args.county.now.chart) c.args.county.now.arrangement.items in
     let p = err_from_is_err_and c.from_residual.result c.from_residual.ensures.1 in
     subst (λ rs. g.T.RecordVisitor.Takes rs c.args.visitor.now c.args.device.now c.from_residual.result c.visit_types_1_to_4.new.visitor
     c.visit_types_1_to_4.new.device) (all_groups county)
@@ -18,7 +18,7 @@ returns-in_err-visit_types_1_to_4-clause-given g c =
 
 pub returns-in_err-visit_types_5_to_7-clause-given : goal.returns-in_err-visit_types_5_to_7-clause-given
 returns-in_err-visit_types_5_to_7-clause-given g c =
-    let county = stepped (g.C.Chart.county c.args.county.now.chart) c.args.county.now.steps.items in
+    let county = arranged_by (g.C.Chart.county c.args.county.now.chart) c.args.county.now.arrangement.items in
     let p = err_from_is_err_and c.from_residual-in_err-visit_types_5_to_7.result c.from_residual-in_err-visit_types_5_to_7.ensures.1 in
     subst (λ rs. g.T.RecordVisitor.Takes rs c.args.visitor.now c.args.device.now c.from_residual-in_err-visit_types_5_to_7.result
     c.visit_types_5_to_7.new.visitor c.visit_types_5_to_7.new.device) (all_groups county)
@@ -27,7 +27,7 @@ returns-in_err-visit_types_5_to_7-clause-given g c =
 
 pub returns-clause-given : goal.returns-clause-given
 returns-clause-given g c =
-    let county = stepped (g.C.Chart.county c.args.county.now.chart) c.args.county.now.steps.items in
+    let county = arranged_by (g.C.Chart.county c.args.county.now.chart) c.args.county.now.arrangement.items in
     subst (λ rs. g.T.RecordVisitor.Takes rs c.args.visitor.now c.args.device.now c.visit_types_8_to_p.result c.visit_types_8_to_p.new.visitor
     c.visit_types_8_to_p.new.device) (all_groups county)
     (third_ends g.T.RecordVisitor.Takes g.met.T.RecordVisitor.then g.met.T.RecordVisitor.stops (types_1_to_4 county) (types_5_to_7 county)

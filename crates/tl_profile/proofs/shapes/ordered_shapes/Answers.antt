@@ -1,5 +1,5 @@
 use Rattle.tl_profile.specs.PlacedShapes.{HasHead}
-use Rattle.tl_profile.proofs.PlacedOrder.{all_permuted, sorted_walks}
+use Rattle.tl_profile.proofs.PlacedOrder.{all_permuted, sorted_by_shape}
 use Rattle.tl_profile.proofs.shapes.ordered_shapes.Goals as goal
 
 pub returns-clause-heads : goal.returns-clause-heads
@@ -12,6 +12,6 @@ returns-clause-order g c =
     let county = g.C.Chart.county c.args.chart.now in
     let shapes = c.in_ok-shapes.shapes.items in
     let sorted = c.order_shapes.new.shapes.items in
-    sorted_walks county shapes sorted c.in_ok-shapes.ensures.walks c.order_shapes.ensures.permutation
+    sorted_by_shape county shapes sorted c.in_ok-shapes.ensures.by_shape c.order_shapes.ensures.permutation
     (all_permuted (HasHead county) shapes sorted c.order_shapes.ensures.permutation c.in_ok-shapes.ensures.heads)
     c.order_shapes.ensures.in_order

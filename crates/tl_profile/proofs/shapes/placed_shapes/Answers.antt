@@ -2,8 +2,8 @@ use Rattle.std.proofs.Common.{◌∷◌, ◌++◌, [], map, sym, ap, ap₂, ◌�
 use Rattle.std.specs.List.{AllByRecursion}
 use Rattle.std.proofs.lemmas.List.{map-append}
 use Rattle.std.proofs.lemmas.List.FromFn.{map-range_with_len_more}
-use Rattle.tl_profile.specs.ShapeOrder.{least_walk}
-use Rattle.tl_profile.specs.PlacedShapes.{HasHead, placed_walk}
+use Rattle.tl_profile.specs.ShapeOrder.{along_shape}
+use Rattle.tl_profile.specs.PlacedShapes.{HasHead, placed_directed}
 use Rattle.tl_county.proofs.Limits.FewChains.{few_chains}
 use Rattle.tl_profile.proofs.Places.{all_next}
 use Rattle.tl_profile.proofs.shapes.placed_shapes.Goals as goal
@@ -14,10 +14,10 @@ loop-place-preserved g c =
     let shape = c.placed_shape.result in
     let items = c.in_ok-push.ensures.items in
     record {
-      walks = ap (map placed_walk) items
-          ∙ map-append placed_walk c.loop-place.shapes.items (shape ∷ [])
-          ∙ ap₂ (λ walks walk. walks ++ (walk ∷ [])) c.loop-place.invariant.walks c.placed_shape.ensures.walk
-          ∙ sym (map-range_with_len_more (least_walk county) 0 c.loop-place.place c.loop-place.place (omega arith));
+      by_shape = ap (map placed_directed) items
+          ∙ map-append placed_directed c.loop-place.shapes.items (shape ∷ [])
+          ∙ ap₂ (λ by_shape directed. by_shape ++ (directed ∷ [])) c.loop-place.invariant.by_shape c.placed_shape.ensures.directed
+          ∙ sym (map-range_with_len_more (along_shape county) 0 c.loop-place.place c.loop-place.place (omega arith));
       heads = subst (AllByRecursion (HasHead county)) (sym items)
           (all_next (HasHead county) c.loop-place.shapes.items shape c.loop-place.invariant.heads c.placed_shape.ensures.head);
     }

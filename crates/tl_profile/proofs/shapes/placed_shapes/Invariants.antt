@@ -1,11 +1,11 @@
 use Rattle.std.proofs.Common.{◌≡◌, map}
 use Rattle.std.specs.List.{AllByRecursion, range_with_len}
-use Rattle.tl_profile.specs.ShapeOrder.{least_walk}
-use Rattle.tl_profile.specs.PlacedShapes.{HasHead, placed_walk}
+use Rattle.tl_profile.specs.ShapeOrder.{along_shape}
+use Rattle.tl_profile.specs.PlacedShapes.{HasHead, placed_directed}
 use Rattle.tl_profile.proofs.shapes.placed_shapes.Given as goal
 
 abbrev pub invariant-loop-place : goal.invariant-loop-place
 invariant-loop-place g l = record {
-  walks : map placed_walk l.shapes.items ≡ map (least_walk (g.C.Chart.county l.chart)) (range_with_len 0 l.place);
+  by_shape : map placed_directed l.shapes.items ≡ map (along_shape (g.C.Chart.county l.chart)) (range_with_len 0 l.place);
   heads : AllByRecursion (HasHead (g.C.Chart.county l.chart)) l.shapes.items;
 }

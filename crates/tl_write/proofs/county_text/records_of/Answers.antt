@@ -4,13 +4,13 @@ use Rattle.tl_county.specs.Packing.{packed}
 use Rattle.std.proofs.Math.Logic.{∥∥₁_elim}
 use Rattle.tl_number.specs.Canonical.{IsCanonical}
 use Rattle.tl_number.specs.CanonCounties.{IsCanonCounty, IsCanonCounty-prop}
-use Rattle.tl_number.specs.ViewFacts.{stepped}
+use Rattle.tl_number.specs.ViewFacts.{arranged_by}
 use Rattle.tl_number.proofs.CanonicalLists.CanonLists.{canonical_packing}
 use Rattle.tl_write.proofs.county_text.records_of.Goals as goal
 
 pub returns-clause-canonical : goal.returns-clause-canonical
 returns-clause-canonical g c =
-    let county = stepped (g.C.Chart.county c.args.county.now.chart) c.args.county.now.steps.items in
+    let county = arranged_by (g.C.Chart.county c.args.county.now.chart) c.args.county.now.arrangement.items in
     let known : IsCanonCounty county = ∥∥₁_elim c.args.county.now.stands (IsCanonCounty-prop county) (λ h. h.0) in
     subst IsCanonical (sym (c.in_ok-visit_records.ensures.given ∙ ap (λ (xs : List Record). xs ++ packed county)
     c.new-records.ensures.items)) (canonical_packing county c.args.county.now.whole.is_county known)

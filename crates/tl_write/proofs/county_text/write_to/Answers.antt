@@ -2,7 +2,7 @@ use Rattle.std.proofs.Common.{[], sym, length, subst, arith}
 use Rattle.std.proofs.lemmas.Result.{err_from_is_err_and}
 use Rattle.tl_layout.specs.RecordText.{text_of}
 use Rattle.tl_county.specs.Packing.{packed}
-use Rattle.tl_number.specs.ViewFacts.{stepped}
+use Rattle.tl_number.specs.ViewFacts.{arranged_by}
 use Rattle.tl_write.specs.GoingOut.{HasCounted, IsGoingOut}
 use Rattle.tl_write.proofs.Finished.{at_the_start, none_counted, begun, whole_length, whole_short, whole_bytes}
 use Rattle.tl_write.proofs.TextLengths.{few_bytes}
@@ -16,7 +16,7 @@ returns-in_err-visit_records-clause-short g c =
 
 pub returns-in_err-visit_records-clause-bytes : goal.returns-in_err-visit_records-clause-bytes
 returns-in_err-visit_records-clause-bytes g c held h =
-    let county = stepped (g.C.Chart.county c.args.county.now.chart) c.args.county.now.steps.items in
+    let county = arranged_by (g.C.Chart.county c.args.county.now.chart) c.args.county.now.arrangement.items in
     let whole = c.args.county.now.whole in
     let p = err_from_is_err_and c.from_residual.result c.from_residual.ensures.1 in
     let start = subst (λ b. IsGoingOut g.W.Sink.holds held [] b c.args.w.now) (sym c.new-buffer.ensures)
@@ -26,7 +26,7 @@ returns-in_err-visit_records-clause-bytes g c held h =
 
 pub returns-clause-length : goal.returns-clause-length
 returns-clause-length g c =
-    let county = stepped (g.C.Chart.county c.args.county.now.chart) c.args.county.now.steps.items in
+    let county = arranged_by (g.C.Chart.county c.args.county.now.chart) c.args.county.now.arrangement.items in
     let whole = c.args.county.now.whole in
     let start = subst (HasCounted 0) (sym c.new-buffer.ensures) (none_counted g.W.Sink.holds) in
     let counted = subst (λ n. HasCounted n c.visit_records.new.visitor) (omega arith) (c.in_ok-visit_records.ensures.given.counted 0 start) in
@@ -35,7 +35,7 @@ returns-clause-length g c =
 
 pub returns-clause-short : goal.returns-clause-short
 returns-clause-short g c =
-    let county = stepped (g.C.Chart.county c.args.county.now.chart) c.args.county.now.steps.items in
+    let county = arranged_by (g.C.Chart.county c.args.county.now.chart) c.args.county.now.arrangement.items in
     let start = subst (HasCounted 0) (sym c.new-buffer.ensures) (none_counted g.W.Sink.holds) in
     let counted = subst (λ n. HasCounted n c.visit_records.new.visitor) (omega arith) (c.in_ok-visit_records.ensures.given.counted 0 start) in
     whole_short g.W.Sink.holds (text_of (packed county)) c.finish.result
@@ -43,7 +43,7 @@ returns-clause-short g c =
 
 pub returns-clause-bytes : goal.returns-clause-bytes
 returns-clause-bytes g c held h =
-    let county = stepped (g.C.Chart.county c.args.county.now.chart) c.args.county.now.steps.items in
+    let county = arranged_by (g.C.Chart.county c.args.county.now.chart) c.args.county.now.arrangement.items in
     let whole = c.args.county.now.whole in
     let start = subst (λ b. IsGoingOut g.W.Sink.holds held [] b c.args.w.now) (sym c.new-buffer.ensures)
     (at_the_start g.W.Sink.holds held c.args.w.now h) in

@@ -13,13 +13,13 @@ use Rattle.tigercanon.proofs.library.making.make_seen.Goals as goal
 pub returns-clause-made : goal.returns-clause-made
 returns-clause-made g c = λ parts set.
     let seen = masked c.args.mask in
-    let steps = arrangement_in c.in_ok-county.county in
+    let arrangement = arrangement_in c.in_ok-county.county in
     c.of-made.ensures parts (record {
       records = set.records;
       accepted = set.accepted;
       county_is = c.in_ok-county.ensures.source_county ∙ set.county_is;
       canonical = subst (λ (county : County). IsCanonicalThrough seen set.records (packed county))
-          (ap (λ (county : County). arranged county steps) (sym set.county_is) ∙ sym c.in_ok-county.ensures.county)
-          (choice_is_canonical seen (masked_sight c.args.mask) set.records set.accepted.accepted steps
-          (subst (λ (county : County). IsLeastChoice county steps) set.county_is c.in_ok-county.ensures.choice));
+          (ap (λ (county : County). arranged county arrangement) (sym set.county_is) ∙ sym c.in_ok-county.ensures.county)
+          (choice_is_canonical seen (masked_sight c.args.mask) set.records set.accepted.accepted arrangement
+          (subst (λ (county : County). IsLeastChoice county arrangement) set.county_is c.in_ok-county.ensures.choice));
     })

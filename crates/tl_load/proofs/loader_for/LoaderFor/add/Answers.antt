@@ -1,6 +1,6 @@
 use Rattle.std.proofs.Common.{◌≡◌, sym, ◌∙◌, arith}
 use Rattle.tl_layout.specs.RecordText.{type_of}
-use Rattle.tl_load.proofs.Counts.{type_low, adds_full, adds_room, counted_more, total_up, loader_with}
+use Rattle.tl_load.proofs.Counts.{type_low, adds_full, adds_below, counted_more, total_up, loader_with}
 use Rattle.tl_load.proofs.loader_for.LoaderFor.add.Goals as goal
 
 pub bounds-self-inside-rtype : goal.bounds-self-inside-rtype
@@ -36,7 +36,7 @@ returns-in-Ok-clause-adds g c =
         counted = counted_more c.self.inside.counts records
             (g.L.Tabled.as_record c.args.found) c.RTYPE-rtype.result c.self.invariant.counts_len kept.counted is;
       },
-      adds_room c.self.inside.counts records c.self.inside.limit
+      adds_below c.self.inside.counts records c.self.inside.limit
           (g.L.Tabled.as_record c.args.found) c.RTYPE-rtype.result kept.counted is c.if-self-count.false,
     ))
 

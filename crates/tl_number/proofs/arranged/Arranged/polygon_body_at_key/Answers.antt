@@ -1,6 +1,6 @@
 use Rattle.std.proofs.Common.{slice_get, ap, ◌∙◌}
 use Rattle.ordered_lists.specs.Entries.{entry_values}
-use Rattle.tl_number.specs.ViewFacts.{stepped}
+use Rattle.tl_number.specs.ViewFacts.{arranged_by}
 use Rattle.tl_number.proofs.Views.ViewTables.{read_at, read_past}
 use Rattle.tl_number.proofs.arranged.Arranged.polygon_body_at_key.Goals as goal
 
@@ -8,13 +8,13 @@ pub returns-in-Some : goal.returns-in-Some
 returns-in-Some g c =
     let county = g.C.Chart.county c.args.self.now.chart in
     c.polygon_body_at.ensures
-    ∙ read_at (entry_values county.polygons) (entry_values (stepped county c.args.self.now.steps.items).polygons)
+    ∙ read_at (entry_values county.polygons) (entry_values (arranged_by county c.args.self.now.arrangement.items).polygons)
     c.args.self.now.polygons.places.items c.args.self.now.polygons_stated.bodies c.args.place c.in-Some.old
     (c.in-Some.ensures ∙ ap (λ places. slice_get places c.args.place) c.deref.ensures.value)
 
 pub returns-in-None : goal.returns-in-None
 returns-in-None g c =
     let county = g.C.Chart.county c.args.self.now.chart in
-    read_past (entry_values county.polygons) (entry_values (stepped county c.args.self.now.steps.items).polygons)
+    read_past (entry_values county.polygons) (entry_values (arranged_by county c.args.self.now.arrangement.items).polygons)
     c.args.self.now.polygons.places.items c.args.self.now.polygons_stated.bodies c.args.place
     (c.in-None.ensures ∙ ap (λ places. slice_get places c.args.place) c.deref.ensures.value)

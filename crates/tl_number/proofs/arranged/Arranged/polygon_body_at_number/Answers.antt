@@ -4,7 +4,7 @@ use Rattle.std.specs.Option.{option_flatten}
 use Rattle.tl_county.specs.PolygonKeys.{PolygonKey}
 use Rattle.tl_number.specs.ByNumber.{under_number}
 use Rattle.tl_number.specs.Growth.{numbered}
-use Rattle.tl_number.specs.ViewFacts.{stepped}
+use Rattle.tl_number.specs.ViewFacts.{arranged_by}
 use Rattle.tl_number.proofs.Polygons.PolygonNumbers.{content_at_number, key_numbered}
 use Rattle.tl_number.proofs.arranged.Arranged.polygon_body_at_number.Goals as goal
 
@@ -14,7 +14,7 @@ returns g c =
     let stated = c.args.self.now.polygons_stated in
     let keys = c.args.self.now.polygons.numbers in
     c.flatten.ensures ∙ ap option_flatten (c.polygon_body_at_key.ensures
-    ∙ content_at_number (stepped county c.args.self.now.steps.items) c.args.self.now.whole.is_county.ascending.polygons c.args.place
+    ∙ content_at_number (arranged_by county c.args.self.now.arrangement.items) c.args.self.now.whole.is_county.ascending.polygons c.args.place
     (under_number county (c.args.old, c.args.place + 1))
     (sym (ap (λ ks. slice_get ks c.args.place) (c.deref.ensures.value ∙ stated.keys)) ∙ c.stands_at.ensures.0 c.if-not-stands_at.false)
     (sym (ap (λ es. slice_get es c.args.place) stated.by_number) ∙ slice_get-map (under_number county) (numbered keys) c.args.place

@@ -2,13 +2,13 @@ use Rattle.std.proofs.Common.{◌<◌, ◌∙◌, sym, subst, nat_cmp}
 use Rattle.std.specs.Ordering.{on}
 use Rattle.ordered_lists.proofs.ByKey.Numbers.{length-in_order}
 use Rattle.tl_number.specs.ByNumber.{entry_polyid, polygons_by_number}
-use Rattle.tl_number.specs.ViewFacts.{stepped}
+use Rattle.tl_number.specs.ViewFacts.{arranged_by}
 use Rattle.tl_profile.proofs.Places.{stands_at, is_some_from}
 use Rattle.tl_number.proofs.arranged.Arranged.polygon_by_number.Goals as goal
 
 pub unwrap-requires : goal.unwrap-requires
 unwrap-requires g c =
-    let county = stepped (g.C.Chart.county c.args.self.now.chart) c.args.self.now.steps.items in
+    let county = arranged_by (g.C.Chart.county c.args.self.now.chart) c.args.self.now.arrangement.items in
     let there = stands_at (polygons_by_number county) c.args.place
     (subst (λ n. c.args.place < n) (sym (length-in_order (on entry_polyid nat_cmp) county.polygons)) c.requires) in
     is_some_from c.polygon_at_number.result there.item (c.polygon_at_number.ensures ∙ there.get)

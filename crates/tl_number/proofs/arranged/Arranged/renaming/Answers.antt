@@ -2,8 +2,8 @@ use Rattle.std.proofs.Common.{◌∙◌, ap, subst, sym}
 use Rattle.tl_county.specs.Renumbering.{Carries}
 use Rattle.tl_number.specs.Arrangement.{renaming_of}
 use Rattle.tl_number.specs.Growth.{numbered}
-use Rattle.tl_number.specs.Steps.{arrangement_of}
-use Rattle.tl_number.specs.ViewFacts.{stepped}
+use Rattle.tl_number.specs.DirectedChains.{arrangement_of}
+use Rattle.tl_number.specs.ViewFacts.{arranged_by}
 use Rattle.tl_number.proofs.Arrangements.Carrying.{arrangement_carries}
 use Rattle.tl_number.proofs.Views.ViewChains.{arranges}
 use Rattle.tl_number.proofs.arranged.Arranged.renaming.Goals as goal
@@ -13,7 +13,7 @@ unfolding renaming_of
 returns-clause-value g c =
     let view = c.args.self.now in
     let county = g.C.Chart.county view.chart in
-    let order = arrangement_of county view.steps.items in
+    let order = arrangement_of county view.arrangement.items in
     c.new.ensures ∙ (λ i. record {
       chains = c.in_ok-chains.ensures.chains i;
       names = (c.in_ok-names.ensures ∙ ap numbered (c.keys.ensures ∙ view.names_stated.feats)) i;
@@ -28,5 +28,5 @@ returns-clause-carries g c =
     let view = c.args.self.now in
     let county = g.C.Chart.county view.chart in
     let is = g.met.C.Chart.is_county view.chart in
-    subst (λ r. Carries r county (stepped county view.steps.items)) (sym (returns-clause-value g c))
-    (arrangement_carries county (arrangement_of county view.steps.items) is (arranges county view.steps.items is view.whole) view.sides)
+    subst (λ r. Carries r county (arranged_by county view.arrangement.items)) (sym (returns-clause-value g c))
+    (arrangement_carries county (arrangement_of county view.arrangement.items) is (arranges county view.arrangement.items is view.whole) view.sides)

@@ -1,15 +1,15 @@
 use Rattle.std.proofs.Common.{Some, option_map, sym, ap, ◌∙◌, nat_cmp}
 use Rattle.ordered_lists.specs.Pairs.{image}
 use Rattle.tl_number.specs.Arrangement.{renaming_of}
-use Rattle.tl_number.specs.Steps.{arrangement_of}
+use Rattle.tl_number.specs.DirectedChains.{arrangement_of}
 use Rattle.tl_number.proofs.Views.ViewTables.{feats_paired}
 use Rattle.tl_number.proofs.arranged.Arranged.renumbered_feat.Goals as goal
 
 pub returns-in-Some : goal.returns-in-Some
 returns-in-Some g c =
     let county = g.C.Chart.county c.args.self.now.chart in
-    let renaming = renaming_of county (arrangement_of county c.args.self.now.steps.items) in
+    let renaming = renaming_of county (arrangement_of county c.args.self.now.arrangement.items) in
     ap Some (c.new_feat.ensures ∙ ap (λ pairs. image nat_cmp pairs c.in-Some.number)
-    (feats_paired county c.args.self.now.steps.items (g.met.C.Chart.is_county c.args.self.now.chart) c.args.self.now.whole
+    (feats_paired county c.args.self.now.arrangement.items (g.met.C.Chart.is_county c.args.self.now.chart) c.args.self.now.whole
     c.args.self.now.names c.args.self.now.names_stated))
     ∙ sym (ap (option_map (image nat_cmp renaming.names)) c.in-Some.is)

@@ -1,17 +1,17 @@
 use Rattle.std.proofs.Common.{◌∙◌, ap}
 use Rattle.tl_number.specs.Arrangement.{arranged_tlids, renaming_of, turned_tlids}
 use Rattle.tl_number.specs.Growth.{numbered}
-use Rattle.tl_number.specs.Steps.{arrangement_of}
+use Rattle.tl_number.specs.DirectedChains.{arrangement_of}
 use Rattle.tl_number.proofs.arranged.Arranged.tlid_pairs.Goals as goal
 
 pub returns-clause-chains : goal.returns-clause-chains
 unfolding renaming_of
 returns-clause-chains g c =
     let county = g.C.Chart.county c.args.self.now.chart in
-    c.in_ok-chains.ensures ∙ ap (λ steps. numbered (arranged_tlids (arrangement_of county steps))) c.deref.ensures.value
+    c.in_ok-chains.ensures ∙ ap (λ arrangement. numbered (arranged_tlids (arrangement_of county arrangement))) c.deref.ensures.value
 
 pub returns-clause-turned : goal.returns-clause-turned
 unfolding renaming_of
 returns-clause-turned g c =
     let county = g.C.Chart.county c.args.self.now.chart in
-    c.in_ok-turned.ensures ∙ ap (λ steps. turned_tlids (arrangement_of county steps)) c.deref-2.ensures.value
+    c.in_ok-turned.ensures ∙ ap (λ arrangement. turned_tlids (arrangement_of county arrangement)) c.deref-2.ensures.value

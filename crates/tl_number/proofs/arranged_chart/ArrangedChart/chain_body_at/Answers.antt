@@ -6,13 +6,13 @@ use Rattle.tl_number.proofs.arranged_chart.ArrangedChart.chain_body_at.Goals as 
 pub returns-in-Some : goal.returns-in-Some
 returns-in-Some g c =
     c.body.ensures
-    ∙ stated (g.C.Chart.county c.args.self.now.chart) c.args.self.now.steps.items
+    ∙ stated (g.C.Chart.county c.args.self.now.chart) c.args.self.now.arrangement.items
     (g.met.C.Chart.is_county c.args.self.now.chart) c.args.self.now.whole
     (λ (o : Option Chain). option_map (λ (chain : Chain). chain.body) o) (λ (o : Option Chain). option_map (λ
-    (chain : Chain). chain.body) o) (λ chain. refl) c.args.place c.in-Some.step c.in-Some.ensures
+    (chain : Chain). chain.body) o) (λ chain. refl) c.args.place c.in-Some.directed c.in-Some.ensures
 
 pub returns-in-None : goal.returns-in-None
 returns-in-None g c =
-    unstated (g.C.Chart.county c.args.self.now.chart) c.args.self.now.steps.items
+    unstated (g.C.Chart.county c.args.self.now.chart) c.args.self.now.arrangement.items
     (g.met.C.Chart.is_county c.args.self.now.chart) c.args.self.now.whole
     (λ (o : Option Chain). option_map (λ (chain : Chain). chain.body) o) c.args.place c.in-None.ensures

@@ -1,7 +1,7 @@
 use Rattle.std.proofs.Common.{◌≤◌, slice_get, sym, ap, ◌∙◌, arith}
 use Rattle.tl_number.specs.Growth.{up_to}
 use Rattle.tl_number.proofs.Views.ViewNumbers.{within_up_to}
-use Rattle.tl_number.proofs.Views.ViewTables.{feats_stepped}
+use Rattle.tl_number.proofs.Views.ViewTables.{feats_arranged_by}
 use Rattle.tl_number.proofs.arranged_chart.ArrangedChart.feat_at.Goals as goal
 
 pub overflow_cast-result : goal.overflow_cast-result
@@ -14,13 +14,13 @@ overflow_cast-result g c =
 pub returns-in-Some : goal.returns-in-Some
 returns-in-Some g c =
     c.in-Some.ensures ∙ ap (λ n. slice_get (up_to n) c.args.place) (c.len.ensures.len)
-    ∙ ap (λ numbers. slice_get numbers c.args.place) (sym (feats_stepped
-    (g.C.Chart.county c.args.self.now.chart) c.args.self.now.steps.items
+    ∙ ap (λ numbers. slice_get numbers c.args.place) (sym (feats_arranged_by
+    (g.C.Chart.county c.args.self.now.chart) c.args.self.now.arrangement.items
     (g.met.C.Chart.is_county c.args.self.now.chart) c.args.self.now.whole c.args.self.now.names c.args.self.now.names_stated))
 
 pub returns-in-None : goal.returns-in-None
 returns-in-None g c =
     c.in-None.ensures ∙ ap (λ n. slice_get (up_to n) c.args.place) (c.len.ensures.len)
-    ∙ ap (λ numbers. slice_get numbers c.args.place) (sym (feats_stepped
-    (g.C.Chart.county c.args.self.now.chart) c.args.self.now.steps.items
+    ∙ ap (λ numbers. slice_get numbers c.args.place) (sym (feats_arranged_by
+    (g.C.Chart.county c.args.self.now.chart) c.args.self.now.arrangement.items
     (g.met.C.Chart.is_county c.args.self.now.chart) c.args.self.now.whole c.args.self.now.names c.args.self.now.names_stated))

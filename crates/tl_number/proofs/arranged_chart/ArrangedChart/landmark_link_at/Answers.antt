@@ -4,13 +4,13 @@ use Rattle.tl_number.proofs.arranged_chart.ArrangedChart.landmark_link_at.Goals 
 
 pub links_of_landmark-links-requires-clause-in_order : goal.links_of_landmark-links-requires-clause-in_order
 links_of_landmark-links-requires-clause-in_order g c =
-    links_ordered (g.C.Chart.county c.args.self.now.chart) c.args.self.now.steps.items
+    links_ordered (g.C.Chart.county c.args.self.now.chart) c.args.self.now.arrangement.items
     (g.met.C.Chart.is_county c.args.self.now.chart) c.args.self.now.whole
     c.args.self.now.landmarks c.args.self.now.landmarks_stated c.deref.result.now c.deref.ensures.value
 
 pub links_of_landmark-links-requires-clause-some : goal.links_of_landmark-links-requires-clause-some
 links_of_landmark-links-requires-clause-some g c =
-    let count = bounds_counted (g.C.Chart.county c.args.self.now.chart) c.args.self.now.steps.items
+    let count = bounds_counted (g.C.Chart.county c.args.self.now.chart) c.args.self.now.arrangement.items
     (g.met.C.Chart.is_county c.args.self.now.chart) c.args.self.now.whole
     c.args.self.now.landmarks c.args.self.now.landmarks_stated in
     let same = ap length c.deref-2.ensures.value in
@@ -18,7 +18,7 @@ links_of_landmark-links-requires-clause-some g c =
 
 pub links_of_landmark-links-requires-clause-bounds : goal.links_of_landmark-links-requires-clause-bounds
 links_of_landmark-links-requires-clause-bounds g c =
-    bounds_stated (g.C.Chart.county c.args.self.now.chart) c.args.self.now.steps.items
+    bounds_stated (g.C.Chart.county c.args.self.now.chart) c.args.self.now.arrangement.items
     (g.met.C.Chart.is_county c.args.self.now.chart) c.args.self.now.whole
     c.args.self.now.landmarks c.args.self.now.landmarks_stated c.deref.result.now c.deref-2.result.now c.deref.ensures.value
     c.deref-2.ensures.value
@@ -26,7 +26,7 @@ links_of_landmark-links-requires-clause-bounds g c =
 pub returns : goal.returns
 returns g c =
     c.link_at.ensures ∙ ap (λ links. slice_get links c.args.link)
-    (c.links_of_landmark-links.ensures ∙ links_stated (g.C.Chart.county c.args.self.now.chart) c.args.self.now.steps.items
+    (c.links_of_landmark-links.ensures ∙ links_stated (g.C.Chart.county c.args.self.now.chart) c.args.self.now.arrangement.items
     (g.met.C.Chart.is_county c.args.self.now.chart) c.args.self.now.whole
     c.args.self.now.landmarks c.args.self.now.landmarks_stated c.deref.result.now c.deref-2.result.now
     c.deref.ensures.value c.deref-2.ensures.value c.args.place)

@@ -4,13 +4,13 @@ use Rattle.tl_number.proofs.arranged_chart.ArrangedChart.link_count_at.Goals as 
 
 pub links_of_landmark-requires-clause-in_order : goal.links_of_landmark-requires-clause-in_order
 links_of_landmark-requires-clause-in_order g c =
-    links_ordered (g.C.Chart.county c.args.self.now.chart) c.args.self.now.steps.items
+    links_ordered (g.C.Chart.county c.args.self.now.chart) c.args.self.now.arrangement.items
     (g.met.C.Chart.is_county c.args.self.now.chart) c.args.self.now.whole
     c.args.self.now.landmarks c.args.self.now.landmarks_stated c.deref.result.now c.deref.ensures.value
 
 pub links_of_landmark-requires-clause-some : goal.links_of_landmark-requires-clause-some
 links_of_landmark-requires-clause-some g c =
-    let count = bounds_counted (g.C.Chart.county c.args.self.now.chart) c.args.self.now.steps.items
+    let count = bounds_counted (g.C.Chart.county c.args.self.now.chart) c.args.self.now.arrangement.items
     (g.met.C.Chart.is_county c.args.self.now.chart) c.args.self.now.whole
     c.args.self.now.landmarks c.args.self.now.landmarks_stated in
     let same = ap length c.deref-2.ensures.value in
@@ -18,13 +18,13 @@ links_of_landmark-requires-clause-some g c =
 
 pub links_of_landmark-requires-clause-bounds : goal.links_of_landmark-requires-clause-bounds
 links_of_landmark-requires-clause-bounds g c =
-    bounds_stated (g.C.Chart.county c.args.self.now.chart) c.args.self.now.steps.items
+    bounds_stated (g.C.Chart.county c.args.self.now.chart) c.args.self.now.arrangement.items
     (g.met.C.Chart.is_county c.args.self.now.chart) c.args.self.now.whole
     c.args.self.now.landmarks c.args.self.now.landmarks_stated c.deref.result.now c.deref-2.result.now c.deref.ensures.value
     c.deref-2.ensures.value
 
 pub returns : goal.returns
-returns g c = ap length (c.links_of_landmark.ensures ∙ links_stated (g.C.Chart.county c.args.self.now.chart) c.args.self.now.steps.items
+returns g c = ap length (c.links_of_landmark.ensures ∙ links_stated (g.C.Chart.county c.args.self.now.chart) c.args.self.now.arrangement.items
     (g.met.C.Chart.is_county c.args.self.now.chart) c.args.self.now.whole
     c.args.self.now.landmarks c.args.self.now.landmarks_stated c.deref.result.now c.deref-2.result.now
     c.deref.ensures.value c.deref-2.ensures.value c.args.place)

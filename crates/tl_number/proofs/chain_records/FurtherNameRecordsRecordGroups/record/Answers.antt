@@ -28,7 +28,7 @@ overflow_mul-place g c =
     let chart = c.args.self.now.chart.now in
     let here = piece (g.C.Chart.county chart) (g.met.C.Chart.is_county chart) (g.met.C.Chart.within_limits chart) c.args.group c.args.place
     c.requires.group c.requires.place in
-    omega (arith, here.begins, here.there.room.feats)
+    omega (arith, here.begins, here.there.lists.feats)
 
 pub names_from-names-requires-clause-first : goal.names_from-names-requires-clause-first
 names_from-names-requires-clause-first g c =
@@ -42,7 +42,7 @@ sequence_number-requires g c =
     let chart = c.args.self.now.chart.now in
     let here = piece (g.C.Chart.county chart) (g.met.C.Chart.is_county chart) (g.met.C.Chart.within_limits chart) c.args.group c.args.place
     c.requires.group c.requires.place in
-    omega (arith, here.begins, here.there.room.feats)
+    omega (arith, here.begins, here.there.lists.feats)
 
 pub new-requires-clause-feats : goal.new-requires-clause-feats
 new-requires-clause-feats g c =

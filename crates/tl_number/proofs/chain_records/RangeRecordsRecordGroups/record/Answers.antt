@@ -33,7 +33,7 @@ sequence_number-requires g c =
     let chart = c.args.self.now.chart.now in
     let here = piece (g.C.Chart.county chart) (g.met.C.Chart.is_county chart) (g.met.C.Chart.within_limits chart) c.args.group c.args.place
     c.requires.group c.requires.place in
-    omega (arith, here.count, here.there.room.ranges)
+    omega (arith, here.count, here.there.lists.ranges)
 
 pub returns : goal.returns
 unfolding make

@@ -27,7 +27,7 @@ overflow_mul-place g c =
     let chart = c.args.self.now.chart.now in
     let here = piece (g.C.Chart.county chart) (g.met.C.Chart.is_county chart) (g.met.C.Chart.within_limits chart) c.args.group c.args.place
     c.requires.group c.requires.place in
-    omega (arith, here.begins, here.there.room.points)
+    omega (arith, here.begins, here.there.lists.points)
 
 pub shape_points_from-points-requires-clause-first : goal.shape_points_from-points-requires-clause-first
 shape_points_from-points-requires-clause-first g c =
@@ -41,7 +41,7 @@ sequence_number-requires g c =
     let chart = c.args.self.now.chart.now in
     let here = piece (g.C.Chart.county chart) (g.met.C.Chart.is_county chart) (g.met.C.Chart.within_limits chart) c.args.group c.args.place
     c.requires.group c.requires.place in
-    omega (arith, here.begins, here.there.room.points)
+    omega (arith, here.begins, here.there.lists.points)
 
 pub returns : goal.returns
 unfolding make

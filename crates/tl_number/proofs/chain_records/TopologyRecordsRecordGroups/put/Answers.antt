@@ -12,7 +12,7 @@ returns g c =
     let there = chain_of_group (λ entry. packed_i entry ∷ []) (g.C.Chart.county chart) (g.met.C.Chart.is_county chart)
     (g.met.C.Chart.within_limits chart) c.args.group c.requires.group in
     let tlid_is = tlid_of there c.chain_tlid.result c.chain_tlid.ensures.tlid in
-    let body_is = part_of (λ chain. chain.topology) there c.link_body_there.result c.link_body_there.ensures in
+    let body_is = part_of (λ chain. chain.topology) there c.topology_there.result c.topology_there.ensures in
     let start_is = part_of (λ chain. chain.start_node) there c.start_node_there.result c.start_node_there.ensures in
     let end_is = part_of (λ chain. chain.end_node) there c.end_node_there.result c.end_node_there.ensures in
     let left_is = part_of (λ chain. chain.left) there c.left_there.result c.left_there.ensures in

@@ -1,10 +1,10 @@
 use Rattle.std.proofs.Common.{◌∙◌, option_to_list, sym}
 use Rattle.tl_county.specs.Packing.{packed_p}
-use Rattle.tl_number.specs.ViewFacts.{stepped}
+use Rattle.tl_number.specs.ViewFacts.{arranged_by}
 use Rattle.tl_number.proofs.Records.EntryPlaces.{polygons_counted}
 use Rattle.tl_number.proofs.polygon_records.PolygonRecordsRecordGroups.count.Goals as goal
 
 pub returns : goal.returns
 returns g c =
-    let county = stepped (g.C.Chart.county c.args.self.now.county.now.chart) c.args.self.now.county.now.steps.items in
+    let county = arranged_by (g.C.Chart.county c.args.self.now.county.now.chart) c.args.self.now.county.now.arrangement.items in
     c.polygon_count.ensures ∙ sym (polygons_counted (λ entry. option_to_list (packed_p entry)) county)

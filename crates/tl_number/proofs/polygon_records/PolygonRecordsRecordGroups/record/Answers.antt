@@ -1,6 +1,6 @@
 use Rattle.std.proofs.Common.{◌<◌, ◌∙◌, Some, length, option_to_list, sym, ap, subst}
 use Rattle.tl_county.specs.Packing.{packed_body}
-use Rattle.tl_number.specs.ViewFacts.{stepped}
+use Rattle.tl_number.specs.ViewFacts.{arranged_by}
 use Rattle.tl_number.specs.CountyGroups.{type_p_by_number}
 use Rattle.tl_number.specs.Groups.{group_at}
 use Rattle.tl_number.proofs.Records.EntryPlaces.{polygon_group, polygon_fits, body_there}
@@ -9,24 +9,24 @@ use Rattle.tl_number.proofs.polygon_records.PolygonRecordsRecordGroups.record.Go
 
 pub unwrap-requires : goal.unwrap-requires
 unwrap-requires g c =
-    let county = stepped (g.C.Chart.county c.args.self.now.county.now.chart) c.args.self.now.county.now.steps.items in
+    let county = arranged_by (g.C.Chart.county c.args.self.now.county.now.chart) c.args.self.now.county.now.arrangement.items in
     let entry = c.args.head in
     body_there entry.0 entry.1 c.args._place
     (subst (λ rs. c.args._place < length rs) (polygon_group county c.args._group entry c.requires.head) c.requires.place)
 
 pub new-requires-clause-cenid : goal.new-requires-clause-cenid
 new-requires-clause-cenid g c =
-    let county = stepped (g.C.Chart.county c.args.self.now.county.now.chart) c.args.self.now.county.now.steps.items in
+    let county = arranged_by (g.C.Chart.county c.args.self.now.county.now.chart) c.args.self.now.county.now.arrangement.items in
     (polygon_fits county c.args.self.now.county.now.whole.within_limits c.args._group c.args.head (sym c.requires.head)).0.allowed
 
 pub new-requires-clause-polyid : goal.new-requires-clause-polyid
 new-requires-clause-polyid g c =
-    let county = stepped (g.C.Chart.county c.args.self.now.county.now.chart) c.args.self.now.county.now.steps.items in
+    let county = arranged_by (g.C.Chart.county c.args.self.now.county.now.chart) c.args.self.now.county.now.arrangement.items in
     (polygon_fits county c.args.self.now.county.now.whole.within_limits c.args._group c.args.head (sym c.requires.head)).1
 
 pub returns : goal.returns
 returns g c =
-    let county = stepped (g.C.Chart.county c.args.self.now.county.now.chart) c.args.self.now.county.now.steps.items in
+    let county = arranged_by (g.C.Chart.county c.args.self.now.county.now.chart) c.args.self.now.county.now.arrangement.items in
     let entry = c.args.head in
     ap Some c.new.ensures
     ∙ sym (lone (group_at (type_p_by_number county) c.args._group)

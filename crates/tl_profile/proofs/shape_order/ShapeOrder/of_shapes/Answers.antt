@@ -2,18 +2,18 @@ use Rattle.std.proofs.Common.{map, sym, ap, ◌∙◌, subst}
 use Rattle.tl_shape.specs.PointOrder.{points_cmp}
 use Rattle.ordered_lists.proofs.Lists.Elements.{map-map}
 use Rattle.tl_profile.specs.Choices.{is_either_way, open_places}
-use Rattle.tl_profile.specs.PlacedShapes.{placed_walk}
-use Rattle.tl_profile.specs.ShapeOrder.{AreWalksInOrder, points_along}
+use Rattle.tl_profile.specs.PlacedShapes.{placed_directed}
+use Rattle.tl_profile.specs.ShapeOrder.{AreInShapeOrder, points_along}
 use Rattle.tl_profile.proofs.shape_order.ShapeOrder.of_shapes.Goals as goal
 
 pub returns : goal.returns
 returns g c =
     let county = g.C.Chart.county c.args.chart.now in
     let along = points_along county in
-    let walks = c.in_ok-walks.ensures in
+    let by_shape = c.in_ok-by_shape.ensures in
     record {
-      walks = subst (AreWalksInOrder county) (sym walks) c.requires.order;
+      by_shape = subst (AreInShapeOrder county) (sym by_shape) c.requires.order;
       count = c.in_ok-found.ensures.count;
       places = λ few. c.in_ok-found.ensures.places few
-          ∙ ap (open_places points_cmp is_either_way 0) (sym (ap (map along) walks ∙ map-map along placed_walk c.args.shapes.now));
+          ∙ ap (open_places points_cmp is_either_way 0) (sym (ap (map along) by_shape ∙ map-map along placed_directed c.args.shapes.now));
     }

@@ -6,4 +6,4 @@ use Rattle.tigercanon.proofs.library.comparing.ComparedProductUnit.of.Goals as g
 pub returns : goal.returns
 returns g c = λ b second a first.
     found_of_sets (masked c.args._mask) (masked_sight c.args._mask) a b _ _ _ _ first second
-    (g.V.Conclusion.finding c.of.result) c.of.ensures
+    (g.V.Comparison.finding c.of.result) c.of.ensures

@@ -1,0 +1,11 @@
+use Rattle.std.proofs.Common.{◌∙◌, ap, subst, nat_cmp, nat_lt, IsPermutation}
+use Rattle.ordered_lists.specs.Orders.{stands_in}
+use Rattle.ordered_lists.proofs.ByKey.Keys.{nat_keys, times-permutation}
+use Rattle.tl_cert.proofs.sorted_numbers.SortedNumbers.contains.Goals as goal
+
+pub returns : goal.returns
+returns c =
+    let sorted = c.self.inside.sorted.items in
+    c.is_some.ensures ∙ c.place_of.ensures.known ∙ ap (stands_in nat_cmp c.args.number) c.deref.ensures.value
+    ∙ ap (nat_lt 0) (times-permutation nat_keys c.args.number c.args.self.now sorted
+    (subst (λ numbers. IsPermutation numbers sorted) c.self.view_is c.self.invariant.1))

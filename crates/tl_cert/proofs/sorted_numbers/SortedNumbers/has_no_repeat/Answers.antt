@@ -1,0 +1,17 @@
+use Rattle.std.proofs.Common.{◌≡◌, false, subst, nat_cmp, IsPermutation}
+use Rattle.std.proofs.lemmas.List.Sorted.{IsPermutation-sym}
+use Rattle.std.specs.Bool.{Decides}
+use Rattle.ordered_lists.specs.Orders.{has_repeat}
+use Rattle.ordered_lists.proofs.Lists.ByPlace.{decides_same}
+use Rattle.tl_cert.proofs.Places.{repeat_permuted}
+use Rattle.tl_cert.proofs.sorted_numbers.SortedNumbers.has_no_repeat.Goals as goal
+
+pub returns : goal.returns
+returns c =
+    let sorted = c.self.inside.sorted.items in
+    let permuted : IsPermutation c.args.self.now sorted =
+    subst (λ numbers. IsPermutation numbers sorted) c.self.view_is c.self.invariant.1 in
+    decides_same c.ascend.result
+    (subst (λ numbers. Decides c.ascend.result (has_repeat nat_cmp numbers ≡ false)) c.deref.ensures.value c.ascend.ensures)
+    (repeat_permuted c.args.self.now sorted permuted)
+    (repeat_permuted sorted c.args.self.now (IsPermutation-sym c.args.self.now sorted permuted))

@@ -1,0 +1,64 @@
+-- Entries with stored values, and the entries that they represent.
+use Rattle.std.proofs.Common.{◌≡◌, ℕ, zero, suc, List, [], ◌∷◌, map, flat_map, refl, sym, ap, ◌∙◌, subst, slice_get, Option, Some, IfSome, option_map, unwrap_or, nat_cmp}
+use Rattle.std.specs.List.Sorted.{IsStrictlySortedBy}
+use Rattle.tl_layout.specs.ByType.{of_number}
+use Rattle.tl_layout.specs.Fields.{Fields5}
+use Rattle.tl_layout.specs.declared.type5.Body5.{Body5}
+use Rattle.tl_county.specs.Building.{county_along}
+use Rattle.tl_county.specs.County.{eight_land, five_feat}
+use Rattle.ordered_lists.specs.Entries.{entry_keys, entry_values, map_values, value_under}
+use Rattle.tl_county.specs.StoredCounty.{landmark_entry, LinksUnderLands}
+use Rattle.tl_county.specs.LandmarkParts.{LandmarkParts}
+use Rattle.tl_county.specs.Packing.{Typed}
+use Rattle.tl_county.proofs.Rules.BuiltTables.{bodies-under, lands-kept, links-under}
+use Rattle.ordered_lists.proofs.Lists.EntryLists.{entries-equal, keys-map_values, map_values-id, values-map_values}
+use Rattle.ordered_lists.proofs.Lists.Elements.{map-map}
+
+pub keys-kept : {K V W : Type 0} (f : V → W) (xs : List (K × V)) → entry_keys xs ≡ entry_keys (map_values f xs)
+keys-kept f xs = sym (keys-map_values f xs)
+
+-- a number found in one list of keys is found in an equal list
+pub found-in : {keys others : List ℕ} (place : Option ℕ) (number : ℕ) → keys ≡ others
+    → IfSome place (λ at. slice_get keys at ≡ Some number) → IfSome place (λ at. slice_get others at ≡ Some number)
+found-in place number same found =
+    subst (λ (ks : List ℕ). IfSome place (λ at. slice_get ks at ≡ Some number)) same found
+
+pub value-at-kept : {K V W : Type 0} (f : V → W) (xs : List (K × V)) (place : ℕ)
+    → option_map f (slice_get (entry_values xs) place) ≡ slice_get (entry_values (map_values f xs)) place
+value-at-kept f [] place = refl
+value-at-kept f (x ∷ xs) zero = refl
+value-at-kept f (x ∷ xs) (suc place) = value-at-kept f xs place
+
+pub lands-kept-in : {V : Type 0} (f : V → LandmarkParts) (xs : List (ℕ × V))
+    → entry_keys xs ≡ entry_keys (map landmark_entry (map_values f xs))
+lands-kept-in f xs = keys-kept f xs ∙ lands-kept (map_values f xs)
+
+-- the names of type 5 records, under the FEATs of these records
+pub names-built : {V : Type 0} (f : V → Body5) (xs : List (ℕ × V)) (t : Typed) → entry_keys xs ≡ map five_feat t.of_type_5
+    → map f (entry_values xs) ≡ map (λ (r : Fields5). r.body) t.of_type_5 → map_values f xs ≡ (county_along t).names
+names-built f xs t keys values =
+    entries-equal (map_values f xs) (map (λ (r : Fields5). (r.feat, r.body)) t.of_type_5)
+    (keys-map_values f xs ∙ keys ∙ sym (map-map (λ e. e.0) (λ (r : Fields5). (r.feat, r.body)) t.of_type_5))
+    (values-map_values f xs ∙ values ∙ sym (map-map (λ e. e.1) (λ (r : Fields5). (r.feat, r.body)) t.of_type_5))
+
+-- the parts if there is no landmark
+abbrev pub without : LandmarkParts
+without = record { bodies = []; links = [] }
+
+-- a landmark that is stored as it is, looked up under a LAND: its contents and its links
+module _ (land : ℕ) (kept : List (ℕ × LandmarkParts)) {found : Option LandmarkParts} (is : found ≡ value_under nat_cmp land kept) where
+  as_kept : found ≡ value_under nat_cmp land (map_values (λ l. l) kept)
+  as_kept = is ∙ ap (value_under nat_cmp land) (sym (map_values-id kept))
+
+  pub bodies-found : unwrap_or (option_map (λ (l : LandmarkParts). l.bodies) found) []
+      ≡ unwrap_or (value_under nat_cmp land (map landmark_entry (map_values (λ l. l) kept))) []
+  bodies-found = ap (λ o. unwrap_or (option_map (λ (l : LandmarkParts). l.bodies) o) []) as_kept
+      ∙ ap (λ o. unwrap_or o []) (bodies-under land (map_values (λ l. l) kept))
+
+  pub links-found : IsStrictlySortedBy nat_cmp (entry_keys (map landmark_entry (map_values (λ l. l) kept)))
+      → LinksUnderLands (map_values (λ l. l) kept)
+      → (unwrap_or found without).links
+      ≡ of_number eight_land land (flat_map (λ (entry : ℕ × LandmarkParts). entry.1.links) (map_values (λ l. l) kept))
+  links-found strict under = ap (λ o. (unwrap_or o without).links) as_kept
+      ∙ links-under land (map_values (λ l. l) kept)
+      (subst (IsStrictlySortedBy nat_cmp) (sym (lands-kept (map_values (λ l. l) kept))) strict) under

@@ -1,0 +1,10 @@
+use Rattle.std.proofs.Common.{ap, ◌∙◌, nat_cmp}
+use Rattle.ordered_lists.specs.Orders.{stands_in}
+use Rattle.tl_county.proofs.Rules.StoredParts.{found-in, keys-kept}
+use Rattle.tl_county.proofs.stored.stored_chart.StoredCountyChart.chain_place.Goals as goal
+
+pub returns-clause-found : goal.returns-clause-found
+returns-clause-found g c = found-in c.place.result c.args.tlid (keys-kept g.C.StoredChain.chain c.args.self.now.chains) c.place.ensures.found
+
+pub returns-clause-known : goal.returns-clause-known
+returns-clause-known g c = c.place.ensures.known ∙ ap (stands_in nat_cmp c.args.tlid) (keys-kept g.C.StoredChain.chain c.args.self.now.chains)

@@ -1,0 +1,138 @@
+-- All chains in the order of their shapes and places are the ascending arrangement.
+use Rattle.std.proofs.Common.{◌≡◌, ◌<◌, ℕ, List, [], ◌∷◌, map, length, Bool, true, false, Less, Equal, Option}
+use Rattle.std.proofs.Common.{Some, None}
+use Rattle.std.proofs.Common.{option_map, slice_get, is_gt, is_lt, refl, sym, ap, ap₂, ◌∙◌, subst, nat_cmp}
+use Rattle.std.proofs.Common.{reverse, Ordering}
+use Rattle.std.proofs.lemmas.Cmp.{on_total}
+use Rattle.std.proofs.lemmas.Option.{slice_get-map, get_or_from_slice_get}
+use Rattle.std.specs.Cmp.{IsTotalOrder}
+use Rattle.std.specs.List.{AllByRecursion}
+use Rattle.std.specs.Option.{option_cmp}
+use Rattle.std.specs.Ordering.{on, ordering_then, ordering_reverse}
+use Rattle.tl_layout.specs.Coordinates.{Coordinates}
+use Rattle.tl_shape.specs.Chain.{Chain}
+use Rattle.tl_shape.specs.PointOrder.{points_cmp}
+use Rattle.tl_shape.specs.Turned.{turned_if}
+use Rattle.tl_county.specs.ChartWords.{chain_at, points_of}
+use Rattle.tl_county.specs.County.{County}
+use Rattle.tl_county.specs.CountyRules.{tlids}
+use Rattle.ordered_lists.specs.Orders.{in_order}
+use Rattle.tl_county.specs.Laws.KeyOrders.{points_keys}
+use Rattle.ordered_lists.proofs.ByKey.KeyedLists.{lt_reversed}
+use Rattle.ordered_lists.proofs.Lists.Elements.{all_unmap}
+use Rattle.tl_profile.proofs.Places.{along_from}
+use Rattle.tl_profile.specs.ShapeOrder.{AreInShapeOrder, along_shape, points_along, directed_cmp}
+use Rattle.tl_profile.specs.Shapes.{least_points, points_from}
+use Rattle.tl_number.specs.Arrangement.{ascending, entry_shape, comes_turned}
+use Rattle.tl_number.specs.DirectedChains.{arrangement_of, HasChainsOf, tlid_at}
+use Rattle.tl_county.specs.declared.directed_chain.DirectedChain.{DirectedChain}
+use Rattle.tl_number.proofs.Lists.SortedPlaces.{sorted_items, each_item, item_places, places_below}
+
+-- an order of optional values with none first
+pub options_total : {X : Type 0} {R : X → X → Ordering} → IsTotalOrder R → IsTotalOrder (option_cmp R)
+options_total {X} {R} o = record { antisymm = antisymm; trans = trans; congr = congr }
+  where
+    antisymm : (x y : Option X) → option_cmp R x y ≡ ordering_reverse (option_cmp R y x)
+    antisymm None None = refl
+    antisymm None (Some y) = refl
+    antisymm (Some x) None = refl
+    antisymm (Some x) (Some y) = o.antisymm x y
+
+    trans : (x y z : Option X) → option_cmp R x y ≡ Less → option_cmp R y z ≡ Less → option_cmp R x z ≡ Less
+    trans None None z e f = cc
+    trans None (Some y) None e f = cc
+    trans None (Some y) (Some z) e f = refl
+    trans (Some x) None z e f = cc
+    trans (Some x) (Some y) None e f = cc
+    trans (Some x) (Some y) (Some z) e f = o.trans x y z e f
+
+    congr : (x y z : Option X) → option_cmp R x y ≡ Equal → option_cmp R x z ≡ option_cmp R y z
+    congr None None z e = refl
+    congr None (Some y) z e = cc
+    congr (Some x) None z e = cc
+    congr (Some x) (Some y) None e = refl
+    congr (Some x) (Some y) (Some z) e = o.congr x y z e
+
+-- the reverse comes before the points exactly if the points come after it
+pub turned_same : (ps : List Coordinates) → is_lt (points_cmp (reverse ps) ps) ≡ is_gt (points_cmp ps (reverse ps))
+turned_same ps = lt_reversed (points_cmp (reverse ps) ps) (points_cmp ps (reverse ps)) (points_keys.total.antisymm (reverse ps) ps)
+
+-- an entry's shape is the points of its chain in its lesser direction
+pub shape_turned : (entry : ℕ × Chain) → (turned_if (comes_turned entry.1) entry.1).points ≡ entry_shape entry
+shape_turned entry = sym (from_turned (comes_turned entry.1) entry.1) ∙ ap (λ b. points_from b entry.1.points) (sym (turned_same entry.1.points))
+  where
+    from_turned : (b : Bool) (c : Chain) → points_from b c.points ≡ (turned_if b c).points
+    from_turned true c = refl
+    from_turned false c = refl
+
+module _ (county : County) where
+  chain_read : (i : ℕ) (x : ℕ × Chain) → slice_get county.chains i ≡ Some x → chain_at county i ≡ Some x.1
+  chain_read i x e = slice_get-map (λ (d : ℕ × Chain). d.1) county.chains i ∙ ap (option_map (λ (d : ℕ × Chain). d.1)) e
+
+  along_read : (i : ℕ) (x : ℕ × Chain) → slice_get county.chains i ≡ Some x → points_along county (along_shape county i) ≡ entry_shape x
+  along_read i x e = along_from county (along_shape county i) ∙ ap (λ o. least_points (points_of o)) (chain_read i x e)
+
+  turned_read : (i : ℕ) (x : ℕ × Chain) → slice_get county.chains i ≡ Some x → (along_shape county i).turned ≡ comes_turned x.1
+  turned_read i x e =
+      ap (λ o. is_lt (points_cmp (reverse (points_of o)) (points_of o))) (chain_read i x e) ∙ turned_same x.1.points
+
+  agrees : (i j : ℕ) (x y : ℕ × Chain) → slice_get county.chains i ≡ Some x → slice_get county.chains j ≡ Some y
+      → directed_cmp county (along_shape county i) (along_shape county j) ≡ ordering_then (points_cmp (entry_shape x) (entry_shape y))
+      (nat_cmp i j)
+  agrees i j x y e f = ap₂ (λ ps qs. ordering_then (points_cmp ps qs) (nat_cmp i j)) (along_read i x e) (along_read j y f)
+
+  abbrev place_of : DirectedChain → ℕ
+  place_of w = w.place
+
+  -- chains read in order, each in its lesser direction
+  arrangement_stated : (by_shape : List DirectedChain) (ordered : List (ℕ × Chain)) → AllByRecursion (λ w. w ≡ along_shape county (place_of w)) by_shape
+      → map (slice_get county.chains) (map place_of by_shape) ≡ map Some ordered
+      → arrangement_of county by_shape ≡ map (λ e. (e.0, comes_turned e.1)) ordered
+  arrangement_stated [] [] a e = refl
+  arrangement_stated [] (x ∷ xs) a e = cc
+  arrangement_stated (w ∷ ws) [] a e = cc
+  arrangement_stated (w ∷ ws) (x ∷ xs) a e =
+      let here : slice_get county.chains w.place ≡ Some x = cc in
+      let rest : map (slice_get county.chains) (map place_of ws) ≡ map Some xs = cc in
+      let tlid : tlid_at county w.place ≡ x.0 =
+      get_or_from_slice_get (tlids county) w.place x.0 0
+      (slice_get-map (λ (d : ℕ × Chain). d.0) county.chains w.place ∙ ap (option_map (λ (d : ℕ × Chain). d.0)) here) in
+      let turned : w.turned ≡ comes_turned x.1 = ap (λ (v : DirectedChain). v.turned) a.0 ∙ turned_read w.place x here in
+      λ i. (tlid i, turned i) ∷ arrangement_stated ws xs a.1 rest i
+
+  module _ (by_shape : List DirectedChain) (order : AreInShapeOrder county by_shape) where
+    read : map (slice_get county.chains) (map place_of by_shape) ≡ map Some (in_order (on entry_shape points_cmp) county.chains)
+    read = sorted_items (along_shape county) place_of (λ i. refl) (directed_cmp county) (on_total entry_shape points_keys.total) county.chains
+        agrees by_shape order.all order.in_order
+
+    each_directed : AllByRecursion (λ w. w ≡ along_shape county (place_of w)) by_shape
+    each_directed = each_item (along_shape county) place_of (λ i. refl) (directed_cmp county) (on_total entry_shape points_keys.total) county.chains
+        agrees by_shape order.all order.in_order
+
+    -- the points of the directed chains are the shapes in order
+    shapes_stated : (ws : List DirectedChain) (ordered : List (ℕ × Chain)) → AllByRecursion (λ w. w ≡ along_shape county (place_of w)) ws
+        → map (slice_get county.chains) (map place_of ws) ≡ map Some ordered
+        → map (points_along county) ws ≡ map entry_shape ordered
+    shapes_stated [] [] a e = refl
+    shapes_stated [] (x ∷ xs) a e = cc
+    shapes_stated (w ∷ ws) [] a e = cc
+    shapes_stated (w ∷ ws) (x ∷ xs) a e =
+        let here : slice_get county.chains w.place ≡ Some x = cc in
+        let rest : map (slice_get county.chains) (map place_of ws) ≡ map Some xs = cc in
+        let along : points_along county w ≡ entry_shape x = ap (points_along county) a.0 ∙ along_read w.place x here in
+        λ i. along i ∷ shapes_stated ws xs a.1 rest i
+
+    pub shapes_of_order : map (points_along county) by_shape ≡ map entry_shape (in_order (on entry_shape points_cmp) county.chains)
+    shapes_of_order = shapes_stated by_shape (in_order (on entry_shape points_cmp) county.chains) each_directed read
+
+    -- The chains in the order of their shapes are the ascending arrangement.
+    pub arrangement_ascend : (arrangement : List DirectedChain) → arrangement ≡ by_shape → arrangement_of county arrangement ≡ ascending county
+    arrangement_ascend arrangement e =
+        ap (arrangement_of county) e ∙ arrangement_stated by_shape (in_order (on entry_shape points_cmp) county.chains) each_directed read
+
+    pub arrangement_there : (arrangement : List DirectedChain) → arrangement ≡ by_shape → HasChainsOf county arrangement
+    arrangement_there arrangement e =
+        subst (HasChainsOf county) (sym e)
+        (all_unmap (λ n. n < length county.chains) place_of by_shape (places_below (length county.chains) (map place_of by_shape)
+        (item_places (along_shape county) place_of (λ i. refl) (directed_cmp county) (on_total entry_shape points_keys.total) county.chains
+        agrees by_shape order.all order.in_order)))

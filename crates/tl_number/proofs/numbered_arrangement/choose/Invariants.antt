@@ -1,0 +1,15 @@
+-- The remaining places turn the remaining chains and number into the same as all places do from the start.
+use Rattle.std.proofs.Common.{◌≡◌, length}
+use Rattle.tl_number.specs.MovedChains.{AreWithin, other_way}
+use Rattle.tl_number.specs.NumberedChoices.{moved}
+use Rattle.tl_number.proofs.numbered_arrangement.choose.Given as goal
+
+abbrev pub invariant-loop-at : goal.invariant-loop-at
+invariant-loop-at l = record {
+  same : moved other_way l.rest (l.arrangement, l.left) ≡ moved other_way l.places (l.initial.arrangement, l.number);
+  within : AreWithin (length l.arrangement) l.rest;
+  count : length l.arrangement ≡ length l.initial.arrangement;
+}
+
+abbrev pub decreases-loop-at : goal.decreases-loop-at
+decreases-loop-at l = length l.rest

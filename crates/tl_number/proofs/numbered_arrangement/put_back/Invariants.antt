@@ -1,0 +1,14 @@
+-- The arrangement agrees with the order of shapes, except at the remaining open places.
+use Rattle.std.proofs.Common.{◌≡◌, length}
+use Rattle.tl_number.specs.MovedChains.{AgreeApart, AreWithin}
+use Rattle.tl_number.proofs.numbered_arrangement.put_back.Given as goal
+
+abbrev pub invariant-loop-at : goal.invariant-loop-at
+invariant-loop-at l = record {
+  within : AreWithin (length l.arrangement) l.rest;
+  count : length l.arrangement ≡ length l.by_shape;
+  apart : AgreeApart l.rest l.arrangement l.by_shape;
+}
+
+abbrev pub decreases-loop-at : goal.decreases-loop-at
+decreases-loop-at l = length l.rest

@@ -1,0 +1,25 @@
+-- Directed chains: an arrangement of a county, given by the places of its chains.
+use Rattle.std.specs.Prelude.{ℕ, ◌<◌, List, map, Option, slice_index, length}
+use Rattle.std.specs.List.{AllByRecursion}
+use Rattle.tl_shape.specs.Chain.{Chain}
+use Rattle.tl_county.specs.County.{County}
+use Rattle.tl_county.specs.CountyRules.{tlids}
+use Rattle.tl_county.specs.DirectedChains.{directed_chain}
+use Rattle.tl_number.specs.Arrangement.{Arrangement}
+use Rattle.tl_county.specs.declared.directed_chain.DirectedChain.{DirectedChain}
+
+-- the TLID at a place; the place is below the number of chains
+abbrev pub tlid_at : County → ℕ → ℕ
+tlid_at county place = slice_index (tlids county) place
+
+-- the arrangement of these directed chains
+abbrev pub arrangement_of : County → List DirectedChain → Arrangement
+arrangement_of county arrangement = map (λ directed. (tlid_at county directed.place, directed.turned)) arrangement
+
+-- the county has the chain of each directed chain
+abbrev pub HasChainsOf : County → List DirectedChain → Type 0
+HasChainsOf county arrangement = AllByRecursion (λ directed. directed.place < length county.chains) arrangement
+
+-- a part of the directed chains, chain by chain
+abbrev pub parts_along : {X : Type 0} → (Option Chain → X) → County → List DirectedChain → List X
+parts_along part county arrangement = map (λ directed. part (directed_chain county directed)) arrangement

@@ -1,0 +1,68 @@
+//! The choice with a given number. For each open place in the order of shapes, the number determines how many chains of the same shape
+//! come before the chain there, and whether it is turned. Chains at other places stay. From one number to the next, only the few chains
+//! at open places are put back and moved.
+
+ghost use Rattle.std.specs.Prelude.{◌≡◌, ◌++◌, drop, length, take};
+ghost use Rattle.tl_number.specs.MovedChains.{AgreeApart, AreWithin, IsWithin, other_way};
+ghost use Rattle.tl_number.specs.NumberedChoices.{moved, moved_at};
+
+use tl_county::DirectedChain;
+use tl_profile::OpenPlace;
+
+/// Inserts the chain at an open place among those of its shape that come after it, by the last two digits of a number. The last digit
+/// is how many of these come before it, and the next one whether it takes the other direction. Returns the rest of the number.
+fn place_chain(arrangement: &mut [DirectedChain], at: OpenPlace, number: u64) -> u64
+    requires { IsWithin (length arrangement.old) at }
+    ensures arrangement { arrangement.new ≡ (moved_at other_way at (arrangement.old, number)).0 }
+    ensures left { result ≡ (moved_at other_way at (arrangement.old, number)).1 }
+    ensures count { length arrangement.new ≡ length arrangement.old }
+{
+    let first = at.place as usize;
+    let behind = (number % u64::from(at.alike)) as usize;
+    let left = number / u64::from(at.alike);
+    if left % at.ways() == 1 {
+        arrangement[first].turned = !arrangement[first].turned;
+    }
+    arrangement[first..first + behind + 1].rotate_left(1);
+    left / at.ways()
+}
+
+/// Moves chains from the order of shapes to the choice with this number, from the last open place to the first.
+pub(crate) fn choose(arrangement: &mut [DirectedChain], places: &[OpenPlace], number: u64)
+    requires { AreWithin (length arrangement.old) places.now }
+    ensures arrangement { arrangement.new ≡ (moved other_way places.now (arrangement.old, number)).0 }
+    ensures count { length arrangement.new ≡ length arrangement.old }
+{
+    let mut left = number;
+    let mut rest = places;
+    while let Some((at, before)) = rest.split_last() {
+        left = place_chain(arrangement, *at, left);
+        rest = before;
+    }
+}
+
+/// Puts back the chains among which an open place moves one.
+fn put_back_at(arrangement: &mut [DirectedChain], by_shape: &[DirectedChain], at: OpenPlace)
+    requires within { IsWithin (length arrangement.old) at }
+    requires count { length arrangement.old ≡ length by_shape.now }
+    ensures arrangement { arrangement.new ≡ take at.place arrangement.old ++ (take at.alike (drop at.place by_shape.now) ++ drop at.alike (drop at.place arrangement.old)) }
+    ensures count { length arrangement.new ≡ length arrangement.old }
+{
+    let first = at.place as usize;
+    let end = first + at.alike as usize;
+    arrangement[first..end].copy_from_slice(&by_shape[first..end]);
+}
+
+/// Puts chains that were moved at open places back to their places in the order of shapes.
+pub(crate) fn put_back(arrangement: &mut [DirectedChain], by_shape: &[DirectedChain], places: &[OpenPlace])
+    requires within { AreWithin (length arrangement.old) places.now }
+    requires count { length arrangement.old ≡ length by_shape.now }
+    requires apart { AgreeApart places.now arrangement.old by_shape.now }
+    ensures { arrangement.new ≡ by_shape.now }
+{
+    let mut rest = places;
+    while let Some((at, behind)) = rest.split_first() {
+        put_back_at(arrangement, by_shape, *at);
+        rest = behind;
+    }
+}

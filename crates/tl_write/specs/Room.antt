@@ -1,9 +1,0 @@
--- A sink into a borrowed buffer, in contracts.
-use Rattle.std.specs.Prelude.{ℕ, List}
-
--- the bytes that were taken, the size of the buffer, the most that one write takes, and how many writes failed
-pub record LentRoom : Type 0 where
-  pub held : List ℕ
-  pub room : ℕ
-  pub most : ℕ
-  pub failures : ℕ
