@@ -13,13 +13,13 @@ mod composing;
 mod county_numbers;
 mod images;
 mod links;
-mod sorted_numbers;
 mod numbers_paired;
 mod pairing;
 mod pairs;
 mod parts;
 mod renaming;
 mod renaming_tables;
+mod sorted_numbers;
 mod turning;
 
 pub use carrying::{check, check_masked};

@@ -10,9 +10,9 @@ ghost use Rattle.ordered_lists.specs.Pairs.{ArePaired};
 ghost use Rattle.tl_county.specs.Renumbering.{NumbersArePaired};
 
 use crate::county_numbers::{Feats, Lands, Nodes, NumberKind, PolygonKeys, Tlids, numbers_of};
-use crate::sorted_numbers::SortedNumbers;
 use crate::pairing::{are_known, new_numbers, old_numbers};
 use crate::renaming::Renaming;
+use crate::sorted_numbers::SortedNumbers;
 use ordered_lists::Key;
 use std::alloc::{AllocError, Global};
 use tl_county::{Chart, PolygonKey, Tested, all_hold};

@@ -1,6 +1,5 @@
 //! Whether a county has the names, the polygons and the landmarks of another under their new numbers.
 
-
 use crate::renaming_tables::RenamingTables;
 use tl_county::{Chart, LandmarkBodies, Same, Tested, are_same};
 

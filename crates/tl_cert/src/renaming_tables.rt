@@ -7,8 +7,8 @@ ghost use Rattle.ordered_lists.specs.Pairs.{image};
 ghost use Rattle.tl_county.specs.Renumbering.{turns};
 
 use crate::images::Images;
-use crate::sorted_numbers::SortedNumbers;
 use crate::renaming::Renaming;
+use crate::sorted_numbers::SortedNumbers;
 use std::alloc::{AllocError, Global};
 use std::marker::Model;
 use tl_county::PolygonKey;

@@ -6,13 +6,18 @@ ghost use Rattle.tl_cert.specs.Images.{is_turned_once};
 ghost use Rattle.ordered_lists.specs.Pairs.{image, is_named};
 
 use crate::images::Images;
-use crate::sorted_numbers::SortedNumbers;
 use crate::pairs::named_images_of;
+use crate::sorted_numbers::SortedNumbers;
 use std::alloc::{AllocError, Global};
 
 /// Whether exactly one of two renamings turns the chain of an old TLID. The first one turns the chains of `firsts`. The next one
 /// turns those of `nexts`, under the TLIDs that the first one gives.
-fn turns_once(images: &Images<u64>, firsts: &SortedNumbers, nexts: &SortedNumbers, tlid: u64) -> bool
+fn turns_once(
+    images: &Images<u64>,
+    firsts: &SortedNumbers,
+    nexts: &SortedNumbers,
+    tlid: u64,
+) -> bool
     ensures { result ≡ is_turned_once images.now firsts.now nexts.now tlid }
 {
     let by_first = firsts.contains(tlid);

@@ -34,9 +34,6 @@ mod table_order;
 
 use crate::chart::Chart;
 use crate::fault::LinkFault;
-use crate::stored::storage::{StoredChain, StoredLandmark, StoredName};
-use crate::stored::table::Table;
-use crate::stored::{County, CountyIn, StoredCounty};
 use crate::keys::keyed::keys_of;
 use crate::keys::record_keys::PolygonKey;
 use crate::linking::building::{
@@ -49,6 +46,9 @@ use crate::linking::rules::{
     check_chains, check_landmarks, check_links, check_names, check_sequences, unnamed_use,
 };
 use crate::linking::table_order::{Ordered, order_tables};
+use crate::stored::storage::{StoredChain, StoredLandmark, StoredName};
+use crate::stored::table::Table;
+use crate::stored::{County, CountyIn, StoredCounty};
 use bumpalo::Bump;
 use std::alloc::{AllocError, Global};
 use tl_layout::{BodyP, Rec5, Record, Tables};

@@ -15,19 +15,19 @@ ghost use Rattle.tl_county.specs.PolygonKeys.{key_cmp};
 ghost use Rattle.tl_layout.specs.ByType.{of_number};
 
 pub(crate) mod chain_over;
-pub(crate) mod storage;
-mod stored_chart;
 pub(crate) mod landmark;
 pub(crate) mod lent;
+pub(crate) mod storage;
+mod stored_chart;
 pub(crate) mod table;
 
 use crate::chart::Chart;
+use crate::keys::record_keys::PolygonKey;
 use crate::stored::chain_over::ChainOver;
-use crate::stored::storage::{StoredChain, StoredLandmark, StoredName};
 use crate::stored::landmark::Landmark;
 use crate::stored::lent::{LandmarkIn, NameIn};
+use crate::stored::storage::{StoredChain, StoredLandmark, StoredName};
 use crate::stored::table::Table;
-use crate::keys::record_keys::PolygonKey;
 use tl_layout::{Body5, Body7, BodyP, Rec8};
 use tl_shape::{Chain, ChainIn};
 

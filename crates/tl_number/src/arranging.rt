@@ -66,7 +66,12 @@ fn arrange_tables<C: Chart>(
     ensures landmarks { IfOk result (λ tables. MatchesLandmarks (C.county chart.now) arrangement.now tables.3) }
 {
     let (nodes, polygons) = arrange_nodes_and_polygons(alloc, chart, arrangement)?;
-    let (names, landmarks) = arrange_names_and_landmarks(alloc, chart, arrangement, &polygons.numbers)?;
+    let (names, landmarks) = arrange_names_and_landmarks(
+        alloc,
+        chart,
+        arrangement,
+        &polygons.numbers,
+    )?;
     Ok((nodes, polygons, names, landmarks))
 }
 

@@ -24,7 +24,10 @@ pub(crate) fn arrangement_in_order(
 /// # Errors
 ///
 /// `AllocError` if an allocation failed.
-pub fn ascending_arrangement<C: Chart>(alloc: Global, chart: &C) -> Result<Vec<DirectedChain>, AllocError>
+pub fn ascending_arrangement<C: Chart>(
+    alloc: Global,
+    chart: &C,
+) -> Result<Vec<DirectedChain>, AllocError>
     ensures arrangement { IfOk result (λ arrangement. arrangement_of (C.county chart.now) arrangement.items ≡ ascending (C.county chart.now)) }
     ensures there { IfOk result (λ arrangement. HasChainsOf (C.county chart.now) arrangement.items) }
 {

@@ -16,8 +16,8 @@ ghost use Rattle.tl_county.specs.DirectedChains.{directed_chain};
 ghost use Rattle.tl_number.specs.ViewFacts.{AreWhole, MatchesNodes, arranged_by};
 
 use crate::arranged_tables::{Ends, NodeTables, Sides};
-use crate::numbers::{Interner, marks_for};
 use crate::directed_readers::{ends_of_directed, sides_of_directed};
+use crate::numbers::{Interner, marks_for};
 use std::alloc::{AllocError, Global};
 use tl_county::{Chart, DirectedChain, PolygonKey};
 use tl_layout::{NumberOrNone, Side};

@@ -54,7 +54,11 @@ fn put_back_at(arrangement: &mut [DirectedChain], by_shape: &[DirectedChain], at
 }
 
 /// Puts chains that were moved at open places back to their places in the order of shapes.
-pub(crate) fn put_back(arrangement: &mut [DirectedChain], by_shape: &[DirectedChain], places: &[OpenPlace])
+pub(crate) fn put_back(
+    arrangement: &mut [DirectedChain],
+    by_shape: &[DirectedChain],
+    places: &[OpenPlace],
+)
     requires within { AreWithin (length arrangement.old) places.now }
     requires count { length arrangement.old ≡ length by_shape.now }
     requires apart { AgreeApart places.now arrangement.old by_shape.now }

@@ -76,11 +76,11 @@ pub(crate) fn tag_set<T: Drop>(set: u8, outcome: Result<T, Fault>) -> Result<T, 
     }
 }
 
-/// Makes the conclusion on two canonical counties: `first`, and the county of the product's set.
+/// Compares two canonical counties: `first`, and the county of the product's set.
 #[derive(Drop)]
 struct Compared<'a, A: Chart, V> {
     first: &'a CanonCounty<A>,
-    conclusion: PhantomData<V>,
+    comparison: PhantomData<V>,
 }
 
 impl<'a, A: Chart, V: Comparison> Product<()> for Compared<'a, A, V> {
@@ -88,9 +88,9 @@ impl<'a, A: Chart, V: Comparison> Product<()> for Compared<'a, A, V> {
 
     ghost IsReady = { λ _ _. Unit {0} };
 
-    ghost Answers = { λ mask b self _ conclusion _. (a : List (List ℕ))
+    ghost Answers = { λ mask b self _ comparison _. (a : List (List ℕ))
         → IsCanonSetThrough (masked mask) a (A.county (source_of self.first.now)) (arranged_county self.first.now)
-        → IsFound (masked mask) a b (V.finding conclusion) };
+        → IsFound (masked mask) a b (V.finding comparison) };
 
     fn of<B: Chart>(
         self,
@@ -103,11 +103,11 @@ impl<'a, A: Chart, V: Comparison> Product<()> for Compared<'a, A, V> {
     }
 }
 
-/// Makes the conclusion on the canonical county of the product's set and on `second`, a set that isn't linked yet.
+/// Compares the canonical county of the product's set with `second`, a set that isn't linked yet.
 #[derive(Drop)]
 struct Against<S, V> {
     second: S,
-    conclusion: PhantomData<V>,
+    comparison: PhantomData<V>,
 }
 
 impl<S: UnlinkedSet, V: Comparison> Product<()> for Against<S, V> {
@@ -116,7 +116,7 @@ impl<S: UnlinkedSet, V: Comparison> Product<()> for Against<S, V> {
     ghost IsReady = { λ self _. S.IsReady self.second };
 
     ghost Answers = { λ mask a self _ made _. (b : List (List ℕ)) → S.Says self.second b
-        → MatchResult made (λ conclusion. IsFound (masked mask) a b (V.finding conclusion))
+        → MatchResult made (λ comparison. IsFound (masked mask) a b (V.finding comparison))
         (λ fault. IsAcceptable a × ReportsRefusalOfRead b fault) };
 
     fn of<A: Chart>(
@@ -128,13 +128,13 @@ impl<S: UnlinkedSet, V: Comparison> Product<()> for Against<S, V> {
     ) -> Result<V, Fault> {
         let compared = Compared {
             first: county,
-            conclusion: PhantomData,
+            comparison: PhantomData,
         };
         make_of(alloc, self.second, compared, device, mask)
     }
 }
 
-/// The conclusion under a mask on two sets that aren't linked yet. The first set is judged completely before the second is linked.
+/// Compares two sets that aren't linked yet, under a mask. The first set is judged completely before the second is linked.
 pub(crate) fn compare_unlinked<A: UnlinkedSet, B: UnlinkedSet, V: Comparison>(
     alloc: Global,
     first: A,
@@ -144,12 +144,12 @@ pub(crate) fn compare_unlinked<A: UnlinkedSet, B: UnlinkedSet, V: Comparison>(
     requires first { A.IsReady first }
     requires second { B.IsReady second }
     ensures found { (a b : List (List ℕ)) → A.Says first a → B.Says second b
-        → IfOk result (λ conclusion. IsFound (masked mask) a b (V.finding conclusion)) }
+        → IfOk result (λ comparison. IsFound (masked mask) a b (V.finding comparison)) }
     ensures refused { (a b : List (List ℕ)) → A.Says first a → B.Says second b → IfErr result (ReportsRefusalOfOneRead a b) }
 {
     let against = Against {
         second,
-        conclusion: PhantomData,
+        comparison: PhantomData,
     };
     let made = tag_set(FIRST, make_of(alloc, first, against, &mut (), mask))?;
     tag_set(SECOND, made)

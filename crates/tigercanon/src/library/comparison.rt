@@ -1,4 +1,4 @@
-//! Conclusions on two sets in canonical form: a renaming of one onto the other, or only whether they are one map.
+//! What a comparison of two sets in canonical form returns: a renaming of one onto the other, or only whether they are one map.
 
 ghost use Rattle.std.specs.Prelude.{◌≡◌, IfOk, if◌then◌else◌};
 ghost use Rattle.tigercanon.specs.Findings.{Finding, IsFoundOfCounties, finding_of};
@@ -13,12 +13,12 @@ use tl_cert::Renaming;
 use tl_county::Chart;
 use tl_number::{CanonCounty, same_records};
 
-/// A conclusion on two canonical counties.
+/// What a comparison of two canonical counties returns.
 pub(crate) trait Comparison: Drop + Sized {
-    /// The finding that the conclusion states.
+    /// The finding that it states.
     ghost finding: { Self → Finding };
 
-    /// The conclusion on the counties that two canonical counties were made from.
+    /// Compares the counties that two canonical counties were made from.
     fn of<A: Chart, B: Chart>(alloc: Global, a: &CanonCounty<A>, b: &CanonCounty<B>) -> Self
         ensures { IsFoundOfCounties (A.county (source_of a.now)) (B.county (source_of b.now))
             (arranged_county a.now) (arranged_county b.now) (finding result) };

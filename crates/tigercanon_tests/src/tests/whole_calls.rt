@@ -87,8 +87,20 @@ type Passing = (
 const DEVICE: Result<u64, Fault> = Err(Fault::Load(LoadFault::Device));
 
 const PASSING: &[Passing] = &[
-    ("a sink that takes more than the text", [None, None], 400, Ok(357), [0, 0]),
-    ("a sink that takes just the text", [None, None], 357, Ok(357), [0, 0]),
+    (
+        "a sink that takes more than the text",
+        [None, None],
+        400,
+        Ok(357),
+        [0, 0],
+    ),
+    (
+        "a sink that takes just the text",
+        [None, None],
+        357,
+        Ok(357),
+        [0, 0],
+    ),
     (
         "all but the last byte",
         [None, None],

@@ -70,7 +70,7 @@ chain-of_groups head link twos shape fours named sixes ranged tlid e shape_is na
     ((named_is ∙ group-of_number four_tlid tlid fours ∙ ap (λ n. of_number four_tlid n fours) e) i)
     ((ranged_is ∙ group-of_number six_tlid tlid sixes ∙ ap (λ n. of_number six_tlid n sixes) e) i)
 
--- a step of the walk along the chains
+-- one more chain is built
 module _ (done whole : List Chain) (head : Fields1) (later heads : List Fields1) (link : FieldsI) (others links : List FieldsI)
     (twos : List Fields2) (fours : List Fields4) (sixes : List Fields6) where
   abbrev chain_of_head : Chain
@@ -93,7 +93,7 @@ module _ (done whole : List Chain) (head : Fields1) (later heads : List Fields1)
       (strict_head nat_cmp head.tlid (map one_tlid later)
       (subst (λ l. IsStrictlySortedBy nat_cmp (map one_tlid l)) heads_are ascending)))
 
--- a step of the walk along the landmarks
+-- one more landmark is built
 pub landmarks-step : (done whole : List LandmarkParts) (land : ℕ) (later lands : List ℕ) (sevens group : List Fields7)
     (eights linked : List Fields8) (bodies : List Body7) (landmark : LandmarkParts)
     → group ≡ filter (λ x. is_eq (nat_cmp (seven_land x) land)) sevens → linked ≡ filter (λ x. is_eq (nat_cmp (eight_land x) land)) eights
@@ -114,7 +114,7 @@ landmarks-step done whole land later lands sevens group eights linked bodies lan
     }))
     (landmarks-later land sevens eights later (strict_head nat_cmp land later (subst (IsStrictlySortedBy nat_cmp) lands_are ascending)))
 
--- a step of the walk along the polygons
+-- one more polygon is built
 pub polygons-step : (done whole : List (Option BodyP)) (key : PolygonKey) (later keys : List PolygonKey) (points group : List FieldsP)
     (body : Option BodyP)
     → group ≡ filter (λ r. is_eq (key_cmp (p_key r) key)) points → body ≡ first (map (λ (r : FieldsP). r.body) group)

@@ -6,12 +6,12 @@ ghost use Rattle.std.specs.Prelude.{◌≡◌, ◌∷◌, [], ◌++◌, IfOk, fl
 ghost use Rattle.tl_layout.specs.Fields.{Fields2, Fields4, Fields5, Fields6};
 ghost use Rattle.tl_layout.specs.Numbers.{IsNumber};
 
-use crate::stored::chain_over::ChainOver;
-use crate::stored::lent::{LandmarkIn, NameIn};
 use crate::linking::building::{
     ChainBuilder, LandmarkBuilder, OneChain, join_bodies, join_feats, join_points, join_ranges,
     name_bodies, surroundings_of,
 };
+use crate::stored::chain_over::ChainOver;
+use crate::stored::lent::{LandmarkIn, NameIn};
 use bumpalo::Bump;
 use std::alloc::{AllocError, Global};
 use tl_layout::{Body5, Body7, Point, Ranges, Rec1, Rec2, Rec4, Rec5, Rec6, Rec7, Rec8};

@@ -12,9 +12,9 @@ ghost use Rattle.tl_layout.specs.ByType.{of_number};
 ghost use Rattle.tl_layout.specs.Fields.{Fields2, Fields4, Fields5, Fields6, Fields7, FieldsP};
 ghost use Rattle.tl_layout.specs.Numbers.{IsNumber, IsNumberOrNone};
 
-use crate::stored::storage::{StoredChain, StoredLandmark};
 use crate::keys::keyed::{keys_of, split_group};
 use crate::keys::record_keys::PolygonKey;
+use crate::stored::storage::{StoredChain, StoredLandmark};
 use ordered_lists::NumberSet;
 use std::alloc::{AllocError, Global};
 use tl_layout::{

@@ -14,13 +14,13 @@ ghost use Rattle.tl_layout.specs.Tables.{HoldsByType};
 
 use crate::chart::Chart;
 use crate::fault::LinkFault;
-use crate::stored::{County, CountyIn, CountyOver};
 use crate::keys::record_keys::PolygonKey;
 use crate::linking::arena::{InArena, names_in, names_over};
 use crate::linking::building::name_bodies;
 use crate::linking::gathering::Polygons;
 use crate::linking::owned::Owned;
 use crate::linking::{build_county, sort_and_check};
+use crate::stored::{County, CountyIn, CountyOver};
 use bumpalo::Bump;
 use std::alloc::{AllocError, Global};
 use std::marker::Model;

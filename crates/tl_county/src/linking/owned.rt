@@ -3,11 +3,11 @@
 ghost use Rattle.std.specs.Prelude.{◌≡◌, ◌∷◌, [], ◌++◌, IfOk, flat_map};
 ghost use Rattle.tl_layout.specs.Fields.{Fields2};
 
-use crate::stored::landmark::Landmark;
 use crate::linking::building::{
     ChainBuilder, LandmarkBuilder, OneChain, join_bodies, join_feats, join_points, join_ranges,
     surroundings_of,
 };
+use crate::stored::landmark::Landmark;
 use std::alloc::{AllocError, Global};
 use tl_layout::{Rec1, Rec2, Rec7, Rec8};
 use tl_shape::{Chain, Shape};

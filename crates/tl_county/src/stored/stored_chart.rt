@@ -4,9 +4,9 @@ ghost use Rattle.ordered_lists.specs.Entries.{map_values};
 ghost use Rattle.tl_county.specs.StoredCounty.{county_with};
 
 use crate::chart::Chart;
+use crate::keys::record_keys::PolygonKey;
 use crate::stored::StoredCounty;
 use crate::stored::storage::{StoredChain, StoredLandmark, StoredName};
-use crate::keys::record_keys::PolygonKey;
 use ordered_lists::place_of;
 use tl_layout::{Body1, Body5, Body7, BodyI, BodyP, Point, Ranges, Rec8, Side};
 

@@ -147,7 +147,11 @@ pub(super) fn admitted_in_of<'a>(
 }
 
 /// The chains of an order, in that order.
-pub(super) fn chains_by_shape(rt: &impl Abort, alloc: Global, order: &ShapeOrder) -> Vec<DirectedChain> {
+pub(super) fn chains_by_shape(
+    rt: &impl Abort,
+    alloc: Global,
+    order: &ShapeOrder,
+) -> Vec<DirectedChain> {
     Vec::from_slice(alloc, order.by_shape()).expect(rt, "there is memory")
 }
 

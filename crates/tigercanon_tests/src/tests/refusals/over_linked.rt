@@ -6,7 +6,7 @@ ghost use Rattle.tl_county.specs.Packing.{type_after_type};
 
 use super::super::comparing::same;
 use super::super::sets::Set;
-use super::linking::{is_of_set, chains_by_shape};
+use super::linking::{chains_by_shape, is_of_set};
 use super::reading::tables_of;
 use super::{Call, Run, ended, has_refused, refuse};
 use bumpalo::Bump;

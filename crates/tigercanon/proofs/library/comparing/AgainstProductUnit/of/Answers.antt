@@ -5,5 +5,5 @@ use Rattle.tigercanon.proofs.library.comparing.AgainstProductUnit.of.Goals as go
 pub returns : goal.returns
 returns g c = λ a first b says.
     match_of _ _ c.make_of.result
-    (if_ok_by c.make_of.result (λ conclusion found. found a first) (c.make_of.ensures.made b says))
+    (if_ok_by c.make_of.result (λ comparison found. found a first) (c.make_of.ensures.made b says))
     (if_err_by c.make_of.result (λ fault reported. (acceptable a _ _ first, reported)) (c.make_of.ensures.refused b says))
