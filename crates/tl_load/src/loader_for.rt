@@ -5,29 +5,24 @@ ghost use Rattle.std.specs.Prelude.{◌≡◌, ◌≤◌, ◌<◌, ◌+◌, ℕ,
 ghost use Rattle.std.specs.Result.{IsErr};
 ghost use Rattle.tl_layout.specs.Bytes.{AreAllowed};
 ghost use Rattle.tl_layout.specs.declared.record_type.Record.{Record};
-ghost use Rattle.tl_load.specs.Choice.{tiger, judged, as_record};
-ghost use Rattle.tl_load.specs.declared.fault.LineFault.TheVariants.{UnknownType};
-ghost use Rattle.tl_load.specs.declared.fault.LoadFault.TheVariants.{Memory};
-ghost use Rattle.tl_load.specs.Keeping.{WasFedInto, HasSome, IsSamePart, Lifts, total, bytes_used};
-ghost use Rattle.tl_load.specs.LineOf.{judged_as};
+ghost use Rattle.tl_load.specs.Choice.{tiger, judged};
+ghost use Rattle.tl_load.specs.Keeping.{WasFedInto, HasSome, IsSamePart, Lifts, bytes_used};
 ghost use Rattle.tl_load.specs.Lines.{IsWithoutLineFeed};
 ghost use Rattle.tl_load.specs.Loaded.{FedPart, IsNotDevice, is_device, IsOfLines, IsFaultHowever, IsWellAfter, all_parts};
 ghost use Rattle.tl_load.specs.Outcome.{SpellsWithin, FaultAt};
 ghost use Rattle.tl_load.specs.Sources.{Gave, StopsThere};
-ghost use Rattle.tl_load.specs.Steps.{Takes, Ends, Closes, Judges, JudgesAs, KeepsUnread, Adds, ReadsPart, TakesWell, with_fault};
+ghost use Rattle.tl_load.specs.Steps.{Takes, Ends, Closes, ReadsPart, TakesWell, with_fault};
+
+mod judging;
 
 use crate::collector::Collector;
-use crate::fault::{LineFault, LoadFault};
-use crate::judge::{is_full_line, judge_line};
+use crate::fault::LoadFault;
 use crate::line::{line_end, without_carriage_return};
 use crate::source::Source;
 use arrayvec::ArrayVec;
-use canonical_lines::Canonical;
 use std::alloc::Global;
 use std::marker::Model;
-use tl_layout::{
-    LONGEST_LINE, MOST_RECORDS, Rec1, Rec2, Rec4, Rec5, Rec6, Rec7, Rec8, RecI, RecP, Tabled,
-};
+use tl_layout::MOST_RECORDS;
 
 /// The most bytes of an unfinished line that are kept: the longest line and a CR.
 const LINE_BYTES: usize = 229;
@@ -104,141 +99,6 @@ impl<K: Collector> LoaderFor<K> {
         ensures { result ≡ self.now.parts }
     {
         self.parts
-    }
-
-    /// Keeps and counts the record of a line, unless there already are `limit` of its type.
-    #[inline(always)]
-    fn add<L: Tabled>(&mut self, found: L) -> Result<(), LoadFault>
-        ensures adds { Lifts K.holds (Adds (L.as_record found)) self.old result self.new }
-        ensures same_part { IsSamePart self.old self.new }
-        ensures unfinished { self.new.unfinished ≡ self.old.unfinished }
-        ensures judged { OnOk result (self.new.judged ≡ self.old.judged + 1) }
-        ensures one_more { OnOk result (total self.new.counts ≡ total self.old.counts + 1) }
-        ensures no_device { IfErr result IsNotDevice }
-    {
-        let rtype = L::RTYPE;
-        let count = self.counts[rtype as usize];
-        if self.limit <= count {
-            return Err(LoadFault::TooManyRecords { rtype });
-        }
-        match self.kept.push_record(found) {
-            Ok(()) => {
-                self.counts[rtype as usize] = count + 1;
-                self.judged += 1;
-                Ok(())
-            }
-            Err(_) => Err(LoadFault::Memory),
-        }
-    }
-
-    /// Keeps and counts the record of a full line without reading the line, if the collector can and there are fewer than
-    /// `limit` of its type. Returns whether it did.
-    #[inline(always)]
-    fn push_unread<L: Canonical>(&mut self, line: &[u8], is_clean: bool) -> Result<bool, LoadFault>
-        requires begins { take 1 line.now ≡ L.RTYPE ∷ [] }
-        requires clean { IsTrue is_clean → AreAllowed line.now }
-        ensures kept { IfOk result (λ was_kept. IsTrue was_kept → KeepsUnread K.holds line.now (as_record L.as_record (judged_as L.LEN L.reading line.now)) self.old self.new) }
-        ensures unchanged { IfOk result (λ was_kept. was_kept ≡ false → self.new ≡ self.old) }
-        ensures memory { IfErr result (λ f. f ≡ Memory) }
-        ensures same_part { IsSamePart self.old self.new }
-        ensures unfinished { self.new.unfinished ≡ self.old.unfinished }
-    {
-        if !is_full_line::<L>(line, is_clean) {
-            return Ok(false);
-        }
-        let rtype = L::RTYPE;
-        let count = self.counts[rtype as usize];
-        if count >= self.limit {
-            return Ok(false);
-        }
-        match self.kept.push_line::<L>(line) {
-            Ok(true) => {
-                self.counts[rtype as usize] = count + 1;
-                self.judged += 1;
-                Ok(true)
-            }
-            Ok(false) => Ok(false),
-            Err(_error) => Err(LoadFault::Memory),
-        }
-    }
-
-    /// Reads the next line by the layout of its type, and keeps its record.
-    fn read_as<L: Tabled>(&mut self, line: &[u8], is_clean: bool) -> Result<(), LoadFault>
-        requires parts { self.old.parts < u64.MAX }
-        requires begins { take 1 line.now ≡ L.RTYPE ∷ [] }
-        requires clean { IsTrue is_clean → AreAllowed line.now }
-        ensures judges { Lifts K.holds (JudgesAs line.now (as_record L.as_record (judged_as L.LEN L.reading line.now))) self.old result self.new }
-        ensures short { OnOk result (length line.now ≤ LONGEST_LINE) }
-        ensures same_part { IsSamePart self.old self.new }
-        ensures unfinished { self.new.unfinished ≡ self.old.unfinished }
-        ensures judged { OnOk result (self.new.judged ≡ self.old.judged + 1) }
-        ensures one_more { OnOk result (total self.new.counts ≡ total self.old.counts + 1) }
-        ensures no_device { IfErr result IsNotDevice }
-    {
-        match judge_line::<L>(line, is_clean) {
-            Ok(found) => self.add(found),
-            Err(fault) => Err(fault.at(self.parts + 1, self.judged + 1)),
-        }
-    }
-
-    /// Judges the next line by the layout of its type.
-    fn judge_as<L: Canonical>(&mut self, line: &[u8], is_clean: bool) -> Result<(), LoadFault>
-        requires parts { self.old.parts < u64.MAX }
-        requires begins { take 1 line.now ≡ L.RTYPE ∷ [] }
-        requires clean { IsTrue is_clean → AreAllowed line.now }
-        ensures judges { Lifts K.holds (JudgesAs line.now (as_record L.as_record (judged_as L.LEN L.reading line.now))) self.old result self.new }
-        ensures short { OnOk result (length line.now ≤ LONGEST_LINE) }
-        ensures same_part { IsSamePart self.old self.new }
-        ensures unfinished { self.new.unfinished ≡ self.old.unfinished }
-        ensures judged { OnOk result (self.new.judged ≡ self.old.judged + 1) }
-        ensures one_more { OnOk result (total self.new.counts ≡ total self.old.counts + 1) }
-        ensures no_device { IfErr result IsNotDevice }
-    {
-        match self.push_unread::<L>(line, is_clean) {
-            Ok(true) => Ok(()),
-            Ok(false) => self.read_as::<L>(line, is_clean),
-            Err(fault) => Err(fault),
-        }
-    }
-
-    /// Rejects a line whose first byte isn't a record type.
-    fn refuse_unknown(&mut self, line: &[u8]) -> Result<(), LoadFault>
-        requires parts { self.old.parts < u64.MAX }
-        requires unknown { judged line.now ≡ Err UnknownType }
-        ensures judges { Lifts K.holds (Judges line.now) self.old result self.new }
-        ensures refused { IsErr result }
-        ensures unchanged { self.new ≡ self.old }
-        ensures no_device { IfErr result IsNotDevice }
-    {
-        Err(LineFault::UnknownType.at(self.parts + 1, self.judged + 1))
-    }
-
-    /// Judges the next line by its first byte. The line has neither its LF nor the CR before it. If `is_clean`, each of its
-    /// bytes is known to be allowed in a line.
-    #[tactic(auto, unfolding(crate::specs::Choice::judged, crate::specs::Choice::judged_by))]
-    fn judge_next(&mut self, line: &[u8], is_clean: bool) -> Result<(), LoadFault>
-        requires parts { self.old.parts < u64.MAX }
-        requires clean { IsTrue is_clean → AreAllowed line.now }
-        ensures judges { Lifts K.holds (Judges line.now) self.old result self.new }
-        ensures short { OnOk result (length line.now ≤ LONGEST_LINE) }
-        ensures same_part { IsSamePart self.old self.new }
-        ensures unfinished { self.new.unfinished ≡ self.old.unfinished }
-        ensures judged { OnOk result (self.new.judged ≡ self.old.judged + 1) }
-        ensures one_more { OnOk result (total self.new.counts ≡ total self.old.counts + 1) }
-        ensures no_device { IfErr result IsNotDevice }
-    {
-        match line {
-            [b'1', ..] => self.judge_as::<Rec1>(line, is_clean),
-            [b'2', ..] => self.judge_as::<Rec2>(line, is_clean),
-            [b'4', ..] => self.judge_as::<Rec4>(line, is_clean),
-            [b'5', ..] => self.judge_as::<Rec5>(line, is_clean),
-            [b'6', ..] => self.judge_as::<Rec6>(line, is_clean),
-            [b'7', ..] => self.judge_as::<Rec7>(line, is_clean),
-            [b'8', ..] => self.judge_as::<Rec8>(line, is_clean),
-            [b'I', ..] => self.judge_as::<RecI>(line, is_clean),
-            [b'P', ..] => self.judge_as::<RecP>(line, is_clean),
-            _ => self.refuse_unknown(line),
-        }
     }
 
     /// Judges a line at its 230th byte, by its first 229 bytes: it is too long or has no known type.
