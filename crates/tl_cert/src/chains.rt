@@ -105,7 +105,7 @@ fn have_same_content<A: Chart, B: Chart>(
     if !body {
         return false;
     }
-    b.topology_at(other).is_same(directed.link_body(a))
+    b.topology_at(other).is_same(directed.topology(a))
 }
 
 /// Whether a chain of `b` has the nodes and the sides of a directed chain of `a` under their new numbers.

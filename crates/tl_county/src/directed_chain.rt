@@ -57,7 +57,7 @@ impl DirectedChain {
     }
 
     /// The content of its type I record.
-    pub fn link_body<C: Chart>(self, chart: &C) -> Option<BodyI>
+    pub fn topology<C: Chart>(self, chart: &C) -> Option<BodyI>
         ensures { result ≡ option_map (λ c. c.topology) (directed_chain (C.county chart.now) self) }
     {
         chart.topology_at(self.place as usize)

@@ -1,9 +1,10 @@
 //! One county: the map that a list of records describes, when the records fit together, and when two counties are the same map.
 //!
-//! Start with `link`, or with `link_in` for a county in an arena. The program itself calls `link_in_order` and then `LinkedRecords::county`, which leaves the records in place. A county is read by its
-//! getters. Whatever its storage, it is also read by the calls of `Chart`: by place (`tlid_at`), by number (`chain_body_of`), and
-//! at a place that is known to exist (`tlid_there`). To store a county another way, implement `Chart`. There is a proved caller in
-//! `layers.rt` of the crate `uses`.
+//! Start with `link`, or with `link_in` for a county in an arena. The program itself calls `link_in_order` and then
+//! `LinkedRecords::county`, which leaves the records in place. A county is read by its getters. Whatever its storage, it is also read
+//! by the calls of `Chart`: by place (`tlid_at`), by number (`chain_body_of`), and at a place that is known to exist (`tlid_there`). To
+//! store a county another way, implement `Chart`. `Masked` is a county under a mask, `Lent` one behind a reference, and a
+//! `DirectedChain` reads a chain from either end. There is a proved caller in `layers.rt` of the crate `uses`.
 #![tactic(auto)]
 
 mod body_order;

@@ -164,7 +164,7 @@ impl<C: Chart, S: Evidence> Chart for Arranged<C, S> {
 
     fn topology_at(&self, place: usize) -> Option<BodyI> {
         match self.directed_at(place) {
-            Some(directed) => directed.link_body(&self.chart),
+            Some(directed) => directed.topology(&self.chart),
             None => None,
         }
     }

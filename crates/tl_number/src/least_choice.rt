@@ -68,20 +68,20 @@ fn arrange_choice<'a, C: Chart>(
 
 /// A choice in some form, and its number.
 #[derive(Drop)]
-struct Numbered<V> {
+struct NumberedChoice<V> {
     number: u64,
     choice: V,
 }
 
 /// The lesser of two choices: `other` if `one` comes after it.
-fn lesser<V: Drop>(ordering: Ordering, one: Numbered<V>, other: Numbered<V>) -> Numbered<V>
+fn lesser<V: Drop>(ordering: Ordering, one: NumberedChoice<V>, other: NumberedChoice<V>) -> NumberedChoice<V>
     ensures { result ≡ cond (is_gt ordering) other one }
 {
     if ordering.is_gt() { other } else { one }
 }
 
 /// The number of a choice.
-fn number_of<V: Drop>(numbered: Numbered<V>) -> u64
+fn number_of<V: Drop>(numbered: NumberedChoice<V>) -> u64
     ensures { result ≡ numbered.number }
 {
     numbered.number
@@ -93,9 +93,9 @@ fn next_least<'a, C: Chart>(
     alloc: Global,
     chart: &'a C,
     order: &ShapeOrder,
-    least: Numbered<Arranged<Lent<'a, C>>>,
+    least: NumberedChoice<Arranged<Lent<'a, C>>>,
     number: u64,
-) -> Result<Numbered<Arranged<Lent<'a, C>>>, AllocError>
+) -> Result<NumberedChoice<Arranged<Lent<'a, C>>>, AllocError>
     requires known { LeavesChoices (C.county chart.now) order.now }
     requires choice { arranged_county least.choice ≡ arranged (C.county chart.now) (numbered_choice (C.county chart.now) least.number) }
     requires source { ⟦<Lent<'a, C> as Chart>⟧.county (source_of least.choice) ≡ C.county chart.now }
@@ -112,7 +112,7 @@ fn next_least<'a, C: Chart>(
     match arrange_choice(alloc, chart, order, number) {
         Ok(choice) => {
             let ordering = compare_texts(&least.choice, &choice);
-            Ok(lesser(ordering, least, Numbered { number, choice }))
+            Ok(lesser(ordering, least, NumberedChoice { number, choice }))
         }
         Err(error) => {
             // One call for the prover, which otherwise reads the drop of each table.
@@ -127,7 +127,7 @@ fn next_least<'a, C: Chart>(
 fn compare_number<C: Chart>(
     chart: &C,
     order: &ShapeOrder,
-    least: &Numbered<Vec<DirectedChain>>,
+    least: &NumberedChoice<Vec<DirectedChain>>,
     arrangement: &mut [DirectedChain],
     number: u64,
 ) -> Ordering
@@ -150,7 +150,7 @@ fn compare_number<C: Chart>(
 fn compare_next<C: Chart>(
     chart: &C,
     order: &ShapeOrder,
-    least: &Numbered<Vec<DirectedChain>>,
+    least: &NumberedChoice<Vec<DirectedChain>>,
     arrangement: &mut Vec<DirectedChain>,
     number: u64,
 ) -> Ordering
@@ -171,14 +171,14 @@ fn least_of_type_1<C: Chart>(
     alloc: Global,
     chart: &C,
     order: &ShapeOrder,
-) -> Result<Numbered<Vec<DirectedChain>>, AllocError>
+) -> Result<NumberedChoice<Vec<DirectedChain>>, AllocError>
     requires { LeavesChoices (C.county chart.now) order.now }
     ensures arrangement { IfOk result (λ least. least.choice.items ≡ (moved other_way order.now.places (order.now.by_shape, least.number)).0) }
     ensures least { IfOk result (λ least. IsLeastOne (C.county chart.now) (choices (C.county chart.now)) least.number) }
 {
     let mut arrangement = arrangement_in_order(alloc, order)?;
     let choice = arrangement_of_number(alloc, order, 0)?;
-    let mut least = Numbered { number: 0, choice };
+    let mut least = NumberedChoice { number: 0, choice };
     for number in 1..order.choices() {
         let ordering = compare_next(chart, order, &least, &mut arrangement, number);
         if ordering.is_le() {
@@ -195,7 +195,7 @@ fn least_of_type_1<C: Chart>(
 fn is_other_tie<C: Chart>(
     chart: &C,
     order: &ShapeOrder,
-    least: &Numbered<Vec<DirectedChain>>,
+    least: &NumberedChoice<Vec<DirectedChain>>,
     arrangement: &mut [DirectedChain],
     number: u64,
 ) -> bool
@@ -222,7 +222,7 @@ fn is_other_tie<C: Chart>(
 fn next_tie<C: Chart>(
     chart: &C,
     order: &ShapeOrder,
-    least: &Numbered<Vec<DirectedChain>>,
+    least: &NumberedChoice<Vec<DirectedChain>>,
     arrangement: &mut [DirectedChain],
     first: u64,
 ) -> Option<u64>
@@ -252,7 +252,7 @@ fn least_of_ties<C: Chart>(
     alloc: Global,
     chart: &C,
     order: &ShapeOrder,
-    first: &Numbered<Vec<DirectedChain>>,
+    first: &NumberedChoice<Vec<DirectedChain>>,
     arrangement: &mut [DirectedChain],
     tie: u64,
 ) -> Result<u64, AllocError>
@@ -265,7 +265,7 @@ fn least_of_ties<C: Chart>(
     ensures { IfOk result (IsLeastBelow (C.county chart.now) (choices (C.county chart.now))) }
 {
     let choice = arrange_choice(alloc, chart, order, first.number)?;
-    let mut least = Numbered {
+    let mut least = NumberedChoice {
         number: first.number,
         choice,
     };

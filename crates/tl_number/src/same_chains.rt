@@ -96,7 +96,7 @@ fn have_same_content<C: Chart>(chart: &C, one: DirectedChain, other: DirectedCha
     if !body {
         return false;
     }
-    one.link_body(chart).is_same(other.link_body(chart))
+    one.topology(chart).is_same(other.topology(chart))
 }
 
 /// Whether two directed chains have the same nodes and the same sides.

@@ -83,7 +83,7 @@ fn fails_at(rt: &impl Abort, alloc: Global, set: &[u8], read: u64) {
     let device = Some(LoadFault::Device);
     same(
         rt,
-        "what is told, in the end",
+        "what is reported in the end",
         &(reported, fault),
         &(wanted, device),
     );

@@ -87,5 +87,5 @@ fn the_program_exits_with_the_status_of_its_job(rt: HostRuntime) {
     let status = exit_status(Err(PlanFault::Memory), &mut err);
     same(&rt, "of no job", &status, &5);
     let held = err.into_inner().held;
-    same_items(&rt, "what is told", &held, b"refused 9 Memory\n");
+    same_items(&rt, "what is reported", &held, b"refused 9 Memory\n");
 }

@@ -12,6 +12,6 @@ returns g c =
     decides_same c.is_same.result c.is_same.ensures
     (λ e. record {
       body = sym c.chain_body_at.ensures ∙ c.is_same-body.ensures.0 yes ∙ c.body.ensures ∙ sym (body_kept r q);
-      topology = sym c.topology_at.ensures ∙ e ∙ c.link_body.ensures ∙ sym (topology_kept r q);
+      topology = sym c.topology_at.ensures ∙ e ∙ c.topology.ensures ∙ sym (topology_kept r q);
     })
-    (λ h. c.topology_at.ensures ∙ h.topology ∙ topology_kept r q ∙ sym c.link_body.ensures)
+    (λ h. c.topology_at.ensures ∙ h.topology ∙ topology_kept r q ∙ sym c.topology.ensures)

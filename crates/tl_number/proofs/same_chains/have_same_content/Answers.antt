@@ -8,6 +8,6 @@ returns g c =
     decides_same c.is_same.result c.is_same.ensures
     (λ e. record {
       body = sym c.body.ensures ∙ c.is_same-body.ensures.0 yes ∙ c.body-2.ensures;
-      topology = sym c.link_body.ensures ∙ e ∙ c.link_body-2.ensures;
+      topology = sym c.topology.ensures ∙ e ∙ c.topology-2.ensures;
     })
-    (λ h. c.link_body.ensures ∙ h.topology ∙ sym c.link_body-2.ensures)
+    (λ h. c.topology.ensures ∙ h.topology ∙ sym c.topology-2.ensures)

@@ -5,7 +5,7 @@ use Rattle.tl_number.proofs.arranged_chart.ArrangedChart.topology_at.Goals as go
 
 pub returns-in-Some : goal.returns-in-Some
 returns-in-Some g c =
-    c.link_body.ensures
+    c.topology.ensures
     ∙ stated (g.C.Chart.county c.args.self.now.chart) c.args.self.now.arrangement.items
     (g.met.C.Chart.is_county c.args.self.now.chart) c.args.self.now.whole
     (λ (o : Option Chain). option_map (λ (chain : Chain). chain.topology) o) (λ (o : Option Chain). option_map (λ
