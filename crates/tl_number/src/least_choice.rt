@@ -74,7 +74,11 @@ struct NumberedChoice<V> {
 }
 
 /// The lesser of two choices: `other` if `one` comes after it.
-fn lesser<V: Drop>(ordering: Ordering, one: NumberedChoice<V>, other: NumberedChoice<V>) -> NumberedChoice<V>
+fn lesser<V: Drop>(
+    ordering: Ordering,
+    one: NumberedChoice<V>,
+    other: NumberedChoice<V>,
+) -> NumberedChoice<V>
     ensures { result ≡ cond (is_gt ordering) other one }
 {
     if ordering.is_gt() { other } else { one }
