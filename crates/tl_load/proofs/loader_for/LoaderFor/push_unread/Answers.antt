@@ -6,7 +6,7 @@ use Rattle.tl_load.specs.Outcome.{after_verdict}
 use Rattle.tl_load.specs.declared.fault.LineFault.{LineFault}
 use Rattle.tl_load.proofs.Counts.{adds_below, counted_more, total_up, loader_with}
 use Rattle.tl_load.proofs.TextLemmas.{judged_full_line}
-use Rattle.tl_load.proofs.loader_for.judging.LoaderFor.push_unread.Goals as goal
+use Rattle.tl_load.proofs.loader_for.LoaderFor.push_unread.Goals as goal
 
 pub invariant_of-self : goal.invariant_of-self
 invariant_of-self g c =

@@ -1,7 +1,7 @@
 use Rattle.std.proofs.Common.{◌≡◌, sym, ◌∙◌, arith}
 use Rattle.tl_layout.specs.RecordText.{type_of}
 use Rattle.tl_load.proofs.Counts.{type_low, adds_full, adds_below, counted_more, total_up, loader_with}
-use Rattle.tl_load.proofs.loader_for.judging.LoaderFor.add.Goals as goal
+use Rattle.tl_load.proofs.loader_for.LoaderFor.add.Goals as goal
 
 pub bounds-self-inside-rtype : goal.bounds-self-inside-rtype
 bounds-self-inside-rtype g c =
