@@ -16,7 +16,7 @@ use crate::fault::{LineFault, LoadFault};
 use crate::judge::{is_full_line, judge_line};
 use crate::loader_for::LoaderFor;
 use canonical_lines::Canonical;
-use tl_layout::{Rec1, Rec2, Rec4, Rec5, Rec6, Rec7, Rec8, RecI, RecP, Tabled};
+use tl_layout::{LONGEST_LINE, Rec1, Rec2, Rec4, Rec5, Rec6, Rec7, Rec8, RecI, RecP, Tabled};
 
 impl<K: Collector> LoaderFor<K> {
     /// Keeps and counts the record of a line, unless there already are `limit` of its type.
