@@ -11,7 +11,7 @@ use Rattle.tl_county.specs.CountyRules.{IsCounty, tlids}
 use Rattle.ordered_lists.specs.Orders.{times}
 use Rattle.tl_county.specs.Laws.KeyOrders.{points_keys}
 use Rattle.ordered_lists.proofs.ByKey.Keys.{IsKeyOrder, nat_keys, times-permutation}
-use Rattle.tl_profile.specs.Choices.{is_either_way, is_settled, open_places, place_of}
+use Rattle.tl_profile.specs.Choices.{is_either_way, is_settled, open_places, open_place_at}
 use Rattle.tl_profile.specs.ShapeOrder.{AreInShapeOrder, points_along}
 use Rattle.tl_county.specs.declared.directed_chain.DirectedChain.{DirectedChain}
 use Rattle.tl_profile.specs.declared.open_places.OpenPlace.{OpenPlace}
@@ -87,11 +87,11 @@ open_within : {K : Type 0} {cmp : K → K → Ordering} (o : IsKeyOrder cmp) (ei
     → place + length keys ≤ count → AreWithin count (open_places cmp either place keys)
 open_within o either count place [] few = tt
 open_within {K} {cmp} o either count place (k ∷ ks) few =
-    go (is_settled (place_of cmp either place k ks)) (open_within o either count (suc place) ks (omega (arith, few)))
+    go (is_settled (open_place_at cmp either place k ks)) (open_within o either count (suc place) ks (omega (arith, few)))
   where
     go : (b : Bool) → AreWithin count (open_places cmp either (suc place) ks)
         → AreWithin count (cond b (open_places cmp either (suc place) ks)
-        (place_of cmp either place k ks ∷ open_places cmp either (suc place) ks))
+        (open_place_at cmp either place k ks ∷ open_places cmp either (suc place) ks))
     go true rest = rest
     go false rest = (record { some = omega arith; there = omega (arith, alike_few o (k ∷ ks), few) }, rest)
 

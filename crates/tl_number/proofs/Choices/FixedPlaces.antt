@@ -5,7 +5,7 @@ use Rattle.std.proofs.lemmas.Bool.{ltb-true, ltb-false}
 use Rattle.std.proofs.lemmas.List.Sorted.{length_permutation, IsPermutation-insert}
 use Rattle.std.specs.List.{AllByRecursion, insert}
 use Rattle.ordered_lists.proofs.Lists.Elements.{all_weaker}
-use Rattle.tl_profile.specs.Choices.{is_settled, open_places, place_of}
+use Rattle.tl_profile.specs.Choices.{is_settled, open_places, open_place_at}
 use Rattle.tl_profile.specs.declared.open_places.OpenPlace.{OpenPlace}
 use Rattle.tl_number.specs.MovedChains.{AgreeApart, AreWithin, IsApart, IsWithin, StandInOrder}
 use Rattle.tl_number.specs.NumberedChoices.{turned_by, first_stood, moved}
@@ -130,22 +130,22 @@ past_first P at places outside below place apart = go (nat_lt place (at.place + 
 module _ {K : Type 0} (cmp : K → K → Ordering) (either : K → Bool) where
   from_place : (low place : ℕ) (keys : List K) → low ≤ place → AllByRecursion (λ at. low ≤ at.place) (open_places cmp either place keys)
   from_place low place [] l = tt
-  from_place low place (k ∷ ks) l = go (is_settled (place_of cmp either place k ks)) (from_place low (suc place) ks (omega (arith, l)))
+  from_place low place (k ∷ ks) l = go (is_settled (open_place_at cmp either place k ks)) (from_place low (suc place) ks (omega (arith, l)))
     where
       go : (b : Bool) → AllByRecursion (λ at. low ≤ at.place) (open_places cmp either (suc place) ks)
           → AllByRecursion (λ at. low ≤ at.place) (cond b (open_places cmp either (suc place) ks)
-          (place_of cmp either place k ks ∷ open_places cmp either (suc place) ks))
+          (open_place_at cmp either place k ks ∷ open_places cmp either (suc place) ks))
       go true rest = rest
       go false rest = (l, rest)
 
   pub open_in_order : (place : ℕ) (keys : List K) → StandInOrder (open_places cmp either place keys)
   open_in_order place [] = tt
   open_in_order place (k ∷ ks) =
-      go (is_settled (place_of cmp either place k ks)) (from_place place (suc place) ks (omega arith)) (open_in_order (suc place) ks)
+      go (is_settled (open_place_at cmp either place k ks)) (from_place place (suc place) ks (omega arith)) (open_in_order (suc place) ks)
     where
       go : (b : Bool) → AllByRecursion (λ at. place ≤ at.place) (open_places cmp either (suc place) ks)
           → StandInOrder (open_places cmp either (suc place) ks)
           → StandInOrder (cond b (open_places cmp either (suc place) ks)
-          (place_of cmp either place k ks ∷ open_places cmp either (suc place) ks))
+          (open_place_at cmp either place k ks ∷ open_places cmp either (suc place) ks))
       go true later rest = rest
       go false later rest = (later, rest)
