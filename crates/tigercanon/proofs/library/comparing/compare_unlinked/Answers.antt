@@ -6,7 +6,7 @@ use Rattle.tigercanon.proofs.library.comparing.compare_unlinked.Goals as goal
 pub returns-clause-found : goal.returns-clause-found
 returns-clause-found g c = λ a b says other.
     let made = ok_holds _ _ _ c.in_ok-made.ensures.ok (c.make_of.ensures.made a says) b other in
-    if_ok_by c.tag_set-2.result (λ comparison is. match_ok _ _ c.in_ok-made.made conclusion is made) c.tag_set-2.ensures.ok
+    if_ok_by c.tag_set-2.result (λ comparison is. match_ok _ _ c.in_ok-made.made comparison is made) c.tag_set-2.ensures.ok
 
 pub returns-clause-refused : goal.returns-clause-refused
 returns-clause-refused g c = λ a b says other.
