@@ -1,5 +1,5 @@
 -- By a column table: a line whose columns hold canonical texts is read as the record of their values, and is that record's
--- canonical spelling but for the version.
+-- canonical spelling, except for the version.
 use Rattle.std.proofs.Common.{◌≡◌, ℕ, zero, suc, ◌+◌, ◌-◌, ◌≤◌, List, [], ◌∷◌, ◌++◌, length, take, drop, true, Some, None, Option, refl, sym, ap}
 use Rattle.std.proofs.Common.{◌∙◌, subst, arith, append_assoc, codes, nat_eq, ◌&&◌}
 use Rattle.std.proofs.lemmas.Bool.{and_parts, eqb-true, leb-true}
@@ -262,7 +262,7 @@ alike line other e first last from =
 begins_with : (rtype : ℕ) (line : List ℕ) → columns 1 1 line ≡ rtype ∷ [] → with_version line ≡ (rtype ∷ codes "2006") ++ drop 5 line
 begins_with rtype line b = ap (λ (l : List ℕ). l ++ (codes "2006" ++ drop 5 line)) b
 
--- a full line of a table's type, each field of which was tested, is the canonical spelling of a record but for the version
+-- a full line whose fields all passed their tests is the canonical spelling of a record, except for the version
 pub tested_is_spelt : {R : Type 0} (rtype len : ℕ) (table : List (Row R)) (make : Makes table R) → IsTable rtype len table make
     → (line : List ℕ) → IsLine rtype len line → AreTested line table
     → (r : R) × IsSpeltLine (λ l. rows_reading table make l) (λ x. rows_spelling rtype table x) line r

@@ -1,4 +1,4 @@
--- Lines that are spelled canonically but for their version.
+-- Lines in canonical spelling, except for their version.
 use Rattle.std.specs.Prelude.{◌≡◌, ℕ, List, ◌++◌, Result, Ok, take, drop, codes}
 use Rattle.tl_layout.specs.declared.fault.FieldFault.{FieldFault}
 

@@ -9,9 +9,9 @@ use crate::places::{are_number_places, are_point_places};
 use crate::point::{is_point, is_point_or_none};
 use tl_layout::{Rec1, Rec2, Rec4, Rec5, Rec6, Rec7, Rec8, RecI, RecP, Tabled};
 
-/// A record type that may know of a line, without reading it, that it is spelled canonically but for its version.
+/// A record type that can recognise lines in canonical spelling, whatever their version, without reading them.
 pub trait Canonical: Tabled {
-    /// Whether the full line is known to be spelled canonically but for its version. `false` says nothing about the line.
+    /// Whether the full line is recognised: it is in canonical spelling, except for its version. `false` says nothing about the line.
     fn is_canonical(line: &[u8]) -> bool
         requires { IsLine Self.RTYPE Self.LEN line.now }
         ensures { IsTrue result → (r : Self) × IsSpeltLine Self.reading Self.spelling line.now r };

@@ -1,4 +1,4 @@
-//! Appending a line that is spelled canonically but for its version.
+//! Appending a line in canonical spelling, with the version 2006.
 
 ghost use Rattle.canonical_lines.specs.SpeltLine.{with_version};
 ghost use Rattle.std.specs.Prelude.{◌≡◌, ◌≤◌, [], ◌∷◌, ◌++◌, length, OnOk};
