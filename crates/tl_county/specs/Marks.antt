@@ -1,14 +1,14 @@
--- Marks by number, and type 4 records whose FEATs all have names.
-use Rattle.std.specs.Prelude.{◌≡◌, ℕ, true, List}
-use Rattle.std.specs.List.{AllByRecursion}
+-- Type 4 records whose FEATs all have names.
+use Rattle.std.specs.Prelude.{ℕ, Bool, List}
+use Rattle.std.specs.List.{list_all}
 use Rattle.std.specs.Ordering.{nat_cmp}
 use Rattle.tl_layout.specs.Fields.{Fields4}
 use Rattle.ordered_lists.specs.Orders.{stands_in}
 
--- each of these FEATs is one of the names
-abbrev pub AreNamed : List ℕ → List ℕ → Type 0
-AreNamed names feats = AllByRecursion (λ feat. stands_in nat_cmp feat names ≡ true) feats
+-- whether each of these FEATs is one of the names
+abbrev pub have_names : List ℕ → List ℕ → Bool
+have_names names feats = list_all (λ feat. stands_in nat_cmp feat names) feats
 
--- each FEAT of these records is one of the names
-abbrev pub AllNamed : List ℕ → List Fields4 → Type 0
-AllNamed names records = AllByRecursion (λ r. AreNamed names r.feats) records
+-- whether each FEAT of these records is one of the names
+abbrev pub all_have_names : List ℕ → List Fields4 → Bool
+all_have_names names records = list_all (λ r. have_names names r.feats) records

@@ -226,11 +226,5 @@ pub trait Tested {
 pub fn all_hold<T: Tested>(tested: &T) -> bool
     ensures { Decides result (AllByRecursion (T.Holds tested.now) (T.entries tested.now)) }
 {
-    for place in 0..tested.count() {
-        let holds = tested.holds(place);
-        if !holds {
-            return false;
-        }
-    }
-    true
+    (0..tested.count()).all(|place| tested.holds(place))
 }

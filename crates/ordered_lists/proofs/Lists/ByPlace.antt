@@ -1,11 +1,12 @@
 -- Lists that are read place by place, and tests that decide a property.
-use Rattle.std.proofs.Common.{◌≡◌, ◌<◌, ◌≤◌, ◌+◌, ℕ, zero, suc, List, [], ◌∷◌, length, take, get_or, Bool, false, Ordering}
-use Rattle.std.proofs.Common.{IfSome, slice_get, refl, sym, ap, ◌∙◌, subst, add-one, arith, IsPermutation}
+use Rattle.std.proofs.Common.{◌≡◌, ◌<◌, ◌≤◌, ◌+◌, ℕ, zero, suc, List, [], ◌∷◌, length, take, get_or, Bool, true, false, Ordering}
+use Rattle.std.proofs.Common.{IfSome, slice_get, refl, sym, ap, ◌∙◌, subst, add-one, zero-add, arith, IsPermutation}
 use Rattle.std.proofs.lemmas.Bool.{false≢true}
 use Rattle.std.proofs.lemmas.List.{take_all}
 use Rattle.std.proofs.lemmas.List.Sorted.{IsPermutation-sym, IsPermutation-trans}
-use Rattle.std.specs.Bool.{Decides}
-use Rattle.std.specs.List.{AllByRecursion}
+use Rattle.std.proofs.lemmas.List.FromFn.{length-range_with_len, get_or-range_with_len}
+use Rattle.std.specs.Bool.{Decides, MatchBool}
+use Rattle.std.specs.List.{AllByRecursion, AllWithin, HoldsAt, range_with_len}
 use Rattle.ordered_lists.specs.Orders.{IsInOrder, in_order}
 use Rattle.ordered_lists.proofs.Lists.InOrder.{in_order-in_order, in_order-permutation}
 use Rattle.ordered_lists.proofs.Lists.Permutations.{in_order-is_permutation}
@@ -26,23 +27,32 @@ decides_over b x x' y y' p q d = (λ t. sym p ∙ d.0 t ∙ q, λ e. d.1 (p ∙ 
 pub taken_all : {X : Type 0} (xs ys : List X) (i n : ℕ) → ys ≡ take i xs → length xs ≡ n → n ≤ i → ys ≡ xs
 taken_all xs ys i n e l h = e ∙ take_all i xs (omega (arith, l, h))
 
--- a property of the elements so far and of the next one
+-- a property of the elements at all places
 module _ {X : Type 0} (P : X → Type 0) where
-  all_next_at : (xs : List X) (i : ℕ) → AllByRecursion P (take i xs) → IfSome (slice_get xs i) P → AllByRecursion P (take (suc i) xs)
-  all_next_at [] i a p = tt
-  all_next_at (x ∷ xs) zero a p = (p, tt)
-  all_next_at (x ∷ xs) (suc i) a p = (a.0, all_next_at xs i a.1 p)
-
-  pub all_next : (xs : List X) (i : ℕ) → AllByRecursion P (take i xs) → IfSome (slice_get xs i) P → AllByRecursion P (take (i + 1) xs)
-  all_next xs i a p = rw add-one (all_next_at xs i a p)
+  pub all_by_place : (xs : List X) → ((i : ℕ) → i < length xs → IfSome (slice_get xs i) P) → AllByRecursion P xs
+  all_by_place [] h = tt
+  all_by_place (x ∷ xs) h = (h 0 (omega arith), all_by_place xs (λ i l. h (suc i) (omega (arith, l))))
 
   pub all_at : (xs : List X) → AllByRecursion P xs → (i : ℕ) → IfSome (slice_get xs i) P
   all_at [] a i = tt
   all_at (x ∷ xs) a zero = a.0
   all_at (x ∷ xs) a (suc i) = all_at xs a.1 i
 
-  pub all_seen : (xs : List X) (i n : ℕ) → AllByRecursion P (take i xs) → length xs ≡ n → n ≤ i → AllByRecursion P xs
-  all_seen xs i n a l h = subst (AllByRecursion P) (take_all i xs (omega (arith, l, h))) a
+  -- what a search of all places for one without the property says of all elements
+  pub places_decide : (xs : List X) (n : ℕ) → length xs ≡ n → (r : Bool) → MatchBool r
+      (AllWithin (λ i. IfSome (slice_get xs i) P) (range_with_len 0 n) 0 (length (range_with_len 0 n)))
+      ((k : ℕ) × (k < length (range_with_len 0 n)) × HoldsAt (λ i. IfSome (slice_get xs i) P → ⊥) (range_with_len 0 n) k)
+      → Decides r (AllByRecursion P xs)
+  places_decide xs n same true all = (
+    λ e. all_by_place xs (λ i l. let there : i < n = omega (arith, l, same) in
+        subst (λ place. IfSome (slice_get xs place) P) (get_or-range_with_len 0 n i 0 there ∙ zero-add i)
+        (all i 0 (omega arith) (omega (arith, there, length-range_with_len 0 n)))),
+    λ a. refl,
+  )
+  places_decide xs n same false found = (
+    λ e. absurd (false≢true e),
+    λ a. absurd (found.2 0 (all_at xs a _)),
+  )
 
 -- two lists are equal so far and at the next place
 module _ {X : Type 0} where

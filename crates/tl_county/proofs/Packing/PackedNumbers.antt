@@ -1,8 +1,5 @@
 -- The records of each type of a packed county, and their numbers.
-use Rattle.std.proofs.Common.{◌≡◌, ◌<◌, ◌==◌, ℕ, suc, List, [], ◌∷◌, map, flat_map}
-use Rattle.std.proofs.Common.{filter_map, cond}
-use Rattle.std.proofs.Common.{Less, Equal, Greater, refl, ap, ◌∙◌, arith, nat_cmp}
-use Rattle.std.proofs.lemmas.Bool.{lt-ltb}
+use Rattle.std.proofs.Common.{◌≡◌, ◌<◌, ℕ, suc, List, [], ◌∷◌, map, flat_map, filter_map, Less, refl, ap, ◌∙◌, arith, nat_cmp}
 use Rattle.std.specs.List.{AllByRecursion}
 use Rattle.std.specs.List.Sorted.{IsStrictlySortedBy}
 use Rattle.std.specs.Ordering.{on}
@@ -23,28 +20,28 @@ use Rattle.ordered_lists.proofs.ByKey.Keys.{apart_from_sorted}
 use Rattle.ordered_lists.proofs.Lists.Elements.{map-map, all_map, all_everywhere}
 use Rattle.tl_layout.specs.RecordTypes.{Type1, Type2, Type4, Type5, Type6, Type7, Type8, TypeI, TypeP}
 use Rattle.tl_county.specs.Laws.PackedTypes.{of_its_type}
+use Rattle.tl_county.proofs.Packing.Repacking.{less}
+
+-- records that are made with a number have it
+own : {X Y : Type 0} (number : X → ℕ) (n : ℕ) (make : Y → X) → ((y : Y) → number (make y) ≡ n) → (ys : List Y)
+    → AllByRecursion (λ x. number x ≡ n) (map make ys)
+own number n make same ys = all_map (λ x. number x ≡ n) make ys (all_everywhere (λ y. number (make y) ≡ n) same ys)
 
 -- each record of an entry has its number
 pub two_own : (e : ℕ × Chain) → AllByRecursion (λ x. two_tlid x ≡ e.0) (packed_twos e)
-two_own e = all_map (λ x. two_tlid x ≡ e.0) (λ (piece : ℕ × List _). record { tlid = e.0; rtsq = piece.0; points = piece.1 })
+two_own e = own two_tlid e.0 (λ (piece : ℕ × List _). record { tlid = e.0; rtsq = piece.0; points = piece.1 }) (λ piece. refl)
     (numbered_from 1 (in_pieces 10 (inner_points e.1.points)))
-    (all_everywhere (λ piece. e.0 ≡ e.0) (λ piece. refl) (numbered_from 1 (in_pieces 10 (inner_points e.1.points))))
 
 pub four_own : (e : ℕ × Chain) → AllByRecursion (λ x. four_tlid x ≡ e.0) (packed_fours e)
-four_own e = all_map (λ x. four_tlid x ≡ e.0) (λ (piece : ℕ × List ℕ). record { tlid = e.0; rtsq = piece.0; feats = piece.1 })
+four_own e = own four_tlid e.0 (λ (piece : ℕ × List ℕ). record { tlid = e.0; rtsq = piece.0; feats = piece.1 }) (λ piece. refl)
     (numbered_from 1 (in_pieces 5 e.1.feats))
-    (all_everywhere (λ piece. e.0 ≡ e.0) (λ piece. refl) (numbered_from 1 (in_pieces 5 e.1.feats)))
 
 pub six_own : (e : ℕ × Chain) → AllByRecursion (λ x. six_tlid x ≡ e.0) (packed_sixes e)
-six_own e = all_map (λ x. six_tlid x ≡ e.0) (λ (piece : ℕ × Ranges). record { tlid = e.0; rtsq = piece.0; ranges = piece.1 })
-    (numbered_from 1 e.1.ranges) (all_everywhere (λ piece. e.0 ≡ e.0) (λ piece. refl) (numbered_from 1 e.1.ranges))
+six_own e = own six_tlid e.0 (λ (piece : ℕ × Ranges). record { tlid = e.0; rtsq = piece.0; ranges = piece.1 }) (λ piece. refl)
+    (numbered_from 1 e.1.ranges)
 
 pub seven_own : (e : ℕ × List Body7) → AllByRecursion (λ x. seven_land x ≡ e.0) (packed_sevens e)
-seven_own e = all_map (λ x. seven_land x ≡ e.0) (λ body. record { land = e.0; body = body }) e.1
-    (all_everywhere (λ body. e.0 ≡ e.0) (λ body. refl) e.1)
-
-less : (m n : ℕ) → m < n → nat_cmp m n ≡ Less
-less m n h = ap (λ b. cond b Less (cond (m == n) Equal Greater)) (lt-ltb m n h)
+seven_own e = own seven_land e.0 (λ body. record { land = e.0; body = body }) (λ body. refl) e.1
 
 -- numbers that count up ascend
 pub numbered_strict : {X : Type 0} (i : ℕ) (xs : List X) → IsStrictlySortedBy nat_cmp (map (λ (e : ℕ × X). e.0) (numbered_from i xs))

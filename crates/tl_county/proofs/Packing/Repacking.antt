@@ -117,14 +117,14 @@ pub greater : (m n : ℕ) → n < m → nat_cmp m n ≡ Greater
 greater m n h = nat_cmp_total.antisymm m n ∙ ap ordering_reverse (less n m h)
 
 -- two numbers that increase with two others have the same order
-rising : (f : ℕ → ℕ) (i j : ℕ) → (i < j → f i < f j) → (j < i → f j < f i) → is_gt (nat_cmp (f i) (f j)) ≡ is_gt (nat_cmp i j)
+rising : (f : ℕ → ℕ) (i j : ℕ) → (i < j → f i < f j) → (j < i → f j < f i) → nat_cmp (f i) (f j) ≡ nat_cmp i j
 rising f i j up down = go (cases_order i j)
   where
-    go : (i ≡ j) ⊎ ((i < j) ⊎ (j < i)) → is_gt (nat_cmp (f i) (f j)) ≡ is_gt (nat_cmp i j)
-    go (inl e) = ap is_gt (ap (nat_cmp (f i)) (ap f (sym e)) ∙ tied_itself nat_cmp_total (f i)
-        ∙ sym (ap (nat_cmp i) (sym e) ∙ tied_itself nat_cmp_total i))
-    go (inr (inl lt)) = ap is_gt (less (f i) (f j) (up lt) ∙ sym (less i j lt))
-    go (inr (inr gt)) = ap is_gt (greater (f i) (f j) (down gt) ∙ sym (greater i j gt))
+    go : (i ≡ j) ⊎ ((i < j) ⊎ (j < i)) → nat_cmp (f i) (f j) ≡ nat_cmp i j
+    go (inl e) = ap (nat_cmp (f i)) (ap f (sym e)) ∙ tied_itself nat_cmp_total (f i)
+        ∙ sym (ap (nat_cmp i) (sym e) ∙ tied_itself nat_cmp_total i)
+    go (inr (inl lt)) = less (f i) (f j) (up lt) ∙ sym (less i j lt)
+    go (inr (inr gt)) = greater (f i) (f j) (down gt) ∙ sym (greater i j gt)
 
 -- the number is one of the list's numbers
 abbrev Stands : {X : Type 0} → (X → ℕ) → List X → ℕ → Type 0
@@ -143,7 +143,7 @@ sequence_kept {X} tlid rtsq f new kt kr n xs up =
     ap (in_order (on rtsq nat_cmp)) (number-kept tlid f kt n xs)
     ∙ order-changed (on rtsq nat_cmp) f (λ x. (tlid x ≡ n) × Stands rtsq (of_number tlid n xs) (rtsq x))
     (λ x y p q. ap is_gt (ap₂ nat_cmp (kr x ∙ ap (λ m. new m (rtsq x)) p.0) (kr y ∙ ap (λ m. new m (rtsq y)) q.0))
-    ∙ rising (new n) (rtsq x) (rtsq y) (up (rtsq x) (rtsq y) p.1 q.1) (up (rtsq y) (rtsq x) q.1 p.1))
+    ∙ ap is_gt (rising (new n) (rtsq x) (rtsq y) (up (rtsq x) (rtsq y) p.1 q.1) (up (rtsq y) (rtsq x) q.1 p.1)))
     (of_number tlid n xs)
     (all_both (λ x. tlid x ≡ n) (λ x. Stands rtsq (of_number tlid n xs) (rtsq x)) (of_number tlid n xs)
     (of_number-all tlid n xs) (all_standing rtsq (of_number tlid n xs)))
@@ -153,23 +153,13 @@ flat_map-kept : {X Y : Type 0} (c : X → List Y) (f : X → X) → ((x : X) →
 flat_map-kept c f k [] = refl
 flat_map-kept c f k (x ∷ xs) = λ i. k x i ++ flat_map-kept c f k xs i
 
--- numbers that increase with others are equal if those are
-even : (f : ℕ → ℕ) (i j : ℕ) → (i < j → f i < f j) → (j < i → f j < f i) → is_eq (nat_cmp (f i) (f j)) ≡ is_eq (nat_cmp i j)
-even f i j up down = go (cases_order i j)
-  where
-    go : (i ≡ j) ⊎ ((i < j) ⊎ (j < i)) → is_eq (nat_cmp (f i) (f j)) ≡ is_eq (nat_cmp i j)
-    go (inl e) = ap is_eq (ap (nat_cmp (f i)) (ap f (sym e)) ∙ tied_itself nat_cmp_total (f i)
-        ∙ sym (ap (nat_cmp i) (sym e) ∙ tied_itself nat_cmp_total i))
-    go (inr (inl lt)) = ap is_eq (less (f i) (f j) (up lt) ∙ sym (less i j lt))
-    go (inr (inr gt)) = ap is_eq (greater (f i) (f j) (down gt) ∙ sym (greater i j gt))
-
 module _ (f : ℕ → ℕ) (P : ℕ → Type 0) (up : (i j : ℕ) → P i → P j → i < j → f i < f j) where
   times-rising : (k : ℕ) → P k → (ks : List ℕ) → AllByRecursion P ks → times nat_cmp (f k) (map f ks) ≡ times nat_cmp k ks
   times-rising k p [] a = refl
   times-rising k p (j ∷ js) a =
       ap (λ b. length (cond b (f j ∷ filter (λ other. is_eq (nat_cmp (f k) other)) (map f js))
       (filter (λ other. is_eq (nat_cmp (f k) other)) (map f js))))
-      (even f k j (up k j p a.0) (up j k a.0 p))
+      (ap is_eq (rising f k j (up k j p a.0) (up j k a.0 p)))
       ∙ go (is_eq (nat_cmp k j)) (times-rising k p js a.1)
     where
       go : (b : Bool) → times nat_cmp (f k) (map f js) ≡ times nat_cmp k js

@@ -1,10 +1,12 @@
 -- The rules for records that fit together, each as its search finds it.
 use Rattle.std.proofs.Common.{◌≡◌, ◌⊎◌, ◌<◌, ◌≤◌, ◌+◌, ◌==◌, ◌&&◌, not, ℕ, suc, nat_lt, List, [], ◌∷◌, ◌++◌, map, flat_map}
 use Rattle.std.proofs.Common.{Bool, true, false, cond, Ordering, Less, Equal, Greater, is_eq, is_gt, sym, refl}
-use Rattle.std.proofs.Common.{ap, ◌∙◌, subst, inl, inr, arith, nat_cmp, Some, None, zero-add, IsPermutation}
+use Rattle.std.proofs.Common.{ap, ◌∙◌, subst, inl, inr, arith, nat_cmp, Option, Some, None, zero-add, IsPermutation}
 use Rattle.std.proofs.lemmas.Bool.{false≢true, lt-ltb, ltb-true, or_cases, eq-eqb, ne_eqb}
 use Rattle.std.proofs.lemmas.Bool.{and_parts}
 use Rattle.std.proofs.lemmas.Cmp.{nat_cmp_total, tied_itself}
+use Rattle.std.proofs.lemmas.Grind.{common_steps}
+use Rattle.std.specs.List.{find}
 use Rattle.std.specs.Ordering.{ordering_then}
 use Rattle.tl_layout.specs.ByType.{of_number}
 use Rattle.tl_layout.specs.Fields.{Fields4}
@@ -31,7 +33,7 @@ use Rattle.tl_county.specs.Laws.KeyOrders.{key_keys}
 use Rattle.ordered_lists.proofs.ByKey.KeyOrders.{pair_keys}
 use Rattle.ordered_lists.proofs.ByKey.Keys.{IsKeyOrder, nat_keys, times-yes, times-no, same_or_not, times-permutation, times-append}
 use Rattle.ordered_lists.proofs.ByKey.Keys.{times-cons, same-itself, known-here}
-use Rattle.ordered_lists.proofs.ByKey.KeyedLists.{first_least}
+use Rattle.ordered_lists.proofs.ByKey.KeyedLists.{first_least, least-same}
 use Rattle.tl_county.proofs.Rules.LinkFaults.{part, number}
 use Rattle.ordered_lists.proofs.Lists.Elements.{all_weaker}
 use Rattle.tl_county.proofs.Rules.RuleOrders.{IsRule, fault_of_rule}
@@ -207,6 +209,21 @@ unnamed-first first later feats h none = (
       (ltb-true 0 (times sequence_cmp other (first ∷ later))
       (and_parts (stands_in sequence_cmp other (first ∷ later)) (not (stands_in nat_cmp other.1 feats)) t).0),
 )
+
+-- the least use without a name is the first one
+pub unnamed-found : (uses : List (ℕ × ℕ)) (feats : List ℕ) → IsInOrder sequence_cmp uses
+    → IsLeastPassing sequence_cmp (is_unnamed uses feats) (find (λ pair. not (stands_in nat_cmp pair.1 feats)) uses)
+unnamed-found [] feats h = λ pair. refl
+unnamed-found (first ∷ later) feats h = go (stands_in nat_cmp first.1 feats) refl (unnamed-found later feats h.1)
+  where
+    found : Option (ℕ × ℕ)
+    found = find (λ pair. not (stands_in nat_cmp pair.1 feats)) later
+
+    go : (b : Bool) → stands_in nat_cmp first.1 feats ≡ b → IsLeastPassing sequence_cmp (is_unnamed later feats) found
+        → IsLeastPassing sequence_cmp (is_unnamed (first ∷ later) feats) (cond (not b) (Some first) found)
+    go false e ih = unnamed-first first later feats h e
+    go true e ih = least-same sequence_cmp (is_unnamed later feats) (is_unnamed (first ∷ later) feats)
+        (λ pair. grind (arith, common_steps)) found ih
 
 -- the uses and the names may be in another order
 pub unnamed-reordered : (uses others : List (ℕ × ℕ)) (feats : List ℕ) → IsPermutation uses others → (pair : ℕ × ℕ)

@@ -1,8 +1,9 @@
 //! Lists of items that have a key, in the order of the keys.
 
 ghost use Rattle.std.specs.declared.cmp.Ordering.TheVariants.{Equal};
-ghost use Rattle.std.specs.Ordering.{nat_cmp, on, is_eq, is_gt, is_lt};
-ghost use Rattle.std.specs.Prelude.{◌≡◌, map, filter, not, true, Some, None, OnOk, IfOk, IfSome, IsPermutation};
+ghost use Rattle.std.specs.List.{prefix_len};
+ghost use Rattle.std.specs.Ordering.{nat_cmp, on, is_eq, is_gt, is_le, is_lt};
+ghost use Rattle.std.specs.Prelude.{◌≡◌, ◌≤◌, length, map, filter, true, Some, None, OnOk, IfOk, IfSome, IsPermutation};
 ghost use Rattle.ordered_lists.specs.Keyed.{IsLeastPassing, is_repeated, is_unknown};
 ghost use Rattle.ordered_lists.specs.Orders.{IsInOrder};
 
@@ -152,34 +153,26 @@ pub fn least_unknown<K: Key, A: Keyed<K>, B: Keyed<K>>(items: &[A], known: &[B])
     None
 }
 
-/// The items from the first one whose key isn't less than `key`. The items must be in order.
-fn from_key<K: Key, T: Keyed<K>>(items: &[T], key: K) -> &[T]
-    requires { IsInOrder (on T.key_of K.cmp) items.now }
-    ensures { result.now ≡ filter (λ item. not (is_lt (K.cmp (T.key_of item) key))) items.now }
+/// The number of items before the first one whose key isn't less than `key`.
+fn count_below<K: Ord + Copy, T: Keyed<K>>(items: &[T], key: K) -> usize
+    ensures count { result ≡ prefix_len (λ item. is_lt (K.cmp (T.key_of item) key)) items.now }
+    ensures bound { result ≤ length items.now }
 {
-    let mut rest = items;
-    while let Some((first, later)) = rest.split_first() {
-        if first.key().cmp(&key).is_ge() {
-            break;
-        }
-        rest = later;
-    }
-    rest
+    items
+        .iter()
+        .take_while(|item| item.key().cmp(&key).is_lt())
+        .count()
 }
 
-/// The items from the first one whose key is greater than `key`. The items must be in order.
-fn after_key<K: Key, T: Keyed<K>>(items: &[T], key: K) -> &[T]
-    requires { IsInOrder (on T.key_of K.cmp) items.now }
-    ensures { result.now ≡ filter (λ item. is_gt (K.cmp (T.key_of item) key)) items.now }
+/// The number of items before the first one whose key is greater than `key`.
+fn count_up_to<K: Ord + Copy, T: Keyed<K>>(items: &[T], key: K) -> usize
+    ensures count { result ≡ prefix_len (λ item. is_le (K.cmp (T.key_of item) key)) items.now }
+    ensures bound { result ≤ length items.now }
 {
-    let mut rest = items;
-    while let Some((first, later)) = rest.split_first() {
-        if first.key().cmp(&key).is_gt() {
-            break;
-        }
-        rest = later;
-    }
-    rest
+    items
+        .iter()
+        .take_while(|item| item.key().cmp(&key).is_le())
+        .count()
 }
 
 /// The items with this key, and the items with greater keys. The items must be in order.
@@ -188,9 +181,8 @@ pub fn split_group<K: Key, T: Keyed<K>>(items: &[T], key: K) -> (&[T], &[T])
     ensures group { result.0.now ≡ filter (λ item. is_eq (K.cmp (T.key_of item) key)) items.now }
     ensures later { result.1.now ≡ filter (λ item. is_gt (K.cmp (T.key_of item) key)) items.now }
 {
-    let from = from_key(items, key);
-    let later = after_key(from, key);
-    (&from[..from.len() - later.len()], later)
+    let (_, from) = items.split_at(count_below(items, key));
+    from.split_at(count_up_to(from, key))
 }
 
 /// The keys of the items, in the order of the items.
@@ -200,9 +192,5 @@ pub(crate) fn keys_of<K: Ord + Copy, T: Keyed<K>>(
 ) -> Result<Vec<K>, AllocError>
     ensures { IfOk result (λ keys. keys.items ≡ map T.key_of items.now) }
 {
-    let mut keys = Vec::with_capacity(alloc, items.len())?;
-    for item in items {
-        keys.push(item.key())?;
-    }
-    Ok(keys)
+    items.iter().map(|item| item.key()).collect(alloc)
 }

@@ -165,11 +165,7 @@ pub(crate) fn names_in<'a>(
     ensures { IfOk result (λ names. names.items ≡ map (λ (r : Fields5). r.body) records.now) }
 {
     let bodies: &'a [Body5] = keep(arena, &name_bodies(alloc, records)?)?;
-    let mut names = Vec::with_capacity(alloc, bodies.len())?;
-    for body in bodies {
-        names.push(NameIn::new(body))?;
-    }
-    Ok(names)
+    bodies.iter().map(|body| NameIn::new(body)).collect(alloc)
 }
 
 /// The names of records of type 5, with their contents left in the records.
@@ -179,9 +175,8 @@ pub(crate) fn names_over<'a>(
 ) -> Result<Vec<NameIn<'a>>, AllocError>
     ensures { IfOk result (λ names. names.items ≡ map (λ (r : Fields5). r.body) records.now) }
 {
-    let mut names = Vec::with_capacity(alloc, records.len())?;
-    for name in records {
-        names.push(NameIn::new(name.body()))?;
-    }
-    Ok(names)
+    records
+        .iter()
+        .map(|name| NameIn::new(name.body()))
+        .collect(alloc)
 }

@@ -26,11 +26,7 @@ use tl_shape::Surroundings;
 pub(crate) fn name_bodies(alloc: Global, names: &[Rec5]) -> Result<Vec<Body5>, AllocError>
     ensures { IfOk result (λ bodies. bodies.items ≡ map (λ (r : Fields5). r.body) names.now) }
 {
-    let mut bodies = Vec::with_capacity(alloc, names.len())?;
-    for name in names {
-        bodies.push(*name.body())?;
-    }
-    Ok(bodies)
+    names.iter().map(|name| *name.body()).collect(alloc)
 }
 
 /// The content of the first of these records, if there is one.
@@ -91,20 +87,14 @@ pub(crate) fn join_feats(feats: &mut Vec<u32>, records: &[Rec4]) -> Result<(), A
 pub(crate) fn join_ranges(ranges: &mut Vec<Ranges>, records: &[Rec6]) -> Result<(), AllocError>
     ensures { OnOk result (ranges.new.items ≡ ranges.old.items ++ map (λ (r : Fields6). r.ranges) records.now) }
 {
-    for entry in records {
-        ranges.push(*entry.ranges())?;
-    }
-    Ok(())
+    ranges.extend(records.iter().map(|entry| *entry.ranges()))
 }
 
 /// Appends the contents of type 7 records.
 pub(crate) fn join_bodies(bodies: &mut Vec<Body7>, records: &[Rec7]) -> Result<(), AllocError>
     ensures { OnOk result (bodies.new.items ≡ bodies.old.items ++ map (λ (r : Fields7). r.body) records.now) }
 {
-    for landmark in records {
-        bodies.push(*landmark.body())?;
-    }
-    Ok(())
+    bodies.extend(records.iter().map(|landmark| *landmark.body()))
 }
 
 /// The nodes and the sides of a record of type I.

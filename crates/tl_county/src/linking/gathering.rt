@@ -22,10 +22,7 @@ fn push_uses(uses: &mut Vec<(u64, u32)>, names: &Rec4) -> Result<(), AllocError>
     ensures { OnOk result (uses.new.items ≡ uses.old.items ++ uses_of names.now) }
 {
     let tlid = names.tlid();
-    for feat in names.feats() {
-        uses.push((tlid, *feat))?;
-    }
-    Ok(())
+    uses.extend(names.feats().iter().map(|feat| (tlid, *feat)))
 }
 
 /// Each FEAT that a type 4 record names, with its TLID, in order.
@@ -55,10 +52,7 @@ pub(crate) fn linked_polygons(alloc: Global, links: &[Rec8]) -> Result<Vec<Polyg
 fn push_points(polygons: &mut Vec<PolygonKey>, points: &[RecP]) -> Result<(), AllocError>
     ensures { OnOk result (polygons.new.items ≡ polygons.old.items ++ map p_key points.now) }
 {
-    for point in points {
-        polygons.push(point.key())?;
-    }
-    Ok(())
+    polygons.extend(points.iter().map(|point| point.key()))
 }
 
 /// The CENIDs of most polygons on sides, in order. They are read from the type P records, since usually each polygon has one.

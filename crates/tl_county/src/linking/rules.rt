@@ -1,10 +1,10 @@
 //! The rules for records that fit together, over tables in order.
 
 ghost use Rattle.std.specs.Ordering.{nat_cmp};
-ghost use Rattle.std.specs.Prelude.{◌≡◌, false, true, List, map, flat_map, ◌++◌, MatchResult, IfOk, IsPermutation};
+ghost use Rattle.std.specs.Prelude.{◌≡◌, List, map, flat_map, ◌++◌, MatchResult, IfOk, IsPermutation};
 ghost use Rattle.tl_county.specs.County.{link_key, five_feat, i_tlid, one_tlid, p_key, side_keys};
 ghost use Rattle.ordered_lists.specs.Keyed.{IsLeastPassing, is_repeated};
-ghost use Rattle.tl_county.specs.Marks.{AllNamed, AreNamed};
+ghost use Rattle.tl_county.specs.Marks.{all_have_names, have_names};
 ghost use Rattle.ordered_lists.specs.Marks.{AreMarksOf};
 ghost use Rattle.tl_county.specs.OrderedTables.{typed_of, AreInOrder};
 ghost use Rattle.ordered_lists.specs.Orders.{IsInOrder, distinct};
@@ -97,44 +97,30 @@ fn least_unnamed(uses: &[(u64, u32)], feats: &[u32]) -> Option<(u64, u32)>
     requires feats { IsInOrder nat_cmp feats.now }
     ensures { IsLeastPassing sequence_cmp (is_unnamed uses.now feats.now) result }
 {
-    let mut rest = uses;
-    while let Some((first, later)) = rest.split_first() {
-        if !place_of(feats, first.1).is_some() {
-            return Some(*first);
-        }
-        rest = later;
-    }
-    None
+    uses.iter()
+        .copied()
+        .find(|pair| place_of(feats, pair.1).is_none())
 }
 
 /// Whether each FEAT that a type 4 record names is in `feats`, which must be in order.
 fn are_named(names: &Rec4, feats: &[u32], marks: &[bool]) -> bool
     requires feats { IsInOrder nat_cmp feats.now }
     requires marks { AreMarksOf feats.now marks.now }
-    ensures named { result ≡ true → AreNamed feats.now names.now.feats }
-    ensures unnamed { result ≡ false → AreNamed feats.now names.now.feats → ⊥ }
+    ensures { result ≡ have_names feats.now names.now.feats }
 {
-    for feat in names.feats() {
-        if !is_marked(marks, feats, *feat) {
-            return false;
-        }
-    }
-    true
+    names
+        .feats()
+        .iter()
+        .all(|feat| is_marked(marks, feats, *feat))
 }
 
 /// Whether each FEAT that type 4 records name is in `feats`, which must be in order. The records are read once, in their own order.
 fn all_named(alloc: Global, names: &[Rec4], feats: &[u32]) -> Result<bool, AllocError>
     requires { IsInOrder nat_cmp feats.now }
-    ensures named { IfOk result (λ all. all ≡ true → AllNamed feats.now names.now) }
-    ensures unnamed { IfOk result (λ all. all ≡ false → AllNamed feats.now names.now → ⊥) }
+    ensures { IfOk result (λ all. all ≡ all_have_names feats.now names.now) }
 {
     let marks = marks_of(alloc, feats)?;
-    for record in names {
-        if !are_named(record, feats, &marks) {
-            return Ok(false);
-        }
-    }
-    Ok(true)
+    Ok(names.iter().all(|record| are_named(record, feats, &marks)))
 }
 
 /// The least use, as TLID and FEAT, of a FEAT that isn't in `feats`, which must be in order. Usually there is none, and then no

@@ -1,22 +1,16 @@
-use Rattle.std.proofs.Common.{◌≡◌, true, false, rules, refl, sym}
-use Rattle.ordered_lists.proofs.Lists.ByPlace.{all_next, all_at, all_seen, decides_no}
+use Rattle.std.proofs.Common.{IfSome, true, false, arith, refl, rules, slice_get, sym}
+use Rattle.std.proofs.lemmas.Bool.{false≢true}
+use Rattle.std.specs.Bool.{Decides}
+use Rattle.std.proofs.lemmas.Iterator.{YieldsList-from_range, cases_from_all}
+use Rattle.ordered_lists.proofs.Lists.ByPlace.{places_decide}
 use Rattle.tl_county.proofs.listed.all_hold.Goals as goal
 
-pub loop-place-preserved : goal.loop-place-preserved
-loop-place-preserved g c =
-    let yes : c.holds-holds.result ≡ true = search rules in
-    all_next (g.T.Tested.Holds c.args.tested.now) (g.T.Tested.entries c.args.tested.now) c.loop-place.place c.loop-place.invariant
-    (c.holds-holds.ensures.0 yes)
-
-pub returns-then-not-holds : goal.returns-then-not-holds
-returns-then-not-holds g c =
-    let fails : c.holds-holds.result ≡ false = search rules in
-    decides_no c.holds-holds.result fails c.holds-holds.ensures
-    (λ all. all_at (g.T.Tested.Holds c.args.tested.now) (g.T.Tested.entries c.args.tested.now) all c.loop-place.place)
-
 pub returns : goal.returns
-returns g c = (
-  λ e. all_seen (g.T.Tested.Holds c.args.tested.now) (g.T.Tested.entries c.args.tested.now) c.loop-place.place
-      c.count-place-end.result c.loop-place.invariant (sym c.count-place-end.ensures) c.loop-place-test.false,
-  λ a. refl,
-)
+returns g c =
+    let P = g.T.Tested.Holds c.args.tested.now in
+    let xs = g.T.Tested.entries c.args.tested.now in
+    places_decide P xs c.count.result (sym c.count.ensures) c.all.result
+    (cases_from_all _ _ _ (λ i. IfSome (slice_get xs i) P) (λ i. IfSome (slice_get xs i) P → ⊥) c.all.ensures.ran
+    (YieldsList-from_range 0 c.count.result c.count.result (cc) (omega arith))
+    (λ x q k. let yes : Decides true (IfSome (slice_get xs x) P) = search rules in (search rules, yes.0 refl))
+    (λ x q k held. let no : Decides false (IfSome (slice_get xs x) P) = search rules in false≢true (no.1 held)))

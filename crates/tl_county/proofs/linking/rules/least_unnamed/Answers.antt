@@ -1,16 +1,18 @@
-use Rattle.std.proofs.Common.{◌≡◌, ◌∷◌, false, Some, sym, ap, ◌∙◌, subst, nat_cmp}
-use Rattle.ordered_lists.specs.Orders.{IsInOrder, stands_in}
+use Rattle.std.proofs.Common.{◌∙◌, not, nat_cmp, rules, subst, sym, tests}
+use Rattle.std.proofs.lemmas.Iterator.{YieldsList-from_slice}
+use Rattle.std.proofs.lemmas.Iterator.Adapters.{option_map_id}
+use Rattle.std.proofs.lemmas.Iterator.Consumers.{YieldsList-from_copied}
+use Rattle.std.proofs.lemmas.Iterator.Search.{find_from_yields_List}
+use Rattle.ordered_lists.specs.Keyed.{IsLeastPassing}
+use Rattle.ordered_lists.specs.Orders.{stands_in}
 use Rattle.tl_county.specs.SequenceKeys.{is_unnamed, sequence_cmp}
-use Rattle.ordered_lists.proofs.ByKey.KeyedLists.{least-same}
-use Rattle.tl_county.proofs.Rules.RuleTests.{unnamed-first}
+use Rattle.tl_county.proofs.Rules.RuleTests.{unnamed-found}
 use Rattle.tl_county.proofs.linking.rules.least_unnamed.Goals as goal
 
-pub returns-then-not-is_some : goal.returns-then-not-is_some
-returns-then-not-is_some c =
-    let cut : c.loop-first.rest.now ≡ c.in-Some.first.now ∷ c.in-Some.later.now = c.in-Some.ensures.cases.0 in
-    let none : stands_in nat_cmp c.in-Some.first.now.1 c.args.feats.now ≡ false = cc in
-    least-same sequence_cmp (is_unnamed (c.in-Some.first.now ∷ c.in-Some.later.now) c.args.feats.now)
-    (is_unnamed c.args.uses.now c.args.feats.now)
-    (λ pair. ap (λ l. is_unnamed l c.args.feats.now pair) (sym cut) ∙ c.loop-first.invariant.same pair) (Some c.in-Some.first.now)
-    (unnamed-first c.in-Some.first.now c.in-Some.later.now c.args.feats.now
-    (subst (IsInOrder sequence_cmp) cut c.loop-first.invariant.in_order) none)
+pub returns : goal.returns
+returns c =
+    let found = sym (option_map_id c.find.result) ∙ find_from_yields_List (λ pair. not (stands_in nat_cmp pair.1 c.args.feats.now)) _ _
+    c.find.result c.find.ensures.ran (YieldsList-from_copied (YieldsList-from_slice c.args.uses.now cc))
+    (λ x b q k. search (rules, tests)) in
+    subst (IsLeastPassing sequence_cmp (is_unnamed c.args.uses.now c.args.feats.now)) (sym found)
+    (unnamed-found c.args.uses.now c.args.feats.now c.requires.uses)

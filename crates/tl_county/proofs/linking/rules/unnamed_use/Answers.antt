@@ -1,4 +1,4 @@
-use Rattle.std.proofs.Common.{ap, ◌∙◌, flat_map}
+use Rattle.std.proofs.Common.{ap, sym, ◌∙◌, flat_map}
 use Rattle.tl_county.specs.SequenceKeys.{is_unnamed, sequence_cmp, uses_of}
 use Rattle.ordered_lists.proofs.ByKey.KeyedLists.{least-same}
 use Rattle.tl_county.proofs.ByKey.MarkedNames.{none_unnamed}
@@ -6,7 +6,7 @@ use Rattle.tl_county.proofs.Rules.RuleTests.{unnamed-reordered}
 use Rattle.tl_county.proofs.linking.rules.unnamed_use.Goals as goal
 
 pub returns-then-branch : goal.returns-then-branch
-returns-then-branch c = none_unnamed c.args.feats.now c.args.names.now (c.in_ok-all_named.ensures.named c.if-branch.true)
+returns-then-branch c = none_unnamed c.args.feats.now c.args.names.now (sym c.in_ok-all_named.ensures ∙ c.if-branch.true)
 
 pub returns : goal.returns
 returns c =
