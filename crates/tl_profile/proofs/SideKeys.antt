@@ -1,13 +1,11 @@
 -- The keys on sides and those with a type P record, gathered place by place, and how the profile judges them.
-use Rattle.std.proofs.Common.{◌≡◌, ℕ, suc, ◌<◌, nat_lt, List, [], ◌∷◌, ◌++◌, map, filter, length, take, slice_get, Bool, true, false}
-use Rattle.std.proofs.Common.{cond, not, ◌&&◌, ◌||◌, Option, Some, None, is_some, option_map, option_to_list, is_eq, refl, sym, ap, ◌∙◌}
+use Rattle.std.proofs.Common.{◌≡◌, ℕ, suc, ◌+◌, ◌<◌, nat_lt, List, [], ◌∷◌, ◌++◌, map, filter, length, take, slice_get, Bool, true, false}
+use Rattle.std.proofs.Common.{cond, not, ◌&&◌, ◌||◌, Option, Some, None, is_some, option_map, is_eq, refl, sym, ap, ◌∙◌}
 use Rattle.std.proofs.Common.{append_assoc, append-nil, map-id, arith}
-use Rattle.std.specs.List.{list_any}
+use Rattle.std.specs.List.{list_any, filter_map, range_with_len, cons_option}
 use Rattle.std.specs.Ordering.{on}
 use Rattle.std.proofs.lemmas.Bool.{lt-ltb}
 use Rattle.std.proofs.lemmas.Grind.{flat_map-append}
-use Rattle.std.proofs.lemmas.List.{map-append}
-use Rattle.std.proofs.lemmas.List.Elements.{filter-append}
 use Rattle.tl_layout.specs.PolygonSide.{PolygonSide}
 use Rattle.tl_layout.specs.declared.type_p.BodyP.{BodyP}
 use Rattle.tl_shape.specs.Chain.{Chain}
@@ -24,7 +22,7 @@ use Rattle.ordered_lists.proofs.ByKey.KeyedLists.{in_order-filter}
 use Rattle.tl_county.specs.Laws.KeyOrders.{key_keys}
 use Rattle.tl_county.proofs.ByKey.KeySets.{stands_in-distinct}
 use Rattle.tl_profile.specs.Sides.{key_if_bodied, keys_on, keys_with_body}
-use Rattle.tl_profile.proofs.Places.{StandsAt, stands_at, ChainStands, chain_stands}
+use Rattle.tl_profile.proofs.Places.{ChainStands, chain_stands}
 
 -- the sides of one more chain
 pub sides_next : (county : County) (place : ℕ) → place < length county.chains → (before left_too both : List PolygonKey)
@@ -45,24 +43,25 @@ sides_next county place h before left_too both left right b l f r s =
     ∙ sym (flat_map-append (λ entry. chain_polygons entry.1) (take place county.chains) (stands.stands.item ∷ []))
     ∙ ap polygons_along (sym stands.stands.upto)
 
-one_bodied : (entry : PolygonKey × Option BodyP) (b : Bool)
-    → option_to_list (cond b (Some entry.0) None) ≡ map (λ e. e.0) (cond b (entry ∷ []) [])
-one_bodied entry true = refl
-one_bodied entry false = refl
+-- the keys of the polygons with a type P record, read place by place
+pub bodies_by_place : (polygons : List (PolygonKey × Option BodyP)) (at : ℕ → Option (PolygonKey × Option BodyP)) (start : ℕ)
+    → ((place : ℕ) → at (start + place) ≡ slice_get polygons place)
+    → filter_map (λ place. key_if_bodied (at place)) (range_with_len start (length polygons)) ≡ keys_with_body polygons
+bodies_by_place [] at start stated = refl
+bodies_by_place (entry ∷ polygons) at start stated =
+    ap (λ key. cons_option key rest) (ap key_if_bodied here) ∙ go (is_some entry.1) (bodies_by_place polygons at (start + 1)
+    (λ place. (let t : start + 1 + place ≡ start + suc place = omega arith in ap at t) ∙ stated (suc place)))
+  where
+    rest : List PolygonKey
+    rest = filter_map (λ place. key_if_bodied (at place)) (range_with_len (start + 1) (length polygons))
 
--- one more polygon with a type P record, or without
-pub bodies_next : (polygons : List (PolygonKey × Option BodyP)) (place : ℕ) → place < length polygons → (before after : List PolygonKey)
-    (key : Option PolygonKey) → before ≡ keys_with_body (take place polygons) → key ≡ key_if_bodied (slice_get polygons place)
-    → after ≡ before ++ option_to_list key → after ≡ keys_with_body (take (suc place) polygons)
-bodies_next polygons place h before after key b k a =
-    let stands : StandsAt polygons place = stands_at polygons place h in
-    let done : List (PolygonKey × Option BodyP) = take place polygons in
-    let found : option_to_list key ≡ keys_with_body (stands.item ∷ []) =
-    ap option_to_list (k ∙ ap key_if_bodied stands.get) ∙ one_bodied stands.item (is_some stands.item.1) in
-    a ∙ (λ i. b i ++ found i)
-    ∙ sym (map-append (λ e. e.0) (filter (λ e. is_some e.1) done) (filter (λ e. is_some e.1) (stands.item ∷ [])))
-    ∙ ap (map (λ e. e.0)) (sym (filter-append (λ e. is_some e.1) done (stands.item ∷ [])))
-    ∙ ap keys_with_body (sym stands.upto)
+    here : at start ≡ Some entry
+    here = (let t : start ≡ start + 0 = omega arith in ap at t) ∙ stated 0
+
+    go : (b : Bool) → rest ≡ keys_with_body polygons → cons_option (cond b (Some entry.0) None) rest
+        ≡ map (λ e. e.0) (cond b (entry ∷ filter (λ e. is_some e.1) polygons) (filter (λ e. is_some e.1) polygons))
+    go true later = ap (λ keys. entry.0 ∷ keys) later
+    go false later = later
 
 -- the keys are in order
 pub bodies_in_order : (county : County) → IsCounty county → IsInOrder key_cmp (keys_with_body county.polygons)

@@ -1,6 +1,6 @@
 //! Polygons with a record of type P that are on no side of a chain.
 
-ghost use Rattle.std.specs.Prelude.{◌≡◌, ◌≢◌, ◌++◌, IfOk, IfErr, OnOk, option_to_list, slice_get};
+ghost use Rattle.std.specs.Prelude.{◌≡◌, ◌≢◌, ◌++◌, IfOk, IfErr, OnOk, slice_get};
 ghost use Rattle.tl_county.specs.County.{County};
 ghost use Rattle.tl_county.specs.CountyRules.{is_without_chain, polygons_along};
 ghost use Rattle.ordered_lists.specs.Keyed.{IsLeastPassing};
@@ -55,25 +55,13 @@ fn key_with_body<C: Chart>(chart: &C, place: usize) -> Option<PolygonKey>
     }
 }
 
-/// Adds a key, if there is one.
-fn push_key(keys: &mut Vec<PolygonKey>, key: Option<PolygonKey>) -> Result<(), AllocError>
-    ensures { OnOk result (keys.new.items ≡ keys.old.items ++ option_to_list key) }
-{
-    if let Some(key) = key {
-        keys.push(key)?;
-    }
-    Ok(())
-}
-
 /// The polygons with a record of type P, in order.
 fn polygons_with_body<C: Chart>(alloc: Global, chart: &C) -> Result<Vec<PolygonKey>, AllocError>
     ensures { IfOk result (λ keys. keys.items ≡ keys_with_body (C.county chart.now).polygons) }
 {
-    let mut keys = Vec::new(alloc);
-    for place in 0..chart.polygon_count() {
-        push_key(&mut keys, key_with_body(chart, place))?;
-    }
-    Ok(keys)
+    (0..chart.polygon_count())
+        .filter_map(|place| key_with_body(chart, place))
+        .collect(alloc)
 }
 
 /// The least polygon with a record of type P that is on no side of a chain, by the bytes of the CENID and then by POLYID.

@@ -1,10 +1,15 @@
-use Rattle.std.proofs.Common.{arith, add-one}
-use Rattle.tl_profile.proofs.SideKeys.{bodies_next}
+use Rattle.std.proofs.Common.{◌≡◌, IfOk, ap, arith, length, rules, slice_get, subst, tests, zero-add}
+use Rattle.std.proofs.lemmas.Iterator.{YieldsList-from_range, items_from_collect}
+use Rattle.std.proofs.lemmas.Iterator.Consumers.{YieldsList-from_filter_map}
+use Rattle.tl_profile.specs.Sides.{key_if_bodied}
+use Rattle.tl_profile.proofs.SideKeys.{bodies_by_place}
 use Rattle.tl_profile.proofs.sides.polygons_with_body.Goals as goal
 
-pub loop-place-preserved : goal.loop-place-preserved
-loop-place-preserved g c =
-    let count = c.polygon_count-place-end.ensures in
-    let test = c.loop-place-test.true in
-    rw (add-one) (bodies_next (g.C.Chart.county c.args.chart.now).polygons c.loop-place.place (omega arith) c.loop-place.keys.items
-    c.push_key.new.keys.items c.key_with_body.result c.loop-place.invariant c.key_with_body.ensures c.in_ok-push_key.ensures)
+pub returns : goal.returns
+returns g c =
+    let polygons = (g.C.Chart.county c.args.chart.now).polygons in
+    let count = length polygons in
+    subst (λ keys. IfOk c.collect.result (λ v. v.items ≡ keys)) (bodies_by_place polygons (slice_get polygons) 0 (λ place. ap (slice_get polygons) (zero-add place)))
+    (items_from_collect _ c.collect.ensures.ran
+    (YieldsList-from_filter_map _ (λ place. key_if_bodied (slice_get polygons place)) (YieldsList-from_range 0 count count (cc) (omega arith))
+    c.filter_map.ensures.closure (λ x r q k. search (rules, tests))))
