@@ -6,7 +6,8 @@ use Rattle.std.specs.Option.{MatchOption}
 use Rattle.std.specs.Ordering.{ordering_then}
 use Rattle.tl_layout.specs.RecordText.{spelling_of}
 use Rattle.tl_layout.specs.declared.record_type.Record.{Record}
-use Rattle.tl_number.specs.RecordOrder.{records_cmp, spelling_cmp}
+use Rattle.tl_number.specs.Groups.{grouped}
+use Rattle.tl_number.specs.RecordOrder.{groups_cmp, records_cmp, spelling_cmp}
 
 pub records_total : IsTotalOrder records_cmp
 records_total = lists_total (on_total spelling_of nat_list_cmp_total)
@@ -14,6 +15,12 @@ records_total = lists_total (on_total spelling_of nat_list_cmp_total)
 -- a record compared with itself
 pub same_spelling : (r s : Record) → r ≡ s → Equal ≡ spelling_cmp r s
 same_spelling r s e = sym (tied_itself nat_list_cmp_total (spelling_of r)) ∙ ap (spelling_cmp r) e
+
+-- equal groups are tied
+pub same_groups : {X : Type 0} (record_of : X → Record) (groups others : List (List X)) → groups ≡ others
+    → Equal ≡ groups_cmp record_of groups others
+same_groups record_of groups others same = sym (tied_itself records_total (map record_of (grouped groups)))
+    ∙ ap (groups_cmp record_of groups) same
 
 -- the first of two comparisons decides, unless it finds both equal
 pub decided : (o p : Ordering) → (o ≡ Equal → ⊥) → ordering_then o p ≡ o

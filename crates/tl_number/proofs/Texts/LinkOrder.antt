@@ -179,12 +179,3 @@ same_link_through a b same is_county one other whole other_whole place directed 
     → option_map sides_of (chain_at (arranged_by a one) place) ≡ option_map sides_of (chain_at (arranged_by c other) place)
     → slice_get (links_of (arranged_by a one)) place ≡ slice_get (links_of (arranged_by c other)) place) same
     (λ w. same_link a is_county one other whole w place directed) other_whole
-
--- counties with the same polygons by their numbers
-pub same_polygons : (a b : County) → polygons_by_number a ≡ polygons_by_number b
-    → Equal ≡ groups_cmp P (type_p_by_number a) (type_p_by_number b)
-same_polygons a b same =
-    let records : List (PolygonKey × Option BodyP) → List Record =
-    λ polygons. map P (grouped (map (λ (entry : PolygonKey × Option BodyP). option_to_list (packed_p entry)) polygons)) in
-    sym (tied_itself records_total (records (polygons_by_number a)))
-    ∙ ap (λ polygons. records_cmp (records (polygons_by_number a)) (records polygons)) same
