@@ -27,9 +27,9 @@ use Rattle.tl_county.proofs.Sameness.CarriedCounty.{carried_closed, carried_whol
 use Rattle.ordered_lists.proofs.Lists.Among.{Among, all_among}
 use Rattle.ordered_lists.proofs.Lists.InOrder.{in_order-in_order, in_order-map, in_order-equal}
 use Rattle.tl_county.specs.Laws.KeyOrders.{key_keys, link_part_keys, link_keys}
-use Rattle.ordered_lists.proofs.ByKey.Keys.{IsKeyOrder, IsApart, Known, nat_keys, lefts, rights, times-yes, times-no, same_or_not}
-use Rattle.ordered_lists.proofs.ByKey.Keys.{known_cases, known_all, map_agree, apart_from_sorted, apart-permutation}
-use Rattle.ordered_lists.proofs.ByKey.Keys.{times-permutation, known-permutation, image-injective}
+use Rattle.ordered_lists.proofs.ByKey.Keys.{IsKeyOrder, IsApart, Known, nat_keys, rights, times-yes, times-no, same_or_not}
+use Rattle.ordered_lists.proofs.ByKey.Keys.{known_cases, known_all, map_agree, apart_from_sorted}
+use Rattle.ordered_lists.proofs.ByKey.Keys.{times-permutation}
 use Rattle.ordered_lists.proofs.ByKey.Numbers.{each_from}
 use Rattle.ordered_lists.proofs.Lists.Elements.{map-map, all_weaker, all_map}
 use Rattle.ordered_lists.proofs.Lists.Members.{among-permutation, among-map, among-unmap, among_known, known_is_among}

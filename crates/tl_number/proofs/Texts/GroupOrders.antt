@@ -1,8 +1,7 @@
 -- Records in groups, compared one by one.
-use Rattle.std.proofs.Common.{◌≡◌, ◌∙◌, List, [], ◌∷◌, map, Option, Some, None, Ordering, Less, Equal, Greater, sym, ap, ap₂, refl}
+use Rattle.std.proofs.Common.{◌≡◌, ◌∙◌, List, map, Ordering, Less, Equal, Greater, sym, ap, refl}
 use Rattle.std.proofs.lemmas.Cmp.{lists_total, nat_list_cmp_total, on_total, tied_itself}
 use Rattle.std.specs.Cmp.{IsTotalOrder}
-use Rattle.std.specs.Option.{MatchOption}
 use Rattle.std.specs.Ordering.{ordering_then}
 use Rattle.tl_layout.specs.RecordText.{spelling_of}
 use Rattle.tl_layout.specs.declared.record_type.Record.{Record}
@@ -27,21 +26,3 @@ pub decided : (o p : Ordering) → (o ≡ Equal → ⊥) → ordering_then o p �
 decided Less p differ = refl
 decided Equal p differ = absurd (differ refl)
 decided Greater p differ = refl
-
-module _ {X : Type 0} (record_of : X → Record) where
-  -- the next record of the first list, and the next of the second, if there is one
-  pub next_compared : (xs ys : List X) (x : X) (rs ss : List X) (other : Option X) (o : Ordering) → xs ≡ x ∷ rs
-      → MatchOption other (ys ≡ []) (λ y. ys ≡ y ∷ ss)
-      → MatchOption other (o ≡ Greater) (λ y. o ≡ spelling_cmp (record_of x) (record_of y))
-      → records_cmp (map record_of xs) (map record_of ys) ≡ ordering_then o (records_cmp (map record_of rs) (map record_of ss))
-  next_compared xs ys x rs ss None o e f g = ap₂ (λ us vs. records_cmp (map record_of us) (map record_of vs)) e f
-      ∙ ap (λ p. ordering_then p (records_cmp (map record_of rs) (map record_of ss))) (sym g)
-  next_compared xs ys x rs ss (Some y) o e f g = ap₂ (λ us vs. records_cmp (map record_of us) (map record_of vs)) e f
-      ∙ ap (λ p. ordering_then p (records_cmp (map record_of rs) (map record_of ss))) (sym g)
-
-  -- the first list has no further record
-  pub more_there : (xs ys : List X) (y : X) (ss : List X) → xs ≡ [] → ys ≡ y ∷ ss → Less ≡ records_cmp (map record_of xs) (map record_of ys)
-  more_there xs ys y ss e f = sym (ap₂ (λ us vs. records_cmp (map record_of us) (map record_of vs)) e f)
-
-  pub none_there : (xs ys : List X) → xs ≡ [] → ys ≡ [] → Equal ≡ records_cmp (map record_of xs) (map record_of ys)
-  none_there xs ys e f = sym (ap₂ (λ us vs. records_cmp (map record_of us) (map record_of vs)) e f)

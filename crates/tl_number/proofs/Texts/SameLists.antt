@@ -1,12 +1,9 @@
 -- Arrangements of chains with the same further names have the same records of types 4 and 5, and those of chains with the same
 -- further address ranges have the same records of type 6.
-use Rattle.std.proofs.Common.{◌≡◌, ◌∙◌, ℕ, suc, List, [], ◌∷◌, ◌++◌, map, Option, Some, Equal, sym, refl, ap, nat_cmp, subst}
-use Rattle.std.proofs.lemmas.Cmp.{tied_itself}
+use Rattle.std.proofs.Common.{◌≡◌, ◌∙◌, ℕ, suc, List, [], ◌∷◌, map, Option, Some, sym, refl, ap, nat_cmp, subst}
 use Rattle.std.specs.Ordering.{on}
 use Rattle.tl_layout.specs.Fields.{Fields4, Fields6}
 use Rattle.tl_layout.specs.declared.ranges.Ranges.{Ranges}
-use Rattle.tl_layout.specs.declared.record_type.Record.{Record}
-use Rattle.tl_layout.specs.declared.record_type.Record.TheVariants.{Five, Four, Six}
 use Rattle.tl_layout.specs.declared.type5.Body5.{Body5}
 use Rattle.tl_shape.specs.Chain.{Chain}
 use Rattle.tl_county.specs.ChartWords.{feats_of, ranges_of}
@@ -21,14 +18,12 @@ use Rattle.tl_number.specs.Arrangement.{names_in_order, renaming_of}
 use Rattle.tl_number.specs.CountyGroups.{type_4_by_chain, type_5_by_name, type_6_by_chain}
 use Rattle.tl_number.specs.Groups.{grouped}
 use Rattle.tl_number.specs.Growth.{numbered}
-use Rattle.tl_number.specs.RecordOrder.{groups_cmp}
 use Rattle.tl_number.specs.DirectedChains.{arrangement_of, parts_along}
 use Rattle.tl_county.specs.DirectedChains.{directed_chain}
 use Rattle.tl_number.specs.Uses.{all_uses, name_key, name_key_cmp, uses_from}
 use Rattle.tl_number.specs.ViewFacts.{AreWhole, arranged_by}
 use Rattle.tl_county.specs.declared.directed_chain.DirectedChain.{DirectedChain}
 use Rattle.tl_number.proofs.Arrangements.Carrying.{chains_arranged, names_arranged, names_renamed}
-use Rattle.tl_number.proofs.Texts.GroupOrders.{records_total}
 use Rattle.tl_number.proofs.Records.Grouped.{grouped_map}
 use Rattle.tl_number.proofs.Unique.SameNumbers.{kept_entry}
 use Rattle.tl_number.proofs.Views.ViewChains.{arranges, bodies_read, chains}

@@ -22,15 +22,15 @@ use Rattle.ordered_lists.specs.Pairs.{image}
 use Rattle.ordered_lists.proofs.Lists.InOrder.{in_order-equal, in_order-permutation, in_order-map}
 use Rattle.tl_county.specs.Laws.KeyOrders.{landmark_body_keys, link_part_keys, link_keys}
 use Rattle.ordered_lists.proofs.ByKey.KeyOrders.{pair_keys, lists_keys}
-use Rattle.ordered_lists.proofs.ByKey.Keys.{IsKeyOrder, Known, IsApart, nat_keys, lefts, rights, apart-permutation, known-permutation}
-use Rattle.ordered_lists.proofs.ByKey.Keys.{image-injective, apart_from_sorted, known_all, differ}
+use Rattle.ordered_lists.proofs.ByKey.Keys.{IsKeyOrder, Known, nat_keys}
+use Rattle.ordered_lists.proofs.ByKey.Keys.{known_all, differ}
 use Rattle.ordered_lists.proofs.Lists.Elements.{map-map, map_agree_all, all_weaker, all_map}
 use Rattle.tl_county.proofs.Sameness.Equivalence.{keys_known}
 use Rattle.tl_number.specs.Growth.{up_to}
 use Rattle.tl_number.specs.ArrangedCounty.{IsArranged}
 use Rattle.tl_number.specs.Uses.{links_of, LandmarkKey, landmark_key, landmark_key_cmp}
 use Rattle.tl_number.proofs.Unique.SameNumbers.{counted_injective}
-use Rattle.tl_number.proofs.Lists.Counting.{entries_equal, map-equal_all, up_to-strict}
+use Rattle.tl_number.proofs.Lists.Counting.{entries_equal, map-equal_all}
 
 pub landmark_key_keys : IsKeyOrder landmark_key_cmp
 landmark_key_keys = pair_keys (lists_keys landmark_body_keys) (lists_keys link_part_keys)

@@ -18,8 +18,8 @@ use Rattle.ordered_lists.proofs.Lists.Among.{Among}
 use Rattle.ordered_lists.proofs.Lists.InOrder.{in_order-permutation, in_order-map}
 use Rattle.tl_county.specs.Laws.KeyOrders.{name_body_keys}
 use Rattle.ordered_lists.proofs.ByKey.KeyOrders.{pair_keys, lists_keys}
-use Rattle.ordered_lists.proofs.ByKey.Keys.{IsKeyOrder, Known, IsApart, nat_keys, lefts, rights, apart-permutation, known-permutation}
-use Rattle.ordered_lists.proofs.ByKey.Keys.{image-injective, apart_from_sorted, known_all}
+use Rattle.ordered_lists.proofs.ByKey.Keys.{IsKeyOrder, Known, IsApart, nat_keys}
+use Rattle.ordered_lists.proofs.ByKey.Keys.{apart_from_sorted, known_all}
 use Rattle.ordered_lists.proofs.Lists.Elements.{map-map, map_agree_all, all_weaker, all_map, all_append, all_left, all_right}
 use Rattle.ordered_lists.proofs.Lists.Members.{among-unmap, one_entry}
 use Rattle.tl_county.proofs.Sameness.Equivalence.{keys_known}

@@ -1,5 +1,4 @@
 use Rattle.std.proofs.Common.{sym, subst}
-use Rattle.tl_number.specs.DirectedChains.{arrangement_of}
 use Rattle.tl_number.specs.Tidy.{IsLeastChoice}
 use Rattle.tl_number.proofs.Choices.ChosenArrangements.{places_within, arrangement_of_number, arrangement_of_number_there, arrangement_of_number_once}
 use Rattle.tl_number.proofs.Choices.LeastNumbers.{least_of_all}
