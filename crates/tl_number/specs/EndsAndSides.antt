@@ -1,5 +1,6 @@
 -- The nodes and the polygons of chains, chain after chain, and their new numbers.
-use Rattle.std.specs.Prelude.{ℕ, List, ◌++◌, map, Option, Some, None, option_map, option_to_list}
+use Rattle.std.specs.Prelude.{ℕ, ◌<◌, ◌≤◌, ◌^◌, List, ◌++◌, map, Option, Some, None, option_map, option_to_list}
+use Rattle.std.proofs.Common.{arith}
 use Rattle.std.specs.Ordering.{nat_cmp}
 use Rattle.tl_layout.specs.PolygonSide.{PolygonSide}
 use Rattle.tl_shape.specs.Chain.{Chain}
@@ -17,20 +18,28 @@ ends_of chain = (chain.start_node, chain.end_node)
 abbrev pub sides_of : Chain → PolygonSide × PolygonSide
 sides_of chain = (chain.left, chain.right)
 
+-- the keys of two ends or sides, first before second
+abbrev pub keys_at : {K X : Type 0} → (X → List K) → X × X → List K
+keys_at keys pair = keys pair.0 ++ keys pair.1
+
+-- both of two ends or sides, changed in the same way
+abbrev pub changed_both : {X : Type 0} → (X → X) → X × X → X × X
+changed_both change pair = (change pair.0, change pair.1)
+
 -- the nodes at two ends, start before end, without missing ones
 abbrev pub nodes_at : Option ℕ × Option ℕ → List ℕ
-nodes_at ends = option_to_list ends.0 ++ option_to_list ends.1
+nodes_at = keys_at option_to_list
 
 -- the polygons on two sides, left before right, without missing ones
 abbrev pub polygons_at : PolygonSide × PolygonSide → List PolygonKey
-polygons_at sides = key_on sides.0 ++ key_on sides.1
+polygons_at = keys_at key_on
 
 -- a node, if there is one, numbered by its position in this list
 abbrev pub node_among : List ℕ → Option ℕ → Option ℕ
 node_among nodes = option_map (image nat_cmp (numbered nodes))
 
 abbrev pub ends_among : List ℕ → Option ℕ × Option ℕ → Option ℕ × Option ℕ
-ends_among nodes ends = (node_among nodes ends.0, node_among nodes ends.1)
+ends_among nodes = changed_both (node_among nodes)
 
 -- a side whose polygon, if there is one, is numbered by its position in this list
 abbrev pub polygon_among : List PolygonKey → List ℕ → Option ℕ → PolygonSide
@@ -41,4 +50,12 @@ abbrev pub side_among : List PolygonKey → PolygonSide → PolygonSide
 side_among polygons side = polygon_among polygons side.cenid side.polyid
 
 abbrev pub sides_among : List PolygonKey → PolygonSide × PolygonSide → PolygonSide × PolygonSide
-sides_among polygons sides = (side_among polygons sides.0, side_among polygons sides.1)
+sides_among polygons = changed_both (side_among polygons)
+
+-- fewer numbers than a POLYID has
+abbrev pub AreFewPolygons : ℕ → Type 0
+AreFewPolygons count = count < 10 ^ 10
+
+-- and so are fewer polygons
+pub fewer_polygons : (m n : ℕ) → m ≤ n → AreFewPolygons n → AreFewPolygons m
+fewer_polygons m n fewer few = omega (arith, fewer, few)

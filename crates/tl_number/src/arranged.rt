@@ -5,6 +5,8 @@ ghost use Rattle.std.specs.Option.{option_and_then};
 ghost use Rattle.std.specs.Prelude.{◌≡◌, ◌<◌, Some, length, option_map, slice_get};
 ghost use Rattle.tl_county.specs.ChartWords.{chain_at, polygon_under};
 ghost use Rattle.tl_county.specs.CountyRules.{AllKeysStandIn, polygon_keys, polygons_along};
+ghost use Rattle.tl_county.specs.DirectedChains.{directed_chain};
+ghost use Rattle.tl_county.specs.Renumbering.{renumbered};
 ghost use Rattle.ordered_lists.specs.Entries.{entry_values};
 ghost use Rattle.ordered_lists.specs.Pairs.{image};
 ghost use Rattle.tl_number.specs.Arrangement.{renaming_of};
@@ -80,6 +82,21 @@ impl<C: Chart, S: Evidence> Arranged<C, S> {
         ensures { result ≡ slice_get self.now.arrangement.items place }
     {
         self.arrangement.as_slice().get(place).copied()
+    }
+
+    /// The directed chain at a place in the new order. Past the last one it's one that the source county doesn't have.
+    pub(crate) fn directed_or_past(&self, place: usize) -> DirectedChain
+        ensures { chain_at (arranged_by (C.county self.now.chart) self.now.arrangement.items) place
+            ≡ option_map (renumbered (renaming_of (C.county self.now.chart) (arrangement_of (C.county self.now.chart) self.now.arrangement.items)))
+            (directed_chain (C.county self.now.chart) result) }
+    {
+        match self.directed_at(place) {
+            Some(directed) => directed,
+            None => DirectedChain {
+                place: u32::MAX,
+                turned: false,
+            },
+        }
     }
 
     /// The start node and the end node of the chain at a place, or `None` past the last chain.

@@ -107,10 +107,7 @@ impl<C: Chart, S: Evidence> Chart for Arranged<C, S> {
     }
 
     fn chain_body_at(&self, place: usize) -> Option<Body1> {
-        match self.directed_at(place) {
-            Some(directed) => directed.body(&self.chart),
-            None => None,
-        }
+        self.directed_or_past(place).body(&self.chart)
     }
 
     fn put_chain_body(&self, place: usize, turned: bool, out: &mut [u8]) {
@@ -121,52 +118,34 @@ impl<C: Chart, S: Evidence> Chart for Arranged<C, S> {
     }
 
     fn point_count_at(&self, place: usize) -> usize {
-        match self.directed_at(place) {
-            Some(directed) => directed.points(&self.chart).count(),
-            None => 0,
-        }
+        self.directed_or_past(place).points(&self.chart).count()
     }
 
     fn point_at(&self, place: usize, point: usize) -> Option<Point> {
-        match self.directed_at(place) {
-            Some(directed) => directed.points(&self.chart).get(point),
-            None => None,
-        }
+        self.directed_or_past(place).points(&self.chart).get(point)
     }
 
     fn feat_count_at(&self, place: usize) -> usize {
-        match self.directed_at(place) {
-            Some(directed) => directed.feats(&self.chart).count(),
-            None => 0,
-        }
+        self.directed_or_past(place).feats(&self.chart).count()
     }
 
     fn chain_feat_at(&self, place: usize, name: usize) -> Option<u32> {
-        match self.directed_at(place) {
-            Some(directed) => self.renumbered_feat(directed.feats(&self.chart).get(name)),
-            None => None,
-        }
+        let feats = self.directed_or_past(place).feats(&self.chart);
+        self.renumbered_feat(feats.get(name))
     }
 
     fn range_count_at(&self, place: usize) -> usize {
-        match self.directed_at(place) {
-            Some(directed) => directed.ranges(&self.chart).count(),
-            None => 0,
-        }
+        let ranges = self.directed_or_past(place).ranges(&self.chart);
+        ranges.count()
     }
 
     fn range_at(&self, place: usize, range: usize) -> Option<Ranges> {
-        match self.directed_at(place) {
-            Some(directed) => directed.ranges(&self.chart).get(range),
-            None => None,
-        }
+        let ranges = self.directed_or_past(place).ranges(&self.chart);
+        ranges.get(range)
     }
 
     fn topology_at(&self, place: usize) -> Option<BodyI> {
-        match self.directed_at(place) {
-            Some(directed) => directed.topology(&self.chart),
-            None => None,
-        }
+        self.directed_or_past(place).topology(&self.chart)
     }
 
     fn start_node_at(&self, place: usize) -> Option<Option<u64>> {

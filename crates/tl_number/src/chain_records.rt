@@ -1,15 +1,13 @@
 //! The records of a county's chains.
 
 ghost use Rattle.std.specs.Prelude.{◌≡◌, ◌<◌, ◌+◌, Some, length, slice_get, take, drop};
-ghost use Rattle.tl_county.specs.ChartWords.{chain_at, feats_of, points_of};
 ghost use Rattle.tl_county.specs.CountyRules.{tlids};
-ghost use Rattle.tl_county.specs.Packing.{inner_points};
 ghost use Rattle.tl_layout.specs.Numbers.{IsNumber};
 
-use crate::groups::RecordGroups;
+use crate::groups::{CountedGroups, RecordGroups};
 use crate::heads::HeadBuffers;
 use arrayvec::ArrayVec;
-use tl_county::Chart;
+use tl_county::{ChainFeats, Chart, Listed};
 use tl_layout::{Point, Rec1, Rec2, Rec4, Rec6, RecI};
 
 /// The number of shape points in a full record of type 2.
@@ -36,40 +34,43 @@ fn chain_tlid<C: Chart>(chart: &C, place: usize) -> u64
     chart.tlid_there(place)
 }
 
-/// The number of shape points of the chain at a place, between its ends.
-fn shape_point_count<C: Chart>(chart: &C, place: usize) -> usize
-    requires { place < length (C.county chart.now).chains }
-    ensures { result ≡ length (inner_points (points_of (chain_at (C.county chart.now) place))) }
+/// The items of a list from one of them on, at most `N`.
+fn items_from<const N: usize, L: Listed>(list: &L, first: usize) -> ArrayVec<L::Item, N>
+where
+    L::Item: Default + Drop,
+    requires { first < length (L.items list.now) }
+    ensures { result.items ≡ take N (drop first (L.items list.now)) }
 {
-    chart.point_count_at(place) - 2
+    let count = (list.count() - first).min(N);
+    let mut items = ArrayVec::new();
+    for ahead in 0..count {
+        items.push(list.item(first + ahead));
+    }
+    items
 }
 
-/// The shape points of the chain at a place from one of them on, at most as many as a record of type 2 has.
-fn shape_points_from<C: Chart>(chart: &C, place: usize, first: usize) -> ArrayVec<Point, 10>
-    requires place { place < length (C.county chart.now).chains }
-    requires first { first < length (inner_points (points_of (chain_at (C.county chart.now) place))) }
-    ensures { result.items ≡ take 10 (drop first (inner_points (points_of (chain_at (C.county chart.now) place)))) }
-{
-    let end = shape_point_count(chart, place).min(first + POINTS_A_RECORD);
-    let mut points = ArrayVec::new();
-    for shape_point in first..end {
-        points.push(chart.point_there(place, shape_point + 1));
-    }
-    points
+/// The shape points of the chain at a place: those between its ends.
+#[derive(Drop)]
+struct ShapePoints<'a, C> {
+    chart: &'a C,
+    chain: usize,
 }
 
-/// The further names of the chain at a place from one of them on, at most as many as a record of type 4 has.
-fn names_from<C: Chart>(chart: &C, place: usize, first: usize) -> ArrayVec<u32, 5>
-    requires place { place < length (C.county chart.now).chains }
-    requires first { first < length (feats_of (chain_at (C.county chart.now) place)) }
-    ensures { result.items ≡ take 5 (drop first (feats_of (chain_at (C.county chart.now) place))) }
-{
-    let end = chart.feat_count_at(place).min(first + NAMES_A_RECORD);
-    let mut names = ArrayVec::new();
-    for name in first..end {
-        names.push(chart.chain_feat_there(place, name));
+impl<C: Chart> Listed for ShapePoints<'_, C> {
+    ghost use Rattle.tl_county.specs.ChartWords.{chain_at, points_of};
+    ghost use Rattle.tl_county.specs.Packing.{inner_points};
+
+    type Item = Point;
+
+    ghost items = { λ l. inner_points (points_of (chain_at (C.county l.chart.now) l.chain)) };
+
+    fn count(&self) -> usize {
+        self.chart.point_count_at(self.chain).saturating_sub(2)
     }
-    names
+
+    fn item(&self, place: usize) -> Point {
+        self.chart.point_there(self.chain, place + 1)
+    }
 }
 
 /// The type 1 record of each chain.
@@ -133,36 +134,31 @@ pub struct ShapePointRecords<'a, C: Chart> {
     pub chart: &'a C,
 }
 
-impl<C: Chart> RecordGroups for ShapePointRecords<'_, C> {
+impl<C: Chart> CountedGroups for ShapePointRecords<'_, C> {
     ghost use Rattle.tl_number.specs.CountyGroups.{type_2_by_chain};
-    ghost use Rattle.tl_number.specs.Groups.{HasRecords};
 
-    type Item = Rec2;
+    type Record = Rec2;
 
-    type Head = usize;
+    ghost counted = { λ g. type_2_by_chain (C.county g.chart.now) };
 
-    ghost groups = { λ g. type_2_by_chain (C.county g.chart.now) };
-
-    ghost IsHead = { λ g. HasRecords (type_2_by_chain (C.county g.chart.now)) };
-
-    fn count(&self) -> usize {
+    fn group_count(&self) -> usize {
         self.chart.chain_count()
     }
 
-    fn buffer(buffers: &mut HeadBuffers) -> &mut [usize] {
-        &mut buffers.counts
+    fn record_count(&self, group: usize) -> usize {
+        let points = ShapePoints {
+            chart: self.chart,
+            chain: group,
+        };
+        points.count().div_ceil(POINTS_A_RECORD)
     }
 
-    fn head(&self, group: usize) -> usize {
-        shape_point_count(self.chart, group).div_ceil(POINTS_A_RECORD)
-    }
-
-    fn count_in(&self, _group: usize, head: usize) -> usize {
-        head
-    }
-
-    fn record(&self, group: usize, _head: usize, place: usize) -> Rec2 {
-        let points = shape_points_from(self.chart, group, place * POINTS_A_RECORD);
+    fn record_at(&self, group: usize, place: usize) -> Rec2 {
+        let list = ShapePoints {
+            chart: self.chart,
+            chain: group,
+        };
+        let points = items_from(&list, place * POINTS_A_RECORD);
         Rec2::new(
             chain_tlid(self.chart, group),
             sequence_number(place),
@@ -177,36 +173,27 @@ pub struct FurtherNameRecords<'a, C: Chart> {
     pub chart: &'a C,
 }
 
-impl<C: Chart> RecordGroups for FurtherNameRecords<'_, C> {
+impl<C: Chart> CountedGroups for FurtherNameRecords<'_, C> {
     ghost use Rattle.tl_number.specs.CountyGroups.{type_4_by_chain};
-    ghost use Rattle.tl_number.specs.Groups.{HasRecords};
 
-    type Item = Rec4;
+    type Record = Rec4;
 
-    type Head = usize;
+    ghost counted = { λ g. type_4_by_chain (C.county g.chart.now) };
 
-    ghost groups = { λ g. type_4_by_chain (C.county g.chart.now) };
-
-    ghost IsHead = { λ g. HasRecords (type_4_by_chain (C.county g.chart.now)) };
-
-    fn count(&self) -> usize {
+    fn group_count(&self) -> usize {
         self.chart.chain_count()
     }
 
-    fn buffer(buffers: &mut HeadBuffers) -> &mut [usize] {
-        &mut buffers.counts
-    }
-
-    fn head(&self, group: usize) -> usize {
+    fn record_count(&self, group: usize) -> usize {
         self.chart.feat_count_at(group).div_ceil(NAMES_A_RECORD)
     }
 
-    fn count_in(&self, _group: usize, head: usize) -> usize {
-        head
-    }
-
-    fn record(&self, group: usize, _head: usize, place: usize) -> Rec4 {
-        let names = names_from(self.chart, group, place * NAMES_A_RECORD);
+    fn record_at(&self, group: usize, place: usize) -> Rec4 {
+        let list = ChainFeats {
+            chart: self.chart,
+            place: group,
+        };
+        let names = items_from(&list, place * NAMES_A_RECORD);
         Rec4::new(chain_tlid(self.chart, group), sequence_number(place), names)
     }
 }
@@ -217,35 +204,22 @@ pub struct RangeRecords<'a, C: Chart> {
     pub chart: &'a C,
 }
 
-impl<C: Chart> RecordGroups for RangeRecords<'_, C> {
+impl<C: Chart> CountedGroups for RangeRecords<'_, C> {
     ghost use Rattle.tl_number.specs.CountyGroups.{type_6_by_chain};
-    ghost use Rattle.tl_number.specs.Groups.{HasRecords};
 
-    type Item = Rec6;
+    type Record = Rec6;
 
-    type Head = usize;
+    ghost counted = { λ g. type_6_by_chain (C.county g.chart.now) };
 
-    ghost groups = { λ g. type_6_by_chain (C.county g.chart.now) };
-
-    ghost IsHead = { λ g. HasRecords (type_6_by_chain (C.county g.chart.now)) };
-
-    fn count(&self) -> usize {
+    fn group_count(&self) -> usize {
         self.chart.chain_count()
     }
 
-    fn buffer(buffers: &mut HeadBuffers) -> &mut [usize] {
-        &mut buffers.counts
-    }
-
-    fn head(&self, group: usize) -> usize {
+    fn record_count(&self, group: usize) -> usize {
         self.chart.range_count_at(group)
     }
 
-    fn count_in(&self, _group: usize, head: usize) -> usize {
-        head
-    }
-
-    fn record(&self, group: usize, _head: usize, place: usize) -> Rec6 {
+    fn record_at(&self, group: usize, place: usize) -> Rec6 {
         let ranges = self.chart.range_there(group, place);
         Rec6::new(
             chain_tlid(self.chart, group),

@@ -4,21 +4,21 @@
 //! chain doesn't wait until another's number is found. They are stored with their new numbers, and no number is looked up
 //! again.
 
-ghost use Rattle.std.specs.Ordering.{nat_cmp};
-ghost use Rattle.std.specs.Prelude.{◌≡◌, [], ◌<◌, ◌^◌, ℕ, List, Some, IfOk, OnOk, flat_map, length, map, option_map, option_to_list};
+ghost use Rattle.std.specs.Prelude.{◌≡◌, [], Some, IfOk, OnOk, flat_map, length, map, option_map};
 ghost use Rattle.ordered_lists.specs.Entries.{entry_values};
-ghost use Rattle.tl_county.specs.PolygonKeys.{PolygonKey, key_cmp, key_on};
 ghost use Rattle.tl_number.specs.Arrangement.{polygons_in_order};
-ghost use Rattle.tl_number.specs.EndsAndSides.{ends_among, ends_of, node_among, nodes_at, polygons_at, side_among, sides_among, sides_of};
-ghost use Rattle.tl_number.specs.Growth.{first_seen, first_seen_after};
+ghost use Rattle.tl_number.specs.EndsAndSides.{changed_both, ends_of, keys_at, sides_of};
+ghost use Rattle.tl_number.specs.Growth.{first_seen};
 ghost use Rattle.tl_number.specs.DirectedChains.{HasChainsOf, arrangement_of};
 ghost use Rattle.tl_county.specs.DirectedChains.{directed_chain};
 ghost use Rattle.tl_number.specs.ViewFacts.{AreWhole, MatchesNodes, arranged_by};
 
 use crate::arranged_tables::{Ends, NodeTables, Sides};
 use crate::directed_readers::{ends_of_directed, sides_of_directed};
-use crate::numbers::{Interner, marks_for};
+use crate::numbers::{Interner, NumericKey, marks_for};
+use ordered_lists::Key;
 use std::alloc::{AllocError, Global};
+use std::hash::Hash;
 use tl_county::{Chart, DirectedChain, PolygonKey};
 use tl_layout::{NumberOrNone, Side};
 
@@ -42,91 +42,120 @@ fn links_along<C: Chart>(
     Ok((ends, sides))
 }
 
-/// Sees a node, if there is one, and returns its number, which stays whatever is seen later.
-fn number_node(nodes: &mut Interner<u64>, node: NumberOrNone) -> Result<NumberOrNone, AllocError>
-    ensures seen { OnOk result (nodes.new ≡ first_seen_after nat_cmp nodes.old (option_to_list node)) }
-    ensures number { IfOk result (λ number. (later : List ℕ) → number ≡ node_among (first_seen_after nat_cmp nodes.new later) node) }
-{
-    match node.get() {
-        Some(number) => {
-            let place = nodes.see_place(number)?;
-            Ok(NumberOrNone::new(Some(place as u64 + 1)))
-        }
-        None => Ok(node),
-    }
+/// An end or a side of a chain. It may have a key, a node or a polygon, which is replaced with its number.
+trait Half: Copy + Drop {
+    ghost use Rattle.std.specs.Prelude.{◌≡◌, ◌≤◌, ℕ, List, IfOk, OnOk, length};
+    ghost use Rattle.tl_number.specs.Growth.{first_seen_after};
+
+    /// A key.
+    type Old: Key + Hash + NumericKey;
+
+    /// Its key, if it has one.
+    ghost keys: { Self → List Self.Old };
+
+    /// What it is with the number of its key among these keys.
+    ghost among: { List Self.Old → Self → Self };
+
+    /// This many keys can be numbered.
+    ghost AreFew: { ℕ → Type 0 };
+
+    /// Sees the key, if there is one, and returns the half with its number, which stays whatever is seen later.
+    fn number(self, numbers: &mut Interner<Self::Old>) -> Result<Self, AllocError>
+        requires { AreFew (length (first_seen_after Self.Old.cmp numbers.old (keys self))) }
+        ensures seen { OnOk result (numbers.new ≡ first_seen_after Self.Old.cmp numbers.old (keys self)) }
+        ensures number { IfOk result (λ new. (later : List Self.Old) → new ≡ among (first_seen_after Self.Old.cmp numbers.new later) self) };
+
+    /// Fewer keys can be numbered too.
+    ghost fewer: { (m n : ℕ) → m ≤ n → AreFew n → AreFew m };
 }
 
-/// Sees the polygon on a side, if there is one, and returns the side with its number, which stays whatever is seen later.
-fn number_side(polygons: &mut Interner<PolygonKey>, side: Side) -> Result<Side, AllocError>
-    requires few { length (first_seen_after key_cmp polygons.old (key_on side)) < 10 ^ 10 }
-    ensures seen { OnOk result (polygons.new ≡ first_seen_after key_cmp polygons.old (key_on side)) }
-    ensures number { IfOk result (λ new. (later : List PolygonKey) → new ≡ side_among (first_seen_after key_cmp polygons.new later) side) }
-{
-    match side.polyid() {
-        Some(polyid) => {
-            let cenid = side.cenid();
-            let place = polygons.see_place((cenid, polyid))?;
-            Ok(Side::new(cenid, Some(place as u64 + 1)))
+/// A node.
+impl Half for NumberOrNone {
+    ghost use Rattle.std.specs.Prelude.{option_to_list};
+    ghost use Rattle.tl_number.specs.EndsAndSides.{node_among};
+
+    type Old = u64;
+
+    ghost keys = { option_to_list };
+
+    ghost among = { node_among };
+
+    ghost AreFew = { λ _. Unit {0} };
+
+    fn number(self, numbers: &mut Interner<u64>) -> Result<NumberOrNone, AllocError> {
+        match self.get() {
+            Some(number) => {
+                let place = numbers.see_place(number)?;
+                Ok(NumberOrNone::new(Some(place as u64 + 1)))
+            }
+            None => Ok(self),
         }
-        None => Ok(side),
     }
+
+    ghost fewer = { λ _ _ _ _. tt };
 }
 
-/// Sees the nodes of these ends, and replaces them with their numbers.
-fn see_ends(numbers: &mut Interner<u64>, ends: &mut [Ends]) -> Result<(), AllocError>
+/// A side, with its polygon's CENID and POLYID.
+impl Half for Side {
+    ghost use Rattle.tl_county.specs.PolygonKeys.{key_on};
+    ghost use Rattle.tl_number.specs.EndsAndSides.{AreFewPolygons, fewer_polygons, side_among};
+
+    type Old = PolygonKey;
+
+    ghost keys = { key_on };
+
+    ghost among = { side_among };
+
+    ghost AreFew = { AreFewPolygons };
+
+    fn number(self, numbers: &mut Interner<PolygonKey>) -> Result<Side, AllocError> {
+        match self.polyid() {
+            Some(polyid) => {
+                let cenid = self.cenid();
+                let place = numbers.see_place((cenid, polyid))?;
+                Ok(Side::new(cenid, Some(place as u64 + 1)))
+            }
+            None => Ok(self),
+        }
+    }
+
+    ghost fewer = { fewer_polygons };
+}
+
+/// Sees the keys of these ends or sides, and replaces them with their numbers.
+fn see_pairs<T: Half>(
+    numbers: &mut Interner<T::Old>,
+    pairs: &mut [(T, T)],
+) -> Result<(), AllocError>
     requires first { numbers.old ≡ [] }
-    ensures numbers { OnOk result (numbers.new ≡ first_seen nat_cmp (flat_map nodes_at ends.old)) }
-    ensures ends { OnOk result (ends.new ≡ map (ends_among (first_seen nat_cmp (flat_map nodes_at ends.old))) ends.old) }
+    requires few { T.AreFew (length (first_seen T.Old.cmp (flat_map (keys_at T.keys) pairs.old))) }
+    ensures numbers { OnOk result (numbers.new ≡ first_seen T.Old.cmp (flat_map (keys_at T.keys) pairs.old)) }
+    ensures pairs { OnOk result
+        (pairs.new ≡ map (changed_both (T.among (first_seen T.Old.cmp (flat_map (keys_at T.keys) pairs.old)))) pairs.old) }
 {
-    for pair in ends.iter_mut() {
-        let (start, end) = *pair;
-        let new_start = number_node(numbers, start)?;
-        let new_end = number_node(numbers, end)?;
-        *pair = (new_start, new_end);
+    for pair in pairs.iter_mut() {
+        let (first, second) = *pair;
+        let new_first = first.number(numbers)?;
+        let new_second = second.number(numbers)?;
+        *pair = (new_first, new_second);
     }
     Ok(())
 }
 
-/// The nodes of these ends in the order of their first appearance, and the ends with these numbers.
-fn number_ends(alloc: Global, ends: Vec<Ends>) -> Result<NodeTables, AllocError>
-    ensures numbers { IfOk result (λ tables. tables.numbers ≡ first_seen nat_cmp (flat_map nodes_at ends.items)) }
-    ensures ends { IfOk result (λ tables. tables.ends.items ≡ map (ends_among (first_seen nat_cmp (flat_map nodes_at ends.items))) ends.items) }
-{
-    let mut ends = ends;
-    let mut numbers = Interner::with_marks(alloc, marks_for(ends.len()))?;
-    see_ends(&mut numbers, &mut ends)?;
-    Ok(NodeTables { numbers, ends })
-}
-
-/// Sees the polygons on these sides, and replaces their POLYIDs with their numbers.
-fn see_sides(numbers: &mut Interner<PolygonKey>, sides: &mut [Sides]) -> Result<(), AllocError>
-    requires first { numbers.old ≡ [] }
-    requires few { length (first_seen key_cmp (flat_map polygons_at sides.old)) < 10 ^ 10 }
-    ensures numbers { OnOk result (numbers.new ≡ first_seen key_cmp (flat_map polygons_at sides.old)) }
-    ensures sides { OnOk result (sides.new ≡ map (sides_among (first_seen key_cmp (flat_map polygons_at sides.old))) sides.old) }
-{
-    for pair in sides.iter_mut() {
-        let (left, right) = *pair;
-        let new_left = number_side(numbers, left)?;
-        let new_right = number_side(numbers, right)?;
-        *pair = (new_left, new_right);
-    }
-    Ok(())
-}
-
-/// The polygons on these sides in the order of their first appearance, and the sides with these numbers.
-fn number_sides(
+/// The keys of these ends or sides in the order of their first appearance, and the ends or sides with these numbers.
+fn number_pairs<T: Half>(
     alloc: Global,
-    sides: Vec<Sides>,
-) -> Result<(Interner<PolygonKey>, Vec<Sides>), AllocError>
-    requires few { length (first_seen key_cmp (flat_map polygons_at sides.items)) < 10 ^ 10 }
-    ensures numbers { IfOk result (λ tables. tables.0 ≡ first_seen key_cmp (flat_map polygons_at sides.items)) }
-    ensures sides { IfOk result (λ tables. tables.1.items ≡ map (sides_among (first_seen key_cmp (flat_map polygons_at sides.items))) sides.items) }
+    pairs: Vec<(T, T)>,
+) -> Result<(Interner<T::Old>, Vec<(T, T)>), AllocError>
+    requires { T.AreFew (length (first_seen T.Old.cmp (flat_map (keys_at T.keys) pairs.items))) }
+    ensures numbers { IfOk result (λ tables. tables.0 ≡ first_seen T.Old.cmp (flat_map (keys_at T.keys) pairs.items)) }
+    ensures pairs { IfOk result (λ tables. tables.1.items
+        ≡ map (changed_both (T.among (first_seen T.Old.cmp (flat_map (keys_at T.keys) pairs.items)))) pairs.items) }
 {
-    let mut sides = sides;
-    let mut numbers = Interner::with_marks(alloc, marks_for(sides.len()))?;
-    see_sides(&mut numbers, &mut sides)?;
-    Ok((numbers, sides))
+    let mut pairs = pairs;
+    let mut numbers = Interner::with_marks(alloc, marks_for(pairs.len()))?;
+    see_pairs(&mut numbers, &mut pairs)?;
+    Ok((numbers, pairs))
 }
 
 /// The nodes and the polygons of a county in the order of their first appearance along these directed chains, start before end and left
@@ -142,7 +171,14 @@ pub(crate) fn number_links<C: Chart>(
     ensures sides { IfOk result (λ tables. tables.2.items ≡ map sides_of (entry_values (arranged_by (C.county chart.now) arrangement.now).chains)) }
 {
     let (ends, sides) = links_along(alloc, chart, arrangement)?;
-    let nodes = number_ends(alloc, ends)?;
-    let (numbers, sides) = number_sides(alloc, sides)?;
-    Ok((nodes, numbers, sides))
+    let (nodes, ends) = number_pairs(alloc, ends)?;
+    let (polygons, sides) = number_pairs(alloc, sides)?;
+    Ok((
+        NodeTables {
+            numbers: nodes,
+            ends,
+        },
+        polygons,
+        sides,
+    ))
 }

@@ -7,7 +7,7 @@
 ghost use Rattle.std.specs.Cmp.Lexicographic.{slice_cmp};
 ghost use Rattle.std.specs.declared.cmp.Ordering.TheVariants.{Greater};
 ghost use Rattle.std.specs.Ordering.{nat_cmp};
-ghost use Rattle.std.specs.Prelude.{◌≡◌, MatchOption};
+ghost use Rattle.std.specs.Prelude.{◌≡◌, MatchOption, true};
 ghost use Rattle.tl_number.specs.RecordOrder.{groups_cmp, spelling_cmp};
 
 use crate::cursor::{Cursor, next};
@@ -67,4 +67,19 @@ pub(crate) fn compare_groups<L: RecordEq, G: RecordGroups<Item = L>, H: RecordGr
         Some(_) => Ordering::Less,
         None => Ordering::Equal,
     }
+}
+
+/// Compares records in groups that may be known to be the same, and reads none of them then.
+pub(crate) fn compare_unless<L: RecordEq, G: RecordGroups<Item = L>, H: RecordGroups<Item = L>>(
+    same: bool,
+    a: &G,
+    b: &H,
+) -> Ordering
+    requires { same ≡ true → G.groups a.now ≡ H.groups b.now }
+    ensures { result ≡ groups_cmp L.as_record (G.groups a.now) (H.groups b.now) }
+{
+    if same {
+        return Ordering::Equal;
+    }
+    compare_groups(a, b)
 }

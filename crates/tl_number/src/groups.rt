@@ -63,6 +63,65 @@ pub trait RecordGroups {
     }
 }
 
+/// Records in groups whose heads are their numbers of records.
+pub trait CountedGroups {
+    ghost use Rattle.std.specs.Prelude.{◌≡◌, ◌<◌, List, Some, length, slice_get};
+    ghost use Rattle.tl_number.specs.Groups.{group_at};
+
+    /// The type of the records.
+    type Record: Tabled;
+
+    /// The groups.
+    ghost counted: { Self → List (List Self.Record) };
+
+    /// Returns the number of groups.
+    fn group_count(&self) -> usize
+        ensures { result ≡ length (counted self.now) };
+
+    /// Returns the number of records in a group.
+    fn record_count(&self, group: usize) -> usize
+        requires { group < length (counted self.now) }
+        ensures { result ≡ length (group_at (counted self.now) group) };
+
+    /// Makes a record of a group.
+    fn record_at(&self, group: usize, place: usize) -> Self::Record
+        requires group { group < length (counted self.now) }
+        requires place { place < length (group_at (counted self.now) group) }
+        ensures { Some result ≡ slice_get (group_at (counted self.now) group) place };
+}
+
+impl<G: CountedGroups> RecordGroups for G {
+    ghost use Rattle.tl_number.specs.Groups.{HasRecords};
+
+    type Item = G::Record;
+
+    type Head = usize;
+
+    ghost groups = { G.counted };
+
+    ghost IsHead = { λ g. HasRecords (G.counted g) };
+
+    fn count(&self) -> usize {
+        self.group_count()
+    }
+
+    fn buffer(buffers: &mut HeadBuffers) -> &mut [usize] {
+        &mut buffers.counts
+    }
+
+    fn head(&self, group: usize) -> usize {
+        self.record_count(group)
+    }
+
+    fn count_in(&self, _group: usize, head: usize) -> usize {
+        head
+    }
+
+    fn record(&self, group: usize, _head: usize, place: usize) -> G::Record {
+        self.record_at(group, place)
+    }
+}
+
 /// Reads the heads of groups from one of them on, until the buffer is full or there are no more groups, and returns their
 /// number.
 pub fn read_heads<G: RecordGroups>(groups: &G, first: usize, buffer: &mut [G::Head]) -> usize

@@ -20,15 +20,22 @@ use tl_layout::Rec8;
 /// The fields of a link in the order of comparison: LAND, POLYID, CENID, FILE.
 type LinkKey = (u64, (u64, ([u8; 5], [u8; 5])));
 
+/// The polygons and the landmarks of a county in the order of their new numbers.
+#[derive(Clone, Copy)]
+struct NewOrder<'a> {
+    polygons: &'a Interner<PolygonKey>,
+    lands: &'a Interner<u64>,
+    ghost few_polygons: { length polygons.now < 10 ^ 10 },
+    ghost few_lands: { length lands.now < 10 ^ 10 },
+}
+
 /// A link with the new numbers of its polygon and its landmark.
-fn renumbered_link(polygons: &Interner<PolygonKey>, lands: &Interner<u64>, link: &Rec8) -> Rec8
-    requires few_polygons { length polygons.now < 10 ^ 10 }
-    requires few_lands { length lands.now < 10 ^ 10 }
-    ensures { result ≡ link_under polygons.now lands.now link.now }
+fn renumbered_link(order: &NewOrder<'_>, link: &Rec8) -> Rec8
+    ensures { result ≡ link_under order.now.polygons.now order.now.lands.now link.now }
 {
     let cenid = link.cenid();
-    let key = new_key(polygons, (cenid, link.polyid()));
-    let land = new_land(lands, link.land());
+    let key = new_key(order.polygons, (cenid, link.polyid()));
+    let land = new_land(order.lands, link.land());
     Rec8::new(link.file(), cenid, key.1, land)
 }
 
@@ -36,34 +43,30 @@ fn renumbered_link(polygons: &Interner<PolygonKey>, lands: &Interner<u64>, link:
 fn push_links<C: Chart>(
     links: &mut Vec<Rec8>,
     chart: &C,
-    polygons: &Interner<PolygonKey>,
-    lands: &Interner<u64>,
+    order: &NewOrder<'_>,
     place: usize,
 ) -> Result<(), AllocError>
-    requires few_polygons { length polygons.now < 10 ^ 10 }
-    requires few_lands { length lands.now < 10 ^ 10 }
-    ensures { OnOk result (links.new.items ≡ links.old.items ++ map (link_under polygons.now lands.now) (links_at (C.county chart.now) place)) }
+    ensures { OnOk result (links.new.items
+        ≡ links.old.items ++ map (link_under order.now.polygons.now order.now.lands.now) (links_at (C.county chart.now) place)) }
 {
     let own = (0..chart.link_count_at(place)).filter_map(|link| chart.landmark_link_at(
         place, link,
     ));
-    links.extend(own.map(|link| renumbered_link(polygons, lands, &link)))
+    links.extend(own.map(|link| renumbered_link(order, &link)))
 }
 
 /// The links of all landmarks with their new numbers, landmark after landmark.
 fn gather_links<C: Chart>(
     alloc: Global,
     chart: &C,
-    polygons: &Interner<PolygonKey>,
-    lands: &Interner<u64>,
+    order: &NewOrder<'_>,
 ) -> Result<Vec<Rec8>, AllocError>
-    requires few_polygons { length polygons.now < 10 ^ 10 }
-    requires few_lands { length lands.now < 10 ^ 10 }
-    ensures { IfOk result (λ links. links.items ≡ flat_map (λ place. map (link_under polygons.now lands.now) (links_at (C.county chart.now) place)) (range_with_len 0 (length (C.county chart.now).landmarks))) }
+    ensures { IfOk result (λ links. links.items ≡ flat_map (λ place. map (link_under order.now.polygons.now order.now.lands.now)
+        (links_at (C.county chart.now) place)) (range_with_len 0 (length (C.county chart.now).landmarks))) }
 {
     let mut links = Vec::new(alloc);
     for place in 0..chart.landmark_count() {
-        push_links(&mut links, chart, polygons, lands, place)?;
+        push_links(&mut links, chart, order, place)?;
     }
     Ok(links)
 }
@@ -79,7 +82,7 @@ pub(crate) fn links_under<C: Chart>(
     requires few_lands { length lands.now < 10 ^ 10 }
     ensures { IfOk result (λ links. links.items ≡ in_order link_cmp (map (link_under polygons.now lands.now) (C.county chart.now).links)) }
 {
-    let mut links = gather_links(alloc, chart, polygons, lands)?;
+    let mut links = gather_links(alloc, chart, &NewOrder { polygons, lands })?;
     put_in_order::<LinkKey, Rec8>(&mut links)?;
     Ok(links)
 }

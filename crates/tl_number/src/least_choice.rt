@@ -12,10 +12,9 @@ ghost use Rattle.std.specs.Prelude.{◌≡◌, ◌<◌, ◌≤◌, cond, false, 
 ghost use Rattle.tl_county.specs.CountyRules.{AllKeysStandIn, polygon_keys, polygons_along};
 ghost use Rattle.tl_number.specs.Arrangement.{arranged};
 ghost use Rattle.tl_number.specs.Canonical.{IsNotAfter};
-ghost use Rattle.tl_number.specs.ChoiceSearch.{LeavesChoices};
+ghost use Rattle.tl_number.specs.ChoiceSearch.{IsMoved, LeavesChoices, numbered_arrangement};
 ghost use Rattle.tl_number.specs.LeastNumber.{IsLeastBelow, choice_list};
-ghost use Rattle.tl_number.specs.MovedChains.{AgreeApart, AreWithin, other_way};
-ghost use Rattle.tl_number.specs.NumberedChoices.{moved};
+ghost use Rattle.tl_number.specs.MovedChains.{AreWithin};
 ghost use Rattle.tl_number.specs.DirectedChains.{HasChainsOf, arrangement_of};
 ghost use Rattle.tl_number.specs.Tidy.{IsLeastChoice, numbered_choice};
 ghost use Rattle.tl_number.specs.TypeOneOrder.{IsLeastFrom, IsLeastOne, ones_cmp};
@@ -44,7 +43,7 @@ fn arrangement_of_number(
     number: u64,
 ) -> Result<Vec<DirectedChain>, AllocError>
     requires { AreWithin (length order.now.by_shape) order.now.places }
-    ensures { IfOk result (λ arrangement. arrangement.items ≡ (moved other_way order.now.places (order.now.by_shape, number)).0) }
+    ensures { IfOk result (λ arrangement. arrangement.items ≡ numbered_arrangement order.now number) }
 {
     let mut arrangement = arrangement_in_order(alloc, order)?;
     choose(&mut arrangement, order.open_places(), number);
@@ -136,13 +135,11 @@ fn compare_number<C: Chart>(
     number: u64,
 ) -> Ordering
     requires known { LeavesChoices (C.county chart.now) order.now }
-    requires least { least.now.choice.items ≡ (moved other_way order.now.places (order.now.by_shape, least.now.number)).0 }
-    requires count { length arrangement.old ≡ length order.now.by_shape }
-    requires apart { AgreeApart order.now.places arrangement.old order.now.by_shape }
+    requires least { least.now.choice.items ≡ numbered_arrangement order.now least.now.number }
+    requires moved { IsMoved order.now arrangement.old }
     ensures order { result ≡ ones_cmp (C.county chart.now) least.now.number number }
-    ensures arrangement { arrangement.new ≡ (moved other_way order.now.places (order.now.by_shape, number)).0 }
-    ensures count { length arrangement.new ≡ length order.now.by_shape }
-    ensures apart { AgreeApart order.now.places arrangement.new order.now.by_shape }
+    ensures arrangement { arrangement.new ≡ numbered_arrangement order.now number }
+    ensures moved { IsMoved order.now arrangement.new }
 {
     let places = order.open_places();
     put_back(arrangement, order.by_shape(), places);
@@ -159,13 +156,11 @@ fn compare_next<C: Chart>(
     number: u64,
 ) -> Ordering
     requires known { LeavesChoices (C.county chart.now) order.now }
-    requires least { least.now.choice.items ≡ (moved other_way order.now.places (order.now.by_shape, least.now.number)).0 }
-    requires count { length arrangement.old.items ≡ length order.now.by_shape }
-    requires apart { AgreeApart order.now.places arrangement.old.items order.now.by_shape }
+    requires least { least.now.choice.items ≡ numbered_arrangement order.now least.now.number }
+    requires moved { IsMoved order.now arrangement.old.items }
     ensures order { result ≡ ones_cmp (C.county chart.now) least.now.number number }
-    ensures arrangement { arrangement.new.items ≡ (moved other_way order.now.places (order.now.by_shape, number)).0 }
-    ensures count { length arrangement.new.items ≡ length order.now.by_shape }
-    ensures apart { AgreeApart order.now.places arrangement.new.items order.now.by_shape }
+    ensures arrangement { arrangement.new.items ≡ numbered_arrangement order.now number }
+    ensures moved { IsMoved order.now arrangement.new.items }
 {
     compare_number(chart, order, least, arrangement, number)
 }
@@ -177,7 +172,7 @@ fn least_of_type_1<C: Chart>(
     order: &ShapeOrder,
 ) -> Result<NumberedChoice<Vec<DirectedChain>>, AllocError>
     requires { LeavesChoices (C.county chart.now) order.now }
-    ensures arrangement { IfOk result (λ least. least.choice.items ≡ (moved other_way order.now.places (order.now.by_shape, least.number)).0) }
+    ensures arrangement { IfOk result (λ least. least.choice.items ≡ numbered_arrangement order.now least.number) }
     ensures least { IfOk result (λ least. IsLeastOne (C.county chart.now) (choices (C.county chart.now)) least.number) }
 {
     let mut arrangement = arrangement_in_order(alloc, order)?;
@@ -204,15 +199,13 @@ fn is_other_tie<C: Chart>(
     number: u64,
 ) -> bool
     requires known { LeavesChoices (C.county chart.now) order.now }
-    requires arrangement { least.now.choice.items ≡ (moved other_way order.now.places (order.now.by_shape, least.now.number)).0 }
+    requires arrangement { least.now.choice.items ≡ numbered_arrangement order.now least.now.number }
     requires least { IsLeastOne (C.county chart.now) (choices (C.county chart.now)) least.now.number }
     requires number { number < choices (C.county chart.now) }
-    requires count { length arrangement.old ≡ length order.now.by_shape }
-    requires apart { AgreeApart order.now.places arrangement.old order.now.by_shape }
+    requires moved { IsMoved order.now arrangement.old }
     ensures tied { result ≡ true → ones_cmp (C.county chart.now) least.now.number number ≡ Equal }
     ensures least { result ≡ false → IsNotAfter (choice_list (C.county chart.now) least.now.number) (choice_list (C.county chart.now) number) }
-    ensures count { length arrangement.new ≡ length order.now.by_shape }
-    ensures apart { AgreeApart order.now.places arrangement.new order.now.by_shape }
+    ensures moved { IsMoved order.now arrangement.new }
 {
     let ordering = compare_number(chart, order, least, arrangement, number);
     if ordering.is_eq() {
@@ -231,12 +224,10 @@ fn next_tie<C: Chart>(
     first: u64,
 ) -> Option<u64>
     requires known { LeavesChoices (C.county chart.now) order.now }
-    requires arrangement { least.now.choice.items ≡ (moved other_way order.now.places (order.now.by_shape, least.now.number)).0 }
+    requires arrangement { least.now.choice.items ≡ numbered_arrangement order.now least.now.number }
     requires least { IsLeastOne (C.county chart.now) (choices (C.county chart.now)) least.now.number }
-    requires count { length arrangement.old ≡ length order.now.by_shape }
-    requires apart { AgreeApart order.now.places arrangement.old order.now.by_shape }
-    ensures count { length arrangement.new ≡ length order.now.by_shape }
-    ensures apart { AgreeApart order.now.places arrangement.new order.now.by_shape }
+    requires moved { IsMoved order.now arrangement.old }
+    ensures moved { IsMoved order.now arrangement.new }
     ensures tie { MatchOption result (IsLeastFrom (C.county chart.now) first (choices (C.county chart.now)) least.now.number)
         (λ tie. IsLeastFrom (C.county chart.now) first tie least.now.number) }
     ensures within { IfSome result (λ tie. (first ≤ tie) × (tie < choices (C.county chart.now))) }
@@ -261,11 +252,10 @@ fn least_of_ties<C: Chart>(
     tie: u64,
 ) -> Result<u64, AllocError>
     requires known { LeavesChoices (C.county chart.now) order.now }
-    requires arrangement { first.now.choice.items ≡ (moved other_way order.now.places (order.now.by_shape, first.now.number)).0 }
+    requires arrangement { first.now.choice.items ≡ numbered_arrangement order.now first.now.number }
     requires least { IsLeastOne (C.county chart.now) (choices (C.county chart.now)) first.now.number }
     requires before { IsLeastFrom (C.county chart.now) 0 tie first.now.number }
-    requires count { length arrangement.old ≡ length order.now.by_shape }
-    requires apart { AgreeApart order.now.places arrangement.old order.now.by_shape }
+    requires moved { IsMoved order.now arrangement.old }
     ensures { IfOk result (IsLeastBelow (C.county chart.now) (choices (C.county chart.now))) }
 {
     let choice = arrange_choice(alloc, chart, order, first.number)?;
@@ -323,5 +313,6 @@ pub(crate) fn least_arrangement<C: Chart>(
     ensures once { IfOk result (λ arrangement. NamesEachOnce (C.county chart.now) (arrangement_of (C.county chart.now) arrangement.items)) }
 {
     let number = number_of_least(alloc, chart, order)?;
-    arrangement_of_number(alloc, order, number)
+    let arrangement = arrangement_of_number(alloc, order, number)?;
+    Ok(arrangement)
 }

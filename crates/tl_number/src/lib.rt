@@ -53,7 +53,7 @@ pub use canon_county::{CanonCounty, CanonCountyIn, Canonical};
 pub use chain_records::{
     ChainRecords, FurtherNameRecords, RangeRecords, ShapePointRecords, TopologyRecords,
 };
-pub use groups::{RecordGroups, read_heads};
+pub use groups::{CountedGroups, RecordGroups, read_heads};
 pub use heads::HeadBuffers;
 pub use laws::{
     a_packed_county_is_read_back, accepted_or_one_refusal, an_arrangement_gives_an_arranged_list,

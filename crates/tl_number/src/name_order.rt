@@ -6,7 +6,7 @@
 ghost use Rattle.std.specs.List.{range_with_len};
 ghost use Rattle.std.specs.Option.{option_cmp};
 ghost use Rattle.std.specs.Ordering.{nat_cmp};
-ghost use Rattle.std.specs.Prelude.{◌≡◌, ◌<◌, ◌^◌, IfOk, OnOk, false, filter_map, length, map, option_to_list, slice_get};
+ghost use Rattle.std.specs.Prelude.{◌≡◌, ◌<◌, ◌^◌, IfOk, OnOk, false, filter_map, length, map, slice_get};
 ghost use Rattle.tl_county.specs.BodyOrder.{name_body_cmp};
 ghost use Rattle.tl_county.specs.ChartWords.{feats_of};
 ghost use Rattle.tl_county.specs.CountyRules.{feats};
@@ -65,16 +65,6 @@ fn cmp_bodies(a: Option<Body5>, b: Option<Body5>) -> Ordering
     }
 }
 
-/// Sees a further name, if there is one.
-fn see_feat(feats: &mut Interner<u32>, feat: Option<u32>) -> Result<(), AllocError>
-    ensures { OnOk result (feats.new ≡ first_seen_after nat_cmp feats.old (option_to_list feat)) }
-{
-    match feat {
-        Some(number) => feats.see(number),
-        None => Ok(()),
-    }
-}
-
 /// Sees the further names of a directed chain, one after another.
 fn see_feats<C: Chart>(
     feats: &mut Interner<u32>,
@@ -85,7 +75,7 @@ fn see_feats<C: Chart>(
 {
     let further = directed.feats(chart);
     for name in 0..further.count() {
-        see_feat(feats, further.get(name))?;
+        feats.see(further.item(name))?;
     }
     Ok(())
 }

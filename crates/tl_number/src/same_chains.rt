@@ -2,10 +2,10 @@
 //! only differ in the order of such chains make the same county.
 
 ghost use Rattle.std.specs.Bool.{Decides};
-ghost use Rattle.std.specs.Prelude.{◌≡◌, ◌+◌, length, map};
+ghost use Rattle.std.specs.Prelude.{◌≡◌, ◌+◌, ◌≤◌, length, map};
 ghost use Rattle.tl_cert.specs.PartsThere.{HaveSameContent, HaveSameEnds, HaveSameLists};
 ghost use Rattle.tl_county.specs.ChartWords.{points_of};
-ghost use Rattle.tl_number.specs.MovedChains.{AgreeButOpen, HaveSameChainsBelow, IsWithin};
+ghost use Rattle.tl_number.specs.MovedChains.{AgreeButOpen, HaveSamePartsBelow, IsWithin};
 ghost use Rattle.tl_number.specs.DirectedChains.{parts_along};
 ghost use Rattle.tl_county.specs.DirectedChains.{directed_chain};
 
@@ -20,35 +20,35 @@ fn have_same_points<C: Chart>(chart: &C, one: DirectedChain, other: DirectedChai
     are_same(&other.points(chart), &one.points(chart))
 }
 
-/// A list that each chain has.
-pub(crate) trait ChainList {
+/// A chain, or a part of it that each chain has.
+pub(crate) trait ChainPart {
     ghost use Rattle.std.specs.Bool.{Decides};
-    ghost use Rattle.std.specs.Prelude.{◌≡◌, List, Option};
+    ghost use Rattle.std.specs.Prelude.{◌≡◌, Option};
     ghost use Rattle.tl_county.specs.DirectedChains.{directed_chain};
     ghost use Rattle.tl_shape.specs.Chain.{Chain};
 
-    /// An item.
-    ghost Entry: { Type 0 };
+    /// What the part is.
+    ghost Part: { Type 0 };
 
-    /// The list of a chain, or an empty list without a chain.
-    ghost list: { Option Chain → List Entry };
+    /// The part of a chain, if there is a chain.
+    ghost part: { Option Chain → Part };
 
-    /// Whether two directed chains have the same list.
+    /// Whether two directed chains have the same part.
     fn is_same<C: Chart>(&self, chart: &C, one: DirectedChain, other: DirectedChain) -> bool
-        ensures { Decides result (list (directed_chain (C.county chart.now) one) ≡ list (directed_chain (C.county chart.now) other)) };
+        ensures { Decides result (part (directed_chain (C.county chart.now) one) ≡ part (directed_chain (C.county chart.now) other)) };
 }
 
 /// The FEATs of the further names.
 #[derive(Drop)]
 pub(crate) struct FurtherNames;
 
-impl ChainList for FurtherNames {
-    ghost use Rattle.std.specs.Prelude.{ℕ};
+impl ChainPart for FurtherNames {
+    ghost use Rattle.std.specs.Prelude.{ℕ, List};
     ghost use Rattle.tl_county.specs.ChartWords.{feats_of};
 
-    ghost Entry = { ℕ };
+    ghost Part = { List ℕ };
 
-    ghost list = { feats_of };
+    ghost part = { feats_of };
 
     fn is_same<C: Chart>(&self, chart: &C, one: DirectedChain, other: DirectedChain) -> bool {
         are_same(&other.feats(chart), &one.feats(chart))
@@ -59,33 +59,75 @@ impl ChainList for FurtherNames {
 #[derive(Drop)]
 pub(crate) struct FurtherRanges;
 
-impl ChainList for FurtherRanges {
+impl ChainPart for FurtherRanges {
+    ghost use Rattle.std.specs.Prelude.{List};
     ghost use Rattle.tl_county.specs.ChartWords.{ranges_of};
     ghost use Rattle.tl_layout.specs.declared.ranges.Ranges.{Ranges};
 
-    ghost Entry = { Ranges };
+    ghost Part = { List Ranges };
 
-    ghost list = { ranges_of };
+    ghost part = { ranges_of };
 
     fn is_same<C: Chart>(&self, chart: &C, one: DirectedChain, other: DirectedChain) -> bool {
         are_same(&other.ranges(chart), &one.ranges(chart))
     }
 }
 
-/// Whether two directed chains have the same list. Nothing is read if the directed chains are the same.
-fn have_same_list_at<L: ChainList, C: Chart>(
-    list: &L,
+/// All of a chain except its TLID.
+#[derive(Drop)]
+struct WholeChain;
+
+impl ChainPart for WholeChain {
+    ghost use Rattle.std.specs.Prelude.{Option};
+    ghost use Rattle.tl_shape.specs.Chain.{Chain};
+
+    ghost Part = { Option Chain };
+
+    ghost part = { λ chain. chain };
+
+    fn is_same<C: Chart>(&self, chart: &C, one: DirectedChain, other: DirectedChain) -> bool {
+        is_same_chain(chart, one, other)
+    }
+}
+
+/// Whether two directed chains have the same part. Nothing is read if the directed chains are the same.
+fn have_same_part_at<P: ChainPart, C: Chart>(
+    part: &P,
     chart: &C,
     one: DirectedChain,
     other: DirectedChain,
 ) -> bool
-    ensures { Decides result (L.list (directed_chain (C.county chart.now) one) ≡ L.list (directed_chain (C.county chart.now) other)) }
+    ensures { Decides result (P.part (directed_chain (C.county chart.now) one) ≡ P.part (directed_chain (C.county chart.now) other)) }
 {
     let same = one.is_same(other);
     if same {
         return true;
     }
-    list.is_same(chart, one, other)
+    part.is_same(chart, one, other)
+}
+
+/// Whether the chains of two arrangements have the same part at each place below the end. It must be the same at the places before the
+/// first one.
+fn have_same_parts_below<P: ChainPart, C: Chart>(
+    part: &P,
+    chart: &C,
+    first: usize,
+    end: usize,
+    one: &[DirectedChain],
+    other: &[DirectedChain],
+) -> bool
+    requires count { length one.now ≡ length other.now }
+    requires within { end ≤ length one.now }
+    requires before { HaveSamePartsBelow P.part (C.county chart.now) first one.now other.now }
+    ensures { Decides result (HaveSamePartsBelow P.part (C.county chart.now) end one.now other.now) }
+{
+    for place in first..end {
+        let same = have_same_part_at(part, chart, one[place], other[place]);
+        if !same {
+            return false;
+        }
+    }
+    true
 }
 
 /// Whether two directed chains have the same content in their records of types 1 and I.
@@ -158,17 +200,12 @@ fn have_same_chains_at<C: Chart>(
 ) -> bool
     requires count { length one.now ≡ length other.now }
     requires within { IsWithin (length one.now) at }
-    requires before { HaveSameChainsBelow (C.county chart.now) at.place one.now other.now }
-    ensures { Decides result (HaveSameChainsBelow (C.county chart.now) (at.place + at.alike) one.now other.now) }
+    requires before { HaveSamePartsBelow (λ chain. chain) (C.county chart.now) at.place one.now other.now }
+    ensures { Decides result (HaveSamePartsBelow (λ chain. chain) (C.county chart.now) (at.place + at.alike) one.now other.now) }
 {
     let first = at.place as usize;
-    for place in first..first + at.alike as usize {
-        let same = is_same_chain(chart, one[place], other[place]);
-        if !same {
-            return false;
-        }
-    }
-    true
+    let end = first + at.alike as usize;
+    have_same_parts_below(&WholeChain, chart, first, end, one, other)
 }
 
 /// Whether two arrangements that agree except at open places have the same chains, place by place.
@@ -192,33 +229,15 @@ pub(crate) fn have_same_chains<C: Chart>(
     true
 }
 
-/// Whether the chains of two arrangements of equally many chains have the same list, place by place.
-fn have_same_list_along<L: ChainList, C: Chart>(
-    list: &L,
-    chart: &C,
-    one: &[DirectedChain],
-    other: &[DirectedChain],
-) -> bool
-    requires { length one.now ≡ length other.now }
-    ensures { Decides result (parts_along L.list (C.county chart.now) one.now ≡ parts_along L.list (C.county chart.now) other.now) }
-{
-    for place in 0..one.len() {
-        let same = have_same_list_at(list, chart, one[place], other[place]);
-        if !same {
-            return false;
-        }
-    }
-    true
-}
-
-/// Whether the chains of two arrangements of a county have the same list, place by place.
-pub(crate) fn have_same_list<L: ChainList, A: Chart, R: Evidence, B: Chart, S: Evidence>(
-    list: &L,
+/// Whether the chains of two arrangements of a county have the same part, place by place.
+pub(crate) fn have_same_parts<P: ChainPart, A: Chart, R: Evidence, B: Chart, S: Evidence>(
+    part: &P,
     a: &Arranged<A, R>,
     b: &Arranged<B, S>,
 ) -> bool
     requires { A.county a.now.chart ≡ B.county b.now.chart }
-    ensures { Decides result (parts_along L.list (A.county a.now.chart) a.now.arrangement.items ≡ parts_along L.list (A.county a.now.chart) b.now.arrangement.items) }
+    ensures { Decides result (parts_along P.part (A.county a.now.chart) a.now.arrangement.items ≡ parts_along P.part (A.county a.now.chart) b.now.arrangement.items) }
 {
-    have_same_list_along(list, &a.chart, &a.arrangement, &b.arrangement)
+    let count = a.chain_count();
+    have_same_parts_below(part, &a.chart, 0, count, &a.arrangement, &b.arrangement)
 }

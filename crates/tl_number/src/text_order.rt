@@ -14,65 +14,20 @@ ghost use Rattle.std.specs.Ordering.{nat_cmp};
 ghost use Rattle.std.specs.Prelude.{◌≡◌};
 ghost use Rattle.tl_county.specs.Packing.{packed};
 ghost use Rattle.tl_county.specs.Renumbering.{AreSame};
-ghost use Rattle.tl_layout.specs.declared.record_type.Record.TheVariants.{Five, Four, One, Six};
+ghost use Rattle.tl_layout.specs.declared.record_type.Record.TheVariants.{One};
 ghost use Rattle.tl_layout.specs.RecordText.{text_of};
-ghost use Rattle.tl_number.specs.CountyGroups.{type_1_by_chain, type_2_by_chain, type_4_by_chain, type_5_by_name, type_6_by_chain};
+ghost use Rattle.tl_number.specs.CountyGroups.{type_1_by_chain, type_2_by_chain};
 ghost use Rattle.tl_number.specs.RecordOrder.{groups_cmp, types_5_to_7_cmp, types_8_to_p_cmp};
 ghost use Rattle.tl_number.specs.Views.{arranged_county};
 
 use crate::arranged::{Arranged, Evidence};
 use crate::chain_records::{FurtherNameRecords, RangeRecords};
-use crate::group_order::compare_groups;
+use crate::group_order::{compare_groups, compare_unless};
 use crate::name_records::{LandmarkLinkRecords, LandmarkRecords, NameRecords};
-use crate::same_chains::{FurtherNames, FurtherRanges, have_same_list};
+use crate::same_chains::{FurtherNames, FurtherRanges, have_same_parts};
 use crate::type_i_and_p_order::{compare_links, compare_polygons};
 use std::cmp::Ordering;
 use tl_county::Chart;
-
-/// Compares two arrangements of a county by their records of type 4.
-fn compare_further_names<A: Chart, R: Evidence, B: Chart, S: Evidence>(
-    a: &Arranged<A, R>,
-    b: &Arranged<B, S>,
-) -> Ordering
-    requires { A.county a.now.chart ≡ B.county b.now.chart }
-    ensures { result ≡ groups_cmp Four (type_4_by_chain (arranged_county a.now)) (type_4_by_chain (arranged_county b.now)) }
-{
-    if have_same_list(&FurtherNames, a, b) {
-        return Ordering::Equal;
-    }
-    compare_groups(
-        &FurtherNameRecords { chart: a },
-        &FurtherNameRecords { chart: b },
-    )
-}
-
-/// Compares two arrangements of a county by their records of type 5.
-fn compare_names<A: Chart, R: Evidence, B: Chart, S: Evidence>(
-    a: &Arranged<A, R>,
-    b: &Arranged<B, S>,
-) -> Ordering
-    requires { A.county a.now.chart ≡ B.county b.now.chart }
-    ensures { result ≡ groups_cmp Five (type_5_by_name (arranged_county a.now)) (type_5_by_name (arranged_county b.now)) }
-{
-    if have_same_list(&FurtherNames, a, b) {
-        return Ordering::Equal;
-    }
-    compare_groups(&NameRecords { chart: a }, &NameRecords { chart: b })
-}
-
-/// Compares two arrangements of a county by their records of type 6.
-fn compare_ranges<A: Chart, R: Evidence, B: Chart, S: Evidence>(
-    a: &Arranged<A, R>,
-    b: &Arranged<B, S>,
-) -> Ordering
-    requires { A.county a.now.chart ≡ B.county b.now.chart }
-    ensures { result ≡ groups_cmp Six (type_6_by_chain (arranged_county a.now)) (type_6_by_chain (arranged_county b.now)) }
-{
-    if have_same_list(&FurtherRanges, a, b) {
-        return Ordering::Equal;
-    }
-    compare_groups(&RangeRecords { chart: a }, &RangeRecords { chart: b })
-}
 
 /// Compares two arrangements of a county by their records of types 5, 6 and 7.
 fn compare_types_5_to_7<A: Chart, R: Evidence, B: Chart, S: Evidence>(
@@ -82,11 +37,21 @@ fn compare_types_5_to_7<A: Chart, R: Evidence, B: Chart, S: Evidence>(
     requires { A.county a.now.chart ≡ B.county b.now.chart }
     ensures { result ≡ types_5_to_7_cmp (arranged_county a.now) (arranged_county b.now) }
 {
-    match compare_names(a, b) {
+    let same_names = have_same_parts(&FurtherNames, a, b);
+    match compare_unless(
+        same_names,
+        &NameRecords { chart: a },
+        &NameRecords { chart: b },
+    ) {
         Ordering::Equal => {}
         unequal => return unequal,
     }
-    match compare_ranges(a, b) {
+    let same_ranges = have_same_parts(&FurtherRanges, a, b);
+    match compare_unless(
+        same_ranges,
+        &RangeRecords { chart: a },
+        &RangeRecords { chart: b },
+    ) {
         Ordering::Equal => {}
         unequal => return unequal,
     }
@@ -127,7 +92,9 @@ pub(crate) fn compare_texts<A: Chart, R: Evidence, B: Chart, S: Evidence>(
     requires twos { type_2_by_chain (arranged_county a.now) ≡ type_2_by_chain (arranged_county b.now) }
     ensures { result ≡ slice_cmp nat_cmp (text_of (packed (arranged_county a.now))) (text_of (packed (arranged_county b.now))) }
 {
-    match compare_further_names(a, b) {
+    let same_names = have_same_parts(&FurtherNames, a, b);
+    let names = FurtherNameRecords { chart: a };
+    match compare_unless(same_names, &names, &FurtherNameRecords { chart: b }) {
         Ordering::Equal => {}
         unequal => return unequal,
     }

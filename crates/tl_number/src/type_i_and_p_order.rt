@@ -13,7 +13,7 @@ ghost use Rattle.tl_number.specs.Views.{arranged_county};
 
 use crate::arranged::{Arranged, Evidence};
 use crate::chain_records::TopologyRecords;
-use crate::group_order::{compare_groups, compare_records};
+use crate::group_order::{compare_records, compare_unless};
 use crate::groups::RecordGroups;
 use crate::polygon_records::PolygonRecords;
 use std::cmp::Ordering;
@@ -93,8 +93,10 @@ pub(crate) fn compare_polygons<A: Chart, R: Evidence, B: Chart, S: Evidence>(
     requires { A.county a.now.chart ≡ B.county b.now.chart }
     ensures { result ≡ groups_cmp P (type_p_by_number (arranged_county a.now)) (type_p_by_number (arranged_county b.now)) }
 {
-    if are_same(&b.polygons.numbers, &a.polygons.numbers) {
-        return Ordering::Equal;
-    }
-    compare_groups(&PolygonRecords { county: a }, &PolygonRecords { county: b })
+    let same = are_same(&b.polygons.numbers, &a.polygons.numbers);
+    compare_unless(
+        same,
+        &PolygonRecords { county: a },
+        &PolygonRecords { county: b },
+    )
 }

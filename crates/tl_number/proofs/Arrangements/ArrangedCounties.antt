@@ -27,9 +27,9 @@ use Rattle.tl_county.proofs.Sameness.CarriedCounty.{carried_closed, carried_whol
 use Rattle.ordered_lists.proofs.Lists.Among.{Among, all_among}
 use Rattle.ordered_lists.proofs.Lists.InOrder.{in_order-in_order, in_order-map, in_order-equal}
 use Rattle.tl_county.specs.Laws.KeyOrders.{key_keys, link_part_keys, link_keys}
-use Rattle.ordered_lists.proofs.ByKey.Keys.{IsKeyOrder, IsApart, Known, nat_keys, lefts, rights, times-yes, times-no, same_or_not}
-use Rattle.ordered_lists.proofs.ByKey.Keys.{known_cases, known_all, map_agree, apart_from_sorted, apart-permutation}
-use Rattle.ordered_lists.proofs.ByKey.Keys.{times-permutation, known-permutation, image-injective}
+use Rattle.ordered_lists.proofs.ByKey.Keys.{IsKeyOrder, IsApart, Known, nat_keys, rights, times-yes, times-no, same_or_not}
+use Rattle.ordered_lists.proofs.ByKey.Keys.{known_cases, known_all, map_agree, apart_from_sorted}
+use Rattle.ordered_lists.proofs.ByKey.Keys.{times-permutation}
 use Rattle.ordered_lists.proofs.ByKey.Numbers.{each_from}
 use Rattle.ordered_lists.proofs.Lists.Elements.{map-map, all_weaker, all_map}
 use Rattle.ordered_lists.proofs.Lists.Members.{among-permutation, among-map, among-unmap, among_known, known_is_among}
@@ -52,7 +52,7 @@ use Rattle.tl_number.proofs.Arrangements.Placed.{image-numbered, image-under_cen
 use Rattle.tl_number.proofs.Unique.SameLandmarks.{landmark_key_keys, relanded, count-permutation, is_link, times-links}
 use Rattle.tl_number.proofs.Unique.SameLandmarks.{links_of-in_order, count-relanded}
 use Rattle.tl_number.proofs.Unique.SameNames.{name_key_keys, all_uses-kept, all_uses-all, uses_of-renamed}
-use Rattle.tl_number.proofs.Unique.SameNumbers.{kept_entry, polygons_along-kept}
+use Rattle.tl_number.proofs.Unique.SameNumbers.{counted_injective, kept_entry, polygons_along-kept}
 
 -- different keys have different places
 place-injective : {K : Type 0} {cmp : K → K → Ordering} (o : IsKeyOrder cmp) (i : ℕ) (xs : List K) (k j : K) → Known cmp xs k
@@ -170,13 +170,8 @@ module _ (county : County) (arrangement : Arrangement) (is : IsCounty county) (a
   -- names keep their uses
   name_injective : (n m : ℕ) → Known nat_cmp (feats county) n → Known nat_cmp (feats county) m
       → image nat_cmp (renaming_of county arrangement).names n ≡ image nat_cmp (renaming_of county arrangement).names m → n ≡ m
-  name_injective n m k l = image-injective nat_keys (renaming_of county arrangement).names n m
-      (apart-permutation nat_keys (rights (renaming_of county arrangement).names) (feats (arranged county arrangement)) h.numbers.names.right
-      (subst (IsApart nat_cmp) (sym (feats_arranged county arrangement is arranges))
-      (apart_from_sorted nat_keys (up_to (length (names_in_order county arrangement)))
-      (up_to-strict (length (names_in_order county arrangement))))))
-      (known-permutation nat_keys n (lefts (renaming_of county arrangement).names) (feats county) h.numbers.names.left k)
-      (known-permutation nat_keys m (lefts (renaming_of county arrangement).names) (feats county) h.numbers.names.left l)
+  name_injective = counted_injective (renaming_of county arrangement).names (feats county) (feats (arranged county arrangement))
+      (length (names_in_order county arrangement)) h.numbers.names.left h.numbers.names.right (feats_arranged county arrangement is arranges)
 
   uses_known : AllByRecursion (λ u. Known nat_cmp (feats county) u.1) (all_uses (placed county arrangement))
   uses_known = all_uses-all (Known nat_cmp (feats county)) (placed county arrangement)
@@ -214,13 +209,8 @@ module _ (county : County) (arrangement : Arrangement) (is : IsCounty county) (a
   -- landmarks keep their links
   land_injective : (n m : ℕ) → Known nat_cmp (lands county) n → Known nat_cmp (lands county) m
       → image nat_cmp (renaming_of county arrangement).lands n ≡ image nat_cmp (renaming_of county arrangement).lands m → n ≡ m
-  land_injective n m k l = image-injective nat_keys (renaming_of county arrangement).lands n m
-      (apart-permutation nat_keys (rights (renaming_of county arrangement).lands) (lands (arranged county arrangement)) h.numbers.lands.right
-      (subst (IsApart nat_cmp) (sym (lands_arranged county arrangement is arranges))
-      (apart_from_sorted nat_keys (up_to (length (landmarks_in_order county arrangement)))
-      (up_to-strict (length (landmarks_in_order county arrangement))))))
-      (known-permutation nat_keys n (lefts (renaming_of county arrangement).lands) (lands county) h.numbers.lands.left k)
-      (known-permutation nat_keys m (lefts (renaming_of county arrangement).lands) (lands county) h.numbers.lands.left l)
+  land_injective = counted_injective (renaming_of county arrangement).lands (lands county) (lands (arranged county arrangement))
+      (length (landmarks_in_order county arrangement)) h.numbers.lands.left h.numbers.lands.right (lands_arranged county arrangement is arranges)
 
   abbrev f_land : ℕ → ℕ
   f_land = image nat_cmp (renaming_of county arrangement).lands

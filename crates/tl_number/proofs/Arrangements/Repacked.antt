@@ -54,9 +54,6 @@ flat_map-map : {X Y Z : Type 0} (f : Y → List Z) (g : X → Y) (xs : List X) �
 flat_map-map f g [] = refl
 flat_map-map f g (x ∷ xs) = ap (λ ys. f (g x) ++ ys) (flat_map-map f g xs)
 
-map_over_pieces : {X Y : Type 0} (f : X → Y) (ls : List (List X)) → flat_map (λ l. l) (map (λ x. x) ls) ≡ flat_map (λ l. l) ls
-map_over_pieces f ls = ap (flat_map (λ l. l)) (map-id ls)
-
 -- In a linked list each type 1 record has one type I record, and the chains are the type 1 records with their type I records.
 module _ (records : List Record) (linked : IsLinked records) where
   chain_entries : Fields1 → List (ℕ × Chain)

@@ -11,8 +11,9 @@ use Rattle.tl_county.specs.CountyRules.{IsCounty, tlids}
 use Rattle.ordered_lists.specs.Orders.{times}
 use Rattle.tl_county.specs.Laws.KeyOrders.{points_keys}
 use Rattle.ordered_lists.proofs.ByKey.Keys.{IsKeyOrder, nat_keys, times-permutation}
+use Rattle.tl_number.specs.ChoiceSearch.{IsMoved, numbered_arrangement}
 use Rattle.tl_profile.specs.Choices.{is_either_way, is_settled, open_places, open_place_at}
-use Rattle.tl_profile.specs.ShapeOrder.{AreInShapeOrder, points_along}
+use Rattle.tl_profile.specs.ShapeOrder.{AreInShapeOrder, OrderOfShapes, points_along}
 use Rattle.tl_county.specs.declared.directed_chain.DirectedChain.{DirectedChain}
 use Rattle.tl_profile.specs.declared.open_places.OpenPlace.{OpenPlace}
 use Rattle.tl_profile.proofs.CountedChoices.{alike_few}
@@ -142,3 +143,12 @@ module _ (county : County) (is : IsCounty county) (by_shape : List DirectedChain
     arrangement_of_number_once = subst (NamesEachOnce county) (sym arrangement_of_number)
         (λ tlid. sym (times-permutation nat_keys tlid (arranged_tlids (numbered_choice county n)) (tlids county)
         (numbered_is_choice county is n).arranges))
+
+-- So they are the arrangement of some choice.
+pub moved_of_number : (county : County) → IsCounty county → (shapes : OrderOfShapes) → AreInShapeOrder county shapes.by_shape
+    → shapes.places ≡ open_places points_cmp is_either_way 0 (map (points_along county) shapes.by_shape)
+    → (arrangement : List DirectedChain) (n : ℕ) → arrangement ≡ numbered_arrangement shapes n → IsMoved shapes arrangement
+moved_of_number county is shapes order there arrangement n stated = record {
+  count = arrangement_of_number_count county is shapes.by_shape order shapes.places there arrangement n stated;
+  apart = arrangement_of_number_apart county is shapes.by_shape order shapes.places there arrangement n stated;
+}

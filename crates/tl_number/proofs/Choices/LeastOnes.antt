@@ -109,9 +109,6 @@ module _ (county : County) where
           let same : bound ≡ m = omega (arith, k, past) in
           subst (λ j. IsNotAfter (choice_list county n) (choice_list county j)) same last
 
-  pub from_itself : (first n : ℕ) → IsLeastFrom county first n n → IsLeastFrom county first (n + 1) n
-  from_itself first n among = from_more first n n among (not_after_itself (choice_list county n))
-
 module _ (county : County) (is : IsCounty county) (within : IsWithinLimits most_records county)
     (sides : AllKeysStandIn (polygons_along county.chains) (polygon_keys county)) where
   -- Lesser records of type 1 make a lesser text.

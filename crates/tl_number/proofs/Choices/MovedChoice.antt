@@ -1,14 +1,13 @@
 -- The choice with a number is reached by moving only the elements at open places, from the last place to the first.
-use Rattle.std.proofs.Common.{◌≡◌, ◌<◌, ◌+◌, ◌*◌, ◌/◌, ◌%◌, ◌==◌, ℕ, suc, List, [], ◌∷◌, ◌++◌, map, take, drop, length, get_or, set}
+use Rattle.std.proofs.Common.{◌≡◌, ◌+◌, ◌*◌, ◌==◌, ℕ, suc, List, [], ◌∷◌, ◌++◌, map, take, drop, length}
 use Rattle.std.proofs.Common.{Bool, true, false, cond, not, ◌&&◌, Ordering, sym, refl, ap, ◌∙◌, arith}
 use Rattle.std.proofs.lemmas.Bool.{and_parts, not-true, eqb-true}
-use Rattle.std.proofs.lemmas.List.{append_assoc, length-append, length-take, set_split, set-get_or}
-use Rattle.std.proofs.Math.Seq.{take-append-add, drop-append-add, take-append_seam, drop-append_seam}
-use Rattle.std.specs.List.{insert, remove}
+use Rattle.std.proofs.lemmas.List.{append_assoc, length-append}
+use Rattle.std.proofs.Math.Seq.{take-append_seam, drop-append_seam}
 use Rattle.ordered_lists.specs.Orders.{times}
 use Rattle.tl_profile.specs.Choices.{open_places}
 use Rattle.tl_profile.specs.declared.open_places.OpenPlace.{OpenPlace}
-use Rattle.tl_number.specs.NumberedChoices.{turned_by, stood, chosen, first_stood, moved_at, moved}
+use Rattle.tl_number.specs.NumberedChoices.{stood, chosen, first_stood, moved_at, moved}
 use Rattle.tl_number.proofs.Choices.Choosing.{stood-digits}
 
 -- the last place is moved first
@@ -79,26 +78,3 @@ module _ {X K : Type 0} (cmp : K → K → Ordering) (either : K → Bool) (key 
   -- So the choice with a number is reached.
   pub moved_is : (xs : List X) (n : ℕ) → moved turn (open_places cmp either 0 (map key xs)) (xs, n) ≡ chosen cmp either key turn xs n
   moved_is xs n = from_place 0 [] xs n refl
-
--- The same by taking an element out and inserting it again.
-pub moved_by_edits : {X : Type 0} (turn : X → X) (at : OpenPlace) (xs : List X) (n : ℕ) (x : X) → at.place < length xs
-    → x ≡ get_or xs at.place x
-    → moved_at turn at (xs, n)
-    ≡ (
-      insert (remove xs at.place) (at.place + n % at.alike) (turned_by turn (n / at.alike % cond at.either_way 2 1) x),
-      n / at.alike / cond at.either_way 2 1,
-    )
-moved_by_edits {X} turn at xs n x within is =
-    let i : ℕ = at.place in
-    let behind : List X = drop (suc i) xs in
-    let whole : take i xs ++ x ∷ behind ≡ xs = sym (set_split xs i x within) ∙ ap (set xs i) is ∙ set-get_or xs i x in
-    let long : i ≡ length (take i xs) = omega (arith, length-take i xs, within) in
-    let t : X = turned_by turn (n / at.alike % cond at.either_way 2 1) x in
-    let j : ℕ = n % at.alike in
-    let put : insert (take i xs ++ behind) (i + j) t ≡ take i xs ++ insert behind j t =
-    ap (λ k. insert (take i xs ++ behind) (k + j) t) long
-    ∙ (λ k. take-append-add (take i xs) behind j k ++ t ∷ drop-append-add (take i xs) behind j k)
-    ∙ append_assoc (take i xs) (take j behind) (t ∷ drop j behind) in
-    ap (λ ys. moved_at turn at (ys, n)) (sym whole)
-    ∙ moved_at-front turn at (take i xs) x (behind, n) long
-    ∙ (λ k. (sym put k, n / at.alike / cond at.either_way 2 1))

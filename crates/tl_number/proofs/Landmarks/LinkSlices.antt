@@ -15,7 +15,7 @@ use Rattle.ordered_lists.specs.Orders.{IsInOrder}
 use Rattle.ordered_lists.proofs.Lists.Elements.{all_weaker}
 use Rattle.tl_number.specs.Growth.{up_to}
 use Rattle.tl_number.specs.ViewFacts.{links_up_to, link_bounds}
-use Rattle.tl_number.proofs.Views.ViewNumbers.{get_up_to, none_up_to}
+use Rattle.tl_number.proofs.Views.ViewNumbers.{get_up_to}
 
 -- a number that doesn't compare as greater isn't greater
 pub not_above : (a b : ℕ) → is_gt (nat_cmp a b) ≡ false → a ≤ b
@@ -158,6 +158,3 @@ module _ (links : List Fields8) (bounds : List ℕ) (stated : bounds ≡ link_bo
       ∙ between eight_land place links ordered
       ∙ (let t : suc place ≡ place + 1 = omega arith in ap (λ land. filter (λ link. eight_land link == land) links) t)
       ∙ ap (links_with links) (sym (get_up_to (length bounds - 1) place within))
-
-  pub place_past : (n : ℕ) → length bounds - 1 ≤ n → [] ≡ links_with links (slice_get (up_to (length bounds - 1)) n)
-  place_past n h = ap (links_with links) (sym (none_up_to (length bounds - 1) n h))

@@ -1,17 +1,17 @@
 -- The chain at a place of a county within its limits.
-use Rattle.std.proofs.Common.{◌≡◌, ◌+◌, ◌-◌, ◌<◌, ◌≤◌, ℕ, zero, suc, List, [], ◌∷◌, length, map, Option, Some, None, IfSome, option_map}
+use Rattle.std.proofs.Common.{◌≡◌, ◌+◌, ◌-◌, ◌<◌, ◌≤◌, ℕ, zero, suc, List, [], ◌∷◌, length, Option, Some, None, option_map}
 use Rattle.std.proofs.Common.{slice_get, refl, ap, ◌∙◌, subst, arith}
-use Rattle.std.proofs.lemmas.List.{length-map}
 use Rattle.std.proofs.lemmas.Option.{slice_get-map}
 use Rattle.std.specs.List.{AllByRecursion}
 use Rattle.tl_layout.specs.Coordinates.{Coordinates}
-use Rattle.tl_layout.specs.Numbers.{IsNumber, IsNumberOrNone}
+use Rattle.tl_layout.specs.Numbers.{IsNumber}
 use Rattle.tl_shape.specs.Chain.{Chain}
-use Rattle.tl_county.specs.ChartWords.{chain_at}
+use Rattle.tl_county.specs.ChartWords.{chain_at, points_of}
 use Rattle.tl_county.specs.County.{County}
 use Rattle.tl_county.specs.CountyRules.{IsCounty, tlids}
-use Rattle.tl_county.specs.Limits.{IsWithinLimits, FitsNumbers, ListsFit, most_records}
+use Rattle.tl_county.specs.Limits.{IsWithinLimits, FitsNumbers, ListsFit, most_records, most_shape_points}
 use Rattle.tl_county.specs.Packing.{first_point, last_point, without_last, inner_points}
+use Rattle.tl_number.proofs.Records.Grouped.{some-same}
 
 -- a property of all elements of a list is a property of the element at a place
 pub all_at : {X : Type 0} (P : X → Type 0) (xs : List X) (place : ℕ) (x : X) → AllByRecursion P xs → slice_get xs place ≡ Some x → P x
@@ -49,16 +49,6 @@ chain_there county is within place h =
       lists = all_at (λ (e : ℕ × Chain). ListsFit e.1) county.chains place at.0 within.lists at.1;
     }
 
--- the chain of a group of records
-pub chain_of_group : {Y : Type 0} (f : ℕ × Chain → List Y) (county : County) → IsCounty county → IsWithinLimits most_records county
-    → (place : ℕ) → place < length (map f county.chains) → ChainThere county place
-chain_of_group f county is within place h = chain_there county is within place (subst (λ n. place < n) (length-map county.chains f) h)
-
--- a node is missing, or counts from 1
-pub from_one : (node : Option ℕ) → IsNumberOrNone 10 node → IfSome node (λ number. 0 < number)
-from_one None h = tt
-from_one (Some number) h = h.0
-
 -- the ends of a chain, and the points between them
 pub first_at : (points : List Coordinates) → 1 ≤ length points → slice_get points 0 ≡ Some (first_point points)
 first_at [] h = absurd (omega (arith, h))
@@ -71,6 +61,19 @@ last_at (p ∷ q ∷ points) h =
     ap (slice_get (p ∷ q ∷ points)) (let e : length (p ∷ q ∷ points) - 1 ≡ suc (length (q ∷ points) - 1) = omega arith in e)
     ∙ last_at (q ∷ points) (omega arith)
 
+-- the two ends of a chain, read by place
+pub ends_at : (o : Option Chain) (count : ℕ) (ends : Coordinates × Coordinates) → 2 ≤ length (points_of o) → count ≡ length (points_of o)
+    → Some ends.0 ≡ slice_get (points_of o) 0 → Some ends.1 ≡ slice_get (points_of o) (count - 1)
+    → Some ends ≡ option_map (λ chain. (first_point chain.points, last_point chain.points)) o
+ends_at None count ends two counted first last = absurd (omega (arith, two))
+ends_at (Some chain) count ends two counted first last =
+    let start_is : ends.0 ≡ first_point chain.points =
+    some-same _ ends.0 (first_point chain.points) first (first_at chain.points (omega (arith, two))) in
+    let end_is : ends.1 ≡ last_point chain.points =
+    some-same _ ends.1 (last_point chain.points) last
+    (ap (λ n. slice_get chain.points (n - 1)) counted ∙ last_at chain.points (omega (arith, two))) in
+    λ i. Some (start_is i, end_is i)
+
 without_at : (points : List Coordinates) (k : ℕ) → k < length (without_last points) → slice_get (without_last points) k ≡ slice_get points k
 without_at [] k h = absurd (omega (arith, h))
 without_at (p ∷ []) k h = absurd (omega (arith, h))
@@ -81,3 +84,19 @@ pub inner_at : (points : List Coordinates) (k : ℕ) → k < length (inner_point
     → slice_get (inner_points points) k ≡ slice_get points (k + 1)
 inner_at [] k h = absurd (omega (arith, h))
 inner_at (p ∷ points) k h = without_at points k h ∙ ap (slice_get (p ∷ points)) (let e : suc k ≡ k + 1 = omega arith in e)
+
+-- there are few of them
+pub few_inner : (county : County) → IsWithinLimits most_records county → (place k : ℕ)
+    → k < length (inner_points (points_of (chain_at county place))) → k < most_shape_points
+few_inner county within place k h = go (slice_get county.chains place) refl
+  where
+    chain_is : (o : Option (ℕ × Chain)) → slice_get county.chains place ≡ o → chain_at county place ≡ option_map (λ (e : ℕ × Chain). e.1) o
+    chain_is o e = slice_get-map (λ (e : ℕ × Chain). e.1) county.chains place ∙ ap (option_map (λ (e : ℕ × Chain). e.1)) e
+
+    go : (o : Option (ℕ × Chain)) → slice_get county.chains place ≡ o → k < most_shape_points
+    go None e = absurd (omega (arith, subst (λ c. k < length (inner_points (points_of c))) (chain_is None e) h))
+    go (Some entry) e = omega (
+      arith,
+      subst (λ c. k < length (inner_points (points_of c))) (chain_is (Some entry) e) h,
+      (all_at (λ (e : ℕ × Chain). ListsFit e.1) county.chains place entry within.lists e).points,
+    )

@@ -23,10 +23,6 @@ grouped_behind (g ∷ groups) zero = refl
 grouped_behind (g ∷ groups) (suc n) = grouped_behind groups n
 
 module _ {X : Type 0} (groups : List (List X)) where
-  -- the rest from the beginning is everything
-  pub rest_whole : rest_of groups 0 0 ≡ grouped groups
-  rest_whole = sym (grouped_behind groups 0)
-
   -- a record, then the rest after it
   pub rest_before : (group place : ℕ) (x : X) → Some x ≡ slice_get (group_at groups group) place
       → rest_of groups group place ≡ x ∷ rest_of groups group (place + 1)

@@ -55,16 +55,6 @@ numbered_list_at {X} {Y} make xs k x e = slice_get-map make (numbered_from 1 xs)
 pub numbered_list_length : {X Y : Type 0} (make : ℕ × X → Y) (xs : List X) → length (map make (numbered_from 1 xs)) ≡ length xs
 numbered_list_length make xs = length-map (numbered_from 1 xs) make ∙ length-numbered_from 1 xs
 
--- pieces made into records
-pub numbered_pieces_length : {X Y : Type 0} (make : ℕ × List X → Y) (n : ℕ) (xs : List X)
-    → length (map make (numbered_from 1 (in_pieces n xs))) ≡ length (in_pieces n xs)
-numbered_pieces_length make n xs = numbered_list_length make (in_pieces n xs)
-
-pub numbered_pieces_at : {X Y : Type 0} (make : ℕ × List X → Y) (n : ℕ) (xs : List X) (k : ℕ) → k < length (in_pieces (suc n) xs)
-    → slice_get (map make (numbered_from 1 (in_pieces (suc n) xs))) k ≡ Some (make (k + 1, take (suc n) (drop (k * suc n) xs)))
-numbered_pieces_at make n xs k h = numbered_list_at make (in_pieces (suc n) xs) k (take (suc n) (drop (k * suc n) xs))
-    (pieces_at n (length xs) xs k h)
-
 -- Only one count of pieces fits a length.
 counts_equal : (n l a b : ℕ) → l ≤ a * suc n → a * suc n < l + suc n → l ≤ b * suc n → b * suc n < l + suc n → a ≡ b
 counts_equal n l zero zero p q r s = refl

@@ -1,32 +1,24 @@
 -- The records of types I and P of a county in two arrangements.
 use Rattle.std.proofs.Common.{◌≡◌, ◌<◌, ◌≤◌, ◌+◌, ℕ, nat_lt, List, map, length, Bool, true, false, Option, Some, None}
-use Rattle.std.proofs.Common.{option_map, option_to_list, slice_get, Equal, sym, refl, ap, ap₂, ◌∙◌, subst, arith}
+use Rattle.std.proofs.Common.{option_map, slice_get, Equal, sym, refl, ap, ap₂, ◌∙◌, subst, arith}
 use Rattle.std.proofs.lemmas.Bool.{ltb-true, ltb-false}
-use Rattle.std.proofs.lemmas.Cmp.{tied_itself}
 use Rattle.std.proofs.lemmas.Option.{slice_get-map, slice_get_past}
 use Rattle.std.specs.Option.{option_cmp}
-use Rattle.tl_layout.specs.declared.record_type.Record.{Record}
-use Rattle.tl_layout.specs.declared.record_type.Record.TheVariants.{I, P}
-use Rattle.tl_layout.specs.declared.type_p.BodyP.{BodyP}
+use Rattle.tl_layout.specs.declared.record_type.Record.TheVariants.{I}
 use Rattle.tl_shape.specs.Chain.{Chain}
 use Rattle.tl_county.specs.ChartWords.{chain_at}
 use Rattle.tl_county.specs.County.{County}
 use Rattle.tl_county.specs.CountyRules.{IsCounty}
-use Rattle.tl_county.specs.Packing.{packed_i, packed_p}
-use Rattle.tl_county.specs.PolygonKeys.{PolygonKey}
+use Rattle.tl_county.specs.Packing.{packed_i}
 use Rattle.tl_county.specs.Renumbering.{renumbered}
 use Rattle.tl_county.specs.declared.directed_chain.DirectedChain.{DirectedChain}
 use Rattle.tl_number.specs.Arrangement.{placed, renaming_of}
 use Rattle.tl_number.specs.EndsAndSides.{ends_of, sides_of}
-use Rattle.tl_number.specs.ByNumber.{polygons_by_number}
-use Rattle.tl_number.specs.CountyGroups.{type_p_by_number}
-use Rattle.tl_number.specs.Groups.{grouped}
-use Rattle.tl_number.specs.RecordOrder.{AreTiedAt, AreTiedBelow, groups_cmp, links_of, records_cmp, spelling_cmp}
+use Rattle.tl_number.specs.RecordOrder.{AreTiedAt, AreTiedBelow, links_of, records_cmp, spelling_cmp}
 use Rattle.tl_number.specs.DirectedChains.{arrangement_of}
 use Rattle.tl_county.specs.DirectedChains.{directed_chain}
 use Rattle.tl_number.specs.ViewFacts.{AreWhole, arranged_by}
 use Rattle.tl_number.proofs.Arrangements.Carrying.{chains_arranged}
-use Rattle.tl_number.proofs.Texts.GroupOrders.{records_total}
 use Rattle.tl_number.proofs.Records.PackedGroups.{is}
 use Rattle.tl_number.proofs.Unique.SameNumbers.{kept_entry}
 use Rattle.tl_number.proofs.Texts.TiedOnes.{all_tied}
@@ -179,12 +171,3 @@ same_link_through a b same is_county one other whole other_whole place directed 
     → option_map sides_of (chain_at (arranged_by a one) place) ≡ option_map sides_of (chain_at (arranged_by c other) place)
     → slice_get (links_of (arranged_by a one)) place ≡ slice_get (links_of (arranged_by c other)) place) same
     (λ w. same_link a is_county one other whole w place directed) other_whole
-
--- counties with the same polygons by their numbers
-pub same_polygons : (a b : County) → polygons_by_number a ≡ polygons_by_number b
-    → Equal ≡ groups_cmp P (type_p_by_number a) (type_p_by_number b)
-same_polygons a b same =
-    let records : List (PolygonKey × Option BodyP) → List Record =
-    λ polygons. map P (grouped (map (λ (entry : PolygonKey × Option BodyP). option_to_list (packed_p entry)) polygons)) in
-    sym (tied_itself records_total (records (polygons_by_number a)))
-    ∙ ap (λ polygons. records_cmp (records (polygons_by_number a)) (records polygons)) same

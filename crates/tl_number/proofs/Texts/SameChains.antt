@@ -1,6 +1,10 @@
 -- Two arrangements of a county that have the same chains in the same order make the same county, whatever TLIDs these have.
+use Rattle.std.proofs.Common.{◌≤◌, Bool, true, nat_lt, arith}
 use Rattle.std.proofs.Common.{◌≡◌, ◌<◌, ◌∙◌, ℕ, List, get_or, length, map, Option, None, Some, option_map, slice_get, false, sym, refl, ap, nat_cmp}
-use Rattle.std.proofs.lemmas.Option.{slice_get-get_or, slice_get-map}
+use Rattle.std.proofs.lemmas.Option.{slice_get-get_or, slice_get-map, slice_get_past}
+use Rattle.std.proofs.lemmas.Bool.{ltb-true, ltb-false}
+use Rattle.std.proofs.lemmas.List.{length-map}
+use Rattle.std.specs.Bool.{Decides}
 use Rattle.std.specs.Ordering.{on}
 use Rattle.tl_layout.specs.Fields.{Fields8}
 use Rattle.tl_layout.specs.declared.type5.Body5.{Body5}
@@ -21,11 +25,13 @@ use Rattle.tl_number.specs.Arrangement.{relinked, renaming_of, under_cenid}
 use Rattle.tl_number.specs.Growth.{first_seen, numbered}
 use Rattle.tl_number.specs.DirectedChains.{arrangement_of, parts_along}
 use Rattle.tl_county.specs.DirectedChains.{directed_chain}
+use Rattle.tl_number.specs.MovedChains.{HaveSamePartsBelow}
 use Rattle.tl_number.specs.Uses.{all_uses, landmark_key, landmark_key_cmp, name_key, name_key_cmp}
 use Rattle.tl_number.specs.ViewFacts.{AreWhole, arranged_by}
 use Rattle.tl_county.specs.declared.directed_chain.DirectedChain.{DirectedChain}
 use Rattle.tl_number.proofs.Arrangements.Carrying.{chains_arranged, lands_renamed, landmarks_arranged, links_arranged, names_arranged, names_renamed}
 use Rattle.tl_number.proofs.Arrangements.Carrying.{nodes_renamed, polygons_arranged, polygons_renamed}
+use Rattle.tl_number.proofs.Choices.FixedPlaces.{same_everywhere}
 use Rattle.tl_number.proofs.Unique.SameNumbers.{kept_entry}
 use Rattle.tl_number.proofs.Views.ArrangedTables.{same_somes}
 use Rattle.tl_number.proofs.Views.ViewChains.{arranges, bodies_read, chains}
@@ -33,18 +39,31 @@ use Rattle.tl_number.proofs.Views.ViewChains.{arranges, bodies_read, chains}
 pub the_same : {X : Type 0} (x y : X) → Some x ≡ Some y → x ≡ y
 the_same x y e = cc
 
--- the directed chain at a place
-pub chain_read : (county : County) (arrangement : List DirectedChain) (i : ℕ) → i < length arrangement
-    → slice_get (map (directed_chain county) arrangement) i ≡ Some (directed_chain county (get_or arrangement i (record { place = 0; turned = false })))
-chain_read county arrangement i there = slice_get-map (directed_chain county) arrangement i
-    ∙ ap (option_map (directed_chain county)) (slice_get-get_or arrangement i (record { place = 0; turned = false }) there)
-
--- and a component of it
+-- a part of the directed chain at a place
 pub part_read : {X : Type 0} (county : County) (part : Option Chain → X) (arrangement : List DirectedChain) (i : ℕ) → i < length arrangement
     → slice_get (parts_along part county arrangement) i
     ≡ Some (part (directed_chain county (get_or arrangement i (record { place = 0; turned = false }))))
 part_read county part arrangement i there = slice_get-map (λ directed. part (directed_chain county directed)) arrangement i
     ∙ ap (option_map (λ directed. part (directed_chain county directed))) (slice_get-get_or arrangement i (record { place = 0; turned = false }) there)
+
+-- parts that are the same at each place of two lists of the same length
+pub all_parts : {X : Type 0} (part : Option Chain → X) (county : County) (one other : List DirectedChain) (count : ℕ) → count ≡ length one
+    → length one ≡ length other → (b : Bool) → Decides b (HaveSamePartsBelow part county count one other)
+    → Decides b (parts_along part county one ≡ parts_along part county other)
+all_parts part county one other count all as_many b decides = (
+  λ t. same_everywhere (parts_along part county one) (parts_along part county other) (λ place. go place (decides.0 t) (nat_lt place count) refl),
+  λ e. decides.1 (λ place l. ap (λ parts. slice_get parts place) e),
+) where
+  past : (arrangement : List DirectedChain) → length arrangement ≡ count → (place : ℕ) → count ≤ place
+      → slice_get (parts_along part county arrangement) place ≡ None
+  past arrangement e place l = slice_get_past (parts_along part county arrangement) place
+      (let same = length-map arrangement (λ directed. part (directed_chain county directed)) in omega (arith, same, e, l))
+
+  go : (place : ℕ) → HaveSamePartsBelow part county count one other → (c : Bool) → nat_lt place count ≡ c
+      → slice_get (parts_along part county one) place ≡ slice_get (parts_along part county other) place
+  go place below true e = below place (ltb-true place count e)
+  go place below false e = let l = ltb-false place count e in
+      past one (sym all) place l ∙ sym (past other (sym (all ∙ as_many)) place l)
 
 -- A chain under new numbers depends only on the new numbers of names, of polygons and of nodes.
 module _ (r s : Renumbering) (names : r.names ≡ s.names) (polygons : r.polygons ≡ s.polygons) (nodes : r.nodes ≡ s.nodes) where

@@ -1,12 +1,9 @@
 -- Arrangements of chains with the same further names have the same records of types 4 and 5, and those of chains with the same
 -- further address ranges have the same records of type 6.
-use Rattle.std.proofs.Common.{◌≡◌, ◌∙◌, ℕ, suc, List, [], ◌∷◌, ◌++◌, map, Option, Some, Equal, sym, refl, ap, nat_cmp, subst}
-use Rattle.std.proofs.lemmas.Cmp.{tied_itself}
+use Rattle.std.proofs.Common.{◌≡◌, ◌∙◌, ℕ, suc, List, [], ◌∷◌, map, Option, Some, sym, refl, ap, nat_cmp, subst}
 use Rattle.std.specs.Ordering.{on}
 use Rattle.tl_layout.specs.Fields.{Fields4, Fields6}
 use Rattle.tl_layout.specs.declared.ranges.Ranges.{Ranges}
-use Rattle.tl_layout.specs.declared.record_type.Record.{Record}
-use Rattle.tl_layout.specs.declared.record_type.Record.TheVariants.{Five, Four, Six}
 use Rattle.tl_layout.specs.declared.type5.Body5.{Body5}
 use Rattle.tl_shape.specs.Chain.{Chain}
 use Rattle.tl_county.specs.ChartWords.{feats_of, ranges_of}
@@ -21,33 +18,34 @@ use Rattle.tl_number.specs.Arrangement.{names_in_order, renaming_of}
 use Rattle.tl_number.specs.CountyGroups.{type_4_by_chain, type_5_by_name, type_6_by_chain}
 use Rattle.tl_number.specs.Groups.{grouped}
 use Rattle.tl_number.specs.Growth.{numbered}
-use Rattle.tl_number.specs.RecordOrder.{groups_cmp}
 use Rattle.tl_number.specs.DirectedChains.{arrangement_of, parts_along}
 use Rattle.tl_county.specs.DirectedChains.{directed_chain}
 use Rattle.tl_number.specs.Uses.{all_uses, name_key, name_key_cmp, uses_from}
 use Rattle.tl_number.specs.ViewFacts.{AreWhole, arranged_by}
 use Rattle.tl_county.specs.declared.directed_chain.DirectedChain.{DirectedChain}
 use Rattle.tl_number.proofs.Arrangements.Carrying.{chains_arranged, names_arranged, names_renamed}
-use Rattle.tl_number.proofs.Texts.GroupOrders.{records_total}
+use Rattle.tl_number.proofs.Records.Grouped.{grouped_map}
 use Rattle.tl_number.proofs.Unique.SameNumbers.{kept_entry}
 use Rattle.tl_number.proofs.Views.ViewChains.{arranges, bodies_read, chains}
 
--- equal groups are tied
-pub same_groups : {X : Type 0} (record_of : X → Record) (groups others : List (List X)) → groups ≡ others
-    → Equal ≡ groups_cmp record_of groups others
-same_groups record_of groups others same = sym (tied_itself records_total (map record_of (grouped groups)))
-    ∙ ap (groups_cmp record_of groups) same
+-- what is made of the number and a part of each chain depends only on these parts
+same_parts : {X Y : Type 0} (part : Chain → X) (make : ℕ → X → Y) (cs ds : List Chain) → map part cs ≡ map part ds → (n : ℕ)
+    → map (λ (e : ℕ × Chain). make e.0 (part e.1)) (numbered_from n cs) ≡ map (λ (e : ℕ × Chain). make e.0 (part e.1)) (numbered_from n ds)
+same_parts part make [] [] e n = refl
+same_parts part make [] (d ∷ ds) e n = cc
+same_parts part make (c ∷ cs) [] e n = cc
+same_parts part make (c ∷ cs) (d ∷ ds) e n =
+    let here : part c ≡ part d = cc in
+    let rest : map part cs ≡ map part ds = cc in
+    λ i. make n (here i) ∷ same_parts part make cs ds rest (suc n) i
 
--- the uses of names depend only on the names of each chain
+-- so the uses of names depend only on the names of each chain
 same_uses : (cs ds : List Chain) → map (λ (c : Chain). c.feats) cs ≡ map (λ (c : Chain). c.feats) ds → (n : ℕ)
     → all_uses (numbered_from n cs) ≡ all_uses (numbered_from n ds)
-same_uses [] [] e n = refl
-same_uses [] (d ∷ ds) e n = cc
-same_uses (c ∷ cs) [] e n = cc
-same_uses (c ∷ cs) (d ∷ ds) e n =
-    let here : c.feats ≡ d.feats = cc in
-    let rest : map (λ (c : Chain). c.feats) cs ≡ map (λ (c : Chain). c.feats) ds = cc in
-    λ i. uses_from n 1 (here i) ++ same_uses cs ds rest (suc n) i
+same_uses cs ds e n =
+    let uses : ℕ × Chain → _ = λ entry. uses_from entry.0 1 entry.1.feats in
+    sym (grouped_map uses (numbered_from n cs)) ∙ ap grouped (same_parts (λ c. c.feats) (λ tlid feats. uses_from tlid 1 feats) cs ds e n)
+    ∙ grouped_map uses (numbered_from n ds)
 
 -- the records of type 4 for a TLID and names with new numbers
 abbrev fours : List (ℕ × ℕ) → ℕ → List ℕ → List Fields4
@@ -60,23 +58,15 @@ sixes tlid ranges = map (λ piece. record { tlid = tlid; rtsq = piece.0; ranges 
 module _ (r s : Renumbering) where
   same_fours : r.names ≡ s.names → (cs ds : List Chain) → map (λ (c : Chain). c.feats) cs ≡ map (λ (c : Chain). c.feats) ds → (n : ℕ)
       → map packed_fours (map (kept_entry r) (numbered_from n cs)) ≡ map packed_fours (map (kept_entry s) (numbered_from n ds))
-  same_fours names [] [] e n = refl
-  same_fours names [] (d ∷ ds) e n = cc
-  same_fours names (c ∷ cs) [] e n = cc
-  same_fours names (c ∷ cs) (d ∷ ds) e n =
-      let here : c.feats ≡ d.feats = cc in
-      let rest : map (λ (c : Chain). c.feats) cs ≡ map (λ (c : Chain). c.feats) ds = cc in
-      λ i. fours (names i) n (here i) ∷ same_fours names cs ds rest (suc n) i
+  same_fours names cs ds e n = map-map packed_fours (kept_entry r) (numbered_from n cs)
+      ∙ same_parts (λ c. c.feats) (fours r.names) cs ds e n
+      ∙ ap (λ ns. map (λ (e : ℕ × Chain). fours ns e.0 e.1.feats) (numbered_from n ds)) names
+      ∙ sym (map-map packed_fours (kept_entry s) (numbered_from n ds))
 
   same_sixes : (cs ds : List Chain) → map (λ (c : Chain). c.ranges) cs ≡ map (λ (c : Chain). c.ranges) ds → (n : ℕ)
       → map packed_sixes (map (kept_entry r) (numbered_from n cs)) ≡ map packed_sixes (map (kept_entry s) (numbered_from n ds))
-  same_sixes [] [] e n = refl
-  same_sixes [] (d ∷ ds) e n = cc
-  same_sixes (c ∷ cs) [] e n = cc
-  same_sixes (c ∷ cs) (d ∷ ds) e n =
-      let here : c.ranges ≡ d.ranges = cc in
-      let rest : map (λ (c : Chain). c.ranges) cs ≡ map (λ (c : Chain). c.ranges) ds = cc in
-      λ i. sixes n (here i) ∷ same_sixes cs ds rest (suc n) i
+  same_sixes cs ds e n = map-map packed_sixes (kept_entry r) (numbered_from n cs)
+      ∙ same_parts (λ c. c.ranges) sixes cs ds e n ∙ sym (map-map packed_sixes (kept_entry s) (numbered_from n ds))
 
 module _ (county : County) (is : IsCounty county) (one other : List DirectedChain) (whole : AreWhole county one) (other_whole : AreWhole county other)
   where
@@ -121,23 +111,18 @@ module _ (county : County) (is : IsCounty county) (one other : List DirectedChai
 
 -- The same if two names denote the county.
 module _ (a b : County) (stated : a ≡ b) (is : IsCounty a) (one other : List DirectedChain) (whole : AreWhole a one) where
-  through : (Same : County → Type 0) → ((w : AreWhole a other) → Same a) → AreWhole b other → Same b
-  through Same f w = subst Same stated (f (subst (λ c. AreWhole c other) (sym stated) w))
+  through : {X : Type 0} (groups : County → X) → ((w : AreWhole a other) → groups (arranged_by a one) ≡ groups (arranged_by a other))
+      → AreWhole b other → groups (arranged_by a one) ≡ groups (arranged_by b other)
+  through groups f w = f (subst (λ c. AreWhole c other) (sym stated) w) ∙ ap (λ c. groups (arranged_by c other)) stated
 
   pub type_4_through : AreWhole b other → parts_along feats_of a one ≡ parts_along feats_of a other
-      → Equal ≡ groups_cmp Four (type_4_by_chain (arranged_by a one)) (type_4_by_chain (arranged_by b other))
-  type_4_through w same = through (λ c. Equal ≡ groups_cmp Four (type_4_by_chain (arranged_by a one)) (type_4_by_chain (arranged_by c other)))
-      (λ v. same_groups Four (type_4_by_chain (arranged_by a one)) (type_4_by_chain (arranged_by a other))
-      (type_4_same a is one other whole v same)) w
+      → type_4_by_chain (arranged_by a one) ≡ type_4_by_chain (arranged_by b other)
+  type_4_through w same = through type_4_by_chain (λ v. type_4_same a is one other whole v same) w
 
   pub type_5_through : AreWhole b other → parts_along feats_of a one ≡ parts_along feats_of a other
-      → Equal ≡ groups_cmp Five (type_5_by_name (arranged_by a one)) (type_5_by_name (arranged_by b other))
-  type_5_through w same = through (λ c. Equal ≡ groups_cmp Five (type_5_by_name (arranged_by a one)) (type_5_by_name (arranged_by c other)))
-      (λ v. same_groups Five (type_5_by_name (arranged_by a one)) (type_5_by_name (arranged_by a other))
-      (type_5_same a is one other whole v same)) w
+      → type_5_by_name (arranged_by a one) ≡ type_5_by_name (arranged_by b other)
+  type_5_through w same = through type_5_by_name (λ v. type_5_same a is one other whole v same) w
 
   pub type_6_through : AreWhole b other → parts_along ranges_of a one ≡ parts_along ranges_of a other
-      → Equal ≡ groups_cmp Six (type_6_by_chain (arranged_by a one)) (type_6_by_chain (arranged_by b other))
-  type_6_through w same = through (λ c. Equal ≡ groups_cmp Six (type_6_by_chain (arranged_by a one)) (type_6_by_chain (arranged_by c other)))
-      (λ v. same_groups Six (type_6_by_chain (arranged_by a one)) (type_6_by_chain (arranged_by a other))
-      (type_6_same a is one other whole v same)) w
+      → type_6_by_chain (arranged_by a one) ≡ type_6_by_chain (arranged_by b other)
+  type_6_through w same = through type_6_by_chain (λ v. type_6_same a is one other whole v same) w

@@ -22,14 +22,15 @@ use Rattle.ordered_lists.specs.Pairs.{image}
 use Rattle.ordered_lists.proofs.Lists.InOrder.{in_order-equal, in_order-permutation, in_order-map}
 use Rattle.tl_county.specs.Laws.KeyOrders.{landmark_body_keys, link_part_keys, link_keys}
 use Rattle.ordered_lists.proofs.ByKey.KeyOrders.{pair_keys, lists_keys}
-use Rattle.ordered_lists.proofs.ByKey.Keys.{IsKeyOrder, Known, IsApart, nat_keys, lefts, rights, apart-permutation, known-permutation}
-use Rattle.ordered_lists.proofs.ByKey.Keys.{image-injective, apart_from_sorted, known_all, differ}
+use Rattle.ordered_lists.proofs.ByKey.Keys.{IsKeyOrder, Known, nat_keys}
+use Rattle.ordered_lists.proofs.ByKey.Keys.{known_all, differ}
 use Rattle.ordered_lists.proofs.Lists.Elements.{map-map, map_agree_all, all_weaker, all_map}
 use Rattle.tl_county.proofs.Sameness.Equivalence.{keys_known}
 use Rattle.tl_number.specs.Growth.{up_to}
 use Rattle.tl_number.specs.ArrangedCounty.{IsArranged}
 use Rattle.tl_number.specs.Uses.{links_of, LandmarkKey, landmark_key, landmark_key_cmp}
-use Rattle.tl_number.proofs.Lists.Counting.{entries_equal, map-equal_all, up_to-strict}
+use Rattle.tl_number.proofs.Unique.SameNumbers.{counted_injective}
+use Rattle.tl_number.proofs.Lists.Counting.{entries_equal, map-equal_all}
 
 pub landmark_key_keys : IsKeyOrder landmark_key_cmp
 landmark_key_keys = pair_keys (lists_keys landmark_body_keys) (lists_keys link_part_keys)
@@ -170,12 +171,7 @@ module _ (r : Renumbering) (a b : County) (h : Carries r a b) (aa : IsAscending 
 
   land_injective : (n m : ℕ) → Known nat_cmp (lands a) n → Known nat_cmp (lands a) m → f_land n ≡ f_land m → n ≡ m
   unfolding f_land
-  land_injective n m k l = image-injective nat_keys r.lands n m
-      (apart-permutation nat_keys (rights r.lands) (lands b) h.numbers.lands.right
-      (subst (IsApart nat_cmp) (sym tb.lands)
-      (apart_from_sorted nat_keys (up_to (length b.landmarks)) (up_to-strict (length b.landmarks)))))
-      (known-permutation nat_keys n (lefts r.lands) (lands a) h.numbers.lands.left k)
-      (known-permutation nat_keys m (lefts r.lands) (lands a) h.numbers.lands.left l)
+  land_injective = counted_injective r.lands (lands a) (lands b) (length b.landmarks) h.numbers.lands.left h.numbers.lands.right tb.lands
 
   links_carried : map (carried_link r) a.links ≡ map (relanded f_land) a.links
   unfolding f_land

@@ -18,8 +18,8 @@ use Rattle.ordered_lists.proofs.Lists.Among.{Among}
 use Rattle.ordered_lists.proofs.Lists.InOrder.{in_order-permutation, in_order-map}
 use Rattle.tl_county.specs.Laws.KeyOrders.{name_body_keys}
 use Rattle.ordered_lists.proofs.ByKey.KeyOrders.{pair_keys, lists_keys}
-use Rattle.ordered_lists.proofs.ByKey.Keys.{IsKeyOrder, Known, IsApart, nat_keys, lefts, rights, apart-permutation, known-permutation}
-use Rattle.ordered_lists.proofs.ByKey.Keys.{image-injective, apart_from_sorted, known_all}
+use Rattle.ordered_lists.proofs.ByKey.Keys.{IsKeyOrder, Known, IsApart, nat_keys}
+use Rattle.ordered_lists.proofs.ByKey.Keys.{apart_from_sorted, known_all}
 use Rattle.ordered_lists.proofs.Lists.Elements.{map-map, map_agree_all, all_weaker, all_map, all_append, all_left, all_right}
 use Rattle.ordered_lists.proofs.Lists.Members.{among-unmap, one_entry}
 use Rattle.tl_county.proofs.Sameness.Equivalence.{keys_known}
@@ -27,7 +27,7 @@ use Rattle.tl_number.specs.Growth.{up_to}
 use Rattle.tl_number.specs.ArrangedCounty.{IsArranged}
 use Rattle.tl_number.specs.Uses.{Use, use_cmp, uses_from, all_uses, uses_of_name, NameKey, name_key, name_key_cmp}
 use Rattle.tl_number.proofs.Lists.Counting.{entries_equal, map-equal_all, up_to-strict}
-use Rattle.tl_number.proofs.Unique.SameNumbers.{kept_entry, KeepsChains, all_themselves}
+use Rattle.tl_number.proofs.Unique.SameNumbers.{counted_injective, kept_entry, KeepsChains, all_themselves}
 use Rattle.tl_number.proofs.Names.UsesOrder.{use_keys, all_uses-strict, use_under, under_use}
 
 pub name_key_keys : IsKeyOrder name_key_cmp
@@ -97,11 +97,7 @@ module _ (r : Renumbering) (a b : County) (h : Carries r a b) (ca : IsClosed a) 
 
   name_injective : (n m : ℕ) → Known nat_cmp (feats a) n → Known nat_cmp (feats a) m → f_name n ≡ f_name m → n ≡ m
   unfolding f_name
-  name_injective n m k l = image-injective nat_keys r.names n m
-      (apart-permutation nat_keys (rights r.names) (feats b) h.numbers.names.right
-      (subst (IsApart nat_cmp) (sym tb.feats) (apart_from_sorted nat_keys (up_to (length b.names)) (up_to-strict (length b.names)))))
-      (known-permutation nat_keys n (lefts r.names) (feats a) h.numbers.names.left k)
-      (known-permutation nat_keys m (lefts r.names) (feats a) h.numbers.names.left l)
+  name_injective = counted_injective r.names (feats a) (feats b) (length b.names) h.numbers.names.left h.numbers.names.right tb.feats
 
   uses_b : all_uses b.chains ≡ map (renamed_use f_name) (all_uses a.chains)
   unfolding f_name

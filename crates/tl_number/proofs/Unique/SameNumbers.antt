@@ -1,6 +1,7 @@
 -- If a renaming carries one arranged county onto another, keeps each TLID and turns no chain, the nodes and the polygons on sides
 -- have equal numbers: they are numbered by first appearance along the same chains.
 use Rattle.std.proofs.Common.{◌≡◌, ℕ, List, [], ◌∷◌, ◌++◌, map, IsTrue, sym, refl, ap, ap₂, ◌∙◌, subst, inl, inr, nat_cmp, map-id}
+use Rattle.std.proofs.Common.{IsPermutation}
 use Rattle.std.proofs.lemmas.Bool.{ltb-true}
 use Rattle.std.proofs.lemmas.List.{map-append}
 use Rattle.std.specs.List.{AllByRecursion}
@@ -16,14 +17,24 @@ use Rattle.tl_county.proofs.Sameness.Carried.{chain_nodes-renumbered, chain_poly
 use Rattle.ordered_lists.proofs.Lists.Distinct.{apart-distinct, known-distinct}
 use Rattle.ordered_lists.proofs.Lists.Among.{Among, all_among}
 use Rattle.tl_county.specs.Laws.KeyOrders.{key_keys}
-use Rattle.ordered_lists.proofs.ByKey.Keys.{Known, nat_keys, lefts, rights, apart-permutation, known-permutation, image-injective}
+use Rattle.ordered_lists.proofs.ByKey.Keys.{IsApart, Known, nat_keys, lefts, rights, apart-permutation, known-permutation, image-injective}
 use Rattle.ordered_lists.proofs.ByKey.Keys.{apart_from_sorted, all_known}
 use Rattle.ordered_lists.proofs.Lists.Elements.{map-map, all_weaker, all_joined}
 use Rattle.ordered_lists.proofs.Lists.Members.{among-map}
 use Rattle.tl_county.proofs.Sameness.Equivalence.{image-keeps}
-use Rattle.tl_number.specs.Growth.{Grows}
+use Rattle.tl_number.specs.Growth.{Grows, up_to}
 use Rattle.tl_number.specs.ArrangedCounty.{IsArranged}
+use Rattle.tl_number.proofs.Lists.Counting.{up_to-strict}
 use Rattle.tl_number.proofs.Numbering.Growth.{grown}
+
+-- A renaming onto numbers that count from 1 gives different numbers to different ones.
+pub counted_injective : (pairs : List (ℕ × ℕ)) (olds news : List ℕ) (count : ℕ) → IsPermutation (lefts pairs) olds
+    → IsPermutation (rights pairs) news → news ≡ up_to count → (n m : ℕ) → Known nat_cmp olds n → Known nat_cmp olds m
+    → image nat_cmp pairs n ≡ image nat_cmp pairs m → n ≡ m
+counted_injective pairs olds news count left right counted n m k l = image-injective nat_keys pairs n m
+    (apart-permutation nat_keys (rights pairs) news right
+    (subst (IsApart nat_cmp) (sym counted) (apart_from_sorted nat_keys (up_to count) (up_to-strict count))))
+    (known-permutation nat_keys n (lefts pairs) olds left k) (known-permutation nat_keys m (lefts pairs) olds left l)
 
 -- an entry with its own TLID, and with the chain's numbers renamed
 abbrev pub kept_entry : Renumbering → ℕ × Chain → ℕ × Chain

@@ -1,7 +1,8 @@
 -- The ends and the sides of chains, numbered in order of appearance.
 use Rattle.std.proofs.Common.{◌≡◌, ◌≤◌, ℕ, zero, suc, List, [], ◌∷◌, ◌++◌, map, flat_map, drop, take, length}
 use Rattle.std.proofs.Common.{Ordering, Option, Some, slice_get, sym, ap, ◌∙◌, arith, ◌+◌}
-use Rattle.std.proofs.Common.{◌<◌, ◌^◌, get_or, is_eq, nat_cmp, set}
+use Rattle.std.proofs.Common.{Equal, ◌<◌, ◌^◌, get_or, is_eq, nat_cmp, set}
+use Rattle.std.specs.Cmp.{IsTotalOrder}
 use Rattle.std.proofs.lemmas.Grind.{drop_more_same}
 use Rattle.std.proofs.lemmas.List.{drop_more, drop-set-lt, map-append}
 use Rattle.std.specs.List.{position}
@@ -10,7 +11,7 @@ use Rattle.tl_county.specs.PolygonKeys.{PolygonKey, key_cmp, key_on, key_under}
 use Rattle.tl_county.specs.Renumbering.{side_of}
 use Rattle.tl_county.specs.Laws.KeyOrders.{key_keys}
 use Rattle.ordered_lists.proofs.ByKey.Keys.{IsKeyOrder, nat_keys}
-use Rattle.tl_number.specs.EndsAndSides.{node_among, polygon_among, side_among}
+use Rattle.tl_number.specs.EndsAndSides.{changed_both, keys_at, node_among, polygon_among, side_among}
 use Rattle.tl_number.specs.Growth.{first_seen_after}
 use Rattle.ordered_lists.proofs.Lists.Places.{one_more_taken}
 use Rattle.tl_number.proofs.Records.Grouped.{get_dropped}
@@ -27,21 +28,39 @@ next_dropped (y ∷ ys) (suc i) x e = next_dropped ys i x e
 drop_there : {X : Type 0} (xs : List X) (i : ℕ) (x : X) → Some x ≡ slice_get xs i → drop i xs ≡ x ∷ drop (i + 1) xs
 drop_there xs i x e = next_dropped xs i x e ∙ ap (λ j. x ∷ drop j xs) (let t : suc i ≡ i + 1 = omega arith in t)
 
--- pairs of two halves, such as two ends or two sides; each half has keys, and numbers turn it into a new half
-module _ {K X : Type 0} {cmp : K → K → Ordering} (o : IsKeyOrder cmp) (keys : X → List K) (new : List K → X → X) where
-  abbrev both : X × X → List K
-  both pair = keys pair.0 ++ keys pair.1
+-- Items of a list are replaced by others, one by one; the remaining ones are unchanged.
+module _ {X : Type 0} (now old : List X) (i : ℕ) (left : drop i now ≡ drop i old) where
+  pub left_there : (d : X) → i < length now → Some (get_or now i d) ≡ slice_get old i
+  left_there d within =
+      let first : get_or now i d ∷ drop (i + 1) now ≡ drop i old = sym (drop_more now i d within) ∙ left in
+      ap (λ xs. slice_get xs 0) first ∙ get_dropped i old 0 ∙ ap (slice_get old) (let t : i + 0 ≡ i = omega arith in t)
 
-  module _ (met : List (X × X)) (i : ℕ) (pair : X × X) (there : Some pair ≡ slice_get met i) (seen whole : List K)
-      (invariant : first_seen_after cmp seen (flat_map both (drop i met)) ≡ whole) where
+  pub left_later : (x : X) → drop (i + 1) (set now i x) ≡ drop (i + 1) old
+  left_later x = drop-set-lt (i + 1) now i x (omega arith) ∙ drop_more_same now old i left
+
+-- pairs of two halves, such as two ends or two sides; each half has keys, and numbers turn it into a new half
+module _ {K X : Type 0} {cmp : K → K → Ordering} (total : IsTotalOrder cmp) (exact : (x y : K) → cmp x y ≡ Equal → x ≡ y)
+    (keys : X → List K) (new : List K → X → X) where
+  o : IsKeyOrder cmp
+  o = record { total = total; exact = exact }
+
+  -- the pairs before a place have been replaced, and the next one is seen
+  module _ (met now : List (X × X)) (i : ℕ) (d : X × X) (within : i < length now) (left : drop i now ≡ drop i met)
+      (seen : List K) {whole : List K} (invariant : first_seen_after cmp seen (flat_map (keys_at keys) (drop i met)) ≡ whole) where
+    abbrev pair : X × X
+    pair = get_or now i d
+
+    there : Some pair ≡ slice_get met i
+    there = left_there now met i left d within
+
     abbrev rest : List K
-    rest = flat_map both (drop (i + 1) met)
+    rest = flat_map (keys_at keys) (drop (i + 1) met)
 
     -- seeing one pair and then the rest is seeing everything
     cut : first_seen_after cmp (first_seen_after cmp (first_seen_after cmp seen (keys pair.0)) (keys pair.1)) rest ≡ whole
     cut = sym (ap (λ ks. first_seen_after cmp ks rest) (seen_append cmp seen (keys pair.0) (keys pair.1)))
-        ∙ sym (seen_append cmp seen (both pair) rest)
-        ∙ ap (λ pairs. first_seen_after cmp seen (flat_map both pairs)) (sym (drop_there met i pair there)) ∙ invariant
+        ∙ sym (seen_append cmp seen (keys_at keys pair) rest)
+        ∙ ap (λ pairs. first_seen_after cmp seen (flat_map (keys_at keys) pairs)) (sym (drop_there met i pair there)) ∙ invariant
 
     -- at most as many are seen as at the end
     pub first_few : length (first_seen_after cmp seen (keys pair.0)) ≤ length whole
@@ -68,8 +87,8 @@ module _ {K X : Type 0} {cmp : K → K → Ordering} (o : IsKeyOrder cmp) (keys 
         -- the numbers that both halves get are their numbers at the end
         pub pair_numbered : (a b : X) → ((later : List K) → a ≡ new (first_seen_after cmp first later) pair.0)
             → ((later : List K) → b ≡ new (first_seen_after cmp second later) pair.1) → (made : List (X × X))
-            → made ≡ map (λ p. (new whole p.0, new whole p.1)) (take i met)
-            → made ++ ((a, b) ∷ []) ≡ map (λ p. (new whole p.0, new whole p.1)) (take (i + 1) met)
+            → made ≡ map (changed_both (new whole)) (take i met)
+            → made ++ ((a, b) ∷ []) ≡ map (changed_both (new whole)) (take (i + 1) met)
         pair_numbered a b number_a number_b made so_far =
             let last_a : a ≡ new whole pair.0 =
             number_a (keys pair.1 ++ rest)
@@ -77,8 +96,8 @@ module _ {K X : Type 0} {cmp : K → K → Ordering} (o : IsKeyOrder cmp) (keys 
             ∙ ap (λ ks. first_seen_after cmp ks rest) (sym seen_second) ∙ pair_seen) in
             let last_b : b ≡ new whole pair.1 = number_b rest ∙ ap (λ ks. new ks pair.1) pair_seen in
             (λ j. so_far j ++ ((last_a j, last_b j) ∷ []))
-            ∙ sym (map-append (λ (p : X × X). (new whole p.0, new whole p.1)) (take i met) (pair ∷ []))
-            ∙ ap (map (λ (p : X × X). (new whole p.0, new whole p.1))) (sym (one_more_taken met i pair there))
+            ∙ sym (map-append (changed_both (new whole)) (take i met) (pair ∷ []))
+            ∙ ap (map (changed_both (new whole))) (sym (one_more_taken met i pair there))
 
 -- a node and a side with the number that was seen, whatever is seen later
 pub node_numbered : (met : Option ℕ) (number place : ℕ) (seen later : List ℕ) → met ≡ Some number
@@ -109,13 +128,3 @@ module _ (side : PolygonSide) (cenid : List ℕ) (polyid : ℕ) (same : cenid �
       let all : length seen ≡ length (first_seen_after key_cmp old (key_on side)) =
       ap length new ∙ ap (λ ks. length (first_seen_after key_cmp old ks)) (sym key_there) in
       omega (arith, within, all, few)
-
--- Items of a list are replaced by others, one by one; the remaining ones are unchanged.
-module _ {X : Type 0} (now old : List X) (i : ℕ) (left : drop i now ≡ drop i old) where
-  pub left_there : (d : X) → i < length now → Some (get_or now i d) ≡ slice_get old i
-  left_there d within =
-      let first : get_or now i d ∷ drop (i + 1) now ≡ drop i old = sym (drop_more now i d within) ∙ left in
-      ap (λ xs. slice_get xs 0) first ∙ get_dropped i old 0 ∙ ap (slice_get old) (let t : i + 0 ≡ i = omega arith in t)
-
-  pub left_later : (x : X) → drop (i + 1) (set now i x) ≡ drop (i + 1) old
-  left_later x = drop-set-lt (i + 1) now i x (omega arith) ∙ drop_more_same now old i left

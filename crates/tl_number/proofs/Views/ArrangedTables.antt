@@ -1,7 +1,7 @@
 -- Going along the directed chains meets the nodes and the polygons of the arrangement, and gives the ends and the sides under
 -- their numbers.
 use Rattle.std.proofs.Common.{◌≡◌, ◌<◌, ◌^◌, ℕ, List, [], ◌∷◌, map, flat_map, length, Option, Some, None, option_map}
-use Rattle.std.proofs.Common.{nat_cmp, sym, refl, ap, ◌∙◌}
+use Rattle.std.proofs.Common.{Ordering, nat_cmp, sym, refl, ap, ◌∙◌}
 use Rattle.tl_layout.specs.PolygonSide.{PolygonSide}
 use Rattle.tl_shape.specs.Chain.{Chain}
 use Rattle.tl_county.specs.County.{County}
@@ -58,10 +58,15 @@ module _ (county : County) (arrangement : List DirectedChain) (is : IsCounty cou
       ∙ sym (ap (flat_map (λ c. keys (f c))) (rights-numbered_from 1 bodies))
       ∙ flat_map-map (λ c. keys (f c)) (λ (entry : ℕ × Chain). entry.1) (numbered_from 1 bodies)
 
+  -- the keys that are met along the chains are seen in that order
+  seen_along : {X K : Type 0} (cmp : K → K → Ordering) (f : Chain → X) (keys : X → List K) (met : List X)
+      → map Some met ≡ map (λ directed. option_map f (directed_chain county directed)) arrangement
+      → first_seen cmp (flat_map keys met) ≡ first_seen cmp (flat_map (λ (entry : ℕ × Chain). keys (f entry.1)) (placed county order))
+  seen_along cmp f keys met e = ap (λ pairs. first_seen cmp (flat_map keys pairs)) (met_along f met e) ∙ ap (first_seen cmp) (keys_along f keys)
+
   module _ (met : List (Option ℕ × Option ℕ)) (read : map Some met ≡ map (λ directed. option_map ends_of (directed_chain county directed)) arrangement) where
     pub nodes_met : first_seen nat_cmp (flat_map nodes_at met) ≡ nodes_in_order county order
-    nodes_met = ap (λ pairs. first_seen nat_cmp (flat_map nodes_at pairs)) (met_along ends_of met read)
-        ∙ ap (first_seen nat_cmp) (keys_along ends_of nodes_at)
+    nodes_met = seen_along nat_cmp ends_of nodes_at met read
 
     pub ends_met : map (ends_among (first_seen nat_cmp (flat_map nodes_at met))) met
         ≡ map ends_of (entry_values (arranged_by county arrangement).chains)
@@ -79,8 +84,7 @@ module _ (county : County) (arrangement : List DirectedChain) (is : IsCounty cou
   module _ (met : List (PolygonSide × PolygonSide)) (read : map Some met ≡ map (λ directed. option_map sides_of (directed_chain county directed)) arrangement)
     where
       pub polygons_met : first_seen key_cmp (flat_map polygons_at met) ≡ polygons_in_order county order
-      polygons_met = ap (λ pairs. first_seen key_cmp (flat_map polygons_at pairs)) (met_along sides_of met read)
-          ∙ ap (first_seen key_cmp) (keys_along sides_of polygons_at)
+      polygons_met = seen_along key_cmp sides_of polygons_at met read
 
       pub few_met : length (first_seen key_cmp (flat_map polygons_at met)) < 10 ^ 10
       few_met = few_polygons county arrangement is whole (first_seen key_cmp (flat_map polygons_at met)) polygons_met

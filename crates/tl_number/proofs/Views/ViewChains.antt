@@ -1,15 +1,15 @@
 -- The chains of a county in an arrangement, read at the places of its directed chains.
-use Rattle.std.proofs.Common.{◌≡◌, ℕ, zero, suc, List, [], ◌∷◌, ◌++◌, map, flat_map, length, Option, Some, None, option_map}
+use Rattle.std.proofs.Common.{◌≡◌, ◌≤◌, ℕ, zero, suc, List, [], ◌∷◌, ◌++◌, map, flat_map, length, Option, Some, None, option_map}
 use Rattle.std.proofs.Common.{slice_get, sym, refl, ap, ◌∙◌, arith, nat_cmp}
 use Rattle.std.proofs.lemmas.List.{length-map}
-use Rattle.std.proofs.lemmas.Option.{slice_get-map}
+use Rattle.std.proofs.lemmas.Option.{slice_get-map, slice_get_past}
 use Rattle.tl_shape.specs.Chain.{Chain}
 use Rattle.tl_shape.specs.Turned.{turned_if}
 use Rattle.tl_county.specs.ChartWords.{chain_at}
 use Rattle.tl_county.specs.County.{County}
 use Rattle.tl_county.specs.CountyRules.{IsCounty, tlids}
 use Rattle.ordered_lists.specs.Entries.{entry_values}
-use Rattle.tl_county.specs.Renumbering.{renumbered}
+use Rattle.tl_county.specs.Renumbering.{Renumbering, renumbered}
 use Rattle.tl_county.proofs.Packing.Pieces.{rights-numbered_from}
 use Rattle.ordered_lists.proofs.ByKey.Keys.{IsApart, nat_keys, apart_from_sorted}
 use Rattle.ordered_lists.proofs.Lists.Elements.{map-map}
@@ -119,3 +119,31 @@ module _ (county : County) (arrangement : List DirectedChain) (is : IsCounty cou
 
   pub unstated : {Y : Type 0} (F : Option Chain → Y) (i : ℕ) → None ≡ slice_get arrangement i → F None ≡ F (chain_at (arranged_by county arrangement) i)
   unstated F i e = sym (ap F (chain_missing i (sym e)))
+
+  pub numbered_there : (i : ℕ) (s : DirectedChain) → Some s ≡ slice_get arrangement i
+      → chain_at (arranged_by county arrangement) i ≡ option_map (renumbered (renaming_of county order)) (directed_chain county s)
+  numbered_there i s e = let t = chain_there i s (sym e) in t.2 ∙ sym (ap (option_map (renumbered (renaming_of county order))) t.1)
+
+  pub numbered_past : (i : ℕ) (s : DirectedChain) → None ≡ slice_get arrangement i → length county.chains ≤ s.place
+      → chain_at (arranged_by county arrangement) i ≡ option_map (renumbered (renaming_of county order)) (directed_chain county s)
+  numbered_past i s e past =
+      chain_missing i (sym e)
+      ∙ sym (ap (λ o. option_map (renumbered (renaming_of county order)) (option_map (turned_if s.turned) o))
+      (slice_get_past (entry_values county.chains) s.place
+      (let same = length-map county.chains (λ (e : ℕ × Chain). e.1) in omega (arith, same, past))))
+
+-- a value that depends on the numbers in a given way
+pub renumbered_part : {Y : Type 0} (r : Renumbering) (F G : Option Chain → Y) → G None ≡ F None
+    → ((c : Chain) → G (Some c) ≡ F (Some (renumbered r c))) → (o p : Option Chain) → p ≡ option_map (renumbered r) o → G o ≡ F p
+renumbered_part r F G none some None p e = none ∙ sym (ap F e)
+renumbered_part r F G none some (Some c) p e = some c ∙ sym (ap F e)
+
+-- or not at all
+pub unnumbered_part : (county : County) (arrangement : List DirectedChain) {Y : Type 0} (F : Option Chain → Y)
+    → ((r : Renumbering) (c : Chain) → F (Some c) ≡ F (Some (renumbered r c))) → (place : ℕ) (s : DirectedChain)
+    → chain_at (arranged_by county arrangement) place
+    ≡ option_map (renumbered (renaming_of county (arrangement_of county arrangement))) (directed_chain county s)
+    → F (directed_chain county s) ≡ F (chain_at (arranged_by county arrangement) place)
+unnumbered_part county arrangement F same place s e =
+    let r = renaming_of county (arrangement_of county arrangement) in
+    renumbered_part r F F refl (same r) (directed_chain county s) (chain_at (arranged_by county arrangement) place) e

@@ -1,32 +1,35 @@
 use Rattle.std.proofs.Common.{sym, subst}
 use Rattle.tl_number.specs.ViewFacts.{AreWhole, MatchesNodes, MatchesPolygons, MatchesNames, MatchesLandmarks}
 use Rattle.tl_number.proofs.Views.ArrangedViews.{whole_arrangement}
-use Rattle.tl_number.proofs.Arrangements.PlacesFit.{places_fit}
+use Rattle.tl_number.proofs.Arrangements.PlacesFit.{FitsPlaces, places_fit}
+use Rattle.tl_number.proofs.arranging.arrange.Given.{Over}
+use Rattle.tl_number.proofs.arranging.arrange.Goals.{Start}
 use Rattle.tl_number.proofs.arranging.arrange.Goals as goal
+
+fit : (g : Over) (c : Start g) → FitsPlaces (g.C.Chart.county c.args.chart)
+fit g c = places_fit (g.C.Chart.county c.args.chart) (g.met.C.Chart.is_county c.args.chart) (g.met.C.Chart.within_limits c.args.chart)
+    c.requires.sides
+
+whole : (g : Over) (c : Start g) → AreWhole (g.C.Chart.county c.args.chart) c.args.arrangement.items
+whole g c = whole_arrangement (g.C.Chart.county c.args.chart) c.args.arrangement.items (g.met.C.Chart.is_county c.args.chart)
+    (g.met.C.Chart.within_limits c.args.chart) c.requires.there c.requires.once c.requires.sides (fit g c).chains
 
 pub arrange_tables-requires : goal.arrange_tables-requires
 arrange_tables-requires g c =
-    let county = g.C.Chart.county c.args.chart in
-    let is = g.met.C.Chart.is_county c.args.chart in
-    let within = g.met.C.Chart.within_limits c.args.chart in
-    let fit = places_fit county is within c.requires.sides in
+    let start = (goal.at.arrange_tables-requires g c).Start in
     record {
-      whole = subst (AreWhole county) (sym c.deref.ensures.value)
-          (whole_arrangement county c.args.arrangement.items is within c.requires.there c.requires.once c.requires.sides fit.chains);
+      whole = subst (AreWhole (g.C.Chart.county c.args.chart)) (sym c.deref.ensures.value) (whole g start);
       sides = c.requires.sides;
-      few_polygons = fit.polygons;
-      few_names = fit.names;
-      few_landmarks = fit.landmarks;
+      few_polygons = (fit g start).polygons;
+      few_names = (fit g start).names;
+      few_landmarks = (fit g start).landmarks;
     }
 
 pub invariant_of-result : goal.invariant_of-result
 invariant_of-result g c =
     let county = g.C.Chart.county c.args.chart in
-    let is = g.met.C.Chart.is_county c.args.chart in
-    let within = g.met.C.Chart.within_limits c.args.chart in
-    let fit = places_fit county is within c.requires.sides in
     record {
-      whole = whole_arrangement county c.args.arrangement.items is within c.requires.there c.requires.once c.requires.sides fit.chains;
+      whole = whole g (goal.at.invariant_of-result g c).Start;
       sides = c.requires.sides;
       nodes_stated = subst (λ arrangement. MatchesNodes county arrangement c.in_ok-nodes.nodes) c.deref.ensures.value c.in_ok-nodes.ensures.nodes;
       polygons_stated = subst (λ arrangement. MatchesPolygons county arrangement c.in_ok-nodes.polygons) c.deref.ensures.value

@@ -11,6 +11,8 @@ use Rattle.tl_county.specs.PolygonKeys.{PolygonKey}
 use Rattle.tl_number.specs.LandmarkItems.{landmark_place_cmp, lands_at, numbered_links, place_cmp_under}
 use Rattle.tl_number.specs.ViewFacts.{link_bounds, links_up_to}
 use Rattle.tl_number.proofs.Landmarks.LandmarkOrder.{all_lands, all_lands_once, numbered_by_land}
+use Rattle.tl_number.proofs.landmark_order.places_in_order.Given.{Over}
+use Rattle.tl_number.proofs.landmark_order.places_in_order.Goals.{After-as_slice-2}
 use Rattle.tl_number.proofs.landmark_order.places_in_order.Goals as goal
 
 pub links_by_land-requires-clause-few_places : goal.links_by_land-requires-clause-few_places
@@ -51,19 +53,20 @@ are_listed county polygons places links bounds all numbered bounded =
       bounded = bounded ∙ ap (link_bounds links) (count ∙ sym fewer);
     }
 
+listed : (g : Over) (c : After-as_slice-2 g)
+    → AreListed (g.C.Chart.county c.args.chart.now) c.args.polygons.now c.as_slice.result.now c.as_slice-2.result.now
+listed g c = are_listed (g.C.Chart.county c.args.chart.now) c.args.polygons.now c.deref.result.now c.as_slice.result.now c.as_slice-2.result.now
+    (c.deref.ensures.value ∙ c.in_ok-unordered.ensures) (c.as_slice.ensures.value ∙ c.in_ok-links.ensures.links)
+    (c.as_slice-2.ensures.value ∙ c.in_ok-links.ensures.bounds
+    ∙ ap (λ ls. link_bounds ls (length c.deref.result.now)) (sym c.as_slice.ensures.value))
+
 pub invariant_of-lists : goal.invariant_of-lists
 invariant_of-lists g c =
     let county = g.C.Chart.county c.args.chart.now in
-    let links = c.as_slice.result.now in
-    let bounds = c.as_slice-2.result.now in
-    let h = are_listed county c.args.polygons.now c.deref.result.now links bounds (c.deref.ensures.value ∙ c.in_ok-unordered.ensures)
-    (c.as_slice.ensures.value ∙ c.in_ok-links.ensures.links)
-    (c.as_slice-2.ensures.value ∙ c.in_ok-links.ensures.bounds
-    ∙ ap (λ ls. link_bounds ls (length c.deref.result.now)) (sym c.as_slice.ensures.value)) in
-    let long = h.long in
+    let h = listed g (goal.at.invariant_of-lists g c).After-as_slice-2 in
     record {
       in_order = subst (IsInOrder (on eight_land nat_cmp)) (sym h.numbered) (numbered_by_land county c.args.polygons.now (lands county));
-      some = omega (arith, long);
+      some = omega (arith, h.long);
       bounded = h.bounded;
     }
 
@@ -72,10 +75,7 @@ returns-clause-in_order g c =
     let county = g.C.Chart.county c.args.chart.now in
     let links = c.as_slice.result.now in
     let bounds = c.as_slice-2.result.now in
-    let h = are_listed county c.args.polygons.now c.deref.result.now links bounds (c.deref.ensures.value ∙ c.in_ok-unordered.ensures)
-    (c.as_slice.ensures.value ∙ c.in_ok-links.ensures.links)
-    (c.as_slice-2.ensures.value ∙ c.in_ok-links.ensures.bounds
-    ∙ ap (λ ls. link_bounds ls (length c.deref.result.now)) (sym c.as_slice.ensures.value)) in
+    let h = listed g (goal.at.returns-clause-in_order g c).After-as_slice-2 in
     IfOk-weaker c.sort_places.result (λ places. IsInOrder (landmark_place_cmp county links (length bounds - 1)) places.items)
     (λ places. IsInOrder (place_cmp_under county c.args.polygons.now) places.items)
     (λ places ordered. subst (λ ls. IsInOrder (landmark_place_cmp county ls (length county.landmarks)) places.items) h.numbered

@@ -6,13 +6,13 @@ use Rattle.tl_number.specs.MovedChains.{AgreeApart, AreWithin, other_way}
 use Rattle.tl_number.specs.NumberedChoices.{moved}
 use Rattle.tl_number.specs.RecordOrder.{groups_cmp}
 use Rattle.tl_number.specs.ViewFacts.{arranged_by}
-use Rattle.tl_number.proofs.Choices.ChosenArrangements.{places_within, arrangement_of_number, arrangement_of_number_apart}
+use Rattle.tl_number.proofs.Choices.ChosenArrangements.{places_within, arrangement_of_number, moved_of_number}
 use Rattle.tl_number.proofs.Choices.LeastOnes.{agree_of_numbers}
 use Rattle.tl_number.proofs.least_choice.compare_number.Goals as goal
 
 pub put_back-requires-clause-within : goal.put_back-requires-clause-within
 put_back-requires-clause-within g c =
-    subst (λ n. AreWithin n c.open_places-places.result.now) (sym c.requires.count)
+    subst (λ n. AreWithin n c.open_places-places.result.now) (sym c.requires.moved.count)
     (subst (AreWithin (length c.args.order.now.by_shape)) (sym c.open_places-places.ensures)
     (places_within (g.C.Chart.county c.args.chart.now) (g.met.C.Chart.is_county c.args.chart.now) c.args.order.now.by_shape
     c.requires.known.order.by_shape c.args.order.now.places (c.requires.known.order.places c.requires.known.few)))
@@ -20,7 +20,7 @@ put_back-requires-clause-within g c =
 pub put_back-requires-clause-apart : goal.put_back-requires-clause-apart
 put_back-requires-clause-apart g c =
     subst (λ by_shape. AgreeApart c.open_places-places.result.now c.args.arrangement.now by_shape) (sym c.by_shape.ensures)
-    (subst (λ places. AgreeApart places c.args.arrangement.now c.args.order.now.by_shape) (sym c.open_places-places.ensures) c.requires.apart)
+    (subst (λ places. AgreeApart places c.args.arrangement.now c.args.order.now.by_shape) (sym c.open_places-places.ensures) c.requires.moved.apart)
 
 pub choose-requires : goal.choose-requires
 choose-requires g c =
@@ -55,9 +55,9 @@ returns-clause-order g c =
     (arrangement_of_number county is by_shape c.requires.known.order.by_shape places there c.args.least.now.choice.items c.args.least.now.number c.requires.least)
     (arrangement_of_number county is by_shape c.requires.known.order.by_shape places there c.choose.new.arrangement c.args.number stated)
 
-pub returns-clause-apart : goal.returns-clause-apart
-returns-clause-apart g c =
+pub returns-clause-moved : goal.returns-clause-moved
+returns-clause-moved g c =
     let stated = c.choose.ensures.arrangement
     ∙ (λ i. (moved other_way (c.open_places-places.ensures i) ((c.put_back.ensures ∙ c.by_shape.ensures) i, c.args.number)).0) in
-    arrangement_of_number_apart (g.C.Chart.county c.args.chart.now) (g.met.C.Chart.is_county c.args.chart.now) c.args.order.now.by_shape
-    c.requires.known.order.by_shape c.args.order.now.places (c.requires.known.order.places c.requires.known.few) c.choose.new.arrangement c.args.number stated
+    moved_of_number (g.C.Chart.county c.args.chart.now) (g.met.C.Chart.is_county c.args.chart.now) c.args.order.now
+    c.requires.known.order.by_shape (c.requires.known.order.places c.requires.known.few) c.choose.new.arrangement c.args.number stated

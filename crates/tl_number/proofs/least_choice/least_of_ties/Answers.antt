@@ -15,8 +15,7 @@ loop-next-init g c =
       least = λ m l. c.requires.before m (omega arith) l;
       upper = not_after_itself (choice_list county c.args.first.now.number);
       tied = tied_with_itself county c.args.first.now.number;
-      count = c.requires.count;
-      apart = c.requires.apart;
+      moved = c.requires.moved;
     }
 
 pub next_least-requires-clause-tied : goal.next_least-requires-clause-tied
@@ -37,8 +36,7 @@ loop-next-preserved g c =
           c.in-Some.ensures.tie c.in_ok-least.ensures.least c.in_ok-least.ensures.other;
       upper = not_after_both county new old first c.in_ok-least.ensures.least c.loop-next.invariant.upper;
       tied = tied_along county first old new c.loop-next.invariant.tied c.in_ok-least.ensures.tied;
-      count = c.in-Some.ensures.count;
-      apart = c.in-Some.ensures.apart;
+      moved = c.in-Some.ensures.moved;
     }
 
 pub returns : goal.returns

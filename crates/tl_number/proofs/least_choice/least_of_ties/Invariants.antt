@@ -1,10 +1,10 @@
 -- The least choice so far is arranged, and it is the least below the number where the search goes on.
-use Rattle.std.proofs.Common.{◌≡◌, ◌-◌, Equal, length}
+use Rattle.std.proofs.Common.{◌≡◌, ◌-◌, Equal}
 use Rattle.tl_profile.specs.Choices.{choices}
 use Rattle.tl_number.specs.Arrangement.{arranged}
 use Rattle.tl_number.specs.LeastNumber.{IsLeastBelow, choice_list}
 use Rattle.tl_number.specs.Canonical.{IsNotAfter}
-use Rattle.tl_number.specs.MovedChains.{AgreeApart}
+use Rattle.tl_number.specs.ChoiceSearch.{IsMoved}
 use Rattle.tl_number.specs.Tidy.{numbered_choice}
 use Rattle.tl_number.specs.TypeOneOrder.{ones_cmp}
 use Rattle.tl_number.specs.Views.{arranged_county}
@@ -18,8 +18,7 @@ invariant-loop-next g l = record {
   least : IsLeastBelow (g.C.Chart.county l.chart) l.from l.least.number;
   upper : IsNotAfter (choice_list (g.C.Chart.county l.chart) l.least.number) (choice_list (g.C.Chart.county l.chart) l.first.number);
   tied : ones_cmp (g.C.Chart.county l.chart) l.first.number l.least.number ≡ Equal;
-  count : length l.arrangement ≡ length l.order.by_shape;
-  apart : AgreeApart l.order.places l.arrangement l.order.by_shape;
+  moved : IsMoved l.order l.arrangement;
 }
 
 abbrev pub decreases-loop-next : goal.decreases-loop-next

@@ -1,7 +1,6 @@
-use Rattle.std.proofs.Common.{◌≡◌, is_gt, length, sym, ap, ◌∙◌, subst, true, false}
-use Rattle.tl_number.specs.MovedChains.{AgreeApart}
+use Rattle.std.proofs.Common.{◌≡◌, is_gt, length, sym, ap, ◌∙◌, true, false}
 use Rattle.tl_number.specs.TypeOneOrder.{ones_cmp}
-use Rattle.tl_number.proofs.Choices.ChosenArrangements.{places_within, arrangement_of_number_apart, arrangement_of_number_count}
+use Rattle.tl_number.proofs.Choices.ChosenArrangements.{moved_of_number, places_within}
 use Rattle.tl_number.proofs.Choices.FixedPlaces.{agree_itself}
 use Rattle.tl_number.proofs.Choices.LeastOnes.{first_one, greater_from, not_greater_from, one_gives_way, one_stays}
 use Rattle.tl_number.proofs.least_choice.least_of_type_1.Goals as goal
@@ -15,11 +14,10 @@ pub loop-number-init : goal.loop-number-init
 loop-number-init g c = record {
   arrangement = c.in_ok-choice.ensures;
   least = first_one (g.C.Chart.county c.args.chart.now);
-  least_count = arrangement_of_number_count (g.C.Chart.county c.args.chart.now) (g.met.C.Chart.is_county c.args.chart.now) c.args.order.now.by_shape
-      c.requires.order.by_shape c.args.order.now.places (c.requires.order.places c.requires.few) c.in_ok-choice.choice.items 0
-      c.in_ok-choice.ensures;
-  count = ap length c.in_ok-arrangement.ensures;
-  apart = agree_itself c.args.order.now.places c.in_ok-arrangement.arrangement.items c.args.order.now.by_shape c.in_ok-arrangement.ensures;
+  moved = record {
+    count = ap length c.in_ok-arrangement.ensures;
+    apart = agree_itself c.args.order.now.places c.in_ok-arrangement.arrangement.items c.args.order.now.by_shape c.in_ok-arrangement.ensures;
+  };
 }
 
 pub loop-number-preserved-then-is_le : goal.loop-number-preserved-then-is_le
@@ -31,9 +29,7 @@ loop-number-preserved-then-is_le g c =
     record {
       arrangement = c.loop-number.invariant.arrangement;
       least = one_stays county c.loop-number.number c.loop-number.least.number c.loop-number.invariant.least stays;
-      least_count = c.loop-number.invariant.least_count;
-      count = c.compare_next-ordering.ensures.count;
-      apart = c.compare_next-ordering.ensures.apart;
+      moved = c.compare_next-ordering.ensures.moved;
     }
 
 pub loop-number-preserved : goal.loop-number-preserved
@@ -45,10 +41,7 @@ loop-number-preserved g c =
     record {
       arrangement = ap (λ v. v.items) c.swap.ensures.x_after ∙ c.compare_next-ordering.ensures.arrangement;
       least = one_gives_way county c.loop-number.number c.loop-number.least.number c.loop-number.invariant.least before;
-      least_count = ap (λ v. length v.items) c.swap.ensures.x_after ∙ c.compare_next-ordering.ensures.count;
-      count = ap (λ v. length v.items) c.swap.ensures.y_after ∙ c.loop-number.invariant.least_count;
-      apart = subst (λ v. AgreeApart c.args.order.now.places v.items c.args.order.now.by_shape) (sym c.swap.ensures.y_after)
-          (arrangement_of_number_apart county (g.met.C.Chart.is_county c.args.chart.now) c.args.order.now.by_shape c.requires.order.by_shape
-          c.args.order.now.places (c.requires.order.places c.requires.few) c.loop-number.least.choice.items c.loop-number.least.number
-          c.loop-number.invariant.arrangement);
+      moved = moved_of_number county (g.met.C.Chart.is_county c.args.chart.now) c.args.order.now c.requires.order.by_shape
+          (c.requires.order.places c.requires.few) _ c.loop-number.least.number
+          (ap (λ v. v.items) c.swap.ensures.y_after ∙ c.loop-number.invariant.arrangement);
     }

@@ -36,44 +36,28 @@ compare_texts-ordering-requires-clause-same g c =
     (subst (AreSame first) (sym c.in-Ok.ensures.county)
     (choices_same county (g.met.C.Chart.is_county c.args.chart.now) c.requires.known.sides c.args.least.number c.args.number))
 
-pub returns-in-Ok-clause-choice : goal.returns-in-Ok-clause-choice
-returns-in-Ok-clause-choice g c =
-    let county = g.C.Chart.county c.args.chart.now in
-    subst (λ kept. arranged_county kept.choice ≡ arranged county (numbered_choice county kept.number)) (sym c.lesser.ensures)
-    (of_either (λ kept. arranged_county kept.choice ≡ arranged county (numbered_choice county kept.number)) (is_gt c.compare_texts-ordering.result)
-    (record { number = c.args.number; choice = c.in-Ok.choice }) c.args.least c.in-Ok.ensures.county c.requires.choice)
-
-pub returns-in-Ok-clause-least : goal.returns-in-Ok-clause-least
-returns-in-Ok-clause-least g c =
-    let county = g.C.Chart.county c.args.chart.now in
-    let o = c.compare_texts-ordering.result in
-    subst (λ kept. IsNotAfter (choice_list county kept.number) (choice_list county c.args.least.number)) (sym c.lesser.ensures)
-    (stated_of_either (λ kept. kept.number) (λ n. IsNotAfter (choice_list county n) (choice_list county c.args.least.number)) (is_gt o)
-    (record { number = c.args.number; choice = c.in-Ok.choice }) c.args.least
-    (text_compared county c.args.least.number c.args.number o (arranged_county c.args.least.choice)
-    (arranged_county c.in-Ok.choice) c.requires.choice c.in-Ok.ensures.county c.compare_texts-ordering.ensures).0)
-
-pub returns-in-Ok-clause-other : goal.returns-in-Ok-clause-other
-returns-in-Ok-clause-other g c =
-    let county = g.C.Chart.county c.args.chart.now in
-    let o = c.compare_texts-ordering.result in
-    subst (λ kept. IsNotAfter (choice_list county kept.number) (choice_list county c.args.number)) (sym c.lesser.ensures)
-    (stated_of_either (λ kept. kept.number) (λ n. IsNotAfter (choice_list county n) (choice_list county c.args.number)) (is_gt o)
-    (record { number = c.args.number; choice = c.in-Ok.choice }) c.args.least
-    (text_compared county c.args.least.number c.args.number o (arranged_county c.args.least.choice)
-    (arranged_county c.in-Ok.choice) c.requires.choice c.in-Ok.ensures.county c.compare_texts-ordering.ensures).1)
-
-pub returns-in-Ok-clause-source : goal.returns-in-Ok-clause-source
-returns-in-Ok-clause-source g c =
-    let county = g.C.Chart.county c.args.chart.now in
-    subst (λ kept. g.C.Chart.county kept.choice.chart.chart.now ≡ county) (sym c.lesser.ensures)
-    (of_either (λ kept. g.C.Chart.county kept.choice.chart.chart.now ≡ county) (is_gt c.compare_texts-ordering.result)
-    (record { number = c.args.number; choice = c.in-Ok.choice }) c.args.least c.in-Ok.ensures.source c.requires.source)
-
-pub returns-in-Ok-clause-tied : goal.returns-in-Ok-clause-tied
-returns-in-Ok-clause-tied g c =
+pub returns-in-Ok : goal.returns-in-Ok
+returns-in-Ok g c =
     let county = g.C.Chart.county c.args.chart.now in
     let least = c.args.least.number in
-    subst (λ kept. ones_cmp county least kept.number ≡ Equal) (sym c.lesser.ensures)
-    (of_either (λ kept. ones_cmp county least kept.number ≡ Equal) (is_gt c.compare_texts-ordering.result)
-    (record { number = c.args.number; choice = c.in-Ok.choice }) c.args.least c.requires.tied (tied_with_itself county least))
+    let o = c.compare_texts-ordering.result in
+    let kept = sym c.lesser.ensures in
+    let compared = text_compared county least c.args.number o (arranged_county c.args.least.choice) (arranged_county c.in-Ok.choice)
+    c.requires.choice c.in-Ok.ensures.county c.compare_texts-ordering.ensures in
+    record {
+      choice = subst (λ kept. arranged_county kept.choice ≡ arranged county (numbered_choice county kept.number)) kept
+          (of_either (λ kept. arranged_county kept.choice ≡ arranged county (numbered_choice county kept.number)) (is_gt o)
+          (record { number = c.args.number; choice = c.in-Ok.choice }) c.args.least c.in-Ok.ensures.county c.requires.choice);
+      source = subst (λ kept. g.C.Chart.county kept.choice.chart.chart.now ≡ county) kept
+          (of_either (λ kept. g.C.Chart.county kept.choice.chart.chart.now ≡ county) (is_gt o)
+          (record { number = c.args.number; choice = c.in-Ok.choice }) c.args.least c.in-Ok.ensures.source c.requires.source);
+      least = subst (λ kept. IsNotAfter (choice_list county kept.number) (choice_list county least)) kept
+          (stated_of_either (λ kept. kept.number) (λ n. IsNotAfter (choice_list county n) (choice_list county least)) (is_gt o)
+          (record { number = c.args.number; choice = c.in-Ok.choice }) c.args.least compared.0);
+      other = subst (λ kept. IsNotAfter (choice_list county kept.number) (choice_list county c.args.number)) kept
+          (stated_of_either (λ kept. kept.number) (λ n. IsNotAfter (choice_list county n) (choice_list county c.args.number)) (is_gt o)
+          (record { number = c.args.number; choice = c.in-Ok.choice }) c.args.least compared.1);
+      tied = subst (λ kept. ones_cmp county least kept.number ≡ Equal) kept
+          (of_either (λ kept. ones_cmp county least kept.number ≡ Equal) (is_gt o)
+          (record { number = c.args.number; choice = c.in-Ok.choice }) c.args.least c.requires.tied (tied_with_itself county least));
+    }

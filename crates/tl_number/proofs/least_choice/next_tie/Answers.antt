@@ -13,6 +13,5 @@ loop-number-preserved g c =
       from = omega (arith, c.loop-number.invariant.from);
       least = from_more (g.C.Chart.county c.args.chart.now) c.args.first c.loop-number.number c.args.least.now.number
           c.loop-number.invariant.least (c.is_other_tie-tied.ensures.least no);
-      count = c.is_other_tie-tied.ensures.count;
-      apart = c.is_other_tie-tied.ensures.apart;
+      moved = c.is_other_tie-tied.ensures.moved;
     }

@@ -1,4 +1,4 @@
-use Rattle.std.proofs.Common.{nat_cmp, slice_get, ap, ◌∙◌}
+use Rattle.std.proofs.Common.{Some, nat_cmp, slice_get, ap, ◌∙◌}
 use Rattle.tl_county.specs.ChartWords.{feats_of}
 use Rattle.tl_county.specs.DirectedChains.{directed_chain}
 use Rattle.tl_number.proofs.Numbering.SeenLists.{seen_next}
@@ -6,6 +6,6 @@ use Rattle.tl_number.proofs.name_order.see_feats.Goals as goal
 
 pub loop-name-preserved : goal.loop-name-preserved
 loop-name-preserved g c =
-    seen_next nat_cmp c.loop-name.name c.loop-name.feats c.see_feat.new.feats (feats_of (directed_chain
-    (g.C.Chart.county c.args.chart.now) c.args.directed))
-    c.get.result _ c.in_ok-see_feat.ensures (c.get.ensures ∙ ap (λ feats. slice_get feats c.loop-name.name) c.feats-further.ensures) c.loop-name.invariant
+    seen_next nat_cmp c.loop-name.name c.loop-name.feats c.see.new.self
+    (feats_of (directed_chain (g.C.Chart.county c.args.chart.now) c.args.directed)) (Some c.item.result) _ c.in_ok-see.ensures.seen
+    (c.item.ensures ∙ ap (λ feats. slice_get feats c.loop-name.name) c.feats-further.ensures) c.loop-name.invariant

@@ -1,7 +1,7 @@
 use Rattle.std.proofs.Common.{◌∙◌, ap, map, subst, sym}
 use Rattle.tl_number.specs.Arrangement.{landmarks_in_order, renaming_of, under_cenid}
-use Rattle.tl_number.specs.Growth.{numbered}
 use Rattle.tl_number.specs.DirectedChains.{arrangement_of}
+use Rattle.tl_number.specs.Growth.{numbered}
 use Rattle.tl_number.specs.ViewFacts.{AreReadAt}
 use Rattle.tl_number.proofs.arranged.Arranged.place_pairs.Goals as goal
 
@@ -14,9 +14,7 @@ returns-clause-polygons g c =
 pub returns-clause-lands : goal.returns-clause-lands
 unfolding renaming_of
 returns-clause-lands g c =
-    let view = c.args.self.now in
-    let county = g.C.Chart.county view.chart in
-    let order = arrangement_of county view.arrangement.items in
-    c.in_ok-lands.ensures (landmarks_in_order county order)
-    (subst (λ places. AreReadAt county.landmarks places (landmarks_in_order county order)) (sym c.deref.ensures.value)
-    view.landmarks_stated.landmarks)
+    let county = g.C.Chart.county c.args.self.now.chart in
+    let ls = landmarks_in_order county (arrangement_of county c.args.self.now.arrangement.items) in
+    c.in_ok-lands.ensures ls (subst (λ places. AreReadAt county.landmarks places ls) (sym c.deref.ensures.value)
+    c.args.self.now.landmarks_stated.landmarks)

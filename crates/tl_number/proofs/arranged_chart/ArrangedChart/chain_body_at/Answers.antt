@@ -1,18 +1,8 @@
-use Rattle.std.proofs.Common.{refl, ◌∙◌, Option, option_map}
+use Rattle.std.proofs.Common.{refl, ◌∙◌, option_map}
 use Rattle.tl_shape.specs.Chain.{Chain}
-use Rattle.tl_number.proofs.Views.ViewChains.{stated, unstated}
+use Rattle.tl_number.proofs.Views.ViewChains.{unnumbered_part}
 use Rattle.tl_number.proofs.arranged_chart.ArrangedChart.chain_body_at.Goals as goal
 
-pub returns-in-Some : goal.returns-in-Some
-returns-in-Some g c =
-    c.body.ensures
-    ∙ stated (g.C.Chart.county c.args.self.now.chart) c.args.self.now.arrangement.items
-    (g.met.C.Chart.is_county c.args.self.now.chart) c.args.self.now.whole
-    (λ (o : Option Chain). option_map (λ (chain : Chain). chain.body) o) (λ (o : Option Chain). option_map (λ
-    (chain : Chain). chain.body) o) (λ chain. refl) c.args.place c.in-Some.directed c.in-Some.ensures
-
-pub returns-in-None : goal.returns-in-None
-returns-in-None g c =
-    unstated (g.C.Chart.county c.args.self.now.chart) c.args.self.now.arrangement.items
-    (g.met.C.Chart.is_county c.args.self.now.chart) c.args.self.now.whole
-    (λ (o : Option Chain). option_map (λ (chain : Chain). chain.body) o) c.args.place c.in-None.ensures
+pub returns : goal.returns
+returns g c = c.body.ensures ∙ unnumbered_part (g.C.Chart.county c.args.self.now.chart) c.args.self.now.arrangement.items (option_map (λ (chain : Chain). chain.body)) (λ r chain. refl)
+    c.args.place c.directed_or_past.result c.directed_or_past.ensures

@@ -1,19 +1,9 @@
-use Rattle.std.proofs.Common.{refl, ap, ◌∙◌, Option, slice_get}
+use Rattle.std.proofs.Common.{refl, ap, ◌∙◌, slice_get}
 use Rattle.tl_county.specs.ChartWords.{points_of}
-use Rattle.tl_shape.specs.Chain.{Chain}
-use Rattle.tl_number.proofs.Views.ViewChains.{stated, unstated}
+use Rattle.tl_number.proofs.Views.ViewChains.{unnumbered_part}
 use Rattle.tl_number.proofs.arranged_chart.ArrangedChart.point_at.Goals as goal
 
-pub returns-in-Some : goal.returns-in-Some
-returns-in-Some g c =
-    c.get.ensures ∙ ap (λ points. slice_get points c.args.point) c.points.ensures
-    ∙ stated (g.C.Chart.county c.args.self.now.chart) c.args.self.now.arrangement.items
-    (g.met.C.Chart.is_county c.args.self.now.chart) c.args.self.now.whole
-    (λ (o : Option Chain). slice_get (points_of o) c.args.point) (λ (o : Option Chain). slice_get (points_of o) c.args.point)
-    (λ chain. refl) c.args.place c.in-Some.directed c.in-Some.ensures
-
-pub returns-in-None : goal.returns-in-None
-returns-in-None g c =
-    unstated (g.C.Chart.county c.args.self.now.chart) c.args.self.now.arrangement.items
-    (g.met.C.Chart.is_county c.args.self.now.chart) c.args.self.now.whole
-    (λ (o : Option Chain). slice_get (points_of o) c.args.point) c.args.place c.in-None.ensures
+pub returns : goal.returns
+returns g c = c.get.ensures
+    ∙ ap (λ points. slice_get points c.args.point) (c.points.ensures ∙ unnumbered_part (g.C.Chart.county c.args.self.now.chart) c.args.self.now.arrangement.items points_of (λ r chain. refl)
+    c.args.place c.directed_or_past.result c.directed_or_past.ensures)

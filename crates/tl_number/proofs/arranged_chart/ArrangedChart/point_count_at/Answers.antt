@@ -1,19 +1,8 @@
-use Rattle.std.proofs.Common.{refl, ap, ◌∙◌, Option, length}
+use Rattle.std.proofs.Common.{refl, ap, ◌∙◌, length}
 use Rattle.tl_county.specs.ChartWords.{points_of}
-use Rattle.tl_shape.specs.Chain.{Chain}
-use Rattle.tl_number.proofs.Views.ViewChains.{stated, unstated}
+use Rattle.tl_number.proofs.Views.ViewChains.{unnumbered_part}
 use Rattle.tl_number.proofs.arranged_chart.ArrangedChart.point_count_at.Goals as goal
 
-pub returns-in-Some : goal.returns-in-Some
-returns-in-Some g c =
-    c.count.ensures ∙ ap length c.points.ensures
-    ∙ stated (g.C.Chart.county c.args.self.now.chart) c.args.self.now.arrangement.items
-    (g.met.C.Chart.is_county c.args.self.now.chart) c.args.self.now.whole
-    (λ (o : Option Chain). length (points_of o)) (λ (o : Option Chain). length (points_of o))
-    (λ chain. refl) c.args.place c.in-Some.directed c.in-Some.ensures
-
-pub returns-in-None : goal.returns-in-None
-returns-in-None g c =
-    unstated (g.C.Chart.county c.args.self.now.chart) c.args.self.now.arrangement.items
-    (g.met.C.Chart.is_county c.args.self.now.chart) c.args.self.now.whole
-    (λ (o : Option Chain). length (points_of o)) c.args.place c.in-None.ensures
+pub returns : goal.returns
+returns g c = c.count.ensures ∙ ap length (c.points.ensures ∙ unnumbered_part (g.C.Chart.county c.args.self.now.chart) c.args.self.now.arrangement.items points_of (λ r chain. refl)
+    c.args.place c.directed_or_past.result c.directed_or_past.ensures)

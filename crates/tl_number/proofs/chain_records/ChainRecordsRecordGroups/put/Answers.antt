@@ -7,8 +7,7 @@ use Rattle.tl_layout.specs.FieldTexts.{number_text}
 use Rattle.tl_layout.specs.RecordTables.{rtype_1}
 use Rattle.tl_layout.specs.Type1.{type_1_spelling}
 use Rattle.tl_layout.specs.Type1Groups.{body_1_texts, point_texts}
-use Rattle.tl_number.proofs.Records.ChainPlaces.{chain_of_group}
-use Rattle.tl_number.proofs.Records.RecordPlaces.{tlid_of, part_of, lone_of}
+use Rattle.tl_number.proofs.Records.RecordPlaces.{chain_of_group, tlid_of, part_of, lone_of}
 use Rattle.tl_number.proofs.chain_records.ChainRecordsRecordGroups.put.Goals as goal
 
 pub put_chain_body-requires-clause-place : goal.put_chain_body-requires-clause-place
@@ -31,4 +30,5 @@ returns g c =
     ∙ ((λ i. joined (joined (body_is i) (point_texts (ends_are i).0)) (point_texts (ends_are i).1))
     ∙ ap (λ before. joined (joined (joined before (body_1_texts there.entry.1.body)) (point_texts (first_point there.entry.1.points)))
     (point_texts (last_point there.entry.1.points))) numbered))
-    ∙ sym (ap (option_map type_1_spelling) (lone_of packed_one there c.args._place c.requires.place))
+    ∙ sym (ap (option_map type_1_spelling) (lone_of packed_one (g.C.Chart.county chart) (g.met.C.Chart.is_county chart)
+    (g.met.C.Chart.within_limits chart) c.args.group c.requires.group c.args._place c.requires.place))

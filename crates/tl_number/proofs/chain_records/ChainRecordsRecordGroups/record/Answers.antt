@@ -1,7 +1,6 @@
 use Rattle.std.proofs.Common.{◌∙◌, ◌∷◌, [], Some, sym, ap}
 use Rattle.tl_county.specs.Packing.{packed_one, first_point, last_point}
-use Rattle.tl_number.proofs.Records.ChainPlaces.{chain_of_group}
-use Rattle.tl_number.proofs.Records.RecordPlaces.{tlid_of, part_of, lone_of}
+use Rattle.tl_number.proofs.Records.RecordPlaces.{chain_of_group, tlid_of, part_of, lone_of}
 use Rattle.tl_number.proofs.chain_records.ChainRecordsRecordGroups.record.Goals as goal
 
 pub returns : goal.returns
@@ -13,4 +12,5 @@ returns g c =
     let body_is = part_of (λ chain. chain.body) there c.chain_body_there.result c.chain_body_there.ensures in
     let ends_are = part_of (λ chain. (first_point chain.points, last_point chain.points)) there c.args.head c.requires.head in
     ap Some (c.new.ensures ∙ (λ i. record { tlid = tlid_is i; body = body_is i; start = (ends_are i).0; end = (ends_are i).1 }))
-    ∙ sym (lone_of packed_one there c.args._place c.requires.place)
+    ∙ sym (lone_of packed_one (g.C.Chart.county chart) (g.met.C.Chart.is_county chart)
+    (g.met.C.Chart.within_limits chart) c.args.group c.requires.group c.args._place c.requires.place)

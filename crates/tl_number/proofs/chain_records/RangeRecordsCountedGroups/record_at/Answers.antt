@@ -1,0 +1,28 @@
+use Rattle.std.proofs.Common.{◌<◌, ◌∙◌, Some, length, sym, ap, arith}
+use Rattle.tl_county.specs.ChartWords.{ranges_of}
+use Rattle.tl_number.proofs.Records.RecordPlaces.{ItemThere, item_there, six_of, tlid_of}
+use Rattle.tl_number.proofs.chain_records.RangeRecordsCountedGroups.record_at.Given.{Over}
+use Rattle.tl_number.proofs.chain_records.RangeRecordsCountedGroups.record_at.Goals.{Start}
+use Rattle.tl_number.proofs.chain_records.RangeRecordsCountedGroups.record_at.Goals as goal
+
+here : (g : Over) (c : Start g) → ItemThere ranges_of six_of (g.C.Chart.county c.args.self.now.chart.now) c.args.group c.args.place
+here g c = item_there ranges_of six_of (g.C.Chart.county c.args.self.now.chart.now) (g.met.C.Chart.is_county c.args.self.now.chart.now)
+    (g.met.C.Chart.within_limits c.args.self.now.chart.now) c.args.group c.requires.group c.args.place c.requires.place
+
+few : (g : Over) (c : Start g) → c.args.place < 999
+few g c =
+    let h = here g c in
+    omega (arith, h.count, ap (λ o. length (ranges_of o)) h.there.chain, h.there.lists.ranges)
+
+pub range_there-ranges-requires : goal.range_there-ranges-requires
+range_there-ranges-requires g c = (here g c).count
+
+pub sequence_number-requires : goal.sequence_number-requires
+sequence_number-requires g c = few g (goal.at.sequence_number-requires g c).Start
+
+pub returns : goal.returns
+returns g c =
+    let h = here g (goal.at.returns g c).Start in
+    let tlid_is = tlid_of h.there c.chain_tlid.result c.chain_tlid.ensures.tlid in
+    ap Some (c.new.ensures ∙ (λ i. six_of (tlid_is i) (c.sequence_number.ensures.number i, c.range_there-ranges.result)))
+    ∙ sym (h.get c.range_there-ranges.result (sym c.range_there-ranges.ensures))

@@ -1,0 +1,19 @@
+use Rattle.std.proofs.Common.{◌∙◌, sym, arith}
+use Rattle.tl_county.specs.ChartWords.{chain_at, points_of}
+use Rattle.tl_county.proofs.Limits.CarriedLimits.{length-inner}
+use Rattle.tl_number.proofs.Records.ChainPlaces.{few_inner, inner_at}
+use Rattle.tl_number.proofs.chain_records.ShapePointsListed.item.Goals as goal
+
+pub overflow_add-place : goal.overflow_add-place
+overflow_add-place g c =
+    let few = few_inner (g.C.Chart.county c.args.self.now.chart.now) (g.met.C.Chart.within_limits c.args.self.now.chart.now) c.args.self.now.chain
+    c.args.place c.requires in
+    omega (arith, few)
+
+pub point_there-requires : goal.point_there-requires
+point_there-requires g c =
+    omega (arith, c.requires, length-inner (points_of (chain_at (g.C.Chart.county c.args.self.now.chart.now) c.args.self.now.chain)))
+
+pub returns : goal.returns
+returns g c = c.point_there.ensures
+    ∙ sym (inner_at (points_of (chain_at (g.C.Chart.county c.args.self.now.chart.now) c.args.self.now.chain)) c.args.place c.requires)

@@ -1,0 +1,15 @@
+-- The keys seen so far, and then those of the rest, are those of all pairs; the numbered part has its final numbers, and the rest is
+-- unchanged.
+use Rattle.std.proofs.Common.{◌≡◌, drop, flat_map, map, take}
+use Rattle.tl_number.specs.EndsAndSides.{changed_both, keys_at}
+use Rattle.tl_number.specs.Growth.{first_seen, first_seen_after}
+use Rattle.tl_number.proofs.first_appearance.see_pairs.Given as goal
+
+abbrev pub invariant-loop-pair : goal.invariant-loop-pair
+invariant-loop-pair g l =
+    (first_seen_after g.T.Old.Ord.cmp l.numbers (flat_map (keys_at g.T.Half.keys) (drop l.pair-index l.initial.pairs))
+    ≡ first_seen g.T.Old.Ord.cmp (flat_map (keys_at g.T.Half.keys) l.initial.pairs))
+    × (take l.pair-index l.pairs
+    ≡ map (changed_both (g.T.Half.among (first_seen g.T.Old.Ord.cmp (flat_map (keys_at g.T.Half.keys) l.initial.pairs))))
+    (take l.pair-index l.initial.pairs))
+    × (drop l.pair-index l.pairs ≡ drop l.pair-index l.initial.pairs)

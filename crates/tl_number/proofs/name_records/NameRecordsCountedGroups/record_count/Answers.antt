@@ -1,0 +1,12 @@
+use Rattle.std.proofs.Common.{◌∷◌, [], length, sym, ap}
+use Rattle.tl_county.specs.Packing.{packed_five}
+use Rattle.tl_number.proofs.Records.EntryPlaces.{name_of_group}
+use Rattle.tl_number.proofs.Records.Grouped.{group_of}
+use Rattle.tl_number.proofs.name_records.NameRecordsCountedGroups.record_count.Goals as goal
+
+pub returns : goal.returns
+returns g c =
+    let chart = c.args.self.now.chart.now in
+    let county = g.C.Chart.county chart in
+    let there = name_of_group county (g.met.C.Chart.within_limits chart) c.args._group (λ entry. packed_five entry ∷ []) c.requires in
+    sym (ap length (group_of (λ entry. packed_five entry ∷ []) county.names c.args._group there.entry there.get))
