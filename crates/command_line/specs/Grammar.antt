@@ -3,9 +3,13 @@ use Rattle.std.specs.Prelude.{[], true, Some, codes}
 use Rattle.clap.specs.Words.{App, Rule, Text, new_app, new_rule, with_rule, with_subcommand}
 use Rattle.clap.specs.declared.builder.action.ArgAction.TheVariants.{Set, SetTrue}
 
+-- a flag: two hyphens and its name
+abbrev pub flag_named : Text → Rule
+flag_named name = record (new_rule name) { long = Some name; action = Some SetTrue }
+
 -- the flag to name sets by their stems
 abbrev pub stem_flag : Rule
-stem_flag = record (new_rule (codes "stem")) { long = Some (codes "stem"); action = Some SetTrue }
+stem_flag = flag_named (codes "stem")
 
 -- a required argument that names a set
 abbrev pub set_argument : Text → Rule
@@ -20,10 +24,10 @@ over_two_sets name = with_rule (over_one_set name) (set_argument (codes "SECOND"
 
 -- the flags to leave fields out, for the subcommands that print or compare maps
 abbrev pub sources_flag : Rule
-sources_flag = record (new_rule (codes "no-sources")) { long = Some (codes "no-sources"); action = Some SetTrue }
+sources_flag = flag_named (codes "no-sources")
 
 abbrev pub reserved_flag : Rule
-reserved_flag = record (new_rule (codes "no-reserved")) { long = Some (codes "no-reserved"); action = Some SetTrue }
+reserved_flag = flag_named (codes "no-reserved")
 
 abbrev pub with_mask : App → App
 with_mask app = with_rule (with_rule app sources_flag) reserved_flag

@@ -3,7 +3,7 @@
 ghost use Rattle.clap.specs.declared.builder.command.Command.TheViews.{out-Command};
 ghost use Rattle.clap.specs.Words.{app_of, rule_of, with_subcommand};
 ghost use Rattle.std.specs.Prelude.{◌≡◌, IfOk, codes, false};
-ghost use Rattle.command_line.specs.Grammar.{over_one_set, over_two_sets, program_alone, reserved_flag, set_argument, sources_flag, stem_flag, understood, with_mask};
+ghost use Rattle.command_line.specs.Grammar.{flag_named, over_one_set, over_two_sets, program_alone, set_argument, stem_flag, understood, with_mask};
 
 use clap::{Arg, ArgAction, Command};
 use std::alloc::{AllocError, Global};
@@ -45,43 +45,27 @@ Exit status:
   5  out of memory
 ";
 
+/// A flag.
+fn flag<'a>(alloc: Global, name: &'a str, help: &'a str) -> Arg<'a>
+    ensures rule { rule_of result ≡ flag_named name.entry.now }
+    ensures local { result.global ≡ false }
+{
+    Arg::new(alloc, name)
+        .long(name)
+        .action(ArgAction::SetTrue)
+        .help(help)
+}
+
 /// The flag to name sets by their stems.
 fn stem<'a>(alloc: Global) -> Arg<'a>
     ensures rule { rule_of result ≡ stem_flag }
     ensures local { result.global ≡ false }
 {
-    Arg::new(alloc, STEM)
-        .long("stem")
-        .action(ArgAction::SetTrue)
-        .help(
-            "Read a set from the files NAME.RT1, .RT2, .RT4, .RT5, .RT6, .RT7, .RT8, .RTI and .RTP; all but .RT1 may be absent",
-        )
-}
-
-/// The flag to leave out the fields that name the source of data.
-fn no_sources<'a>(alloc: Global) -> Arg<'a>
-    ensures rule { rule_of result ≡ sources_flag }
-    ensures local { result.global ≡ false }
-{
-    Arg::new(alloc, NO_SOURCES)
-        .long("no-sources")
-        .action(ArgAction::SetTrue)
-        .help(
-            "Leave out the fields that name the source of the data: SOURCE of record types 1, 7 and I",
-        )
-}
-
-/// The flag to leave out reserved fields.
-fn no_reserved<'a>(alloc: Global) -> Arg<'a>
-    ensures rule { rule_of result ≡ reserved_flag }
-    ensures local { result.global ≡ false }
-{
-    Arg::new(alloc, NO_RESERVED)
-        .long("no-reserved")
-        .action(ArgAction::SetTrue)
-        .help(
-            "Leave out reserved fields: CENSUS1 and CENSUS2 of record type 1, RS_I1, RS_I2 and RS_I3 of type I",
-        )
+    flag(
+        alloc,
+        STEM,
+        "Read a set from the files NAME.RT1, .RT2, .RT4, .RT5, .RT6, .RT7, .RT8, .RTI and .RTP; all but .RT1 may be absent",
+    )
 }
 
 /// Adds the flags that leave fields out to a subcommand.
@@ -90,7 +74,17 @@ fn masked<'a>(alloc: Global, command: Command<'a>) -> Result<Command<'a>, AllocE
     ensures app { IfOk result (λ c. app_of c ≡ with_mask (app_of command.entry)) }
     ensures local { IfOk result (λ c. (out-Command c).has_globals ≡ false) }
 {
-    command.arg(no_sources(alloc))?.arg(no_reserved(alloc))
+    let no_sources = flag(
+        alloc,
+        NO_SOURCES,
+        "Leave out the fields that name the source of the data: SOURCE of record types 1, 7 and I",
+    );
+    let no_reserved = flag(
+        alloc,
+        NO_RESERVED,
+        "Leave out reserved fields: CENSUS1 and CENSUS2 of record type 1, RS_I1, RS_I2 and RS_I3 of type I",
+    );
+    command.arg(no_sources)?.arg(no_reserved)
 }
 
 /// A required argument that names a set.

@@ -1,5 +1,5 @@
 -- The numbers and the entries of a county, decided place by place.
-use Rattle.std.proofs.Common.{◌≡◌, ◌≤◌, ◌+◌, ℕ, zero, suc, List, [], ◌∷◌, length, Bool, true, false, Ordering}
+use Rattle.std.proofs.Common.{◌≡◌, ◌≤◌, ℕ, zero, suc, List, [], ◌∷◌, Bool, true, false, Ordering}
 use Rattle.std.proofs.Common.{is_eq, Option, Some, IfSome, slice_get, refl, sym, ap, ◌∙◌, subst, arith}
 use Rattle.std.proofs.Common.{IsPermutation, nat_cmp, is_gt, ◌||◌}
 use Rattle.std.proofs.lemmas.Bool.{le-ltb}
@@ -9,7 +9,7 @@ use Rattle.std.specs.Cmp.Lexicographic.{slice_cmp}
 use Rattle.ordered_lists.specs.Orders.{IsInOrder, times, has_repeat}
 use Rattle.ordered_lists.specs.Entries.{entry_keys, entry_values}
 use Rattle.ordered_lists.specs.Pairs.{ArePaired}
-use Rattle.ordered_lists.proofs.Lists.ByPlace.{decides_same}
+use Rattle.ordered_lists.proofs.Lists.ByPlace.{decides_over, decides_same}
 use Rattle.ordered_lists.proofs.Lists.InOrder.{in_order-permutation}
 use Rattle.ordered_lists.proofs.ByKey.KeyOrders.{lists_keys}
 use Rattle.ordered_lists.proofs.ByKey.Keys.{IsKeyOrder, Known, nat_keys, same-true, same-itself, lefts, rights, known_all, order_itself, order_antisymm, apart-permutation}
@@ -24,6 +24,14 @@ module _ {K V : Type 0} where
       let same : k ≡ x.0 = cc in
       subst (λ j. Decides b (Q j (Some x.1))) same d
   decides_entry (x ∷ xs) (suc i) k e Q b d = decides_entry xs i k e Q b d
+
+  -- whether what is found under the new key of an entry is the value of the entry, which is at a place
+  pub decides_found : (es : List (K × V)) (i : ℕ) (k : K) → Some k ≡ slice_get (entry_keys es) i → (find : K → Option V) (new : K → K)
+      → (b : Bool) (new_k : K) (one other : Option V) → new_k ≡ new k → one ≡ find new_k → other ≡ slice_get (entry_values es) i
+      → Decides b (one ≡ other) → Decides b (IfSome (slice_get es i) (λ e. find (new e.0) ≡ Some e.1))
+  decides_found es i k e find new b new_k one other is found value d =
+      decides_entry es i k e (λ key v. find (new key) ≡ v) b
+      (decides_over b one (find (new k)) other (slice_get (entry_values es) i) (found ∙ ap find is) value d)
 
 -- a sorted copy is the known list exactly if the numbers are a permutation of it
 module _ {K : Type 0} {cmp : K → K → Ordering} (o : IsKeyOrder cmp) where

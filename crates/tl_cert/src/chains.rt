@@ -4,7 +4,7 @@ ghost use Rattle.std.specs.Bool.{Decides};
 ghost use Rattle.std.specs.Ordering.{nat_cmp};
 ghost use Rattle.std.specs.Prelude.{◌≡◌, map, option_map};
 ghost use Rattle.tl_cert.specs.PartsThere.{HaveSameContent, HaveSameEnds, HaveSameLists, chain_carried};
-ghost use Rattle.tl_county.specs.ChartWords.{chain_at, feats_of, points_of, ranges_of};
+ghost use Rattle.tl_county.specs.ChartWords.{chain_at, feats_of};
 ghost use Rattle.tl_county.specs.DirectedChains.{directed_chain};
 ghost use Rattle.ordered_lists.specs.Pairs.{image};
 ghost use Rattle.tl_county.specs.Renumbering.{renumbered_side};
@@ -91,143 +91,106 @@ impl<'a, C: Chart> Listed for NewFeats<'a, C> {
     }
 }
 
-/// Whether a chain of `b` has the content of a directed chain of `a` in its records of types 1 and I.
-fn have_same_content<A: Chart, B: Chart>(
-    a: &A,
-    directed: DirectedChain,
-    b: &B,
-    other: usize,
-    tables: &RenamingTables,
-) -> bool
-    ensures { Decides result (HaveSameContent (chain_at (B.county b.now) other) (chain_carried tables.now (A.county a.now) directed)) }
-{
-    let body = b.chain_body_at(other).is_same(directed.body(a));
-    if !body {
-        return false;
-    }
-    b.topology_at(other).is_same(directed.topology(a))
-}
-
-/// Whether a chain of `b` has the nodes and the sides of a directed chain of `a` under their new numbers.
-fn have_same_ends<A: Chart, B: Chart>(
-    a: &A,
-    directed: DirectedChain,
-    b: &B,
-    other: usize,
-    tables: &RenamingTables,
-) -> bool
-    ensures { Decides result (HaveSameEnds (chain_at (B.county b.now) other) (chain_carried tables.now (A.county a.now) directed)) }
-{
-    let start = is_node_there(tables, directed.start_node(a), b.start_node_at(other));
-    if !start {
-        return false;
-    }
-    let end = is_node_there(tables, directed.end_node(a), b.end_node_at(other));
-    if !end {
-        return false;
-    }
-    let left = is_side_there(tables, directed.left(a), b.left_at(other));
-    if !left {
-        return false;
-    }
-    is_side_there(tables, directed.right(a), b.right_at(other))
-}
-
-/// Whether a chain of `b` has the points of a directed chain of `a`.
-fn have_same_points<A: Chart, B: Chart>(a: &A, directed: DirectedChain, b: &B, other: usize) -> bool
-    ensures { Decides result (points_of (chain_at (B.county b.now) other) ≡ points_of (directed_chain (A.county a.now) directed)) }
-{
-    let others = ChainPoints {
-        chart: b,
-        place: other,
-        turned: false,
-    };
-    are_same(&directed.points(a), &others)
-}
-
-/// Whether a chain of `b` has the further address ranges of a directed chain of `a`.
-fn have_same_ranges<A: Chart, B: Chart>(a: &A, directed: DirectedChain, b: &B, other: usize) -> bool
-    ensures { Decides result (ranges_of (chain_at (B.county b.now) other) ≡ ranges_of (directed_chain (A.county a.now) directed)) }
-{
-    let others = ChainRanges {
-        chart: b,
-        place: other,
-        turned: false,
-    };
-    are_same(&directed.ranges(a), &others)
-}
-
-/// Whether a chain of `b` has the further names of a directed chain of `a` under their new FEATs.
-fn have_same_feats<A: Chart, B: Chart>(
-    a: &A,
-    directed: DirectedChain,
-    b: &B,
-    other: usize,
-    tables: &RenamingTables,
-) -> bool
-    ensures { Decides result (feats_of (chain_at (B.county b.now) other) ≡
-        map (image nat_cmp tables.now.names) (feats_of (directed_chain (A.county a.now) directed))) }
-{
-    let feats = NewFeats {
-        feats: directed.feats(a),
-        tables,
-    };
-    let others = ChainFeats {
-        chart: b,
-        place: other,
-    };
-    are_same(&feats, &others)
-}
-
-/// Whether a chain of `b` has the points, the further names and the further address ranges of a directed chain of `a` under their
-/// new numbers.
-fn have_same_lists<A: Chart, B: Chart>(
-    a: &A,
-    directed: DirectedChain,
-    b: &B,
-    other: usize,
-    tables: &RenamingTables,
-) -> bool
-    ensures { Decides result (HaveSameLists (chain_at (B.county b.now) other) (chain_carried tables.now (A.county a.now) directed)) }
-{
-    let points = have_same_points(a, directed, b, other);
-    if !points {
-        return false;
-    }
-    let feats = have_same_feats(a, directed, b, other, tables);
-    if !feats {
-        return false;
-    }
-    have_same_ranges(a, directed, b, other)
-}
-
-/// Whether the chain at a place of `b` is a directed chain of `a` under its new numbers.
-fn is_same_chain<A: Chart, B: Chart>(
-    a: &A,
-    directed: DirectedChain,
-    b: &B,
-    other: usize,
-    tables: &RenamingTables,
-) -> bool
-    ensures { Decides result (chain_at (B.county b.now) other ≡ chain_carried tables.now (A.county a.now) directed) }
-{
-    let content = have_same_content(a, directed, b, other, tables);
-    if !content {
-        return false;
-    }
-    let ends = have_same_ends(a, directed, b, other, tables);
-    if !ends {
-        return false;
-    }
-    have_same_lists(a, directed, b, other, tables)
-}
-
 /// The chains of `a`, each looked for in `b` under its new TLID, turned if the renaming turns it.
 #[derive(Drop)]
 pub(crate) struct Chains<'a, A, B> {
     pub(crate) a: &'a A,
     pub(crate) b: &'a B,
     pub(crate) tables: &'a RenamingTables<'a>,
+}
+
+/// Whether the chain at a place of `b` is a directed chain of `a` under its new numbers, by the parts that are compared.
+impl<'a, A: Chart, B: Chart> Chains<'a, A, B> {
+    /// Whether it has the content of the chain's records of types 1 and I.
+    fn has_same_content(&self, directed: DirectedChain, other: usize) -> bool
+        ensures { Decides result (HaveSameContent (chain_at (B.county self.now.b.now) other)
+            (chain_carried self.now.tables.now (A.county self.now.a.now) directed)) }
+    {
+        let body = self.b.chain_body_at(other).is_same(directed.body(self.a));
+        if !body {
+            return false;
+        }
+        self.b.topology_at(other).is_same(directed.topology(self.a))
+    }
+
+    /// Whether it has the chain's nodes and sides under their new numbers.
+    fn has_same_ends(&self, directed: DirectedChain, other: usize) -> bool
+        ensures { Decides result (HaveSameEnds (chain_at (B.county self.now.b.now) other)
+            (chain_carried self.now.tables.now (A.county self.now.a.now) directed)) }
+    {
+        let old = directed.start_node(self.a);
+        let start = is_node_there(self.tables, old, self.b.start_node_at(other));
+        if !start {
+            return false;
+        }
+        let old = directed.end_node(self.a);
+        let end = is_node_there(self.tables, old, self.b.end_node_at(other));
+        if !end {
+            return false;
+        }
+        let left = is_side_there(self.tables, directed.left(self.a), self.b.left_at(other));
+        if !left {
+            return false;
+        }
+        is_side_there(self.tables, directed.right(self.a), self.b.right_at(other))
+    }
+
+    /// Whether it has the chain's further names under their new FEATs.
+    fn has_same_feats(&self, directed: DirectedChain, other: usize) -> bool
+        ensures { Decides result (feats_of (chain_at (B.county self.now.b.now) other) ≡
+            map (image nat_cmp self.now.tables.now.names) (feats_of (directed_chain (A.county self.now.a.now) directed))) }
+    {
+        let feats = NewFeats {
+            feats: directed.feats(self.a),
+            tables: self.tables,
+        };
+        let others = ChainFeats {
+            chart: self.b,
+            place: other,
+        };
+        are_same(&feats, &others)
+    }
+
+    /// Whether it has the chain's points, further names and further address ranges under their new numbers.
+    fn has_same_lists(&self, directed: DirectedChain, other: usize) -> bool
+        ensures { Decides result (HaveSameLists (chain_at (B.county self.now.b.now) other)
+            (chain_carried self.now.tables.now (A.county self.now.a.now) directed)) }
+    {
+        let others = ChainPoints {
+            chart: self.b,
+            place: other,
+            turned: false,
+        };
+        let points = are_same(&directed.points(self.a), &others);
+        if !points {
+            return false;
+        }
+        let feats = self.has_same_feats(directed, other);
+        if !feats {
+            return false;
+        }
+        let others = ChainRanges {
+            chart: self.b,
+            place: other,
+            turned: false,
+        };
+        are_same(&directed.ranges(self.a), &others)
+    }
+
+    /// Whether it is the chain under its new numbers.
+    fn is_same_chain(&self, directed: DirectedChain, other: usize) -> bool
+        ensures { Decides result (chain_at (B.county self.now.b.now) other ≡ chain_carried self.now.tables.now (A.county self.now.a.now) directed) }
+    {
+        let content = self.has_same_content(directed, other);
+        if !content {
+            return false;
+        }
+        let ends = self.has_same_ends(directed, other);
+        if !ends {
+            return false;
+        }
+        self.has_same_lists(directed, other)
+    }
 }
 
 impl<'a, A: Chart, B: Chart> Tested for Chains<'a, A, B> {
@@ -252,6 +215,6 @@ impl<'a, A: Chart, B: Chart> Tested for Chains<'a, A, B> {
             place: place as u32,
             turned: self.tables.is_turned(tlid),
         };
-        is_same_chain(self.a, directed, self.b, other, self.tables)
+        self.is_same_chain(directed, other)
     }
 }

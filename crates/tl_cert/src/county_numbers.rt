@@ -2,7 +2,6 @@
 
 ghost use Rattle.std.specs.Prelude.{◌≡◌, ◌<◌, IfOk, Some, length, slice_get};
 
-use crate::renaming::Renaming;
 use ordered_lists::Key;
 use std::alloc::{AllocError, Global};
 use std::marker::PhantomData;
@@ -14,13 +13,9 @@ pub(crate) trait NumberKind<K: Key> {
     ghost use Rattle.tl_county.specs.County.{County};
     ghost use Rattle.tl_county.specs.CountyRules.{IsCounty};
     ghost use Rattle.ordered_lists.specs.Orders.{IsInOrder};
-    ghost use Rattle.tl_county.specs.Renumbering.{Renumbering};
 
     /// The numbers of this kind.
     ghost numbers: { County → List K };
-
-    /// The pairs of this kind in a renaming.
-    ghost pairs: { Renumbering → List (K × K) };
 
     /// The number of them.
     fn count<C: Chart>(chart: &C) -> usize
@@ -30,10 +25,6 @@ pub(crate) trait NumberKind<K: Key> {
     fn number<C: Chart>(chart: &C, place: usize) -> K
         requires { place < length (numbers (C.county chart.now)) }
         ensures { Some result ≡ slice_get (numbers (C.county chart.now)) place };
-
-    /// The pairs of this kind in a renaming.
-    fn pairs_in(renaming: &Renaming) -> &[(K, K)]
-        ensures { result.now ≡ pairs renaming.now };
 
     /// The numbers are in order.
     ghost in_order: { (county : County) → IsCounty county → IsInOrder K.cmp (numbers county) };
@@ -49,18 +40,12 @@ impl NumberKind<u64> for Tlids {
 
     ghost numbers = { tlids };
 
-    ghost pairs = { λ r. r.chains };
-
     fn count<C: Chart>(chart: &C) -> usize {
         chart.chain_count()
     }
 
     fn number<C: Chart>(chart: &C, place: usize) -> u64 {
         chart.tlid_there(place)
-    }
-
-    fn pairs_in(renaming: &Renaming) -> &[(u64, u64)] {
-        renaming.chains()
     }
 
     ghost in_order = { λ county is. in_order-strict nat_cmp (tlids county) is.ascending.chains };
@@ -76,18 +61,12 @@ impl NumberKind<u32> for Feats {
 
     ghost numbers = { feats };
 
-    ghost pairs = { λ r. r.names };
-
     fn count<C: Chart>(chart: &C) -> usize {
         chart.name_count()
     }
 
     fn number<C: Chart>(chart: &C, place: usize) -> u32 {
         chart.feat_there(place)
-    }
-
-    fn pairs_in(renaming: &Renaming) -> &[(u32, u32)] {
-        renaming.names()
     }
 
     ghost in_order = { λ county is. in_order-strict nat_cmp (feats county) is.ascending.names };
@@ -103,18 +82,12 @@ impl NumberKind<PolygonKey> for PolygonKeys {
 
     ghost numbers = { polygon_keys };
 
-    ghost pairs = { λ r. r.polygons };
-
     fn count<C: Chart>(chart: &C) -> usize {
         chart.polygon_count()
     }
 
     fn number<C: Chart>(chart: &C, place: usize) -> PolygonKey {
         chart.polygon_key_there(place)
-    }
-
-    fn pairs_in(renaming: &Renaming) -> &[(PolygonKey, PolygonKey)] {
-        renaming.polygons()
     }
 
     ghost in_order = { λ county is. in_order-strict key_cmp (polygon_keys county) is.ascending.polygons };
@@ -130,18 +103,12 @@ impl NumberKind<u64> for Lands {
 
     ghost numbers = { lands };
 
-    ghost pairs = { λ r. r.lands };
-
     fn count<C: Chart>(chart: &C) -> usize {
         chart.landmark_count()
     }
 
     fn number<C: Chart>(chart: &C, place: usize) -> u64 {
         chart.land_there(place)
-    }
-
-    fn pairs_in(renaming: &Renaming) -> &[(u64, u64)] {
-        renaming.lands()
     }
 
     ghost in_order = { λ county is. in_order-strict nat_cmp (lands county) is.ascending.landmarks };
@@ -159,18 +126,12 @@ impl NumberKind<u64> for Nodes {
 
     ghost numbers = { nodes };
 
-    ghost pairs = { λ r. r.nodes };
-
     fn count<C: Chart>(chart: &C) -> usize {
         chart.node_count()
     }
 
     fn number<C: Chart>(chart: &C, place: usize) -> u64 {
         chart.node_there(place)
-    }
-
-    fn pairs_in(renaming: &Renaming) -> &[(u64, u64)] {
-        renaming.nodes()
     }
 
     ghost in_order = { λ county _. in_order-strict nat_cmp (nodes county) (distinct-strict nat_keys (nodes_along county.chains)) };

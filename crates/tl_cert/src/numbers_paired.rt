@@ -35,12 +35,10 @@ fn is_kind_paired<K: Key, N: NumberKind<K>, A: Chart, B: Chart>(
     alloc: Global,
     a: &A,
     b: &B,
-    renaming: &Renaming,
+    pairs: &[(K, K)],
 ) -> Result<bool, AllocError>
-    ensures { IfOk result (λ yes. Decides yes
-        (ArePaired (N.pairs renaming.now) (N.numbers (A.county a.now)) (N.numbers (B.county b.now)))) }
+    ensures { IfOk result (λ yes. Decides yes (ArePaired pairs.now (N.numbers (A.county a.now)) (N.numbers (B.county b.now)))) }
 {
-    let pairs = N::pairs_in(renaming);
     let olds = old_numbers(alloc, pairs)?;
     let left = are_numbers_of::<K, N, A>(alloc, olds, a)?;
     if !left {
@@ -105,23 +103,28 @@ fn lists_are_paired<A: Chart, B: Chart>(
         × ArePaired renaming.now.nodes (nodes (A.county a.now)) (nodes (B.county b.now))
         × AllByRecursion (λ pair. pair.0.0 ≡ pair.1.0) renaming.now.polygons)) }
 {
-    let chains = is_kind_paired::<u64, Tlids, A, B>(alloc, a, b, renaming)?;
+    let chains = is_kind_paired::<u64, Tlids, A, B>(alloc, a, b, renaming.chains())?;
     if !chains {
         return Ok(false);
     }
-    let names = is_kind_paired::<u32, Feats, A, B>(alloc, a, b, renaming)?;
+    let names = is_kind_paired::<u32, Feats, A, B>(alloc, a, b, renaming.names())?;
     if !names {
         return Ok(false);
     }
-    let polygons = is_kind_paired::<PolygonKey, PolygonKeys, A, B>(alloc, a, b, renaming)?;
+    let polygons = is_kind_paired::<PolygonKey, PolygonKeys, A, B>(
+        alloc,
+        a,
+        b,
+        renaming.polygons(),
+    )?;
     if !polygons {
         return Ok(false);
     }
-    let lands = is_kind_paired::<u64, Lands, A, B>(alloc, a, b, renaming)?;
+    let lands = is_kind_paired::<u64, Lands, A, B>(alloc, a, b, renaming.lands())?;
     if !lands {
         return Ok(false);
     }
-    let nodes = is_kind_paired::<u64, Nodes, A, B>(alloc, a, b, renaming)?;
+    let nodes = is_kind_paired::<u64, Nodes, A, B>(alloc, a, b, renaming.nodes())?;
     if !nodes {
         return Ok(false);
     }

@@ -1,22 +1,18 @@
 -- The usual command lines are valid, and their plans are the ones that they describe.
-use Rattle.std.proofs.Common.{◌≡◌, ◌==◌, ◌∙◌, Bool, true, false, List, [], ◌∷◌, Option, Some, None}
-use Rattle.std.proofs.Common.{arith, refl, ap, sym, subst, codes, map, option_map, string_bytes, ne_eqb}
+use Rattle.std.proofs.Common.{◌≡◌, ◌∙◌, Bool, true, false, List, [], Option, Some, None}
+use Rattle.std.proofs.Common.{arith, refl, ap, sym, subst, codes, map, string_bytes}
 use Rattle.std.specs.Prelude.{slice_index, unwrap_or}
-use Rattle.std.specs.Str.{bytes_eq}
-use Rattle.clap.specs.Lexer.{long_of, short_of}
 use Rattle.clap.specs.Words.{Row, Text, first_of, one_of, subcommand_of}
 use Rattle.command_line.specs.Grammar.{understood}
-use Rattle.command_line.specs.Names.{AreSecondOf, AreUnderstood, AreUsualWordsPlanned, HasFilesOf}
-use Rattle.command_line.specs.Names.{IsFlagGiven, IsMaskGiven, IsPlain, IsPlanOf, MayLeaveOut, second_files, usual_words}
+use Rattle.command_line.specs.Names.{AreSecondOf, AreUsualWordsPlanned, HasFilesOf}
+use Rattle.command_line.specs.Names.{IsFlagGiven, IsMaskGiven, IsPlanOf, MayLeaveOut, second_files, usual_words}
 use Rattle.command_line.specs.Words.{word_of}
 use Rattle.command_line.specs.declared.plans.Job.{Job}
 use Rattle.command_line.specs.declared.plans.Job.TheVariants.{Respell, Normalise, Check, Fingerprint, Compare}
 use Rattle.command_line.specs.declared.plans.Plan.{Plan}
 use Rattle.tl_layout.specs.declared.mask.Mask.{Mask}
 use Rattle.command_line.proofs.UsualWords.Words.{AreRead, IsNoFlag, Read, flag, mask_flag, no_flag, read, second_of}
-use Rattle.command_line.proofs.UsualWords.OverOneSet.{check_is_read, respell_is_read}
-use Rattle.command_line.proofs.UsualWords.Normalising.{normalise_is_read}
-use Rattle.command_line.proofs.UsualWords.Fingerprinting.{fingerprint_is_read}
+use Rattle.command_line.proofs.UsualWords.OverOneSet.{check_is_read, fingerprint_is_read, normalise_is_read, respell_is_read}
 use Rattle.command_line.proofs.UsualWords.Comparing.{compare_is_read}
 
 are_read : (job : Job) (is_stem sources reserved : Bool) (first second : Text) → IsNoFlag first → IsNoFlag second
@@ -27,22 +23,16 @@ are_read Normalise = normalise_is_read
 are_read Fingerprint = fingerprint_is_read
 are_read Compare = compare_is_read
 
+-- a flag that was given and one that wasn't are told apart by their values
+values_apart : Some (codes "true") ≡ Some (codes "false") → ⊥
+values_apart same =
+    let first : 116 ≡ 102 = ap (λ (t : Option Text). slice_index (unwrap_or t []) 0) same in
+    absurd (omega (arith, first))
+
 -- whether a flag was given
 flag_read : (o : Option Text) (is_given : Bool) → o ≡ Some (flag is_given) → IsFlagGiven o is_given
-flag_read o true e = record { given = λ h. refl; left_out = λ h. absurd (apart h); unknown = λ h. absurd cc }
-  where
-    apart : o ≡ Some (codes "false") → ⊥
-    apart h =
-        let same : Some (codes "true") ≡ Some (codes "false") = sym e ∙ h in
-        let first : 116 ≡ 102 = ap (λ (t : Option Text). slice_index (unwrap_or t []) 0) same in
-        absurd (omega (arith, first))
-flag_read o false e = record { given = λ h. absurd (apart h); left_out = λ h. refl; unknown = λ h. absurd cc }
-  where
-    apart : o ≡ Some (codes "true") → ⊥
-    apart h =
-        let same : Some (codes "false") ≡ Some (codes "true") = sym e ∙ h in
-        let first : 102 ≡ 116 = ap (λ (t : Option Text). slice_index (unwrap_or t []) 0) same in
-        absurd (omega (arith, first))
+flag_read o true e = record { given = λ h. refl; left_out = λ h. absurd (values_apart (sym e ∙ h)); unknown = λ h. absurd cc }
+flag_read o false e = record { given = λ h. absurd (values_apart (sym h ∙ e)); left_out = λ h. refl; unknown = λ h. absurd cc }
 
 no_flag_read : (o : Option Text) → o ≡ None → IsFlagGiven o false
 no_flag_read o e = record { given = λ h. absurd cc; left_out = λ h. refl; unknown = λ h. refl }

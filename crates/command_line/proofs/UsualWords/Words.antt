@@ -59,3 +59,11 @@ pub record AreRead (job : Job) (is_stem sources reserved : Bool) (first second :
   pub taken : AreUnderstood (usual_words job is_stem (mask_of sources reserved) first second)
   pub met : read (subcommand_of understood (usual_words job is_stem (mask_of sources reserved) first second))
       ≡ Some (word_of job, Some first, second_of job second, Some (flag is_stem), mask_flag job sources, mask_flag job reserved)
+
+-- what holds for each choice of the two flags of a mask
+pub each_mask : (P : Bool → Bool → Type 0) → P false false → P false true → P true false → P true true → (sources reserved : Bool)
+    → P sources reserved
+each_mask P none second first both false false = none
+each_mask P none second first both false true = second
+each_mask P none second first both true false = first
+each_mask P none second first both true true = both

@@ -11,11 +11,11 @@ returns g c =
     let nodes : c.in_ok-nodes.nodes ≡ true = search rules in
     decides_same c.keep_cenids.result c.keep_cenids.ensures
     (λ kept. (
-      c.in_ok-chains.ensures.0 chains,
-      c.in_ok-names.ensures.0 names,
-      c.in_ok-polygons.ensures.0 polygons,
-      c.in_ok-lands.ensures.0 lands,
-      c.in_ok-nodes.ensures.0 nodes,
+      rw c.chains.ensures at (c.in_ok-chains.ensures.0 chains),
+      rw c.names.ensures at (c.in_ok-names.ensures.0 names),
+      rw c.polygons.ensures at (c.in_ok-polygons.ensures.0 polygons),
+      rw c.lands.ensures at (c.in_ok-lands.ensures.0 lands),
+      rw c.nodes.ensures at (c.in_ok-nodes.ensures.0 nodes),
       kept,
     ))
     (λ h. h.5)

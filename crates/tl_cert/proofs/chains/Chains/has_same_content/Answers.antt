@@ -2,12 +2,12 @@ use Rattle.std.proofs.Common.{◌≡◌, true, rules, sym, ◌∙◌}
 use Rattle.tl_county.specs.DirectedChains.{directed_chain}
 use Rattle.ordered_lists.proofs.Lists.ByPlace.{decides_same}
 use Rattle.tl_cert.proofs.Towards.{body_kept, topology_kept}
-use Rattle.tl_cert.proofs.chains.have_same_content.Goals as goal
+use Rattle.tl_cert.proofs.chains.Chains.has_same_content.Goals as goal
 
 pub returns : goal.returns
 returns g c =
-    let q = directed_chain (g.A.Chart.county c.args.a.now) c.args.directed in
-    let r = c.args.tables.now in
+    let q = directed_chain (g.A.Chart.county c.args.self.now.a.now) c.args.directed in
+    let r = c.args.self.now.tables.now in
     let yes : c.is_same-body.result ≡ true = search rules in
     decides_same c.is_same.result c.is_same.ensures
     (λ e. record {

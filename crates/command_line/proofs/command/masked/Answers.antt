@@ -1,0 +1,11 @@
+use Rattle.std.proofs.Common.{◌∙◌, ap, ap₂}
+use Rattle.std.proofs.lemmas.Result.{IfOk-weaker}
+use Rattle.clap.specs.Words.{app_of, with_rule}
+use Rattle.command_line.proofs.command.masked.Goals as goal
+
+pub returns-clause-app : goal.returns-clause-app
+returns-clause-app c =
+    let sources = c.in_ok-arg.ensures.shape c.flag-no_sources.ensures.local
+    ∙ ap (with_rule (app_of c.args.command)) c.flag-no_sources.ensures.rule in
+    IfOk-weaker c.arg-2.result _ _ (λ r h. h.shape c.flag-no_reserved.ensures.local ∙ ap₂ with_rule sources c.flag-no_reserved.ensures.rule)
+    c.arg-2.ensures

@@ -1,9 +1,0 @@
-use Rattle.std.proofs.Common.{false}
-use Rattle.tl_county.specs.ChartWords.{chain_at}
-use Rattle.tl_county.proofs.DirectedChains.{points_turned}
-use Rattle.ordered_lists.proofs.Lists.ByPlace.{decides_over}
-use Rattle.tl_cert.proofs.chains.have_same_points.Goals as goal
-
-pub returns : goal.returns
-returns g c = decides_over c.are_same.result _ _ _ _ (points_turned false (chain_at (g.B.Chart.county c.args.b.now) c.args.other))
-    c.points.ensures c.are_same.ensures
