@@ -1,9 +1,8 @@
 -- The lists of a chain that may be turned.
 use Rattle.std.proofs.Common.{◌≡◌, Bool, true, false, Option, Some, None, option_map, map, reverse, cond}
 use Rattle.std.proofs.Common.{refl}
+use Rattle.tl_county.proofs.Common.{Chain, turned_if}
 use Rattle.tl_layout.specs.Turned.{turned_ranges}
-use Rattle.tl_shape.specs.Chain.{Chain}
-use Rattle.tl_shape.specs.Turned.{turned_if}
 use Rattle.tl_county.specs.ChartWords.{points_of, feats_of, ranges_of}
 
 pub points_turned : (turned : Bool) (o : Option Chain) → points_of (option_map (turned_if turned) o) ≡ cond turned (reverse (points_of o)) (points_of o)

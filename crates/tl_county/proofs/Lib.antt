@@ -7,3 +7,4 @@ pub mod Packing
 pub mod Limits
 pub mod Masks
 pub mod DirectedChains
+pub mod Common

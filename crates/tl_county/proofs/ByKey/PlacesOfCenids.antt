@@ -1,12 +1,12 @@
 -- The CENID that a look-up finds at a place.
 use Rattle.std.proofs.Common.{◌≡◌, ◌<◌, ℕ, zero, suc, nat_eq, List, [], ◌∷◌, length, get_or, true, Option, Some, None}
 use Rattle.std.proofs.Common.{IfSome, is_some, slice_get, Ordering, refl, sym, ap, ◌∙◌, subst}
-use Rattle.std.proofs.lemmas.Bool.{false≢true}
+use Rattle.tl_county.proofs.Common.{IsKeyOrder, Known, false≢true}
 use Rattle.std.proofs.lemmas.Option.{slice_get_read}
 use Rattle.std.specs.Cmp.Lexicographic.{same_text}
 use Rattle.std.specs.Option.{option_eq}
 use lib.Pointwise.{pointwise}
-use Rattle.ordered_lists.proofs.ByKey.Keys.{IsKeyOrder, Known, known-here, known-later}
+use Rattle.ordered_lists.proofs.ByKey.Keys.{known-here, known-later}
 
 -- a look-up that finds the wanted bytes returns their place
 pub stands_at : {B : Type 0} (now : B → List ℕ) (xs : List (List ℕ)) (i : ℕ) (found : Option B) (wanted : B)

@@ -3,37 +3,23 @@
 use Rattle.std.proofs.Common.{◌≡◌, ◌+◌, ◌-◌, ◌≤◌, ℕ, zero, suc, List, [], ◌∷◌, map, flat_map, filter_map}
 use Rattle.std.proofs.Common.{length, reverse, drop, sum_by, Bool, true, false, Option, Some, None, IfSome, sym, refl, ap, ap₂}
 use Rattle.std.proofs.Common.{◌∙◌, subst, arith, nat_cmp, IsPermutation, length-drop}
-use Rattle.std.proofs.lemmas.List.{length-map, length-reverse}
+use Rattle.tl_county.proofs.Common.{AllByRecursion, Among, Body5, Body7, BodyP, Carries, Chain, ContentsFit, Coordinates, County, FitsChain}
+use Rattle.tl_county.proofs.Common.{FitsLandmark, FitsLink, FitsNameBody, FitsPolygon, FitsRanges, IsOnMap, IsPermutation-sym, IsText}
+use Rattle.tl_county.proofs.Common.{ListsFit, PolygonKey, Renumbering, all_among, all_map, all_weaker, among-permutation, among-unmap}
+use Rattle.tl_county.proofs.Common.{carried_chain, carried_landmark, carried_link, carried_polygon, cons_option, each_from, image}
+use Rattle.tl_county.proofs.Common.{in_pieces, inner_points, length-in_order, length-map, link_key, numbered_from, on, p_polyid}
+use Rattle.tl_county.proofs.Common.{packed_body, packed_by_type, packed_five, packed_fours, packed_i, packed_one, packed_p, packed_sevens}
+use Rattle.tl_county.proofs.Common.{packed_sixes, packed_twos, pieces, renumbered, renumbered_polygon, turned_if, turns, without_last}
+use Rattle.std.proofs.lemmas.List.{length-reverse}
 use Rattle.std.proofs.lemmas.List.Concat.{length-flat_map}
 use Rattle.std.proofs.lemmas.List.Sums.{sum_by-cons}
-use Rattle.std.proofs.lemmas.List.Sorted.{IsPermutation-sym, IsPermutation-reverse, length_permutation, sum_by-IsPermutation}
-use Rattle.std.specs.List.{AllByRecursion, cons_option}
-use Rattle.std.specs.Ordering.{on}
-use Rattle.tl_layout.specs.AddressRanges.{FitsRanges}
-use Rattle.tl_layout.specs.Bytes.{IsText}
-use Rattle.tl_layout.specs.Coordinates.{Coordinates, IsOnMap}
+use Rattle.std.proofs.lemmas.List.Sorted.{IsPermutation-reverse, length_permutation, sum_by-IsPermutation}
 use Rattle.tl_layout.specs.Turned.{turned_ranges}
 use Rattle.tl_layout.specs.Laws.TurnedFits.{body_turned_fits, ranges_turned_fit}
-use Rattle.tl_layout.specs.declared.type5.Body5.{Body5}
-use Rattle.tl_layout.specs.declared.type7.Body7.{Body7}
-use Rattle.tl_layout.specs.declared.type_p.BodyP.{BodyP}
-use Rattle.tl_shape.specs.Chain.{Chain}
-use Rattle.tl_shape.specs.Turned.{turned_if}
-use Rattle.tl_county.specs.County.{County, link_key}
-use Rattle.tl_county.specs.Limits.{FitsNameBody, FitsLandmark, FitsPolygon, FitsLinkContent, FitsChain, FitsLink, ListsFit, ContentsFit}
-use Rattle.tl_county.specs.Packing.{pieces, in_pieces, numbered_from, without_last, inner_points, packed_one, packed_twos}
-use Rattle.tl_county.specs.Packing.{packed_fours, packed_five, packed_sixes, packed_sevens, packed_i, packed_body, packed_p}
-use Rattle.tl_county.specs.Packing.{p_polyid, packed_by_type}
-use Rattle.tl_county.specs.PolygonKeys.{PolygonKey}
-use Rattle.tl_county.specs.Renumbering.{Renumbering, turns, renumbered_polygon, renumbered, carried_chain, carried_name}
-use Rattle.ordered_lists.specs.Pairs.{image}
-use Rattle.tl_county.specs.Renumbering.{carried_polygon, carried_landmark, carried_link, Carries}
+use Rattle.tl_county.specs.Limits.{FitsLinkContent}
+use Rattle.tl_county.specs.Renumbering.{carried_name}
 use Rattle.tl_county.proofs.Packing.Pieces.{length-numbered_from}
 use Rattle.tl_county.proofs.Limits.FieldsFit.{link_content_turned}
-use Rattle.ordered_lists.proofs.Lists.Among.{Among, all_among}
-use Rattle.ordered_lists.proofs.ByKey.Numbers.{each_from, length-in_order}
-use Rattle.ordered_lists.proofs.Lists.Elements.{all_weaker, all_map}
-use Rattle.ordered_lists.proofs.Lists.Members.{among-permutation, among-unmap}
 use Rattle.tl_county.proofs.Sameness.Equivalence.{image-keeps}
 use Rattle.tl_county.specs.Laws.TypeCounts.{HasAsMany, HasWithin}
 

@@ -1,10 +1,6 @@
 -- A county within its limits has few enough chains for 32-bit places.
 use Rattle.std.proofs.Common.{◌^◌, ◌<◌, ◌≤◌, map, length, subst, arith}
-use Rattle.std.proofs.lemmas.List.{length-map}
-use Rattle.tl_county.specs.County.{County}
-use Rattle.tl_county.specs.Limits.{IsWithinLimits, most_records}
-use Rattle.tl_county.specs.Packing.{packed, packed_by_type, packed_one}
-use Rattle.tl_county.specs.Laws.PackedTypes.{by_type_of}
+use Rattle.tl_county.proofs.Common.{County, IsWithinLimits, by_type_of, length-map, most_records, packed, packed_by_type, packed_one}
 use Rattle.tl_county.specs.Laws.TypeCounts.{HasAtMost, by_type_within}
 
 pub few_chains : (county : County) → IsWithinLimits most_records county → length county.chains < 2 ^ 32

@@ -1,16 +1,12 @@
 -- The fact that a record fits its columns, split by name: its numbers and its content.
 use Rattle.std.proofs.Common.{◌≡◌, ℕ, ◌≤◌, List, Some, length, subst, arith, lit<}
-use Rattle.std.specs.List.{AllByRecursion}
-use Rattle.tl_layout.specs.AddressRanges.{FitsRanges}
-use Rattle.tl_layout.specs.Bytes.{IsText}
-use Rattle.tl_layout.specs.Coordinates.{IsOnMap}
-use Rattle.tl_layout.specs.Fields.{Fields1, Fields2, Fields4, Fields5, Fields6, Fields7, Fields8, FieldsI, FieldsP}
-use Rattle.tl_layout.specs.Numbers.{IsNumber, IsNumberOrNone}
+use Rattle.tl_county.proofs.Common.{AllByRecursion, BodyP, Fields1, Fields2, Fields4, Fields5, Fields6, Fields7, Fields8, FieldsI, FieldsP}
+use Rattle.tl_county.proofs.Common.{FitsLandmark, FitsNameBody, FitsPolygon, FitsRanges, IsNumber, IsOnMap, IsText, Record, RecordType}
+use Rattle.tl_county.proofs.Common.{Type1, Type2, Type4, Type5, Type6, Type7, Type8, TypeI, TypeP, as_type, record_of}
+use Rattle.tl_layout.specs.Numbers.{IsNumberOrNone}
 use Rattle.tl_layout.specs.RecordText.{FitsRecord}
-use Rattle.tl_layout.specs.RecordTypes.{RecordType, Type1, Type2, Type4, Type5, Type6, Type7, Type8, TypeI, TypeP, FieldsOf, record_of}
-use Rattle.tl_layout.specs.RecordTypes.{as_type}
+use Rattle.tl_layout.specs.RecordTypes.{FieldsOf}
 use Rattle.tl_layout.specs.Laws.RecordTypeLaws.{record_selected}
-use Rattle.tl_layout.specs.declared.record_type.Record.{Record}
 use Rattle.tl_layout.specs.Type1.{FitsType1}
 use Rattle.tl_layout.specs.Type1Groups.{FitsBody1}
 use Rattle.tl_layout.specs.Laws.Type1Laws.{type_1_fits}
@@ -23,8 +19,7 @@ use Rattle.tl_layout.specs.Type8.{FitsType8}
 use Rattle.tl_layout.specs.TypeI.{FitsTypeI}
 use Rattle.tl_layout.specs.TypeP.{FitsTypeP}
 use Rattle.tl_layout.specs.declared.type_i.BodyI.{BodyI}
-use Rattle.tl_layout.specs.declared.type_p.BodyP.{BodyP}
-use Rattle.tl_county.specs.Limits.{FitsNameBody, FitsLandmark, FitsPolygon, FitsLinkContent}
+use Rattle.tl_county.specs.Limits.{FitsLinkContent}
 
 pub record Fit1 (r : Fields1) : Type 0 where
   pub tlid : IsNumber 10 r.tlid

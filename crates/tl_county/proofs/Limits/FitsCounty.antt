@@ -2,58 +2,38 @@
 use Rattle.std.proofs.Common.{◌≡◌, ◌⊎◌, ◌+◌, ◌*◌, ◌-◌, ◌<◌, ◌≤◌, ◌==◌, ℕ, List, [], ◌∷◌, ◌++◌, map, flat_map, filter}
 use Rattle.std.proofs.Common.{filter_map, length, length-append, Bool, true, false, cond, Option, Some, None, IfSome, is_eq}
 use Rattle.std.proofs.Common.{Ordering, sym, refl, ap, ◌∙◌, subst, inl, inr, arith, nat_cmp}
-use Rattle.std.proofs.lemmas.List.{length-map}
-use Rattle.std.specs.List.{AllByRecursion, cons_option}
-use Rattle.std.specs.Ordering.{on}
-use Rattle.tl_layout.specs.AddressRanges.{FitsRanges}
-use Rattle.tl_layout.specs.Bytes.{IsText}
-use Rattle.tl_layout.specs.ByType.{of_type_1, of_type_2, of_type_4, of_type_5, of_type_6, of_type_7, of_type_8}
-use Rattle.tl_layout.specs.ByType.{of_type_i, of_type_p, of_number}
-use Rattle.tl_layout.specs.Coordinates.{Coordinates, IsOnMap}
-use Rattle.tl_layout.specs.Fields.{Fields1, Fields2, Fields4, Fields5, Fields6, Fields7, FieldsI, FieldsP}
+use Rattle.tl_county.proofs.Common.{AllByRecursion, Body5, Body7, BodyP, Chain, ContentsFit, Coordinates, Fields1, Fields2, Fields4}
+use Rattle.tl_county.proofs.Common.{Fields5, Fields6, Fields7, FieldsI, FieldsP, FitsChain, FitsLandmark, FitsLink, FitsNameBody}
+use Rattle.tl_county.proofs.Common.{FitsPolygon, FitsRanges, IsApart, IsLinked, IsNumber, IsOnMap, IsText, IsWithinLimits, Known, ListsFit}
+use Rattle.tl_county.proofs.Common.{PolygonKey, Ranges, Record, RecordType, SequenceBroken, Type1, Type2, Type4, Type5, Type6, Type7, Type8}
+use Rattle.tl_county.proofs.Common.{TypeI, TypeP, all-in_order, all_among, all_append, all_everywhere, all_joined, all_known, all_map}
+use Rattle.tl_county.proofs.Common.{all_weaker, among-map, among_known, apart_from_no_repeat, apart_from_sorted, as_type, by_type, chain_of}
+use Rattle.tl_county.proofs.Common.{chain_tlids, chains_of, cons_option, count-map, county_of, differ_apart, distinct, first, five_feat}
+use Rattle.tl_county.proofs.Common.{four_rtsq, four_tlid, further_names, further_ranges, has_repeat, i_tlid, in_order, in_pieces}
+use Rattle.tl_county.proofs.Common.{inner_points, key_cmp, key_keys, key_under, known_all, known_from_distinct, landmark_body_cmp}
+use Rattle.tl_county.proofs.Common.{length-in_order, length-map, link_cmp, nat_keys, numbered_from, of_number, of_type, of_type_1}
+use Rattle.tl_county.proofs.Common.{of_type_2, of_type_4, of_type_5, of_type_6, of_type_7, of_type_8, of_type_i, of_type_p, on, one_tlid}
+use Rattle.tl_county.proofs.Common.{p_key, p_polyid, packed_body, packed_by_type, packed_five, packed_fours, packed_i, packed_one, packed_p}
+use Rattle.tl_county.proofs.Common.{packed_sevens, packed_sixes, packed_twos, polygon_body, same-true, same_or_not, seven_land}
+use Rattle.tl_county.proofs.Common.{shape_points, side_keys, six_rtsq, six_tlid, tlids, two_rtsq, two_tlid, without_last}
 use Rattle.tl_layout.specs.Limits.{IsWithinLimit}
-use Rattle.tl_layout.specs.Numbers.{IsNumber, IsNumberOrNone}
+use Rattle.tl_layout.specs.Numbers.{IsNumberOrNone}
 use Rattle.tl_layout.specs.RecordText.{FitsRecord}
-use Rattle.tl_layout.specs.declared.ranges.Ranges.{Ranges}
-use Rattle.tl_layout.specs.declared.record_type.Record.{Record}
-use Rattle.tl_layout.specs.RecordTypes.{RecordType, Type1, Type2, Type4, Type5, Type6, Type7, Type8, TypeI, TypeP, as_type, of_type}
-use Rattle.tl_layout.specs.declared.type5.Body5.{Body5}
-use Rattle.tl_layout.specs.declared.type7.Body7.{Body7}
-use Rattle.tl_layout.specs.declared.type_p.BodyP.{BodyP}
-use Rattle.tl_shape.specs.Chain.{Chain}
-use Rattle.tl_county.specs.BodyOrder.{landmark_body_cmp, link_cmp}
-use Rattle.tl_county.specs.County.{i_tlid, one_tlid, two_tlid, two_rtsq, four_tlid, four_rtsq, five_feat, six_tlid, six_rtsq, seven_land}
-use Rattle.tl_county.specs.County.{p_key, first, side_keys, shape_points, further_names, further_ranges, chain_of, chains_of}
-use Rattle.tl_county.specs.County.{polygon_body, county_of}
-use Rattle.tl_county.specs.CountyRules.{tlids}
-use Rattle.tl_county.specs.Limits.{FitsNameBody, FitsLandmark, FitsPolygon, FitsChain, FitsLink, FitsNumbers, ListsFit, ContentsFit}
-use Rattle.tl_county.specs.Limits.{NumbersFit, IsWithinLimits, greatest_rtsq}
-use Rattle.tl_county.specs.LinkRules.{IsLinked, chain_tlids}
-use Rattle.ordered_lists.specs.Orders.{in_order, distinct, has_repeat}
-use Rattle.tl_county.specs.Packing.{in_pieces, numbered_from, without_last, inner_points, packed_one, packed_twos, packed_fours}
-use Rattle.tl_county.specs.Packing.{packed_five, packed_sixes, packed_sevens, packed_i, packed_body, packed_p, p_polyid, by_type}
-use Rattle.tl_county.specs.Packing.{packed_by_type}
-use Rattle.tl_county.specs.PolygonKeys.{PolygonKey, key_cmp, key_under}
-use Rattle.tl_county.specs.declared.fault.LinkFault.TheVariants.{SequenceBroken}
+use Rattle.tl_county.specs.Limits.{FitsNumbers}
+use Rattle.tl_county.specs.Limits.{NumbersFit, greatest_rtsq}
 use Rattle.tl_county.specs.declared.fault.SequencedType.TheVariants as sequenced
 use Rattle.ordered_lists.proofs.Lists.Counted.{few_in_groups, hits_once, filter-agree, shorter_pieces, few_numbers}
 use Rattle.tl_county.proofs.Packing.Pieces.{few_pieces}
 use Rattle.ordered_lists.proofs.Lists.Counted.{all_selected}
 use Rattle.tl_county.proofs.Packing.Pieces.{length-numbered_from}
 use Rattle.tl_county.specs.Laws.TypeCounts.{HasWithin, by_type_within, packed_within}
-use Rattle.ordered_lists.proofs.Lists.Distinct.{apart-distinct, apart_from_no_repeat, known_from_distinct}
+use Rattle.ordered_lists.proofs.Lists.Distinct.{apart-distinct}
 use Rattle.tl_county.proofs.Limits.FieldsFit.{Fit, Fit1, Fit2, Fit4, Fit5, Fit6, Fit7, Fit8, FitI, FitP, selected_fit}
 use Rattle.tl_county.proofs.Limits.FieldsFit.{left_cenid_fits, right_cenid_fits}
 use Rattle.tl_county.proofs.Limits.FieldsFit.{polygon_cenid_fits}
-use Rattle.ordered_lists.proofs.Lists.Among.{all_among}
-use Rattle.tl_county.specs.Laws.KeyOrders.{key_keys}
-use Rattle.ordered_lists.proofs.ByKey.Keys.{IsApart, nat_keys, apart_from_sorted, all_known, known_all, Known, same_or_not, same-true}
-use Rattle.ordered_lists.proofs.ByKey.Keys.{differ, differ_apart}
+use Rattle.ordered_lists.proofs.ByKey.Keys.{differ}
 use Rattle.tl_county.proofs.Rules.LinkedCounty.{chains_all, the_link, tlids-county, county-is_county}
-use Rattle.ordered_lists.proofs.ByKey.Numbers.{length-in_order}
-use Rattle.ordered_lists.proofs.Lists.Elements.{all_weaker, all_map, all_append, all_joined, all_filter, all_everywhere, flat_map-map}
-use Rattle.ordered_lists.proofs.Lists.Members.{among-map, among_known}
-use Rattle.ordered_lists.proofs.ByKey.Numbers.{all-in_order, count-map}
+use Rattle.ordered_lists.proofs.Lists.Elements.{all_filter, flat_map-map}
 
 flat_map-one : {X Y : Type 0} (f : X → Y) (xs : List X) → flat_map (λ x. f x ∷ []) xs ≡ map f xs
 flat_map-one f [] = refl

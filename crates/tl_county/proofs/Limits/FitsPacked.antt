@@ -1,36 +1,23 @@
 -- A whole county whose contents and numbers fit, and whose chains' lists fit into their records, is packed into records that fit.
 use Rattle.std.proofs.Common.{◌≡◌, ◌+◌, ◌*◌, ◌<◌, ◌≤◌, ℕ, List, [], ◌∷◌, map, flat_map, filter_map, length, Option, Some}
 use Rattle.std.proofs.Common.{None, IfSome, arith, nat_cmp, subst}
-use Rattle.std.specs.List.{AllByRecursion}
-use Rattle.std.specs.Ordering.{on}
-use Rattle.tl_layout.specs.AddressRanges.{FitsRanges}
-use Rattle.tl_layout.specs.Coordinates.{Coordinates, IsOnMap}
-use Rattle.tl_layout.specs.Fields.{Fields8, FieldsP}
-use Rattle.tl_layout.specs.Numbers.{IsNumber}
+use Rattle.tl_county.proofs.Common.{AllByRecursion, Body5, Body7, BodyP, Chain, ContentsFit, Coordinates, County, Fields8, FieldsP}
+use Rattle.tl_county.proofs.Common.{FitsChain, FitsLandmark, FitsLink, FitsNameBody, FitsPolygon, FitsRanges, IsNumber, IsOnMap, IsWhole}
+use Rattle.tl_county.proofs.Common.{ListsFit, PolygonKey, Ranges, Record, RecordType, Type1, Type2, Type4, Type5, Type6, Type7, Type8}
+use Rattle.tl_county.proofs.Common.{TypeI, TypeP, all-in_order, all_append, all_joined, all_map, all_weaker, in_order, in_pieces}
+use Rattle.tl_county.proofs.Common.{inner_points, numbered_from, on, p_polyid, packed, packed_body, packed_by_type, packed_five}
+use Rattle.tl_county.proofs.Common.{packed_fours, packed_i, packed_one, packed_p, packed_sevens, packed_sixes, packed_twos, record_of}
+use Rattle.tl_county.proofs.Common.{without_last}
 use Rattle.tl_layout.specs.RecordText.{FitsRecord}
-use Rattle.tl_layout.specs.RecordTypes.{RecordType, Type1, Type2, Type4, Type5, Type6, Type7, Type8, TypeI, TypeP, record_of}
 use Rattle.tl_layout.specs.RecordTypes.{ListsByType, listed_by_type, later_types}
-use Rattle.tl_layout.specs.declared.ranges.Ranges.{Ranges}
-use Rattle.tl_layout.specs.declared.record_type.Record.{Record}
-use Rattle.tl_layout.specs.declared.type5.Body5.{Body5}
-use Rattle.tl_layout.specs.declared.type7.Body7.{Body7}
-use Rattle.tl_layout.specs.declared.type_p.BodyP.{BodyP}
-use Rattle.tl_shape.specs.Chain.{Chain}
-use Rattle.tl_county.specs.County.{County}
-use Rattle.tl_county.specs.CountyRules.{IsWhole}
-use Rattle.tl_county.specs.Limits.{FitsNameBody, FitsLandmark, FitsPolygon, FitsChain, FitsLink, FitsNumbers, ListsFit, ContentsFit}
+use Rattle.tl_county.specs.Limits.{FitsNumbers}
 use Rattle.tl_county.specs.Limits.{NumbersFit, greatest_rtsq}
-use Rattle.ordered_lists.specs.Orders.{in_order}
-use Rattle.tl_county.specs.Packing.{in_pieces, numbered_from, first_point, last_point, without_last, inner_points, packed_one}
-use Rattle.tl_county.specs.Packing.{packed_twos, packed_fours, packed_five, packed_sixes, packed_sevens, packed_i, packed_body}
-use Rattle.tl_county.specs.Packing.{packed_p, p_polyid, packed_by_type, packed}
-use Rattle.tl_county.specs.PolygonKeys.{PolygonKey}
+use Rattle.tl_county.specs.Packing.{first_point, last_point}
 use Rattle.tl_county.proofs.Packing.Pieces.{few_pieces, short_pieces, all_in_pieces, all_numbered_from}
 use Rattle.ordered_lists.proofs.Lists.Counted.{all_selected}
 use Rattle.tl_county.proofs.Limits.FieldsFit.{Fit, Fit1, Fit2, Fit4, Fit5, Fit6, Fit7, Fit8, FitI, FitP, columns}
 use Rattle.tl_county.specs.Laws.PackedTypes.{lists_of}
-use Rattle.ordered_lists.proofs.Lists.Elements.{all_weaker, all_both, all_map, all_append, all_joined}
-use Rattle.ordered_lists.proofs.ByKey.Numbers.{all-in_order}
+use Rattle.ordered_lists.proofs.Lists.Elements.{all_both}
 
 -- records type after type have a property that the records of each type have
 all_by_type : (P : Record → Type 0) (lists : ListsByType) (t : RecordType) (us : List RecordType)

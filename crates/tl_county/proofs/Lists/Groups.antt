@@ -1,21 +1,14 @@
 -- Groups of records with one number, taken in turn from records in the order of their numbers.
 use Rattle.std.proofs.Common.{◌≡◌, ◌==◌, ℕ, List, [], ◌∷◌, ◌++◌, map, filter, Less, is_eq, is_gt, sym, refl, ap, ◌∙◌, subst}
 use Rattle.std.proofs.Common.{nat_cmp, Option}
-use Rattle.std.specs.List.{AllByRecursion}
+use Rattle.tl_county.proofs.Common.{AllByRecursion, Body7, BodyP, Chain, Fields1, Fields2, Fields4, Fields6, Fields7, Fields8, FieldsI}
+use Rattle.tl_county.proofs.Common.{FieldsP, LandmarkParts, PolygonKey, chains_along, eight_land, first, four_tlid, key_cmp, key_keys}
+use Rattle.tl_county.proofs.Common.{landmark_of, later_than, nat_keys, of_number, one_tlid, p_key, polygon_body_of, seven_land, six_tlid}
+use Rattle.tl_county.proofs.Common.{strict_head, two_tlid}
 use Rattle.std.specs.List.Sorted.{IsStrictlySortedBy}
-use Rattle.tl_layout.specs.ByType.{of_number}
-use Rattle.tl_layout.specs.Fields.{Fields1, Fields2, Fields4, Fields6, Fields7, Fields8, FieldsI, FieldsP}
-use Rattle.tl_layout.specs.declared.type7.Body7.{Body7}
-use Rattle.tl_layout.specs.declared.type_p.BodyP.{BodyP}
-use Rattle.tl_shape.specs.Chain.{Chain}
-use Rattle.tl_county.specs.LandmarkParts.{LandmarkParts}
-use Rattle.tl_county.specs.Building.{chain_with, chains_along, landmark_of, polygon_body_of}
-use Rattle.tl_county.specs.County.{one_tlid, two_tlid, four_tlid, six_tlid, seven_land, eight_land, p_key, first}
-use Rattle.tl_county.specs.PolygonKeys.{PolygonKey, key_cmp}
+use Rattle.tl_county.specs.Building.{chain_with}
 use Rattle.ordered_lists.proofs.Lists.Counted.{filter-agree, eq_test}
-use Rattle.tl_county.specs.Laws.KeyOrders.{key_keys}
-use Rattle.ordered_lists.proofs.ByKey.Keys.{nat_keys}
-use Rattle.ordered_lists.proofs.Lists.Groups.{group-later, later_than, group-flipped, one_done, strict_head}
+use Rattle.ordered_lists.proofs.Lists.Groups.{group-later, group-flipped, one_done}
 
 -- by numbers
 module _ {X : Type 0} (number : X → ℕ) where

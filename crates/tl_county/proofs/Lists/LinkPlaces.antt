@@ -1,14 +1,8 @@
 -- The links of the landmark at a place, or past the end.
 use Rattle.std.proofs.Common.{◌≡◌, ℕ, List, [], ◌∷◌, length, true, false, cond, IsTrue, Option, Some, None, IfSome, is_some}
 use Rattle.std.proofs.Common.{slice_get, unwrap_or, nat_cmp, refl, sym, ap, ◌∙◌, subst, arith}
-use Rattle.std.proofs.lemmas.Bool.{false≢true, ne_eqb}
+use Rattle.tl_county.proofs.Common.{AllByRecursion, Fields8, eight_land, false≢true, links_with, ne_eqb, of_number, stands_in}
 use Rattle.std.proofs.lemmas.Option.{slice_get_past}
-use Rattle.std.specs.List.{AllByRecursion}
-use Rattle.tl_layout.specs.ByType.{of_number}
-use Rattle.tl_layout.specs.Fields.{Fields8}
-use Rattle.tl_county.specs.ChartWords.{links_with}
-use Rattle.tl_county.specs.County.{eight_land}
-use Rattle.ordered_lists.specs.Orders.{stands_in}
 
 -- links whose LANDs are all in the list have no LAND that isn't
 none_of_land : (land : ℕ) (lands : List ℕ) → stands_in nat_cmp land lands ≡ false → (links : List Fields8)

@@ -1,27 +1,16 @@
 -- Counties under a mask: a mask that leaves nothing out changes nothing, masking twice is masking once, and a county that a mask
 -- doesn't change is carried onto one that it doesn't change.
 use Rattle.std.proofs.Common.{◌≡◌, ℕ, List, [], ◌∷◌, map, Bool, true, false, cond, refl, ap, ◌∙◌}
-use Rattle.std.proofs.lemmas.List.Sorted.{IsPermutation-sym}
-use Rattle.std.specs.List.{AllByRecursion}
-use Rattle.tl_layout.specs.Masked.{no_mask, masked_body_7}
+use Rattle.tl_county.proofs.Common.{AllByRecursion, Body7, Carries, Chain, County, IsPermutation-sym, Renumbering, all-in_order, all_among}
+use Rattle.tl_county.proofs.Common.{all_everywhere, all_map, all_weaker, among-permutation, carried_chain, carried_landmark, each_from}
+use Rattle.tl_county.proofs.Common.{in_order, in_order-itself, landmark_body_cmp, landmark_body_keys, map_values, masked, masked_bodies}
+use Rattle.tl_county.proofs.Common.{masked_body_7, renumbered, turned_if, turns}
+use Rattle.tl_layout.specs.Masked.{no_mask}
 use Rattle.tl_layout.specs.Laws.MaskLaws.{masked_twice_1, masked_twice_7, masked_twice_i}
 use Rattle.tl_layout.specs.declared.mask.Mask.{Mask}
-use Rattle.tl_layout.specs.declared.type7.Body7.{Body7}
-use Rattle.tl_shape.specs.Chain.{Chain}
-use Rattle.tl_shape.specs.Turned.{turned_if}
-use Rattle.tl_county.specs.BodyOrder.{landmark_body_cmp}
-use Rattle.tl_county.specs.County.{County}
-use Rattle.ordered_lists.specs.Entries.{map_values}
-use Rattle.ordered_lists.specs.Orders.{in_order}
-use Rattle.tl_county.specs.Renumbering.{Renumbering, turns, renumbered, carried_chain, carried_landmark, Carries}
-use Rattle.tl_county.specs.MaskedCounty.{masked_chain, masked_bodies, masked}
-use Rattle.tl_county.specs.Laws.KeyOrders.{landmark_body_keys}
-use Rattle.ordered_lists.proofs.ByKey.Numbers.{all-in_order}
-use Rattle.ordered_lists.proofs.Lists.Elements.{map_itself, all_everywhere, all_map, all_weaker}
-use Rattle.ordered_lists.proofs.Lists.InOrder.{in_order-itself, in_order-in_order}
-use Rattle.ordered_lists.proofs.Lists.Members.{among-permutation}
-use Rattle.ordered_lists.proofs.Lists.Among.{all_among}
-use Rattle.ordered_lists.proofs.ByKey.Numbers.{each_from}
+use Rattle.tl_county.specs.MaskedCounty.{masked_chain}
+use Rattle.ordered_lists.proofs.Lists.Elements.{map_itself}
+use Rattle.ordered_lists.proofs.Lists.InOrder.{in_order-in_order}
 
 -- a mask that leaves nothing out changes nothing
 pub masked_by_none : (county : County) → masked no_mask county ≡ county

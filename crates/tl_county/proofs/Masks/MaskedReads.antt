@@ -1,20 +1,14 @@
 -- The values that a chart reads of a county under a mask.
 use Rattle.std.proofs.Common.{◌≡◌, ◌<◌, ℕ, List, [], map, length, Bool, true, false, cond, Option, Some, None, option_map}
 use Rattle.std.proofs.Common.{slice_get, unwrap_or, refl, sym, ap, ◌∙◌, arith}
-use Rattle.std.proofs.lemmas.List.{length-map}
+use Rattle.tl_county.proofs.Common.{Body7, Chain, County, entry_values, in_order, landmark_body_cmp, length-map, links_with, map_values}
+use Rattle.tl_county.proofs.Common.{masked, masked_bodies, masked_body_7, values-map_values}
 use Rattle.std.proofs.lemmas.Option.{slice_get-map, slice_get-get_or, unwrap_or-slice_get}
-use Rattle.tl_layout.specs.Masked.{masked_body_1, masked_body_7, masked_body_i}
+use Rattle.tl_layout.specs.Masked.{masked_body_1, masked_body_i}
 use Rattle.tl_layout.specs.declared.mask.Mask.{Mask}
-use Rattle.tl_layout.specs.declared.type7.Body7.{Body7}
-use Rattle.tl_shape.specs.Chain.{Chain}
-use Rattle.tl_county.specs.BodyOrder.{landmark_body_cmp}
-use Rattle.tl_county.specs.ChartWords.{chain_at, points_of, feats_of, ranges_of, bodies_at, links_with, links_at}
-use Rattle.tl_county.specs.County.{County}
-use Rattle.ordered_lists.specs.Entries.{entry_values, map_values}
-use Rattle.ordered_lists.specs.Orders.{in_order}
-use Rattle.tl_county.specs.MaskedCounty.{masked_chain, masked_bodies, masked}
+use Rattle.tl_county.specs.ChartWords.{chain_at, points_of, feats_of, ranges_of, bodies_at, links_at}
+use Rattle.tl_county.specs.MaskedCounty.{masked_chain}
 use Rattle.tl_county.specs.Laws.MaskedCounties.{lands_masked, length_masked_bodies}
-use Rattle.ordered_lists.proofs.Lists.EntryLists.{values-map_values}
 
 -- the value at a place after all values are mapped
 value_at_place : {K V W : Type 0} (f : V → W) (entries : List (K × V)) (place : ℕ)

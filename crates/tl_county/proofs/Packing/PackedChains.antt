@@ -2,27 +2,13 @@
 use Rattle.std.proofs.Common.{◌≡◌, ℕ, List, map, flat_map}
 use Rattle.std.proofs.Common.{false}
 use Rattle.std.proofs.Common.{sym, refl, ap, ◌∙◌, subst, nat_cmp}
-use Rattle.std.specs.List.{AllByRecursion}
-use Rattle.tl_layout.specs.ByType.{of_number}
-use Rattle.tl_layout.specs.declared.ranges.Ranges.{Ranges}
-use Rattle.tl_shape.specs.Chain.{Chain}
-use Rattle.tl_county.specs.County.{County, two_tlid, two_rtsq, four_tlid, four_rtsq, six_tlid, six_rtsq}
-use Rattle.tl_county.specs.CountyRules.{IsCounty, tlids}
-use Rattle.tl_county.specs.LinkRules.{linked_tlids, rtsqs}
-use Rattle.ordered_lists.specs.Orders.{has_repeat}
-use Rattle.tl_county.specs.Packing.{in_pieces, numbered_from, inner_points, packed_twos, packed_fours, packed_sixes}
-use Rattle.tl_county.specs.Packing.{packed}
-use Rattle.tl_county.specs.declared.fault.LinkedType.{LinkedType}
-use Rattle.tl_county.specs.declared.fault.LinkedType.TheVariants.{Two, Four, Six, I}
-use Rattle.tl_county.specs.declared.fault.SequencedType.{SequencedType}
+use Rattle.tl_county.proofs.Common.{AllByRecursion, Chain, County, Four, I, IsCounty, Known, LinkedType, Ranges, SequencedType, Six, Two}
+use Rattle.tl_county.proofs.Common.{all_everywhere, all_joined, all_map, all_weaker, among_known, apart_from_sorted, each_from, four_rtsq}
+use Rattle.tl_county.proofs.Common.{four_tlid, has_repeat, has_repeat-apart, in_pieces, inner_points, linked_tlids, map-map}
+use Rattle.tl_county.proofs.Common.{map_agree_everywhere, nat_keys, numbered_from, of_number, packed, packed_fours, packed_sixes}
+use Rattle.tl_county.proofs.Common.{packed_twos, rtsqs, six_rtsq, six_tlid, tlids, two_rtsq, two_tlid}
 use Rattle.tl_county.specs.declared.fault.SequencedType.TheVariants as sequenced
-use Rattle.ordered_lists.proofs.Lists.Distinct.{has_repeat-apart}
 use Rattle.tl_county.proofs.Packing.PackedGroups.{group_holds}
-use Rattle.ordered_lists.proofs.ByKey.Keys.{Known, nat_keys}
-use Rattle.ordered_lists.proofs.ByKey.Keys.{apart_from_sorted}
-use Rattle.ordered_lists.proofs.ByKey.Numbers.{each_from}
-use Rattle.ordered_lists.proofs.Lists.Elements.{map-map, map_agree_everywhere, all_weaker, all_map, all_joined, all_everywhere}
-use Rattle.ordered_lists.proofs.Lists.Members.{among_known}
 use Rattle.tl_county.proofs.Sameness.Equivalence.{keys_known}
 use Rattle.tl_county.proofs.Packing.PackedNumbers.{four_own, six_own, two_own, numbered_strict, fours, link_numbers, sixes, tlids_apart, twos}
 

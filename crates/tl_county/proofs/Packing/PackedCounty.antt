@@ -3,41 +3,27 @@ use Rattle.std.proofs.Common.{◌≡◌, ◌⊎◌, ◌≤◌, ℕ, zero, suc, L
 use Rattle.std.proofs.Common.{filter_map, length, take, drop, Option, Some, None, IsTrue, sym}
 use Rattle.std.proofs.Common.{refl, ap, ◌∙◌, subst, inl, inr, arith, nat_cmp, map-id, take-append-drop}
 use Rattle.std.proofs.Common.{length-drop}
-use Rattle.std.proofs.lemmas.Bool.{ltb-true}
+use Rattle.tl_county.proofs.Common.{AllByRecursion, Among, Body7, BodyP, Chain, Coordinates, County, Fields1, Fields2, Fields4, Fields5}
+use Rattle.tl_county.proofs.Common.{Fields6, Fields7, FieldsP, IsCounty, IsInOrder, Known, PolygonKey, Ranges, all_among, all_joined}
+use Rattle.tl_county.proofs.Common.{among-map, among-unmap, among_known, apart_from_sorted, chain_of, chain_polygons, chains_of, county_of}
+use Rattle.tl_county.proofs.Common.{distinct, distinct-strict, each_from, five_feat, four_rtsq, four_tlid, further_names, further_ranges}
+use Rattle.tl_county.proofs.Common.{i_tlid, in_order, in_order-itself, in_pieces, inner_points, key_cmp, key_keys, known-append}
+use Rattle.tl_county.proofs.Common.{known-distinct, known_all, known_from_distinct, known_is_among, landmark_body_cmp, lands, link_cmp}
+use Rattle.tl_county.proofs.Common.{ltb-true, map-map, map_agree_all, map_agree_everywhere, nat_keys, numbered_from, of_number, of_type_7}
+use Rattle.tl_county.proofs.Common.{of_type_i, of_type_p, on, one_tlid, p_key, p_polyid, packed, packed_body, packed_five, packed_fours}
+use Rattle.tl_county.proofs.Common.{packed_i, packed_one, packed_p, packed_sevens, packed_sixes, packed_twos, pieces, polygon_body}
+use Rattle.tl_county.proofs.Common.{polygon_keys, polygons_along, polygons_of, seven_land, shape_points, side_keys, six_rtsq, six_tlid}
+use Rattle.tl_county.proofs.Common.{stands_in, times, to_in_order, two_rtsq, two_tlid, without_last}
 use Rattle.std.proofs.lemmas.List.Concat.{flat_map_single}
-use Rattle.std.specs.List.{AllByRecursion}
 use Rattle.std.specs.List.Sorted.{IsStrictlySortedBy}
-use Rattle.std.specs.Ordering.{on}
-use Rattle.tl_layout.specs.Coordinates.{Coordinates}
-use Rattle.tl_layout.specs.ByType.{of_type_7, of_type_i}
-use Rattle.tl_layout.specs.ByType.{of_type_p, of_number}
-use Rattle.tl_layout.specs.Fields.{Fields1, Fields2, Fields4, Fields5, Fields6, Fields7, FieldsP}
-use Rattle.tl_layout.specs.declared.ranges.Ranges.{Ranges}
-use Rattle.tl_layout.specs.declared.type7.Body7.{Body7}
-use Rattle.tl_layout.specs.declared.type_p.BodyP.{BodyP}
-use Rattle.tl_shape.specs.Chain.{Chain}
-use Rattle.tl_county.specs.BodyOrder.{landmark_body_cmp, link_cmp}
-use Rattle.tl_county.specs.County.{County, one_tlid, two_tlid, two_rtsq, four_tlid, four_rtsq, five_feat, six_tlid, six_rtsq}
-use Rattle.tl_county.specs.County.{seven_land, i_tlid, p_key, side_keys, shape_points, further_names, further_ranges}
-use Rattle.tl_county.specs.County.{chain_of, chains_of, names_of, polygon_body, polygons_of, landmarks_of, county_of}
-use Rattle.tl_county.specs.CountyRules.{IsCounty, polygon_keys, lands, polygons_along, chain_polygons}
-use Rattle.ordered_lists.specs.Orders.{times, stands_in, IsInOrder, in_order, distinct}
-use Rattle.tl_county.specs.Packing.{pieces, in_pieces, numbered_from, first_point, last_point, without_last, inner_points}
-use Rattle.tl_county.specs.Packing.{packed_one, packed_twos, packed_fours, packed_sixes, packed_five, packed_sevens, packed_i}
-use Rattle.tl_county.specs.Packing.{packed_body, packed_p, p_polyid, packed}
-use Rattle.tl_county.specs.PolygonKeys.{PolygonKey, key_cmp}
+use Rattle.tl_county.specs.County.{names_of, landmarks_of}
+use Rattle.tl_county.specs.Packing.{first_point, last_point}
 use Rattle.tl_county.proofs.Sameness.Carried.{among-unpieces}
 use Rattle.tl_county.proofs.Packing.Pieces.{rights-numbered_from}
-use Rattle.ordered_lists.proofs.Lists.Distinct.{known-distinct, known_from_distinct}
-use Rattle.ordered_lists.proofs.Lists.Among.{Among, all_among}
 use Rattle.tl_county.proofs.Packing.PackedGroups.{group_of}
-use Rattle.ordered_lists.proofs.Lists.InOrder.{in_order-itself, in_order-from_strict, strict-equal}
-use Rattle.tl_county.specs.Laws.KeyOrders.{key_keys}
-use Rattle.ordered_lists.proofs.ByKey.Keys.{Known, nat_keys, known_all, known-append, apart_from_sorted}
-use Rattle.ordered_lists.proofs.ByKey.Numbers.{each_from}
-use Rattle.ordered_lists.proofs.Lists.Elements.{map-map, map_agree_all, map_agree_everywhere, all_joined}
-use Rattle.ordered_lists.proofs.Lists.Members.{among_known, known_is_among, among-map, among-unmap, in_filter_map, to_filter_map, one_entry}
-use Rattle.ordered_lists.proofs.ByKey.Numbers.{all_themselves, to_in_order, from_in_order, distinct-strict}
+use Rattle.ordered_lists.proofs.Lists.InOrder.{in_order-from_strict, strict-equal}
+use Rattle.ordered_lists.proofs.Lists.Members.{in_filter_map, to_filter_map, one_entry}
+use Rattle.ordered_lists.proofs.ByKey.Numbers.{all_themselves, from_in_order}
 use Rattle.tl_county.proofs.Packing.PackedNumbers.{two_own, four_own, six_own, seven_own, numbered_strict, tlids_apart, ones, twos, fours}
 use Rattle.tl_county.proofs.Packing.PackedNumbers.{fives, sixes, sevens, eights, links_of_chains, polygons_packed}
 use Rattle.tl_county.proofs.Packing.PackedNamed.{few_polygons, key_stands, land_stands, sides_along}

@@ -2,18 +2,11 @@
 use Rattle.std.proofs.Common.{◌≡◌, ◌⊎◌, ◌<◌, ◌≤◌, ◌==◌, ℕ, List, [], ◌∷◌, ◌++◌, map, flat_map}
 use Rattle.std.proofs.Common.{true, false, cond, Ordering, Less, is_eq, is_gt, sym, refl}
 use Rattle.std.proofs.Common.{ap, ap₂, ◌∙◌, subst, inl, inr, arith, nat_cmp, append-nil}
-use Rattle.std.proofs.lemmas.Bool.{eq-eqb, ne_eqb}
-use Rattle.std.proofs.lemmas.Cmp.{tied_itself, nat_cmp_total}
+use Rattle.tl_county.proofs.Common.{AllByRecursion, Among, IsApart, IsInOrder, all_append, all_weaker, among-map, among_known, apart_tail}
+use Rattle.tl_county.proofs.Common.{differ_apart, eq-eqb, filter_all, nat_cmp_total, nat_keys, ne_eqb, of_number, ordering_then}
+use Rattle.tl_county.proofs.Common.{same_or_not, tied_itself, times, times-no, times-yes}
 use Rattle.std.proofs.lemmas.List.Elements.{filter-append}
-use Rattle.std.specs.List.{AllByRecursion}
 use Rattle.std.specs.List.Sorted.{IsStrictlySortedBy}
-use Rattle.std.specs.Ordering.{ordering_then}
-use Rattle.tl_layout.specs.ByType.{of_number}
-use Rattle.ordered_lists.specs.Orders.{times, IsInOrder}
-use Rattle.ordered_lists.proofs.Lists.Among.{Among}
-use Rattle.ordered_lists.proofs.ByKey.Keys.{IsApart, nat_keys, same_or_not, times-yes, times-no, apart_tail, differ_apart, filter_all}
-use Rattle.ordered_lists.proofs.Lists.Elements.{all_weaker, all_append}
-use Rattle.ordered_lists.proofs.Lists.Members.{among_known, among-map}
 
 -- two joined lists in order are in order if nothing in the first is greater than anything in the second
 pub in_order-append : {X : Type 0} (by : X → X → Ordering) (xs ys : List X) → IsInOrder by xs → IsInOrder by ys

@@ -2,23 +2,13 @@
 use Rattle.std.proofs.Common.{◌≡◌, ◌&&◌, ℕ, nat_lt, List, ◌++◌, map, flat_map}
 use Rattle.std.proofs.Common.{Bool, true, false, not, IsTrue}
 use Rattle.std.proofs.Common.{sym, refl, ap, ◌∙◌, subst, nat_cmp}
-use Rattle.std.proofs.lemmas.Bool.{false≢true, ltb-true, lt-ltb, le-ltb}
-use Rattle.tl_layout.specs.ByType.{of_type_5, of_type_7, of_type_8, of_type_i}
-use Rattle.tl_layout.specs.ByType.{of_type_p}
-use Rattle.tl_county.specs.County.{County, five_feat}
-use Rattle.tl_county.specs.County.{seven_land, eight_land, link_key, i_tlid, p_key, side_keys}
-use Rattle.tl_county.specs.CountyRules.{IsCounty, tlids, feats, polygon_keys, lands}
-use Rattle.tl_county.specs.LinkRules.{IsLinked, chain_tlids, linked_tlids, named_feats}
-use Rattle.ordered_lists.specs.Orders.{times, stands_in}
-use Rattle.tl_county.specs.Packing.{packed}
-use Rattle.tl_county.specs.PolygonKeys.{key_cmp}
-use Rattle.tl_county.specs.declared.fault.LinkFault.TheVariants.{ChainTwice, NoChain, SequenceBroken, LinkMissing, LinkTwice}
-use Rattle.tl_county.specs.declared.fault.LinkFault.TheVariants.{NameTwice, NameUnknown, PolygonTwice, LandUnknown}
-use Rattle.tl_county.specs.declared.fault.LinkFault.TheVariants.{PolygonUnknown, Memory}
-use Rattle.tl_county.specs.Laws.KeyOrders.{key_keys}
-use Rattle.ordered_lists.proofs.ByKey.Keys.{IsApart, Known, nat_keys, known_all}
-use Rattle.ordered_lists.proofs.ByKey.Keys.{apart_from_sorted}
-use Rattle.ordered_lists.proofs.Lists.Elements.{all_map}
+use Rattle.tl_county.proofs.Common.{ChainTwice, County, IsApart, IsCounty, IsLinked, Known, LandUnknown, LinkMissing, LinkTwice, Memory}
+use Rattle.tl_county.proofs.Common.{NameTwice, NameUnknown, NoChain, PolygonTwice, PolygonUnknown, SequenceBroken, all_map}
+use Rattle.tl_county.proofs.Common.{apart_from_sorted, chain_tlids, eight_land, false≢true, feats, five_feat, i_tlid, key_cmp, key_keys}
+use Rattle.tl_county.proofs.Common.{known_all, lands, link_key, linked_tlids, lt-ltb, ltb-true, named_feats, nat_keys, of_type_5, of_type_7}
+use Rattle.tl_county.proofs.Common.{of_type_8, of_type_i, of_type_p, p_key, packed, polygon_keys, seven_land, side_keys, stands_in, times}
+use Rattle.tl_county.proofs.Common.{tlids}
+use Rattle.std.proofs.lemmas.Bool.{le-ltb}
 use Rattle.tl_county.proofs.Packing.PackedNumbers.{chain_numbers, eights, link_numbers, name_numbers, tlids_apart}
 use Rattle.tl_county.proofs.Packing.PackedChains.{all_linked, sequence}
 use Rattle.tl_county.proofs.Packing.PackedNamed.{few_polygons, key_stands, land_stands, named}

@@ -2,32 +2,17 @@
 use Rattle.std.proofs.Common.{◌≡◌, ◌⊎◌, ◌<◌, ◌≤◌, ◌+◌, ◌||◌, ℕ, List, [], ◌∷◌, ◌++◌, map, flat_map}
 use Rattle.std.proofs.Common.{filter_map, length, true, false, Option, Some, None, IsTrue, is_some}
 use Rattle.std.proofs.Common.{is_eq, sym, refl, ap, ◌∙◌, subst, inl, inr, arith, nat_cmp}
-use Rattle.std.proofs.lemmas.Bool.{false≢true, ltb-true, or_cases}
-use Rattle.std.specs.List.{AllByRecursion, cons_option}
-use Rattle.std.specs.Ordering.{on}
-use Rattle.tl_layout.specs.Fields.{Fields4, Fields7, FieldsP}
-use Rattle.tl_layout.specs.ByType.{of_type_7, of_type_i}
-use Rattle.tl_layout.specs.ByType.{of_type_p, of_number}
-use Rattle.tl_layout.specs.declared.type7.Body7.{Body7}
-use Rattle.tl_layout.specs.declared.type_p.BodyP.{BodyP}
-use Rattle.tl_shape.specs.Chain.{Chain}
-use Rattle.tl_county.specs.County.{County, four_tlid}
-use Rattle.tl_county.specs.County.{seven_land, p_key, side_keys}
-use Rattle.tl_county.specs.CountyRules.{IsCounty, feats, polygon_keys, lands, polygons_along, AllStandIn}
-use Rattle.tl_county.specs.LinkRules.{named_feats}
-use Rattle.ordered_lists.specs.Orders.{times, stands_in, in_order}
-use Rattle.tl_county.specs.Packing.{in_pieces, numbered_from, packed_fours}
-use Rattle.tl_county.specs.Packing.{packed_sevens, packed_i, packed_body, packed_p, p_polyid, packed}
-use Rattle.tl_county.specs.PolygonKeys.{PolygonKey, key_cmp}
+use Rattle.tl_county.proofs.Common.{AllByRecursion, AllStandIn, Among, Body7, BodyP, Chain, County, Fields4, Fields7, FieldsP, IsApart}
+use Rattle.tl_county.proofs.Common.{IsCounty, Known, PolygonKey, all_among, all_joined, all_map, all_weaker, among-map, among-pieces}
+use Rattle.tl_county.proofs.Common.{among-unmap, among_known, apart_from_sorted, cons_option, false≢true, feats, four_tlid, in_order}
+use Rattle.tl_county.proofs.Common.{in_pieces, key_cmp, key_keys, known-left, known-right, known_is_among, lands, ltb-true, named_feats}
+use Rattle.tl_county.proofs.Common.{nat_keys, numbered_from, of_number, of_type_7, of_type_i, of_type_p, on, or_cases, p_key, p_polyid}
+use Rattle.tl_county.proofs.Common.{packed, packed_body, packed_fours, packed_i, packed_p, packed_sevens, polygon_keys, polygons_along}
+use Rattle.tl_county.proofs.Common.{same_or_not, seven_land, side_keys, stands_in, times, times-cons, times-no, times-yes, to_in_order}
 use Rattle.tl_county.proofs.Packing.Pieces.{all_in_pieces, all_numbered_from}
-use Rattle.ordered_lists.proofs.Lists.Among.{Among, all_among}
 use Rattle.tl_county.proofs.Packing.PackedGroups.{group_holds}
-use Rattle.tl_county.specs.Laws.KeyOrders.{key_keys}
-use Rattle.ordered_lists.proofs.ByKey.Keys.{IsApart, Known, nat_keys, known-left, known-right, times-yes, times-no}
-use Rattle.ordered_lists.proofs.ByKey.Keys.{times-cons, same_or_not, apart_from_sorted}
-use Rattle.ordered_lists.proofs.Lists.Elements.{all_weaker, all_map, all_joined}
-use Rattle.ordered_lists.proofs.Lists.Members.{among_known, known_is_among, among-map, among-unmap, among-pieces, to_filter_map}
-use Rattle.ordered_lists.proofs.ByKey.Numbers.{times-in_order, to_in_order}
+use Rattle.ordered_lists.proofs.Lists.Members.{to_filter_map}
+use Rattle.ordered_lists.proofs.ByKey.Numbers.{times-in_order}
 use Rattle.tl_county.proofs.Packing.PackedNumbers.{four_own, fours, links_of_chains, polygons_packed, sevens, tlids_apart}
 
 -- the keys of polygons with content

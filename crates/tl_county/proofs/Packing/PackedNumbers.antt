@@ -1,24 +1,12 @@
 -- The records of each type of a packed county, and their numbers.
 use Rattle.std.proofs.Common.{◌≡◌, ◌<◌, ℕ, suc, List, [], ◌∷◌, map, flat_map, filter_map, Less, refl, ap, ◌∙◌, arith, nat_cmp}
-use Rattle.std.specs.List.{AllByRecursion}
+use Rattle.tl_county.proofs.Common.{AllByRecursion, Body7, Chain, County, IsApart, IsCounty, Ranges, Type1, Type2, Type4, Type5, Type6}
+use Rattle.tl_county.proofs.Common.{Type7, Type8, TypeI, TypeP, all_everywhere, all_map, apart_from_sorted, chain_tlids, feats, five_feat}
+use Rattle.tl_county.proofs.Common.{four_tlid, i_tlid, in_order, in_pieces, inner_points, map-map, nat_keys, numbered_from, of_type_1}
+use Rattle.tl_county.proofs.Common.{of_type_2, of_type_4, of_type_5, of_type_6, of_type_7, of_type_8, of_type_i, of_type_p, on, one_tlid}
+use Rattle.tl_county.proofs.Common.{p_polyid, packed, packed_by_type, packed_five, packed_fours, packed_i, packed_one, packed_p}
+use Rattle.tl_county.proofs.Common.{packed_sevens, packed_sixes, packed_twos, seven_land, six_tlid, tlids, two_tlid}
 use Rattle.std.specs.List.Sorted.{IsStrictlySortedBy}
-use Rattle.std.specs.Ordering.{on}
-use Rattle.tl_layout.specs.ByType.{of_type_1, of_type_2, of_type_4, of_type_5, of_type_6, of_type_7, of_type_8, of_type_i}
-use Rattle.tl_layout.specs.ByType.{of_type_p}
-use Rattle.tl_layout.specs.declared.ranges.Ranges.{Ranges}
-use Rattle.tl_layout.specs.declared.type7.Body7.{Body7}
-use Rattle.tl_shape.specs.Chain.{Chain}
-use Rattle.tl_county.specs.County.{County, one_tlid, two_tlid, four_tlid, five_feat, six_tlid}
-use Rattle.tl_county.specs.County.{seven_land, i_tlid}
-use Rattle.tl_county.specs.CountyRules.{IsCounty, tlids, feats}
-use Rattle.tl_county.specs.LinkRules.{chain_tlids}
-use Rattle.ordered_lists.specs.Orders.{in_order}
-use Rattle.tl_county.specs.Packing.{in_pieces, numbered_from, inner_points, packed_one, packed_twos, packed_fours, packed_sixes}
-use Rattle.tl_county.specs.Packing.{packed_five, packed_sevens, packed_i, packed_p, p_polyid, packed_by_type, packed}
-use Rattle.ordered_lists.proofs.ByKey.Keys.{IsApart, nat_keys}
-use Rattle.ordered_lists.proofs.ByKey.Keys.{apart_from_sorted}
-use Rattle.ordered_lists.proofs.Lists.Elements.{map-map, all_map, all_everywhere}
-use Rattle.tl_layout.specs.RecordTypes.{Type1, Type2, Type4, Type5, Type6, Type7, Type8, TypeI, TypeP}
 use Rattle.tl_county.specs.Laws.PackedTypes.{of_its_type}
 use Rattle.tl_county.proofs.Packing.Repacking.{less}
 

@@ -1,9 +1,8 @@
 -- Lists cut into pieces, and elements numbered from a number on.
 use Rattle.std.proofs.Common.{◌≡◌, ◌+◌, ◌*◌, ◌<◌, ◌≤◌, ℕ, zero, suc, List, [], ◌∷◌, map, length, drop, refl, ap, ◌∙◌, arith}
+use Rattle.tl_county.proofs.Common.{AllByRecursion, all_weaker, numbered_from, pieces}
 use Rattle.std.proofs.lemmas.List.{length-drop, length-take}
-use Rattle.std.specs.List.{AllByRecursion, range_with_len}
-use Rattle.tl_county.specs.Packing.{pieces, numbered_from}
-use Rattle.ordered_lists.proofs.Lists.Elements.{all_weaker}
+use Rattle.std.specs.List.{range_with_len}
 use Rattle.ordered_lists.proofs.Lists.Counted.{all_take, all_drop}
 
 -- pieces of n: at most c of them if there are at most n * c elements, none longer than n

@@ -2,36 +2,24 @@
 use Rattle.std.proofs.Common.{◌≡◌, ◌⊎◌, ◌<◌, ℕ, ◌==◌, List, [], ◌∷◌, ◌++◌, map, flat_map, filter, filter_map, Bool, true, false}
 use Rattle.std.proofs.Common.{cond, Option, Some, None, option_map, Ordering, Less, Equal, Greater, is_eq, is_gt, sym, refl, ap}
 use Rattle.std.proofs.Common.{ap₂, ◌∙◌, inl, inr, nat_cmp, IsTrue, suc, nat_lt, not, ◌&&◌, ◌||◌, length}
-use Rattle.std.proofs.lemmas.Bool.{lt-ltb, cases_order}
-use Rattle.std.proofs.lemmas.Cmp.{tied_itself, nat_cmp_total}
-use Rattle.std.specs.List.{AllByRecursion, cons_option}
-use Rattle.std.specs.Ordering.{on, ordering_reverse}
-use Rattle.tl_layout.specs.Fields.{Fields1, Fields2, Fields4, Fields5, Fields6, Fields7, FieldsI, FieldsP}
-use Rattle.tl_layout.specs.declared.record_type.Record.{Record}
-use Rattle.tl_layout.specs.declared.record_type.Record.TheVariants.{One, Two, Four, Five, Six, Seven, Eight, I, P}
-use Rattle.tl_county.specs.declared.fault.LinkFault.{LinkFault}
-use Rattle.tl_county.specs.declared.fault.LinkFault.TheVariants.{ChainTwice, NoChain, SequenceBroken, LinkMissing, LinkTwice}
-use Rattle.tl_county.specs.declared.fault.LinkFault.TheVariants.{NameTwice, NameUnknown, PolygonTwice, LandUnknown}
-use Rattle.tl_county.specs.declared.fault.LinkFault.TheVariants.{PolygonUnknown, Memory}
-use Rattle.tl_county.specs.declared.fault.LinkedType.{LinkedType}
+use Rattle.tl_county.proofs.Common.{AllByRecursion, ChainTwice, Eight, Fields1, Fields2, Fields4, Fields5, Fields6, Fields7, FieldsI}
+use Rattle.tl_county.proofs.Common.{FieldsP, Five, IsLinked, LandUnknown, LinkFault, LinkMissing, LinkTwice, LinkedType, Memory, NameTwice}
+use Rattle.tl_county.proofs.Common.{NameUnknown, NoChain, One, P, PolygonTwice, PolygonUnknown, Record, SequenceBroken, SequencedType}
+use Rattle.tl_county.proofs.Common.{Seven, Typed, all-in_order, all_known, all_map, by_type, chain_of, chains_of, cons_option, county_of}
+use Rattle.tl_county.proofs.Common.{distinct, eight_land, first, five_feat, four_rtsq, four_tlid, further_names, further_ranges, has_repeat}
+use Rattle.tl_county.proofs.Common.{i_tlid, in_order, is_rule_broken, key_cmp, landmark_body_cmp, link_cmp, link_key, linked_tlids, lt-ltb}
+use Rattle.tl_county.proofs.Common.{map-map, map_agree_all, map_agree_everywhere, named_feats, nat_cmp_total, nat_keys, of_number}
+use Rattle.tl_county.proofs.Common.{of_type_2, of_type_4, of_type_6, on, one_tlid, p_key, polygons_of, put_in_order, rtsqs, seven_land}
+use Rattle.tl_county.proofs.Common.{shape_points, side_keys, six_rtsq, six_tlid, stands_in, tied_itself, times, two_rtsq, two_tlid}
+use Rattle.std.proofs.lemmas.Bool.{cases_order}
+use Rattle.std.specs.Ordering.{ordering_reverse}
+use Rattle.tl_layout.specs.declared.record_type.Record.TheVariants.{Two, Four, Six, I}
 use Rattle.tl_county.specs.declared.fault.LinkedType.TheVariants.{Two as Type2, Four as Type4, Six as Type6, I as TypeI}
-use Rattle.tl_county.specs.declared.fault.SequencedType.{SequencedType}
 use Rattle.tl_county.specs.declared.fault.SequencedType.TheVariants as sequenced
-use Rattle.tl_county.specs.BodyOrder.{landmark_body_cmp, link_cmp}
-use Rattle.tl_layout.specs.ByType.{as_type_2, as_type_4, as_type_6, of_type_2, of_type_4, of_type_6, of_number}
-use Rattle.tl_county.specs.County.{one_tlid, two_tlid, two_rtsq, four_tlid, four_rtsq, five_feat, six_tlid, six_rtsq, seven_land}
-use Rattle.tl_county.specs.County.{eight_land, link_key}
-use Rattle.tl_county.specs.County.{i_tlid, p_key, shape_points, further_names, further_ranges, chain_of, chains_of, side_keys, first}
-use Rattle.tl_county.specs.County.{polygons_of, county_of}
-use Rattle.tl_county.specs.LinkRules.{linked_tlids, rtsqs, named_feats, is_rule_broken, IsLinked}
-use Rattle.ordered_lists.specs.Orders.{times, stands_in, has_repeat, put_in_order, in_order, distinct}
-use Rattle.tl_county.specs.Packing.{Typed, by_type}
-use Rattle.tl_county.specs.PolygonKeys.{key_cmp}
+use Rattle.tl_layout.specs.ByType.{as_type_2, as_type_4, as_type_6}
 use Rattle.tl_county.specs.Repacked.{Sequence, resequenced, KeepsSequence}
-use Rattle.ordered_lists.proofs.ByKey.Keys.{nat_keys, all_known}
-use Rattle.ordered_lists.proofs.Lists.Elements.{map-map, map_agree_all, map_agree_everywhere, all_both, all_map, all_unmap}
+use Rattle.ordered_lists.proofs.Lists.Elements.{all_both, all_unmap}
 use Rattle.tl_county.proofs.Sameness.SameChains.{chains_alike}
-use Rattle.ordered_lists.proofs.ByKey.Numbers.{all-in_order}
 use Rattle.tl_county.proofs.Lists.OfNumber.{of_number-all}
 
 -- the records of the types that aren't ordered by RTSQ

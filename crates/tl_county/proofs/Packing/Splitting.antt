@@ -2,25 +2,14 @@
 use Rattle.std.proofs.Common.{◌≡◌, ◌⊎◌, ◌<◌, ℕ, suc, nat_lt, ◌==◌, List, [], ◌∷◌, ◌++◌, map, flat_map, Bool, true, false, cond, not}
 use Rattle.std.proofs.Common.{◌&&◌, ◌||◌, Ordering, is_eq, is_gt, sym, refl, ap, ap₂, ◌∙◌, subst, inl, inr, arith, nat_cmp, length}
 use Rattle.std.proofs.Common.{IsPermutation, append_assoc, filter}
-use Rattle.std.proofs.lemmas.Bool.{eqb-true, lt-ltb, false≢true}
-use Rattle.std.proofs.lemmas.List.Sorted.{IsPermutation-sym}
-use Rattle.std.specs.List.{AllByRecursion}
-use Rattle.std.specs.Ordering.{on}
-use Rattle.tl_layout.specs.ByType.{of_type_2, of_type_4, of_type_5, of_number}
-use Rattle.tl_layout.specs.Fields.{Fields2, Fields4}
-use Rattle.tl_layout.specs.declared.record_type.Record.{Record}
+use Rattle.tl_county.proofs.Common.{AllByRecursion, Fields2, Fields4, IsLinked, IsPermutation-sym, LinkFault, NameUnknown, NoChain, Record}
+use Rattle.tl_county.proofs.Common.{SequenceBroken, all-in_order, chain_tlids, county_of, eqb-true, false≢true, four_rtsq, four_tlid}
+use Rattle.tl_county.proofs.Common.{has_repeat, in_order, is_rule_broken, lt-ltb, nat_keys, of_number, of_type_2, of_type_4, of_type_5, on}
+use Rattle.tl_county.proofs.Common.{put_in_order, stands_in, times-no, two_rtsq, two_tlid}
 use Rattle.tl_layout.specs.declared.record_type.Record.TheVariants.{Two, Four}
-use Rattle.tl_county.specs.County.{two_tlid, two_rtsq, four_tlid, four_rtsq, county_of}
-use Rattle.tl_county.specs.LinkRules.{chain_tlids, is_rule_broken, IsLinked}
-use Rattle.ordered_lists.specs.Orders.{stands_in, has_repeat, put_in_order, in_order}
 use Rattle.tl_county.specs.Repacked.{IsCut, AreCut, IsSplit, IsEmpty, LeavesEmptyOut}
-use Rattle.tl_county.specs.declared.fault.LinkFault.{LinkFault}
-use Rattle.tl_county.specs.declared.fault.LinkFault.TheVariants.{NoChain, SequenceBroken}
-use Rattle.tl_county.specs.declared.fault.LinkFault.TheVariants.{NameUnknown}
 use Rattle.tl_county.specs.declared.fault.LinkedType.TheVariants.{Two as Type2, Four as Type4}
 use Rattle.tl_county.specs.declared.fault.SequencedType.TheVariants as sequenced_types
-use Rattle.ordered_lists.proofs.ByKey.Keys.{nat_keys, times-no}
-use Rattle.ordered_lists.proofs.ByKey.Numbers.{all-in_order}
 use Rattle.tl_county.proofs.Packing.Repacking.{AreRepacked, less, greater, repacked-county}
 use Rattle.tl_county.proofs.Sameness.SameCounty.{reordered-linked, reordered-county}
 

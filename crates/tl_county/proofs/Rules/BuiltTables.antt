@@ -2,50 +2,36 @@
 use Rattle.std.proofs.Common.{◌≡◌, ◌⊎◌, ◌==◌, ℕ, suc, List, [], ◌∷◌, ◌++◌, map, flat_map, length, Bool, true, false, cond, Less}
 use Rattle.std.proofs.Common.{is_eq, inl, inr, sym, refl, ap, ◌∙◌, subst, arith, nat_cmp, IsPermutation, Option, Some, None}
 use Rattle.std.proofs.Common.{unwrap_or, option_map, slice_get, zero}
-use Rattle.std.proofs.lemmas.Bool.{false≢true, eq-eqb, ne_eqb}
+use Rattle.tl_county.proofs.Common.{AllByRecursion, AreInOrder, Chain, Fields1, Fields2, Fields4, Fields6, Fields8, FieldsI, IsCounty}
+use Rattle.tl_county.proofs.Common.{IsFirstBrokenRule, IsInOrder, IsLinked, IsPermutation-trans, IsWithinLimits, LandmarkParts, LinkFault}
+use Rattle.tl_county.proofs.Common.{LinksUnderLands, Record, SameElements, Typed, by_type, by_type_of, chain_nodes, chains_along}
+use Rattle.tl_county.proofs.Common.{county_along, county_of, distinct, eight_land, entry_keys, entry_values, eq-eqb, false≢true, five_feat}
+use Rattle.tl_county.proofs.Common.{four_rtsq, four_tlid, i_tlid, landmark_body_cmp, landmark_entry, landmark_of, link_nodes, link_part}
+use Rattle.tl_county.proofs.Common.{link_part_cmp, links_with, map-map, most_records, nat_keys, ne_eqb, nodes, of_number, on, one_tlid}
+use Rattle.tl_county.proofs.Common.{same-itself, same_or_not, seven_land, six_rtsq, six_tlid, strict_head, strict_tail, two_rtsq, two_tlid}
+use Rattle.tl_county.proofs.Common.{type_after_type, typed_of, value_under, values-zip}
 use Rattle.std.proofs.lemmas.List.{append-nil}
 use Rattle.std.proofs.lemmas.List.Elements.{filter-append}
-use Rattle.std.specs.List.{AllByRecursion, zip}
-use Rattle.std.proofs.lemmas.List.Sorted.{IsPermutation-trans}
+use Rattle.std.specs.List.{zip}
 use Rattle.std.specs.List.Sorted.{IsStrictlySortedBy}
-use Rattle.std.specs.Ordering.{on}
-use Rattle.tl_layout.specs.Fields.{Fields1, Fields2, Fields4, Fields6, Fields8, FieldsI}
 use Rattle.tl_layout.specs.Tables.{HoldsByType}
-use Rattle.tl_layout.specs.declared.record_type.Record.{Record}
 use Rattle.tl_layout.specs.declared.tables.Tables.{Tables}
-use Rattle.tl_county.specs.Building.{chains_along, county_along, landmark_of, landmarks_along, link_nodes}
-use Rattle.tl_county.specs.ChartWords.{links_with}
-use Rattle.ordered_lists.specs.Entries.{entry_keys, entry_values, value_under}
-use Rattle.ordered_lists.proofs.Lists.EntryLists.{value-at_place, values-zip}
-use Rattle.tl_county.specs.StoredCounty.{LinksUnderLands, landmark_entry}
-use Rattle.tl_county.specs.LandmarkParts.{LandmarkParts}
-use Rattle.tl_layout.specs.ByType.{of_number}
-use Rattle.tl_shape.specs.Chain.{Chain}
+use Rattle.tl_county.specs.Building.{landmarks_along}
+use Rattle.ordered_lists.proofs.Lists.EntryLists.{value-at_place}
 use Rattle.tl_county.proofs.Limits.FitsCounty.{county-within_limits}
 use Rattle.ordered_lists.proofs.Lists.Elements.{flat_map-map}
-use Rattle.ordered_lists.proofs.Lists.Groups.{strict_head, strict_tail}
-use Rattle.ordered_lists.proofs.ByKey.Keys.{nat_keys, same_or_not, same-itself}
-use Rattle.ordered_lists.proofs.Lists.Elements.{all_places, map-map}
+use Rattle.ordered_lists.proofs.Lists.Elements.{all_places}
 use Rattle.tl_county.proofs.Lists.OfNumber.{of_number-all}
-use Rattle.tl_county.specs.BodyOrder.{landmark_body_cmp, link_part, link_part_cmp}
-use Rattle.tl_county.specs.County.{one_tlid, two_tlid, two_rtsq, four_tlid, four_rtsq, five_feat, six_tlid, six_rtsq}
-use Rattle.tl_county.specs.County.{seven_land, eight_land, i_tlid, county_of}
-use Rattle.tl_county.specs.CountyRules.{IsCounty, chain_nodes, nodes}
-use Rattle.tl_county.specs.declared.fault.LinkFault.{LinkFault}
 use Rattle.tl_layout.specs.RecordText.{FitsRecord}
-use Rattle.tl_county.specs.Limits.{HoldsWithinLimits, IsWithinLimits, most_records}
-use Rattle.tl_county.specs.LinkRules.{IsLinked, IsFirstBrokenRule}
-use Rattle.tl_county.specs.OrderedTables.{typed_of, AreInOrder, ArePermuted}
-use Rattle.ordered_lists.specs.Orders.{IsInOrder, distinct}
-use Rattle.tl_county.specs.Packing.{Typed, by_type, type_after_type}
+use Rattle.tl_county.specs.Limits.{HoldsWithinLimits}
+use Rattle.tl_county.specs.OrderedTables.{ArePermuted}
 use Rattle.tl_county.proofs.Rules.LinkedCounty.{county-is_county}
 use Rattle.tl_county.proofs.Rules.LinkedTables.{tlids-strict, feats-strict, side_by_side, county-built}
-use Rattle.ordered_lists.proofs.Lists.Reordered.{SameElements, from_permutation}
+use Rattle.ordered_lists.proofs.Lists.Reordered.{from_permutation}
 use Rattle.tl_county.proofs.Rules.RuleTests.{in_order-first}
 use Rattle.tl_county.proofs.Sameness.SameCounty.{reordered-county}
 use Rattle.tl_county.proofs.Sameness.SameRules.{same-sym, same-linked, same-first}
 use Rattle.tl_county.proofs.Rules.TypedRecords.{grouped, permuted-after}
-use Rattle.tl_county.specs.Laws.PackedTypes.{by_type_of}
 
 pub length-chains_along : (twos : List Fields2) (fours : List Fields4) (sixes : List Fields6) (rs : List Fields1) (ls : List FieldsI)
     → map one_tlid rs ≡ map i_tlid ls → length (map one_tlid rs) ≡ length (chains_along twos fours sixes rs ls)

@@ -1,12 +1,12 @@
 -- If all faults are in a finite list, either there is none or exactly one is the first.
 use Rattle.std.proofs.Common.{◌≡◌, ◌⊎◌, ℕ, List, [], ◌∷◌, Bool, true, false, not, ◌&&◌, ◌||◌, is_gt, sym, refl, ap, ◌∙◌, inl, inr}
-use Rattle.std.proofs.lemmas.Bool.{false≢true, and_parts, or_cases, not-true}
+use Rattle.tl_county.proofs.Common.{AllByRecursion, Among, IsKeyOrder, all_among, and_parts, bytes_keys, false≢true, list_all, or_cases}
+use Rattle.tl_county.proofs.Common.{place_cmp}
+use Rattle.std.proofs.lemmas.Bool.{not-true}
 use Rattle.std.proofs.lemmas.Cmp.{upto}
-use Rattle.std.specs.List.{AllByRecursion, list_all}
-use Rattle.tl_county.specs.FirstOf.{IsFirst, place_cmp}
-use Rattle.ordered_lists.proofs.ByKey.Keys.{IsKeyOrder, order_antisymm, order_total, order_itself}
-use Rattle.ordered_lists.proofs.ByKey.KeyOrders.{bytes_keys, lists_keys}
-use Rattle.ordered_lists.proofs.Lists.Among.{Among, all_among}
+use Rattle.tl_county.specs.FirstOf.{IsFirst}
+use Rattle.ordered_lists.proofs.ByKey.Keys.{order_antisymm, order_total, order_itself}
+use Rattle.ordered_lists.proofs.ByKey.KeyOrders.{lists_keys}
 
 pub place_keys : IsKeyOrder place_cmp
 place_keys = lists_keys bytes_keys

@@ -2,20 +2,15 @@
 use Rattle.std.proofs.Common.{◌≡◌, ◌⊎◌, nat_lt, List, [], ◌∷◌, Bool, true, false, cond, Ordering}
 use Rattle.std.proofs.Common.{Less, Equal, Greater, is_eq, is_gt, sym, refl, ap, ◌∙◌, subst, inl, inr, arith, nat_cmp, Option}
 use Rattle.std.proofs.Common.{Some, None, IsPermutation}
-use Rattle.std.proofs.lemmas.Bool.{false≢true, lt-ltb}
-use Rattle.std.specs.List.{AllByRecursion, dedup, dedup_from}
-use Rattle.std.specs.Ordering.{ordering_then}
-use Rattle.tl_layout.specs.Coordinates.{Coordinates}
-use Rattle.tl_layout.specs.Fields.{Fields7}
+use Rattle.tl_county.proofs.Common.{AllByRecursion, Coordinates, Fields7, IsInOrder, IsKeyOrder, all_known, all_weaker, bytes_cmp, distinct}
+use Rattle.tl_county.proofs.Common.{distinct_same, false≢true, first_least, known_from_distinct, lt-ltb, ordering_then, put_in_order}
+use Rattle.tl_county.proofs.Common.{same-itself, same_or_not, stands_in, times, times-cons, times-yes}
+use Rattle.std.specs.List.{dedup, dedup_from}
 use Rattle.tl_shape.specs.PointOrder.{point_cmp}
-use Rattle.tl_county.specs.BodyOrder.{bytes_cmp, optional_point_cmp}
+use Rattle.tl_county.specs.BodyOrder.{optional_point_cmp}
 use Rattle.tl_county.specs.OrderedTables.{landmark_cmp}
-use Rattle.ordered_lists.specs.Orders.{times, stands_in, IsInOrder, put_in_order, distinct}
-use Rattle.ordered_lists.proofs.Lists.Distinct.{known_from_distinct}
-use Rattle.ordered_lists.proofs.ByKey.Keys.{IsKeyOrder, times-yes, times-permutation, times-cons, same-itself, same_or_not, all_known}
-use Rattle.ordered_lists.proofs.ByKey.KeyedLists.{before_all, first_least, less_from}
-use Rattle.ordered_lists.proofs.Lists.Elements.{all_weaker}
-use Rattle.ordered_lists.proofs.Lists.Reordered.{distinct_same}
+use Rattle.ordered_lists.proofs.ByKey.Keys.{times-permutation}
+use Rattle.ordered_lists.proofs.ByKey.KeyedLists.{before_all, less_from}
 
 module _ {K : Type 0} {cmp : K → K → Ordering} (o : IsKeyOrder cmp) where
   -- a list in order without its repetitions has each key once

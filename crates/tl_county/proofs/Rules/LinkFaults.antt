@@ -1,21 +1,14 @@
 -- Either a list of records is linked, or exactly one rule is the first that is broken.
 use Rattle.std.proofs.Common.{◌≡◌, ◌⊎◌, ◌<◌, ℕ, zero, suc, nat_lt, ◌==◌, List, [], ◌∷◌, ◌++◌, map, flat_map, Bool, true, false}
 use Rattle.std.proofs.Common.{cond, not, ◌&&◌, is_eq, sym, refl, ap, ◌∙◌, subst, inl, inr, nat_cmp, arith}
-use Rattle.std.proofs.lemmas.Bool.{false≢true, ltb-true, and_parts, ne_eqb, eqb-true}
-use Rattle.tl_layout.specs.Fields.{Fields4}
-use Rattle.tl_layout.specs.declared.record_type.Record.{Record}
-use Rattle.tl_county.specs.declared.fault.LinkFault.{LinkFault}
-use Rattle.tl_county.specs.declared.fault.LinkFault.TheVariants.{ChainTwice, NoChain, SequenceBroken, LinkMissing, LinkTwice}
-use Rattle.tl_county.specs.declared.fault.LinkFault.TheVariants.{NameTwice, NameUnknown, PolygonTwice, LandUnknown}
-use Rattle.tl_county.specs.declared.fault.LinkFault.TheVariants.{PolygonUnknown, Memory}
-use Rattle.tl_county.specs.declared.fault.LinkedType.{LinkedType}
-use Rattle.tl_county.specs.declared.fault.LinkedType.TheVariants.{Two, Four, Six, I}
-use Rattle.tl_county.specs.declared.fault.SequencedType.{SequencedType}
+use Rattle.tl_county.proofs.Common.{Among, ChainTwice, Fields4, Four, I, Known, LandUnknown, LinkFault, LinkMissing, LinkTwice, LinkedType}
+use Rattle.tl_county.proofs.Common.{Memory, NameTwice, NameUnknown, NoChain, PolygonTwice, PolygonUnknown, Record, SequenceBroken}
+use Rattle.tl_county.proofs.Common.{SequencedType, Six, Two, and_parts, differ_apart, eight_land, eqb-true, false≢true, five_feat}
+use Rattle.tl_county.proofs.Common.{four_rtsq, four_tlid, has_repeat, i_tlid, key_cmp, key_keys, known-append, link_key, ltb-true, nat_keys}
+use Rattle.tl_county.proofs.Common.{ne_eqb, of_number, of_type_2, of_type_4, of_type_5, of_type_6, of_type_8, of_type_i, of_type_p, p_key}
+use Rattle.tl_county.proofs.Common.{same_or_not, six_rtsq, six_tlid, stands_in, times, times-no, times-yes, two_rtsq, two_tlid}
 use Rattle.tl_county.specs.declared.fault.SequencedType.TheVariants as sequenced
 use Rattle.tl_county.specs.LinkedTypes.{linked_type}
-use Rattle.tl_layout.specs.ByType.{of_type_2, of_type_4, of_type_5, of_type_6, of_type_8, of_type_i, of_type_p, of_number}
-use Rattle.tl_county.specs.County.{two_tlid, two_rtsq, four_tlid, four_rtsq, five_feat, six_tlid, six_rtsq, eight_land, link_key}
-use Rattle.tl_county.specs.County.{i_tlid, p_key}
 use Rattle.tl_county.specs.LinkRules.{
   chain_tlids,
   linked_tlids,
@@ -26,13 +19,9 @@ use Rattle.tl_county.specs.LinkRules.{
   IsLinked,
   IsFirstBrokenRule,
 }
-use Rattle.ordered_lists.specs.Orders.{times, stands_in, has_repeat}
-use Rattle.tl_county.specs.PolygonKeys.{key_cmp}
-use Rattle.ordered_lists.proofs.Lists.Among.{Among, among_left, among_right, known_among}
+use Rattle.ordered_lists.proofs.Lists.Among.{among_left, among_right, known_among}
 use Rattle.tl_county.proofs.Rules.FirstFault.{first_or_none, not_first, one_first}
 use Rattle.tl_county.proofs.Rules.FirstFault.{none_there, least_there, none_computed, first_computed}
-use Rattle.ordered_lists.proofs.ByKey.Keys.{Known, nat_keys, times-yes, times-no, same_or_not, differ_apart, known-append}
-use Rattle.tl_county.specs.Laws.KeyOrders.{key_keys}
 
 -- the fault at a place
 abbrev pub part : List (List ℕ) → ℕ → List ℕ

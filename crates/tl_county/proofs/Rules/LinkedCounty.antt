@@ -2,40 +2,26 @@
 use Rattle.std.proofs.Common.{◌≡◌, ◌⊎◌, ◌<◌, ◌≤◌, ◌+◌, ◌==◌, ◌||◌, ℕ, nat_lt, length, length-append, filter, cond, is_eq, is_some}
 use Rattle.std.proofs.Common.{inl, inr, Option, List, [], ◌∷◌, ◌++◌, map, flat_map, Bool, true, false, not, ◌&&◌, IsTrue, sym}
 use Rattle.std.proofs.Common.{refl, ap, ◌∙◌, subst, arith, nat_cmp, map-id}
-use Rattle.std.proofs.lemmas.Bool.{false≢true, ltb-true, ltb-false, lt-ltb, or_left, or_right, eq-eqb}
-use Rattle.std.proofs.lemmas.Cmp.{nat_cmp_total, on_total}
-use Rattle.std.proofs.lemmas.List.{length-map}
-use Rattle.std.specs.List.{AllByRecursion}
+use Rattle.tl_county.proofs.Common.{AllByRecursion, AllKeysStandIn, AllStandIn, Among, Body7, BodyP, Chain, ChainTwice, Fields1, Fields4}
+use Rattle.tl_county.proofs.Common.{Fields5, Fields7, Fields8, FieldsI, FieldsP, I, IsApart, IsCounty, IsLinked, IsWhole, Known}
+use Rattle.tl_county.proofs.Common.{LandUnknown, LinkMissing, LinkTwice, NameTwice, NameUnknown, NoChain, PolygonKey, PolygonUnknown}
+use Rattle.tl_county.proofs.Common.{Record, all-in_order, all_everywhere, all_joined, all_known, all_map, all_weaker, among-map}
+use Rattle.tl_county.proofs.Common.{among-pieces, among-unmap, among_known, chain_of, chain_polygons, chain_tlids, chains_of, county_of}
+use Rattle.tl_county.proofs.Common.{distinct, distinct-strict, each_from, eight_land, eq-eqb, false≢true, feats, first, five_feat}
+use Rattle.tl_county.proofs.Common.{four_rtsq, four_tlid, further_names, i_tlid, in_order, in_order-map, key_cmp, key_keys, known-append}
+use Rattle.tl_county.proofs.Common.{known-distinct, known-left, known_from_distinct, known_is_among, landmark_body_cmp, landmark_body_keys}
+use Rattle.tl_county.proofs.Common.{lands, length-in_order, length-map, link_cmp, link_key, lt-ltb, ltb-false, ltb-true, map-map}
+use Rattle.tl_county.proofs.Common.{named_feats, nat_cmp_total, nat_keys, of_number, of_type_1, of_type_4, of_type_5, of_type_7, of_type_8}
+use Rattle.tl_county.proofs.Common.{of_type_i, of_type_p, on, on_total, one_tlid, p_key, polygon_body, polygon_keys, polygons_along}
+use Rattle.tl_county.proofs.Common.{seven_land, shape_points, side_keys, stands_in, times, times-no, tlids, to_in_order}
+use Rattle.std.proofs.lemmas.Bool.{or_left, or_right}
 use Rattle.std.specs.List.Sorted.{IsStrictlySortedBy}
-use Rattle.std.specs.Ordering.{on}
-use Rattle.tl_layout.specs.Fields.{Fields1, Fields4, Fields5, Fields7, Fields8, FieldsI, FieldsP}
-use Rattle.tl_layout.specs.declared.record_type.Record.{Record}
-use Rattle.tl_county.specs.declared.fault.LinkFault.TheVariants.{ChainTwice, NoChain, LinkMissing, LinkTwice, NameTwice}
-use Rattle.tl_county.specs.declared.fault.LinkFault.TheVariants.{NameUnknown, LandUnknown, PolygonUnknown}
-use Rattle.tl_county.specs.declared.fault.LinkedType.TheVariants.{I}
-use Rattle.tl_layout.specs.declared.type7.Body7.{Body7}
-use Rattle.tl_layout.specs.declared.type_p.BodyP.{BodyP}
-use Rattle.tl_county.specs.BodyOrder.{landmark_body_cmp, link_cmp}
-use Rattle.tl_layout.specs.ByType.{of_type_1, of_type_4, of_type_5, of_type_7, of_type_8, of_type_i, of_type_p, of_number}
-use Rattle.tl_shape.specs.Chain.{Chain}
-use Rattle.tl_county.specs.County.{one_tlid, four_tlid, four_rtsq, five_feat, seven_land, eight_land, link_key, i_tlid, p_key}
-use Rattle.tl_county.specs.County.{first, shape_points, further_names, chain_of, chains_of, side_keys, polygon_body, county_of}
-use Rattle.tl_county.specs.CountyRules.{IsCounty, IsWhole, tlids, feats, polygon_keys, lands, chain_polygons, polygons_along}
-use Rattle.tl_county.specs.CountyRules.{AllStandIn, AllKeysStandIn}
-use Rattle.tl_county.specs.LinkRules.{IsLinked, chain_tlids, named_feats}
-use Rattle.ordered_lists.specs.Orders.{times, stands_in, in_order, distinct}
-use Rattle.tl_county.specs.PolygonKeys.{PolygonKey, key_cmp}
 use Rattle.tl_county.proofs.Sameness.Carried.{among-unpieces}
-use Rattle.ordered_lists.proofs.Lists.Distinct.{known-distinct, known_from_distinct}
-use Rattle.ordered_lists.proofs.Lists.Among.{Among}
-use Rattle.ordered_lists.proofs.Lists.InOrder.{in_order-in_order, in_order-map}
-use Rattle.tl_county.specs.Laws.KeyOrders.{key_keys, landmark_body_keys, link_keys}
-use Rattle.ordered_lists.proofs.ByKey.Keys.{Known, IsApart, nat_keys, known-left, known-append, all_known, times-no}
-use Rattle.ordered_lists.proofs.Lists.Elements.{map-map, all_weaker, all_everywhere, all_map, all_joined}
-use Rattle.ordered_lists.proofs.Lists.Members.{among-map, among-unmap, among-pieces, among_known, known_is_among}
+use Rattle.ordered_lists.proofs.Lists.InOrder.{in_order-in_order}
+use Rattle.tl_county.specs.Laws.KeyOrders.{link_keys}
 use Rattle.ordered_lists.proofs.Lists.Reordered.{to_filter}
-use Rattle.ordered_lists.proofs.ByKey.Numbers.{only_one, times-in_order, all-in_order, from_in_order, to_in_order}
-use Rattle.ordered_lists.proofs.ByKey.Numbers.{strict_from_order, distinct-strict, each_from, length-in_order}
+use Rattle.ordered_lists.proofs.ByKey.Numbers.{only_one, times-in_order, from_in_order}
+use Rattle.ordered_lists.proofs.ByKey.Numbers.{strict_from_order}
 use Rattle.tl_county.proofs.Lists.OfNumber.{times-of_number, of_number-among}
 
 -- if a test never holds without another, the other holds whenever it does

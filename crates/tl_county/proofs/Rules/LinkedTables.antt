@@ -2,40 +2,26 @@
 use Rattle.std.proofs.Common.{◌≡◌, ◌⊎◌, ◌<◌, ◌==◌, ℕ, List, [], ◌∷◌, ◌++◌, map, flat_map, filter, Bool, true}
 use Rattle.std.proofs.Common.{false, not, cond, Ordering, Less, Equal, is_eq, is_gt, sym, refl, ap, ◌∙◌, subst, inl, inr}
 use Rattle.std.proofs.Common.{arith, nat_cmp}
-use Rattle.std.proofs.lemmas.Bool.{false≢true, ltb-true, ltb-false, lt-ltb, eq-eqb}
-use Rattle.std.proofs.lemmas.Cmp.{nat_cmp_total, tied_itself}
-use Rattle.std.specs.List.{AllByRecursion, zip}
+use Rattle.tl_county.proofs.Common.{AllByRecursion, Among, AreInOrder, Fields1, Fields5, Fields7, Fields8, FieldsI, I, IsInOrder, IsLinked}
+use Rattle.tl_county.proofs.Common.{Known, LandUnknown, LandmarkParts, LinkTwice, NameTwice, NoChain, Record, all_weaker, among-map}
+use Rattle.tl_county.proofs.Common.{among_known, by_type, chain_of, chain_tlids, chains_along, chains_of, county_along, county_of, distinct}
+use Rattle.tl_county.proofs.Common.{distinct-strict, eight_land, eq-eqb, false≢true, filter_all, first_least, five_feat, four_rtsq}
+use Rattle.tl_county.proofs.Common.{four_tlid, i_tlid, in_order, in_order-filter, in_order-itself, in_order-map, in_order-strict}
+use Rattle.tl_county.proofs.Common.{known-distinct, known_cases, known_is_among, landmark_body_cmp, landmark_entry, landmark_of, later_than}
+use Rattle.tl_county.proofs.Common.{link_cmp, link_part, link_part_cmp, linked_tlids, lt-ltb, ltb-false, ltb-true, nat_cmp_total, nat_keys}
+use Rattle.tl_county.proofs.Common.{of_number, of_type_1, of_type_2, of_type_4, of_type_5, of_type_6, of_type_7, of_type_8, of_type_i, on}
+use Rattle.tl_county.proofs.Common.{one_tlid, ordering_then, seven_land, six_rtsq, six_tlid, stands_in, strict_head, strict_tail}
+use Rattle.tl_county.proofs.Common.{tied_itself, times, two_rtsq, two_tlid}
+use Rattle.std.specs.List.{zip}
 use Rattle.std.specs.List.Sorted.{IsStrictlySortedBy}
-use Rattle.std.specs.Ordering.{on, ordering_then, is_lt}
-use Rattle.tl_layout.specs.ByType.{of_type_1, of_type_2, of_type_4, of_type_5, of_type_6, of_type_7, of_type_8, of_type_i}
-use Rattle.tl_layout.specs.ByType.{of_number}
-use Rattle.tl_layout.specs.Fields.{Fields1, Fields5, Fields7, Fields8, FieldsI}
-use Rattle.tl_layout.specs.declared.record_type.Record.{Record}
-use Rattle.tl_county.specs.declared.fault.LinkFault.TheVariants.{NoChain, LinkTwice, NameTwice, LandUnknown}
-use Rattle.tl_county.specs.declared.fault.LinkedType.TheVariants.{I}
-use Rattle.tl_county.specs.BodyOrder.{landmark_body_cmp, link_cmp, link_part, link_part_cmp}
-use Rattle.tl_county.specs.StoredCounty.{landmark_entry}
-use Rattle.tl_county.specs.LandmarkParts.{LandmarkParts}
+use Rattle.std.specs.Ordering.{is_lt}
 use Rattle.tl_county.proofs.Rules.RuleTests.{in_order-first}
-use Rattle.tl_county.specs.Building.{chain_with, chains_along, landmark_of, county_along}
-use Rattle.tl_county.specs.County.{one_tlid, two_tlid, two_rtsq, four_tlid, four_rtsq, five_feat, six_tlid, six_rtsq, seven_land}
-use Rattle.tl_county.specs.County.{eight_land, i_tlid, chain_of, chains_of, county_of}
-use Rattle.tl_county.specs.LinkRules.{IsLinked, chain_tlids, linked_tlids}
-use Rattle.tl_county.specs.OrderedTables.{AreInOrder}
-use Rattle.ordered_lists.specs.Orders.{times, stands_in, IsInOrder, in_order, distinct}
-use Rattle.tl_county.specs.Packing.{by_type}
-use Rattle.ordered_lists.proofs.Lists.Distinct.{known-distinct}
-use Rattle.ordered_lists.proofs.Lists.EntryLists.{in_order-strict}
-use Rattle.ordered_lists.proofs.Lists.Among.{Among}
+use Rattle.tl_county.specs.Building.{chain_with}
 use Rattle.tl_county.proofs.Lists.Groups.{group-of_number, number-later}
-use Rattle.ordered_lists.proofs.Lists.Groups.{later_than, strict_head, strict_tail}
-use Rattle.ordered_lists.proofs.Lists.InOrder.{in_order-itself, in_order-map, strict-equal}
-use Rattle.ordered_lists.proofs.ByKey.KeyedLists.{first_least, in_order-filter, group-and_later, lt_reversed}
-use Rattle.ordered_lists.proofs.ByKey.Keys.{Known, nat_keys, known_cases, filter_all}
+use Rattle.ordered_lists.proofs.Lists.InOrder.{strict-equal}
+use Rattle.ordered_lists.proofs.ByKey.KeyedLists.{group-and_later, lt_reversed}
 use Rattle.tl_county.proofs.Rules.LinkedCounty.{apart_chains, one_link, the_link, needed}
-use Rattle.ordered_lists.proofs.Lists.Elements.{all_weaker}
-use Rattle.ordered_lists.proofs.Lists.Members.{among_known, known_is_among, among-map}
-use Rattle.ordered_lists.proofs.ByKey.Numbers.{all_themselves, strict_from_order, distinct-strict}
+use Rattle.ordered_lists.proofs.ByKey.Numbers.{all_themselves, strict_from_order}
 use Rattle.tl_county.proofs.Lists.OfNumber.{of_number-all}
 use Rattle.ordered_lists.proofs.Lists.Reordered.{to_filter}
 

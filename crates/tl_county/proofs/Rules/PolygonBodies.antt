@@ -1,15 +1,8 @@
 -- A polygon has the content of its type P record.
 use Rattle.std.proofs.Common.{◌≡◌, ◌⊎◌, ◌≤◌, suc, List, [], ◌∷◌, map, filter, Bool, true, false, cond, Some, is_eq, sym, refl, ap}
 use Rattle.std.proofs.Common.{◌∙◌, subst, inl, inr, arith}
-use Rattle.tl_layout.specs.Fields.{FieldsP}
-use Rattle.tl_layout.specs.declared.type_p.BodyP.{BodyP}
-use Rattle.tl_county.specs.County.{p_key, first}
-use Rattle.ordered_lists.specs.Orders.{times}
-use Rattle.tl_county.specs.PolygonKeys.{PolygonKey, key_cmp}
-use Rattle.ordered_lists.proofs.Lists.Among.{Among}
-use Rattle.tl_county.specs.Laws.KeyOrders.{key_keys}
-use Rattle.ordered_lists.proofs.ByKey.Keys.{IsApart, Known, times-yes, apart_tail, same-true, same-itself, same_or_not}
-use Rattle.ordered_lists.proofs.Lists.Members.{among_known, among-map}
+use Rattle.tl_county.proofs.Common.{Among, BodyP, FieldsP, IsApart, Known, PolygonKey, among-map, among_known, apart_tail, first, key_cmp}
+use Rattle.tl_county.proofs.Common.{key_keys, p_key, same-itself, same-true, same_or_not, times, times-yes}
 
 pub first_body : (key : PolygonKey) (b : BodyP) (rs : List FieldsP)
     → first (map (λ (r : FieldsP). r.body) (filter (λ r. is_eq (key_cmp key (p_key r))) rs)) ≡ Some b

@@ -2,22 +2,13 @@
 use Rattle.std.proofs.Common.{◌≡◌, ◌<◌, ◌≤◌, ◌==◌, ℕ, suc, nat_lt, List, [], ◌∷◌, ◌++◌, Bool, true, false, cond, not}
 use Rattle.std.proofs.Common.{◌||◌, Ordering, Less, Equal, Greater, is_gt, sym, refl, ap, ◌∙◌, subst, inl, inr, arith}
 use Rattle.std.proofs.Common.{nat_cmp, Some, None}
-use Rattle.std.proofs.lemmas.Bool.{false≢true, lt-ltb, ltb-true, ltb-false, eqb-true, and_parts}
-use Rattle.std.specs.Cmp.Lexicographic.{slice_cmp}
-use Rattle.std.specs.Ordering.{ordering_then}
-use Rattle.std.specs.List.{list_all, list_any}
-use Rattle.tl_layout.specs.declared.record_type.Record.{Record}
-use Rattle.tl_county.specs.declared.fault.LinkFault.{LinkFault}
-use Rattle.tl_county.specs.declared.fault.LinkFault.TheVariants.{ChainTwice, NoChain, SequenceBroken, LinkMissing, LinkTwice}
-use Rattle.tl_county.specs.declared.fault.LinkFault.TheVariants.{NameTwice, NameUnknown, PolygonTwice, LandUnknown}
-use Rattle.tl_county.specs.declared.fault.LinkFault.TheVariants.{PolygonUnknown, Memory}
-use Rattle.tl_county.specs.declared.fault.LinkedType.TheVariants.{Two, Four, Six, I}
+use Rattle.tl_county.proofs.Common.{Among, ChainTwice, Four, I, IsFirstBrokenRule, IsLeastPassing, IsLinked, LandUnknown, LinkFault}
+use Rattle.tl_county.proofs.Common.{LinkMissing, LinkTwice, Memory, NameTwice, NameUnknown, NoChain, PolygonTwice, PolygonUnknown, Record}
+use Rattle.tl_county.proofs.Common.{RulesHold, SequenceBroken, Six, Two, and_parts, eqb-true, false≢true, is_rule_broken, list_all}
+use Rattle.tl_county.proofs.Common.{list_any, lt-ltb, ltb-false, ltb-true, ordering_then, place_cmp, slice_cmp}
 use Rattle.tl_county.specs.declared.fault.SequencedType.TheVariants as sequenced
-use Rattle.tl_county.specs.FirstOf.{place_cmp}
-use Rattle.ordered_lists.specs.Keyed.{IsLeastPassing}
-use Rattle.tl_county.specs.LinkRules.{is_rule_broken, link_fault_place, IsLinked, IsFirstBrokenRule}
-use Rattle.tl_county.specs.RuleOrder.{rule_place, RulesHold, IsFirstFrom}
-use Rattle.ordered_lists.proofs.Lists.Among.{Among}
+use Rattle.tl_county.specs.LinkRules.{link_fault_place}
+use Rattle.tl_county.specs.RuleOrder.{rule_place, IsFirstFrom}
 use Rattle.tl_county.proofs.Rules.LinkFaults.{part, number}
 use Rattle.ordered_lists.proofs.Lists.Members.{any_among}
 

@@ -2,40 +2,24 @@
 use Rattle.std.proofs.Common.{◌≡◌, ◌⊎◌, ◌<◌, ◌≤◌, ◌+◌, ◌==◌, ◌&&◌, not, ℕ, suc, nat_lt, List, [], ◌∷◌, ◌++◌, map, flat_map}
 use Rattle.std.proofs.Common.{Bool, true, false, cond, Ordering, Less, Equal, Greater, is_eq, is_gt, sym, refl}
 use Rattle.std.proofs.Common.{ap, ◌∙◌, subst, inl, inr, arith, nat_cmp, Option, Some, None, zero-add, IsPermutation}
-use Rattle.std.proofs.lemmas.Bool.{false≢true, lt-ltb, ltb-true, or_cases, eq-eqb, ne_eqb}
-use Rattle.std.proofs.lemmas.Bool.{and_parts}
-use Rattle.std.proofs.lemmas.Cmp.{nat_cmp_total, tied_itself}
-use Rattle.std.proofs.lemmas.Grind.{common_steps}
+use Rattle.tl_county.proofs.Common.{ChainTwice, Fields4, Four, I, IsInOrder, IsKeyOrder, IsLeastPassing, LandUnknown, LinkFault}
+use Rattle.tl_county.proofs.Common.{LinkMissing, LinkTwice, NameTwice, NameUnknown, NoChain, PolygonKey, PolygonTwice, PolygonUnknown}
+use Rattle.tl_county.proofs.Common.{Record, SequenceBroken, Six, Two, Typed, all_weaker, and_parts, apart_from_no_repeat, by_type}
+use Rattle.tl_county.proofs.Common.{bytes_cmp, common_steps, distinct, eight_land, eq-eqb, false≢true, first_least, five_feat, four_rtsq}
+use Rattle.tl_county.proofs.Common.{four_tlid, has_repeat, i_tlid, is_repeated, is_rule_broken, is_unknown, is_unnamed, key_cmp, key_keys}
+use Rattle.tl_county.proofs.Common.{least-same, link_key, lt-ltb, ltb-true, nat_cmp_total, nat_keys, ne_eqb, of_number, one_tlid, or_cases}
+use Rattle.tl_county.proofs.Common.{ordering_then, p_key, place_cmp, same-itself, same_or_not, sequence_cmp, seven_land, side_keys}
+use Rattle.tl_county.proofs.Common.{six_rtsq, six_tlid, stands_in, tied_itself, times, times-cons, times-no, times-yes, two_rtsq, two_tlid}
+use Rattle.tl_county.proofs.Common.{uses_of}
 use Rattle.std.specs.List.{find}
-use Rattle.std.specs.Ordering.{ordering_then}
-use Rattle.tl_layout.specs.ByType.{of_number}
-use Rattle.tl_layout.specs.Fields.{Fields4}
-use Rattle.tl_layout.specs.declared.record_type.Record.{Record}
-use Rattle.tl_county.specs.declared.fault.LinkFault.{LinkFault}
-use Rattle.tl_county.specs.declared.fault.LinkFault.TheVariants.{ChainTwice, NoChain, SequenceBroken, LinkMissing, LinkTwice}
-use Rattle.tl_county.specs.declared.fault.LinkFault.TheVariants.{NameTwice, NameUnknown, PolygonTwice, LandUnknown}
-use Rattle.tl_county.specs.declared.fault.LinkFault.TheVariants.{PolygonUnknown}
-use Rattle.tl_county.specs.declared.fault.LinkedType.TheVariants.{Two, Four, Six, I}
 use Rattle.tl_county.specs.declared.fault.SequencedType.TheVariants as sequenced
-use Rattle.tl_county.specs.BodyOrder.{bytes_cmp}
-use Rattle.tl_county.specs.County.{one_tlid, two_tlid, two_rtsq, four_tlid, four_rtsq, five_feat, six_tlid, six_rtsq, seven_land}
-use Rattle.tl_county.specs.County.{eight_land, link_key, i_tlid, p_key, side_keys}
-use Rattle.tl_county.specs.FirstOf.{place_cmp}
-use Rattle.ordered_lists.specs.Keyed.{IsLeastPassing, is_repeated, is_unknown}
-use Rattle.tl_county.specs.LinkRules.{is_rule_broken, link_fault_place}
-use Rattle.ordered_lists.specs.Orders.{times, stands_in, has_repeat, IsInOrder, distinct}
-use Rattle.tl_county.specs.Packing.{Typed, by_type}
-use Rattle.tl_county.specs.PolygonKeys.{PolygonKey, key_cmp}
+use Rattle.tl_county.specs.LinkRules.{link_fault_place}
 use Rattle.tl_county.specs.RuleOrder.{rule_place}
-use Rattle.tl_county.specs.SequenceKeys.{uses_of, is_unnamed, sequence_cmp}
-use Rattle.ordered_lists.proofs.Lists.Distinct.{apart_from_no_repeat, times-distinct, bit}
-use Rattle.tl_county.specs.Laws.KeyOrders.{key_keys}
+use Rattle.ordered_lists.proofs.Lists.Distinct.{times-distinct, bit}
 use Rattle.ordered_lists.proofs.ByKey.KeyOrders.{pair_keys}
-use Rattle.ordered_lists.proofs.ByKey.Keys.{IsKeyOrder, nat_keys, times-yes, times-no, same_or_not, times-permutation, times-append}
-use Rattle.ordered_lists.proofs.ByKey.Keys.{times-cons, same-itself, known-here}
-use Rattle.ordered_lists.proofs.ByKey.KeyedLists.{first_least, least-same}
+use Rattle.ordered_lists.proofs.ByKey.Keys.{times-permutation, times-append}
+use Rattle.ordered_lists.proofs.ByKey.Keys.{known-here}
 use Rattle.tl_county.proofs.Rules.LinkFaults.{part, number}
-use Rattle.ordered_lists.proofs.Lists.Elements.{all_weaker}
 use Rattle.tl_county.proofs.Rules.RuleOrders.{IsRule, fault_of_rule}
 
 -- orders of lists of one or two numbers

@@ -1,18 +1,10 @@
 -- Entries with stored values, and the entries that they represent.
 use Rattle.std.proofs.Common.{◌≡◌, ℕ, zero, suc, List, [], ◌∷◌, map, flat_map, refl, sym, ap, ◌∙◌, subst, slice_get, Option, Some, IfSome, option_map, unwrap_or, nat_cmp}
+use Rattle.tl_county.proofs.Common.{Body5, Fields5, LandmarkParts, LinksUnderLands, Typed, county_along, eight_land, entries-equal}
+use Rattle.tl_county.proofs.Common.{entry_keys, entry_values, five_feat, keys-map_values, landmark_entry, map-map, map_values}
+use Rattle.tl_county.proofs.Common.{map_values-id, of_number, value_under, values-map_values}
 use Rattle.std.specs.List.Sorted.{IsStrictlySortedBy}
-use Rattle.tl_layout.specs.ByType.{of_number}
-use Rattle.tl_layout.specs.Fields.{Fields5}
-use Rattle.tl_layout.specs.declared.type5.Body5.{Body5}
-use Rattle.tl_county.specs.Building.{county_along}
-use Rattle.tl_county.specs.County.{eight_land, five_feat}
-use Rattle.ordered_lists.specs.Entries.{entry_keys, entry_values, map_values, value_under}
-use Rattle.tl_county.specs.StoredCounty.{landmark_entry, LinksUnderLands}
-use Rattle.tl_county.specs.LandmarkParts.{LandmarkParts}
-use Rattle.tl_county.specs.Packing.{Typed}
 use Rattle.tl_county.proofs.Rules.BuiltTables.{bodies-under, lands-kept, links-under}
-use Rattle.ordered_lists.proofs.Lists.EntryLists.{entries-equal, keys-map_values, map_values-id, values-map_values}
-use Rattle.ordered_lists.proofs.Lists.Elements.{map-map}
 
 pub keys-kept : {K V W : Type 0} (f : V → W) (xs : List (K × V)) → entry_keys xs ≡ entry_keys (map_values f xs)
 keys-kept f xs = sym (keys-map_values f xs)

@@ -1,10 +1,6 @@
 -- The TLIDs of tables in order are in order.
 use Rattle.std.proofs.Common.{◌≡◌, ℕ, List, map, sym, subst, nat_cmp}
-use Rattle.tl_county.specs.County.{one_tlid, i_tlid}
-use Rattle.tl_county.specs.OrderedTables.{AreInOrder}
-use Rattle.ordered_lists.specs.Orders.{IsInOrder}
-use Rattle.tl_county.specs.Packing.{Typed}
-use Rattle.ordered_lists.proofs.Lists.InOrder.{in_order-map}
+use Rattle.tl_county.proofs.Common.{AreInOrder, IsInOrder, Typed, i_tlid, in_order-map, one_tlid}
 
 -- those of the type 1 records
 pub tlids_in_order : {tlids : List ℕ} (t : Typed) → AreInOrder t → tlids ≡ map one_tlid t.of_type_1 → IsInOrder nat_cmp tlids

@@ -1,13 +1,13 @@
 -- Records type after type are the records of a list in another order.
 use Rattle.std.proofs.Common.{ℕ, List, [], ◌∷◌, ◌++◌, map, take, IsPermutation}
-use Rattle.std.proofs.lemmas.List.Sorted.{IsPermutation-refl, IsPermutation-sym, IsPermutation-trans, IsPermutation-cons}
+use Rattle.tl_county.proofs.Common.{Eight, Five, IsPermutation-refl, IsPermutation-sym, IsPermutation-trans, One, P, Record, Seven, Typed}
+use Rattle.tl_county.proofs.Common.{by_type, of_type, record_of, type_after_type}
+use Rattle.std.proofs.lemmas.List.Sorted.{IsPermutation-cons}
 use Rattle.std.proofs.lemmas.List.Sorted.{IsPermutation-middle, IsPermutation-map, IsPermutation-append}
 use Rattle.std.proofs.lemmas.List.Sorted.{IsPermutation-append_right}
-use Rattle.tl_layout.specs.RecordTypes.{record_of, of_type, types}
-use Rattle.tl_layout.specs.declared.record_type.Record.{Record}
-use Rattle.tl_layout.specs.declared.record_type.Record.TheVariants.{One, Two, Four, Five, Six, Seven, Eight, I, P}
+use Rattle.tl_layout.specs.RecordTypes.{types}
+use Rattle.tl_layout.specs.declared.record_type.Record.TheVariants.{Two, Four, Six, I}
 use Rattle.tl_county.specs.OrderedTables.{ArePermuted}
-use Rattle.tl_county.specs.Packing.{Typed, by_type, type_after_type}
 
 -- these lists one after another, and then the rest
 abbrev before_rest : List (List Record) → List Record → List Record

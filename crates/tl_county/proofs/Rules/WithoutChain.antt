@@ -2,28 +2,16 @@
 use Rattle.std.proofs.Common.{◌≡◌, ◌⊎◌, ℕ, suc, nat_lt, List, [], ◌∷◌, ◌++◌, length, filter, map, flat_map, Bool, true, false}
 use Rattle.std.proofs.Common.{cond, not, ◌&&◌, ◌||◌, Option, is_eq, is_some, refl, sym, ap, ap₂, ◌∙◌, arith, Ordering}
 use Rattle.std.proofs.Common.{None, Some, inl, inr, map-id}
-use Rattle.std.proofs.lemmas.Bool.{false≢true, lt-ltb, ltb-true}
-use Rattle.std.specs.List.{AllByRecursion, list_any}
-use Rattle.tl_layout.specs.ByType.{of_type_1, of_type_i, of_type_p}
-use Rattle.tl_layout.specs.Fields.{Fields1, FieldsI, FieldsP}
-use Rattle.tl_layout.specs.declared.record_type.Record.{Record}
-use Rattle.tl_shape.specs.Chain.{Chain}
-use Rattle.tl_county.specs.County.{chain_of, chains_of, county_of, first, p_key, polygon_body, side_keys}
-use Rattle.tl_county.specs.CountyRules.{chain_polygons, has_body, is_without_chain, polygons_along}
-use Rattle.ordered_lists.specs.Keyed.{IsLeastPassing, is_unknown}
-use Rattle.tl_county.specs.LinkRules.{IsLinked}
-use Rattle.ordered_lists.specs.Orders.{distinct, stands_in, times}
-use Rattle.tl_county.specs.PolygonKeys.{PolygonKey, key_cmp}
+use Rattle.tl_county.proofs.Common.{AllByRecursion, Among, Chain, Fields1, FieldsI, FieldsP, IsKeyOrder, IsLeastPassing, IsLinked, Known}
+use Rattle.tl_county.proofs.Common.{PolygonKey, Record, all_among, among-pieces, among_known, chain_of, chain_polygons, chains_of}
+use Rattle.tl_county.proofs.Common.{count-map, county_of, distinct, distinct_same, each_from, false≢true, first, is_unknown, key_cmp}
+use Rattle.tl_county.proofs.Common.{key_keys, known-append, known-left, known-right, known_is_among, list_any, lt-ltb, ltb-true, of_type_1}
+use Rattle.tl_county.proofs.Common.{of_type_i, of_type_p, p_key, polygon_body, polygons_along, same-true, side_keys, stands_alike}
+use Rattle.tl_county.proofs.Common.{stands_in, times}
+use Rattle.tl_county.specs.CountyRules.{has_body, is_without_chain}
 use Rattle.tl_county.proofs.Sameness.Carried.{among-unpieces}
-use Rattle.ordered_lists.proofs.Lists.Among.{Among, all_among}
-use Rattle.tl_county.specs.Laws.KeyOrders.{key_keys}
 use Rattle.tl_county.proofs.ByKey.KeySets.{stands_in-distinct}
-use Rattle.ordered_lists.proofs.ByKey.Keys.{IsKeyOrder, Known, known-append, known-left, known-right, same-true}
 use Rattle.tl_county.proofs.Rules.LinkedCounty.{chains_all, linked_chain, needed}
-use Rattle.ordered_lists.proofs.ByKey.Numbers.{each_from}
-use Rattle.ordered_lists.proofs.Lists.Members.{among-pieces, among_known, known_is_among}
-use Rattle.ordered_lists.proofs.ByKey.Numbers.{count-map}
-use Rattle.ordered_lists.proofs.Lists.Reordered.{distinct_same, stands_alike}
 
 -- a list has a first element exactly if it isn't empty
 first_there : {X Y : Type 0} (f : X → Y) (xs : List X) → is_some (first (map f xs)) ≡ nat_lt 0 (length xs)

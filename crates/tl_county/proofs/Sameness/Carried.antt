@@ -1,14 +1,9 @@
 -- The numbers of a carried chain are the images of its numbers.
 use Rattle.std.proofs.Common.{◌≡◌, ◌⊎◌, ℕ, List, [], ◌∷◌, ◌++◌, map, flat_map, Bool, true, false, Option, Some, None, option_map}
 use Rattle.std.proofs.Common.{option_to_list, sym, refl, ap₂, ◌∙◌, inl, inr, nat_cmp}
-use Rattle.std.proofs.lemmas.List.{map-append}
-use Rattle.tl_shape.specs.Chain.{Chain}
-use Rattle.tl_county.specs.CountyRules.{chain_nodes, chain_polygons}
-use Rattle.tl_county.specs.PolygonKeys.{PolygonKey, key_cmp, key_on, key_under}
-use Rattle.tl_county.specs.Renumbering.{Renumbering, renumbered_polygon, renumbered}
-use Rattle.ordered_lists.specs.Pairs.{image}
-use Rattle.tl_shape.specs.Turned.{turned_if}
-use Rattle.ordered_lists.proofs.Lists.Among.{Among, among_left, among_right}
+use Rattle.tl_county.proofs.Common.{Among, Chain, PolygonKey, Renumbering, chain_nodes, chain_polygons, image, key_cmp, key_on, key_under}
+use Rattle.tl_county.proofs.Common.{map-append, renumbered, renumbered_polygon, turned_if}
+use Rattle.ordered_lists.proofs.Lists.Among.{among_left, among_right}
 
 pub key_on-renumbered : (r : Renumbering) (cenid : List ℕ) (polyid : Option ℕ)
     → key_on (renumbered_polygon r cenid polyid) ≡ map (image key_cmp r.polygons) (key_under cenid polyid)

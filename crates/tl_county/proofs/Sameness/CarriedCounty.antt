@@ -2,29 +2,18 @@
 use Rattle.std.proofs.Common.{◌≡◌, ◌⊎◌, ◌≤◌, ◌||◌, ℕ, List, map, length, Bool, true, false}
 use Rattle.std.proofs.Common.{Option, IsTrue, is_some, option_to_list, Ordering, sym, refl, subst, inl, inr, arith}
 use Rattle.std.proofs.Common.{nat_cmp}
-use Rattle.std.proofs.lemmas.Bool.{ltb-true, lt-ltb, or_left, or_right, or_cases}
+use Rattle.tl_county.proofs.Common.{AllKeysStandIn, AllStandIn, Among, Body7, BodyP, Carries, Chain, County, Fields8, IsKeyOrder}
+use Rattle.tl_county.proofs.Common.{IsPermutation-sym, IsWhole, Known, PolygonKey, Renumbering, all_among, among-map, among-permutation}
+use Rattle.tl_county.proofs.Common.{among-pieces, among-unmap, among_known, carried_chain, carried_landmark, carried_link, carried_polygon}
+use Rattle.tl_county.proofs.Common.{chain_nodes, chain_polygons, each_from, feats, image, key_cmp, key_keys, key_on, known_is_among, lands}
+use Rattle.tl_county.proofs.Common.{link_key, lt-ltb, ltb-true, nat_keys, or_cases, polygon_keys, polygons_along, stands_in, times}
+use Rattle.tl_county.proofs.Common.{turned_if, turns}
+use Rattle.std.proofs.lemmas.Bool.{or_left, or_right}
 use Rattle.std.proofs.lemmas.List.{length-reverse}
-use Rattle.std.proofs.lemmas.List.Sorted.{IsPermutation-sym}
-use Rattle.tl_layout.specs.Fields.{Fields8}
-use Rattle.tl_layout.specs.declared.type7.Body7.{Body7}
-use Rattle.tl_layout.specs.declared.type_p.BodyP.{BodyP}
-use Rattle.tl_shape.specs.Chain.{Chain}
-use Rattle.tl_shape.specs.Turned.{turned_if}
-use Rattle.tl_county.specs.County.{County, link_key}
-use Rattle.tl_county.specs.CountyRules.{IsClosed, IsWhole, feats, polygon_keys, lands, polygons_along}
-use Rattle.tl_county.specs.CountyRules.{chain_polygons, chain_nodes, AllStandIn, AllKeysStandIn}
-use Rattle.ordered_lists.specs.Orders.{times, stands_in}
-use Rattle.tl_county.specs.PolygonKeys.{PolygonKey, key_cmp, key_on}
-use Rattle.tl_county.specs.Renumbering.{Renumbering, turns, carried_chain, carried_polygon, carried_landmark}
-use Rattle.ordered_lists.specs.Pairs.{image}
-use Rattle.tl_county.specs.Renumbering.{carried_link, Carries}
+use Rattle.tl_county.specs.CountyRules.{IsClosed}
 use Rattle.ordered_lists.specs.Pairs.{ArePaired}
 use Rattle.tl_county.proofs.Sameness.Carried.{among-swapped, among-turned, among-unpieces, chain_polygons-renumbered}
-use Rattle.ordered_lists.proofs.Lists.Among.{Among, all_among}
-use Rattle.tl_county.specs.Laws.KeyOrders.{key_keys}
-use Rattle.ordered_lists.proofs.ByKey.Keys.{IsKeyOrder, Known, nat_keys, lefts, rights, known-permutation, known-permutation_to, image-known}
-use Rattle.ordered_lists.proofs.ByKey.Numbers.{each_from}
-use Rattle.ordered_lists.proofs.Lists.Members.{among-permutation, among-map, among-unmap, among-pieces, among_known, known_is_among}
+use Rattle.ordered_lists.proofs.ByKey.Keys.{lefts, rights, known-permutation, known-permutation_to, image-known}
 
 -- a turn keeps the nodes and polygons of a chain, in both directions
 pub nodes-turned : (n : ℕ) (b : Bool) (c : Chain) → Among n (chain_nodes c) → Among n (chain_nodes (turned_if b c))

@@ -2,33 +2,30 @@
 use Rattle.std.proofs.Common.{◌≡◌, ◌⊎◌, ℕ, nat_lt, List, [], ◌∷◌, Bool, true, false, map, filter, Ordering, IsTrue, is_eq, sym}
 use Rattle.std.proofs.Common.{refl, ap, ◌∙◌, subst, inl, inr, IsPermutation, nat_cmp, Option, Some, None, option_map}
 use Rattle.std.proofs.Common.{option_to_list, map-id}
-use Rattle.std.proofs.lemmas.Bool.{ltb-true, lt-ltb}
-use Rattle.std.proofs.lemmas.List.Sorted.{IsPermutation-refl, IsPermutation-map, IsPermutation-trans, IsPermutation-sym}
-use Rattle.std.specs.List.{AllByRecursion}
-use Rattle.tl_layout.specs.Fields.{Fields8}
-use Rattle.tl_shape.specs.Chain.{Chain}
-use Rattle.tl_county.specs.County.{County, link_key}
-use Rattle.tl_county.specs.CountyRules.{IsCounty, IsClosed, tlids, feats, polygon_keys, lands, nodes, nodes_along, chain_nodes}
-use Rattle.tl_county.specs.CountyRules.{chain_polygons, AllStandIn, AllKeysStandIn}
-use Rattle.ordered_lists.specs.Orders.{times, stands_in, has_repeat}
-use Rattle.tl_county.specs.PolygonKeys.{PolygonKey, key_cmp, key_on, key_under}
-use Rattle.tl_county.specs.Renumbering.{Renumbering, turns, renumbered_polygon, renumbered_side, renumbered, carried_chain}
-use Rattle.ordered_lists.specs.Pairs.{image}
-use Rattle.tl_county.specs.Renumbering.{carried_name, carried_polygon, carried_landmark, carried_link, Carries}
+use Rattle.tl_county.proofs.Common.{AllByRecursion, AllKeysStandIn, AllStandIn, Carries, Chain, County, Fields8, IsApart, IsCounty}
+use Rattle.tl_county.proofs.Common.{IsKeyOrder, IsPermutation-refl, IsPermutation-sym, IsPermutation-trans, Known, PolygonKey, Renumbering}
+use Rattle.tl_county.proofs.Common.{all_known, all_map, all_weaker, apart_from_sorted, carried_chain, carried_landmark, carried_link}
+use Rattle.tl_county.proofs.Common.{carried_polygon, chain_nodes, chain_polygons, feats, filter_all, has_repeat, has_repeat-apart, image}
+use Rattle.tl_county.proofs.Common.{key_cmp, key_keys, key_on, key_under, known-distinct, lands, link_key, lt-ltb, ltb-true, map-map}
+use Rattle.tl_county.proofs.Common.{map_agree_all, nat_keys, nodes, polygon_keys, renumbered, renumbered_polygon, same_or_not, stands_in}
+use Rattle.tl_county.proofs.Common.{times, tlids, turned_if, turns}
+use Rattle.std.proofs.lemmas.List.Sorted.{IsPermutation-map}
+use Rattle.tl_county.specs.CountyRules.{IsClosed, nodes_along}
+use Rattle.tl_county.specs.Renumbering.{renumbered_side}
+use Rattle.tl_county.specs.Renumbering.{carried_name}
 use Rattle.ordered_lists.specs.Pairs.{ArePaired}
 use Rattle.tl_county.specs.Renumbering.{AreSame, identity, inverse, exactly_one, then}
 use Rattle.ordered_lists.specs.Pairs.{to_itself, swapped, is_named, composed}
 use Rattle.tl_shape.specs.TurnLaws.{turned-turned}
-use Rattle.tl_shape.specs.Turned.{turned, turned_if}
-use Rattle.ordered_lists.proofs.Lists.Elements.{map_itself, map-map, map_agree_all, all_weaker, all_map, all_unmap, all_left, all_right}
+use Rattle.tl_shape.specs.Turned.{turned}
+use Rattle.ordered_lists.proofs.Lists.Elements.{map_itself, all_unmap, all_left, all_right}
 use Rattle.ordered_lists.proofs.Lists.Elements.{all_pieces, all_filter}
-use Rattle.ordered_lists.proofs.ByKey.Keys.{IsKeyOrder, IsApart, Known, nat_keys, lefts, rights, filter_all, same_or_not, apart_from_sorted}
-use Rattle.ordered_lists.proofs.ByKey.Keys.{apart-permutation, known-permutation, known-permutation_to, all_known, image-known}
+use Rattle.ordered_lists.proofs.ByKey.Keys.{lefts, rights}
+use Rattle.ordered_lists.proofs.ByKey.Keys.{apart-permutation, known-permutation, known-permutation_to, image-known}
 use Rattle.ordered_lists.proofs.ByKey.Keys.{times-images, has_repeat-images, apart-filter, stands_in-filter, image-back, image-yes}
 use Rattle.ordered_lists.proofs.ByKey.Keys.{image-no, rights-swapped, lefts-swapped, image-to_itself, lefts-to_itself, rights-to_itself}
 use Rattle.ordered_lists.proofs.ByKey.Keys.{images-lefts, followed, joined-followed, image-followed, lefts-followed, rights-followed}
-use Rattle.tl_county.specs.Laws.KeyOrders.{key_keys}
-use Rattle.ordered_lists.proofs.Lists.Distinct.{apart-distinct, known-distinct, has_repeat-apart}
+use Rattle.ordered_lists.proofs.Lists.Distinct.{apart-distinct}
 
 -- renaming and turning a chain commute
 pub renumbered-turned : (r : Renumbering) (c : Chain) → renumbered r (turned c) ≡ turned (renumbered r c)

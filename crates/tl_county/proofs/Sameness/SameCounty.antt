@@ -1,33 +1,22 @@
 -- The county depends neither on the order of the records, nor on the packing of types 2 and 4, nor on the choice of RTSQs.
 use Rattle.std.proofs.Common.{◌≡◌, ◌≤◌, ℕ, nat_lt, ◌==◌, List, [], ◌∷◌, ◌++◌, map, flat_map, filter, length, false}
 use Rattle.std.proofs.Common.{is_eq, sym, ap, ◌∙◌, arith, nat_cmp, IsPermutation}
-use Rattle.std.proofs.lemmas.Bool.{ltb-false}
-use Rattle.std.specs.Ordering.{on}
-use Rattle.tl_layout.specs.Fields.{Fields1, Fields2, Fields4, Fields5, Fields6, Fields7, FieldsI, FieldsP}
-use Rattle.tl_layout.specs.declared.record_type.Record.{Record}
-use Rattle.tl_county.specs.declared.fault.LinkFault.TheVariants.{ChainTwice, SequenceBroken, LinkTwice}
-use Rattle.tl_county.specs.declared.fault.LinkFault.TheVariants.{NameTwice, PolygonTwice}
+use Rattle.tl_county.proofs.Common.{ChainTwice, Fields1, Fields2, Fields4, Fields5, Fields6, Fields7, FieldsI, FieldsP, IsLinked, LinkTwice}
+use Rattle.tl_county.proofs.Common.{NameTwice, PolygonKey, PolygonTwice, Record, RecordType, SameElements, SequenceBroken, Type1, Type2}
+use Rattle.tl_county.proofs.Common.{Type4, Type5, Type6, Type7, Type8, TypeI, TypeP, apart_from_no_repeat, chain_of, chain_tlids, chains_of}
+use Rattle.tl_county.proofs.Common.{count-map, county_of, distinct, distinct_same, first, five_feat, four_rtsq, four_tlid, has_repeat}
+use Rattle.tl_county.proofs.Common.{i_tlid, in_order, key_cmp, key_keys, landmark_body_cmp, landmark_body_keys, ltb-false}
+use Rattle.tl_county.proofs.Common.{map_agree_everywhere, nat_keys, of_number, of_type, of_type_1, of_type_2, of_type_4, of_type_5}
+use Rattle.tl_county.proofs.Common.{of_type_6, of_type_7, of_type_8, of_type_i, of_type_p, on, one_tlid, p_key, polygon_body, polygons_of}
+use Rattle.tl_county.proofs.Common.{seven_land, side_keys, six_rtsq, six_tlid, times, two_rtsq, two_tlid}
 use Rattle.tl_county.specs.declared.fault.SequencedType.TheVariants as sequenced
-use Rattle.tl_county.specs.BodyOrder.{landmark_body_cmp}
-use Rattle.tl_layout.specs.ByType.{of_type_1, of_type_2, of_type_4, of_type_5, of_type_6, of_type_7, of_type_8}
-use Rattle.tl_layout.specs.RecordTypes.{RecordType, Type1, Type2, Type4, Type5, Type6, Type7, Type8, TypeI, TypeP, of_type}
-use Rattle.tl_layout.specs.ByType.{of_type_i, of_type_p, of_number}
-use Rattle.tl_county.specs.County.{one_tlid, two_tlid, two_rtsq, four_tlid, four_rtsq, five_feat, six_tlid, six_rtsq, seven_land}
-use Rattle.tl_county.specs.County.{i_tlid, p_key, chain_of, chains_of, side_keys, first, polygon_body}
-use Rattle.tl_county.specs.County.{polygons_of, landmarks_of, county_of}
-use Rattle.tl_county.specs.LinkRules.{chain_tlids, IsLinked}
-use Rattle.ordered_lists.specs.Orders.{times, has_repeat, in_order, distinct}
-use Rattle.tl_county.specs.PolygonKeys.{PolygonKey, key_cmp}
+use Rattle.tl_county.specs.County.{landmarks_of}
 use Rattle.tl_county.proofs.Sameness.SameChains.{chains_alike}
 use Rattle.tl_county.proofs.Sameness.SameRules.{keys_alike, same_of_type, same_in_type, same-linked}
-use Rattle.ordered_lists.proofs.Lists.Distinct.{apart_from_no_repeat}
-use Rattle.tl_county.specs.Laws.KeyOrders.{key_keys, landmark_body_keys, link_keys}
-use Rattle.ordered_lists.proofs.ByKey.Keys.{nat_keys}
-use Rattle.ordered_lists.proofs.Lists.Elements.{map_agree_everywhere}
+use Rattle.tl_county.specs.Laws.KeyOrders.{link_keys}
 use Rattle.tl_county.proofs.Lists.OfNumber.{times-of_number}
-use Rattle.ordered_lists.proofs.ByKey.Numbers.{count-map}
-use Rattle.ordered_lists.proofs.Lists.Reordered.{SameElements, from_permutation, same-filter, same-map, times-same}
-use Rattle.ordered_lists.proofs.Lists.Reordered.{few_same, numbered_same, ordered_same, distinct_same}
+use Rattle.ordered_lists.proofs.Lists.Reordered.{from_permutation, same-filter, same-map, times-same}
+use Rattle.ordered_lists.proofs.Lists.Reordered.{few_same, numbered_same, ordered_same}
 
 module _ (xs ys : List Record) (p : IsPermutation xs ys) (linked : IsLinked xs) where
   s_all : SameElements xs ys

@@ -1,32 +1,20 @@
 -- Lists with the same records break the same rules at the same places.
 use Rattle.std.proofs.Common.{◌≡◌, ◌⊎◌, ℕ, nat_lt, ◌==◌, List, ◌++◌, map, flat_map, Bool, true, false, not, ◌&&◌}
 use Rattle.std.proofs.Common.{sym, refl, ap, ap₂, ◌∙◌, subst, inl, inr, nat_cmp}
-use Rattle.std.proofs.lemmas.Bool.{false≢true}
-use Rattle.tl_layout.specs.ByType.{of_type_2, of_type_4, of_type_5, of_type_6, of_type_7, of_type_8}
-use Rattle.tl_layout.specs.ByType.{of_type_i, of_type_p, of_number}
-use Rattle.tl_layout.specs.RecordTypes.{RecordType, Type1, Type2, Type4, Type5, Type6, Type7, Type8, TypeI, TypeP, FieldsOf, as_type, of_type}
-use Rattle.tl_layout.specs.Fields.{Fields4, FieldsI, FieldsP}
-use Rattle.tl_layout.specs.declared.record_type.Record.{Record}
-use Rattle.tl_county.specs.declared.fault.LinkFault.{LinkFault}
-use Rattle.tl_county.specs.declared.fault.LinkFault.TheVariants.{ChainTwice, NoChain, SequenceBroken, LinkMissing, LinkTwice}
-use Rattle.tl_county.specs.declared.fault.LinkFault.TheVariants.{NameTwice, NameUnknown, PolygonTwice, LandUnknown}
-use Rattle.tl_county.specs.declared.fault.LinkFault.TheVariants.{PolygonUnknown, Memory}
-use Rattle.tl_county.specs.declared.fault.LinkedType.{LinkedType}
-use Rattle.tl_county.specs.declared.fault.LinkedType.TheVariants.{Two, Four, Six, I}
+use Rattle.tl_county.proofs.Common.{Among, ChainTwice, Fields4, FieldsI, FieldsP, Four, I, IsFirstBrokenRule, IsLinked, Known, LandUnknown}
+use Rattle.tl_county.proofs.Common.{LinkFault, LinkMissing, LinkTwice, LinkedType, Memory, NameTwice, NameUnknown, NoChain, PolygonKey}
+use Rattle.tl_county.proofs.Common.{PolygonTwice, PolygonUnknown, Record, RecordType, SameElements, SequenceBroken, Six, Two, Type1, Type2}
+use Rattle.tl_county.proofs.Common.{Type4, Type5, Type6, Type7, Type8, TypeI, TypeP, among-map, among-pieces, among-unmap, among_known}
+use Rattle.tl_county.proofs.Common.{apart_from_no_repeat, as_type, chain_tlids, eight_land, false≢true, five_feat, four_rtsq, four_tlid}
+use Rattle.tl_county.proofs.Common.{has_repeat, has_repeat-apart, i_tlid, is_rule_broken, key_cmp, key_keys, known-append, known-left}
+use Rattle.tl_county.proofs.Common.{known-right, known_is_among, link_key, linked_tlids, named_feats, nat_keys, of_number, of_type}
+use Rattle.tl_county.proofs.Common.{of_type_2, of_type_4, of_type_5, of_type_6, of_type_7, of_type_8, of_type_i, of_type_p, one_tlid, p_key}
+use Rattle.tl_county.proofs.Common.{rtsqs, seven_land, side_keys, six_rtsq, six_tlid, stands_alike, stands_in, two_rtsq, two_tlid}
+use Rattle.tl_layout.specs.RecordTypes.{FieldsOf}
 use Rattle.tl_county.specs.declared.fault.SequencedType.TheVariants as sequenced
-use Rattle.tl_county.specs.County.{one_tlid, two_tlid, two_rtsq, four_tlid, four_rtsq, five_feat, six_tlid, six_rtsq, seven_land}
-use Rattle.tl_county.specs.County.{eight_land, link_key, i_tlid, p_key, side_keys}
-use Rattle.tl_county.specs.LinkRules.{chain_tlids, linked_tlids, rtsqs, named_feats, is_rule_broken, IsLinked, IsFirstBrokenRule}
-use Rattle.ordered_lists.specs.Orders.{stands_in, has_repeat}
-use Rattle.tl_county.specs.PolygonKeys.{PolygonKey, key_cmp}
 use Rattle.tl_county.proofs.Sameness.Carried.{among-unpieces}
-use Rattle.ordered_lists.proofs.Lists.Distinct.{has_repeat-apart, apart_from_no_repeat}
-use Rattle.ordered_lists.proofs.Lists.Among.{Among}
-use Rattle.tl_county.specs.Laws.KeyOrders.{key_keys}
-use Rattle.ordered_lists.proofs.ByKey.Keys.{Known, nat_keys, known-left, known-right, known-append}
-use Rattle.ordered_lists.proofs.Lists.Members.{among-pieces, among_known, known_is_among, among-map, among-unmap}
-use Rattle.ordered_lists.proofs.Lists.Reordered.{SameElements, same-filter_map, same-filter, same-map, times-same}
-use Rattle.ordered_lists.proofs.Lists.Reordered.{apart-same, stands_alike}
+use Rattle.ordered_lists.proofs.Lists.Reordered.{same-filter_map, same-filter, same-map, times-same}
+use Rattle.ordered_lists.proofs.Lists.Reordered.{apart-same}
 
 -- the same, seen from the other list
 pub same-sym : {X : Type 0} (xs ys : List X) → SameElements xs ys → SameElements ys xs

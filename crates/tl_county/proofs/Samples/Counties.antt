@@ -1,13 +1,10 @@
 -- Small counties that try out the definitions.
 use Rattle.std.proofs.Common.{ℕ, ◌-◌, ◌+◌, ◌*◌, List, [], ◌∷◌, ◌++◌, length, replicate, codes, Option, Some, None, pos, negsuc}
-use Rattle.tl_layout.specs.Coordinates.{Coordinates}
+use Rattle.tl_county.proofs.Common.{Body5, Coordinates, Eight, Five, One, P, Ranges, Record, Seven}
 use Rattle.tl_layout.specs.PolygonSide.{PolygonSide}
-use Rattle.tl_layout.specs.declared.ranges.Ranges.{Ranges}
 use Rattle.tl_layout.specs.declared.type1.fields.Body1Fields.{Body1Fields}
-use Rattle.tl_layout.specs.declared.type5.Body5.{Body5}
 use Rattle.tl_layout.specs.declared.type_i.BodyI.{BodyI}
-use Rattle.tl_layout.specs.declared.record_type.Record.{Record}
-use Rattle.tl_layout.specs.declared.record_type.Record.TheVariants.{One, Two, Four, Five, Seven, Eight, I, P}
+use Rattle.tl_layout.specs.declared.record_type.Record.TheVariants.{Two, Four, I}
 
 abbrev pub blanks : ℕ → List ℕ
 blanks n = replicate n 32

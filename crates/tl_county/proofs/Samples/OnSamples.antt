@@ -1,20 +1,13 @@
 -- The definitions applied to the samples: their counties, the renamings that carry, and the refusal of a list of records.
 use Rattle.std.proofs.Common.{◌≡◌, ℕ, List, [], ◌∷◌, ◌++◌, map, length, Bool, true, false, Some, sym, refl, ap, ◌∙◌, arith}
 use Rattle.std.proofs.Common.{IsPermutation, codes, ◌==◌, ◌&&◌, ◌⊎◌, inl, inr, slice_index, lit<, nat_cmp}
-use Rattle.std.proofs.lemmas.Bool.{false≢true}
-use Rattle.std.proofs.lemmas.List.Sorted.{IsPermutation-refl, length_permutation}
-use Rattle.tl_layout.specs.declared.type7.Body7.{Body7}
-use Rattle.tl_county.specs.declared.fault.LinkFault.TheVariants.{ChainTwice, SequenceBroken, NameUnknown, PolygonUnknown}
+use Rattle.tl_county.proofs.Common.{Body7, Carries, Chain, ChainTwice, IsFirstBrokenRule, IsLinked, IsPermutation-refl, NameUnknown}
+use Rattle.tl_county.proofs.Common.{PolygonUnknown, Renumbering, SequenceBroken, among-permutation, carried_chain, county_of, false≢true}
+use Rattle.tl_county.proofs.Common.{image, nodes, polygon_keys, renumbered, turned_if, turns}
+use Rattle.std.proofs.lemmas.List.Sorted.{length_permutation}
 use Rattle.tl_county.specs.declared.fault.SequencedType.TheVariants as sequenced
-use Rattle.tl_county.specs.County.{county_of}
-use Rattle.tl_county.specs.CountyRules.{polygon_keys, nodes}
-use Rattle.tl_county.specs.LinkRules.{IsLinked, IsFirstBrokenRule}
-use Rattle.tl_shape.specs.Chain.{Chain}
-use Rattle.tl_county.specs.Renumbering.{Renumbering, Carries, AreSame, carried_chain, renumbered, turns}
-use Rattle.ordered_lists.specs.Pairs.{image}
+use Rattle.tl_county.specs.Renumbering.{AreSame}
 use Rattle.tl_layout.specs.Turned.{turned_body}
-use Rattle.tl_shape.specs.Turned.{turned_if}
-use Rattle.ordered_lists.proofs.Lists.Members.{among-permutation}
 use Rattle.tl_county.proofs.Rules.LinkFaults.{linked_computed, first_rule_computed}
 use Rattle.tl_county.proofs.Samples.Counties.{filled, right, street, ranges_back, east_end, street_there, street_back, west_end, topology}
 use Rattle.tl_county.proofs.Samples.Counties.{no_side, cenid_1, cenid_2, there, back, back_wrong, back_shaped, there_shaped}

@@ -1,14 +1,8 @@
 use Rattle.std.proofs.Common.{◌≡◌, map, length, sym, ap, ◌∙◌, subst, nat_cmp}
+use Rattle.tl_county.proofs.Common.{IsInOrder, chains_along, entries-equal, four_tlid, keys-map_values, keys-zip, length-map, map_values}
+use Rattle.tl_county.proofs.Common.{on, one_tlid, six_tlid, two_tlid, typed_of, values-map_values, values-zip}
 use Rattle.std.specs.List.Sorted.{IsStrictlySortedBy}
-use Rattle.std.specs.Ordering.{on}
-use Rattle.std.proofs.lemmas.List.{length-map}
-use Rattle.ordered_lists.specs.Entries.{map_values}
-use Rattle.tl_county.specs.Building.{chains_along}
-use Rattle.tl_county.specs.County.{one_tlid, two_tlid, four_tlid, six_tlid}
-use Rattle.tl_county.specs.OrderedTables.{typed_of}
-use Rattle.ordered_lists.specs.Orders.{IsInOrder}
 use Rattle.tl_county.proofs.Rules.BuiltTables.{twos-in_order, fours-in_order, sixes-in_order, tlids-ascend, beside, length-chains_along}
-use Rattle.ordered_lists.proofs.Lists.EntryLists.{entries-equal, keys-zip, values-zip, keys-map_values, values-map_values}
 use Rattle.tl_county.proofs.linking.build_chains.Goals as goal
 
 pub chains_of_records-requires : goal.chains_of_records-requires

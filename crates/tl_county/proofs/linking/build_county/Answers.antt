@@ -1,14 +1,8 @@
 use Rattle.std.proofs.Common.{◌≡◌, map, length, sym, ap, ◌∙◌, subst, nat_cmp}
-use Rattle.std.proofs.lemmas.List.{length-map}
+use Rattle.tl_county.proofs.Common.{Fields5, IsCounty, IsWithinLimits, LinksUnderLands, county_along, five_feat, length-map, map_values}
+use Rattle.tl_county.proofs.Common.{most_records, nodes, typed_of}
 use Rattle.std.specs.List.Sorted.{IsStrictlySortedBy}
-use Rattle.tl_layout.specs.Fields.{Fields5}
-use Rattle.tl_county.specs.Building.{county_along}
-use Rattle.tl_county.specs.County.{five_feat}
-use Rattle.tl_county.specs.CountyRules.{IsCounty, nodes}
-use Rattle.ordered_lists.specs.Entries.{map_values}
-use Rattle.tl_county.specs.StoredCounty.{county_with, LinksUnderLands}
-use Rattle.tl_county.specs.Limits.{IsWithinLimits, most_records}
-use Rattle.tl_county.specs.OrderedTables.{typed_of}
+use Rattle.tl_county.specs.StoredCounty.{county_with}
 use Rattle.tl_county.proofs.Rules.BuiltTables.{as_built, built-is_county, feats-ascend, nodes-built, links_under_lands-along}
 use Rattle.tl_county.proofs.Rules.StoredParts.{names-built}
 use Rattle.tl_county.proofs.linking.build_county.Goals as goal

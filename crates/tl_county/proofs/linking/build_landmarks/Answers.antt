@@ -1,16 +1,8 @@
 use Rattle.std.proofs.Common.{◌≡◌, ℕ, List, map, map-id, sym, ap, ◌∙◌, subst, nat_cmp}
+use Rattle.tl_county.proofs.Common.{IsInOrder, distinct, distinct-strict, eight_land, entries-equal, keys-map_values, landmark_of, map-map}
+use Rattle.tl_county.proofs.Common.{map_values, nat_keys, on, seven_land, typed_of, values-map_values}
 use Rattle.std.specs.List.Sorted.{IsStrictlySortedBy}
-use Rattle.std.specs.Ordering.{on}
-use Rattle.tl_county.specs.Building.{landmark_of}
-use Rattle.tl_county.specs.County.{seven_land, eight_land}
-use Rattle.ordered_lists.specs.Entries.{map_values}
-use Rattle.tl_county.specs.OrderedTables.{typed_of}
-use Rattle.ordered_lists.specs.Orders.{IsInOrder, distinct}
 use Rattle.tl_county.proofs.Rules.BuiltTables.{sevens-in_order, eights-in_order}
-use Rattle.ordered_lists.proofs.Lists.EntryLists.{entries-equal, keys-map_values, values-map_values}
-use Rattle.ordered_lists.proofs.ByKey.Keys.{nat_keys}
-use Rattle.ordered_lists.proofs.Lists.Elements.{map-map}
-use Rattle.ordered_lists.proofs.ByKey.Numbers.{distinct-strict}
 use Rattle.tl_county.proofs.linking.build_landmarks.Goals as goal
 
 pub lands_of-requires : goal.lands_of-requires

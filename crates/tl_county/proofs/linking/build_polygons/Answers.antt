@@ -1,13 +1,7 @@
 use Rattle.std.proofs.Common.{List, ◌++◌, map, flat_map, map-id, sym, ◌∙◌, subst}
+use Rattle.tl_county.proofs.Common.{PolygonKey, distinct, distinct-strict, entries-equal, key_cmp, key_keys, map-map, p_key}
+use Rattle.tl_county.proofs.Common.{polygon_body_of, side_keys}
 use Rattle.std.specs.List.Sorted.{IsStrictlySortedBy}
-use Rattle.tl_county.specs.Building.{polygon_body_of}
-use Rattle.tl_county.specs.County.{p_key, side_keys}
-use Rattle.ordered_lists.specs.Orders.{distinct}
-use Rattle.tl_county.specs.PolygonKeys.{PolygonKey, key_cmp}
-use Rattle.ordered_lists.proofs.Lists.EntryLists.{entries-equal}
-use Rattle.tl_county.specs.Laws.KeyOrders.{key_keys}
-use Rattle.ordered_lists.proofs.Lists.Elements.{map-map}
-use Rattle.ordered_lists.proofs.ByKey.Numbers.{distinct-strict}
 use Rattle.tl_county.proofs.linking.build_polygons.Goals as goal
 
 pub polygon_bodies-requires-clause-polygons : goal.polygon_bodies-requires-clause-polygons

@@ -1,10 +1,8 @@
 use Rattle.std.proofs.Common.{ℕ, List, Result, Ok, Err, OnOk, IfErr, MatchResult, sym, subst, arith}
+use Rattle.tl_county.proofs.Common.{IsFirstBrokenRule, IsLinked, LinkFault, Record, RulesHold}
 use Rattle.std.proofs.lemmas.Result.{err_from_is_err_and}
-use Rattle.tl_layout.specs.declared.record_type.Record.{Record}
-use Rattle.tl_county.specs.declared.fault.LinkFault.{LinkFault}
-use Rattle.tl_county.specs.LinkRules.{IsFirstBrokenRule, IsLinked}
 use Rattle.tl_county.specs.RepeatedKeys.{AreLeastRepeated}
-use Rattle.tl_county.specs.RuleOrder.{RulesHold, IsFirstFrom}
+use Rattle.tl_county.specs.RuleOrder.{IsFirstFrom}
 use Rattle.tl_county.proofs.Rules.RuleOrders.{rules-join, first-after, all_hold, first_of_all}
 use Rattle.tl_county.proofs.linking.check_rules.Goals as goal
 

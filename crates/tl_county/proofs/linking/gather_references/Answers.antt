@@ -1,7 +1,5 @@
 use Rattle.std.proofs.Common.{nat_cmp, sym, subst}
-use Rattle.tl_county.specs.County.{five_feat}
-use Rattle.ordered_lists.specs.Orders.{IsInOrder}
-use Rattle.ordered_lists.proofs.Lists.InOrder.{in_order-map}
+use Rattle.tl_county.proofs.Common.{IsInOrder, five_feat, in_order-map}
 use Rattle.tl_county.proofs.linking.gather_references.Goals as goal
 
 pub unnamed_use-requires : goal.unnamed_use-requires

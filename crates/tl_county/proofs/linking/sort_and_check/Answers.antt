@@ -1,13 +1,8 @@
 use Rattle.std.proofs.Common.{◌≢◌, List}
+use Rattle.tl_county.proofs.Common.{IsFirstBrokenRule, Memory, Record, by_type_of, type_after_type, typed_of}
 use Rattle.tl_layout.proofs.Exits.{exit_with}
 use Rattle.tl_layout.specs.Tables.{HoldsByType}
-use Rattle.tl_layout.specs.declared.record_type.Record.{Record}
-use Rattle.tl_county.specs.LinkRules.{IsFirstBrokenRule}
-use Rattle.tl_county.specs.OrderedTables.{typed_of}
-use Rattle.tl_county.specs.Packing.{type_after_type}
-use Rattle.tl_county.specs.declared.fault.LinkFault.TheVariants.{Memory}
 use Rattle.tl_county.proofs.Rules.BuiltTables.{also_first, held}
-use Rattle.tl_county.specs.Laws.PackedTypes.{by_type_of}
 use Rattle.tl_county.proofs.linking.sort_and_check.Goals as goal
 
 pub returns-clause-linked : goal.returns-clause-linked

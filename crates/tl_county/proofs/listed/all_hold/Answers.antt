@@ -1,5 +1,5 @@
 use Rattle.std.proofs.Common.{IfSome, true, false, arith, refl, rules, slice_get, sym}
-use Rattle.std.proofs.lemmas.Bool.{false≢true}
+use Rattle.tl_county.proofs.Common.{false≢true}
 use Rattle.std.specs.Bool.{Decides}
 use Rattle.std.proofs.lemmas.Iterator.{YieldsList-from_range, cases_from_all}
 use Rattle.ordered_lists.proofs.Lists.ByPlace.{places_decide}

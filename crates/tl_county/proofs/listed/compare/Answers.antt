@@ -1,6 +1,6 @@
 use Rattle.std.proofs.Common.{◌≡◌, ◌≤◌, ◌⊎◌, inl, inr, length, sym, ap₂, ◌∙◌, arith, nat_cmp}
+use Rattle.tl_county.proofs.Common.{slice_cmp}
 use Rattle.tl_county.proofs.Lists.Compared.{at_unequal, after_equal, at_end}
-use Rattle.std.specs.Cmp.Lexicographic.{slice_cmp}
 use Rattle.tl_county.proofs.listed.compare.Goals.{then-count-other_count, else-count-other_count}
 use Rattle.tl_county.proofs.listed.compare.Goals as goal
 

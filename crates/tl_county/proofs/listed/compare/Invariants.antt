@@ -1,6 +1,6 @@
 -- The items so far are the same, so the rest decides.
 use Rattle.std.proofs.Common.{◌≡◌, drop}
-use Rattle.std.specs.Cmp.Lexicographic.{slice_cmp}
+use Rattle.tl_county.proofs.Common.{slice_cmp}
 use Rattle.tl_county.proofs.listed.compare.Given as goal
 
 abbrev pub invariant-loop-place : goal.invariant-loop-place

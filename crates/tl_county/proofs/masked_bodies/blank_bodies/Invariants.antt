@@ -1,6 +1,6 @@
 -- The contents so far are under the mask, and the others stand as they stood.
 use Rattle.std.proofs.Common.{◌≡◌, ◌++◌, map, take, drop}
-use Rattle.tl_layout.specs.Masked.{masked_body_7}
+use Rattle.tl_county.proofs.Common.{masked_body_7}
 use Rattle.tl_county.proofs.masked_bodies.blank_bodies.Given as goal
 
 abbrev pub invariant-loop-body : goal.invariant-loop-body

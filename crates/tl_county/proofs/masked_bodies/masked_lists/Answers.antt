@@ -1,8 +1,7 @@
 use Rattle.std.proofs.Common.{◌∷◌, [], ◌++◌, take, ap, refl, sym, ◌∙◌, arith}
+use Rattle.tl_county.proofs.Common.{entry_values, masked, masked_bodies}
 use Rattle.tl_county.specs.ChartWords.{bodies_at}
-use Rattle.ordered_lists.specs.Entries.{entry_values}
 use Rattle.ordered_lists.proofs.Lists.Places.{one_more_taken}
-use Rattle.tl_county.specs.MaskedCounty.{masked, masked_bodies}
 use Rattle.tl_county.proofs.Masks.MaskedReads.{masked_value_there, masked_values_count}
 use Rattle.ordered_lists.proofs.Lists.ByPlace.{taken_all}
 use Rattle.tl_county.proofs.masked_bodies.masked_lists.Goals as goal

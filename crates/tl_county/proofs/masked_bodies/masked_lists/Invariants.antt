@@ -1,6 +1,5 @@
 use Rattle.std.proofs.Common.{◌≡◌, take}
-use Rattle.ordered_lists.specs.Entries.{entry_values}
-use Rattle.tl_county.specs.MaskedCounty.{masked}
+use Rattle.tl_county.proofs.Common.{entry_values, masked}
 use Rattle.tl_county.proofs.masked_bodies.masked_lists.Given as goal
 
 abbrev pub invariant-loop-place : goal.invariant-loop-place

@@ -1,8 +1,6 @@
 use Rattle.std.proofs.Common.{is_lt, rules}
-use Rattle.std.proofs.lemmas.Fn.{always_returns_same}
+use Rattle.tl_county.proofs.Common.{always_returns_same, landmark_body_cmp, landmark_body_keys}
 use Rattle.std.proofs.lemmas.List.Sorted.{ranks_by}
-use Rattle.tl_county.specs.BodyOrder.{landmark_body_cmp}
-use Rattle.tl_county.specs.Laws.KeyOrders.{landmark_body_keys}
 use Rattle.ordered_lists.proofs.ByKey.KeyedLists.{in_order-from_sorted}
 use Rattle.ordered_lists.proofs.Lists.ByPlace.{sorted_in_order}
 use Rattle.tl_county.proofs.masked_bodies.sort_bodies.Goals as goal

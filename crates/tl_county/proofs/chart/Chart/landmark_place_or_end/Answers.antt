@@ -1,9 +1,7 @@
 use Rattle.std.proofs.Common.{[], ap, ◌∙◌, slice_get, unwrap_or}
-use Rattle.tl_county.specs.ChartWords.{links_with}
-use Rattle.tl_county.specs.CountyRules.{lands}
-use Rattle.ordered_lists.proofs.ByKey.Keys.{nat_keys}
+use Rattle.tl_county.proofs.Common.{lands, links_with, nat_keys, value-stated}
 use Rattle.tl_county.proofs.Lists.LinkPlaces.{links-at_or_end}
-use Rattle.ordered_lists.proofs.Lists.Places.{length_keys, value-stated}
+use Rattle.ordered_lists.proofs.Lists.Places.{length_keys}
 use Rattle.tl_county.proofs.chart.Chart.landmark_place_or_end.Goals as goal
 
 pub returns-clause-bodies : goal.returns-clause-bodies

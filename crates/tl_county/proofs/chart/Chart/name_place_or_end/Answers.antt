@@ -1,5 +1,4 @@
-use Rattle.ordered_lists.proofs.ByKey.Keys.{nat_keys}
-use Rattle.ordered_lists.proofs.Lists.Places.{value-stated}
+use Rattle.tl_county.proofs.Common.{nat_keys, value-stated}
 use Rattle.tl_county.proofs.chart.Chart.name_place_or_end.Goals as goal
 
 pub returns : goal.returns

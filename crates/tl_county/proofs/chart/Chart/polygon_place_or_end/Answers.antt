@@ -1,5 +1,4 @@
-use Rattle.tl_county.specs.Laws.KeyOrders.{key_keys}
-use Rattle.ordered_lists.proofs.Lists.Places.{value-stated}
+use Rattle.tl_county.proofs.Common.{key_keys, value-stated}
 use Rattle.tl_county.proofs.chart.Chart.polygon_place_or_end.Goals as goal
 
 pub returns : goal.returns

@@ -1,7 +1,6 @@
 use Rattle.std.proofs.Common.{rules}
-use Rattle.std.specs.Ordering.{is_lt, on}
-use Rattle.std.proofs.lemmas.Fn.{always_returns_same}
-use Rattle.ordered_lists.proofs.ByKey.Keys.{IsKeyOrder}
+use Rattle.tl_county.proofs.Common.{IsKeyOrder, always_returns_same, on}
+use Rattle.std.specs.Ordering.{is_lt}
 use Rattle.ordered_lists.proofs.ByKey.KeysAscend.{ascend-apart, ascend-in_order}
 use Rattle.tl_county.proofs.keys.keyed.are_ascending.Goals as goal
 

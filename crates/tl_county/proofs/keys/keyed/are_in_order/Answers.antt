@@ -1,7 +1,6 @@
 use Rattle.std.proofs.Common.{rules}
-use Rattle.std.specs.Ordering.{is_le, on}
-use Rattle.std.proofs.lemmas.Cmp.{on_total}
-use Rattle.std.proofs.lemmas.Fn.{always_returns_same}
+use Rattle.tl_county.proofs.Common.{always_returns_same, on, on_total}
+use Rattle.std.specs.Ordering.{is_le}
 use Rattle.ordered_lists.proofs.ByKey.KeyedLists.{answered-in_order, in_order-from_adjacent}
 use Rattle.tl_county.proofs.keys.keyed.are_in_order.Goals as goal
 

@@ -1,7 +1,6 @@
 use Rattle.std.proofs.Common.{◌≡◌, [], ◌∷◌, ◌++◌, false, is_gt, map, sym, ap, ◌∙◌, subst}
+use Rattle.tl_county.proofs.Common.{AllByRecursion, IsInOrder}
 use Rattle.std.proofs.lemmas.List.{take_all}
-use Rattle.std.specs.List.{AllByRecursion}
-use Rattle.ordered_lists.specs.Orders.{IsInOrder}
 use Rattle.ordered_lists.proofs.ByKey.KeysInOrder.{at_most-then, in_order-then, in_order-unmap, keys-then}
 use Rattle.tl_county.proofs.keys.keyed.keys_in_order.Goals as goal
 

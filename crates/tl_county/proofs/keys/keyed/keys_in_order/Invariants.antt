@@ -1,7 +1,6 @@
 use Rattle.std.proofs.Common.{◌≡◌, false, map, take}
-use Rattle.std.specs.List.{AllByRecursion}
+use Rattle.tl_county.proofs.Common.{AllByRecursion, IsInOrder}
 use Rattle.std.specs.Ordering.{is_gt}
-use Rattle.ordered_lists.specs.Orders.{IsInOrder}
 use Rattle.tl_county.proofs.keys.keyed.keys_in_order.Given as goal
 
 abbrev pub invariant-loop-item : goal.invariant-loop-item

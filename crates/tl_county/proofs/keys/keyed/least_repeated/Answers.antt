@@ -1,9 +1,6 @@
 use Rattle.std.proofs.Common.{◌≡◌, [], ◌∷◌, map, true, false, is_eq, ap, ◌∙◌, subst}
-use Rattle.ordered_lists.specs.Keyed.{is_repeated}
-use Rattle.std.specs.Ordering.{on}
-use Rattle.ordered_lists.specs.Orders.{IsInOrder}
-use Rattle.ordered_lists.proofs.ByKey.Keys.{IsKeyOrder}
-use Rattle.ordered_lists.proofs.ByKey.KeyedLists.{decided-twice, left-once, left-one, empty_list}
+use Rattle.tl_county.proofs.Common.{IsInOrder, IsKeyOrder, empty_list, is_repeated, on}
+use Rattle.ordered_lists.proofs.ByKey.KeyedLists.{decided-twice, left-once, left-one}
 use Rattle.tl_county.proofs.keys.keyed.least_repeated.Goals as goal
 
 pub returns-then-is_eq : goal.returns-then-is_eq

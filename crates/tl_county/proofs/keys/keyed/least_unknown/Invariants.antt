@@ -1,7 +1,5 @@
 use Rattle.std.proofs.Common.{◌≡◌, ◌+◌, map, length}
-use Rattle.std.specs.Ordering.{on}
-use Rattle.ordered_lists.specs.Keyed.{is_unknown}
-use Rattle.ordered_lists.specs.Orders.{IsInOrder}
+use Rattle.tl_county.proofs.Common.{IsInOrder, is_unknown, on}
 use Rattle.tl_county.proofs.keys.keyed.least_unknown.Given as goal
 
 abbrev pub invariant-loop-first : goal.invariant-loop-first

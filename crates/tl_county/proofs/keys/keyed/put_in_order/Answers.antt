@@ -1,7 +1,5 @@
 use Rattle.std.proofs.Common.{rules}
-use Rattle.std.proofs.lemmas.Cmp.{on_total}
-use Rattle.std.proofs.lemmas.Fn.{always_returns_same}
-use Rattle.std.proofs.lemmas.Result.{on_ok_weaker}
+use Rattle.tl_county.proofs.Common.{always_returns_same, on_ok_weaker, on_total}
 use Rattle.ordered_lists.proofs.ByKey.KeyedLists.{in_order-from_sorted}
 use Rattle.tl_county.proofs.keys.keyed.put_in_order.Goals as goal
 

@@ -1,4 +1,4 @@
-use Rattle.std.proofs.lemmas.List.Sorted.{IsPermutation-trans}
+use Rattle.tl_county.proofs.Common.{IsPermutation-trans}
 use Rattle.tl_county.proofs.keys.keyed.put_in_order_with_numbers.Goals as goal
 
 pub returns-clause-permutation : goal.returns-clause-permutation

@@ -1,5 +1,5 @@
 use Rattle.std.proofs.Common.{ap, ◌∙◌, drop, take}
-use Rattle.ordered_lists.proofs.ByKey.Keys.{IsKeyOrder}
+use Rattle.tl_county.proofs.Common.{IsKeyOrder}
 use Rattle.ordered_lists.proofs.ByKey.KeyedLists.{group_cut}
 use Rattle.tl_county.proofs.keys.keyed.split_group.Goals as goal
 

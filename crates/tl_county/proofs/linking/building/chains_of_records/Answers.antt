@@ -1,12 +1,7 @@
 use Rattle.std.proofs.Common.{◌≡◌, ◌∷◌, ◌++◌, map, is_gt, sym, ◌∙◌, subst, nat_cmp}
+use Rattle.tl_county.proofs.Common.{IsInOrder, chains_along, four_tlid, in_order-filter, on, one_tlid, six_tlid, strict_tail, two_tlid}
 use Rattle.std.specs.List.Sorted.{IsStrictlySortedBy}
-use Rattle.std.specs.Ordering.{on}
-use Rattle.ordered_lists.specs.Orders.{IsInOrder}
-use Rattle.ordered_lists.proofs.ByKey.KeyedLists.{in_order-filter}
-use Rattle.tl_county.specs.Building.{chains_along}
-use Rattle.tl_county.specs.County.{one_tlid, two_tlid, four_tlid, six_tlid}
 use Rattle.tl_county.proofs.Lists.Groups.{chains-step}
-use Rattle.ordered_lists.proofs.Lists.Groups.{strict_tail}
 use Rattle.tl_county.proofs.linking.building.chains_of_records.Goals as goal
 
 pub loop-head-preserved : goal.loop-head-preserved

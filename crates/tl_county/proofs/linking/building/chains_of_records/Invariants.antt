@@ -1,9 +1,6 @@
 use Rattle.std.proofs.Common.{◌≡◌, ◌++◌, map, length, nat_cmp}
+use Rattle.tl_county.proofs.Common.{IsInOrder, chains_along, four_tlid, on, one_tlid, six_tlid, two_tlid}
 use Rattle.std.specs.List.Sorted.{IsStrictlySortedBy}
-use Rattle.std.specs.Ordering.{on}
-use Rattle.tl_county.specs.Building.{chains_along}
-use Rattle.tl_county.specs.County.{one_tlid, two_tlid, four_tlid, six_tlid}
-use Rattle.ordered_lists.specs.Orders.{IsInOrder}
 use Rattle.tl_county.proofs.linking.building.chains_of_records.Given as goal
 
 abbrev pub invariant-loop-head : goal.invariant-loop-head

@@ -1,7 +1,5 @@
 use Rattle.std.proofs.Common.{◌≡◌, ◌++◌, flat_map, take}
-use Rattle.std.specs.List.{AllByRecursion}
-use Rattle.tl_layout.specs.Fields.{Fields4}
-use Rattle.tl_layout.specs.Numbers.{IsNumber}
+use Rattle.tl_county.proofs.Common.{AllByRecursion, Fields4, IsNumber}
 use Rattle.tl_county.proofs.linking.building.join_feats.Given as goal
 
 abbrev pub invariant-loop-names : goal.invariant-loop-names

@@ -1,7 +1,5 @@
 use Rattle.std.proofs.Common.{rules, tests}
-use Rattle.std.proofs.lemmas.Iterator.{YieldsList-from_map, YieldsList-from_slice}
-use Rattle.std.proofs.lemmas.Iterator.Adapters.{items_from_extend}
-use Rattle.tl_layout.specs.Fields.{Fields6}
+use Rattle.tl_county.proofs.Common.{Fields6, YieldsList-from_map, YieldsList-from_slice, items_from_extend}
 use Rattle.tl_county.proofs.linking.building.join_ranges.Goals as goal
 
 pub returns : goal.returns

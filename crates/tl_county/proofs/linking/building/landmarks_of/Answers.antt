@@ -1,13 +1,7 @@
 use Rattle.std.proofs.Common.{◌≡◌, [], ◌∷◌, ◌++◌, map, is_gt, refl, sym, ap, ◌∙◌, subst, nat_cmp}
-use Rattle.std.proofs.lemmas.List.{map-append}
+use Rattle.tl_county.proofs.Common.{IsInOrder, eight_land, in_order-filter, landmark_of, map-append, on, seven_land, strict_tail}
 use Rattle.std.specs.List.Sorted.{IsStrictlySortedBy}
-use Rattle.std.specs.Ordering.{on}
-use Rattle.ordered_lists.specs.Orders.{IsInOrder}
-use Rattle.ordered_lists.proofs.ByKey.KeyedLists.{in_order-filter}
-use Rattle.tl_county.specs.Building.{landmark_of}
-use Rattle.tl_county.specs.County.{seven_land, eight_land}
 use Rattle.tl_county.proofs.Lists.Groups.{landmarks-step}
-use Rattle.ordered_lists.proofs.Lists.Groups.{strict_tail}
 use Rattle.tl_county.proofs.linking.building.landmarks_of.Goals as goal
 
 pub loop-land-preserved : goal.loop-land-preserved

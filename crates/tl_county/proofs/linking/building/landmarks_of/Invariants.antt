@@ -1,9 +1,6 @@
 use Rattle.std.proofs.Common.{◌≡◌, ◌++◌, map, length, nat_cmp}
+use Rattle.tl_county.proofs.Common.{IsInOrder, eight_land, landmark_of, on, seven_land}
 use Rattle.std.specs.List.Sorted.{IsStrictlySortedBy}
-use Rattle.std.specs.Ordering.{on}
-use Rattle.tl_county.specs.Building.{landmark_of}
-use Rattle.tl_county.specs.County.{seven_land, eight_land}
-use Rattle.ordered_lists.specs.Orders.{IsInOrder}
 use Rattle.tl_county.proofs.linking.building.landmarks_of.Given as goal
 
 abbrev pub invariant-loop-land : goal.invariant-loop-land

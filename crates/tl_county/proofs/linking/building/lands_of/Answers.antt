@@ -1,10 +1,7 @@
 use Rattle.std.proofs.Common.{is_eq, rules, sym, ap, ◌∙◌, nat_cmp, subst}
+use Rattle.tl_county.proofs.Common.{IsInOrder, distinct, in_order-map, nat_keys, seven_land}
 use Rattle.std.proofs.lemmas.Fn.{dedup_same}
-use Rattle.tl_county.specs.County.{seven_land}
-use Rattle.ordered_lists.specs.Orders.{distinct, IsInOrder}
 use Rattle.tl_county.proofs.Rules.GatheredLists.{dedup-distinct}
-use Rattle.ordered_lists.proofs.Lists.InOrder.{in_order-map}
-use Rattle.ordered_lists.proofs.ByKey.Keys.{nat_keys}
 use Rattle.tl_county.proofs.linking.building.lands_of.Goals as goal
 
 pub returns : goal.returns

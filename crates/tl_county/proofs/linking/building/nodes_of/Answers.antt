@@ -1,8 +1,6 @@
 use Rattle.std.proofs.Common.{◌≡◌, ◌+◌, ◌++◌, flat_map, take, option_to_list, arith}
-use Rattle.std.proofs.lemmas.Grind.{common_steps}
-use Rattle.tl_county.specs.Building.{link_nodes}
+use Rattle.tl_county.proofs.Common.{common_steps, link_nodes, nat_keys}
 use Rattle.tl_county.proofs.ByKey.KeySets.{distinct-two-more}
-use Rattle.ordered_lists.proofs.ByKey.Keys.{nat_keys}
 use Rattle.tl_county.proofs.linking.building.nodes_of.Goals as goal
 
 pub loop-link-preserved : goal.loop-link-preserved

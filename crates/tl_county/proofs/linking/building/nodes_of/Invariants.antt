@@ -1,6 +1,5 @@
 use Rattle.std.proofs.Common.{◌≡◌, flat_map, take, nat_cmp}
-use Rattle.tl_county.specs.Building.{link_nodes}
-use Rattle.ordered_lists.specs.Orders.{distinct}
+use Rattle.tl_county.proofs.Common.{distinct, link_nodes}
 use Rattle.tl_county.proofs.linking.building.nodes_of.Given as goal
 
 abbrev pub invariant-loop-link : goal.invariant-loop-link

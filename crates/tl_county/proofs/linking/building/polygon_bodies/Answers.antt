@@ -1,13 +1,7 @@
 use Rattle.std.proofs.Common.{◌≡◌, ◌∷◌, ◌++◌, map, is_gt, sym, ◌∙◌, subst}
+use Rattle.tl_county.proofs.Common.{IsInOrder, in_order-filter, key_cmp, on, p_key, polygon_body_of, strict_tail}
 use Rattle.std.specs.List.Sorted.{IsStrictlySortedBy}
-use Rattle.std.specs.Ordering.{on}
-use Rattle.ordered_lists.specs.Orders.{IsInOrder}
-use Rattle.ordered_lists.proofs.ByKey.KeyedLists.{in_order-filter}
-use Rattle.tl_county.specs.Building.{polygon_body_of}
-use Rattle.tl_county.specs.County.{p_key}
-use Rattle.tl_county.specs.PolygonKeys.{key_cmp}
 use Rattle.tl_county.proofs.Lists.Groups.{polygons-step}
-use Rattle.ordered_lists.proofs.Lists.Groups.{strict_tail}
 use Rattle.tl_county.proofs.linking.building.polygon_bodies.Goals as goal
 
 pub loop-key-preserved : goal.loop-key-preserved

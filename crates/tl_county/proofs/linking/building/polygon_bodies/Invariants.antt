@@ -1,10 +1,6 @@
 use Rattle.std.proofs.Common.{◌≡◌, ◌++◌, map, length}
+use Rattle.tl_county.proofs.Common.{IsInOrder, key_cmp, on, p_key, polygon_body_of}
 use Rattle.std.specs.List.Sorted.{IsStrictlySortedBy}
-use Rattle.std.specs.Ordering.{on}
-use Rattle.tl_county.specs.Building.{polygon_body_of}
-use Rattle.tl_county.specs.County.{p_key}
-use Rattle.ordered_lists.specs.Orders.{IsInOrder}
-use Rattle.tl_county.specs.PolygonKeys.{key_cmp}
 use Rattle.tl_county.proofs.linking.building.polygon_bodies.Given as goal
 
 abbrev pub invariant-loop-key : goal.invariant-loop-key

@@ -1,8 +1,6 @@
 use Rattle.std.proofs.Common.{[], ◌∷◌, ◌++◌, map, ap, ◌∙◌}
-use Rattle.std.proofs.lemmas.List.{map-append}
-use Rattle.tl_county.specs.County.{two_tlid, four_tlid, six_tlid}
+use Rattle.tl_county.proofs.Common.{four_tlid, later_than, map-append, six_tlid, two_tlid}
 use Rattle.tl_county.proofs.Lists.Groups.{chain-of_groups}
-use Rattle.ordered_lists.proofs.Lists.Groups.{later_than}
 use Rattle.tl_county.proofs.linking.building.push_chain.Goals as goal
 
 pub returns-clause-chains : goal.returns-clause-chains

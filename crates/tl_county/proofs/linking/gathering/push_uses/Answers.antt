@@ -1,6 +1,5 @@
 use Rattle.std.proofs.Common.{rules, tests}
-use Rattle.std.proofs.lemmas.Iterator.{YieldsList-from_map, YieldsList-from_slice}
-use Rattle.std.proofs.lemmas.Iterator.Adapters.{items_from_extend}
+use Rattle.tl_county.proofs.Common.{YieldsList-from_map, YieldsList-from_slice, items_from_extend}
 use Rattle.tl_county.proofs.linking.gathering.push_uses.Goals as goal
 
 pub returns : goal.returns

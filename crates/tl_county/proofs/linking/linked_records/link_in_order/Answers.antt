@@ -1,4 +1,4 @@
-use Rattle.tl_county.specs.OrderedTables.{typed_of}
+use Rattle.tl_county.proofs.Common.{typed_of}
 use Rattle.tl_county.proofs.Rules.BuiltTables.{held, also_linked, same_county, within_limits-moved}
 use Rattle.tl_county.proofs.linking.linked_records.link_in_order.Goals as goal
 

@@ -1,8 +1,5 @@
 use Rattle.std.proofs.Common.{sym, subst, nat_cmp}
-use Rattle.std.specs.Ordering.{on}
-use Rattle.tl_county.specs.County.{two_tlid, two_rtsq, four_tlid, four_rtsq, six_tlid, six_rtsq}
-use Rattle.tl_county.specs.OrderedTables.{typed_of}
-use Rattle.ordered_lists.specs.Orders.{IsInOrder}
+use Rattle.tl_county.proofs.Common.{IsInOrder, four_rtsq, four_tlid, on, six_rtsq, six_tlid, two_rtsq, two_tlid, typed_of}
 use Rattle.tl_county.proofs.Rules.RuleTests.{in_order-first}
 use Rattle.tl_county.proofs.Rules.TlidsInOrder.{tlids_in_order, linked_in_order}
 use Rattle.tl_county.proofs.linking.rules.check_chains.Goals as goal

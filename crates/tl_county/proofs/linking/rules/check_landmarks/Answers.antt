@@ -1,19 +1,9 @@
 use Rattle.std.proofs.Common.{◌≡◌, ℕ, List, ◌++◌, map, flat_map, sym, ◌∙◌, subst, nat_cmp, Option, Some, None, arith, map-id}
 use Rattle.std.proofs.Common.{IsPermutation}
-use Rattle.std.specs.Ordering.{on}
-use Rattle.tl_layout.specs.Fields.{FieldsP}
-use Rattle.tl_layout.specs.declared.record_type.Record.{Record}
-use Rattle.tl_county.specs.BodyOrder.{landmark_body_cmp, link_part, link_part_cmp}
-use Rattle.tl_county.specs.County.{seven_land, eight_land, link_key, p_key, side_keys}
-use Rattle.tl_county.specs.Packing.{Typed, by_type}
-use Rattle.ordered_lists.specs.Keyed.{IsLeastPassing, is_repeated, is_unknown}
-use Rattle.tl_county.specs.OrderedTables.{typed_of}
-use Rattle.ordered_lists.specs.Orders.{IsInOrder, distinct}
-use Rattle.tl_county.specs.PolygonKeys.{PolygonKey, key_cmp}
-use Rattle.tl_county.specs.RuleOrder.{RulesHold}
-use Rattle.tl_county.specs.Laws.KeyOrders.{key_keys}
-use Rattle.ordered_lists.proofs.ByKey.KeyedLists.{at_lists, least-same}
-use Rattle.ordered_lists.proofs.ByKey.Numbers.{distinct-in_order}
+use Rattle.tl_county.proofs.Common.{FieldsP, IsInOrder, IsLeastPassing, PolygonKey, Record, RulesHold, Typed, by_type, distinct}
+use Rattle.tl_county.proofs.Common.{distinct-in_order, eight_land, is_repeated, is_unknown, key_cmp, key_keys, landmark_body_cmp}
+use Rattle.tl_county.proofs.Common.{least-same, link_key, link_part, link_part_cmp, on, p_key, seven_land, side_keys, typed_of}
+use Rattle.ordered_lists.proofs.ByKey.KeyedLists.{at_lists}
 use Rattle.tl_county.proofs.Rules.RuleOrders.{rule-holds, rule-broken, rules-join, first-after}
 use Rattle.tl_county.proofs.Rules.RuleTests.{in_order-first, unknown-distinct, rule_18, rule_19, rule_20}
 use Rattle.tl_county.proofs.linking.rules.check_landmarks.Goals as goal

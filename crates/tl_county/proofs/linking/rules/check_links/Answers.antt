@@ -1,4 +1,4 @@
-use Rattle.tl_county.specs.OrderedTables.{typed_of}
+use Rattle.tl_county.proofs.Common.{typed_of}
 use Rattle.tl_county.proofs.Rules.TlidsInOrder.{tlids_in_order, linked_in_order}
 use Rattle.tl_county.proofs.linking.rules.check_links.Goals as goal
 

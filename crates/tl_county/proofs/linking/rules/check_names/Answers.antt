@@ -1,10 +1,6 @@
 use Rattle.std.proofs.Common.{ℕ, List, map, flat_map, subst, nat_cmp, Option, Some, None, arith}
-use Rattle.tl_county.specs.County.{five_feat}
-use Rattle.ordered_lists.specs.Keyed.{IsLeastPassing, is_repeated}
-use Rattle.tl_county.specs.OrderedTables.{typed_of}
-use Rattle.tl_county.specs.RuleOrder.{RulesHold}
-use Rattle.tl_county.specs.SequenceKeys.{is_unnamed, sequence_cmp, uses_of}
-use Rattle.tl_layout.specs.Fields.{Fields4, Fields5}
+use Rattle.tl_county.proofs.Common.{Fields4, Fields5, IsLeastPassing, RulesHold, five_feat, is_repeated, is_unnamed, sequence_cmp, typed_of}
+use Rattle.tl_county.proofs.Common.{uses_of}
 use Rattle.tl_county.proofs.Rules.RuleOrders.{rule-holds, rule-broken, rules-join, first-after}
 use Rattle.tl_county.proofs.Rules.RuleTests.{rule_16, rule_17}
 use Rattle.tl_county.proofs.linking.rules.check_names.Goals as goal

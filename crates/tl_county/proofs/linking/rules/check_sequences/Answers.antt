@@ -1,10 +1,7 @@
 use Rattle.std.proofs.Common.{ℕ, List, map, refl, subst, Option, None, arith}
-use Rattle.tl_layout.specs.declared.record_type.Record.{Record}
-use Rattle.tl_county.specs.County.{two_tlid, two_rtsq, four_tlid, four_rtsq, six_tlid, six_rtsq}
-use Rattle.ordered_lists.specs.Keyed.{IsLeastPassing, is_repeated}
-use Rattle.tl_county.specs.Packing.{Typed, by_type}
-use Rattle.tl_county.specs.RuleOrder.{RulesHold}
-use Rattle.tl_county.specs.SequenceKeys.{sequence_cmp, two_sequence, four_sequence, six_sequence}
+use Rattle.tl_county.proofs.Common.{IsLeastPassing, Record, RulesHold, Typed, by_type, four_rtsq, four_tlid, is_repeated, sequence_cmp}
+use Rattle.tl_county.proofs.Common.{six_rtsq, six_tlid, two_rtsq, two_tlid}
+use Rattle.tl_county.specs.SequenceKeys.{two_sequence, four_sequence, six_sequence}
 use Rattle.tl_county.proofs.Rules.RuleOrders.{rule-holds, rule-broken, rules-join, first-after}
 use Rattle.tl_county.proofs.Rules.RuleTests.{least-repeat, no_repeat, rule_13_two, rule_13_four, rule_13_six}
 use Rattle.tl_county.proofs.linking.rules.check_sequences.Goals as goal

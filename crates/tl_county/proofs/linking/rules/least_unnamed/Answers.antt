@@ -1,11 +1,8 @@
 use Rattle.std.proofs.Common.{◌∙◌, not, nat_cmp, rules, subst, sym, tests}
-use Rattle.std.proofs.lemmas.Iterator.{YieldsList-from_slice}
+use Rattle.tl_county.proofs.Common.{IsLeastPassing, YieldsList-from_slice, is_unnamed, sequence_cmp, stands_in}
 use Rattle.std.proofs.lemmas.Iterator.Adapters.{option_map_id}
 use Rattle.std.proofs.lemmas.Iterator.Consumers.{YieldsList-from_copied}
 use Rattle.std.proofs.lemmas.Iterator.Search.{find_from_yields_List}
-use Rattle.ordered_lists.specs.Keyed.{IsLeastPassing}
-use Rattle.ordered_lists.specs.Orders.{stands_in}
-use Rattle.tl_county.specs.SequenceKeys.{is_unnamed, sequence_cmp}
 use Rattle.tl_county.proofs.Rules.RuleTests.{unnamed-found}
 use Rattle.tl_county.proofs.linking.rules.least_unnamed.Goals as goal
 

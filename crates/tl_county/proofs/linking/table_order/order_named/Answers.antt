@@ -1,5 +1,5 @@
 use Rattle.std.proofs.Common.{refl}
-use Rattle.std.proofs.lemmas.Result.{on_ok_weaker}
+use Rattle.tl_county.proofs.Common.{on_ok_weaker}
 use Rattle.std.specs.Option.{option_cmp}
 use Rattle.tl_shape.specs.PointOrder.{point_cmp}
 use Rattle.tl_county.proofs.Rules.GatheredLists.{landmarks-in_order}

@@ -1,6 +1,5 @@
 use Rattle.std.proofs.Common.{sym, ap, ◌∙◌, nat_cmp}
-use Rattle.ordered_lists.specs.Entries.{value_under}
-use Rattle.ordered_lists.proofs.Lists.EntryLists.{map_values-id}
+use Rattle.tl_county.proofs.Common.{map_values-id, value_under}
 use Rattle.tl_county.proofs.stored.County.chain.Goals as goal
 
 pub returns : goal.returns

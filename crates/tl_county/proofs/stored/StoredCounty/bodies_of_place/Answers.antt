@@ -1,6 +1,5 @@
 use Rattle.std.proofs.Common.{[], ap, ◌∙◌, unwrap_or, option_map}
-use Rattle.ordered_lists.specs.Entries.{map_values}
-use Rattle.tl_county.specs.LandmarkParts.{LandmarkParts}
+use Rattle.tl_county.proofs.Common.{LandmarkParts, map_values}
 use Rattle.tl_county.proofs.Rules.BuiltTables.{bodies-at}
 use Rattle.tl_county.proofs.Rules.StoredParts.{value-at-kept}
 use Rattle.tl_county.proofs.stored.StoredCounty.bodies_of_place.Goals as goal

@@ -1,8 +1,6 @@
 use Rattle.std.proofs.Common.{[], sym, ap, ◌∙◌, subst, nat_cmp, unwrap_or, flat_map, ℕ, slice_get, Option, option_map}
+use Rattle.tl_county.proofs.Common.{LandmarkParts, links_with, map_values}
 use Rattle.std.specs.List.Sorted.{IsStrictlySortedBy}
-use Rattle.tl_county.specs.ChartWords.{links_with}
-use Rattle.ordered_lists.specs.Entries.{map_values}
-use Rattle.tl_county.specs.LandmarkParts.{LandmarkParts}
 use Rattle.tl_county.proofs.Rules.BuiltTables.{links-at, lands-kept}
 use Rattle.tl_county.proofs.Rules.StoredParts.{value-at-kept}
 use Rattle.tl_county.proofs.stored.StoredCounty.links_of_place.Goals as goal

@@ -1,6 +1,5 @@
 use Rattle.std.proofs.Common.{◌∷◌, ◌++◌, [], ap, ◌∙◌}
-use Rattle.ordered_lists.specs.Orders.{distinct}
-use Rattle.ordered_lists.proofs.ByKey.Keys.{IsKeyOrder}
+use Rattle.tl_county.proofs.Common.{IsKeyOrder, distinct}
 use Rattle.tl_county.proofs.ByKey.KeySets.{inserted-distinct}
 use Rattle.tl_county.proofs.keys.key_set.KeySet.insert.Goals as goal
 

@@ -1,12 +1,7 @@
 use Rattle.std.proofs.Common.{map, flat_map, sym, ap, ◌∙◌, subst}
-use Rattle.tl_county.specs.County.{county_of, p_key, side_keys}
+use Rattle.tl_county.proofs.Common.{IsLeastPassing, Typed, by_type_of, county_of, is_unknown, key_cmp, least-same, p_key, side_keys}
+use Rattle.tl_county.proofs.Common.{type_after_type, typed_of}
 use Rattle.tl_county.specs.CountyRules.{is_without_chain}
-use Rattle.ordered_lists.specs.Keyed.{IsLeastPassing, is_unknown}
-use Rattle.tl_county.specs.OrderedTables.{typed_of}
-use Rattle.tl_county.specs.Packing.{Typed, type_after_type}
-use Rattle.tl_county.specs.PolygonKeys.{key_cmp}
-use Rattle.ordered_lists.proofs.ByKey.KeyedLists.{least-same}
-use Rattle.tl_county.specs.Laws.PackedTypes.{by_type_of}
 use Rattle.tl_county.proofs.Rules.WithoutChain.{same_without_chain}
 use Rattle.tl_county.proofs.linking.linked_records.LinkedRecords.polygon_without_chain.Goals as goal
 

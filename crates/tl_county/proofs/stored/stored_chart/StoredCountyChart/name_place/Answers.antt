@@ -1,5 +1,5 @@
 use Rattle.std.proofs.Common.{ap, ◌∙◌, nat_cmp}
-use Rattle.ordered_lists.specs.Orders.{stands_in}
+use Rattle.tl_county.proofs.Common.{stands_in}
 use Rattle.tl_county.proofs.Rules.StoredParts.{found-in, keys-kept}
 use Rattle.tl_county.proofs.stored.stored_chart.StoredCountyChart.name_place.Goals as goal
 

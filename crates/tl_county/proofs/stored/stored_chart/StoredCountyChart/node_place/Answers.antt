@@ -1,9 +1,6 @@
 use Rattle.std.proofs.Common.{sym, ◌∙◌, subst, nat_cmp}
+use Rattle.tl_county.proofs.Common.{IsInOrder, distinct-in_order, map_values, nat_keys}
 use Rattle.tl_county.specs.CountyRules.{nodes_along}
-use Rattle.ordered_lists.specs.Entries.{map_values}
-use Rattle.ordered_lists.specs.Orders.{IsInOrder}
-use Rattle.ordered_lists.proofs.ByKey.Keys.{nat_keys}
-use Rattle.ordered_lists.proofs.ByKey.Numbers.{distinct-in_order}
 use Rattle.tl_county.proofs.stored.stored_chart.StoredCountyChart.node_place.Goals as goal
 
 pub place_of-requires : goal.place_of-requires

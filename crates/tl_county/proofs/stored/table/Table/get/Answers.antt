@@ -1,6 +1,6 @@
 use Rattle.std.proofs.Common.{sym, ◌∙◌}
+use Rattle.tl_county.proofs.Common.{IsKeyOrder}
 use Rattle.ordered_lists.proofs.Lists.EntryLists.{none-under, value-at_place}
-use Rattle.ordered_lists.proofs.ByKey.Keys.{IsKeyOrder}
 use Rattle.tl_county.proofs.stored.table.Table.get.Goals as goal
 
 pub returns-in-Some : goal.returns-in-Some

@@ -1,7 +1,6 @@
 use Rattle.std.proofs.Common.{sym, ap, ◌∙◌, subst}
+use Rattle.tl_county.proofs.Common.{entry_keys, keys-zip}
 use Rattle.std.specs.List.Sorted.{IsStrictlySortedBy}
-use Rattle.ordered_lists.specs.Entries.{entry_keys}
-use Rattle.ordered_lists.proofs.Lists.EntryLists.{keys-zip}
 use Rattle.tl_county.proofs.stored.table.Table.keys.Goals as goal
 
 pub returns-clause-value : goal.returns-clause-value

@@ -1,4 +1,4 @@
-use Rattle.ordered_lists.proofs.Lists.EntryLists.{keys-zip, values-zip}
+use Rattle.tl_county.proofs.Common.{keys-zip, values-zip}
 use Rattle.tl_county.proofs.stored.table.Table.new.Goals as goal
 
 pub returns-clause-keys : goal.returns-clause-keys

@@ -1,7 +1,5 @@
 use Rattle.std.proofs.Common.{sym, subst}
-use Rattle.ordered_lists.specs.Entries.{entry_keys}
-use Rattle.ordered_lists.specs.Orders.{IsInOrder}
-use Rattle.ordered_lists.proofs.Lists.EntryLists.{in_order-strict}
+use Rattle.tl_county.proofs.Common.{IsInOrder, entry_keys, in_order-strict}
 use Rattle.tl_county.proofs.stored.table.Table.place.Goals as goal
 
 pub place_of-requires : goal.place_of-requires

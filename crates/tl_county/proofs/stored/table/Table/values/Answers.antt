@@ -1,6 +1,5 @@
 use Rattle.std.proofs.Common.{sym, ap, ◌∙◌}
-use Rattle.ordered_lists.specs.Entries.{entry_values}
-use Rattle.ordered_lists.proofs.Lists.EntryLists.{values-zip}
+use Rattle.tl_county.proofs.Common.{entry_values, values-zip}
 use Rattle.tl_county.proofs.stored.table.Table.values.Goals as goal
 
 pub returns : goal.returns
