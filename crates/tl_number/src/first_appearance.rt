@@ -24,7 +24,7 @@ use tl_layout::{NumberOrNone, Side};
 
 /// The ends and the sides of these directed chains, each one after the other. They are read before any node or polygon is numbered, so
 /// that reading one chain need not wait for another, and in one walk, since a chain may lie anywhere in memory.
-fn links_along<C: Chart>(
+pub(crate) fn links_along<C: Chart>(
     alloc: Global,
     chart: &C,
     arrangement: &[DirectedChain],
@@ -43,7 +43,10 @@ fn links_along<C: Chart>(
 }
 
 /// Sees a node, if there is one, and returns its number, which stays whatever is seen later.
-fn number_node(nodes: &mut Interner<u64>, node: NumberOrNone) -> Result<NumberOrNone, AllocError>
+pub(crate) fn number_node(
+    nodes: &mut Interner<u64>,
+    node: NumberOrNone,
+) -> Result<NumberOrNone, AllocError>
     ensures seen { OnOk result (nodes.new ≡ first_seen_after nat_cmp nodes.old (option_to_list node)) }
     ensures number { IfOk result (λ number. (later : List ℕ) → number ≡ node_among (first_seen_after nat_cmp nodes.new later) node) }
 {
@@ -88,7 +91,7 @@ fn see_ends(numbers: &mut Interner<u64>, ends: &mut [Ends]) -> Result<(), AllocE
 }
 
 /// The nodes of these ends in the order of their first appearance, and the ends with these numbers.
-fn number_ends(alloc: Global, ends: Vec<Ends>) -> Result<NodeTables, AllocError>
+pub(crate) fn number_ends(alloc: Global, ends: Vec<Ends>) -> Result<NodeTables, AllocError>
     ensures numbers { IfOk result (λ tables. tables.numbers ≡ first_seen nat_cmp (flat_map nodes_at ends.items)) }
     ensures ends { IfOk result (λ tables. tables.ends.items ≡ map (ends_among (first_seen nat_cmp (flat_map nodes_at ends.items))) ends.items) }
 {

@@ -5,7 +5,8 @@ ghost use Rattle.std.specs.Bool.{Decides};
 ghost use Rattle.std.specs.Prelude.{◌≡◌, ◌+◌, length, map};
 ghost use Rattle.tl_cert.specs.PartsThere.{HaveSameContent, HaveSameEnds, HaveSameLists};
 ghost use Rattle.tl_county.specs.ChartWords.{points_of};
-ghost use Rattle.tl_number.specs.MovedChains.{AgreeButOpen, HaveSameChainsBelow, IsWithin};
+ghost use Rattle.tl_number.specs.CriticalPlaces.{HaveSameSides};
+ghost use Rattle.tl_number.specs.MovedChains.{AgreeButOpen, HaveSamePartsBelow, IsWithin};
 ghost use Rattle.tl_number.specs.DirectedChains.{parts_along};
 ghost use Rattle.tl_county.specs.DirectedChains.{directed_chain};
 
@@ -148,9 +149,66 @@ fn is_same_chain<C: Chart>(chart: &C, one: DirectedChain, other: DirectedChain) 
     have_same_lists(chart, one, other)
 }
 
-/// Whether two arrangements have the same chains up to the last of those among which an open place inserts a chain. They must have the
-/// same chains before them.
-fn have_same_chains_at<C: Chart>(
+/// The chain itself.
+#[derive(Drop)]
+pub(crate) struct WholeChain;
+
+impl ChainList for WholeChain {
+    ghost use Rattle.std.specs.Prelude.{option_to_list};
+    ghost use Rattle.tl_shape.specs.Chain.{Chain};
+
+    ghost Entry = { Chain };
+
+    ghost list = { option_to_list };
+
+    fn is_same<C: Chart>(&self, chart: &C, one: DirectedChain, other: DirectedChain) -> bool {
+        is_same_chain(chart, one, other)
+    }
+}
+
+/// What the records of types 4, 6 and I have of a chain, except for its nodes.
+#[derive(Drop)]
+pub(crate) struct ButNodes;
+
+impl ChainList for ButNodes {
+    ghost use Rattle.tl_number.specs.CriticalPlaces.{ButNodes as PartsButNodes, but_nodes_list};
+
+    ghost Entry = { PartsButNodes };
+
+    ghost list = { but_nodes_list };
+
+    fn is_same<C: Chart>(&self, chart: &C, one: DirectedChain, other: DirectedChain) -> bool {
+        let sides = have_same_sides(chart, one, other);
+        if !sides {
+            return false;
+        }
+        let feats = FurtherNames.is_same(chart, one, other);
+        if !feats {
+            return false;
+        }
+        FurtherRanges.is_same(chart, one, other)
+    }
+}
+
+/// Whether two directed chains have the same sides and the same content in their records of type I.
+fn have_same_sides<C: Chart>(chart: &C, one: DirectedChain, other: DirectedChain) -> bool
+    ensures { Decides result (HaveSameSides (directed_chain (C.county chart.now) one) (directed_chain (C.county chart.now) other)) }
+{
+    let topology = one.topology(chart).is_same(other.topology(chart));
+    if !topology {
+        return false;
+    }
+    let left = one.left(chart).is_same(other.left(chart));
+    if !left {
+        return false;
+    }
+    one.right(chart).is_same(other.right(chart))
+}
+
+/// Whether the chains of two arrangements have the same list up to the last place of those among which an open place inserts a
+/// chain. They must have the same lists before them.
+fn have_same_lists_at<L: ChainList, C: Chart>(
+    list: &L,
     chart: &C,
     at: OpenPlace,
     one: &[DirectedChain],
@@ -158,15 +216,37 @@ fn have_same_chains_at<C: Chart>(
 ) -> bool
     requires count { length one.now ≡ length other.now }
     requires within { IsWithin (length one.now) at }
-    requires before { HaveSameChainsBelow (C.county chart.now) at.place one.now other.now }
-    ensures { Decides result (HaveSameChainsBelow (C.county chart.now) (at.place + at.alike) one.now other.now) }
+    requires before { HaveSamePartsBelow L.list (C.county chart.now) at.place one.now other.now }
+    ensures { Decides result (HaveSamePartsBelow L.list (C.county chart.now) (at.place + at.alike) one.now other.now) }
 {
     let first = at.place as usize;
     for place in first..first + at.alike as usize {
-        let same = is_same_chain(chart, one[place], other[place]);
+        let same = have_same_list_at(list, chart, one[place], other[place]);
         if !same {
             return false;
         }
+    }
+    true
+}
+
+/// Whether the chains of two arrangements that agree except at open places have the same list, place by place.
+pub(crate) fn have_same_open_lists<L: ChainList, C: Chart>(
+    list: &L,
+    chart: &C,
+    places: &[OpenPlace],
+    one: &[DirectedChain],
+    other: &[DirectedChain],
+) -> bool
+    requires { AgreeButOpen (C.county chart.now) places.now one.now other.now }
+    ensures { Decides result (parts_along L.list (C.county chart.now) one.now ≡ parts_along L.list (C.county chart.now) other.now) }
+{
+    let mut rest = places;
+    while let Some((at, behind)) = rest.split_first() {
+        let same = have_same_lists_at(list, chart, *at, one, other);
+        if !same {
+            return false;
+        }
+        rest = behind;
     }
     true
 }
@@ -181,15 +261,7 @@ pub(crate) fn have_same_chains<C: Chart>(
     requires { AgreeButOpen (C.county chart.now) places.now one.now other.now }
     ensures { Decides result (map (directed_chain (C.county chart.now)) one.now ≡ map (directed_chain (C.county chart.now)) other.now) }
 {
-    let mut rest = places;
-    while let Some((at, behind)) = rest.split_first() {
-        let same = have_same_chains_at(chart, *at, one, other);
-        if !same {
-            return false;
-        }
-        rest = behind;
-    }
-    true
+    have_same_open_lists(&WholeChain, chart, places, one, other)
 }
 
 /// Whether the chains of two arrangements of equally many chains have the same list, place by place.

@@ -1,5 +1,5 @@
 -- Two arrangements of a county that have the same chains in the same order make the same county, whatever TLIDs these have.
-use Rattle.std.proofs.Common.{◌≡◌, ◌<◌, ◌∙◌, ℕ, List, get_or, length, map, Option, None, Some, option_map, slice_get, false, sym, refl, ap, nat_cmp}
+use Rattle.std.proofs.Common.{◌≡◌, ◌<◌, ◌∙◌, ℕ, List, [], ◌∷◌, get_or, length, map, Option, None, Some, option_map, option_to_list, slice_get, false, sym, refl, ap, nat_cmp}
 use Rattle.std.proofs.lemmas.Option.{slice_get-get_or, slice_get-map}
 use Rattle.std.specs.Ordering.{on}
 use Rattle.tl_layout.specs.Fields.{Fields8}
@@ -26,12 +26,29 @@ use Rattle.tl_number.specs.ViewFacts.{AreWhole, arranged_by}
 use Rattle.tl_county.specs.declared.directed_chain.DirectedChain.{DirectedChain}
 use Rattle.tl_number.proofs.Arrangements.Carrying.{chains_arranged, lands_renamed, landmarks_arranged, links_arranged, names_arranged, names_renamed}
 use Rattle.tl_number.proofs.Arrangements.Carrying.{nodes_renamed, polygons_arranged, polygons_renamed}
+use Rattle.tl_number.proofs.Texts.SamePolygons.{new_polygons_same, same_landmarks, same_links, same_polygons}
 use Rattle.tl_number.proofs.Unique.SameNumbers.{kept_entry}
 use Rattle.tl_number.proofs.Views.ArrangedTables.{same_somes}
 use Rattle.tl_number.proofs.Views.ViewChains.{arranges, bodies_read, chains}
 
 pub the_same : {X : Type 0} (x y : X) → Some x ≡ Some y → x ≡ y
 the_same x y e = cc
+
+-- lists of at most one element are equal if what they come from is
+pub same_option : {X : Type 0} (o p : Option X) → option_to_list o ≡ option_to_list p → o ≡ p
+same_option None None e = refl
+same_option None (Some y) e = cc
+same_option (Some x) None e = cc
+same_option (Some x) (Some y) e = let same : x ≡ y = cc in ap Some same
+
+pub same_options : {X : Type 0} (os ps : List (Option X)) → map option_to_list os ≡ map option_to_list ps → os ≡ ps
+same_options [] [] e = refl
+same_options [] (p ∷ ps) e = cc
+same_options (o ∷ os) [] e = cc
+same_options (o ∷ os) (p ∷ ps) e =
+    let first : option_to_list o ≡ option_to_list p = cc in
+    let rest : map option_to_list os ≡ map option_to_list ps = cc in
+    λ i. same_option o p first i ∷ same_options os ps rest i
 
 -- the directed chain at a place
 pub chain_read : (county : County) (arrangement : List DirectedChain) (i : ℕ) → i < length arrangement
@@ -76,10 +93,6 @@ module _ (county : County) (is : IsCounty county) (one other : Arrangement) (arr
   keys_same : new_keys county one ≡ new_keys county other
   keys_same = ap (λ (cs : List (ℕ × Chain)). map under_cenid (numbered (first_seen key_cmp (polygons_along cs)))) same
 
-  landmarks_ordered : landmarks_in_order county one ≡ landmarks_in_order county other
-  landmarks_ordered = ap (λ (keys : List (PolygonKey × PolygonKey)). in_order
-      (on (landmark_key (in_order link_cmp (map (relinked keys) county.links))) landmark_key_cmp) county.landmarks) keys_same
-
   nodes_ordered : nodes_in_order county one ≡ nodes_in_order county other
   nodes_ordered = ap (λ (cs : List (ℕ × Chain)). first_seen nat_cmp (nodes_along cs)) same
 
@@ -89,11 +102,7 @@ module _ (county : County) (is : IsCounty county) (one other : Arrangement) (arr
       ∙ sym (names_renamed county other is arranges_other)
 
   polygons_same : r.polygons ≡ s.polygons
-  polygons_same = polygons_renamed county one is arranges_one ∙ keys_same ∙ sym (polygons_renamed county other is arranges_other)
-
-  lands_same : r.lands ≡ s.lands
-  lands_same = lands_renamed county one is arranges_one ∙ ap (λ (es : List (ℕ × List Body7)). numbered (map (λ e. e.0) es)) landmarks_ordered
-      ∙ sym (lands_renamed county other is arranges_other)
+  polygons_same = new_polygons_same county is one other arranges_one arranges_other keys_same
 
   nodes_same : r.nodes ≡ s.nodes
   nodes_same = nodes_renamed county one is arranges_one ∙ ap numbered nodes_ordered ∙ sym (nodes_renamed county other is arranges_other)
@@ -110,21 +119,9 @@ module _ (county : County) (is : IsCounty county) (one other : Arrangement) (arr
     names = (names_arranged county one is arranges_one
         ∙ (λ j. map (λ (e : ℕ × Body5). (image nat_cmp (names_same j) e.0, e.1)) (names_ordered j))
         ∙ sym (names_arranged county other is arranges_other)) i;
-    polygons = (polygons_arranged county one is arranges_one
-        ∙ (λ j. in_order (on (λ (e : PolygonKey × Option BodyP). e.0) key_cmp)
-        (map (λ (e : PolygonKey × Option BodyP). (image key_cmp (polygons_same j) e.0, e.1)) county.polygons))
-        ∙ sym (polygons_arranged county other is arranges_other)) i;
-    landmarks = (landmarks_arranged county one is arranges_one
-        ∙ (λ j. map (λ (e : ℕ × List Body7). (image nat_cmp (lands_same j) e.0, e.1)) (landmarks_ordered j))
-        ∙ sym (landmarks_arranged county other is arranges_other)) i;
-    links = (links_arranged county one is arranges_one
-        ∙ (λ j. in_order link_cmp (map (λ (link : Fields8). record {
-          file = link.file;
-          cenid = (image key_cmp (polygons_same j) (link_key link)).0;
-          polyid = (image key_cmp (polygons_same j) (link_key link)).1;
-          land = image nat_cmp (lands_same j) link.land;
-        }) county.links))
-        ∙ sym (links_arranged county other is arranges_other)) i;
+    polygons = same_polygons county is one other arranges_one arranges_other keys_same i;
+    landmarks = same_landmarks county is one other arranges_one arranges_other keys_same i;
+    links = same_links county is one other arranges_one arranges_other keys_same i;
   }
 
 -- the same for arrangements given by directed chains

@@ -1,6 +1,0 @@
--- the chains before a place are the same
-use Rattle.tl_number.specs.MovedChains.{HaveSameChainsBelow}
-use Rattle.tl_number.proofs.same_chains.have_same_chains_at.Given as goal
-
-abbrev pub invariant-loop-place : goal.invariant-loop-place
-invariant-loop-place g l = HaveSameChainsBelow (g.C.Chart.county l.chart) l.place l.one l.other

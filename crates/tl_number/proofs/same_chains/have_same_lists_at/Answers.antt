@@ -1,0 +1,38 @@
+use Rattle.std.proofs.Common.{◌≡◌, ◌<◌, ◌∙◌, Some, get_or, length, slice_get, true, false, rules, refl, sym, ap, arith}
+use Rattle.tl_county.specs.declared.directed_chain.DirectedChain.{DirectedChain}
+use Rattle.tl_county.specs.DirectedChains.{directed_chain}
+use Rattle.ordered_lists.proofs.Lists.ByPlace.{decides_no}
+use Rattle.tl_number.specs.DirectedChains.{parts_along}
+use Rattle.tl_number.proofs.Texts.LinkOrder.{same_further}
+use Rattle.tl_number.proofs.Texts.SameChains.{part_read, the_same}
+use Rattle.tl_number.proofs.same_chains.have_same_lists_at.Goals as goal
+
+pub loop-place-preserved : goal.loop-place-preserved
+loop-place-preserved g c =
+    let county = g.C.Chart.county c.args.chart.now in
+    let part = g.L.ChainList.list in
+    let i = c.loop-place.place in
+    let there : i < length c.args.one.now = omega (arith, c.loop-place-test.true, c.requires.within.there) in
+    let yes : c.have_same_list_at-same.result ≡ true = search rules in
+    same_further (parts_along part county c.args.one.now) (parts_along part county c.args.other.now) i c.loop-place.invariant
+    (part_read county part c.args.one.now i there ∙ ap Some (c.have_same_list_at-same.ensures.0 yes)
+    ∙ sym (part_read county part c.args.other.now i (omega (arith, there, c.requires.count))))
+
+pub returns-then-not-same : goal.returns-then-not-same
+returns-then-not-same g c =
+    let county = g.C.Chart.county c.args.chart.now in
+    let part = g.L.ChainList.list in
+    let i = c.loop-place.place in
+    let none : DirectedChain = record { place = 0; turned = false } in
+    let there : i < length c.args.one.now = omega (arith, c.loop-place-test.true, c.requires.within.there) in
+    let not_same : c.have_same_list_at-same.result ≡ false = search rules in
+    decides_no c.have_same_list_at-same.result not_same c.have_same_list_at-same.ensures
+    (λ all. the_same (part (directed_chain county (get_or c.args.one.now i none))) (part (directed_chain county (get_or c.args.other.now i none)))
+    (sym (part_read county part c.args.one.now i there) ∙ all i (omega (arith, c.loop-place-test.true))
+    ∙ part_read county part c.args.other.now i (omega (arith, there, c.requires.count))))
+
+pub returns : goal.returns
+returns g c = (
+  λ e. λ place l. c.loop-place.invariant place (omega (arith, l, c.loop-place-test.false)),
+  λ all. refl,
+)
