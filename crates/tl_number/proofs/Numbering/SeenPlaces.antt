@@ -9,7 +9,7 @@ use Rattle.tl_number.specs.Growth.{first_seen_after}
 use Rattle.tl_number.proofs.Numbering.FirstSeen.{seen_stays}
 
 module _ {X : Type 0} (p : X → Bool) where
-  first_stays : (xs ys : List X) → position_or_len p xs < length xs → position_or_len p (xs ++ ys) ≡ position_or_len p xs
+  pub first_stays : (xs ys : List X) → position_or_len p xs < length xs → position_or_len p (xs ++ ys) ≡ position_or_len p xs
   first_stays [] ys h = absurd (omega (arith, h))
   first_stays (x ∷ xs) ys h = go (p x) h (first_stays xs ys)
     where
