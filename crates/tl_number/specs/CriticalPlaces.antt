@@ -1,5 +1,5 @@
 -- Choices whose chains differ only in their nodes, compared at the places where the numbers of nodes can differ.
-use Rattle.std.specs.Prelude.{ℕ, suc, ◌≡◌, ◌+◌, ◌<◌, ◌≤◌, ◌&&◌, List, [], ◌∷◌, ◌++◌, map, flat_map, get_or, slice_get, Bool, true, cond, not, nat_le, nat_lt}
+use Rattle.std.specs.Prelude.{ℕ, suc, ◌≡◌, ◌+◌, ◌&&◌, List, [], ◌∷◌, ◌++◌, map, flat_map, get_or, slice_get, Bool, true, cond, not, nat_le, nat_lt}
 use Rattle.std.specs.Prelude.{Option, Some, None, option_map, option_to_list, unwrap_or, IsTrue}
 use Rattle.std.specs.List.{AllByRecursion, list_any}
 use Rattle.std.specs.Ordering.{nat_cmp, ordering_then}
@@ -71,7 +71,7 @@ abbrev pub HasOpenNodes : List OpenPlace → List (Option ℕ × Option ℕ) →
 HasOpenNodes places ends nodes = (place : ℕ) (pair : Option ℕ × Option ℕ) → is_open place places ≡ true → slice_get ends place ≡ Some pair
     → HasNodes nodes (nodes_at pair)
 
--- a node of an open chain that wasn't met before
+-- the node, if it is one of these nodes of open chains and wasn't met before
 abbrev pub newly_met : List ℕ → List ℕ → Option ℕ → Option ℕ
 newly_met nodes met None = None
 newly_met nodes met (Some node) = cond (stands_in nat_cmp node nodes && not (stands_in nat_cmp node met)) (Some node) None
@@ -93,8 +93,8 @@ fixed_ends None None = []
 fixed_ends None (Some end) = Fixed (None, Some end) ∷ []
 fixed_ends (Some start) end = Fixed (Some start, end) ∷ []
 
--- The critical ends from a place on: the ends at each open place, and at each fixed place the nodes of open chains that stand at no
--- fixed place before.
+-- The critical ends from a place on: the ends at each open place, and at each fixed place the nodes of open chains that no fixed
+-- place before has.
 abbrev pub critical_from : List ℕ → List OpenPlace → List ℕ → ℕ → List (Option ℕ × Option ℕ) → List CriticalEnds
 critical_from nodes places met place [] = []
 critical_from nodes places met place (ends ∷ rest) = cond (is_open place places)

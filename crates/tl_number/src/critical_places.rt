@@ -1,9 +1,10 @@
 //! The places where choices can differ in the numbers of their nodes.
 //!
 //! Choices have the same chains at all places except the open ones, and nodes are numbered by first appearance. If two choices differ
-//! only in the nodes of the chains at open places, their first different number is at an open place, or at the first fixed
-//! place where a node of such a chain stands. These ends are critical. They are collected once. Each choice then numbers their
-//! nodes among themselves, and these small numbers are in the order of the numbers in the whole county as far as two choices agree.
+//! only in the nodes of the chains at open places, the first number that differs is at an open place, or at the first fixed
+//! place of a node that such a chain has. These ends are critical. They are collected once. Each choice then numbers the nodes
+//! at critical ends among themselves. Two choices first differ in these small numbers where they first differ in the numbers of the
+//! whole county, and in the same order.
 
 ghost use Rattle.ordered_lists.specs.Orders.{stands_in};
 ghost use Rattle.std.specs.Cmp.Lexicographic.{slice_cmp};
@@ -114,7 +115,7 @@ fn has_node(nodes: &Interner<u64>, node: u64) -> bool
     nodes.place(node).is_some()
 }
 
-/// The node, if there is one, it stands on an open chain and wasn't met before.
+/// The node, if a chain at an open place has it and it wasn't met before.
 fn newly_met_node(nodes: &Interner<u64>, met: &Interner<u64>, node: NumberOrNone) -> NumberOrNone
     ensures { result ≡ newly_met nodes.now met.now node }
 {

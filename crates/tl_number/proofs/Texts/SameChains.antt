@@ -6,31 +6,27 @@ use Rattle.std.proofs.lemmas.Bool.{ltb-true, ltb-false}
 use Rattle.std.proofs.lemmas.List.{length-map}
 use Rattle.std.specs.Bool.{Decides}
 use Rattle.std.specs.Ordering.{on}
-use Rattle.tl_layout.specs.Fields.{Fields8}
 use Rattle.tl_layout.specs.declared.type5.Body5.{Body5}
-use Rattle.tl_layout.specs.declared.type7.Body7.{Body7}
-use Rattle.tl_layout.specs.declared.type_p.BodyP.{BodyP}
 use Rattle.tl_shape.specs.Chain.{Chain}
-use Rattle.tl_county.specs.BodyOrder.{link_cmp}
-use Rattle.tl_county.specs.County.{County, link_key}
+use Rattle.tl_county.specs.County.{County}
 use Rattle.tl_county.specs.CountyRules.{IsCounty, nodes_along, polygons_along}
 use Rattle.ordered_lists.specs.Orders.{in_order}
 use Rattle.tl_county.specs.Packing.{numbered_from}
-use Rattle.tl_county.specs.PolygonKeys.{PolygonKey, key_cmp}
+use Rattle.tl_county.specs.PolygonKeys.{key_cmp}
 use Rattle.tl_county.specs.Renumbering.{Renumbering, renumbered, renumbered_polygon, side_of}
 use Rattle.ordered_lists.specs.Pairs.{image}
 use Rattle.ordered_lists.proofs.Lists.Elements.{map_agree_everywhere}
-use Rattle.tl_number.specs.Arrangement.{Arrangement, Arranges, arranged, landmarks_in_order, names_in_order, new_keys, nodes_in_order, placed}
-use Rattle.tl_number.specs.Arrangement.{relinked, renaming_of, under_cenid}
+use Rattle.tl_number.specs.Arrangement.{Arrangement, Arranges, arranged, names_in_order, new_keys, nodes_in_order, placed}
+use Rattle.tl_number.specs.Arrangement.{renaming_of, under_cenid}
 use Rattle.tl_number.specs.Growth.{first_seen, numbered}
 use Rattle.tl_number.specs.DirectedChains.{arrangement_of, parts_along}
 use Rattle.tl_county.specs.DirectedChains.{directed_chain}
 use Rattle.tl_number.specs.MovedChains.{HaveSamePartsBelow}
-use Rattle.tl_number.specs.Uses.{all_uses, landmark_key, landmark_key_cmp, name_key, name_key_cmp}
+use Rattle.tl_number.specs.Uses.{all_uses, name_key, name_key_cmp}
 use Rattle.tl_number.specs.ViewFacts.{AreWhole, arranged_by}
 use Rattle.tl_county.specs.declared.directed_chain.DirectedChain.{DirectedChain}
-use Rattle.tl_number.proofs.Arrangements.Carrying.{chains_arranged, lands_renamed, landmarks_arranged, links_arranged, names_arranged, names_renamed}
-use Rattle.tl_number.proofs.Arrangements.Carrying.{nodes_renamed, polygons_arranged, polygons_renamed}
+use Rattle.tl_number.proofs.Arrangements.Carrying.{chains_arranged, names_arranged, names_renamed}
+use Rattle.tl_number.proofs.Arrangements.Carrying.{nodes_renamed}
 use Rattle.tl_number.proofs.Choices.FixedPlaces.{same_everywhere}
 use Rattle.tl_number.proofs.Texts.SamePolygons.{new_polygons_same, same_landmarks, same_links, same_polygons}
 use Rattle.tl_number.proofs.Unique.SameNumbers.{kept_entry}

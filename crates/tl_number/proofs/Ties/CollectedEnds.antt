@@ -1,10 +1,9 @@
 -- Collecting the nodes of open chains and the critical ends.
-use Rattle.std.proofs.Common.{◌≡◌, ◌<◌, ◌≤◌, ◌+◌, nat_lt, Bool, true, false, arith, ℕ, zero, suc, List, [], ◌∷◌, ◌++◌, map, drop, get_or, length, slice_get, Option, Some, None, option_map, option_to_list}
+use Rattle.std.proofs.Common.{◌≡◌, ◌<◌, ◌≤◌, ◌+◌, nat_lt, Bool, true, false, arith, ℕ, zero, suc, List, [], ◌∷◌, map, drop, get_or, length, slice_get, Option, Some, None, option_map, option_to_list}
 use Rattle.std.proofs.Common.{IsTrue, nat_cmp, refl, sym, ap, ◌∙◌, subst}
 use Rattle.std.proofs.lemmas.Bool.{lt-ltb, ltb-false, ltb-true}
 use Rattle.std.proofs.lemmas.List.{drop_more}
 use Rattle.std.proofs.lemmas.Option.{slice_get-get_or}
-use Rattle.std.specs.List.{AllByRecursion}
 use Rattle.tl_shape.specs.Chain.{Chain}
 use Rattle.tl_county.specs.County.{County}
 use Rattle.tl_county.specs.DirectedChains.{directed_chain}

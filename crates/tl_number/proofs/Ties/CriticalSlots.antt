@@ -1,23 +1,22 @@
 -- The numbers of the nodes in two arrangements are in the order of their numbers at critical ends.
-use Rattle.std.proofs.Common.{◌≡◌, ◌⊎◌, ◌<◌, ◌+◌, ◌&&◌, ℕ, zero, suc, List, [], ◌∷◌, ◌++◌, map, flat_map, length, get_or, slice_get, Bool, true, false, cond, not}
-use Rattle.std.proofs.Common.{Option, Some, None, option_to_list, IfSome, IsTrue, nat_cmp, refl, sym, ap, ap₂, ◌∙◌, subst, inl, inr, arith, append_assoc}
+use Rattle.std.proofs.Common.{◌≡◌, ◌+◌, ◌&&◌, ℕ, zero, suc, List, [], ◌∷◌, ◌++◌, map, flat_map, length, get_or, slice_get, Bool, true, false, cond, not}
+use Rattle.std.proofs.Common.{Option, Some, None, option_to_list, IfSome, IsTrue, nat_cmp, refl, sym, ap, ap₂, ◌∙◌, inl, inr, arith, append_assoc}
 use Rattle.std.proofs.lemmas.Bool.{false≢true}
 use Rattle.std.proofs.lemmas.Grind.{flat_map-append}
 use Rattle.std.proofs.lemmas.List.{map-append}
 use Rattle.std.specs.Cmp.Lexicographic.{slice_cmp}
-use Rattle.std.specs.List.{AllByRecursion}
 use Rattle.std.specs.Ordering.{ordering_then}
 use Rattle.ordered_lists.specs.Orders.{stands_in}
 use Rattle.tl_profile.specs.declared.open_places.OpenPlace.{OpenPlace}
 use Rattle.tl_number.specs.CriticalPlaces.{HasNodes, critical_from, ends_at, ends_cmp, fixed_ends, is_open, met_after, met_after_both, newly_met, newly_met_ends}
 use Rattle.tl_number.specs.CriticalPlaces.{node_cmp, renumbered_ends}
 use Rattle.tl_number.specs.EndsAndSides.{ends_among, node_among, nodes_at}
-use Rattle.tl_number.specs.Growth.{first_seen, first_seen_after}
+use Rattle.tl_number.specs.Growth.{first_seen}
 use Rattle.tl_number.specs.declared.critical_places.CriticalEnds.{CriticalEnds}
 use Rattle.tl_number.specs.declared.critical_places.CriticalEnds.TheVariants.{Open}
 use Rattle.tl_number.proofs.Names.NameOrder.{then_assoc}
 use Rattle.tl_number.proofs.Texts.SameChains.{the_same}
-use Rattle.tl_number.proofs.Ties.SmallNumbers.{AreSound, AtOpen, FirstFixed, IsOut, LeftOut, Slot, agree_first, left_of, nodes_in, none_met, numbers_after}
+use Rattle.tl_number.proofs.Ties.SmallNumbers.{AreSound, AtOpen, FirstFixed, LeftOut, Slot, agree_first, left_of, nodes_in, none_met, numbers_after}
 use Rattle.tl_number.proofs.Ties.SmallNumbers.{right_of, short_left, short_right, slots_order}
 
 -- the ends of chains, one after another
@@ -49,7 +48,7 @@ renumbered_cmp es fs = pairs_cmp (first_seen nat_cmp (flat_map nodes_at es)) (fi
     ∙ ap₂ (λ k l. slice_cmp node_cmp (map (node_among (first_seen nat_cmp k)) (one_by_one es)) (map (node_among (first_seen nat_cmp l)) (one_by_one fs)))
     (sym (nodes_one_by_one es)) (sym (nodes_one_by_one fs))
 
--- the slots of a fixed place: an end that is kept, or one that is left out; an entry for none stands beside a kept one
+-- the slots of a fixed place: an end that is kept, or one that is left out; a kept one has an entry for none beside it
 abbrev one_slot : Bool → Option ℕ → Option ℕ → Slot
 one_slot entry o None = LeftOut entry o
 one_slot entry o (Some x) = FirstFixed x
@@ -176,7 +175,7 @@ module _ (nodes : List ℕ) (places : List OpenPlace) where
             ∙ (λ i. (same i).0 ∷ (same i).1 ∷ one_by_one others)
     whole_right met place _ _ _ agree = absurd agree
 
-    -- the short lists are those of the critical ends
+    -- the short lists belong to the critical ends
     abbrev IsShortLeft : List ℕ → ℕ → List Ends → List Ends → List Ends → Type 0
     IsShortLeft met place shapes ones others = flat_map short_left (slots_from met place shapes ones others) ≡ one_by_one (map (ends_at left) (critical_from nodes places met place shapes))
 
@@ -262,7 +261,7 @@ module _ (nodes : List ℕ) (places : List OpenPlace) where
             fixed_rest)
     sound_from met place _ _ _ agree = absurd agree
 
-    -- So the order of the numbers of all ends is that of the numbers of the critical ones.
+    -- So the numbers of all ends and the numbers of the critical ones have the same order.
     pub critical_decide : (shapes : List Ends) → AgreeFrom 0 shapes left right
         → slice_cmp ends_cmp (renumbered_ends left) (renumbered_ends right)
         ≡ slice_cmp ends_cmp (renumbered_ends (map (ends_at left) (critical_from nodes places [] 0 shapes)))

@@ -1,5 +1,5 @@
 -- The texts of two arrangements whose chains differ only in their nodes are in the order of the numbers of these.
-use Rattle.std.proofs.Common.{◌≡◌, ◌∙◌, ℕ, suc, List, [], ◌∷◌, ◌++◌, map, flat_map, Option, Some, None, option_map, option_to_list, Equal, nat_cmp}
+use Rattle.std.proofs.Common.{◌≡◌, ◌∙◌, ℕ, suc, List, [], ◌∷◌, map, flat_map, Option, Some, None, option_map, option_to_list, Equal, nat_cmp}
 use Rattle.std.proofs.Common.{refl, sym, ap, ap₂, subst}
 use Rattle.std.specs.Cmp.Lexicographic.{slice_cmp}
 use Rattle.std.specs.List.{AllByRecursion}
@@ -20,27 +20,27 @@ use Rattle.tl_county.specs.Packing.{numbered_from, packed, packed_i, packed_p, p
 use Rattle.tl_county.specs.PolygonKeys.{PolygonKey, key_cmp}
 use Rattle.tl_county.specs.Renumbering.{AreSame, Renumbering, renumbered, renumbered_polygon, renumbered_side, side_of}
 use Rattle.tl_county.specs.declared.directed_chain.DirectedChain.{DirectedChain}
-use Rattle.ordered_lists.specs.Entries.{entry_values}
 use Rattle.ordered_lists.specs.Orders.{in_order}
 use Rattle.ordered_lists.specs.Pairs.{image}
 use Rattle.ordered_lists.proofs.Lists.Elements.{all_map, all_weaker, map-map}
-use Rattle.tl_number.specs.Arrangement.{new_keys, polygons_in_order, renaming_of, under_cenid}
+use Rattle.tl_number.specs.Arrangement.{new_keys, renaming_of, under_cenid}
 use Rattle.tl_number.specs.ByNumber.{entry_polyid}
 use Rattle.tl_number.specs.CountyGroups.{type_1_by_chain, type_2_by_chain, type_4_by_chain, type_5_by_name, type_6_by_chain, type_7_by_landmark}
 use Rattle.tl_number.specs.CountyGroups.{type_8_together, type_i_by_chain, type_p_by_number}
 use Rattle.tl_number.specs.CriticalPlaces.{AreSameButNodes, ButNodes, but_nodes, but_nodes_list, ends_along, ends_cmp, ends_or_none, renumbered_ends}
 use Rattle.tl_number.specs.DirectedChains.{arrangement_of, parts_along}
-use Rattle.tl_number.specs.EndsAndSides.{ends_among, ends_of, nodes_at, polygons_at, sides_of}
+use Rattle.tl_number.specs.EndsAndSides.{ends_of, polygons_at, sides_of}
 use Rattle.tl_number.specs.Growth.{first_seen, numbered}
 use Rattle.tl_number.specs.RecordOrder.{groups_cmp, records_cmp}
 use Rattle.tl_number.specs.ViewFacts.{AreWhole, arranged_by}
 use Rattle.tl_number.proofs.Arrangements.Carrying.{chains_arranged}
 use Rattle.tl_number.proofs.Records.PackedGroups.{is}
 use Rattle.tl_number.proofs.Texts.RecordTexts.{then_equal}
-use Rattle.tl_number.proofs.Texts.SameLists.{read_along, same_groups, type_4_same, type_5_same, type_6_same}
+use Rattle.tl_number.proofs.Texts.GroupOrders.{same_groups}
+use Rattle.tl_number.proofs.Texts.SameLists.{read_along, type_4_same, type_5_same, type_6_same}
 use Rattle.tl_number.proofs.Texts.SamePolygons.{new_polygons_same, same_landmarks, same_links, same_polygons}
 use Rattle.tl_number.proofs.Texts.TypeOrders.{tied_texts_in_order}
-use Rattle.tl_number.proofs.Ties.TopologyOrder.{HasOtherNodes, HaveOtherNodes, NodesFit, topologies_cmp}
+use Rattle.tl_number.proofs.Ties.TopologyOrder.{HaveOtherNodes, NodesFit, topologies_cmp}
 use Rattle.tl_number.proofs.Unique.SameNumbers.{kept_entry}
 use Rattle.tl_number.proofs.Views.ArrangedTables.{ends_met, polygons_met}
 use Rattle.tl_number.proofs.Views.ViewChains.{arranges, chains, values}

@@ -1,11 +1,11 @@
 -- A move at open places puts chains of open places at open places.
-use Rattle.std.proofs.Common.{◌≡◌, ◌⊎◌, ◌<◌, ◌≤◌, ◌+◌, ◌/◌, ◌%◌, ◌&&◌, ◌||◌, ℕ, zero, suc, nat_le, nat_lt, List, [], ◌∷◌, ◌++◌, take, drop, length, Bool, true, false, cond}
-use Rattle.std.proofs.Common.{Some, None, slice_get, sym, refl, ap, ◌∙◌, subst, inl, inr, arith}
+use Rattle.std.proofs.Common.{◌≡◌, ◌<◌, ◌≤◌, ◌+◌, ◌/◌, ◌%◌, ◌&&◌, ◌||◌, ℕ, zero, suc, nat_le, nat_lt, List, [], ◌∷◌, ◌++◌, take, drop, length, Bool, true, false, cond}
+use Rattle.std.proofs.Common.{Some, slice_get, sym, refl, ap, ◌∙◌, subst, arith}
 use Rattle.std.proofs.lemmas.Bool.{and_from, and_parts, false≢true, le-leb, leb-true, lt-ltb, ltb-false, ltb-true}
-use Rattle.std.specs.List.{AllByRecursion, insert, list_any}
+use Rattle.std.specs.List.{AllByRecursion, insert}
 use Rattle.tl_profile.specs.declared.open_places.OpenPlace.{OpenPlace}
 use Rattle.tl_number.specs.CriticalPlaces.{is_open}
-use Rattle.tl_number.specs.MovedChains.{AgreeApart, AreWithin, IsApart, IsWithin}
+use Rattle.tl_number.specs.MovedChains.{AreWithin, IsApart}
 use Rattle.tl_number.specs.NumberedChoices.{first_stood, moved, turned_by}
 use Rattle.tl_number.proofs.Choices.FixedPlaces.{moved_count, stood_kept}
 

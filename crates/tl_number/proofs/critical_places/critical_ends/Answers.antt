@@ -1,4 +1,4 @@
-use Rattle.std.proofs.Common.{◌≡◌, ◌∙◌, List, [], Option, ℕ, sym, ap, ap₂, subst}
+use Rattle.std.proofs.Common.{◌≡◌, ◌∙◌, [], ap, ap₂, subst}
 use Rattle.tl_number.specs.CriticalPlaces.{HasOpenNodes, critical_from, ends_along}
 use Rattle.tl_number.proofs.Ties.CollectedEnds.{ends_read_along}
 use Rattle.tl_number.proofs.critical_places.critical_ends.Goals as goal

@@ -2,9 +2,8 @@ use Rattle.std.proofs.Common.{◌≡◌, ◌∙◌, true, sym, subst, arith, rul
 use Rattle.tl_profile.specs.Choices.{choices}
 use Rattle.tl_number.specs.CriticalPlaces.{AreCritical, but_nodes_list, critical_numbers}
 use Rattle.tl_number.specs.DirectedChains.{parts_along}
-use Rattle.tl_number.specs.LeastNumber.{IsLeastBelow, choice_list}
+use Rattle.tl_number.specs.LeastNumber.{choice_list}
 use Rattle.tl_number.specs.ChoiceSearch.{numbered_arrangement}
-use Rattle.tl_number.specs.NodeTies.{AreNodeTies}
 use Rattle.tl_number.proofs.CanonicalLists.TidyLists.{not_after_itself}
 use Rattle.tl_number.proofs.Choices.LeastNumbers.{not_after_both, tie_least, ties_least}
 use Rattle.tl_number.proofs.Choices.LeastOnes.{agree_of_numbers}

@@ -1,5 +1,4 @@
-use Rattle.std.proofs.Common.{◌≡◌, ◌∙◌, List, Ordering, is_gt, length, ap, ap₂, sym, subst}
-use Rattle.std.proofs.lemmas.List.{length-map}
+use Rattle.std.proofs.Common.{◌≡◌, ◌∙◌, List, is_gt, length, ap, ap₂, sym, subst}
 use Rattle.std.specs.Cmp.Lexicographic.{slice_cmp}
 use Rattle.tl_number.specs.Canonical.{IsNotAfter}
 use Rattle.tl_number.specs.CriticalPlaces.{critical_numbers, ends_cmp}
