@@ -289,3 +289,42 @@ def twins_otherwise(placed: list[tuple[int, bytes, int]]) -> Pieces:
         if place == 1_500:
             yield laid_out("4", {6: b"%10d 77%8d"}) % (TLID(number), FEAT(twin))
     yield from lines(name_line(), map(FEAT, range(4)), range(4))
+
+
+# A street with seven chains of one shape that differ only in their nodes: all 5,040 orders of them have the same records of type 1.
+
+
+TIED_PLACE, TIED = 500, 7
+
+Tied = tuple[int, int, int]  # A place on the street, and the start and the end node of a chain there; 0 for none.
+
+
+def node_ties(count: int) -> County:
+    """One of the seven has no start node, and is the first, since a blank comes before any number. All others have nodes of their own,
+    so each order of them has the same text."""
+    chains = [(place, place + 1, place + 2) for place in range(count)]
+    own = range(count + 2, count + 2 + 2 * TIED, 2)
+    chains[TIED_PLACE : TIED_PLACE + 1] = [(TIED_PLACE, 0 if node == own[0] else node, node + 1) for node in own]
+    return County(lambda: node_ties_text(chains), lambda: node_ties_otherwise(chains))
+
+
+def node_ties_text(chains: list[Tied]) -> Pieces:
+    for tlid, (place, _, _) in enumerate(chains, 1):
+        yield chain_line() % (tlid, *longitudes((place, place + 1)))
+    nodes: dict[int, int] = {}
+    for tlid, (_, *ends_here) in enumerate(chains, 1):
+        yield tied_link(tlid, [nodes.setdefault(node, len(nodes) + 1) if node else 0 for node in ends_here])
+
+
+def node_ties_otherwise(chains: list[Tied]) -> Pieces:
+    for number in strewn(len(chains)):
+        place, start, end = chains[number]
+        is_turned = number % 2
+        yield chain_line() % (TLID(number), *longitudes((place + is_turned, place + 1 - is_turned)))
+        yield tied_link(TLID(number), [node and NODE(node) for node in ((end, start) if is_turned else (start, end))])
+
+
+def tied_link(tlid: int, nodes: list[int]) -> bytes:
+    """A line of type I; a missing node is left blank."""
+    fields = {21 + 10 * end: b"%10d" % node for end, node in enumerate(nodes) if node}
+    return laid_out("I", {6: FILE, 11: b"%10d" % tlid, **fields})

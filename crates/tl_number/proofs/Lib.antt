@@ -11,3 +11,4 @@ pub mod Polygons
 pub mod Masks
 pub mod Records
 pub mod Texts
+pub mod Ties

@@ -1,8 +1,10 @@
 -- Comparing the texts of two arrangements, type by type.
 pub mod TiedOnes
 pub mod LinkOrder
+pub mod SamePolygons
 pub mod SameChains
 pub mod SameLists
+pub mod SameButNodes
 pub mod TypeOnes
 pub mod RecordTexts
 pub mod TypeOrders

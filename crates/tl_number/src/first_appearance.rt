@@ -24,7 +24,7 @@ use tl_layout::{NumberOrNone, Side};
 
 /// The ends and the sides of these directed chains, each one after the other. They are read before any node or polygon is numbered, so
 /// that reading one chain need not wait for another, and in one walk, since a chain may lie anywhere in memory.
-fn links_along<C: Chart>(
+pub(crate) fn links_along<C: Chart>(
     alloc: Global,
     chart: &C,
     arrangement: &[DirectedChain],
@@ -43,7 +43,7 @@ fn links_along<C: Chart>(
 }
 
 /// An end or a side of a chain. It may have a key, a node or a polygon, which is replaced with its number.
-trait Half: Copy + Drop {
+pub(crate) trait Half: Copy + Drop {
     ghost use Rattle.std.specs.Prelude.{◌≡◌, ◌≤◌, ℕ, List, IfOk, OnOk, length};
     ghost use Rattle.tl_number.specs.Growth.{first_seen_after};
 
@@ -143,7 +143,7 @@ fn see_pairs<T: Half>(
 }
 
 /// The keys of these ends or sides in the order of their first appearance, and the ends or sides with these numbers.
-fn number_pairs<T: Half>(
+pub(crate) fn number_pairs<T: Half>(
     alloc: Global,
     pairs: Vec<(T, T)>,
 ) -> Result<(Interner<T::Old>, Vec<(T, T)>), AllocError>

@@ -26,8 +26,9 @@ ghost use Rattle.tl_profile.specs.ShapeOrder.{IsShapeOrder};
 use crate::arranged::Arranged;
 use crate::arranging::arrange;
 use crate::ascending_order::arrangement_in_order;
+use crate::node_ties::least_of_node_ties;
 use crate::numbered_arrangement::{choose, put_back};
-use crate::same_chains::have_same_chains;
+use crate::same_chains::{ButNodes, have_same_chains, have_same_open_parts};
 use crate::text_order::compare_texts;
 use crate::type_1_order::compare_ones;
 use std::alloc::{AllocError, Global};
@@ -67,13 +68,13 @@ fn arrange_choice<'a, C: Chart>(
 
 /// A choice in some form, and its number.
 #[derive(Drop)]
-struct NumberedChoice<V> {
-    number: u64,
-    choice: V,
+pub(crate) struct NumberedChoice<V> {
+    pub(crate) number: u64,
+    pub(crate) choice: V,
 }
 
 /// The lesser of two choices: `other` if `one` comes after it.
-fn lesser<V: Drop>(
+pub(crate) fn lesser<V: Drop>(
     ordering: Ordering,
     one: NumberedChoice<V>,
     other: NumberedChoice<V>,
@@ -205,6 +206,7 @@ fn is_other_tie<C: Chart>(
     requires moved { IsMoved order.now arrangement.old }
     ensures tied { result ≡ true → ones_cmp (C.county chart.now) least.now.number number ≡ Equal }
     ensures least { result ≡ false → IsNotAfter (choice_list (C.county chart.now) least.now.number) (choice_list (C.county chart.now) number) }
+    ensures arrangement { arrangement.new ≡ numbered_arrangement order.now number }
     ensures moved { IsMoved order.now arrangement.new }
 {
     let ordering = compare_number(chart, order, least, arrangement, number);
@@ -215,8 +217,8 @@ fn is_other_tie<C: Chart>(
 }
 
 /// The next number, from one on, whose choice has the same records of type 1 as the one with the least of them, but not the
-/// same chains.
-fn next_tie<C: Chart>(
+/// same chains. `arrangement` may be those of any choice and becomes that of this one.
+pub(crate) fn next_tie<C: Chart>(
     chart: &C,
     order: &ShapeOrder,
     least: &NumberedChoice<Vec<DirectedChain>>,
@@ -231,6 +233,7 @@ fn next_tie<C: Chart>(
     ensures tie { MatchOption result (IsLeastFrom (C.county chart.now) first (choices (C.county chart.now)) least.now.number)
         (λ tie. IsLeastFrom (C.county chart.now) first tie least.now.number) }
     ensures within { IfSome result (λ tie. (first ≤ tie) × (tie < choices (C.county chart.now))) }
+    ensures arrangement { IfSome result (λ tie. arrangement.new ≡ numbered_arrangement order.now tie) }
     ensures tied { IfSome result (λ tie. ones_cmp (C.county chart.now) least.now.number tie ≡ Equal) }
 {
     for number in first..order.choices() {
@@ -271,6 +274,40 @@ fn least_of_ties<C: Chart>(
     Ok(number_of(least))
 }
 
+/// The number of the choice with the least text among those with the least records of type 1, given the first two of these. Choices
+/// are only arranged if one of them differs in more than its nodes.
+fn least_among_ties<C: Chart>(
+    alloc: Global,
+    chart: &C,
+    order: &ShapeOrder,
+    first: &NumberedChoice<Vec<DirectedChain>>,
+    arrangement: &mut [DirectedChain],
+    tie: u64,
+) -> Result<u64, AllocError>
+    requires known { LeavesChoices (C.county chart.now) order.now }
+    requires arrangement { first.now.choice.items ≡ numbered_arrangement order.now first.now.number }
+    requires least { IsLeastOne (C.county chart.now) (choices (C.county chart.now)) first.now.number }
+    requires before { IsLeastFrom (C.county chart.now) 0 tie first.now.number }
+    requires other { arrangement.old ≡ numbered_arrangement order.now tie }
+    requires moved { IsMoved order.now arrangement.old }
+    ensures { IfOk result (IsLeastBelow (C.county chart.now) (choices (C.county chart.now))) }
+{
+    let same = have_same_open_parts(
+        &ButNodes,
+        chart,
+        order.open_places(),
+        &first.choice,
+        arrangement,
+    );
+    if !same {
+        return least_of_ties(alloc, chart, order, first, arrangement, tie);
+    }
+    match least_of_node_ties(alloc, chart, order, first, arrangement)? {
+        Some(number) => Ok(number),
+        None => least_of_ties(alloc, chart, order, first, arrangement, tie),
+    }
+}
+
 /// The number of the choice with the least text.
 fn least_number<C: Chart>(alloc: Global, chart: &C, order: &ShapeOrder) -> Result<u64, AllocError>
     requires { LeavesChoices (C.county chart.now) order.now }
@@ -279,7 +316,7 @@ fn least_number<C: Chart>(alloc: Global, chart: &C, order: &ShapeOrder) -> Resul
     let mut arrangement = arrangement_in_order(alloc, order)?;
     let first = least_of_type_1(alloc, chart, order)?;
     match next_tie(chart, order, &first, &mut arrangement, 0) {
-        Some(tie) => least_of_ties(alloc, chart, order, &first, &mut arrangement, tie),
+        Some(tie) => least_among_ties(alloc, chart, order, &first, &mut arrangement, tie),
         None => Ok(first.number),
     }
 }

@@ -5,6 +5,7 @@ ghost use Rattle.std.specs.Bool.{Decides};
 ghost use Rattle.std.specs.Prelude.{◌≡◌, ◌+◌, ◌≤◌, length, map};
 ghost use Rattle.tl_cert.specs.PartsThere.{HaveSameContent, HaveSameEnds, HaveSameLists};
 ghost use Rattle.tl_county.specs.ChartWords.{points_of};
+ghost use Rattle.tl_number.specs.CriticalPlaces.{HaveSameSides};
 ghost use Rattle.tl_number.specs.MovedChains.{AgreeButOpen, HaveSamePartsBelow, IsWithin};
 ghost use Rattle.tl_number.specs.DirectedChains.{parts_along};
 ghost use Rattle.tl_county.specs.DirectedChains.{directed_chain};
@@ -190,9 +191,50 @@ fn is_same_chain<C: Chart>(chart: &C, one: DirectedChain, other: DirectedChain) 
     have_same_lists(chart, one, other)
 }
 
-/// Whether two arrangements have the same chains up to the last of those among which an open place inserts a chain. They must have the
-/// same chains before them.
-fn have_same_chains_at<C: Chart>(
+/// What the records of types 4, 6 and I have of a chain, except for its nodes.
+#[derive(Drop)]
+pub(crate) struct ButNodes;
+
+impl ChainPart for ButNodes {
+    ghost use Rattle.std.specs.Prelude.{List};
+    ghost use Rattle.tl_number.specs.CriticalPlaces.{ButNodes as PartsButNodes, but_nodes_list};
+
+    ghost Part = { List PartsButNodes };
+
+    ghost part = { but_nodes_list };
+
+    fn is_same<C: Chart>(&self, chart: &C, one: DirectedChain, other: DirectedChain) -> bool {
+        let sides = have_same_sides(chart, one, other);
+        if !sides {
+            return false;
+        }
+        let feats = FurtherNames.is_same(chart, one, other);
+        if !feats {
+            return false;
+        }
+        FurtherRanges.is_same(chart, one, other)
+    }
+}
+
+/// Whether two directed chains have the same sides and the same content in their records of type I.
+fn have_same_sides<C: Chart>(chart: &C, one: DirectedChain, other: DirectedChain) -> bool
+    ensures { Decides result (HaveSameSides (directed_chain (C.county chart.now) one) (directed_chain (C.county chart.now) other)) }
+{
+    let topology = one.topology(chart).is_same(other.topology(chart));
+    if !topology {
+        return false;
+    }
+    let left = one.left(chart).is_same(other.left(chart));
+    if !left {
+        return false;
+    }
+    one.right(chart).is_same(other.right(chart))
+}
+
+/// Whether the chains of two arrangements have the same part up to the last of those among which an open place inserts a chain. They
+/// must have the same parts before them.
+fn have_same_parts_at<P: ChainPart, C: Chart>(
+    part: &P,
     chart: &C,
     at: OpenPlace,
     one: &[DirectedChain],
@@ -200,12 +242,34 @@ fn have_same_chains_at<C: Chart>(
 ) -> bool
     requires count { length one.now ≡ length other.now }
     requires within { IsWithin (length one.now) at }
-    requires before { HaveSamePartsBelow (λ chain. chain) (C.county chart.now) at.place one.now other.now }
-    ensures { Decides result (HaveSamePartsBelow (λ chain. chain) (C.county chart.now) (at.place + at.alike) one.now other.now) }
+    requires before { HaveSamePartsBelow P.part (C.county chart.now) at.place one.now other.now }
+    ensures { Decides result (HaveSamePartsBelow P.part (C.county chart.now) (at.place + at.alike) one.now other.now) }
 {
     let first = at.place as usize;
     let end = first + at.alike as usize;
-    have_same_parts_below(&WholeChain, chart, first, end, one, other)
+    have_same_parts_below(part, chart, first, end, one, other)
+}
+
+/// Whether the chains of two arrangements that agree except at open places have the same part, place by place.
+pub(crate) fn have_same_open_parts<P: ChainPart, C: Chart>(
+    part: &P,
+    chart: &C,
+    places: &[OpenPlace],
+    one: &[DirectedChain],
+    other: &[DirectedChain],
+) -> bool
+    requires { AgreeButOpen (C.county chart.now) places.now one.now other.now }
+    ensures { Decides result (parts_along P.part (C.county chart.now) one.now ≡ parts_along P.part (C.county chart.now) other.now) }
+{
+    let mut rest = places;
+    while let Some((at, behind)) = rest.split_first() {
+        let same = have_same_parts_at(part, chart, *at, one, other);
+        if !same {
+            return false;
+        }
+        rest = behind;
+    }
+    true
 }
 
 /// Whether two arrangements that agree except at open places have the same chains, place by place.
@@ -218,15 +282,7 @@ pub(crate) fn have_same_chains<C: Chart>(
     requires { AgreeButOpen (C.county chart.now) places.now one.now other.now }
     ensures { Decides result (map (directed_chain (C.county chart.now)) one.now ≡ map (directed_chain (C.county chart.now)) other.now) }
 {
-    let mut rest = places;
-    while let Some((at, behind)) = rest.split_first() {
-        let same = have_same_chains_at(chart, *at, one, other);
-        if !same {
-            return false;
-        }
-        rest = behind;
-    }
-    true
+    have_same_open_parts(&WholeChain, chart, places, one, other)
 }
 
 /// Whether the chains of two arrangements of a county have the same part, place by place.

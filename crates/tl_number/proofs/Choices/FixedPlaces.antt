@@ -47,7 +47,7 @@ insert_count : {X : Type 0} (j : ℕ) (later : List X) (t : X) → length (inser
 insert_count j later t = let same = length_permutation (t ∷ later) (insert later j t) (IsPermutation-insert later j t) in omega (arith, same)
 
 module _ {X : Type 0} (turn : X → X) (at : OpenPlace) (n : ℕ) (some : 0 < at.alike) where
-  stood_kept : (p : ℕ) (xs : List X) → p + at.alike ≤ length xs → (place : ℕ) → (p ≤ place → p + at.alike ≤ place)
+  pub stood_kept : (p : ℕ) (xs : List X) → p + at.alike ≤ length xs → (place : ℕ) → (p ≤ place → p + at.alike ≤ place)
       → slice_get (take p xs ++ (first_stood turn at (drop p xs) n).0) place ≡ slice_get xs place
   stood_kept p [] within place apart = absurd (omega (arith, within, some))
   stood_kept zero (x ∷ xs) within place apart =
@@ -64,7 +64,7 @@ module _ {X : Type 0} (turn : X → X) (at : OpenPlace) (n : ℕ) (some : 0 < at
   stood_count (suc p) (x ∷ xs) within = ap suc (stood_count p xs (omega (arith, within)))
 
 -- A list keeps its length under moves,
-moved_count : {X : Type 0} (turn : X → X) (places : List OpenPlace) (xs : List X) (n : ℕ) → AreWithin (length xs) places
+pub moved_count : {X : Type 0} (turn : X → X) (places : List OpenPlace) (xs : List X) (n : ℕ) → AreWithin (length xs) places
     → length (moved turn places (xs, n)).0 ≡ length xs
 moved_count turn [] xs n within = refl
 moved_count turn (at ∷ places) xs n within =

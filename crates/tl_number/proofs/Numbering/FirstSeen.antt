@@ -127,7 +127,7 @@ module _ {K : Type 0} {cmp : K → K → Ordering} (o : IsKeyOrder cmp) where
       go (inl l) = absurd (omega (arith, l))
       go (inr l) = l
 
-  seen_after : (seen keys : List K) (k : K) → Known cmp seen k → Known cmp (first_seen_after cmp seen keys) k
+  pub seen_after : (seen keys : List K) (k : K) → Known cmp seen k → Known cmp (first_seen_after cmp seen keys) k
   seen_after seen keys k h = let m = seen_stays seen keys in subst (λ l. Known cmp l k) (sym m.1) (known-left o k seen m.0 h)
 
   pub all_after : (seen keys : List K) (k : K) → Known cmp keys k → Known cmp (first_seen_after cmp seen keys) k

@@ -4,12 +4,13 @@ use Rattle.std.proofs.Common.{Ordering, Some, None, is_eq, refl, sym, ap, ◌∙
 use Rattle.std.proofs.lemmas.Bool.{ltb-true, lt-ltb}
 use Rattle.std.proofs.lemmas.Option.{cond_some}
 use Rattle.std.specs.List.{list_any, position, position_or_len}
-use Rattle.ordered_lists.proofs.ByKey.Keys.{IsKeyOrder}
+use Rattle.indexmap.specs.IndexSet.{insert_key}
+use Rattle.ordered_lists.proofs.ByKey.Keys.{IsKeyOrder, same-itself}
 use Rattle.tl_number.specs.Growth.{first_seen_after}
 use Rattle.tl_number.proofs.Numbering.FirstSeen.{seen_stays}
 
 module _ {X : Type 0} (p : X → Bool) where
-  first_stays : (xs ys : List X) → position_or_len p xs < length xs → position_or_len p (xs ++ ys) ≡ position_or_len p xs
+  pub first_stays : (xs ys : List X) → position_or_len p xs < length xs → position_or_len p (xs ++ ys) ≡ position_or_len p xs
   first_stays [] ys h = absurd (omega (arith, h))
   first_stays (x ∷ xs) ys h = go (p x) h (first_stays xs ys)
     where
@@ -57,6 +58,20 @@ module _ {X : Type 0} (p : X → Bool) where
           let old = h.0 in
           let last = h.1 in
           (omega (arith, old), omega (arith, last))
+
+module _ {K : Type 0} (eq : K → K → Bool) (cmp : K → K → Ordering) (same : (x y : K) → eq x y ≡ is_eq (cmp x y)) (o : IsKeyOrder cmp) where
+  -- a key is found at the place of its insertion
+  pub inserted_at : (k : K) (ks : List K) → Some (position_or_len (eq k) ks) ≡ position (λ other. is_eq (cmp k other)) (insert_key eq ks k)
+  inserted_at k ks = go (list_any (eq k) ks) refl ∙ (λ i. position (λ other. same k other i) (insert_key eq ks k))
+    where
+      go : (b : Bool) → list_any (eq k) ks ≡ b → Some (position_or_len (eq k) ks) ≡ position (eq k) (cond b ks (ks ++ (k ∷ [])))
+      go true e = to_position (eq k) ks (any_within (eq k) ks e)
+      go false e =
+          let new = none_within (eq k) ks k e (same k k ∙ same-itself o k) in
+          let old = new.0 in
+          let last = new.1 in
+          let count = length-append ks (k ∷ []) in
+          ap Some (old ∙ sym last) ∙ to_position (eq k) (ks ++ (k ∷ [])) (omega (arith, last, count))
 
 module _ {K : Type 0} {cmp : K → K → Ordering} (o : IsKeyOrder cmp) where
   -- a key that was seen keeps its place, whatever is seen later

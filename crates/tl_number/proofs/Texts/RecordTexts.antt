@@ -14,7 +14,7 @@ use Rattle.tl_number.specs.RecordOrder.{records_cmp}
 use Rattle.tl_number.proofs.Names.NameOrder.{then_assoc}
 
 -- a second comparison that finds both equal decides nothing
-then_equal : (a : Ordering) → ordering_then a Equal ≡ a
+pub then_equal : (a : Ordering) → ordering_then a Equal ≡ a
 then_equal Less = refl
 then_equal Equal = refl
 then_equal Greater = refl

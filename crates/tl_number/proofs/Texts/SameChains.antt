@@ -6,32 +6,29 @@ use Rattle.std.proofs.lemmas.Bool.{ltb-true, ltb-false}
 use Rattle.std.proofs.lemmas.List.{length-map}
 use Rattle.std.specs.Bool.{Decides}
 use Rattle.std.specs.Ordering.{on}
-use Rattle.tl_layout.specs.Fields.{Fields8}
 use Rattle.tl_layout.specs.declared.type5.Body5.{Body5}
-use Rattle.tl_layout.specs.declared.type7.Body7.{Body7}
-use Rattle.tl_layout.specs.declared.type_p.BodyP.{BodyP}
 use Rattle.tl_shape.specs.Chain.{Chain}
-use Rattle.tl_county.specs.BodyOrder.{link_cmp}
-use Rattle.tl_county.specs.County.{County, link_key}
+use Rattle.tl_county.specs.County.{County}
 use Rattle.tl_county.specs.CountyRules.{IsCounty, nodes_along, polygons_along}
 use Rattle.ordered_lists.specs.Orders.{in_order}
 use Rattle.tl_county.specs.Packing.{numbered_from}
-use Rattle.tl_county.specs.PolygonKeys.{PolygonKey, key_cmp}
+use Rattle.tl_county.specs.PolygonKeys.{key_cmp}
 use Rattle.tl_county.specs.Renumbering.{Renumbering, renumbered, renumbered_polygon, side_of}
 use Rattle.ordered_lists.specs.Pairs.{image}
 use Rattle.ordered_lists.proofs.Lists.Elements.{map_agree_everywhere}
-use Rattle.tl_number.specs.Arrangement.{Arrangement, Arranges, arranged, landmarks_in_order, names_in_order, new_keys, nodes_in_order, placed}
-use Rattle.tl_number.specs.Arrangement.{relinked, renaming_of, under_cenid}
+use Rattle.tl_number.specs.Arrangement.{Arrangement, Arranges, arranged, names_in_order, new_keys, nodes_in_order, placed}
+use Rattle.tl_number.specs.Arrangement.{renaming_of, under_cenid}
 use Rattle.tl_number.specs.Growth.{first_seen, numbered}
 use Rattle.tl_number.specs.DirectedChains.{arrangement_of, parts_along}
 use Rattle.tl_county.specs.DirectedChains.{directed_chain}
 use Rattle.tl_number.specs.MovedChains.{HaveSamePartsBelow}
-use Rattle.tl_number.specs.Uses.{all_uses, landmark_key, landmark_key_cmp, name_key, name_key_cmp}
+use Rattle.tl_number.specs.Uses.{all_uses, name_key, name_key_cmp}
 use Rattle.tl_number.specs.ViewFacts.{AreWhole, arranged_by}
 use Rattle.tl_county.specs.declared.directed_chain.DirectedChain.{DirectedChain}
-use Rattle.tl_number.proofs.Arrangements.Carrying.{chains_arranged, lands_renamed, landmarks_arranged, links_arranged, names_arranged, names_renamed}
-use Rattle.tl_number.proofs.Arrangements.Carrying.{nodes_renamed, polygons_arranged, polygons_renamed}
+use Rattle.tl_number.proofs.Arrangements.Carrying.{chains_arranged, names_arranged, names_renamed}
+use Rattle.tl_number.proofs.Arrangements.Carrying.{nodes_renamed}
 use Rattle.tl_number.proofs.Choices.FixedPlaces.{same_everywhere}
+use Rattle.tl_number.proofs.Texts.SamePolygons.{new_polygons_same, same_landmarks, same_links, same_polygons}
 use Rattle.tl_number.proofs.Unique.SameNumbers.{kept_entry}
 use Rattle.tl_number.proofs.Views.ArrangedTables.{same_somes}
 use Rattle.tl_number.proofs.Views.ViewChains.{arranges, bodies_read, chains}
@@ -95,10 +92,6 @@ module _ (county : County) (is : IsCounty county) (one other : Arrangement) (arr
   keys_same : new_keys county one ≡ new_keys county other
   keys_same = ap (λ (cs : List (ℕ × Chain)). map under_cenid (numbered (first_seen key_cmp (polygons_along cs)))) same
 
-  landmarks_ordered : landmarks_in_order county one ≡ landmarks_in_order county other
-  landmarks_ordered = ap (λ (keys : List (PolygonKey × PolygonKey)). in_order
-      (on (landmark_key (in_order link_cmp (map (relinked keys) county.links))) landmark_key_cmp) county.landmarks) keys_same
-
   nodes_ordered : nodes_in_order county one ≡ nodes_in_order county other
   nodes_ordered = ap (λ (cs : List (ℕ × Chain)). first_seen nat_cmp (nodes_along cs)) same
 
@@ -108,11 +101,7 @@ module _ (county : County) (is : IsCounty county) (one other : Arrangement) (arr
       ∙ sym (names_renamed county other is arranges_other)
 
   polygons_same : r.polygons ≡ s.polygons
-  polygons_same = polygons_renamed county one is arranges_one ∙ keys_same ∙ sym (polygons_renamed county other is arranges_other)
-
-  lands_same : r.lands ≡ s.lands
-  lands_same = lands_renamed county one is arranges_one ∙ ap (λ (es : List (ℕ × List Body7)). numbered (map (λ e. e.0) es)) landmarks_ordered
-      ∙ sym (lands_renamed county other is arranges_other)
+  polygons_same = new_polygons_same county is one other arranges_one arranges_other keys_same
 
   nodes_same : r.nodes ≡ s.nodes
   nodes_same = nodes_renamed county one is arranges_one ∙ ap numbered nodes_ordered ∙ sym (nodes_renamed county other is arranges_other)
@@ -129,21 +118,9 @@ module _ (county : County) (is : IsCounty county) (one other : Arrangement) (arr
     names = (names_arranged county one is arranges_one
         ∙ (λ j. map (λ (e : ℕ × Body5). (image nat_cmp (names_same j) e.0, e.1)) (names_ordered j))
         ∙ sym (names_arranged county other is arranges_other)) i;
-    polygons = (polygons_arranged county one is arranges_one
-        ∙ (λ j. in_order (on (λ (e : PolygonKey × Option BodyP). e.0) key_cmp)
-        (map (λ (e : PolygonKey × Option BodyP). (image key_cmp (polygons_same j) e.0, e.1)) county.polygons))
-        ∙ sym (polygons_arranged county other is arranges_other)) i;
-    landmarks = (landmarks_arranged county one is arranges_one
-        ∙ (λ j. map (λ (e : ℕ × List Body7). (image nat_cmp (lands_same j) e.0, e.1)) (landmarks_ordered j))
-        ∙ sym (landmarks_arranged county other is arranges_other)) i;
-    links = (links_arranged county one is arranges_one
-        ∙ (λ j. in_order link_cmp (map (λ (link : Fields8). record {
-          file = link.file;
-          cenid = (image key_cmp (polygons_same j) (link_key link)).0;
-          polyid = (image key_cmp (polygons_same j) (link_key link)).1;
-          land = image nat_cmp (lands_same j) link.land;
-        }) county.links))
-        ∙ sym (links_arranged county other is arranges_other)) i;
+    polygons = same_polygons county is one other arranges_one arranges_other keys_same i;
+    landmarks = same_landmarks county is one other arranges_one arranges_other keys_same i;
+    links = same_links county is one other arranges_one arranges_other keys_same i;
   }
 
 -- the same for arrangements given by directed chains

@@ -71,7 +71,7 @@ module _ (r s : Renumbering) where
 module _ (county : County) (is : IsCounty county) (one other : List DirectedChain) (whole : AreWhole county one) (other_whole : AreWhole county other)
   where
     -- values read from each directed chain are read from the chains in their new order
-    read_along : {X : Type 0} (part : Option Chain → X) (arrangement : List DirectedChain) (w : AreWhole county arrangement)
+    pub read_along : {X : Type 0} (part : Option Chain → X) (arrangement : List DirectedChain) (w : AreWhole county arrangement)
         → map (λ directed. part (directed_chain county directed)) arrangement ≡ map (λ c. part (Some c)) (chains county arrangement is w)
     read_along part arrangement w = sym (map-map part (directed_chain county) arrangement) ∙ ap (map part) (bodies_read county arrangement is w arrangement w.there)
         ∙ map-map part Some (chains county arrangement is w)

@@ -1,15 +1,16 @@
 use Rattle.std.proofs.Common.{◌≡◌, ◌∙◌, length, map, option_map, slice_get, true, false, rules, refl, sym, ap, subst}
 use Rattle.std.proofs.lemmas.Option.{slice_get-map}
 use Rattle.std.specs.List.{AllByRecursion}
-use Rattle.tl_number.specs.MovedChains.{AreWithin, HaveSameChainAt, IsApart, StandInOrder}
+use Rattle.tl_number.specs.MovedChains.{AreWithin, HaveSamePartAt, IsApart, StandInOrder}
 use Rattle.tl_county.specs.DirectedChains.{directed_chain}
+use Rattle.tl_county.specs.declared.directed_chain.DirectedChain.{DirectedChain}
 use Rattle.ordered_lists.proofs.Lists.ByPlace.{decides_no}
 use Rattle.tl_number.proofs.Choices.FixedPlaces.{before_apart, nothing_left, past_first, same_everywhere}
-use Rattle.tl_number.proofs.same_chains.have_same_chains.Goals as goal
+use Rattle.tl_number.proofs.same_chains.have_same_open_parts.Goals as goal
 
 pub loop-at-init : goal.loop-at-init
 loop-at-init g c =
-    let read = directed_chain (g.C.Chart.county c.args.chart.now) in
+    let read : DirectedChain → _ = λ directed. g.P.ChainPart.part (directed_chain (g.C.Chart.county c.args.chart.now) directed) in
     record {
       within = c.requires.within;
       in_order = c.requires.in_order;
@@ -17,38 +18,38 @@ loop-at-init g c =
           ∙ sym (slice_get-map read c.args.other.now place);
     }
 
-pub have_same_chains_at-same-requires-clause-within : goal.have_same_chains_at-same-requires-clause-within
-have_same_chains_at-same-requires-clause-within g c =
+pub have_same_parts_at-same-requires-clause-within : goal.have_same_parts_at-same-requires-clause-within
+have_same_parts_at-same-requires-clause-within g c =
     (subst (AreWithin (length c.args.one.now)) c.in-Some.ensures.cases.0 c.loop-at.invariant.within).0
 
-pub have_same_chains_at-same-requires-clause-before : goal.have_same_chains_at-same-requires-clause-before
-have_same_chains_at-same-requires-clause-before g c =
+pub have_same_parts_at-same-requires-clause-before : goal.have_same_parts_at-same-requires-clause-before
+have_same_parts_at-same-requires-clause-before g c =
     let cut = c.in-Some.ensures.cases.0 in
     λ place before. c.loop-at.invariant.same place (subst (AllByRecursion (IsApart place)) (sym cut)
     (before_apart c.in-Some.at.now c.in-Some.behind.now (subst StandInOrder cut c.loop-at.invariant.in_order) place before))
 
 pub returns-then-not-same : goal.returns-then-not-same
 returns-then-not-same g c =
-    let not_same : c.have_same_chains_at-same.result ≡ false = search rules in
-    decides_no c.have_same_chains_at-same.result not_same c.have_same_chains_at-same.ensures
-    (λ all place before. ap (λ chains. slice_get chains place) all)
+    let not_same : c.have_same_parts_at-same.result ≡ false = search rules in
+    decides_no c.have_same_parts_at-same.result not_same c.have_same_parts_at-same.ensures
+    (λ all place before. ap (λ lists. slice_get lists place) all)
 
 pub loop-at-preserved : goal.loop-at-preserved
 loop-at-preserved g c =
     let cut = c.in-Some.ensures.cases.0 in
-    let yes : c.have_same_chains_at-same.result ≡ true = search rules in
+    let yes : c.have_same_parts_at-same.result ≡ true = search rules in
     record {
       within = (subst (AreWithin (length c.args.one.now)) cut c.loop-at.invariant.within).1;
       in_order = (subst StandInOrder cut c.loop-at.invariant.in_order).1;
-      same = past_first (HaveSameChainAt (g.C.Chart.county c.args.chart.now) c.args.one.now c.args.other.now) c.in-Some.at.now
+      same = past_first (HaveSamePartAt g.P.ChainPart.part (g.C.Chart.county c.args.chart.now) c.args.one.now c.args.other.now) c.in-Some.at.now
           c.in-Some.behind.now
           (λ place apart. c.loop-at.invariant.same place (subst (AllByRecursion (IsApart place)) (sym cut) apart))
-          (c.have_same_chains_at-same.ensures.0 yes);
+          (c.have_same_parts_at-same.ensures.0 yes);
     }
 
 pub returns : goal.returns
 returns g c =
-    let read = directed_chain (g.C.Chart.county c.args.chart.now) in
+    let read : DirectedChain → _ = λ directed. g.P.ChainPart.part (directed_chain (g.C.Chart.county c.args.chart.now) directed) in
     let none = nothing_left c.loop-at.rest.now c.in_default.ensures.cases in (
       λ e. same_everywhere (map read c.args.one.now) (map read c.args.other.now)
           (λ place. c.loop-at.invariant.same place (subst (AllByRecursion (IsApart place)) (sym none) tt)),

@@ -1,0 +1,102 @@
+-- Collecting the nodes of open chains and the critical ends.
+use Rattle.std.proofs.Common.{◌≡◌, ◌<◌, ◌≤◌, ◌+◌, nat_lt, Bool, true, false, arith, ℕ, zero, suc, List, [], ◌∷◌, map, drop, get_or, length, slice_get, Option, Some, None, option_map, option_to_list}
+use Rattle.std.proofs.Common.{IsTrue, nat_cmp, refl, sym, ap, ◌∙◌, subst}
+use Rattle.std.proofs.lemmas.Bool.{lt-ltb, ltb-false, ltb-true}
+use Rattle.std.proofs.lemmas.List.{drop_more}
+use Rattle.std.proofs.lemmas.Option.{slice_get-get_or}
+use Rattle.tl_shape.specs.Chain.{Chain}
+use Rattle.tl_county.specs.County.{County}
+use Rattle.tl_county.specs.DirectedChains.{directed_chain}
+use Rattle.tl_county.specs.declared.directed_chain.DirectedChain.{DirectedChain}
+use Rattle.tl_profile.specs.declared.open_places.OpenPlace.{OpenPlace}
+use Rattle.ordered_lists.specs.Orders.{stands_in, times}
+use Rattle.ordered_lists.proofs.ByKey.Keys.{all_known, nat_keys}
+use Rattle.ordered_lists.proofs.Lists.Elements.{all_weaker}
+use Rattle.tl_number.specs.CriticalPlaces.{HasNodes, is_open, ends_along, ends_or_none, met_after_both}
+use Rattle.tl_number.specs.DirectedChains.{HasChainsOf}
+use Rattle.tl_number.specs.EndsAndSides.{ends_of, nodes_at}
+use Rattle.tl_number.specs.Growth.{first_seen_after}
+use Rattle.tl_number.proofs.Numbering.FirstSeen.{all_after, seen_after}
+use Rattle.tl_number.proofs.Numbering.SeenLists.{seen_append}
+
+-- the item at a place, and those behind it
+pub item_dropped : {X : Type 0} (xs : List X) (i : ℕ) (x : X) → i < length xs → x ≡ get_or xs i x → drop i xs ≡ x ∷ drop (i + 1) xs
+item_dropped xs i x there is = drop_more xs i x there ∙ ap (λ y. y ∷ drop (i + 1) xs) (sym is)
+
+pub item_there : {X : Type 0} (xs : List X) (i : ℕ) (x : X) → i < length xs → x ≡ get_or xs i x → slice_get xs i ≡ Some x
+item_there xs i x there is = slice_get-get_or xs i x there ∙ ap Some (sym is)
+
+-- seeing both nodes of a chain
+both_met : (seen : List ℕ) (ends : Option ℕ × Option ℕ) → first_seen_after nat_cmp seen (nodes_at ends) ≡ met_after_both seen ends
+both_met seen ends = seen_append nat_cmp seen (option_to_list ends.0) (option_to_list ends.1)
+
+pub still_seen : (seen : List ℕ) (ends : Option ℕ × Option ℕ) (node : ℕ) → IsTrue (stands_in nat_cmp node seen)
+    → IsTrue (stands_in nat_cmp node (met_after_both seen ends))
+still_seen seen ends node h = subst (λ l. IsTrue (stands_in nat_cmp node l)) (both_met seen ends)
+    (lt-ltb 0 (times nat_cmp node (first_seen_after nat_cmp seen (nodes_at ends)))
+    (seen_after nat_keys seen (nodes_at ends) node (ltb-true 0 (times nat_cmp node seen) h)))
+
+pub both_seen_now : (seen : List ℕ) (ends : Option ℕ × Option ℕ) → HasNodes (met_after_both seen ends) (nodes_at ends)
+both_seen_now seen ends = subst (λ l. HasNodes l (nodes_at ends)) (both_met seen ends)
+    (all_known nat_keys (λ node. IsTrue (stands_in nat_cmp node (first_seen_after nat_cmp seen (nodes_at ends)))) (nodes_at ends)
+    (λ node k. lt-ltb 0 (times nat_cmp node (first_seen_after nat_cmp seen (nodes_at ends))) (all_after nat_keys seen (nodes_at ends) node k)))
+
+pub has_still : (old new nodes : List ℕ) → ((node : ℕ) → IsTrue (stands_in nat_cmp node old) → IsTrue (stands_in nat_cmp node new))
+    → HasNodes old nodes → HasNodes new nodes
+has_still old new nodes grown has =
+    all_weaker (λ node. IsTrue (stands_in nat_cmp node old)) (λ node. IsTrue (stands_in nat_cmp node new)) grown nodes has
+
+-- the nodes of the chains at the open places up to one more
+pub one_more_open : (places : List OpenPlace) (ends : List (Option ℕ × Option ℕ)) (old new : List ℕ) (place : ℕ) (here : Option ℕ × Option ℕ)
+    → slice_get ends place ≡ Some here
+    → ((k : ℕ) (pair : Option ℕ × Option ℕ) → k < place → is_open k places ≡ true → slice_get ends k ≡ Some pair → HasNodes old (nodes_at pair))
+    → ((node : ℕ) → IsTrue (stands_in nat_cmp node old) → IsTrue (stands_in nat_cmp node new))
+    → (is_open place places ≡ true → HasNodes new (nodes_at here))
+    → (k : ℕ) (pair : Option ℕ × Option ℕ) → k < place + 1 → is_open k places ≡ true → slice_get ends k ≡ Some pair → HasNodes new (nodes_at pair)
+one_more_open places ends old new place here there before grown seen k pair l e f = go (nat_lt k place) refl
+  where
+    go : (b : Bool) → nat_lt k place ≡ b → HasNodes new (nodes_at pair)
+    go true h = has_still old new (nodes_at pair) grown (before k pair (ltb-true k place h) e f)
+    go false h =
+        let past : place ≤ k = ltb-false k place h in
+        let same : place ≡ k = omega (arith, l, past) in
+        let both : Some here ≡ Some pair = sym there ∙ ap (slice_get ends) same ∙ f in
+        let one : here ≡ pair = cc in
+        subst (λ p. HasNodes new (nodes_at p)) one (seen (ap (λ j. is_open j places) same ∙ e))
+
+-- ends read from each directed chain
+end_read : (o : Option Chain) (ends : Option ℕ × Option ℕ) → Some ends ≡ option_map ends_of o → ends ≡ ends_or_none o
+end_read None ends e = cc
+end_read (Some chain) ends e = let same : ends ≡ ends_of chain = cc in same
+
+pub ends_read_along : (county : County) (arrangement : List DirectedChain) (met : List (Option ℕ × Option ℕ))
+    → map Some met ≡ map (λ directed. option_map ends_of (directed_chain county directed)) arrangement → met ≡ ends_along county arrangement
+ends_read_along county [] [] e = refl
+ends_read_along county [] (m ∷ ms) e = cc
+ends_read_along county (d ∷ ds) [] e = cc
+ends_read_along county (d ∷ ds) (m ∷ ms) e =
+    let first : Some m ≡ option_map ends_of (directed_chain county d) = cc in
+    let rest : map Some ms ≡ map (λ directed. option_map ends_of (directed_chain county directed)) ds = cc in
+    λ i. end_read (directed_chain county d) m first i ∷ ends_read_along county ds ms rest i
+
+-- the ends at a place
+pub end_at_place : (county : County) (arrangement : List DirectedChain) (place : ℕ) (directed : DirectedChain) (ends : Option ℕ × Option ℕ)
+    → slice_get arrangement place ≡ Some directed → Some ends ≡ option_map ends_of (directed_chain county directed)
+    → ends ≡ get_or (ends_along county arrangement) place (None, None)
+end_at_place county [] place directed ends e f = cc
+end_at_place county (d ∷ ds) zero directed ends e f =
+    let same : d ≡ directed = cc in
+    end_read (directed_chain county directed) ends f ∙ ap (λ x. ends_or_none (directed_chain county x)) (sym same)
+end_at_place county (d ∷ ds) (suc place) directed ends e f = end_at_place county ds place directed ends e f
+
+pub no_end_there : (county : County) (arrangement : List DirectedChain) (place : ℕ) → slice_get arrangement place ≡ None
+    → (None, None) ≡ get_or (ends_along county arrangement) place (None, None)
+no_end_there county [] place e = refl
+no_end_there county (d ∷ ds) zero e = cc
+no_end_there county (d ∷ ds) (suc place) e = no_end_there county ds place e
+
+pub chain_at_place : (county : County) (arrangement : List DirectedChain) → HasChainsOf county arrangement → (place : ℕ) (directed : DirectedChain)
+    → slice_get arrangement place ≡ Some directed → directed.place < length county.chains
+chain_at_place county [] has place directed e = cc
+chain_at_place county (d ∷ ds) has zero directed e = let same : d ≡ directed = cc in subst (λ x. x.place < length county.chains) same has.0
+chain_at_place county (d ∷ ds) has (suc place) directed e = chain_at_place county ds has.1 place directed e

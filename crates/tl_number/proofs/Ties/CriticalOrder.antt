@@ -1,0 +1,180 @@
+-- Choices that differ only in the nodes of their chains are in the order of the numbers of their critical ends.
+use Rattle.std.proofs.Common.{◌≡◌, ◌∙◌, ℕ, List, ◌++◌, flat_map, length, map, slice_get, Bool, true, false, not, cond, Option, Some, None, option_map, option_to_list}
+use Rattle.std.proofs.Common.{Ordering, nat_cmp, is_gt, refl, sym, ap, subst}
+use Rattle.std.proofs.lemmas.List.{length-map}
+use Rattle.std.proofs.lemmas.Option.{slice_get-map}
+use Rattle.std.specs.Cmp.Lexicographic.{slice_cmp}
+use Rattle.tl_layout.specs.RecordText.{text_of}
+use Rattle.tl_layout.specs.declared.record_type.Record.TheVariants.{One}
+use Rattle.tl_shape.specs.Chain.{Chain}
+use Rattle.tl_shape.specs.Turned.{turned_if}
+use Rattle.tl_county.specs.ChartWords.{chain_at}
+use Rattle.tl_county.specs.County.{County}
+use Rattle.tl_county.specs.CountyRules.{IsCounty}
+use Rattle.tl_county.specs.DirectedChains.{directed_chain}
+use Rattle.tl_county.specs.Limits.{IsWithinLimits, most_records}
+use Rattle.tl_county.specs.Packing.{packed}
+use Rattle.tl_county.specs.Renumbering.{AreSame}
+use Rattle.tl_county.specs.declared.directed_chain.DirectedChain.{DirectedChain}
+use Rattle.tl_profile.specs.ShapeOrder.{OrderOfShapes}
+use Rattle.tl_number.specs.Arrangement.{arranged}
+use Rattle.tl_number.specs.Canonical.{IsNotAfter}
+use Rattle.tl_number.specs.ChoiceSearch.{LeavesChoices}
+use Rattle.tl_number.specs.CountyGroups.{type_1_by_chain, type_2_by_chain}
+use Rattle.tl_number.specs.CriticalPlaces.{AreCritical, HasNodes, HasOpenNodes, critical_numbers, ends_along, ends_at, ends_cmp, ends_or_none, is_open, renumbered_ends}
+use Rattle.tl_number.specs.DirectedChains.{HasChainsOf, arrangement_of}
+use Rattle.tl_number.specs.EndsAndSides.{ends_among, nodes_at}
+use Rattle.tl_number.specs.Growth.{first_seen}
+use Rattle.tl_number.specs.LeastNumber.{choice_list}
+use Rattle.tl_number.specs.MovedChains.{other_way}
+use Rattle.tl_number.specs.ChoiceSearch.{numbered_arrangement}
+use Rattle.tl_number.specs.NodeTies.{AreNodeTies}
+use Rattle.tl_number.specs.RecordOrder.{groups_cmp}
+use Rattle.tl_number.specs.Tidy.{numbered_choice}
+use Rattle.tl_number.specs.ViewFacts.{AreWhole}
+use Rattle.tl_number.specs.declared.critical_places.CriticalEnds.{CriticalEnds}
+use Rattle.tl_number.proofs.CanonicalLists.SameShapes.{twos_of_numbers}
+use Rattle.tl_number.proofs.Choices.AscendingArrangement.{arrangement_there}
+use Rattle.tl_number.proofs.Choices.ChosenArrangements.{arrangement_of_number, arrangement_of_number_apart, arrangement_of_number_count, arrangement_of_number_there, places_within}
+use Rattle.tl_number.proofs.Choices.LeastNumbers.{choices_same, lesser_of}
+use Rattle.tl_number.proofs.Choices.LeastOnes.{both_tied, tied_along, tied_with_itself, whole_of_number}
+use Rattle.tl_number.proofs.Ties.CriticalSlots.{agree_all, critical_decide}
+use Rattle.tl_number.proofs.Ties.NodeOrder.{nodes_decide}
+use Rattle.tl_number.proofs.Ties.OpenChains.{closed_apart, moved_has}
+
+-- nodes of a chain in the other direction
+turned_nodes : (nodes : List ℕ) (a b : Option ℕ) → HasNodes nodes (option_to_list a ++ option_to_list b)
+    → HasNodes nodes (option_to_list b ++ option_to_list a)
+turned_nodes nodes None None h = h
+turned_nodes nodes None (Some y) h = h
+turned_nodes nodes (Some x) None h = h
+turned_nodes nodes (Some x) (Some y) h = (h.1.0, (h.0, h.1.1))
+
+chain_turned : (nodes : List ℕ) (chain : Option Chain) (t : Bool) → HasNodes nodes (nodes_at (ends_or_none (option_map (turned_if t) chain)))
+    → HasNodes nodes (nodes_at (ends_or_none (option_map (turned_if (not t)) chain)))
+chain_turned nodes None t h = h
+chain_turned nodes (Some c) true h = turned_nodes nodes c.end_node c.start_node h
+chain_turned nodes (Some c) false h = turned_nodes nodes c.start_node c.end_node h
+
+module _ (county : County) (shapes : OrderOfShapes) (known : LeavesChoices county shapes) (is : IsCounty county)
+    (within : IsWithinLimits most_records county) where
+  -- the arrangement with a number
+  length_numbered : (n : ℕ) → length (numbered_arrangement shapes n) ≡ length shapes.by_shape
+  length_numbered n = arrangement_of_number_count county is shapes.by_shape known.order.by_shape shapes.places (known.order.places known.few)
+      (numbered_arrangement shapes n) n refl
+
+  whole_numbered : (n : ℕ) → AreWhole county (numbered_arrangement shapes n)
+  whole_numbered n = whole_of_number county is within known.sides shapes.by_shape known.order.by_shape shapes.places (known.order.places known.few)
+      (numbered_arrangement shapes n) n refl
+
+  choice_of : (n : ℕ) → arrangement_of county (numbered_arrangement shapes n) ≡ numbered_choice county n
+  choice_of n = arrangement_of_number county is shapes.by_shape known.order.by_shape shapes.places (known.order.places known.few)
+      (numbered_arrangement shapes n) n refl
+
+  -- it has chains of the county
+  pub there_numbered : (n : ℕ) (arrangement : List DirectedChain) → arrangement ≡ numbered_arrangement shapes n → HasChainsOf county arrangement
+  there_numbered n arrangement stated = arrangement_of_number_there county is shapes.by_shape known.order.by_shape shapes.places
+      (known.order.places known.few) arrangement n stated
+
+  pub there_by_shape : HasChainsOf county shapes.by_shape
+  there_by_shape = arrangement_there county shapes.by_shape known.order.by_shape shapes.by_shape refl
+
+  -- its ends at fixed places, and at open ones
+  fixed_ends_same : (n place : ℕ) → is_open place shapes.places ≡ false
+      → slice_get (ends_along county shapes.by_shape) place ≡ slice_get (ends_along county (numbered_arrangement shapes n)) place
+  fixed_ends_same n place fixed =
+      let read : DirectedChain → Option ℕ × Option ℕ = λ directed. ends_or_none (directed_chain county directed) in
+      slice_get-map read shapes.by_shape place
+      ∙ ap (option_map read) (sym (arrangement_of_number_apart county is shapes.by_shape known.order.by_shape shapes.places
+      (known.order.places known.few) (numbered_arrangement shapes n) n refl place (closed_apart place shapes.places fixed)))
+      ∙ sym (slice_get-map read (numbered_arrangement shapes n) place)
+
+  module _ (nodes : List ℕ) (open_nodes : HasOpenNodes shapes.places (ends_along county shapes.by_shape) nodes) where
+    abbrev HasNodesOf : DirectedChain → Type 0
+    HasNodesOf directed = HasNodes nodes (nodes_at (ends_or_none (directed_chain county directed)))
+
+    read_open : (n place : ℕ) (directed : DirectedChain) → is_open place shapes.places ≡ true
+        → slice_get (numbered_arrangement shapes n) place ≡ Some directed → HasNodesOf directed
+    read_open n = moved_has other_way HasNodesOf
+        (λ directed h. chain_turned nodes (chain_at county directed.place) directed.turned h) shapes.places shapes.by_shape n
+        (places_within county is shapes.by_shape known.order.by_shape shapes.places (known.order.places known.few))
+        (λ place directed e there. open_nodes place (ends_or_none (directed_chain county directed)) e
+        (slice_get-map (λ (d : DirectedChain). ends_or_none (directed_chain county d)) shapes.by_shape place
+        ∙ ap (option_map (λ (d : DirectedChain). ends_or_none (directed_chain county d))) there))
+
+    open_ends : (n place : ℕ) (pair : Option ℕ × Option ℕ) → is_open place shapes.places ≡ true
+        → slice_get (ends_along county (numbered_arrangement shapes n)) place ≡ Some pair → HasNodes nodes (nodes_at pair)
+    open_ends n place pair e there = go (slice_get (numbered_arrangement shapes n) place) refl
+        (sym (slice_get-map (λ (d : DirectedChain). ends_or_none (directed_chain county d)) (numbered_arrangement shapes n) place) ∙ there)
+      where
+        go : (o : Option DirectedChain) → slice_get (numbered_arrangement shapes n) place ≡ o
+            → option_map (λ (d : DirectedChain). ends_or_none (directed_chain county d)) o ≡ Some pair → HasNodes nodes (nodes_at pair)
+        go None f h = cc
+        go (Some directed) f h =
+            let same : ends_or_none (directed_chain county directed) ≡ pair = cc in
+            subst (λ p. HasNodes nodes (nodes_at p)) same (read_open n place directed e f)
+
+  module _ (critical : List CriticalEnds) (are : AreCritical county shapes critical) where
+    numbers_decide : (n m : ℕ)
+        → slice_cmp ends_cmp (renumbered_ends (ends_along county (numbered_arrangement shapes n)))
+        (renumbered_ends (ends_along county (numbered_arrangement shapes m)))
+        ≡ slice_cmp ends_cmp (critical_numbers county critical (numbered_arrangement shapes n))
+        (critical_numbers county critical (numbered_arrangement shapes m))
+    numbers_decide n m =
+        let shape = ends_along county shapes.by_shape in
+        let left = ends_along county (numbered_arrangement shapes n) in
+        let right = ends_along county (numbered_arrangement shapes m) in
+        critical_decide are.nodes shapes.places left right shape
+        (agree_all are.nodes shapes.places left right shape (fixed_ends_same n) (fixed_ends_same m)
+        (open_ends are.nodes are.open_nodes n) (open_ends are.nodes are.open_nodes m) (as_many n) (as_many m))
+        ∙ ap (λ all. slice_cmp ends_cmp (renumbered_ends (map (ends_at left) all)) (renumbered_ends (map (ends_at right) all))) (sym are.all)
+      where
+        as_many : (k : ℕ) → length (ends_along county shapes.by_shape) ≡ length (ends_along county (numbered_arrangement shapes k))
+        as_many k = length-map shapes.by_shape (λ (d : DirectedChain). ends_or_none (directed_chain county d)) ∙ sym (length_numbered k)
+            ∙ sym (length-map (numbered_arrangement shapes k) (λ (d : DirectedChain). ends_or_none (directed_chain county d)))
+
+    -- So their texts are, too.
+    pub ties_in_order : (n m : ℕ) → AreNodeTies county shapes n m
+        → slice_cmp nat_cmp (text_of (choice_list county n)) (text_of (choice_list county m))
+        ≡ slice_cmp ends_cmp (critical_numbers county critical (numbered_arrangement shapes n))
+        (critical_numbers county critical (numbered_arrangement shapes m))
+    ties_in_order n m tie =
+        let a = choice_of n in
+        let b = choice_of m in
+        sym (λ i. slice_cmp nat_cmp (text_of (packed (arranged county (a i)))) (text_of (packed (arranged county (b i)))))
+        ∙ nodes_decide county is (numbered_arrangement shapes n) (numbered_arrangement shapes m) (whole_numbered n) (whole_numbered m) tie.rest
+        (subst (λ c. AreSame (arranged county c) (arranged county (arrangement_of county (numbered_arrangement shapes m)))) (sym a)
+        (subst (λ c. AreSame (arranged county (numbered_choice county n)) (arranged county c)) (sym b) (choices_same county is known.sides n m)))
+        ((λ i. groups_cmp One (type_1_by_chain (arranged county (a i))) (type_1_by_chain (arranged county (b i)))) ∙ tie.ones)
+        (ap (λ c. type_2_by_chain (arranged county c)) a ∙ twos_of_numbers county is known.sides n m
+        ∙ sym (ap (λ c. type_2_by_chain (arranged county c)) b))
+        ∙ numbers_decide n m
+
+    -- and the lesser one is before neither
+    pub lesser_tie : (n m : ℕ) (o : Ordering) → AreNodeTies county shapes n m
+        → o ≡ slice_cmp ends_cmp (critical_numbers county critical (numbered_arrangement shapes n))
+        (critical_numbers county critical (numbered_arrangement shapes m))
+        → IsNotAfter (choice_list county (cond (is_gt o) m n)) (choice_list county n)
+        × IsNotAfter (choice_list county (cond (is_gt o) m n)) (choice_list county m)
+    lesser_tie n m o tie e = lesser_of county n m o (e ∙ sym (ties_in_order n m tie))
+
+-- ties of a choice with itself, and with those that tie with another
+module _ (county : County) (shapes : OrderOfShapes) where
+  pub tie_with_itself : (n : ℕ) → AreNodeTies county shapes n n
+  tie_with_itself n = record { ones = tied_with_itself county n; rest = refl }
+
+  pub tie_along : (first n m : ℕ) → AreNodeTies county shapes first n → AreNodeTies county shapes n m → AreNodeTies county shapes first m
+  tie_along first n m a b = record { ones = tied_along county first n m a.ones b.ones; rest = a.rest ∙ b.rest }
+
+  pub tie_of_both : (first n m : ℕ) → AreNodeTies county shapes first n → AreNodeTies county shapes first m → AreNodeTies county shapes n m
+  tie_of_both first n m a b = record { ones = both_tied county first n m a.ones b.ones; rest = sym a.rest ∙ b.rest }
+
+-- the numbers of critical ends are as many as these, whatever the arrangement
+pub as_many_numbers : (county : County) (critical : List CriticalEnds) (one other : List DirectedChain)
+    → length (critical_numbers county critical one) ≡ length (critical_numbers county critical other)
+as_many_numbers county critical one other = all one ∙ sym (all other)
+  where
+    all : (arrangement : List DirectedChain) → length (critical_numbers county critical arrangement) ≡ length critical
+    all arrangement =
+        let ends = map (ends_at (ends_along county arrangement)) critical in
+        length-map ends (ends_among (first_seen nat_cmp (flat_map nodes_at ends))) ∙ length-map critical (ends_at (ends_along county arrangement))

@@ -1,0 +1,209 @@
+-- The texts of two arrangements whose chains differ only in their nodes are in the order of the numbers of these.
+use Rattle.std.proofs.Common.{◌≡◌, ◌∙◌, ℕ, suc, List, [], ◌∷◌, map, flat_map, Option, Some, None, option_map, option_to_list, Equal, nat_cmp}
+use Rattle.std.proofs.Common.{refl, sym, ap, ap₂, subst}
+use Rattle.std.specs.Cmp.Lexicographic.{slice_cmp}
+use Rattle.std.specs.List.{AllByRecursion}
+use Rattle.std.specs.Ordering.{on, ordering_then}
+use Rattle.tl_layout.specs.Fields.{Fields8}
+use Rattle.tl_layout.specs.PolygonSide.{PolygonSide}
+use Rattle.tl_layout.specs.RecordText.{text_of}
+use Rattle.tl_layout.specs.declared.record_type.Record.TheVariants.{One, Four, Five, Six, Seven, Eight, I, P}
+use Rattle.tl_layout.specs.declared.type7.Body7.{Body7}
+use Rattle.tl_layout.specs.declared.type_p.BodyP.{BodyP}
+use Rattle.tl_shape.specs.Chain.{Chain}
+use Rattle.tl_county.specs.ChartWords.{feats_of, ranges_of}
+use Rattle.tl_county.specs.County.{County}
+use Rattle.tl_county.specs.CountyRules.{IsCounty}
+use Rattle.tl_county.specs.DirectedChains.{directed_chain}
+use Rattle.tl_county.specs.Limits.{FitsNumbers}
+use Rattle.tl_county.specs.Packing.{numbered_from, packed, packed_i, packed_p, packed_sevens}
+use Rattle.tl_county.specs.PolygonKeys.{PolygonKey, key_cmp}
+use Rattle.tl_county.specs.Renumbering.{AreSame, Renumbering, renumbered, renumbered_polygon, renumbered_side, side_of}
+use Rattle.tl_county.specs.declared.directed_chain.DirectedChain.{DirectedChain}
+use Rattle.ordered_lists.specs.Orders.{in_order}
+use Rattle.ordered_lists.specs.Pairs.{image}
+use Rattle.ordered_lists.proofs.Lists.Elements.{all_map, all_weaker, map-map}
+use Rattle.tl_number.specs.Arrangement.{new_keys, renaming_of, under_cenid}
+use Rattle.tl_number.specs.ByNumber.{entry_polyid}
+use Rattle.tl_number.specs.CountyGroups.{type_1_by_chain, type_2_by_chain, type_4_by_chain, type_5_by_name, type_6_by_chain, type_7_by_landmark}
+use Rattle.tl_number.specs.CountyGroups.{type_8_together, type_i_by_chain, type_p_by_number}
+use Rattle.tl_number.specs.CriticalPlaces.{AreSameButNodes, ButNodes, but_nodes, but_nodes_list, ends_along, ends_cmp, ends_or_none, renumbered_ends}
+use Rattle.tl_number.specs.DirectedChains.{arrangement_of, parts_along}
+use Rattle.tl_number.specs.EndsAndSides.{ends_of, polygons_at, sides_of}
+use Rattle.tl_number.specs.Growth.{first_seen, numbered}
+use Rattle.tl_number.specs.RecordOrder.{groups_cmp, records_cmp}
+use Rattle.tl_number.specs.ViewFacts.{AreWhole, arranged_by}
+use Rattle.tl_number.proofs.Arrangements.Carrying.{chains_arranged}
+use Rattle.tl_number.proofs.Records.PackedGroups.{is}
+use Rattle.tl_number.proofs.Texts.RecordTexts.{then_equal}
+use Rattle.tl_number.proofs.Texts.GroupOrders.{same_groups}
+use Rattle.tl_number.proofs.Texts.SameLists.{read_along, type_4_same, type_5_same, type_6_same}
+use Rattle.tl_number.proofs.Texts.SamePolygons.{new_polygons_same, same_landmarks, same_links, same_polygons}
+use Rattle.tl_number.proofs.Texts.TypeOrders.{tied_texts_in_order}
+use Rattle.tl_number.proofs.Ties.TopologyOrder.{HaveOtherNodes, NodesFit, topologies_cmp}
+use Rattle.tl_number.proofs.Unique.SameNumbers.{kept_entry}
+use Rattle.tl_number.proofs.Views.ArrangedTables.{ends_met, polygons_met}
+use Rattle.tl_number.proofs.Views.ViewChains.{arranges, chains, values}
+
+-- chains that are the same except for their nodes
+abbrev AreAlike : List Chain → List Chain → Type 0
+AreAlike cs ds = map (λ (c : Chain). but_nodes c ∷ []) cs ≡ map (λ (c : Chain). but_nodes c ∷ []) ds
+
+part_same : {X : Type 0} (f : ButNodes → X) (cs ds : List Chain) → AreAlike cs ds
+    → map (λ (c : Chain). f (but_nodes c)) cs ≡ map (λ (c : Chain). f (but_nodes c)) ds
+part_same f [] [] e = refl
+part_same f [] (d ∷ ds) e = cc
+part_same f (c ∷ cs) [] e = cc
+part_same f (c ∷ cs) (d ∷ ds) e =
+    let here : but_nodes c ≡ but_nodes d = cc in
+    let rest : AreAlike cs ds = cc in
+    λ i. f (here i) ∷ part_same f cs ds rest i
+
+-- chains numbered before or after their parts get new numbers
+numbered_kept : (r : Renumbering) (n : ℕ) (cs : List Chain) → map (kept_entry r) (numbered_from n cs) ≡ numbered_from n (map (renumbered r) cs)
+numbered_kept r n [] = refl
+numbered_kept r n (c ∷ cs) = ap (λ l. (n, renumbered r c) ∷ l) (numbered_kept r (suc n) cs)
+
+module _ (r s : Renumbering) (polygons : r.polygons ≡ s.polygons) where
+  same_polygon : (cenid : List ℕ) (polyid : Option ℕ) → renumbered_polygon r cenid polyid ≡ renumbered_polygon s cenid polyid
+  same_polygon cenid None = refl
+  same_polygon cenid (Some polyid) = ap (λ pairs. side_of (image key_cmp pairs (cenid, polyid))) polygons
+
+  same_side : (x y : PolygonSide) → x ≡ y → renumbered_side r x ≡ renumbered_side s y
+  same_side x y e = same_polygon x.cenid x.polyid ∙ ap (renumbered_side s) e
+
+  other_nodes : (cs ds : List Chain) → AreAlike cs ds → HaveOtherNodes (map (renumbered r) cs) (map (renumbered s) ds)
+  other_nodes [] [] e = tt
+  other_nodes [] (d ∷ ds) e = cc
+  other_nodes (c ∷ cs) [] e = cc
+  other_nodes (c ∷ cs) (d ∷ ds) e =
+      let here : but_nodes c ≡ but_nodes d = cc in
+      let rest : AreAlike cs ds = cc in (
+        record {
+          topology = ap (λ b. b.topology) here;
+          left = same_side c.left d.left (ap (λ b. b.left) here);
+          right = same_side c.right d.right (ap (λ b. b.right) here);
+        },
+        other_nodes cs ds rest,
+      )
+
+module _ (county : County) (is_county : IsCounty county) (one other : List DirectedChain) (whole : AreWhole county one)
+    (other_whole : AreWhole county other) (same : AreSameButNodes county one other) where
+  abbrev ones : List Chain
+  ones = chains county one is_county whole
+
+  abbrev others : List Chain
+  others = chains county other is_county other_whole
+
+  alike : AreAlike ones others
+  alike = sym (read_along county is_county one other whole other_whole but_nodes_list one whole) ∙ same
+      ∙ read_along county is_county one other whole other_whole but_nodes_list other other_whole
+
+  -- a part of the chains is the same
+  along_same : {X : Type 0} (part : Option Chain → X) (f : ButNodes → X) → ((c : Chain) → part (Some c) ≡ f (but_nodes c))
+      → parts_along part county one ≡ parts_along part county other
+  along_same part f stated =
+      read_along county is_county one other whole other_whole part one whole
+      ∙ (λ i. map (λ c. stated c i) ones) ∙ part_same f ones others alike ∙ sym (λ i. map (λ c. stated c i) others)
+      ∙ sym (read_along county is_county one other whole other_whole part other other_whole)
+
+  feats_same : parts_along feats_of county one ≡ parts_along feats_of county other
+  feats_same = along_same feats_of (λ b. b.feats) (λ c. refl)
+
+  ranges_same : parts_along ranges_of county one ≡ parts_along ranges_of county other
+  ranges_same = along_same ranges_of (λ b. b.ranges) (λ c. refl)
+
+  -- polygons have the same numbers
+  sides_read : (arrangement : List DirectedChain) (w : AreWhole county arrangement)
+      → map Some (map sides_of (chains county arrangement is_county w)) ≡ map (λ directed. option_map sides_of (directed_chain county directed)) arrangement
+  sides_read arrangement w = map-map Some sides_of (chains county arrangement is_county w)
+      ∙ sym (read_along county is_county one other whole other_whole (option_map sides_of) arrangement w)
+
+  sides_same : map sides_of ones ≡ map sides_of others
+  sides_same = part_same (λ b. (b.left, b.right)) ones others alike
+
+  keys_same : new_keys county (arrangement_of county one) ≡ new_keys county (arrangement_of county other)
+  keys_same = ap (λ (keys : List PolygonKey). map under_cenid (numbered keys))
+      (sym (polygons_met county one is_county whole (map sides_of ones) (sides_read one whole))
+      ∙ ap (λ (sides : List (PolygonSide × PolygonSide)). first_seen key_cmp (flat_map polygons_at sides)) sides_same
+      ∙ polygons_met county other is_county other_whole (map sides_of others) (sides_read other other_whole))
+
+  type_7_same : type_7_by_landmark (arranged_by county one) ≡ type_7_by_landmark (arranged_by county other)
+  type_7_same = ap (λ (landmarks : List (ℕ × List Body7)). map packed_sevens landmarks)
+      (same_landmarks county is_county (arrangement_of county one) (arrangement_of county other)
+      (arranges county one is_county whole) (arranges county other is_county other_whole) keys_same)
+
+  type_8_same : type_8_together (arranged_by county one) ≡ type_8_together (arranged_by county other)
+  type_8_same = ap (λ (links : List Fields8). links ∷ [])
+      (same_links county is_county (arrangement_of county one) (arrangement_of county other)
+      (arranges county one is_county whole) (arranges county other is_county other_whole) keys_same)
+
+  type_p_same : type_p_by_number (arranged_by county one) ≡ type_p_by_number (arranged_by county other)
+  type_p_same = ap (λ (polygons : List (PolygonKey × Option BodyP)). map (λ entry. option_to_list (packed_p entry)) (in_order (on entry_polyid nat_cmp) polygons))
+      (same_polygons county is_county (arrangement_of county one) (arrangement_of county other)
+      (arranges county one is_county whole) (arranges county other is_county other_whole) keys_same)
+
+  -- the nodes of the arranged chains
+  ends_read : (arrangement : List DirectedChain) (w : AreWhole county arrangement)
+      → map ends_of (map (renumbered (renaming_of county (arrangement_of county arrangement))) (chains county arrangement is_county w))
+      ≡ renumbered_ends (ends_along county arrangement)
+  ends_read arrangement w =
+      ap (map ends_of) (sym (values county arrangement is_county w))
+      ∙ sym (ends_met county arrangement is_county w (ends_along county arrangement)
+      (ap (map Some) (read_along county is_county one other whole other_whole ends_or_none arrangement w)
+      ∙ map-map Some ends_of (chains county arrangement is_county w)
+      ∙ sym (read_along county is_county one other whole other_whole (option_map ends_of) arrangement w)))
+
+  nodes_fit : (arrangement : List DirectedChain) (w : AreWhole county arrangement)
+      → AllByRecursion NodesFit (map (renumbered (renaming_of county (arrangement_of county arrangement))) (chains county arrangement is_county w))
+  nodes_fit arrangement w =
+      all_weaker FitsNumbers NodesFit (λ c fits. record { start_node = fits.start_node; end_node = fits.end_node })
+      (map (renumbered (renaming_of county (arrangement_of county arrangement))) (chains county arrangement is_county w))
+      (subst (AllByRecursion FitsNumbers) (values county arrangement is_county w)
+      (all_map FitsNumbers (λ (e : ℕ × Chain). e.1) (arranged_by county arrangement).chains w.within_limits.numbers.named))
+
+  chains_numbered : (arrangement : List DirectedChain) (w : AreWhole county arrangement) → (arranged_by county arrangement).chains
+      ≡ numbered_from 1 (map (renumbered (renaming_of county (arrangement_of county arrangement))) (chains county arrangement is_county w))
+  chains_numbered arrangement w =
+      chains_arranged county (arrangement_of county arrangement) is_county (arranges county arrangement is_county w)
+      ∙ numbered_kept (renaming_of county (arrangement_of county arrangement)) 1 (chains county arrangement is_county w)
+
+  links_order : groups_cmp I (type_i_by_chain (arranged_by county one)) (type_i_by_chain (arranged_by county other))
+      ≡ slice_cmp ends_cmp (renumbered_ends (ends_along county one)) (renumbered_ends (ends_along county other))
+  links_order =
+      let r = renaming_of county (arrangement_of county one) in
+      let s = renaming_of county (arrangement_of county other) in
+      ap₂ records_cmp (is (arranged_by county one) ∙ ap (λ es. map I (map packed_i es)) (chains_numbered one whole))
+      (is (arranged_by county other) ∙ ap (λ es. map I (map packed_i es)) (chains_numbered other other_whole))
+      ∙ topologies_cmp 1 (map (renumbered r) ones) (map (renumbered s) others)
+      (other_nodes r s (new_polygons_same county is_county (arrangement_of county one) (arrangement_of county other)
+      (arranges county one is_county whole) (arranges county other is_county other_whole) keys_same) ones others alike)
+      (nodes_fit one whole) (nodes_fit other other_whole)
+      ∙ ap₂ (slice_cmp ends_cmp) (ends_read one whole) (ends_read other other_whole)
+
+  -- Only the records of type I differ.
+  pub nodes_decide : AreSame (arranged_by county one) (arranged_by county other)
+      → groups_cmp One (type_1_by_chain (arranged_by county one)) (type_1_by_chain (arranged_by county other)) ≡ Equal
+      → type_2_by_chain (arranged_by county one) ≡ type_2_by_chain (arranged_by county other)
+      → slice_cmp nat_cmp (text_of (packed (arranged_by county one))) (text_of (packed (arranged_by county other)))
+      ≡ slice_cmp ends_cmp (renumbered_ends (ends_along county one)) (renumbered_ends (ends_along county other))
+  nodes_decide one_map ones_tied twos =
+      let a = arranged_by county one in
+      let b = arranged_by county other in
+      let links = groups_cmp I (type_i_by_chain a) (type_i_by_chain b) in
+      let fours : groups_cmp Four (type_4_by_chain a) (type_4_by_chain b) ≡ Equal =
+      sym (same_groups Four (type_4_by_chain a) (type_4_by_chain b) (type_4_same county is_county one other whole other_whole feats_same)) in
+      let fives : groups_cmp Five (type_5_by_name a) (type_5_by_name b) ≡ Equal =
+      sym (same_groups Five (type_5_by_name a) (type_5_by_name b) (type_5_same county is_county one other whole other_whole feats_same)) in
+      let sixes : groups_cmp Six (type_6_by_chain a) (type_6_by_chain b) ≡ Equal =
+      sym (same_groups Six (type_6_by_chain a) (type_6_by_chain b) (type_6_same county is_county one other whole other_whole ranges_same)) in
+      let sevens : groups_cmp Seven (type_7_by_landmark a) (type_7_by_landmark b) ≡ Equal =
+      sym (same_groups Seven (type_7_by_landmark a) (type_7_by_landmark b) type_7_same) in
+      let eights : groups_cmp Eight (type_8_together a) (type_8_together b) ≡ Equal =
+      sym (same_groups Eight (type_8_together a) (type_8_together b) type_8_same) in
+      let ps : groups_cmp P (type_p_by_number a) (type_p_by_number b) ≡ Equal =
+      sym (same_groups P (type_p_by_number a) (type_p_by_number b) type_p_same) in
+      tied_texts_in_order a b whole.is_county other_whole.is_county whole.within_limits other_whole.within_limits one_map ones_tied twos
+      ∙ (λ i. ordering_then (fours i) (ordering_then (ordering_then (fives i) (ordering_then (sixes i) (sevens i)))
+      (ordering_then (eights i) (ordering_then links (ps i)))))
+      ∙ then_equal links ∙ links_order

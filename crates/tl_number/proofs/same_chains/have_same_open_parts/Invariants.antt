@@ -1,0 +1,15 @@
+-- The lists of the chains apart from the remaining open places are the same.
+use Rattle.std.proofs.Common.{ℕ, length}
+use Rattle.std.specs.List.{AllByRecursion}
+use Rattle.tl_number.specs.MovedChains.{AreWithin, HaveSamePartAt, IsApart, StandInOrder}
+use Rattle.tl_number.proofs.same_chains.have_same_open_parts.Given as goal
+
+abbrev pub invariant-loop-at : goal.invariant-loop-at
+invariant-loop-at g l = record {
+  within : AreWithin (length l.one) l.rest;
+  in_order : StandInOrder l.rest;
+  same : (place : ℕ) → AllByRecursion (IsApart place) l.rest → HaveSamePartAt g.P.ChainPart.part (g.C.Chart.county l.chart) l.one l.other place;
+}
+
+abbrev pub decreases-loop-at : goal.decreases-loop-at
+decreases-loop-at g l = length l.rest
