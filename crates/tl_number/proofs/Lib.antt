@@ -12,3 +12,5 @@ pub mod Masks
 pub mod Records
 pub mod Texts
 pub mod Ties
+pub mod Common
+pub mod Lemmas

@@ -2,46 +2,24 @@
 use Rattle.std.proofs.Common.{◌≡◌, ◌⊎◌, ◌≤◌, ℕ, suc, List, [], ◌∷◌, map, length, false, Option}
 use Rattle.std.proofs.Common.{IsTrue, Ordering, is_eq, is_gt, sym, ap, ap₂, ◌∙◌, subst, inl, inr, arith, nat_cmp}
 use Rattle.std.proofs.Common.{IsPermutation}
-use Rattle.std.proofs.lemmas.Bool.{ltb-true, lt-ltb}
-use Rattle.std.proofs.lemmas.Cmp.{on_total}
-use Rattle.std.proofs.lemmas.List.{length-map}
-use Rattle.std.proofs.lemmas.List.Sorted.{IsPermutation-sym}
-use Rattle.std.specs.List.{AllByRecursion}
+use Rattle.tl_number.proofs.Common.{AllByRecursion, AllKeysStandIn, AllStandIn, Among, Arrangement, Arranges, Body5, Body7, BodyP, Carries}
+use Rattle.tl_number.proofs.Common.{Chain, County, Fields8, Grows, IsApart, IsArranged, IsAscending, IsCounty, IsInOrder, IsKeyOrder}
+use Rattle.tl_number.proofs.Common.{IsPermutation-sym, Known, PolygonKey, all-in_order, all_among, all_map, all_uses, all_weaker, among-map}
+use Rattle.tl_number.proofs.Common.{among-permutation, among-unmap, among_known, apart_from_sorted, arranged_tlids, carried_landmark}
+use Rattle.tl_number.proofs.Common.{carried_link, carried_name, carried_polygon, each_from, feats, first_seen, image, in_order}
+use Rattle.tl_number.proofs.Common.{in_order-equal, in_order-in_order, in_order-is_permutation, in_order-map, key_cmp, key_keys, keys_known}
+use Rattle.tl_number.proofs.Common.{known_all, known_cases, known_is_among, landmark_body_cmp, landmark_key, landmark_key_cmp}
+use Rattle.tl_number.proofs.Common.{landmarks_in_order, lands, length-map, link_cmp, link_keys, link_part_keys, links_relinked, lt-ltb}
+use Rattle.tl_number.proofs.Common.{ltb-true, map-map, name_key, name_key_cmp, names_in_order, nat_keys, new_keys, nodes_along}
+use Rattle.tl_number.proofs.Common.{nodes_in_order, numbered, on, on_total, placed, polygon_keys, polygons_along, polygons_in_order}
+use Rattle.tl_number.proofs.Common.{relinked, rights, same_or_not, stands_in, strict_from_order, times, times-no, times-permutation}
+use Rattle.tl_number.proofs.Common.{times-yes, under_cenid, up_to, uses_of_name}
 use Rattle.std.specs.List.Sorted.{IsStrictlySortedBy}
-use Rattle.std.specs.Ordering.{on}
-use Rattle.tl_layout.specs.Fields.{Fields8}
-use Rattle.tl_layout.specs.declared.type5.Body5.{Body5}
-use Rattle.tl_layout.specs.declared.type7.Body7.{Body7}
-use Rattle.tl_layout.specs.declared.type_p.BodyP.{BodyP}
-use Rattle.tl_shape.specs.Chain.{Chain}
-use Rattle.tl_county.specs.BodyOrder.{landmark_body_cmp, link_cmp}
-use Rattle.tl_county.specs.County.{County}
-use Rattle.tl_county.specs.CountyRules.{IsCounty, IsAscending, feats, polygon_keys, lands, nodes_along}
-use Rattle.tl_county.specs.CountyRules.{polygons_along, AllStandIn, AllKeysStandIn}
-use Rattle.ordered_lists.specs.Orders.{times, stands_in, IsInOrder, in_order}
-use Rattle.tl_county.specs.PolygonKeys.{PolygonKey, key_cmp}
-use Rattle.ordered_lists.specs.Pairs.{image}
-use Rattle.tl_county.specs.Renumbering.{carried_name, carried_polygon, carried_landmark}
-use Rattle.tl_county.specs.Renumbering.{carried_link, Carries}
 use Rattle.tl_county.proofs.Sameness.CarriedCounty.{carried_closed, carried_whole, feats-turned}
-use Rattle.ordered_lists.proofs.Lists.Among.{Among, all_among}
-use Rattle.ordered_lists.proofs.Lists.InOrder.{in_order-in_order, in_order-map, in_order-equal}
-use Rattle.tl_county.specs.Laws.KeyOrders.{key_keys, link_part_keys, link_keys}
-use Rattle.ordered_lists.proofs.ByKey.Keys.{IsKeyOrder, IsApart, Known, nat_keys, rights, times-yes, times-no, same_or_not}
-use Rattle.ordered_lists.proofs.ByKey.Keys.{known_cases, known_all, map_agree, apart_from_sorted}
-use Rattle.ordered_lists.proofs.ByKey.Keys.{times-permutation}
-use Rattle.ordered_lists.proofs.ByKey.Numbers.{each_from}
-use Rattle.ordered_lists.proofs.Lists.Elements.{map-map, all_weaker, all_map}
-use Rattle.ordered_lists.proofs.Lists.Members.{among-permutation, among-map, among-unmap, among_known, known_is_among}
-use Rattle.ordered_lists.proofs.ByKey.Numbers.{all-in_order, strict_from_order}
-use Rattle.ordered_lists.proofs.Lists.Permutations.{in_order-is_permutation}
-use Rattle.tl_county.proofs.Sameness.Equivalence.{keys_known}
-use Rattle.tl_number.specs.Arrangement.{Arrangement, Arranges, arranged_tlids, placed, nodes_in_order}
-use Rattle.tl_number.specs.Arrangement.{polygons_in_order, under_cenid, new_keys, names_in_order, relinked, links_relinked}
-use Rattle.tl_number.specs.Arrangement.{landmarks_in_order, renaming_of, arranged}
-use Rattle.tl_number.specs.Growth.{Grows, first_seen, numbered, up_to}
-use Rattle.tl_number.specs.ArrangedCounty.{IsArranged, HasOneCenidEach}
-use Rattle.tl_number.specs.Uses.{all_uses, uses_of_name, name_key, name_key_cmp, links_of, landmark_key, landmark_key_cmp}
+use Rattle.ordered_lists.proofs.ByKey.Keys.{map_agree}
+use Rattle.tl_number.specs.Arrangement.{renaming_of, arranged}
+use Rattle.tl_number.specs.ArrangedCounty.{HasOneCenidEach}
+use Rattle.tl_number.specs.Uses.{links_of}
 use Rattle.tl_number.proofs.Arrangements.Carrying.{arrangement_carries, from_placed, polygons_to_placed, keys_arranged}
 use Rattle.tl_number.proofs.Arrangements.Carrying.{tlids_arranged, feats_arranged, lands_arranged, nodes_along_arranged, chains_arranged}
 use Rattle.tl_number.proofs.Arrangements.Carrying.{names_arranged, polygons_arranged, landmarks_arranged, links_arranged, nodes_renamed}

@@ -2,41 +2,23 @@
 use Rattle.std.proofs.Common.{◌≡◌, ◌+◌, ◌*◌, ◌<◌, ◌≤◌, ℕ, zero, suc, max, List, [], ◌∷◌, map, flat_map, length}
 use Rattle.std.proofs.Common.{length-append, Option, Some, None, option_to_list, IsTrue, sym, subst, arith}
 use Rattle.std.proofs.Common.{nat_cmp}
-use Rattle.std.proofs.lemmas.Bool.{ltb-true, lt-ltb}
-use Rattle.std.proofs.lemmas.List.{length-map}
-use Rattle.std.specs.List.{AllByRecursion, range_with_len}
+use Rattle.tl_number.proofs.Common.{AllByRecursion, AllKeysStandIn, AllStandIn, Arrangement, Arranges, Body5, Body7, BodyP, Carries, Chain}
+use Rattle.tl_number.proofs.Common.{County, GrowsFrom, IsAccepted, IsArranged, IsCanonicalThrough, IsCounty, IsLeastChoice, IsSight}
+use Rattle.tl_number.proofs.Common.{IsWithinLimits, PolygonKey, Record, all_both, all_known, all_unmap, all_weaker, arranged_list}
+use Rattle.tl_number.proofs.Common.{by_type_of, chain_nodes, chain_polygons, county-is_county, county_of, feats, key_cmp, key_keys, key_on}
+use Rattle.tl_number.proofs.Common.{key_under, known_all, lands, length-map, link_key, lt-ltb, ltb-true, most_records, nat_keys}
+use Rattle.tl_number.proofs.Common.{nodes_along, packed, packed_by_type, packed_five, packed_one, packed_sevens, polygon_keys}
+use Rattle.tl_number.proofs.Common.{polygons_along, range_with_len, stands_in, times, tlids, up_to}
 use Rattle.tl_layout.specs.Limits.{IsWithinLimit, count_of_type}
 use Rattle.tl_layout.specs.RecordText.{FitsRecord}
-use Rattle.tl_layout.specs.declared.record_type.Record.{Record}
-use Rattle.tl_layout.specs.declared.type5.Body5.{Body5}
-use Rattle.tl_layout.specs.declared.type7.Body7.{Body7}
-use Rattle.tl_layout.specs.declared.type_p.BodyP.{BodyP}
-use Rattle.tl_shape.specs.Chain.{Chain}
-use Rattle.tl_county.specs.County.{County, county_of, link_key}
-use Rattle.tl_county.specs.CountyRules.{IsCounty, tlids, feats, polygon_keys, lands, nodes_along, polygons_along, chain_nodes}
-use Rattle.tl_county.specs.CountyRules.{chain_polygons, AllStandIn, AllKeysStandIn}
-use Rattle.tl_county.specs.Limits.{most_records, IsWithinLimits}
-use Rattle.ordered_lists.specs.Orders.{times, stands_in}
-use Rattle.tl_county.specs.Packing.{packed_one, packed_five, packed_sevens, packed_by_type, packed}
-use Rattle.tl_county.specs.PolygonKeys.{PolygonKey, key_cmp, key_on, key_under}
-use Rattle.tl_county.specs.Renumbering.{Carries}
 use Rattle.tl_county.proofs.Limits.CarriedLimits.{carried_contents, carried_lists, carried_counts}
 use Rattle.tl_county.proofs.Limits.FitsCounty.{county_counts, county-within_limits}
 use Rattle.tl_county.proofs.Limits.FitsPacked.{packed-fits}
-use Rattle.tl_county.specs.Laws.KeyOrders.{key_keys}
-use Rattle.ordered_lists.proofs.ByKey.Keys.{nat_keys, known_all, all_known}
-use Rattle.tl_county.proofs.Rules.LinkedCounty.{county-is_county}
-use Rattle.ordered_lists.proofs.Lists.Elements.{all_weaker, all_both, all_unmap, all_pieces}
-use Rattle.tl_county.specs.Laws.PackedTypes.{by_type_of}
+use Rattle.ordered_lists.proofs.Lists.Elements.{all_pieces}
 use Rattle.tl_county.specs.Laws.TypeCounts.{HasAtMost, HasWithin, KeepsLimits, by_type_keeps, by_type_within, packed_keeps}
 use Rattle.tl_county.specs.Laws.TypeCounts.{packed_within}
-use Rattle.tl_number.specs.Accepted.{IsAccepted, IsCanonicalThrough}
-use Rattle.tl_number.specs.Arrangement.{Arrangement, Arranges, renaming_of, arranged}
-use Rattle.tl_number.specs.Growth.{GrowsFrom, up_to}
-use Rattle.tl_number.specs.ArrangedCounty.{IsArranged}
+use Rattle.tl_number.specs.Arrangement.{renaming_of, arranged}
 use Rattle.tl_number.specs.SeenRecords.{ShowsNoMore}
-use Rattle.tl_number.specs.Sights.{IsSight}
-use Rattle.tl_number.specs.Tidy.{IsLeastChoice, arranged_list}
 use Rattle.tl_number.proofs.CanonicalLists.Ascending.{sides_in_profile}
 use Rattle.tl_number.proofs.Arrangements.Carrying.{arrangement_carries}
 use Rattle.tl_number.specs.RecordNumbers.{numbers_of, greatest_number}

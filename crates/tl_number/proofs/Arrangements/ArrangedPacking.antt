@@ -1,37 +1,24 @@
 -- The packing of an arranged county is an arranged list of records.
 use Rattle.std.proofs.Common.{◌≡◌, ◌≤◌, ◌-◌, min, ℕ, zero, suc, List, [], ◌∷◌, map, filter_map, length, take}
 use Rattle.std.proofs.Common.{drop, Ordering, is_gt, false, sym, refl, ap, ap₂, ◌∙◌, subst, arith, nat_cmp, map-id, length-drop}
-use Rattle.std.proofs.lemmas.Cmp.{nat_cmp_total, on_total}
-use Rattle.std.proofs.lemmas.List.{length-map, length-take}
-use Rattle.std.specs.List.{AllByRecursion}
+use Rattle.tl_number.proofs.Common.{AllByRecursion, AreFull, Body7, Chain, Coordinates, County, Fields2, Fields4, Fields6, Fields7}
+use Rattle.tl_number.proofs.Common.{IsArranged, IsArrangedList, IsCounty, IsInOrder, IsPacked, Ranges, StandsInOrder, all_everywhere}
+use Rattle.tl_number.proofs.Common.{all_weaker, by_type_of, in_order-in_order, in_pieces, inner_points, landmark_body_cmp, length-map}
+use Rattle.tl_number.proofs.Common.{length-take, link_cmp, map-map, map_agree_everywhere, nat_cmp_total, numbered_from, of_number, on}
+use Rattle.tl_number.proofs.Common.{on_total, p_polyid, packed, packed_by_type, packed_county, packed_five, packed_fours, packed_i}
+use Rattle.tl_number.proofs.Common.{packed_one, packed_p, packed_sevens, packed_sixes, packed_twos, pieces, rights-numbered_from, then_cmp}
+use Rattle.tl_number.proofs.Common.{up_to}
 use Rattle.std.specs.List.Sorted.{IsStrictlySortedBy}
-use Rattle.std.specs.Ordering.{on, then_cmp}
-use Rattle.tl_layout.specs.ByType.{of_number}
-use Rattle.tl_layout.specs.Coordinates.{Coordinates}
-use Rattle.tl_layout.specs.Fields.{Fields2, Fields4, Fields6, Fields7}
-use Rattle.tl_layout.specs.declared.ranges.Ranges.{Ranges}
-use Rattle.tl_layout.specs.declared.type7.Body7.{Body7}
-use Rattle.tl_shape.specs.Chain.{Chain}
-use Rattle.tl_county.specs.BodyOrder.{landmark_body_cmp, link_cmp}
-use Rattle.tl_county.specs.County.{County, one_tlid, two_tlid, two_rtsq, four_tlid, four_rtsq, five_feat, six_tlid, six_rtsq}
+use Rattle.tl_county.specs.County.{one_tlid, two_tlid, two_rtsq, four_tlid, four_rtsq, five_feat, six_tlid, six_rtsq}
 use Rattle.tl_county.specs.County.{seven_land, i_tlid}
-use Rattle.tl_county.specs.CountyRules.{IsCounty}
-use Rattle.ordered_lists.specs.Orders.{IsInOrder}
-use Rattle.tl_county.specs.Packing.{pieces, in_pieces, numbered_from, inner_points, packed_one, packed_twos, packed_fours}
-use Rattle.tl_county.specs.Packing.{packed_five, packed_sixes, packed_sevens, packed_i, packed_p, p_polyid, type_after_type}
-use Rattle.tl_county.specs.Packing.{packed_by_type, packed}
-use Rattle.tl_county.proofs.Packing.Pieces.{lefts-numbered_from, rights-numbered_from, length-numbered_from}
+use Rattle.tl_county.specs.Packing.{type_after_type}
+use Rattle.tl_county.proofs.Packing.Pieces.{lefts-numbered_from, length-numbered_from}
 use Rattle.tl_county.proofs.Packing.PackedGroups.{group_holds, groups_in_order}
-use Rattle.ordered_lists.proofs.Lists.InOrder.{in_order-from_strict, in_order-in_order}
-use Rattle.ordered_lists.proofs.Lists.Elements.{map-map, map_agree_everywhere, all_weaker, all_everywhere}
-use Rattle.tl_county.proofs.Packing.PackedCounty.{packed_county}
+use Rattle.ordered_lists.proofs.Lists.InOrder.{in_order-from_strict}
 use Rattle.tl_county.proofs.Packing.PackedNumbers.{two_own, four_own, six_own, seven_own, numbered_strict, tlids_apart, ones, twos, fours}
 use Rattle.tl_county.proofs.Packing.PackedNumbers.{fives, sixes, sevens, eights, links_of_chains, polygons_packed}
 use Rattle.tl_county.proofs.Packing.PackedLinked.{packed_linked}
-use Rattle.tl_county.specs.Laws.PackedTypes.{by_type_of}
-use Rattle.tl_number.specs.Canonical.{StandsInOrder, IsPacked, IsArrangedList, AreFull, seven_cmp}
-use Rattle.tl_number.specs.Growth.{up_to}
-use Rattle.tl_number.specs.ArrangedCounty.{IsArranged}
+use Rattle.tl_number.specs.Canonical.{seven_cmp}
 
 -- pieces except the last are full
 full_pieces : {X : Type 0} (n most : ℕ) (xs : List X) → 1 ≤ n → length xs ≤ most → AreFull n (pieces n most xs)

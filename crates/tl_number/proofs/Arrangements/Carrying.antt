@@ -1,44 +1,29 @@
 -- The renaming of an arrangement carries the county onto the arranged county.
 use Rattle.std.proofs.Common.{◌≡◌, ℕ, List, map, flat_map, length, Bool}
 use Rattle.std.proofs.Common.{Option, IsTrue, sym, refl, ap, ◌∙◌, subst, nat_cmp, IsPermutation}
-use Rattle.std.proofs.lemmas.Bool.{ltb-true, lt-ltb}
-use Rattle.std.proofs.lemmas.List.{length-map}
-use Rattle.std.proofs.lemmas.List.Sorted.{IsPermutation-refl, IsPermutation-sym, IsPermutation-trans, IsPermutation-map}
-use Rattle.std.specs.List.{AllByRecursion}
-use Rattle.std.specs.Ordering.{on}
-use Rattle.tl_layout.specs.declared.type5.Body5.{Body5}
-use Rattle.tl_layout.specs.declared.type7.Body7.{Body7}
-use Rattle.tl_layout.specs.declared.type_p.BodyP.{BodyP}
-use Rattle.tl_shape.specs.Chain.{Chain}
-use Rattle.tl_shape.specs.Turned.{turned_if}
-use Rattle.tl_county.specs.BodyOrder.{link_cmp}
-use Rattle.tl_county.specs.County.{County}
-use Rattle.tl_county.specs.CountyRules.{IsCounty, tlids, feats, polygon_keys, lands, nodes, nodes_along, polygons_along}
-use Rattle.tl_county.specs.CountyRules.{chain_nodes, chain_polygons, AllKeysStandIn}
-use Rattle.ordered_lists.specs.Orders.{times, stands_in, has_repeat, in_order}
-use Rattle.tl_county.specs.PolygonKeys.{PolygonKey, key_cmp}
-use Rattle.ordered_lists.specs.Pairs.{image}
-use Rattle.tl_county.specs.Renumbering.{carried_chain, carried_name, carried_polygon, carried_landmark}
-use Rattle.tl_county.specs.Renumbering.{carried_link, NumbersArePaired, Carries}
+use Rattle.tl_number.proofs.Common.{AllByRecursion, AllKeysStandIn, Among, Arrangement, Arranges, Body5, Body7, BodyP, Carries, Chain}
+use Rattle.tl_number.proofs.Common.{County, IsApart, IsCounty, IsPermutation-map, IsPermutation-sym, IsPermutation-trans, Known, PolygonKey}
+use Rattle.tl_number.proofs.Common.{all_among, all_everywhere, all_joined, all_known, all_map, all_uses, among-map, among-permutation}
+use Rattle.tl_number.proofs.Common.{among-unmap, among_known, apart-distinct, apart-permutation, apart-permutation_of, apart_from_sorted}
+use Rattle.tl_number.proofs.Common.{arranged_tlids, carried_chain, carried_landmark, carried_link, carried_name, carried_polygon}
+use Rattle.tl_number.proofs.Common.{chain_nodes, chain_polygons, chains_in_order, entries_of, feats, has_repeat, has_repeat-apart, image}
+use Rattle.tl_number.proofs.Common.{images-lefts, in_order, in_order-is_permutation, key_cmp, key_keys, known-distinct}
+use Rattle.tl_number.proofs.Common.{known-permutation_to, known_all, known_is_among, landmark_key, landmark_key_cmp, landmarks_in_order}
+use Rattle.tl_number.proofs.Common.{lands, lefts, length-map, link_cmp, links_relinked, lt-ltb, ltb-true, map-map, name_key, name_key_cmp}
+use Rattle.tl_number.proofs.Common.{names_in_order, nat_keys, new_keys, nodes, nodes_along, nodes_in_order, numbered, on, placed}
+use Rattle.tl_number.proofs.Common.{polygon_keys, polygons_along, polygons_in_order, rights, rights-numbered_from, stands_in, times, tlids}
+use Rattle.tl_number.proofs.Common.{turned_if, turned_tlids, under_cenid, up_to}
+use Rattle.std.proofs.lemmas.List.Sorted.{IsPermutation-refl}
+use Rattle.tl_county.specs.Renumbering.{NumbersArePaired}
 use Rattle.ordered_lists.specs.Pairs.{ArePaired}
 use Rattle.tl_county.proofs.Sameness.Carried.{among-unpieces, among-turned}
 use Rattle.tl_county.proofs.Sameness.CarriedCounty.{nodes-turned, nodes-unturned, polygons-unturned}
-use Rattle.ordered_lists.proofs.Lists.Distinct.{apart-distinct, known-distinct, known_from_distinct, has_repeat-apart}
-use Rattle.ordered_lists.proofs.Lists.Among.{Among, all_among}
-use Rattle.tl_county.specs.Laws.KeyOrders.{key_keys}
-use Rattle.ordered_lists.proofs.ByKey.Keys.{IsApart, Known, nat_keys, lefts, rights, apart_from_sorted, apart-permutation}
-use Rattle.ordered_lists.proofs.ByKey.Keys.{known-permutation_to, known_all, all_known, image-known, images-lefts}
-use Rattle.ordered_lists.proofs.Lists.Elements.{map-map, all_map, all_everywhere, all_joined}
-use Rattle.ordered_lists.proofs.Lists.Members.{among-permutation, among-map, among-unmap, among-pieces, among_known, known_is_among}
+use Rattle.ordered_lists.proofs.Lists.Distinct.{known_from_distinct}
+use Rattle.ordered_lists.proofs.ByKey.Keys.{image-known}
+use Rattle.ordered_lists.proofs.Lists.Members.{among-pieces}
 use Rattle.tl_county.proofs.Lists.OfNumber.{of_number-among}
-use Rattle.ordered_lists.proofs.Lists.Permutations.{in_order-is_permutation, apart-permutation_of}
-use Rattle.tl_number.specs.Arrangement.{Arrangement, Arranges, arranged_tlids, entries_of, chains_in_order, placed}
-use Rattle.tl_number.specs.Arrangement.{nodes_in_order, polygons_in_order, under_cenid, new_keys, names_in_order}
-use Rattle.tl_number.specs.Arrangement.{landmarks_in_order, links_relinked, turned_tlids, renaming_of, arranged}
-use Rattle.tl_number.specs.Growth.{numbered, up_to}
-use Rattle.tl_number.specs.Uses.{all_uses, name_key, name_key_cmp, landmark_key, landmark_key_cmp}
+use Rattle.tl_number.specs.Arrangement.{renaming_of, arranged}
 use Rattle.tl_number.proofs.Lists.Counting.{up_to-strict}
-use Rattle.tl_county.proofs.Packing.Pieces.{rights-numbered_from}
 use Rattle.tl_number.proofs.Numbering.FirstSeen.{first_seen-apart, from_first_seen, to_first_seen}
 use Rattle.tl_number.proofs.Arrangements.Placed.{lefts-numbered, rights-numbered, arrangement_apart, order-permutation, placed_tlids, carried_placed}
 use Rattle.tl_number.proofs.Arrangements.Placed.{turned_apart, turned_known}

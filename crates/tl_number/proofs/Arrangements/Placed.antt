@@ -2,33 +2,20 @@
 use Rattle.std.proofs.Common.{◌≡◌, ◌⊎◌, ◌≤◌, ℕ, zero, suc, nat_lt, List, [], ◌∷◌, ◌++◌, map, filter, flat_map}
 use Rattle.std.proofs.Common.{length, Bool, true, false, cond, is_eq, sym, refl, ap, ap₂, ◌∙◌, subst, inl, inr, arith}
 use Rattle.std.proofs.Common.{nat_cmp, IsPermutation}
-use Rattle.std.proofs.lemmas.Bool.{lt-ltb}
-use Rattle.std.proofs.lemmas.List.{map-append, length-map}
-use Rattle.std.specs.List.{AllByRecursion}
-use Rattle.tl_shape.specs.Chain.{Chain}
-use Rattle.tl_shape.specs.Turned.{turned_if}
-use Rattle.tl_county.specs.County.{County}
-use Rattle.tl_county.specs.CountyRules.{IsCounty, tlids}
-use Rattle.ordered_lists.specs.Orders.{times, stands_in}
-use Rattle.tl_county.specs.Packing.{numbered_from}
-use Rattle.tl_county.specs.PolygonKeys.{PolygonKey, key_cmp}
-use Rattle.tl_county.specs.Renumbering.{Renumbering, turns, renumbered, carried_chain}
-use Rattle.ordered_lists.specs.Pairs.{image}
-use Rattle.tl_county.specs.Laws.KeyOrders.{key_keys}
-use Rattle.ordered_lists.proofs.ByKey.Keys.{IsApart, Known, nat_keys, times-yes, times-no}
-use Rattle.ordered_lists.proofs.ByKey.Keys.{apart_tail, apart_from_sorted, apart-permutation, known-permutation, known-permutation_to}
-use Rattle.ordered_lists.proofs.ByKey.Keys.{known_cases, known-here, known-later, image-yes, image-no, images-lefts}
-use Rattle.ordered_lists.proofs.ByKey.Keys.{same_or_not, differ}
-use Rattle.ordered_lists.proofs.Lists.Elements.{map-map, map_agree_all, all_weaker}
-use Rattle.tl_county.proofs.Lists.OfNumber.{times-of_number, of_number-all}
+use Rattle.tl_number.proofs.Common.{AllByRecursion, Arrangement, Arranges, Chain, County, IsApart, IsCounty, Known, PolygonKey, Renumbering}
+use Rattle.tl_number.proofs.Common.{all_weaker, apart-permutation, apart_from_sorted, apart_tail, arranged_tlids, carried_chain}
+use Rattle.tl_number.proofs.Common.{chains_in_order, entries_of, image, images-lefts, key_cmp, key_keys, keys_known, known-here}
+use Rattle.tl_number.proofs.Common.{known-permutation, known-permutation_to, known_cases, length-map, lt-ltb, map-append, map-map}
+use Rattle.tl_number.proofs.Common.{map_agree_all, nat_keys, numbered, numbered_from, placed, renumbered, rights-numbered_from, same_or_not}
+use Rattle.tl_number.proofs.Common.{stands_in, times, times-no, times-of_number, times-yes, tlids, turned_if, turned_tlids, turns}
+use Rattle.tl_number.proofs.Common.{under_cenid, up_to}
+use Rattle.ordered_lists.proofs.ByKey.Keys.{known-later, image-yes, image-no}
+use Rattle.ordered_lists.proofs.ByKey.Keys.{differ}
+use Rattle.tl_county.proofs.Lists.OfNumber.{of_number-all}
 use Rattle.ordered_lists.proofs.ByKey.Numbers.{only_one}
 use Rattle.tl_county.proofs.Lists.OfNumber.{groups-permutation}
-use Rattle.tl_county.proofs.Sameness.Equivalence.{keys_known}
-use Rattle.tl_number.specs.Arrangement.{Arrangement, Arranges, arranged_tlids, entries_of, chains_in_order, placed, under_cenid}
-use Rattle.tl_number.specs.Arrangement.{turned_tlids}
-use Rattle.tl_number.specs.Growth.{numbered, up_to}
 use Rattle.tl_number.proofs.Lists.Counting.{entries_equal}
-use Rattle.tl_county.proofs.Packing.Pieces.{lefts-numbered_from, rights-numbered_from}
+use Rattle.tl_county.proofs.Packing.Pieces.{lefts-numbered_from}
 use Rattle.tl_number.proofs.Numbering.FirstSeen.{place_from, place-here, place-later}
 use Rattle.tl_number.proofs.Unique.SameNumbers.{kept_entry}
 

@@ -1,27 +1,12 @@
 -- A county within its limits is small enough for places of 32 bits.
 use Rattle.std.proofs.Common.{◌≡◌, ◌*◌, ◌^◌, ◌<◌, ◌≤◌, ℕ, List, [], ◌∷◌, map, filter, flat_map, length, IsTrue, Ordering, is_eq}
 use Rattle.std.proofs.Common.{sym, subst, arith}
-use Rattle.std.proofs.lemmas.Bool.{ltb-true}
-use Rattle.std.proofs.lemmas.List.{length-map}
-use Rattle.std.specs.List.{AllByRecursion}
-use Rattle.tl_layout.specs.declared.type7.Body7.{Body7}
-use Rattle.tl_layout.specs.declared.type_p.BodyP.{BodyP}
+use Rattle.tl_number.proofs.Common.{AllByRecursion, AllKeysStandIn, Among, Body7, BodyP, Chain, County, IsApart, IsCounty, IsKeyOrder}
+use Rattle.tl_number.proofs.Common.{IsWithinLimits, PolygonKey, all_weaker, apart_from_sorted, by_type_of, chain_polygons, key_keys}
+use Rattle.tl_number.proofs.Common.{known_is_among, length-map, ltb-true, most_records, packed, packed_by_type, packed_five, packed_one}
+use Rattle.tl_number.proofs.Common.{packed_sevens, polygon_keys, polygons_along, same-itself, stands_in, times, to_filter}
 use Rattle.std.specs.Prelude.{Option}
-use Rattle.tl_shape.specs.Chain.{Chain}
-use Rattle.tl_county.specs.County.{County}
-use Rattle.tl_county.specs.CountyRules.{IsCounty, AllKeysStandIn, chain_polygons, polygon_keys, polygons_along}
-use Rattle.tl_county.specs.Limits.{IsWithinLimits, most_records}
-use Rattle.ordered_lists.specs.Orders.{times, stands_in}
-use Rattle.tl_county.specs.Packing.{packed, packed_by_type, packed_five, packed_one, packed_sevens}
-use Rattle.tl_county.specs.PolygonKeys.{PolygonKey}
 use Rattle.ordered_lists.proofs.Lists.Counted.{few_in_groups}
-use Rattle.ordered_lists.proofs.Lists.Among.{Among}
-use Rattle.tl_county.specs.Laws.KeyOrders.{key_keys}
-use Rattle.ordered_lists.proofs.ByKey.Keys.{IsApart, IsKeyOrder, apart_from_sorted, same-itself}
-use Rattle.ordered_lists.proofs.Lists.Elements.{all_weaker}
-use Rattle.ordered_lists.proofs.Lists.Members.{known_is_among}
-use Rattle.tl_county.specs.Laws.PackedTypes.{by_type_of}
-use Rattle.ordered_lists.proofs.Lists.Reordered.{to_filter}
 use Rattle.tl_county.specs.Laws.TypeCounts.{HasAtMost, by_type_within}
 use Rattle.tl_number.proofs.Arrangements.ArrangedNumbers.{few_polygons, long_joined, short_joined}
 

@@ -1,38 +1,28 @@
 -- A canonical list of records is the packing of its county: chains, names and landmarks.
 use Rattle.std.proofs.Common.{◌≡◌, ℕ, ◌==◌, List, [], ◌∷◌, ◌++◌, map, flat_map, length, false, is_gt, sym, refl, ap, ap₂, ◌∙◌}
 use Rattle.std.proofs.Common.{subst, arith, nat_cmp, map-id}
-use Rattle.std.proofs.lemmas.Cmp.{tied_itself, nat_cmp_total}
-use Rattle.std.proofs.lemmas.List.{map-append}
-use Rattle.std.specs.List.{AllByRecursion}
+use Rattle.tl_number.proofs.Common.{AllByRecursion, Chain, Coordinates, Fields2, Fields4, Fields6, Fields7, FieldsI, IsInOrder, IsLinked}
+use Rattle.tl_number.proofs.Common.{IsPacked, Known, Ranges, Record, StandsInOrder, all_known, all_unmap, in_order, in_order-map, in_pieces}
+use Rattle.tl_number.proofs.Common.{known-distinct, landmark_body_cmp, last_point, lt-ltb, ltb-true, map-append, map-map, map_agree_all}
+use Rattle.tl_number.proofs.Common.{nat_cmp_total, nat_keys, numbered_from, of_number, on, packed_five, packed_fours, packed_i, packed_one}
+use Rattle.tl_number.proofs.Common.{packed_sevens, packed_sixes, packed_twos, stands_in, strict_from_order, then_cmp, tied_itself, times}
+use Rattle.tl_number.proofs.Common.{up_to}
 use Rattle.std.specs.List.Sorted.{IsStrictlySortedBy}
-use Rattle.std.specs.Ordering.{on, then_cmp}
-use Rattle.tl_layout.specs.Coordinates.{Coordinates}
-use Rattle.tl_layout.specs.Fields.{Fields1, Fields2, Fields4, Fields5, Fields6, Fields7, FieldsI}
-use Rattle.tl_layout.specs.declared.ranges.Ranges.{Ranges}
-use Rattle.tl_layout.specs.declared.record_type.Record.{Record}
-use Rattle.tl_county.specs.BodyOrder.{landmark_body_cmp}
-use Rattle.tl_layout.specs.ByType.{of_type_1, of_type_2, of_type_4, of_type_5, of_type_6, of_type_7, of_type_i, of_number}
-use Rattle.tl_shape.specs.Chain.{Chain}
+use Rattle.tl_layout.specs.Fields.{Fields1, Fields5}
+use Rattle.tl_layout.specs.ByType.{of_type_1, of_type_2, of_type_4, of_type_5, of_type_6, of_type_7, of_type_i}
 use Rattle.tl_county.specs.County.{one_tlid, two_tlid, two_rtsq, four_tlid, four_rtsq, five_feat, six_tlid, six_rtsq, seven_land}
 use Rattle.tl_county.specs.County.{i_tlid, shape_points, further_names, chain_of, chains_of, names_of, landmarks_of}
-use Rattle.tl_county.specs.LinkRules.{IsLinked, chain_tlids, linked_tlids}
+use Rattle.tl_county.specs.LinkRules.{chain_tlids, linked_tlids}
 use Rattle.tl_county.specs.declared.fault.LinkFault.TheVariants.{NoChain}
 use Rattle.tl_county.specs.declared.fault.LinkedType.{LinkedType}
 use Rattle.tl_county.specs.declared.fault.LinkedType.TheVariants.{Two, Four, Six, I}
-use Rattle.ordered_lists.specs.Orders.{times, stands_in, IsInOrder, in_order, distinct}
-use Rattle.ordered_lists.proofs.Lists.Distinct.{known-distinct}
+use Rattle.ordered_lists.specs.Orders.{distinct}
 use Rattle.ordered_lists.proofs.Lists.InOrder.{in_order-itself, in_order-from_strict}
-use Rattle.ordered_lists.proofs.ByKey.Keys.{Known, nat_keys, all_known}
 use Rattle.tl_county.proofs.Rules.LinkedCounty.{needed, apart_chains, the_link}
-use Rattle.ordered_lists.proofs.Lists.Elements.{map-map, map_agree_all, all_unmap}
 use Rattle.tl_county.proofs.Lists.OfNumber.{of_number-all}
-use Rattle.ordered_lists.proofs.ByKey.Numbers.{distinct-strict, strict_from_order}
-use Rattle.std.proofs.lemmas.Bool.{ltb-true, lt-ltb}
-use Rattle.ordered_lists.proofs.Lists.InOrder.{in_order-map}
-use Rattle.tl_number.specs.Canonical.{StandsInOrder, IsPacked, seven_cmp}
-use Rattle.tl_number.specs.Growth.{up_to}
-use Rattle.tl_county.specs.Packing.{in_pieces, numbered_from, last_point, without_last, packed_one, packed_twos, packed_fours}
-use Rattle.tl_county.specs.Packing.{packed_sixes, packed_i, packed_five, packed_sevens}
+use Rattle.ordered_lists.proofs.ByKey.Numbers.{distinct-strict}
+use Rattle.tl_number.specs.Canonical.{seven_cmp}
+use Rattle.tl_county.specs.Packing.{without_last}
 use Rattle.tl_number.proofs.Lists.Counting.{up_to-strict}
 use Rattle.tl_number.proofs.Lists.Grouping.{in_order-weaker, then-first, then-second, in_order-filter, grouped, pieces-joined, rtsqs-back}
 

@@ -2,35 +2,24 @@
 use Rattle.std.proofs.Common.{◌≡◌, ◌⊎◌, ◌≤◌, ℕ, suc, List, [], ◌∷◌, ◌++◌, map, flat_map, filter_map, false}
 use Rattle.std.proofs.Common.{Option, Some, None, IsTrue, Ordering, Less, Equal, Greater, is_gt, is_eq, sym, refl, ap, ◌∙◌}
 use Rattle.std.proofs.Common.{subst, inl, inr, arith, nat_cmp}
-use Rattle.std.proofs.lemmas.Bool.{true≢false, ltb-true, ltb-false}
-use Rattle.std.proofs.lemmas.Cmp.{nat_cmp_total, on_total}
-use Rattle.std.specs.List.{AllByRecursion, cons_option}
+use Rattle.tl_number.proofs.Common.{AllByRecursion, Among, BodyP, FieldsP, IsApart, IsArranged, IsArrangedList, IsInOrder, IsKeyOrder}
+use Rattle.tl_number.proofs.Common.{IsLinked, IsPacked, Known, PolygonKey, Record, StandsInOrder, all_among, among-map, among-unmap}
+use Rattle.tl_number.proofs.Common.{among_known, apart-distinct, apart_tail, cons_option, county_of, in_order, in_order-in_order, key_cmp}
+use Rattle.tl_number.proofs.Common.{key_keys, known-distinct, known-right, known_all, known_is_among, link_cmp, ltb-false, ltb-true}
+use Rattle.tl_number.proofs.Common.{nat_cmp_total, nat_keys, on, on_total, p_polyid, packed, packed_body, packed_by_type, packed_p}
+use Rattle.tl_number.proofs.Common.{polygon_keys, polygons_along, same_or_not, stands_in, times, times-no, times-yes, true≢false}
 use Rattle.std.specs.List.Sorted.{IsStrictlySortedBy}
-use Rattle.std.specs.Ordering.{on}
-use Rattle.tl_layout.specs.Fields.{FieldsP}
-use Rattle.tl_layout.specs.declared.record_type.Record.{Record}
-use Rattle.tl_layout.specs.declared.type_p.BodyP.{BodyP}
 use Rattle.tl_layout.specs.ByType.{of_type_p, of_type_i, of_type_8}
-use Rattle.tl_county.specs.BodyOrder.{link_cmp}
-use Rattle.tl_county.specs.County.{p_key, side_keys, polygon_body, polygons_of, county_of}
-use Rattle.tl_county.specs.CountyRules.{polygon_keys, polygons_along}
-use Rattle.tl_county.specs.LinkRules.{IsLinked}
+use Rattle.tl_county.specs.County.{p_key, side_keys, polygon_body, polygons_of}
 use Rattle.tl_county.specs.declared.fault.LinkFault.TheVariants.{PolygonTwice}
-use Rattle.ordered_lists.specs.Orders.{times, stands_in, IsInOrder, in_order, distinct}
-use Rattle.tl_county.specs.PolygonKeys.{PolygonKey, key_cmp}
-use Rattle.ordered_lists.proofs.Lists.Distinct.{known-distinct, apart-distinct}
-use Rattle.ordered_lists.proofs.Lists.Among.{Among, all_among}
-use Rattle.ordered_lists.proofs.Lists.InOrder.{in_order-itself, in_order-in_order, strict-equal}
-use Rattle.tl_county.specs.Laws.KeyOrders.{key_keys}
+use Rattle.ordered_lists.specs.Orders.{distinct}
+use Rattle.ordered_lists.proofs.Lists.InOrder.{in_order-itself, strict-equal}
 use Rattle.tl_county.proofs.Rules.PolygonBodies.{first_body, body_found}
-use Rattle.ordered_lists.proofs.ByKey.Keys.{IsKeyOrder, Known, IsApart, nat_keys, times-yes, times-no, times-cons, same_or_not}
-use Rattle.ordered_lists.proofs.ByKey.Keys.{apart_tail, known_all, known-right}
+use Rattle.ordered_lists.proofs.ByKey.Keys.{times-cons}
 use Rattle.tl_county.proofs.Rules.LinkedCounty.{keys-county}
-use Rattle.ordered_lists.proofs.Lists.Members.{among-map, among-unmap, among_known, known_is_among, in_filter_map, to_filter_map}
+use Rattle.ordered_lists.proofs.Lists.Members.{in_filter_map, to_filter_map}
 use Rattle.ordered_lists.proofs.ByKey.Numbers.{times-in_order, from_in_order, to_in_order}
-use Rattle.tl_number.specs.Canonical.{IsArrangedList, StandsInOrder, IsPacked}
-use Rattle.tl_county.specs.Packing.{by_type, type_after_type, packed_body, packed_p, p_polyid, packed, packed_by_type}
-use Rattle.tl_number.specs.ArrangedCounty.{IsArranged}
+use Rattle.tl_county.specs.Packing.{by_type, type_after_type}
 use Rattle.tl_number.proofs.Arrangements.Repacked.{ones_back, twos_back, fours_back, fives_back, sixes_back, sevens_back, is_back}
 
 -- in order by a number, if equal numbers mean equal keys and no key occurs twice

@@ -1,28 +1,15 @@
 -- Numbers up to the greatest one of a canonical list: in a county, and in the records that it is packed into.
 use Rattle.std.proofs.Common.{◌≡◌, ◌+◌, ◌<◌, ◌≤◌, ℕ, List, map, flat_map, filter_map, length, Option, Some, None}
 use Rattle.std.proofs.Common.{option_to_list, subst, arith, nat_cmp}
-use Rattle.std.specs.List.{AllByRecursion}
-use Rattle.std.specs.Ordering.{on}
-use Rattle.tl_layout.specs.Fields.{Fields2, Fields4, Fields6, Fields7, Fields8, FieldsP}
-use Rattle.tl_layout.specs.Numbers.{IsNumber, IsNumberOrNone}
-use Rattle.tl_layout.specs.declared.ranges.Ranges.{Ranges}
-use Rattle.tl_layout.specs.declared.record_type.Record.{Record}
-use Rattle.tl_layout.specs.declared.record_type.Record.TheVariants.{One, Two, Four, Five, Six, Seven, Eight, I, P}
-use Rattle.tl_layout.specs.declared.type5.Body5.{Body5}
-use Rattle.tl_layout.specs.declared.type7.Body7.{Body7}
-use Rattle.tl_layout.specs.declared.type_p.BodyP.{BodyP}
-use Rattle.tl_shape.specs.Chain.{Chain}
-use Rattle.tl_county.specs.County.{County}
-use Rattle.tl_county.specs.CountyRules.{chain_nodes, chain_polygons}
-use Rattle.tl_county.specs.Limits.{FitsNumbers, NumbersFit}
-use Rattle.ordered_lists.specs.Orders.{in_order}
-use Rattle.tl_county.specs.Packing.{in_pieces, numbered_from, inner_points, packed_one, packed_twos, packed_fours, packed_five}
-use Rattle.tl_county.specs.Packing.{packed_sixes, packed_sevens, packed_i, packed_body, packed_p, p_polyid, packed}
-use Rattle.tl_county.specs.PolygonKeys.{PolygonKey, key_on, key_under}
+use Rattle.tl_number.proofs.Common.{AllByRecursion, Body5, Body7, BodyP, Chain, County, Eight, Fields2, Fields4, Fields6, Fields7, Fields8}
+use Rattle.tl_number.proofs.Common.{FieldsP, FitsNumbers, Five, Four, I, IsNumber, IsNumberOrNone, One, P, PolygonKey, Ranges, Record}
+use Rattle.tl_number.proofs.Common.{Seven, Six, Two, all-in_order, all_append, all_both, all_everywhere, all_joined, all_left, all_map}
+use Rattle.tl_number.proofs.Common.{all_right, all_weaker, chain_nodes, chain_polygons, in_order, in_pieces, inner_points, key_on}
+use Rattle.tl_number.proofs.Common.{key_under, numbered_from, on, p_polyid, packed, packed_body, packed_five, packed_fours, packed_i}
+use Rattle.tl_number.proofs.Common.{packed_one, packed_p, packed_sevens, packed_sixes, packed_twos}
+use Rattle.tl_county.specs.Limits.{NumbersFit}
 use Rattle.tl_county.proofs.Packing.Pieces.{all_in_pieces, all_numbered_from}
 use Rattle.ordered_lists.proofs.Lists.Counted.{all_selected}
-use Rattle.ordered_lists.proofs.Lists.Elements.{all_weaker, all_both, all_map, all_append, all_joined, all_everywhere, all_left, all_right}
-use Rattle.ordered_lists.proofs.ByKey.Numbers.{all-in_order}
 use Rattle.tl_number.specs.RecordNumbers.{numbers_of, greatest_number}
 
 abbrev pub IsSmall : ℕ → Type 0

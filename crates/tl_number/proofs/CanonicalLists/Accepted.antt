@@ -1,22 +1,16 @@
 -- Each list of records is accepted or has one refusal. Through each view the canonical lists of two accepted lists have the same
 -- text if the view shows the same map of both counties, and are equal only then.
 use Rattle.std.proofs.Common.{◌≡◌, ◌⊎◌, List, refl, sym, ap, subst, inl, inr}
-use Rattle.tl_layout.specs.RecordText.{text_of}
-use Rattle.tl_layout.specs.declared.record_type.Record.{Record}
-use Rattle.tl_county.specs.County.{County, county_of}
-use Rattle.tl_county.specs.CountyRules.{IsCounty}
-use Rattle.tl_county.specs.LinkRules.{IsLinked, IsFirstBrokenRule}
-use Rattle.tl_county.specs.Renumbering.{AreSame}
+use Rattle.tl_number.proofs.Common.{AreSame, County, IsAccepted, IsCanonicalThrough, IsCounty, IsInProfile, IsLinked, IsSight, Record}
+use Rattle.tl_number.proofs.Common.{county-is_county, county_of, plain, same-reflexive, same-symmetric, same-transitive, text_of}
+use Rattle.tl_county.specs.LinkRules.{IsFirstBrokenRule}
 use Rattle.tl_county.specs.declared.fault.LinkFault.{LinkFault}
-use Rattle.tl_county.proofs.Rules.LinkedCounty.{county-is_county}
 use Rattle.tl_county.proofs.Rules.LinkFaults.{linked_or_first, linked_has_none, one_first_rule}
-use Rattle.tl_county.proofs.Sameness.Equivalence.{same-reflexive, same-symmetric, same-transitive}
-use Rattle.tl_profile.specs.Profile.{IsInProfile, IsFirstBrokenClause}
+use Rattle.tl_profile.specs.Profile.{IsFirstBrokenClause}
 use Rattle.tl_profile.specs.declared.fault.ProfileFault.{ProfileFault}
 use Rattle.tl_profile.proofs.ProfileFaults.{profile_or_first, profile_has_none, one_first_clause}
 use Rattle.tl_profile.proofs.SameProfile.{same_in_profile}
-use Rattle.tl_number.specs.Accepted.{IsAccepted, RecordsRefusal, Unlinked, OutOfProfile, IsRefusal, IsCanonicalOf, IsCanonicalThrough}
-use Rattle.tl_number.specs.Sights.{IsSight, plain}
+use Rattle.tl_number.specs.Accepted.{RecordsRefusal, Unlinked, OutOfProfile, IsRefusal, IsCanonicalOf}
 use Rattle.tl_number.proofs.CanonicalLists.TidyLists.{canonical_texts_equal}
 
 pub accepted_or_refused : (records : List Record) → IsAccepted records ⊎ ((refusal : RecordsRefusal) × IsRefusal records refusal)

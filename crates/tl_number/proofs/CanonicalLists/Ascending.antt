@@ -1,25 +1,14 @@
 -- Counties in the profile: their polygons are on sides, and they have few choices. Each accepted list of records has a canonical
 -- list, the list of a choice of least text.
 use Rattle.std.proofs.Common.{◌≡◌, ◌⊎◌, ◌≤◌, ◌||◌, List, true, Option, IsTrue, is_some, sym, ap, ◌∙◌, subst, inl, inr}
-use Rattle.std.proofs.lemmas.Bool.{lt-ltb, ltb-false, or_cases}
-use Rattle.tl_layout.specs.declared.record_type.Record.{Record}
-use Rattle.tl_layout.specs.declared.type_p.BodyP.{BodyP}
-use Rattle.tl_county.specs.County.{County, county_of}
-use Rattle.tl_county.specs.CountyRules.{IsCounty, polygon_keys, polygons_along, AllKeysStandIn}
-use Rattle.ordered_lists.specs.Orders.{times, stands_in}
-use Rattle.tl_county.specs.PolygonKeys.{PolygonKey, key_cmp}
-use Rattle.ordered_lists.proofs.Lists.Among.{Among, all_among}
-use Rattle.tl_county.proofs.Rules.LinkedCounty.{county-is_county}
-use Rattle.ordered_lists.proofs.ByKey.Numbers.{each_from}
-use Rattle.ordered_lists.proofs.Lists.Members.{among-unmap}
-use Rattle.tl_profile.specs.Choices.{choices, most_choices}
-use Rattle.tl_profile.specs.Profile.{IsInProfile}
-use Rattle.tl_profile.specs.declared.fault.ProfileFault.TheVariants.{TooSymmetric}
+use Rattle.tl_number.proofs.Common.{AllKeysStandIn, Among, Arrangement, BodyP, County, HasShapesApart, IsAccepted, IsCanonicalThrough}
+use Rattle.tl_number.proofs.Common.{IsCounty, IsInProfile, IsLeastChoice, IsSight, PolygonKey, Record, TooSymmetric, all_among, among-unmap}
+use Rattle.tl_number.proofs.Common.{arranged_list, ascending, choices, county-is_county, county_of, each_from, key_cmp, lt-ltb, ltb-false}
+use Rattle.tl_number.proofs.Common.{most_choices, polygon_keys, polygons_along, stands_in, times}
+use Rattle.std.proofs.lemmas.Bool.{or_cases}
 use Rattle.tl_profile.proofs.SameProfile.{body_on_side}
-use Rattle.tl_number.specs.Accepted.{IsAccepted, IsCanonicalThrough}
-use Rattle.tl_number.specs.Arrangement.{Arrangement, arranged, ascending, renaming_of}
-use Rattle.tl_number.specs.Sights.{IsSight}
-use Rattle.tl_number.specs.Tidy.{HasShapesApart, IsLeastChoice, arranged_list, numbered_choice}
+use Rattle.tl_number.specs.Arrangement.{arranged, renaming_of}
+use Rattle.tl_number.specs.Tidy.{numbered_choice}
 use Rattle.tl_number.proofs.Arrangements.Carrying.{arrangement_carries}
 use Rattle.tl_number.proofs.CanonicalLists.OneChoice.{only_choice}
 use Rattle.tl_number.proofs.CanonicalLists.TidyLists.{choice_is_same, least_choice, least_choice_is_canonical, canonical_is_choice, read_back}

@@ -1,16 +1,9 @@
 -- A county is canonical exactly if its packing is a canonical list.
 use Rattle.std.proofs.Common.{◌≡◌, sym, subst}
-use Rattle.tl_county.specs.County.{County, county_of}
-use Rattle.tl_county.specs.CountyRules.{IsCounty, polygon_keys, polygons_along, AllKeysStandIn}
-use Rattle.tl_county.specs.Packing.{packed}
-use Rattle.tl_county.specs.Renumbering.{AreSame}
-use Rattle.tl_county.proofs.Packing.PackedCounty.{packed_county}
-use Rattle.tl_county.proofs.Rules.LinkedCounty.{county-is_county}
-use Rattle.tl_number.specs.Arrangement.{Arrangement, arranged}
-use Rattle.tl_number.specs.ArrangedCounty.{IsArranged, IsTidy}
-use Rattle.tl_number.specs.CanonCounties.{IsCanonCounty}
-use Rattle.tl_number.specs.Canonical.{IsCanonical, IsNotAfter, IsTidyList}
-use Rattle.tl_number.specs.Tidy.{IsLeastChoice}
+use Rattle.tl_number.proofs.Common.{AllKeysStandIn, AreSame, Arrangement, County, IsArranged, IsCanonCounty, IsCanonical, IsCounty}
+use Rattle.tl_number.proofs.Common.{IsLeastChoice, IsNotAfter, IsTidy, IsTidyList, county-is_county, county_of, packed, packed_county}
+use Rattle.tl_number.proofs.Common.{polygon_keys, polygons_along}
+use Rattle.tl_number.specs.Arrangement.{arranged}
 use Rattle.tl_number.proofs.Arrangements.ArrangedCounties.{arranged_county}
 use Rattle.tl_number.proofs.Arrangements.ArrangedPacking.{packed_arranged}
 use Rattle.tl_number.proofs.Arrangements.RepackedPolygons.{arranged_list_is_packed}

@@ -1,18 +1,11 @@
 -- The canonical form of the samples: which lists are canonical, and that the samples are carried onto them.
 use Rattle.std.proofs.Common.{◌≡◌, [], ◌∷◌, refl, ap, arith, lit≤, ◌==◌, slice_index, Bool, true, false, cond, map, length, List}
-use Rattle.std.proofs.lemmas.Bool.{true≢false}
+use Rattle.tl_number.proofs.Common.{AreFull, AreSame, Fields2, IsArranged, IsCanonical, Renumbering, county_of, packed, true≢false, up_to}
 use Rattle.std.proofs.lemmas.List.Sorted.{IsPermutation-refl}
 use Rattle.std.specs.List.Sorted.{IsStrictlySortedBy}
-use Rattle.tl_layout.specs.Fields.{Fields2}
-use Rattle.tl_number.specs.Growth.{up_to}
-use Rattle.tl_county.specs.County.{county_of}
-use Rattle.tl_county.specs.Renumbering.{Renumbering, AreSame}
 use Rattle.tl_county.proofs.Rules.LinkFaults.{linked_computed}
 use Rattle.tl_county.proofs.Samples.Counties.{there, canonical_there, canonical_shaped, canonical_polygons, canonical_named}
 use Rattle.tl_county.proofs.Samples.Counties.{canonical_schools, canonical_meeting, points_up}
-use Rattle.tl_number.specs.Canonical.{IsCanonical, AreFull}
-use Rattle.tl_county.specs.Packing.{packed}
-use Rattle.tl_number.specs.ArrangedCounty.{IsArranged}
 use Rattle.tl_number.proofs.CanonicalLists.OneChoice.{strict_is_canonical}
 
 -- the packing of these counties

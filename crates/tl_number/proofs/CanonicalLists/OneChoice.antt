@@ -1,30 +1,17 @@
 -- If the shapes of chains are distinct, and none is its own reverse, there is one choice: the ascending arrangement.
 use Rattle.std.proofs.Common.{◌≡◌, ◌<◌, ◌*◌, suc, List, [], ◌∷◌, map, reverse, Bool, false, cond, Ordering, Less, Equal, Greater}
 use Rattle.std.proofs.Common.{is_eq, is_gt, sym, refl, ap, ◌∙◌, subst, arith}
-use Rattle.std.specs.List.{AllByRecursion}
+use Rattle.tl_number.proofs.Common.{AllByRecursion, AreSame, Arrangement, County, HasShapesApart, IsApart, IsArrangedList, IsCanonical}
+use Rattle.tl_number.proofs.Common.{IsChoice, IsCounty, IsKeyOrder, IsLeastChoice, IsNotAfter, IsTidy, IsTidyList, Record, all_map}
+use Rattle.tl_number.proofs.Common.{all_weaker, apart_from_no_repeat, apart_from_sorted, apart_tail, arranged_list, ascending, choices}
+use Rattle.tl_number.proofs.Common.{choices_of_shapes, county-is_county, county_of, entry_points, entry_shape, has_repeat-apart}
+use Rattle.tl_number.proofs.Common.{is_either_way, map_agree_all, points_cmp, points_from, points_keys, running, same-reflexive, shapes}
+use Rattle.tl_number.proofs.Common.{times, times-yes}
 use Rattle.std.specs.List.Sorted.{IsStrictlySortedBy}
-use Rattle.tl_layout.specs.declared.record_type.Record.{Record}
-use Rattle.tl_shape.specs.PointOrder.{points_cmp}
-use Rattle.tl_county.specs.County.{County, county_of}
-use Rattle.tl_county.specs.CountyRules.{IsCounty}
-use Rattle.ordered_lists.specs.Orders.{times}
-use Rattle.tl_county.specs.Renumbering.{AreSame}
-use Rattle.tl_county.specs.Laws.KeyOrders.{points_keys}
-use Rattle.ordered_lists.proofs.ByKey.Keys.{IsKeyOrder, IsApart, times-yes, apart_tail, apart_from_sorted}
-use Rattle.ordered_lists.proofs.Lists.Distinct.{apart_from_no_repeat, has_repeat-apart}
-use Rattle.ordered_lists.proofs.Lists.Elements.{map_agree_all, all_weaker, all_map}
 use Rattle.ordered_lists.proofs.Lists.EntryLists.{in_order-strict}
 use Rattle.ordered_lists.proofs.Lists.InOrder.{strict-unmap}
-use Rattle.tl_county.proofs.Rules.LinkedCounty.{county-is_county}
-use Rattle.tl_county.proofs.Sameness.Equivalence.{same-reflexive}
-use Rattle.tl_profile.specs.Choices.{choices, is_either_way, running, shapes}
-use Rattle.tl_profile.specs.Shapes.{points_from}
-use Rattle.tl_profile.proofs.SameChoices.{choices_of_shapes}
-use Rattle.tl_number.specs.Arrangement.{Arrangement, entry_shape, ascending}
-use Rattle.tl_number.specs.ArrangedCounty.{IsTidy, entry_points}
-use Rattle.tl_number.specs.Canonical.{IsArrangedList, IsCanonical, IsNotAfter, IsTidyList}
 use Rattle.tl_number.specs.Strict.{IsStrict}
-use Rattle.tl_number.specs.Tidy.{HasShapesApart, IsChoice, IsLeastChoice, arranged_list, numbered_choice}
+use Rattle.tl_number.specs.Tidy.{numbered_choice}
 use Rattle.tl_number.proofs.Choices.AscendingArrangement.{turned_same}
 use Rattle.tl_number.proofs.Lists.SortedPlaces.{in_order-unmap}
 use Rattle.tl_number.proofs.Choices.TidyChoices.{choice_number, first_choice, numbered_is_choice}

@@ -1,29 +1,15 @@
 -- Tidy counties that are the same map have the same points, chain by chain, and so the same type 2 records.
 use Rattle.std.proofs.Common.{◌≡◌, ◌∙◌, ℕ, List, [], ◌∷◌, map, length, reverse, Bool, true, false, Ordering, Less, Equal, Greater, is_gt}
 use Rattle.std.proofs.Common.{sym, refl, ap, subst}
-use Rattle.std.proofs.lemmas.Bool.{false≢true}
-use Rattle.std.proofs.lemmas.List.{length-map}
-use Rattle.std.specs.Ordering.{is_lt, on, ordering_reverse}
-use Rattle.tl_layout.specs.Coordinates.{Coordinates}
-use Rattle.tl_layout.specs.Fields.{Fields2}
-use Rattle.tl_shape.specs.Chain.{Chain}
-use Rattle.tl_shape.specs.PointOrder.{points_cmp}
-use Rattle.tl_shape.specs.Turned.{turned_if}
-use Rattle.tl_county.specs.County.{County}
-use Rattle.tl_county.specs.CountyRules.{IsCounty, polygon_keys, polygons_along, AllKeysStandIn}
-use Rattle.ordered_lists.specs.Orders.{IsInOrder}
-use Rattle.tl_county.specs.Packing.{in_pieces, inner_points, numbered_from, packed_twos}
-use Rattle.tl_county.specs.Renumbering.{AreSame, Renumbering, carried_chain, turns}
-use Rattle.tl_county.specs.Laws.KeyOrders.{points_keys}
-use Rattle.ordered_lists.proofs.Lists.Elements.{all_map, map-map, map_agree_all, map_agree_everywhere}
-use Rattle.ordered_lists.proofs.Lists.InOrder.{in_order-equal}
+use Rattle.tl_number.proofs.Common.{AllKeysStandIn, AreSame, Chain, Coordinates, County, Fields2, IsArranged, IsCounty, IsInOrder, IsTidy}
+use Rattle.tl_number.proofs.Common.{Renumbering, all_map, carried_chain, entry_points, entry_shape, false≢true, in_order-equal, in_pieces}
+use Rattle.tl_number.proofs.Common.{inner_points, least_points, length-map, map-map, map_agree_all, map_agree_everywhere, numbered_from, on}
+use Rattle.tl_number.proofs.Common.{ordering_reverse, packed_twos, points_cmp, points_from, points_keys, polygon_keys, polygons_along}
+use Rattle.tl_number.proofs.Common.{turned_if, turns, type_2_by_chain, up_to}
+use Rattle.std.specs.Ordering.{is_lt}
 use Rattle.ordered_lists.proofs.Lists.Reordered.{SameElements, from_permutation, same-map, times-same}
-use Rattle.tl_profile.specs.Shapes.{least_points, points_from}
 use Rattle.tl_profile.proofs.ShapePoints.{least_reverse}
-use Rattle.tl_number.specs.ArrangedCounty.{IsArranged, IsTidy, entry_points}
-use Rattle.tl_number.specs.Arrangement.{arranged, entry_shape}
-use Rattle.tl_number.specs.CountyGroups.{type_2_by_chain}
-use Rattle.tl_number.specs.Growth.{up_to}
+use Rattle.tl_number.specs.Arrangement.{arranged}
 use Rattle.tl_number.specs.Tidy.{numbered_choice}
 use Rattle.tl_number.proofs.Arrangements.ArrangedCounties.{is_arranged}
 use Rattle.tl_number.proofs.Choices.LeastNumbers.{choices_same}

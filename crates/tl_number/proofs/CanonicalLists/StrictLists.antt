@@ -1,36 +1,15 @@
 -- If the shapes of chains are distinct, and none is its own reverse, canonical lists are strict, and strict lists are canonical.
 use Rattle.std.proofs.Common.{◌≡◌, ℕ, List, map, reverse, false, Ordering, Less, Equal, Greater, is_eq, is_gt, nat_lt, sym, refl, ap, subst}
-use Rattle.std.proofs.lemmas.Bool.{true≢false}
-use Rattle.std.specs.List.{AllByRecursion}
-use Rattle.tl_layout.specs.Coordinates.{Coordinates}
-use Rattle.tl_layout.specs.declared.mask.Mask.{Mask}
-use Rattle.tl_layout.specs.declared.record_type.Record.{Record}
-use Rattle.tl_shape.specs.Chain.{Chain}
-use Rattle.tl_shape.specs.PointOrder.{points_cmp}
-use Rattle.tl_county.specs.MaskedCounty.{masked_chain, masked}
-use Rattle.tl_county.specs.County.{County, county_of}
-use Rattle.tl_county.specs.CountyRules.{IsCounty}
-use Rattle.ordered_lists.specs.Orders.{has_repeat}
-use Rattle.tl_county.specs.Renumbering.{AreSame}
-use Rattle.tl_county.specs.Laws.KeyOrders.{points_keys}
-use Rattle.ordered_lists.proofs.ByKey.Numbers.{strict_from_order}
-use Rattle.ordered_lists.proofs.Lists.Distinct.{apart_from_no_repeat, has_repeat-apart}
-use Rattle.ordered_lists.proofs.Lists.Elements.{all_both, all_unmap, all_weaker, map-map}
-use Rattle.ordered_lists.proofs.Lists.InOrder.{strict-map}
+use Rattle.tl_number.proofs.Common.{AllByRecursion, AreSame, Chain, Coordinates, County, HasShapesApart, IsAccepted, IsCanonicalThrough}
+use Rattle.tl_number.proofs.Common.{IsCounty, IsInProfile, IsSight, IsTidy, Mask, Record, TooSymmetric, all_among, all_both, all_unmap}
+use Rattle.tl_number.proofs.Common.{all_weaker, apart_from_no_repeat, county-is_county, county_of, each_from, entry_points, has_repeat}
+use Rattle.tl_number.proofs.Common.{has_repeat-apart, is_either_way, least_points, map-map, masked, most_choices, plain, points_cmp}
+use Rattle.tl_number.proofs.Common.{points_keys, same-symmetric, same-transitive, shapes, strict-map, strict_from_order, true≢false}
+use Rattle.tl_county.specs.MaskedCounty.{masked_chain}
 use Rattle.ordered_lists.proofs.Lists.Reordered.{SameElements, apart-same}
-use Rattle.ordered_lists.proofs.Lists.Among.{all_among}
-use Rattle.tl_county.proofs.Rules.LinkedCounty.{county-is_county}
-use Rattle.ordered_lists.proofs.ByKey.Numbers.{each_from}
-use Rattle.tl_county.proofs.Sameness.Equivalence.{same-symmetric, same-transitive}
-use Rattle.tl_profile.specs.Choices.{is_either_way, most_choices, shapes}
-use Rattle.tl_profile.specs.Profile.{AreAllOnSides, IsInProfile}
-use Rattle.tl_profile.specs.Shapes.{least_points}
-use Rattle.tl_profile.specs.declared.fault.ProfileFault.TheVariants.{PolygonWithoutChain, TooSymmetric, Memory}
-use Rattle.tl_number.specs.Accepted.{IsAccepted, IsCanonicalThrough}
-use Rattle.tl_number.specs.ArrangedCounty.{IsTidy, entry_points}
-use Rattle.tl_number.specs.Sights.{IsSight, plain}
+use Rattle.tl_profile.specs.Profile.{AreAllOnSides}
+use Rattle.tl_profile.specs.declared.fault.ProfileFault.TheVariants.{PolygonWithoutChain, Memory}
 use Rattle.tl_number.specs.Strict.{IsStrict, IsStrictlyAccepted, IsStrictThrough}
-use Rattle.tl_number.specs.Tidy.{HasShapesApart}
 use Rattle.tl_number.proofs.CanonicalLists.Accepted.{plain_sight}
 use Rattle.tl_number.proofs.CanonicalLists.Ascending.{canonical_exists}
 use Rattle.tl_number.proofs.Masks.MaskedSights.{masked_sight}

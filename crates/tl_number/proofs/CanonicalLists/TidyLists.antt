@@ -1,22 +1,14 @@
 -- The tidy lists of a map are the lists of its choices. Some choice has the least text, its list is canonical, and all canonical
 -- lists of one map have the same text.
 use Rattle.std.proofs.Common.{◌≡◌, ◌<◌, ℕ, List, sym, ap, ◌∙◌, subst, arith}
-use Rattle.tl_layout.specs.RecordText.{text_of}
-use Rattle.tl_layout.specs.declared.record_type.Record.{Record}
-use Rattle.tl_county.specs.County.{County, county_of}
-use Rattle.tl_county.specs.CountyRules.{IsCounty, polygon_keys, polygons_along, AllKeysStandIn}
-use Rattle.tl_county.specs.Packing.{packed}
-use Rattle.tl_county.specs.Renumbering.{Carries, AreSame}
+use Rattle.tl_number.proofs.Common.{AllKeysStandIn, AreSame, Arrangement, Carries, County, IsCanonical, IsChoice, IsCounty, IsLeastChoice}
+use Rattle.tl_number.proofs.Common.{IsNotAfter, IsTidy, IsTidyList, Record, arranged_list, choices, county-is_county, county_of}
+use Rattle.tl_number.proofs.Common.{order_antisymm, packed, packed_county, polygon_keys, polygons_along, same-symmetric, same-transitive}
+use Rattle.tl_number.proofs.Common.{text_of}
 use Rattle.ordered_lists.proofs.ByKey.KeyOrders.{bytes_keys}
-use Rattle.ordered_lists.proofs.ByKey.Keys.{order_antisymm, order_itself}
-use Rattle.tl_county.proofs.Packing.PackedCounty.{packed_county}
-use Rattle.tl_county.proofs.Rules.LinkedCounty.{county-is_county}
-use Rattle.tl_county.proofs.Sameness.Equivalence.{same-symmetric, same-transitive}
-use Rattle.tl_profile.specs.Choices.{choices}
-use Rattle.tl_number.specs.Arrangement.{Arrangement, renaming_of, arranged}
-use Rattle.tl_number.specs.ArrangedCounty.{IsTidy}
-use Rattle.tl_number.specs.Canonical.{IsCanonical, IsNotAfter, IsTidyList}
-use Rattle.tl_number.specs.Tidy.{IsChoice, IsLeastChoice, arranged_list, numbered_choice}
+use Rattle.ordered_lists.proofs.ByKey.Keys.{order_itself}
+use Rattle.tl_number.specs.Arrangement.{renaming_of, arranged}
+use Rattle.tl_number.specs.Tidy.{numbered_choice}
 use Rattle.tl_number.proofs.Arrangements.ArrangedCounties.{arranged_county, is_arranged}
 use Rattle.tl_number.proofs.Arrangements.ArrangedPacking.{packed_arranged}
 use Rattle.tl_number.proofs.Arrangements.Carrying.{arrangement_carries}

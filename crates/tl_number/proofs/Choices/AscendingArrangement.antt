@@ -3,29 +3,15 @@ use Rattle.std.proofs.Common.{◌≡◌, ◌<◌, ℕ, List, [], ◌∷◌, map,
 use Rattle.std.proofs.Common.{Some, None}
 use Rattle.std.proofs.Common.{option_map, slice_get, is_gt, is_lt, refl, sym, ap, ap₂, ◌∙◌, subst, nat_cmp}
 use Rattle.std.proofs.Common.{reverse, Ordering}
-use Rattle.std.proofs.lemmas.Cmp.{on_total}
-use Rattle.std.proofs.lemmas.Option.{slice_get-map, get_or_from_slice_get}
-use Rattle.std.specs.Cmp.{IsTotalOrder}
-use Rattle.std.specs.List.{AllByRecursion}
-use Rattle.std.specs.Option.{option_cmp}
-use Rattle.std.specs.Ordering.{on, ordering_then, ordering_reverse}
-use Rattle.tl_layout.specs.Coordinates.{Coordinates}
-use Rattle.tl_shape.specs.Chain.{Chain}
-use Rattle.tl_shape.specs.PointOrder.{points_cmp}
-use Rattle.tl_shape.specs.Turned.{turned_if}
-use Rattle.tl_county.specs.ChartWords.{chain_at, points_of}
-use Rattle.tl_county.specs.County.{County}
-use Rattle.tl_county.specs.CountyRules.{tlids}
-use Rattle.ordered_lists.specs.Orders.{in_order}
-use Rattle.tl_county.specs.Laws.KeyOrders.{points_keys}
+use Rattle.tl_number.proofs.Common.{AllByRecursion, AreInShapeOrder, Chain, Coordinates, County, DirectedChain, HasChainsOf, IsTotalOrder}
+use Rattle.tl_number.proofs.Common.{all_unmap, arrangement_of, ascending, chain_at, entry_shape, in_order, least_points, on, on_total}
+use Rattle.tl_number.proofs.Common.{option_cmp, ordering_reverse, ordering_then, points_along, points_cmp, points_from, points_keys}
+use Rattle.tl_number.proofs.Common.{points_of, slice_get-map, tlid_at, tlids, turned_if}
+use Rattle.std.proofs.lemmas.Option.{get_or_from_slice_get}
 use Rattle.ordered_lists.proofs.ByKey.KeyedLists.{lt_reversed}
-use Rattle.ordered_lists.proofs.Lists.Elements.{all_unmap}
 use Rattle.tl_profile.proofs.Places.{along_from}
-use Rattle.tl_profile.specs.ShapeOrder.{AreInShapeOrder, along_shape, points_along, directed_cmp}
-use Rattle.tl_profile.specs.Shapes.{least_points, points_from}
-use Rattle.tl_number.specs.Arrangement.{ascending, entry_shape, comes_turned}
-use Rattle.tl_number.specs.DirectedChains.{arrangement_of, HasChainsOf, tlid_at}
-use Rattle.tl_county.specs.declared.directed_chain.DirectedChain.{DirectedChain}
+use Rattle.tl_profile.specs.ShapeOrder.{along_shape, directed_cmp}
+use Rattle.tl_number.specs.Arrangement.{comes_turned}
 use Rattle.tl_number.proofs.Lists.SortedPlaces.{sorted_items, each_item, item_places, places_below}
 
 -- an order of optional values with none first

@@ -2,23 +2,15 @@
 use Rattle.std.proofs.Common.{◌≡◌, ◌⊎◌, ◌<◌, ◌≤◌, ◌+◌, ◌*◌, ◌/◌, ◌%◌, ℕ, zero, suc, nat_lt, List, [], ◌∷◌, map, take, drop, length}
 use Rattle.std.proofs.Common.{Bool, true, false, cond, Ordering, is_eq, is_gt, sym, refl, ap, ◌∙◌, subst, inl, inr, arith, nat_cmp}
 use Rattle.std.proofs.Common.{IsPermutation}
-use Rattle.std.proofs.lemmas.Bool.{ltb-true, ltb-false}
-use Rattle.std.proofs.lemmas.Cmp.{tied_itself, upto}
-use Rattle.std.proofs.lemmas.List.Sorted.{IsPermutation-sym, IsPermutation-trans, IsPermutation-map, IsPermutation-insert}
+use Rattle.tl_number.proofs.Common.{AllByRecursion, IsInOrder, IsKeyOrder, IsPermutation-insert, IsPermutation-map, IsPermutation-sym}
+use Rattle.tl_number.proofs.Common.{IsPermutation-trans, IsTotalOrder, Known, all_append, all_known, all_map, all_unmap, chosen, in_order}
+use Rattle.tl_number.proofs.Common.{in_order-equal, in_order-in_order, in_order-is_permutation, insert, known_all, ltb-false, ltb-true}
+use Rattle.tl_number.proofs.Common.{map-map, nat_keys, not_greater, on, order_antisymm, running, same_or_not, stood, tied_itself, times}
+use Rattle.tl_number.proofs.Common.{times-no, times-permutation, times-yes, turned_by, upto}
 use Rattle.std.proofs.lemmas.Nat.{mod_below, mod-mul-add, div-mul-add, mul-add-lt, mul-le}
-use Rattle.std.specs.Cmp.{IsTotalOrder}
-use Rattle.std.specs.List.{AllByRecursion, insert}
-use Rattle.std.specs.Ordering.{on}
-use Rattle.ordered_lists.specs.Orders.{times, IsInOrder, in_order}
-use Rattle.ordered_lists.proofs.ByKey.Keys.{IsKeyOrder, Known, nat_keys, same_or_not, times-yes, times-no, times-permutation, known_all}
-use Rattle.ordered_lists.proofs.ByKey.Keys.{all_known, order_antisymm, order_itself}
+use Rattle.ordered_lists.proofs.ByKey.Keys.{order_itself}
 use Rattle.ordered_lists.proofs.ByKey.Numbers.{count-in_order}
 use Rattle.ordered_lists.proofs.Lists.Counted.{all_take, all_drop}
-use Rattle.ordered_lists.proofs.Lists.Elements.{map-map, all_append, all_map, all_unmap}
-use Rattle.ordered_lists.proofs.Lists.InOrder.{in_order-in_order, in_order-equal, not_greater}
-use Rattle.ordered_lists.proofs.Lists.Permutations.{in_order-is_permutation}
-use Rattle.tl_profile.specs.Choices.{running}
-use Rattle.tl_number.specs.NumberedChoices.{turned_by, stood, chosen}
 
 -- keys that occur equally often in two lists
 pub permutation_of_times : {K : Type 0} {cmp : K → K → Ordering} (o : IsKeyOrder cmp) (xs ys : List K)

@@ -2,27 +2,15 @@
 use Rattle.std.proofs.Common.{◌≡◌, ◌<◌, ◌≤◌, ◌+◌, ◌/◌, ◌%◌, ℕ, zero, suc, List, [], ◌∷◌, ◌++◌, map, take, drop, length, Bool, true, false}
 use Rattle.std.proofs.Common.{cond}
 use Rattle.std.proofs.Common.{Ordering, sym, refl, ap, ◌∙◌, subst, arith}
-use Rattle.std.proofs.lemmas.List.{drop-map, length-map, map-append, take-map}
-use Rattle.std.proofs.lemmas.List.Sorted.{length_permutation, IsPermutation-insert}
-use Rattle.std.specs.List.{AllByRecursion, insert}
-use Rattle.tl_shape.specs.PointOrder.{points_cmp}
-use Rattle.tl_county.specs.County.{County}
-use Rattle.tl_county.specs.CountyRules.{IsCounty, tlids}
-use Rattle.ordered_lists.specs.Orders.{times}
-use Rattle.tl_county.specs.Laws.KeyOrders.{points_keys}
-use Rattle.ordered_lists.proofs.ByKey.Keys.{IsKeyOrder, nat_keys, times-permutation}
-use Rattle.tl_number.specs.ChoiceSearch.{IsMoved, numbered_arrangement}
-use Rattle.tl_profile.specs.Choices.{is_either_way, is_settled, open_places, open_place_at}
-use Rattle.tl_profile.specs.ShapeOrder.{AreInShapeOrder, OrderOfShapes, points_along}
-use Rattle.tl_county.specs.declared.directed_chain.DirectedChain.{DirectedChain}
-use Rattle.tl_profile.specs.declared.open_places.OpenPlace.{OpenPlace}
+use Rattle.tl_number.proofs.Common.{AgreeApart, AllByRecursion, AreInShapeOrder, AreWithin, County, DirectedChain, HasChainsOf, IsCounty}
+use Rattle.tl_number.proofs.Common.{IsKeyOrder, IsMoved, IsPermutation-insert, NamesEachOnce, OpenPlace, OrderOfShapes, StandInOrder}
+use Rattle.tl_number.proofs.Common.{arranged_tlids, arrangement_of, chosen, insert, is_either_way, length-map, length_permutation}
+use Rattle.tl_number.proofs.Common.{map-append, moved, nat_keys, numbered_arrangement, open_places, other_way, points_along, points_cmp}
+use Rattle.tl_number.proofs.Common.{points_keys, stood, times, times-permutation, tlid_at, tlids, turned_by}
+use Rattle.std.proofs.lemmas.List.{drop-map, take-map}
+use Rattle.tl_profile.specs.Choices.{is_settled, open_place_at}
 use Rattle.tl_profile.proofs.CountedChoices.{alike_few}
-use Rattle.tl_number.specs.Arrangement.{arranged_tlids}
-use Rattle.tl_number.specs.MovedChains.{AgreeApart, AreWithin, StandInOrder, other_way}
-use Rattle.tl_number.specs.NumberedChoices.{turned_by, stood, chosen, moved}
-use Rattle.tl_number.specs.DirectedChains.{arrangement_of, HasChainsOf, tlid_at}
 use Rattle.tl_number.specs.Tidy.{directed_shape, turned_directed, numbered_choice}
-use Rattle.tl_number.specs.ViewFacts.{NamesEachOnce}
 use Rattle.tl_number.proofs.Choices.AscendingArrangement.{arrangement_ascend, arrangement_there, shapes_of_order}
 use Rattle.tl_number.proofs.Choices.Choosing.{all_insert}
 use Rattle.tl_number.proofs.Choices.FixedPlaces.{moved_apart, open_in_order}

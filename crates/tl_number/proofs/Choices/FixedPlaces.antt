@@ -1,14 +1,10 @@
 -- Moves at open places leave the elements at all other places as they are.
 use Rattle.std.proofs.Common.{◌≡◌, ◌<◌, ◌≤◌, ◌+◌, ◌/◌, ◌%◌, ℕ, zero, suc, nat_lt, List, [], ◌∷◌, ◌++◌, take, drop, length, Bool, true, false, cond}
 use Rattle.std.proofs.Common.{Ordering, Some, None, slice_get, sym, refl, ap, ◌∙◌, arith}
-use Rattle.std.proofs.lemmas.Bool.{ltb-true, ltb-false}
-use Rattle.std.proofs.lemmas.List.Sorted.{length_permutation, IsPermutation-insert}
-use Rattle.std.specs.List.{AllByRecursion, insert}
-use Rattle.ordered_lists.proofs.Lists.Elements.{all_weaker}
-use Rattle.tl_profile.specs.Choices.{is_settled, open_places, open_place_at}
-use Rattle.tl_profile.specs.declared.open_places.OpenPlace.{OpenPlace}
-use Rattle.tl_number.specs.MovedChains.{AgreeApart, AreWithin, IsApart, IsWithin, StandInOrder}
-use Rattle.tl_number.specs.NumberedChoices.{turned_by, first_stood, moved}
+use Rattle.tl_number.proofs.Common.{AgreeApart, AllByRecursion, AreWithin, IsPermutation-insert, OpenPlace, StandInOrder, all_weaker}
+use Rattle.tl_number.proofs.Common.{first_stood, insert, length_permutation, ltb-false, ltb-true, moved, open_places, turned_by}
+use Rattle.tl_profile.specs.Choices.{is_settled, open_place_at}
+use Rattle.tl_number.specs.MovedChains.{IsApart, IsWithin}
 
 pub nothing_left : {X : Type 0} (xs : List X) → length xs ≡ 0 → xs ≡ []
 nothing_left [] e = refl

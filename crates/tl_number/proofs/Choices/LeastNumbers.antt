@@ -1,23 +1,12 @@
 -- The least of the texts of numbered choices, number by number.
 use Rattle.std.proofs.Common.{◌≡◌, ◌≤◌, ◌+◌, ℕ, nat_lt, List, Bool, true, false, cond, Ordering, is_gt, nat_cmp, refl, sym, ap, ◌∙◌, subst}
 use Rattle.std.proofs.Common.{arith}
-use Rattle.std.proofs.lemmas.Bool.{ltb-true, ltb-false}
-use Rattle.std.specs.Cmp.Lexicographic.{slice_cmp}
-use Rattle.tl_layout.specs.RecordText.{text_of}
-use Rattle.tl_county.specs.County.{County}
-use Rattle.tl_county.specs.CountyRules.{IsCounty, polygon_keys, polygons_along, AllKeysStandIn}
-use Rattle.tl_county.specs.Packing.{packed}
-use Rattle.tl_county.specs.Renumbering.{AreSame}
+use Rattle.tl_number.proofs.Common.{AllKeysStandIn, AreSame, Arrangement, County, IsChoice, IsCounty, IsLeastBelow, IsLeastChoice}
+use Rattle.tl_number.proofs.Common.{IsLeastFrom, IsNotAfter, arranged_list, choice_list, choices, ltb-false, ltb-true, not_greater, packed}
+use Rattle.tl_number.proofs.Common.{polygon_keys, polygons_along, same-symmetric, same-transitive, slice_cmp, text_of, upto}
 use Rattle.ordered_lists.proofs.ByKey.KeyOrders.{bytes_keys}
-use Rattle.ordered_lists.proofs.Lists.InOrder.{not_greater}
-use Rattle.tl_county.proofs.Sameness.Equivalence.{same-symmetric, same-transitive}
-use Rattle.tl_profile.specs.Choices.{choices}
-use Rattle.std.proofs.lemmas.Cmp.{upto}
-use Rattle.tl_number.specs.Arrangement.{Arrangement, arranged, renaming_of}
-use Rattle.tl_number.specs.LeastNumber.{IsLeastBelow, choice_list}
-use Rattle.tl_number.specs.Canonical.{IsNotAfter}
-use Rattle.tl_number.specs.Tidy.{IsChoice, IsLeastChoice, arranged_list, numbered_choice}
-use Rattle.tl_number.specs.TypeOneOrder.{IsLeastFrom}
+use Rattle.tl_number.specs.Arrangement.{arranged, renaming_of}
+use Rattle.tl_number.specs.Tidy.{numbered_choice}
 use Rattle.tl_number.proofs.Arrangements.ArrangedCounties.{arranged_county}
 use Rattle.tl_number.proofs.Arrangements.Carrying.{arrangement_carries}
 use Rattle.tl_number.proofs.Choices.Choosing.{one_more}

@@ -1,30 +1,16 @@
 -- The least type 1 records of choices, number by number, and the consequence for texts.
 use Rattle.std.proofs.Common.{◌≡◌, ◌<◌, ◌≤◌, ◌+◌, ℕ, suc, nat_lt, List, Bool, true, false, Ordering, Less, Equal, Greater}
 use Rattle.std.proofs.Common.{is_eq, is_gt, length, map, sym, refl, ap, ◌∙◌, subst, arith}
-use Rattle.std.proofs.lemmas.Bool.{ltb-true, ltb-false, false≢true}
-use Rattle.std.proofs.lemmas.Cmp.{tied_itself, upto}
-use Rattle.std.specs.Ordering.{is_le, ordering_then}
-use Rattle.tl_layout.specs.declared.record_type.Record.{Record}
-use Rattle.tl_county.specs.County.{County}
-use Rattle.tl_county.specs.CountyRules.{IsCounty, polygon_keys, polygons_along, AllKeysStandIn}
-use Rattle.tl_county.specs.Limits.{IsWithinLimits, most_records}
-use Rattle.tl_county.specs.Packing.{packed}
-use Rattle.ordered_lists.proofs.Lists.InOrder.{not_greater}
-use Rattle.tl_profile.specs.Choices.{is_either_way, open_places}
-use Rattle.tl_profile.specs.ShapeOrder.{AreInShapeOrder, points_along}
-use Rattle.tl_county.specs.declared.directed_chain.DirectedChain.{DirectedChain}
-use Rattle.tl_profile.specs.declared.open_places.OpenPlace.{OpenPlace}
-use Rattle.tl_county.proofs.Limits.FewChains.{few_chains}
-use Rattle.tl_shape.specs.PointOrder.{points_cmp}
+use Rattle.tl_number.proofs.Common.{AgreeApart, AllKeysStandIn, AreInShapeOrder, AreWhole, AreWithin, County, DirectedChain, IsCounty}
+use Rattle.tl_number.proofs.Common.{IsLeastFrom, IsNotAfter, IsWithinLimits, OpenPlace, Record, StandInOrder, choice_list, directed_chain}
+use Rattle.tl_number.proofs.Common.{false≢true, few_chains, is_either_way, ltb-false, ltb-true, most_records, moved, not_greater, ones_cmp}
+use Rattle.tl_number.proofs.Common.{ones_of, open_places, ordering_then, other_way, packed, points_along, points_cmp, polygon_keys}
+use Rattle.tl_number.proofs.Common.{polygons_along, tied_itself, upto}
+use Rattle.std.specs.Ordering.{is_le}
 use Rattle.tl_number.specs.Arrangement.{arranged}
-use Rattle.tl_number.specs.LeastNumber.{choice_list}
-use Rattle.tl_number.specs.MovedChains.{AgreeApart, AgreeButOpen, AreWithin, StandInOrder, other_way}
-use Rattle.tl_number.specs.NumberedChoices.{moved}
-use Rattle.tl_number.specs.Canonical.{IsNotAfter}
-use Rattle.tl_county.specs.DirectedChains.{directed_chain}
+use Rattle.tl_number.specs.MovedChains.{AgreeButOpen}
 use Rattle.tl_number.specs.Tidy.{numbered_choice}
-use Rattle.tl_number.specs.TypeOneOrder.{IsLeastFrom, IsLeastOne, ones_cmp, ones_of}
-use Rattle.tl_number.specs.ViewFacts.{AreWhole}
+use Rattle.tl_number.specs.TypeOneOrder.{IsLeastOne}
 use Rattle.tl_number.proofs.Arrangements.ArrangedCounties.{arranged_county}
 use Rattle.tl_number.proofs.Arrangements.ArrangedNumbers.{arrangement_within}
 use Rattle.tl_number.proofs.Views.ArrangedViews.{whole_arrangement}

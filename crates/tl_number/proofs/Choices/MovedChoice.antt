@@ -1,13 +1,11 @@
 -- The choice with a number is reached by moving only the elements at open places, from the last place to the first.
 use Rattle.std.proofs.Common.{◌≡◌, ◌+◌, ◌*◌, ◌==◌, ℕ, suc, List, [], ◌∷◌, ◌++◌, map, take, drop, length}
 use Rattle.std.proofs.Common.{Bool, true, false, cond, not, ◌&&◌, Ordering, sym, refl, ap, ◌∙◌, arith}
-use Rattle.std.proofs.lemmas.Bool.{and_parts, not-true, eqb-true}
+use Rattle.tl_number.proofs.Common.{OpenPlace, chosen, eqb-true, first_stood, moved, open_places, stood, take-append_seam, times}
+use Rattle.std.proofs.lemmas.Bool.{and_parts, not-true}
 use Rattle.std.proofs.lemmas.List.{append_assoc, length-append}
-use Rattle.std.proofs.Math.Seq.{take-append_seam, drop-append_seam}
-use Rattle.ordered_lists.specs.Orders.{times}
-use Rattle.tl_profile.specs.Choices.{open_places}
-use Rattle.tl_profile.specs.declared.open_places.OpenPlace.{OpenPlace}
-use Rattle.tl_number.specs.NumberedChoices.{stood, chosen, first_stood, moved_at, moved}
+use Rattle.std.proofs.Math.Seq.{drop-append_seam}
+use Rattle.tl_number.specs.NumberedChoices.{moved_at}
 use Rattle.tl_number.proofs.Choices.Choosing.{stood-digits}
 
 -- the last place is moved first

@@ -1,40 +1,21 @@
 -- The choices that make a county tidy are those selected by numbers.
 use Rattle.std.proofs.Common.{◌≡◌, ◌⊎◌, ◌<◌, ◌==◌, ℕ, List, [], ◌∷◌, ◌++◌, map, flat_map, reverse, Bool, true, false, not, Ordering, Less}
 use Rattle.std.proofs.Common.{Equal, Greater, is_eq, is_gt, is_lt, sym, refl, ap, ◌∙◌, subst, inl, inr, nat_cmp, IsPermutation}
-use Rattle.std.proofs.lemmas.Bool.{false≢true, eq-eqb}
-use Rattle.std.proofs.lemmas.Cmp.{on_total}
+use Rattle.tl_number.proofs.Common.{AllByRecursion, Among, Arrangement, Arranges, Chain, Coordinates, County, IsChoice, IsCounty, IsInOrder}
+use Rattle.tl_number.proofs.Common.{IsPermutation-map, IsPermutation-trans, IsTidy, Known, all_both, all_map, all_unmap, all_weaker}
+use Rattle.tl_number.proofs.Common.{among-map, among_known, arranged_tlids, ascending, choices, choices_of_shapes, chosen, each_from}
+use Rattle.tl_number.proofs.Common.{entries_of, entry_points, entry_shape, eq-eqb, false≢true, in_order, in_order-in_order}
+use Rattle.tl_number.proofs.Common.{in_order-is_permutation, in_order-map, is_either_way, keys_known, known-permutation_to, least_points}
+use Rattle.tl_number.proofs.Common.{map-map, map_agree_all, nat_keys, on, on_total, order_antisymm, placed, points_cmp, points_from}
+use Rattle.tl_number.proofs.Common.{points_keys, rights-numbered_from, running, same-itself, same-true, shapes, times-permutation, tlids}
+use Rattle.tl_number.proofs.Common.{to_filter, turned_if}
 use Rattle.std.proofs.lemmas.List.{append-nil, reverse-reverse}
-use Rattle.std.proofs.lemmas.List.Sorted.{IsPermutation-map, IsPermutation-trans}
-use Rattle.std.specs.List.{AllByRecursion}
-use Rattle.std.specs.Ordering.{on}
-use Rattle.tl_layout.specs.Coordinates.{Coordinates}
-use Rattle.tl_shape.specs.Chain.{Chain}
-use Rattle.tl_shape.specs.PointOrder.{points_cmp}
-use Rattle.tl_shape.specs.Turned.{turned_if}
-use Rattle.tl_county.specs.County.{County}
-use Rattle.tl_county.specs.CountyRules.{IsCounty, tlids}
-use Rattle.ordered_lists.specs.Orders.{IsInOrder, in_order}
-use Rattle.tl_county.specs.Laws.KeyOrders.{points_keys}
-use Rattle.ordered_lists.proofs.ByKey.Keys.{Known, nat_keys, same-true, same-itself, times-permutation, known-permutation_to, order_antisymm}
 use Rattle.ordered_lists.proofs.ByKey.Numbers.{from_in_order}
-use Rattle.tl_county.proofs.Packing.Pieces.{rights-numbered_from}
-use Rattle.ordered_lists.proofs.Lists.Elements.{map-map, map_agree_all, all_weaker, all_both, all_map, all_unmap}
-use Rattle.ordered_lists.proofs.Lists.InOrder.{in_order-in_order, in_order-map}
-use Rattle.ordered_lists.proofs.Lists.Members.{among_known, among-map}
-use Rattle.ordered_lists.proofs.Lists.Permutations.{in_order-is_permutation}
-use Rattle.ordered_lists.proofs.Lists.Reordered.{to_filter, from_permutation}
-use Rattle.ordered_lists.proofs.Lists.Among.{Among}
-use Rattle.ordered_lists.proofs.ByKey.Numbers.{each_from}
-use Rattle.tl_county.proofs.Sameness.Equivalence.{keys_known}
-use Rattle.tl_profile.specs.Choices.{choices, is_either_way, running, shapes}
-use Rattle.tl_profile.specs.Shapes.{least_points, points_from}
+use Rattle.ordered_lists.proofs.Lists.Reordered.{from_permutation}
 use Rattle.tl_profile.proofs.Factorials.{running-same}
-use Rattle.tl_profile.proofs.SameChoices.{choices_of_shapes}
-use Rattle.tl_number.specs.Arrangement.{Arrangement, Arranges, arranged_tlids, entries_of, placed, comes_turned, entry_shape, ascending}
+use Rattle.tl_number.specs.Arrangement.{comes_turned}
 use Rattle.tl_number.specs.Arrangement.{renaming_of, arranged}
-use Rattle.tl_number.specs.ArrangedCounty.{IsTidy, entry_points}
-use Rattle.tl_number.specs.NumberedChoices.{chosen}
-use Rattle.tl_number.specs.Tidy.{IsChoice, directed_shape, turned_directed, numbered_choice}
+use Rattle.tl_number.specs.Tidy.{directed_shape, turned_directed, numbered_choice}
 use Rattle.tl_number.proofs.Choices.AscendingArrangement.{shape_turned, turned_same}
 use Rattle.tl_number.proofs.Arrangements.Carrying.{chains_arranged}
 use Rattle.tl_number.proofs.Choices.Choosing.{IsChosen, permutation_of_times, chosen_is_choice, choice_has_number, first_stated}

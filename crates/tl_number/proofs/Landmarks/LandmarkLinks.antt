@@ -3,28 +3,14 @@ use Rattle.std.proofs.Common.{◌≡◌, ◌⊎◌, ◌<◌, ◌≤◌, ◌+◌,
 use Rattle.std.proofs.Common.{Bool, true, false, cond, not, Ordering, Less, Equal, Greater, is_gt, Some}
 use Rattle.std.proofs.Common.{slice_get}
 use Rattle.std.proofs.Common.{refl, sym, ap, ap₂, ◌∙◌, subst, inl, inr, arith, nat_cmp, append-nil, append_assoc, IsPermutation, IsTrue}
-use Rattle.std.proofs.lemmas.Bool.{true≢false, ltb-true}
+use Rattle.tl_number.proofs.Common.{County, Fields8, IsCounty, IsInOrder, IsPermutation-map, IsPermutation-sym, IsPermutation-trans, Known}
+use Rattle.tl_number.proofs.Common.{MatchOrdering, all_weaker, apart_from_sorted, eight_land, in_order, in_order-in_order}
+use Rattle.tl_number.proofs.Common.{in_order-is_permutation, in_order-permutation, lands, length-map, link_cmp, link_keys, links_at}
+use Rattle.tl_number.proofs.Common.{links_up_to, links_with, ltb-true, map-append, nat_keys, of_number, range_with_len, ranked, stands_in}
+use Rattle.tl_number.proofs.Common.{times, true≢false}
 use Rattle.std.proofs.lemmas.Bool.Decides.{leb_tells}
-use Rattle.std.proofs.lemmas.Cmp.{ranked}
-use Rattle.std.proofs.lemmas.List.{map-append, length-map}
 use Rattle.std.proofs.lemmas.List.Filters.{length-filter_both}
-use Rattle.std.proofs.lemmas.List.Sorted.{IsPermutation-sym, IsPermutation-trans, IsPermutation-map}
-use Rattle.std.specs.List.{range_with_len}
-use Rattle.std.specs.Ordering.{MatchOrdering}
-use Rattle.tl_layout.specs.ByType.{of_number}
-use Rattle.tl_layout.specs.Fields.{Fields8}
-use Rattle.tl_county.specs.BodyOrder.{link_cmp}
-use Rattle.tl_county.specs.ChartWords.{links_with, links_at}
-use Rattle.tl_county.specs.County.{County, eight_land}
-use Rattle.tl_county.specs.CountyRules.{IsCounty, lands}
-use Rattle.ordered_lists.specs.Orders.{IsInOrder, in_order, times, stands_in}
-use Rattle.ordered_lists.proofs.Lists.InOrder.{in_order-in_order, in_order-permutation}
-use Rattle.tl_county.specs.Laws.KeyOrders.{link_keys}
-use Rattle.ordered_lists.proofs.ByKey.Keys.{Known, nat_keys, apart_from_sorted}
-use Rattle.ordered_lists.proofs.Lists.Elements.{all_weaker}
 use Rattle.tl_county.proofs.Lists.OfNumber.{groups-permutation}
-use Rattle.ordered_lists.proofs.Lists.Permutations.{in_order-is_permutation}
-use Rattle.tl_number.specs.ViewFacts.{links_up_to}
 use Rattle.tl_number.proofs.Views.DirectedChains.{flat_map-map}
 
 -- one more piece

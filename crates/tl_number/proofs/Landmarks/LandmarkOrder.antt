@@ -2,40 +2,21 @@
 use Rattle.std.proofs.Common.{◌≡◌, ◌≤◌, ℕ, suc, List, [], ◌∷◌, map, filter_map, length, Option, Some, None, arith}
 use Rattle.std.proofs.Common.{option_map}
 use Rattle.std.proofs.Common.{unwrap_or, slice_get, Ordering, refl, sym, ap, ap₂, ◌∙◌, subst, nat_cmp, IsPermutation, IsTrue, false}
-use Rattle.std.proofs.lemmas.Bool.{ltb-true}
-use Rattle.std.proofs.lemmas.Cmp.{on_total, then_total, nat_cmp_total, lists_total}
-use Rattle.std.proofs.lemmas.List.{length-map}
-use Rattle.std.proofs.lemmas.List.FromFn.{length-range_with_len}
-use Rattle.std.proofs.lemmas.List.Sorted.{length_permutation, IsPermutation-map, IsPermutation-sym}
-use Rattle.std.proofs.lemmas.Option.{slice_get-map}
-use Rattle.std.specs.Cmp.{IsTotalOrder}
-use Rattle.std.specs.Cmp.Lexicographic.{slice_cmp}
-use Rattle.std.specs.List.{AllByRecursion, cons_option, range_with_len}
-use Rattle.std.specs.Ordering.{on, ordering_then}
-use Rattle.tl_layout.specs.Fields.{Fields8}
-use Rattle.tl_layout.specs.declared.type7.Body7.{Body7}
-use Rattle.tl_county.specs.BodyOrder.{landmark_body_cmp, link_cmp, link_part, link_part_cmp}
-use Rattle.tl_county.specs.ChartWords.{bodies_at, links_with}
-use Rattle.tl_county.specs.County.{County, eight_land, link_key}
-use Rattle.tl_county.specs.CountyRules.{IsCounty, lands}
-use Rattle.ordered_lists.specs.Entries.{entry_keys}
-use Rattle.ordered_lists.specs.Orders.{IsInOrder, in_order, times, stands_in, has_repeat}
-use Rattle.tl_county.specs.PolygonKeys.{PolygonKey, key_cmp}
-use Rattle.ordered_lists.specs.Pairs.{image}
-use Rattle.ordered_lists.proofs.Lists.Distinct.{has_repeat-apart}
-use Rattle.ordered_lists.proofs.Lists.InOrder.{in_order-in_order, in_order-equal}
-use Rattle.tl_county.specs.Laws.KeyOrders.{landmark_body_keys, link_part_keys, link_keys}
-use Rattle.ordered_lists.proofs.ByKey.Keys.{IsApart, Known, nat_keys, apart_from_sorted, apart-permutation, image-injective}
-use Rattle.ordered_lists.proofs.Lists.Elements.{map-map, all_weaker, all_map}
-use Rattle.ordered_lists.proofs.Lists.Members.{among_known}
-use Rattle.ordered_lists.proofs.Lists.Permutations.{in_order-is_permutation}
-use Rattle.tl_number.specs.Arrangement.{Arrangement, landmarks_in_order, links_relinked, relinked, new_keys, polygons_in_order}
-use Rattle.tl_number.specs.Growth.{numbered, up_to}
-use Rattle.tl_number.specs.LandmarkItems.{link_under, lands_at, numbered_links, own_links, landmark_place_cmp}
-use Rattle.tl_number.specs.DirectedChains.{arrangement_of}
-use Rattle.tl_number.specs.Uses.{links_of, landmark_key, landmark_key_cmp}
-use Rattle.tl_number.specs.ViewFacts.{AreWhole, AreReadAt, arranged_by}
-use Rattle.tl_county.specs.declared.directed_chain.DirectedChain.{DirectedChain}
+use Rattle.tl_number.proofs.Common.{AllByRecursion, AreReadAt, AreWhole, Arrangement, Body7, County, DirectedChain, Fields8, IsApart}
+use Rattle.tl_number.proofs.Common.{IsCounty, IsInOrder, IsPermutation-map, IsPermutation-sym, IsTotalOrder, Known, PolygonKey, all_map}
+use Rattle.tl_number.proofs.Common.{all_weaker, among_known, apart-permutation, apart_from_sorted, arranged_by, arrangement_of, bodies_at}
+use Rattle.tl_number.proofs.Common.{cons_option, eight_land, entry_keys, has_repeat, has_repeat-apart, image, in_order, in_order-equal}
+use Rattle.tl_number.proofs.Common.{in_order-in_order, in_order-is_permutation, key_cmp, landmark_body_cmp, landmark_key, landmark_key_cmp}
+use Rattle.tl_number.proofs.Common.{landmark_place_cmp, landmarks_in_order, lands, lands_at, length-map, length-range_with_len}
+use Rattle.tl_number.proofs.Common.{length_permutation, link_cmp, link_key, link_keys, link_part, link_part_cmp, link_part_keys, link_under}
+use Rattle.tl_number.proofs.Common.{links_relinked, links_with, ltb-true, map-map, nat_cmp_total, nat_keys, new_keys, numbered}
+use Rattle.tl_number.proofs.Common.{numbered_links, on, on_total, ordering_then, polygons_in_order, range_with_len, relinked, slice_cmp}
+use Rattle.tl_number.proofs.Common.{slice_get-map, stands_in, then_total, times, up_to}
+use Rattle.std.proofs.lemmas.Cmp.{lists_total}
+use Rattle.tl_county.specs.Laws.KeyOrders.{landmark_body_keys}
+use Rattle.ordered_lists.proofs.ByKey.Keys.{image-injective}
+use Rattle.tl_number.specs.LandmarkItems.{own_links}
+use Rattle.tl_number.specs.Uses.{links_of}
 use Rattle.tl_number.proofs.Arrangements.Carrying.{landmarks_permutation, links_arranged, lands_renamed, images-numbered}
 use Rattle.tl_number.proofs.Lists.Counting.{up_to-strict}
 use Rattle.tl_number.proofs.Names.NameOrder.{filter_map_all, then_assoc}

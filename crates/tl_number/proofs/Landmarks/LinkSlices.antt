@@ -2,19 +2,10 @@
 use Rattle.std.proofs.Common.{◌≡◌, ◌⊎◌, ◌≢◌, ◌<◌, ◌≤◌, ◌+◌, ◌-◌, ◌==◌, ℕ, suc, nat_le, List, [], ◌∷◌, filter, length, take}
 use Rattle.std.proofs.Common.{drop, Bool, true, false, cond, Less, Equal, Greater, Ordering, is_gt, eqb, get_or, slice_get}
 use Rattle.std.proofs.Common.{nat_cmp, refl, sym, ap, ap₂, ◌∙◌, subst, inl, inr, arith}
-use Rattle.std.proofs.lemmas.Bool.{true≢false}
+use Rattle.tl_number.proofs.Common.{AllByRecursion, Fields8, IsInOrder, MatchOrdering, all_weaker, eight_land, link_bounds, links_up_to}
+use Rattle.tl_number.proofs.Common.{links_with, on, ranked, true≢false, up_to}
 use Rattle.std.proofs.lemmas.Bool.Decides.{leb_tells, eqb_tells}
-use Rattle.std.proofs.lemmas.Cmp.{ranked}
 use Rattle.std.proofs.lemmas.List.FromFn.{get_or-map-range_with_len}
-use Rattle.std.specs.List.{AllByRecursion}
-use Rattle.std.specs.Ordering.{on, MatchOrdering}
-use Rattle.tl_layout.specs.Fields.{Fields8}
-use Rattle.tl_county.specs.ChartWords.{links_with}
-use Rattle.tl_county.specs.County.{eight_land}
-use Rattle.ordered_lists.specs.Orders.{IsInOrder}
-use Rattle.ordered_lists.proofs.Lists.Elements.{all_weaker}
-use Rattle.tl_number.specs.Growth.{up_to}
-use Rattle.tl_number.specs.ViewFacts.{links_up_to, link_bounds}
 use Rattle.tl_number.proofs.Views.ViewNumbers.{get_up_to}
 
 -- a number that doesn't compare as greater isn't greater

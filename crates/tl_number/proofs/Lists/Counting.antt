@@ -1,9 +1,7 @@
 -- Lists that count from a number: they ascend, and lists with the same length are equal.
 use Rattle.std.proofs.Common.{◌≡◌, ◌<◌, ◌+◌, ℕ, zero, suc, List, [], ◌∷◌, map, Less, Equal, Greater, refl, ap, arith, nat_cmp, cond, ◌==◌}
-use Rattle.std.proofs.lemmas.Bool.{lt-ltb}
-use Rattle.std.specs.List.{AllByRecursion, range_with_len}
+use Rattle.tl_number.proofs.Common.{AllByRecursion, lt-ltb, range_with_len, up_to}
 use Rattle.std.specs.List.Sorted.{IsStrictlySortedBy}
-use Rattle.tl_number.specs.Growth.{up_to}
 
 pub less : (m n : ℕ) → m < n → nat_cmp m n ≡ Less
 less m n h = ap (λ b. cond b Less (cond (m == n) Equal Greater)) (lt-ltb m n h)

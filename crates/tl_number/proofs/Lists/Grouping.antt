@@ -2,17 +2,11 @@
 use Rattle.std.proofs.Common.{◌≡◌, ◌⊎◌, ◌<◌, ◌≤◌, ◌+◌, ℕ, zero, suc, List, [], ◌∷◌, ◌++◌, map, flat_map, filter, length}
 use Rattle.std.proofs.Common.{length-append, take, drop, Bool, true, false, cond, Ordering, Less, Equal, Greater, is_gt, is_eq}
 use Rattle.std.proofs.Common.{sym, refl, ap, ap₂, ◌∙◌, subst, inl, inr, arith, nat_cmp, add-one, append-nil}
-use Rattle.std.proofs.lemmas.Bool.{false≢true, ne_eqb, eq-eqb}
-use Rattle.std.proofs.lemmas.Cmp.{ranked}
-use Rattle.std.specs.List.{AllByRecursion, range_with_len}
+use Rattle.tl_number.proofs.Common.{AllByRecursion, AreFull, IsInOrder, Known, MatchOrdering, all_weaker, eq-eqb, false≢true, known_all}
+use Rattle.tl_number.proofs.Common.{known_cases, nat_keys, ne_eqb, numbered_from, of_number, on, ordering_then, pieces, range_with_len}
+use Rattle.tl_number.proofs.Common.{ranked}
 use Rattle.std.specs.List.Sorted.{IsStrictlySortedBy}
-use Rattle.std.specs.Ordering.{on, MatchOrdering, ordering_then}
-use Rattle.tl_layout.specs.ByType.{of_number}
-use Rattle.ordered_lists.specs.Orders.{IsInOrder}
-use Rattle.ordered_lists.proofs.ByKey.Keys.{Known, nat_keys, known_cases, known_all}
-use Rattle.ordered_lists.proofs.Lists.Elements.{all_weaker, all_filter}
-use Rattle.tl_number.specs.Canonical.{AreFull}
-use Rattle.tl_county.specs.Packing.{pieces, numbered_from}
+use Rattle.ordered_lists.proofs.Lists.Elements.{all_filter}
 
 below : (m n : ℕ) → nat_cmp m n ≡ Less → m < n
 below m n e = ranked m n Less (sym e)

@@ -2,10 +2,7 @@
 use Rattle.std.proofs.Common.{◌≡◌, ◌≢◌, ◌<◌, ◌≤◌, ℕ, zero, suc, List, [], ◌∷◌, length, drop, Ordering}
 use Rattle.std.proofs.Common.{Less, Equal}
 use Rattle.std.proofs.Common.{Greater, None, slice_get, sym, refl, ap, ◌∙◌, arith}
-use Rattle.std.proofs.lemmas.List.{drop_all}
-use Rattle.std.specs.Cmp.Lexicographic.{slice_cmp}
-use Rattle.std.specs.Option.{option_cmp}
-use Rattle.std.specs.Ordering.{ordering_then}
+use Rattle.tl_number.proofs.Common.{drop_all, option_cmp, ordering_then, slice_cmp}
 
 module _ {X : Type 0} (R : X → X → Ordering) where
   rest_greater : (i : ℕ) (xs : List X) → i < length xs → slice_cmp R (drop i xs) [] ≡ Greater

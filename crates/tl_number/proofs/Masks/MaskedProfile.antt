@@ -1,30 +1,22 @@
 -- The profile and the order of chains by their shapes don't depend on anything that a mask leaves out.
 use Rattle.std.proofs.Common.{◌≡◌, ◌&&◌, ℕ, List, map, reverse, not, refl, sym, ap, ◌∙◌, subst}
 use Rattle.std.proofs.Common.{nat_cmp, length, min, suc, ◌≤◌, IsPermutation}
+use Rattle.tl_number.proofs.Common.{AreInShapeOrder, Chain, Coordinates, County, DirectedChain, IsInOrder, IsInProfile, Mask, OrderOfShapes}
+use Rattle.tl_number.proofs.Common.{TooSymmetric, choices, choices_of_shapes, is_either_way, key_cmp, least_points, map-map, masked}
+use Rattle.tl_number.proofs.Common.{most_choices, open_places, ordering_then, points_along, points_cmp, points_from, range_with_len}
+use Rattle.tl_number.proofs.Common.{running, stands_in}
 use Rattle.std.specs.Prelude.{nat_lt}
-use Rattle.std.specs.List.{range_with_len}
-use Rattle.std.specs.Ordering.{is_lt, ordering_then}
-use Rattle.tl_layout.specs.Coordinates.{Coordinates}
-use Rattle.tl_layout.specs.declared.mask.Mask.{Mask}
-use Rattle.tl_shape.specs.Chain.{Chain}
-use Rattle.tl_shape.specs.PointOrder.{points_cmp}
-use Rattle.tl_county.specs.County.{County}
+use Rattle.std.specs.Ordering.{is_lt}
 use Rattle.tl_county.specs.CountyRules.{has_body}
-use Rattle.ordered_lists.specs.Orders.{IsInOrder, stands_in}
-use Rattle.tl_county.specs.PolygonKeys.{key_cmp}
-use Rattle.tl_county.specs.MaskedCounty.{masked_chain, masked}
+use Rattle.tl_county.specs.MaskedCounty.{masked_chain}
 use Rattle.tl_county.specs.Laws.MaskedCounties.{sides_masked}
 use Rattle.tl_county.proofs.Masks.MaskedReads.{chain_count_masked, points_masked}
-use Rattle.tl_profile.specs.Profile.{is_clause_broken, IsInProfile}
-use Rattle.tl_profile.specs.Choices.{choices, is_either_way, most_choices, open_places, running}
+use Rattle.tl_profile.specs.Profile.{is_clause_broken}
 use Rattle.tl_profile.proofs.Places.{along_from}
-use Rattle.tl_profile.specs.ShapeOrder.{along_shape, along_shapes, points_along, directed_cmp, AreInShapeOrder, IsShapeOrder, OrderOfShapes}
-use Rattle.tl_profile.specs.Shapes.{least_points, points_at, points_from}
-use Rattle.tl_profile.proofs.SameChoices.{choices_of_shapes}
-use Rattle.ordered_lists.proofs.Lists.Elements.{map-map}
-use Rattle.tl_county.specs.declared.directed_chain.DirectedChain.{DirectedChain}
+use Rattle.tl_profile.specs.ShapeOrder.{along_shape, along_shapes, directed_cmp, IsShapeOrder}
+use Rattle.tl_profile.specs.Shapes.{points_at}
 use Rattle.tl_profile.specs.declared.fault.ProfileFault.{ProfileFault}
-use Rattle.tl_profile.specs.declared.fault.ProfileFault.TheVariants.{PolygonWithoutChain, TooSymmetric, Memory}
+use Rattle.tl_profile.specs.declared.fault.ProfileFault.TheVariants.{PolygonWithoutChain, Memory}
 
 module _ (mask : Mask) (county : County) where
   abbrev mask_entry : ℕ × Chain → ℕ × Chain

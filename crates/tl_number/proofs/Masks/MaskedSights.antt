@@ -1,16 +1,12 @@
 -- Each mask is a view, and never takes more records than the whole county.
 use Rattle.std.proofs.Common.{ℕ, arith, subst}
+use Rattle.tl_number.proofs.Common.{IsSight, Mask, by_type_of, masked, packed, packed_by_type}
 use Rattle.tl_layout.specs.Limits.{count_of_type}
-use Rattle.tl_layout.specs.declared.mask.Mask.{Mask}
-use Rattle.tl_county.specs.MaskedCounty.{masked}
 use Rattle.tl_county.specs.Laws.MaskedCounties.{masked_is_county}
 use Rattle.tl_county.specs.Laws.MaskedLimits.{counts_masked, masked_within_limits}
 use Rattle.tl_county.proofs.Masks.MaskedCounties.{masked_twice, carried_masked}
-use Rattle.tl_county.specs.Packing.{packed, packed_by_type}
-use Rattle.tl_county.specs.Laws.PackedTypes.{by_type_of}
 use Rattle.tl_county.specs.Laws.TypeCounts.{HasWithin, by_type_keeps, packed_keeps}
 use Rattle.tl_number.specs.SeenRecords.{ShowsNoMore}
-use Rattle.tl_number.specs.Sights.{IsSight}
 use Rattle.tl_number.proofs.Masks.MaskedProfile.{masked_in_profile}
 
 pub masked_sight : (mask : Mask) → IsSight (masked mask)

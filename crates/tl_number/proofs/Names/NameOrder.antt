@@ -4,35 +4,18 @@ use Rattle.std.proofs.Common.{true, false}
 use Rattle.std.proofs.Common.{cond, not, Ordering, Less, Equal, Greater, Option, Some, None, option_map, slice_get, is_eq, sym, refl, ap}
 use Rattle.std.proofs.Common.{ap₂}
 use Rattle.std.proofs.Common.{◌∙◌, subst, arith, nat_cmp, IsPermutation, append-nil, append_assoc}
-use Rattle.std.proofs.lemmas.Bool.{ltb-true, ltb-false}
-use Rattle.std.proofs.lemmas.Cmp.{on_total, then_total, nat_cmp_total}
-use Rattle.std.proofs.lemmas.List.{map-append, length-map}
-use Rattle.std.proofs.lemmas.List.Sorted.{length_permutation, IsPermutation-map}
-use Rattle.std.proofs.lemmas.Option.{slice_get-map}
-use Rattle.std.specs.Cmp.{IsTotalOrder}
-use Rattle.std.specs.Cmp.Lexicographic.{slice_cmp}
+use Rattle.tl_number.proofs.Common.{AreReadAt, AreWhole, Arrangement, Body5, Chain, County, DirectedChain, IsApart, IsCounty, IsInOrder}
+use Rattle.tl_number.proofs.Common.{IsKeyOrder, IsPermutation-map, IsTotalOrder, Use, all_uses, apart-permutation, apart_from_sorted}
+use Rattle.tl_number.proofs.Common.{arranged_tlids, arrangement_of, cons_option, entry_keys, feats, feats_along_arrangement, first_seen}
+use Rattle.tl_number.proofs.Common.{first_seen_after, has_repeat, has_repeat-apart, length-map, length_permutation, ltb-false, ltb-true}
+use Rattle.tl_number.proofs.Common.{map-append, name_key, name_key_cmp, names_in_order, nat_cmp_total, nat_keys, on_total, option_cmp}
+use Rattle.tl_number.proofs.Common.{ordering_then, placed, position_or_len, range_with_len, slice_cmp, slice_get-map, stands_in, then_total}
+use Rattle.tl_number.proofs.Common.{times-append, times-yes, use_cmp, uses_from, uses_of_name}
 use Rattle.std.specs.List.Sorted.{IsStrictlySortedBy}
-use Rattle.std.specs.Option.{option_cmp}
-use Rattle.std.specs.List.{cons_option, position_or_len, range_with_len}
-use Rattle.std.specs.Ordering.{ordering_then}
-use Rattle.tl_layout.specs.declared.type5.Body5.{Body5}
-use Rattle.tl_shape.specs.Chain.{Chain}
 use Rattle.tl_county.specs.BodyOrder.{name_body_cmp}
 use Rattle.tl_county.specs.ChartWords.{name_at}
-use Rattle.tl_county.specs.County.{County}
-use Rattle.tl_county.specs.CountyRules.{IsCounty, feats}
-use Rattle.ordered_lists.specs.Entries.{entry_keys}
-use Rattle.ordered_lists.specs.Orders.{IsInOrder, has_repeat, stands_in}
-use Rattle.ordered_lists.proofs.Lists.Distinct.{has_repeat-apart}
 use Rattle.tl_county.specs.Laws.KeyOrders.{name_body_keys}
-use Rattle.ordered_lists.proofs.ByKey.Keys.{IsKeyOrder, IsApart, nat_keys, times-append, times-yes, apart-permutation, apart_from_sorted}
-use Rattle.tl_number.specs.Arrangement.{Arrangement, arranged_tlids, placed, names_in_order}
-use Rattle.tl_number.specs.Growth.{first_seen_after, first_seen}
-use Rattle.tl_number.specs.NameItems.{feats_along_arrangement, from_one, rank_of, ranked_at, ranked_cmp, ranked_place}
-use Rattle.tl_number.specs.DirectedChains.{arrangement_of}
-use Rattle.tl_number.specs.Uses.{Use, use_cmp, all_uses, uses_from, uses_of_name, name_key, name_key_cmp}
-use Rattle.tl_number.specs.ViewFacts.{AreWhole, AreReadAt}
-use Rattle.tl_county.specs.declared.directed_chain.DirectedChain.{DirectedChain}
+use Rattle.tl_number.specs.NameItems.{from_one, rank_of, ranked_at, ranked_cmp, ranked_place}
 use Rattle.tl_number.specs.declared.name_order.RankedName.{RankedName}
 use Rattle.tl_number.proofs.Choices.AscendingArrangement.{options_total}
 use Rattle.tl_number.proofs.Arrangements.Carrying.{names_permutation}

@@ -3,23 +3,12 @@ use Rattle.std.proofs.Common.{◌≡◌, ◌⊎◌, ◌<◌, ◌≤◌, ◌+◌,
 use Rattle.std.proofs.Common.{false, cond, Less, Greater, is_eq, sym, refl, ap, ap₂, ◌∙◌, subst, inl}
 use Rattle.std.proofs.Common.{inr}
 use Rattle.std.proofs.Common.{arith, nat_cmp, nat_lt, length-append}
-use Rattle.std.proofs.lemmas.List.{length-map}
-use Rattle.std.specs.Cmp.{IsTotalOrder}
-use Rattle.std.proofs.lemmas.Bool.{eq-eqb, ne_eqb}
-use Rattle.std.proofs.lemmas.Cmp.{tied_itself, nat_cmp_total}
-use Rattle.std.specs.Cmp.Lexicographic.{slice_cmp}
-use Rattle.std.specs.List.{AllByRecursion}
+use Rattle.tl_number.proofs.Common.{AllByRecursion, Among, IsTotalOrder, Known, Use, all_among, among-map, eq-eqb, first_seen_after}
+use Rattle.tl_number.proofs.Common.{known-here, known-right, length-map, lists_keys, nat_cmp_total, nat_keys, ne_eqb, ordering_reverse}
+use Rattle.tl_number.proofs.Common.{ordering_then, same_or_not, slice_cmp, stands_in, tied_itself, times, times-append, times-no}
+use Rattle.tl_number.proofs.Common.{times-of_number, times-yes, use_cmp, uses_of_name}
 use Rattle.std.specs.List.Sorted.{IsStrictlySortedBy}
-use Rattle.std.specs.Ordering.{ordering_then, ordering_reverse}
-use Rattle.ordered_lists.specs.Orders.{times, stands_in}
-use Rattle.ordered_lists.proofs.Lists.Among.{Among, all_among}
-use Rattle.ordered_lists.proofs.ByKey.KeyOrders.{lists_keys}
-use Rattle.ordered_lists.proofs.ByKey.Keys.{Known, nat_keys, times-append, times-yes, times-no, known-right, known-here, same_or_not}
 use Rattle.ordered_lists.proofs.ByKey.Keys.{differ_apart}
-use Rattle.ordered_lists.proofs.Lists.Members.{among-map}
-use Rattle.tl_county.proofs.Lists.OfNumber.{times-of_number}
-use Rattle.tl_number.specs.Growth.{first_seen_after}
-use Rattle.tl_number.specs.Uses.{Use, use_cmp, uses_of_name}
 use Rattle.tl_number.proofs.Lists.Counting.{less}
 use Rattle.tl_number.proofs.Numbering.FirstSeen.{place_from, place_bounds, place-append, place-new, seen_stays}
 use Rattle.tl_number.proofs.Numbering.FirstSeen.{known_after, all_after}

@@ -1,16 +1,9 @@
 -- Uses of names: each occurs once in the list of all uses, and a name's uses are those under its FEAT.
 use Rattle.std.proofs.Common.{◌≡◌, ◌<◌, ℕ, suc, ◌==◌, List, [], ◌∷◌, ◌++◌, map, filter, Bool, true, false, cond, Less}
 use Rattle.std.proofs.Common.{sym, refl, ap, ◌∙◌, subst, inl, inr, arith, nat_cmp}
-use Rattle.std.proofs.lemmas.Bool.{eqb-true, eq-eqb}
-use Rattle.std.proofs.lemmas.Cmp.{tied_itself, nat_cmp_total}
-use Rattle.std.specs.List.{AllByRecursion}
+use Rattle.tl_number.proofs.Common.{AllByRecursion, Among, Chain, IsKeyOrder, Use, all_uses, eq-eqb, eqb-true, nat_cmp_total, nat_keys}
+use Rattle.tl_number.proofs.Common.{ordering_then, pair_keys, tied_itself, use_cmp, uses_from, uses_of_name}
 use Rattle.std.specs.List.Sorted.{IsStrictlySortedBy}
-use Rattle.std.specs.Ordering.{ordering_then}
-use Rattle.tl_shape.specs.Chain.{Chain}
-use Rattle.ordered_lists.proofs.Lists.Among.{Among}
-use Rattle.ordered_lists.proofs.ByKey.KeyOrders.{pair_keys}
-use Rattle.ordered_lists.proofs.ByKey.Keys.{IsKeyOrder, nat_keys}
-use Rattle.tl_number.specs.Uses.{Use, use_cmp, uses_from, all_uses, uses_of_name}
 use Rattle.tl_number.proofs.Lists.Counting.{less}
 
 pub use_keys : IsKeyOrder use_cmp

@@ -2,11 +2,10 @@
 use Rattle.std.proofs.Common.{◌≡◌, ◌⊎◌, ◌<◌, ◌≤◌, ◌+◌, ℕ, suc, max, List, [], ◌∷◌, ◌++◌, map, length, Bool, true, false}
 use Rattle.std.proofs.Common.{cond, Ordering, is_eq, sym, refl, ap, ◌∙◌, subst, inl, inr, arith, append_assoc, append-nil}
 use Rattle.std.proofs.Common.{length-append}
-use Rattle.std.proofs.lemmas.Bool.{ltb-true, ltb-false}
-use Rattle.ordered_lists.specs.Orders.{times, stands_in}
-use Rattle.ordered_lists.proofs.ByKey.Keys.{IsKeyOrder, IsApart, Known, times-yes, times-no, times-append, known-left, known-right}
-use Rattle.ordered_lists.proofs.ByKey.Keys.{known-append, known_cases, known-here, known-later, same_or_not}
-use Rattle.tl_number.specs.Growth.{GrowsFrom, Grows, first_seen_after, first_seen}
+use Rattle.tl_number.proofs.Common.{Grows, GrowsFrom, IsApart, IsKeyOrder, Known, first_seen, first_seen_after, known-here, known-right}
+use Rattle.tl_number.proofs.Common.{known_cases, ltb-false, ltb-true, same_or_not, stands_in, times, times-append, times-no, times-yes}
+use Rattle.ordered_lists.proofs.ByKey.Keys.{known-left}
+use Rattle.ordered_lists.proofs.ByKey.Keys.{known-append, known-later}
 
 module _ {K : Type 0} {cmp : K → K → Ordering} (o : IsKeyOrder cmp) where
   -- the place of a key in a list whose first place is i

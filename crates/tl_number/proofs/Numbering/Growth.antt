@@ -1,8 +1,7 @@
 -- Numbers by first appearance are determined: two such numberings of one list of keys are equal if they distinguish the same keys.
 use Rattle.std.proofs.Common.{◌≡◌, ◌⊎◌, ◌<◌, ◌≤◌, ◌+◌, ℕ, max, List, [], ◌∷◌, map, sym, ◌∙◌, subst, inl, inr, arith}
+use Rattle.tl_number.proofs.Common.{AllByRecursion, Grows, GrowsFrom}
 use Rattle.std.proofs.lemmas.Bool.{cases_lt}
-use Rattle.std.specs.List.{AllByRecursion}
-use Rattle.tl_number.specs.Growth.{GrowsFrom, Grows}
 
 module _ {K : Type 0} (f g : K → ℕ) (Dom : K → Type 0)
     (forth : (k j : K) → Dom k → Dom j → f k ≡ f j → g k ≡ g j)

@@ -2,14 +2,10 @@
 use Rattle.std.proofs.Common.{◌≡◌, ◌⊎◌, ◌<◌, ◌+◌, ◌%◌, ℕ, zero, suc, List, [], ◌∷◌, ◌++◌, length, length-set, set, get_or, slice_get, Bool, true, false}
 use Rattle.std.proofs.Common.{Ordering, Option, Some, None, IfSome, is_eq, is_some, refl, sym, ap, ◌∙◌, subst, inl, inr, arith, length-append}
 use Rattle.std.proofs.Common.{Result, Ok, Err, IfOk}
+use Rattle.tl_number.proofs.Common.{IsKeyOrder, any-stands_in, false≢true, list_any, lt-ltb, position, same-itself, stands_in, times}
 use Rattle.std.specs.Prelude.{OnOk}
-use Rattle.std.proofs.lemmas.Bool.{lt-ltb, false≢true}
 use Rattle.std.proofs.lemmas.List.{get_or-set_other, get_or-set_same}
 use Rattle.std.proofs.lemmas.Option.{none-some, same_Some}
-use Rattle.std.specs.List.{list_any, position}
-use Rattle.ordered_lists.specs.Orders.{times, stands_in}
-use Rattle.tl_county.proofs.ByKey.KeySets.{any-stands_in}
-use Rattle.ordered_lists.proofs.ByKey.Keys.{IsKeyOrder, same-itself}
 use Rattle.tl_county.proofs.ByKey.PlacesOfCenids.{known_at}
 use Rattle.tl_number.specs.PlacedKeys.{AreApart, ArePlaced}
 use Rattle.tl_number.proofs.Numbering.SeenKeys.{place_found}

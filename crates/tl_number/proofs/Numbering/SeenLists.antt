@@ -2,9 +2,7 @@
 use Rattle.std.proofs.Common.{◌≡◌, ◌+◌, ℕ, zero, suc, List, [], ◌∷◌, ◌++◌, drop, Bool, true, false, cond}
 use Rattle.std.proofs.Common.{Ordering}
 use Rattle.std.proofs.Common.{Option, option_to_list, slice_get, sym, refl, ap, ap₂, ◌∙◌, arith}
-use Rattle.std.proofs.lemmas.List.{drop_all}
-use Rattle.ordered_lists.specs.Orders.{stands_in}
-use Rattle.tl_number.specs.Growth.{first_seen_after}
+use Rattle.tl_number.proofs.Common.{drop_all, first_seen_after, stands_in}
 
 module _ {K : Type 0} (cmp : K → K → Ordering) where
   -- one list after another

@@ -1,34 +1,21 @@
 -- Polygons in the order of first appearance are the polygons of the arranged county by number.
 use Rattle.std.proofs.Common.{◌≡◌, ℕ, List, [], ◌∷◌, map, length, Option, Some, sym, refl, ap, ◌∙◌, subst, nat_cmp}
 use Rattle.std.proofs.Common.{IsPermutation, IfSome, zero, suc, slice_get, option_map, None, arith, ◌+◌}
-use Rattle.tl_county.specs.Packing.{numbered_from}
-use Rattle.std.proofs.lemmas.Cmp.{nat_cmp_total, on_total}
-use Rattle.std.proofs.lemmas.Option.{slice_get-map}
-use Rattle.std.proofs.lemmas.List.Sorted.{IsPermutation-sym, IsPermutation-trans, IsPermutation-map}
-use Rattle.std.specs.List.{AllByRecursion}
+use Rattle.tl_number.proofs.Common.{AllByRecursion, AllKeysStandIn, Arrangement, Arranges, BodyP, County, IsApart, IsCounty}
+use Rattle.tl_number.proofs.Common.{IsPermutation-map, IsPermutation-sym, IsPermutation-trans, PolygonKey, carried_polygon, entry_keys}
+use Rattle.tl_number.proofs.Common.{entry_polyid, entry_values, image, images-lefts, in_order, in_order-in_order, in_order-is_permutation}
+use Rattle.tl_number.proofs.Common.{in_order-map, in_order-permutation, key_cmp, key_keys, lefts, map-map, nat_cmp_total, nat_keys}
+use Rattle.tl_number.proofs.Common.{numbered, numbered_from, on, on_total, placed, polygon_keys, polygons_along, polygons_by_number}
+use Rattle.tl_number.proofs.Common.{polygons_in_order, rights, slice_get-map, strict-map, under_cenid, under_number, up_to}
 use Rattle.std.specs.List.Sorted.{IsStrictlySortedBy}
 use Rattle.std.specs.Option.{option_and_then}
-use Rattle.std.specs.Ordering.{on}
-use Rattle.tl_layout.specs.declared.type_p.BodyP.{BodyP}
 use Rattle.tl_county.specs.ChartWords.{polygon_under}
-use Rattle.tl_county.specs.County.{County}
-use Rattle.tl_county.specs.CountyRules.{IsCounty, AllKeysStandIn, polygon_keys, polygons_along}
-use Rattle.ordered_lists.specs.Entries.{entry_keys, entry_values, value_under}
-use Rattle.ordered_lists.specs.Orders.{in_order}
-use Rattle.tl_county.specs.PolygonKeys.{PolygonKey, key_cmp}
-use Rattle.ordered_lists.specs.Pairs.{image}
-use Rattle.tl_county.specs.Renumbering.{carried_polygon}
-use Rattle.ordered_lists.proofs.Lists.InOrder.{in_order-permutation, in_order-in_order, in_order-map, strict-map, strict-permutation}
-use Rattle.tl_county.specs.Laws.KeyOrders.{key_keys}
-use Rattle.ordered_lists.proofs.ByKey.Keys.{nat_keys, images-lefts, IsApart, rights, lefts}
-use Rattle.ordered_lists.proofs.Lists.Elements.{map-map}
+use Rattle.ordered_lists.specs.Entries.{value_under}
+use Rattle.ordered_lists.proofs.Lists.InOrder.{strict-permutation}
 use Rattle.ordered_lists.proofs.Lists.EntryLists.{in_order-strict, value-at_place}
-use Rattle.ordered_lists.proofs.Lists.Permutations.{in_order-is_permutation}
 use Rattle.ordered_lists.proofs.Lists.ByPlace.{all_at}
 use Rattle.tl_profile.proofs.PlacedOrder.{all_permuted}
-use Rattle.tl_number.specs.Arrangement.{Arrangement, Arranges, polygons_in_order, placed, renaming_of, arranged, under_cenid}
-use Rattle.tl_number.specs.ByNumber.{entry_polyid, polygons_by_number, under_number}
-use Rattle.tl_number.specs.Growth.{numbered, up_to}
+use Rattle.tl_number.specs.Arrangement.{renaming_of, arranged}
 use Rattle.tl_number.proofs.Arrangements.Carrying.{polygon_lefts, polygons_permutation, polygons_renamed, polygons_arranged}
 use Rattle.tl_number.proofs.Lists.Counting.{up_to-strict}
 use Rattle.tl_number.proofs.Numbering.FirstSeen.{first_seen-apart}

@@ -1,16 +1,10 @@
 -- The chain at a place of a county within its limits.
 use Rattle.std.proofs.Common.{◌≡◌, ◌+◌, ◌-◌, ◌<◌, ◌≤◌, ℕ, zero, suc, List, [], ◌∷◌, length, Option, Some, None, option_map}
 use Rattle.std.proofs.Common.{slice_get, refl, ap, ◌∙◌, subst, arith}
-use Rattle.std.proofs.lemmas.Option.{slice_get-map}
-use Rattle.std.specs.List.{AllByRecursion}
-use Rattle.tl_layout.specs.Coordinates.{Coordinates}
-use Rattle.tl_layout.specs.Numbers.{IsNumber}
-use Rattle.tl_shape.specs.Chain.{Chain}
-use Rattle.tl_county.specs.ChartWords.{chain_at, points_of}
-use Rattle.tl_county.specs.County.{County}
-use Rattle.tl_county.specs.CountyRules.{IsCounty, tlids}
-use Rattle.tl_county.specs.Limits.{IsWithinLimits, FitsNumbers, ListsFit, most_records, most_shape_points}
-use Rattle.tl_county.specs.Packing.{first_point, last_point, without_last, inner_points}
+use Rattle.tl_number.proofs.Common.{AllByRecursion, Chain, Coordinates, County, FitsNumbers, IsCounty, IsNumber, IsWithinLimits, chain_at}
+use Rattle.tl_number.proofs.Common.{first_point, inner_points, last_point, most_records, points_of, slice_get-map, tlids}
+use Rattle.tl_county.specs.Limits.{ListsFit, most_shape_points}
+use Rattle.tl_county.specs.Packing.{without_last}
 use Rattle.tl_number.proofs.Records.Grouped.{some-same}
 
 -- a property of all elements of a list is a property of the element at a place

@@ -1,25 +1,12 @@
 -- The name, the landmark and the polygon at a place of a county within its limits.
 use Rattle.std.proofs.Common.{◌≡◌, ◌<◌, ℕ, List, [], length, map, Option, Some, None, option_map, option_to_list, unwrap_or, slice_get}
 use Rattle.std.proofs.Common.{IsSome, sym, refl, ap, ◌∙◌, subst, nat_cmp, arith}
-use Rattle.std.proofs.lemmas.List.{length-map}
-use Rattle.std.proofs.lemmas.Option.{slice_get-map}
-use Rattle.std.specs.Ordering.{on}
+use Rattle.tl_number.proofs.Common.{Body5, Body7, BodyP, County, IsNumber, IsWithinLimits, PolygonKey, all-in_order, bodies_at}
+use Rattle.tl_number.proofs.Common.{entry_polyid, feats, group_at, lands, length-map, most_records, on, packed_body, packed_p}
+use Rattle.tl_number.proofs.Common.{polygons_by_number, slice_get-map, type_p_by_number}
 use Rattle.tl_layout.specs.Bytes.{IsText}
-use Rattle.tl_layout.specs.Numbers.{IsNumber}
-use Rattle.tl_layout.specs.declared.type5.Body5.{Body5}
-use Rattle.tl_layout.specs.declared.type7.Body7.{Body7}
-use Rattle.tl_layout.specs.declared.type_p.BodyP.{BodyP}
-use Rattle.tl_county.specs.ChartWords.{name_at, bodies_at}
-use Rattle.tl_county.specs.County.{County}
-use Rattle.tl_county.specs.CountyRules.{feats, lands}
-use Rattle.tl_county.specs.Limits.{IsWithinLimits, most_records}
-use Rattle.tl_county.specs.PolygonKeys.{PolygonKey}
+use Rattle.tl_county.specs.ChartWords.{name_at}
 use Rattle.ordered_lists.proofs.ByKey.Numbers.{length-in_order}
-use Rattle.ordered_lists.proofs.ByKey.Numbers.{all-in_order}
-use Rattle.tl_number.specs.ByNumber.{entry_polyid, polygons_by_number}
-use Rattle.tl_county.specs.Packing.{packed_p, packed_body}
-use Rattle.tl_number.specs.CountyGroups.{type_p_by_number}
-use Rattle.tl_number.specs.Groups.{group_at}
 use Rattle.tl_number.proofs.Records.ChainPlaces.{all_at, some_at}
 use Rattle.tl_number.proofs.Records.Grouped.{group_of}
 

@@ -1,11 +1,8 @@
 -- The rest of records in groups, from a place.
 use Rattle.std.proofs.Common.{◌≡◌, ◌≤◌, ◌+◌, ◌∙◌, ℕ, zero, suc, List, [], ◌∷◌, ◌++◌, length, drop, Some, Option}
 use Rattle.std.proofs.Common.{Bool, true, false, nat_lt, slice_get, unwrap_or, sym, refl, ap, ap₂, add-one, arith}
-use Rattle.std.proofs.lemmas.Bool.{ltb-false}
+use Rattle.tl_number.proofs.Common.{drop_all, group_at, grouped, ltb-false, rest_of, slice_get_past}
 use Rattle.std.specs.Bool.{if◌then◌else◌}
-use Rattle.std.proofs.lemmas.List.{drop_all}
-use Rattle.std.proofs.lemmas.Option.{slice_get_past}
-use Rattle.tl_number.specs.Groups.{group_at, grouped, rest_of}
 
 -- an element, then the rest after it
 dropped_before : {X : Type 0} (xs : List X) (n : ℕ) (x : X) → Some x ≡ slice_get xs n → drop n xs ≡ x ∷ drop (suc n) xs

@@ -1,11 +1,10 @@
 -- Groups made from the entries of a list, and lists read by place.
 use Rattle.std.proofs.Common.{◌≡◌, ◌+◌, ◌<◌, ◌≤◌, ℕ, zero, suc, List, [], ◌∷◌, ◌++◌, length, take, drop, map, flat_map, Option, Some, None}
 use Rattle.std.proofs.Common.{option_map, unwrap_or, slice_get, length-drop, min, append-nil, append_assoc, sym, refl, ap, ◌∙◌, arith}
+use Rattle.tl_number.proofs.Common.{group_at, grouped, length-take, slice_get-map}
 use Rattle.std.proofs.Math.Seq.{take-add}
 use Rattle.std.proofs.lemmas.Grind.{flat_map-append}
-use Rattle.std.proofs.lemmas.List.{length-take, take-append-drop}
-use Rattle.std.proofs.lemmas.Option.{slice_get-map}
-use Rattle.tl_number.specs.Groups.{group_at, grouped}
+use Rattle.std.proofs.lemmas.List.{take-append-drop}
 
 pub some-same : {X : Type 0} (o : Option X) (x y : X) → Some x ≡ o → o ≡ Some y → x ≡ y
 some-same o x y e f = cc

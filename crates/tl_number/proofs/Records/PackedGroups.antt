@@ -1,20 +1,11 @@
 -- The groups of a county's records, joined, are its packing.
 use Rattle.std.proofs.Common.{◌≡◌, List, ◌++◌, map, flat_map, filter_map, Option, Some, None, ap, ◌∙◌, nat_cmp}
 use Rattle.std.proofs.Common.{append-nil, append_assoc}
-use Rattle.std.specs.Ordering.{on}
-use Rattle.tl_layout.specs.Fields.{FieldsP}
-use Rattle.tl_layout.specs.declared.record_type.Record.TheVariants.{One, Two, Four, Five, Six, Seven, Eight, I, P}
-use Rattle.tl_layout.specs.declared.type_p.BodyP.{BodyP}
-use Rattle.tl_county.specs.County.{County}
-use Rattle.ordered_lists.specs.Orders.{in_order}
-use Rattle.tl_county.specs.Packing.{packed_one, packed_twos, packed_fours, packed_five, packed_sixes, packed_sevens, packed_i, packed_p}
-use Rattle.tl_county.specs.Packing.{p_polyid, packed_body, packed}
-use Rattle.tl_county.specs.PolygonKeys.{PolygonKey}
-use Rattle.tl_number.specs.ByNumber.{entry_polyid, polygons_by_number}
-use Rattle.tl_number.specs.CountyGroups.{type_1_by_chain, type_2_by_chain, type_4_by_chain, type_5_by_name, type_6_by_chain}
-use Rattle.tl_number.specs.CountyGroups.{type_7_by_landmark, type_8_together, type_i_by_chain, type_p_by_number}
-use Rattle.tl_number.specs.CountyGroups.{types_1_to_4, types_5_to_7, types_8_to_p}
-use Rattle.tl_number.specs.Groups.{grouped}
+use Rattle.tl_number.proofs.Common.{BodyP, County, Eight, FieldsP, Five, Four, I, One, P, PolygonKey, Seven, Six, Two, entry_polyid}
+use Rattle.tl_number.proofs.Common.{grouped, in_order, on, p_polyid, packed, packed_body, packed_five, packed_fours, packed_i, packed_one}
+use Rattle.tl_number.proofs.Common.{packed_p, packed_sevens, packed_sixes, packed_twos, polygons_by_number, type_1_by_chain}
+use Rattle.tl_number.proofs.Common.{type_2_by_chain, type_4_by_chain, type_5_by_name, type_6_by_chain, type_7_by_landmark, type_8_together}
+use Rattle.tl_number.proofs.Common.{type_i_by_chain, type_p_by_number, types_1_to_4, types_5_to_7, types_8_to_p}
 use Rattle.tl_number.proofs.Records.Grouped.{grouped_map, grouped_lone}
 use Rattle.tl_number.proofs.Records.Selected.{grouped_selected, selected_in_order}
 

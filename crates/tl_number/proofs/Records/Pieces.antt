@@ -1,10 +1,9 @@
 -- Pieces of a list, read by place.
 use Rattle.std.proofs.Common.{◌≡◌, ◌+◌, ◌*◌, ◌-◌, ◌<◌, ◌≤◌, ◌/◌, ◌%◌, ℕ, zero, suc, List, [], ◌∷◌, length, take, drop, min}
 use Rattle.std.proofs.Common.{Some, option_map, slice_get, map, refl, ap, ◌∙◌, arith}
+use Rattle.tl_number.proofs.Common.{in_pieces, length-map, numbered_from, pieces, slice_get-map}
 use Rattle.std.proofs.lemmas.Grind.{div_ceil_times}
-use Rattle.std.proofs.lemmas.List.{length-drop, length-map, drop-drop}
-use Rattle.std.proofs.lemmas.Option.{slice_get-map}
-use Rattle.tl_county.specs.Packing.{pieces, in_pieces, numbered_from}
+use Rattle.std.proofs.lemmas.List.{length-drop, drop-drop}
 use Rattle.tl_county.proofs.Packing.Pieces.{length-numbered_from}
 use Rattle.tl_number.proofs.Polygons.PolygonNumbers.{numbered_at}
 

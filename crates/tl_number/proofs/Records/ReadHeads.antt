@@ -1,6 +1,6 @@
 -- The heads of consecutive groups.
 use Rattle.std.proofs.Common.{◌≡◌, ◌+◌, ℕ, zero, suc, List, [], ◌∷◌, ◌++◌, length, Some, slice_get, ◌⊎◌, inl, inr, refl, ap, subst}
-use Rattle.tl_number.specs.Groups.{AreHeads}
+use Rattle.tl_number.proofs.Common.{AreHeads}
 
 -- reading a list with one more element at its end
 at_end : {H : Type 0} (xs : List H) (x y : H) (k : ℕ) → slice_get (xs ++ x ∷ []) k ≡ Some y

@@ -1,9 +1,8 @@
 -- Comparing the fields of records.
 use Rattle.std.proofs.Common.{◌≡◌, ◌&&◌, Bool, true, false, refl, ap}
+use Rattle.tl_number.proofs.Common.{Coordinates, Decides}
 use Rattle.std.proofs.lemmas.Bool.Decides.{Decides-int_eq}
-use Rattle.std.specs.Bool.{Decides}
 use Rattle.std.specs.Ordering.{int_eq}
-use Rattle.tl_layout.specs.Coordinates.{Coordinates}
 
 -- both of two tests
 decides_both : {P Q : Type 0} (b d : Bool) → Decides b P → Decides d Q → Decides (b && d) (P × Q)

@@ -1,18 +1,9 @@
 -- A record at a place among those of a chain.
 use Rattle.std.proofs.Common.{◌≡◌, ◌+◌, ◌*◌, ◌/◌, ◌%◌, ◌<◌, ◌≤◌, ◌∙◌, ℕ, suc, List, [], ◌∷◌, Option, Some, None, IfSome, length, map, min, take, drop}
 use Rattle.std.proofs.Common.{slice_get, option_map, sym, ap, subst}
-use Rattle.std.proofs.lemmas.List.{length-map}
-use Rattle.tl_layout.specs.Coordinates.{Coordinates}
-use Rattle.tl_layout.specs.Fields.{Fields2, Fields4, Fields6, FieldsI}
-use Rattle.tl_layout.specs.Numbers.{IsNumberOrNone}
-use Rattle.tl_layout.specs.declared.ranges.Ranges.{Ranges}
-use Rattle.tl_shape.specs.Chain.{Chain}
-use Rattle.tl_county.specs.ChartWords.{chain_at, points_of}
-use Rattle.tl_county.specs.County.{County}
-use Rattle.tl_county.specs.CountyRules.{IsCounty, tlids}
-use Rattle.tl_county.specs.Limits.{FitsNumbers, IsWithinLimits, most_records}
-use Rattle.tl_county.specs.Packing.{in_pieces, numbered_from, packed_i}
-use Rattle.tl_number.specs.Groups.{group_at}
+use Rattle.tl_number.proofs.Common.{Chain, Coordinates, County, Fields2, Fields4, Fields6, FieldsI, FitsNumbers, IsCounty, IsNumberOrNone}
+use Rattle.tl_number.proofs.Common.{IsWithinLimits, Ranges, chain_at, group_at, in_pieces, length-map, most_records, numbered_from}
+use Rattle.tl_number.proofs.Common.{packed_i, points_of, tlids}
 use Rattle.tl_number.proofs.Records.ChainPlaces.{ChainThere, chain_there}
 use Rattle.tl_number.proofs.Records.Grouped.{group_of, lone, some-same}
 use Rattle.tl_number.proofs.Records.Pieces.{numbered_list_at, numbered_list_length, piece_begins, pieces_at, pieces_counted}

@@ -1,18 +1,10 @@
 -- Lists that are compared place by place, and tests that decide whether they are the same.
-use Rattle.std.proofs.lemmas.List.{take_all}
 use Rattle.std.proofs.Common.{◌≡◌, ◌<◌, ◌≤◌, ◌+◌, ℕ, zero, suc, List, [], ◌∷◌, length, take, Bool, true, false, Some}
 use Rattle.std.proofs.Common.{slice_get, map, ◌++◌, refl, sym, ap, ◌∙◌, add-one, arith}
-use Rattle.std.proofs.lemmas.Bool.{false≢true}
-use Rattle.std.specs.Bool.{Decides}
-use Rattle.tl_county.specs.County.{County, county_of}
-use Rattle.tl_county.specs.CountyRules.{IsCounty}
-use Rattle.tl_county.specs.Packing.{packed}
-use Rattle.tl_county.proofs.Packing.PackedCounty.{packed_county}
-use Rattle.tl_layout.specs.declared.record_type.Record.TheVariants.{One, Two, Four, Five, Six, Seven, Eight, I, P}
-use Rattle.tl_number.specs.CountyGroups.{type_1_by_chain, type_2_by_chain, type_4_by_chain, type_5_by_name, type_6_by_chain}
+use Rattle.tl_number.proofs.Common.{County, Decides, Eight, Five, Four, I, IsCounty, One, P, Seven, Six, Two, county_of, false≢true}
+use Rattle.tl_number.proofs.Common.{group_at, grouped, packed, packed_county, take_all, type_1_by_chain, type_2_by_chain, type_4_by_chain}
+use Rattle.tl_number.proofs.Common.{type_5_by_name, type_6_by_chain, type_7_by_landmark, type_8_together, type_i_by_chain, type_p_by_number}
 use Rattle.tl_number.specs.SharedGroups.{HaveSameCounts, HaveSameChains, HaveSameEntries}
-use Rattle.tl_number.specs.CountyGroups.{type_7_by_landmark, type_8_together, type_i_by_chain, type_p_by_number}
-use Rattle.tl_number.specs.Groups.{group_at, grouped}
 use Rattle.tl_number.proofs.Records.PackedGroups.{all_groups}
 
 -- if a necessary condition fails, so does what it is necessary for

@@ -1,13 +1,9 @@
 -- Selecting from a list that is put in order.
 use Rattle.std.proofs.Common.{◌≡◌, ℕ, List, [], ◌∷◌, ◌++◌, map, filter_map, Bool, true, false, cond, Option, Some, None, option_to_list}
 use Rattle.std.proofs.Common.{Ordering, is_gt, sym, refl, ap, ◌∙◌, nat_cmp}
-use Rattle.std.proofs.lemmas.Cmp.{nat_cmp_total, on_total, upto}
-use Rattle.std.specs.List.{AllByRecursion, cons_option}
-use Rattle.std.specs.Ordering.{on}
-use Rattle.ordered_lists.specs.Orders.{IsInOrder, put_in_order, in_order}
-use Rattle.ordered_lists.proofs.Lists.InOrder.{in_order-in_order}
-use Rattle.ordered_lists.proofs.Lists.Elements.{all_weaker}
-use Rattle.tl_number.specs.Groups.{grouped}
+use Rattle.tl_number.proofs.Common.{AllByRecursion, IsInOrder, all_weaker, cons_option, grouped, in_order, in_order-in_order, nat_cmp_total}
+use Rattle.tl_number.proofs.Common.{on, on_total, upto}
+use Rattle.ordered_lists.specs.Orders.{put_in_order}
 
 pub grouped_selected : {X Y : Type 0} (h : X → Option Y) (xs : List X) → grouped (map (λ x. option_to_list (h x)) xs) ≡ filter_map h xs
 grouped_selected h [] = refl

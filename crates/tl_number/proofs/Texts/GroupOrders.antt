@@ -1,12 +1,9 @@
 -- Records in groups, compared one by one.
 use Rattle.std.proofs.Common.{◌≡◌, ◌∙◌, List, map, Ordering, Less, Equal, Greater, sym, ap, refl}
-use Rattle.std.proofs.lemmas.Cmp.{lists_total, nat_list_cmp_total, on_total, tied_itself}
-use Rattle.std.specs.Cmp.{IsTotalOrder}
-use Rattle.std.specs.Ordering.{ordering_then}
+use Rattle.tl_number.proofs.Common.{IsTotalOrder, Record, grouped, groups_cmp, nat_list_cmp_total, on_total, ordering_then, records_cmp}
+use Rattle.tl_number.proofs.Common.{spelling_cmp, tied_itself}
+use Rattle.std.proofs.lemmas.Cmp.{lists_total}
 use Rattle.tl_layout.specs.RecordText.{spelling_of}
-use Rattle.tl_layout.specs.declared.record_type.Record.{Record}
-use Rattle.tl_number.specs.Groups.{grouped}
-use Rattle.tl_number.specs.RecordOrder.{groups_cmp, records_cmp, spelling_cmp}
 
 pub records_total : IsTotalOrder records_cmp
 records_total = lists_total (on_total spelling_of nat_list_cmp_total)

@@ -1,23 +1,10 @@
 -- The records of types I and P of a county in two arrangements.
 use Rattle.std.proofs.Common.{◌≡◌, ◌<◌, ◌≤◌, ◌+◌, ℕ, nat_lt, List, map, length, Bool, true, false, Option, Some, None}
 use Rattle.std.proofs.Common.{option_map, slice_get, Equal, sym, refl, ap, ap₂, ◌∙◌, subst, arith}
-use Rattle.std.proofs.lemmas.Bool.{ltb-true, ltb-false}
-use Rattle.std.proofs.lemmas.Option.{slice_get-map, slice_get_past}
-use Rattle.std.specs.Option.{option_cmp}
-use Rattle.tl_layout.specs.declared.record_type.Record.TheVariants.{I}
-use Rattle.tl_shape.specs.Chain.{Chain}
-use Rattle.tl_county.specs.ChartWords.{chain_at}
-use Rattle.tl_county.specs.County.{County}
-use Rattle.tl_county.specs.CountyRules.{IsCounty}
-use Rattle.tl_county.specs.Packing.{packed_i}
-use Rattle.tl_county.specs.Renumbering.{renumbered}
-use Rattle.tl_county.specs.declared.directed_chain.DirectedChain.{DirectedChain}
-use Rattle.tl_number.specs.Arrangement.{placed, renaming_of}
-use Rattle.tl_number.specs.EndsAndSides.{ends_of, sides_of}
-use Rattle.tl_number.specs.RecordOrder.{AreTiedAt, AreTiedBelow, links_of, records_cmp, spelling_cmp}
-use Rattle.tl_number.specs.DirectedChains.{arrangement_of}
-use Rattle.tl_county.specs.DirectedChains.{directed_chain}
-use Rattle.tl_number.specs.ViewFacts.{AreWhole, arranged_by}
+use Rattle.tl_number.proofs.Common.{AreTiedAt, AreTiedBelow, AreWhole, Chain, County, DirectedChain, I, IsCounty, arranged_by}
+use Rattle.tl_number.proofs.Common.{arrangement_of, chain_at, directed_chain, ends_of, links_of, ltb-false, ltb-true, option_cmp, packed_i}
+use Rattle.tl_number.proofs.Common.{placed, records_cmp, renumbered, sides_of, slice_get-map, slice_get_past, spelling_cmp}
+use Rattle.tl_number.specs.Arrangement.{renaming_of}
 use Rattle.tl_number.proofs.Arrangements.Carrying.{chains_arranged}
 use Rattle.tl_number.proofs.Records.PackedGroups.{is}
 use Rattle.tl_number.proofs.Unique.SameNumbers.{kept_entry}

@@ -1,30 +1,14 @@
 -- Two arrangements of a county that have the same chains in the same order make the same county, whatever TLIDs these have.
 use Rattle.std.proofs.Common.{◌≤◌, Bool, true, nat_lt, arith}
 use Rattle.std.proofs.Common.{◌≡◌, ◌<◌, ◌∙◌, ℕ, List, get_or, length, map, Option, None, Some, option_map, slice_get, false, sym, refl, ap, nat_cmp}
-use Rattle.std.proofs.lemmas.Option.{slice_get-get_or, slice_get-map, slice_get_past}
-use Rattle.std.proofs.lemmas.Bool.{ltb-true, ltb-false}
-use Rattle.std.proofs.lemmas.List.{length-map}
-use Rattle.std.specs.Bool.{Decides}
-use Rattle.std.specs.Ordering.{on}
-use Rattle.tl_layout.specs.declared.type5.Body5.{Body5}
-use Rattle.tl_shape.specs.Chain.{Chain}
-use Rattle.tl_county.specs.County.{County}
-use Rattle.tl_county.specs.CountyRules.{IsCounty, nodes_along, polygons_along}
-use Rattle.ordered_lists.specs.Orders.{in_order}
-use Rattle.tl_county.specs.Packing.{numbered_from}
-use Rattle.tl_county.specs.PolygonKeys.{key_cmp}
-use Rattle.tl_county.specs.Renumbering.{Renumbering, renumbered, renumbered_polygon, side_of}
-use Rattle.ordered_lists.specs.Pairs.{image}
-use Rattle.ordered_lists.proofs.Lists.Elements.{map_agree_everywhere}
-use Rattle.tl_number.specs.Arrangement.{Arrangement, Arranges, arranged, names_in_order, new_keys, nodes_in_order, placed}
-use Rattle.tl_number.specs.Arrangement.{renaming_of, under_cenid}
-use Rattle.tl_number.specs.Growth.{first_seen, numbered}
-use Rattle.tl_number.specs.DirectedChains.{arrangement_of, parts_along}
-use Rattle.tl_county.specs.DirectedChains.{directed_chain}
+use Rattle.tl_number.proofs.Common.{AreWhole, Arrangement, Arranges, Body5, Chain, County, Decides, DirectedChain, IsCounty, Renumbering}
+use Rattle.tl_number.proofs.Common.{all_uses, arranged_by, arrangement_of, directed_chain, first_seen, image, in_order, key_cmp, length-map}
+use Rattle.tl_number.proofs.Common.{ltb-false, ltb-true, map_agree_everywhere, name_key, name_key_cmp, names_in_order, new_keys}
+use Rattle.tl_number.proofs.Common.{nodes_along, nodes_in_order, numbered, numbered_from, on, parts_along, placed, polygons_along}
+use Rattle.tl_number.proofs.Common.{renumbered, renumbered_polygon, side_of, slice_get-get_or, slice_get-map, slice_get_past, under_cenid}
+use Rattle.tl_number.specs.Arrangement.{arranged}
+use Rattle.tl_number.specs.Arrangement.{renaming_of}
 use Rattle.tl_number.specs.MovedChains.{HaveSamePartsBelow}
-use Rattle.tl_number.specs.Uses.{all_uses, name_key, name_key_cmp}
-use Rattle.tl_number.specs.ViewFacts.{AreWhole, arranged_by}
-use Rattle.tl_county.specs.declared.directed_chain.DirectedChain.{DirectedChain}
 use Rattle.tl_number.proofs.Arrangements.Carrying.{chains_arranged, names_arranged, names_renamed}
 use Rattle.tl_number.proofs.Arrangements.Carrying.{nodes_renamed}
 use Rattle.tl_number.proofs.Choices.FixedPlaces.{same_everywhere}

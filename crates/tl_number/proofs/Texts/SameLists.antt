@@ -1,28 +1,11 @@
 -- Arrangements of chains with the same further names have the same records of types 4 and 5, and those of chains with the same
 -- further address ranges have the same records of type 6.
 use Rattle.std.proofs.Common.{◌≡◌, ◌∙◌, ℕ, suc, List, [], ◌∷◌, map, Option, Some, sym, refl, ap, nat_cmp, subst}
-use Rattle.std.specs.Ordering.{on}
-use Rattle.tl_layout.specs.Fields.{Fields4, Fields6}
-use Rattle.tl_layout.specs.declared.ranges.Ranges.{Ranges}
-use Rattle.tl_layout.specs.declared.type5.Body5.{Body5}
-use Rattle.tl_shape.specs.Chain.{Chain}
-use Rattle.tl_county.specs.ChartWords.{feats_of, ranges_of}
-use Rattle.tl_county.specs.County.{County}
-use Rattle.tl_county.specs.CountyRules.{IsCounty}
-use Rattle.ordered_lists.specs.Orders.{in_order}
-use Rattle.tl_county.specs.Packing.{in_pieces, numbered_from, packed_five, packed_fours, packed_sixes}
-use Rattle.tl_county.specs.Renumbering.{Renumbering}
-use Rattle.ordered_lists.specs.Pairs.{image}
-use Rattle.ordered_lists.proofs.Lists.Elements.{map-map}
-use Rattle.tl_number.specs.Arrangement.{names_in_order, renaming_of}
-use Rattle.tl_number.specs.CountyGroups.{type_4_by_chain, type_5_by_name, type_6_by_chain}
-use Rattle.tl_number.specs.Groups.{grouped}
-use Rattle.tl_number.specs.Growth.{numbered}
-use Rattle.tl_number.specs.DirectedChains.{arrangement_of, parts_along}
-use Rattle.tl_county.specs.DirectedChains.{directed_chain}
-use Rattle.tl_number.specs.Uses.{all_uses, name_key, name_key_cmp, uses_from}
-use Rattle.tl_number.specs.ViewFacts.{AreWhole, arranged_by}
-use Rattle.tl_county.specs.declared.directed_chain.DirectedChain.{DirectedChain}
+use Rattle.tl_number.proofs.Common.{AreWhole, Body5, Chain, County, DirectedChain, Fields4, Fields6, IsCounty, Ranges, Renumbering}
+use Rattle.tl_number.proofs.Common.{all_uses, arranged_by, arrangement_of, directed_chain, feats_of, grouped, image, in_order, in_pieces}
+use Rattle.tl_number.proofs.Common.{map-map, name_key, name_key_cmp, names_in_order, numbered, numbered_from, on, packed_five, packed_fours}
+use Rattle.tl_number.proofs.Common.{packed_sixes, parts_along, ranges_of, type_4_by_chain, type_5_by_name, type_6_by_chain, uses_from}
+use Rattle.tl_number.specs.Arrangement.{renaming_of}
 use Rattle.tl_number.proofs.Arrangements.Carrying.{chains_arranged, names_arranged, names_renamed}
 use Rattle.tl_number.proofs.Records.Grouped.{grouped_map}
 use Rattle.tl_number.proofs.Unique.SameNumbers.{kept_entry}

@@ -1,19 +1,9 @@
 -- Two arrangements of a county that number its polygons alike have the same polygons, landmarks and links.
 use Rattle.std.proofs.Common.{◌≡◌, ◌∙◌, ℕ, List, map, Option, sym, ap, nat_cmp}
-use Rattle.std.specs.Ordering.{on}
-use Rattle.tl_layout.specs.Fields.{Fields8}
-use Rattle.tl_layout.specs.declared.type7.Body7.{Body7}
-use Rattle.tl_layout.specs.declared.type_p.BodyP.{BodyP}
-use Rattle.tl_county.specs.BodyOrder.{link_cmp}
-use Rattle.tl_county.specs.County.{County, link_key}
-use Rattle.tl_county.specs.CountyRules.{IsCounty}
-use Rattle.ordered_lists.specs.Orders.{in_order}
-use Rattle.tl_county.specs.PolygonKeys.{PolygonKey, key_cmp}
-use Rattle.tl_county.specs.Renumbering.{Renumbering}
-use Rattle.ordered_lists.specs.Pairs.{image}
-use Rattle.tl_number.specs.Arrangement.{Arrangement, Arranges, arranged, landmarks_in_order, new_keys, relinked, renaming_of}
-use Rattle.tl_number.specs.Growth.{numbered}
-use Rattle.tl_number.specs.Uses.{landmark_key, landmark_key_cmp}
+use Rattle.tl_number.proofs.Common.{Arrangement, Arranges, Body7, BodyP, County, Fields8, IsCounty, PolygonKey, Renumbering, image}
+use Rattle.tl_number.proofs.Common.{in_order, key_cmp, landmark_key, landmark_key_cmp, landmarks_in_order, link_cmp, link_key, new_keys}
+use Rattle.tl_number.proofs.Common.{numbered, on, relinked}
+use Rattle.tl_number.specs.Arrangement.{arranged, renaming_of}
 use Rattle.tl_number.proofs.Arrangements.Carrying.{lands_renamed, landmarks_arranged, links_arranged, polygons_arranged, polygons_renamed}
 
 module _ (county : County) (is : IsCounty county) (one other : Arrangement) (arranges_one : Arranges one county)

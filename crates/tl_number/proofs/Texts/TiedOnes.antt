@@ -1,17 +1,9 @@
 -- The type 1 records of two arrangements, compared only at open places.
 use Rattle.std.proofs.Common.{◌≡◌, ◌≢◌, ◌≤◌, ◌+◌, ℕ, zero, suc, nat_lt, List, [], ◌∷◌, length, get_or, Bool, true, false, Less}
 use Rattle.std.proofs.Common.{Equal, Greater, Some, slice_get, sym, refl, ap, ap₂, ◌∙◌, subst, arith}
-use Rattle.std.proofs.lemmas.Bool.{ltb-true, ltb-false}
-use Rattle.std.proofs.lemmas.Option.{slice_get-get_or, slice_get_past}
-use Rattle.std.specs.Option.{option_cmp}
-use Rattle.std.specs.Ordering.{ordering_then}
-use Rattle.tl_layout.specs.declared.record_type.Record.{Record}
-use Rattle.tl_county.specs.County.{County}
-use Rattle.tl_county.specs.CountyRules.{IsCounty}
-use Rattle.tl_county.specs.declared.directed_chain.DirectedChain.{DirectedChain}
-use Rattle.tl_number.specs.RecordOrder.{AreTiedAt, AreTiedBelow, records_cmp, spelling_cmp}
-use Rattle.tl_number.specs.TypeOneOrder.{one_at, ones_of}
-use Rattle.tl_number.specs.ViewFacts.{AreWhole, arranged_by}
+use Rattle.tl_number.proofs.Common.{AreTiedAt, AreTiedBelow, AreWhole, County, DirectedChain, IsCounty, Record, arranged_by, ltb-false}
+use Rattle.tl_number.proofs.Common.{ltb-true, one_at, ones_of, option_cmp, ordering_then, records_cmp, slice_get-get_or, slice_get_past}
+use Rattle.tl_number.proofs.Common.{spelling_cmp}
 use Rattle.tl_number.proofs.Texts.GroupOrders.{decided}
 use Rattle.tl_number.proofs.Texts.TypeOnes.{length-ones_arranged_by, ones_arranged_by, same_one}
 

@@ -1,27 +1,13 @@
 -- The type 1 records of a county in an arrangement.
 use Rattle.std.proofs.Common.{◌≡◌, ◌<◌, ◌≤◌, ◌+◌, ℕ, zero, suc, List, [], ◌∷◌, map, length, Bool, true, false, Option, Some, None}
 use Rattle.std.proofs.Common.{option_map, slice_get, Equal, sym, refl, ap, ◌∙◌, subst, arith}
-use Rattle.std.proofs.lemmas.Cmp.{nat_list_cmp_total, tied_itself}
-use Rattle.std.proofs.lemmas.List.{length-map, length-reverse}
-use Rattle.std.proofs.lemmas.List.Sorted.{length_permutation}
-use Rattle.std.proofs.lemmas.Option.{slice_get-map}
-use Rattle.std.specs.Option.{option_cmp}
+use Rattle.tl_number.proofs.Common.{AreWhole, Chain, County, DirectedChain, IsCounty, IsWithinLimits, One, Record, arranged_by}
+use Rattle.tl_number.proofs.Common.{arranged_tlids, arrangement_of, directed_chain, length-map, length_permutation, most_records}
+use Rattle.tl_number.proofs.Common.{nat_list_cmp_total, numbered_from, one_at, ones_of, option_cmp, packed_one, placed, slice_get-map}
+use Rattle.tl_number.proofs.Common.{spelling_cmp, tied_itself, tlid_at, tlids, turned_if}
+use Rattle.std.proofs.lemmas.List.{length-reverse}
 use Rattle.tl_layout.specs.RecordText.{spelling_of}
-use Rattle.tl_layout.specs.declared.record_type.Record.{Record}
-use Rattle.tl_layout.specs.declared.record_type.Record.TheVariants.{One}
-use Rattle.tl_shape.specs.Chain.{Chain}
-use Rattle.tl_shape.specs.Turned.{turned_if}
-use Rattle.tl_county.specs.County.{County}
-use Rattle.tl_county.specs.CountyRules.{IsCounty, tlids}
-use Rattle.tl_county.specs.Limits.{IsWithinLimits, most_records}
-use Rattle.tl_county.specs.Packing.{numbered_from, packed_one}
-use Rattle.tl_county.specs.declared.directed_chain.DirectedChain.{DirectedChain}
-use Rattle.tl_number.specs.Arrangement.{arranged_tlids, placed, renaming_of}
-use Rattle.tl_number.specs.RecordOrder.{spelling_cmp}
-use Rattle.tl_number.specs.DirectedChains.{arrangement_of, tlid_at}
-use Rattle.tl_county.specs.DirectedChains.{directed_chain}
-use Rattle.tl_number.specs.TypeOneOrder.{one_at, ones_of}
-use Rattle.tl_number.specs.ViewFacts.{AreWhole, arranged_by}
+use Rattle.tl_number.specs.Arrangement.{renaming_of}
 use Rattle.tl_number.proofs.Arrangements.Carrying.{chains_arranged}
 use Rattle.tl_number.proofs.Records.ChainPlaces.{chain_there}
 use Rattle.tl_number.proofs.Records.PackedGroups.{ones}

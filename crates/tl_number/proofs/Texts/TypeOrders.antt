@@ -1,25 +1,14 @@
 -- For two packings with equally many records of each type, the first type that differs decides the order.
 use Rattle.std.proofs.Common.{◌≡◌, ◌∙◌, ◌+◌, List, ◌++◌, length, map, length-append, nat_cmp, Equal, sym, ap, ap₂}
-use Rattle.std.proofs.lemmas.Cmp.{tied_itself}
-use Rattle.std.proofs.lemmas.List.{length-map}
-use Rattle.std.specs.Cmp.Lexicographic.{slice_cmp}
-use Rattle.std.specs.Ordering.{ordering_then}
-use Rattle.tl_layout.specs.RecordText.{text_of}
-use Rattle.tl_layout.specs.declared.record_type.Record.{Record}
-use Rattle.tl_layout.specs.declared.record_type.Record.TheVariants.{One, Two, Four, Five, Six, Seven, Eight, I}
-use Rattle.tl_county.specs.County.{County}
-use Rattle.tl_county.specs.CountyRules.{IsCounty}
-use Rattle.tl_county.specs.Limits.{IsWithinLimits, most_records}
-use Rattle.tl_county.specs.Packing.{packed, packed_by_type}
-use Rattle.tl_county.specs.Renumbering.{AreSame}
+use Rattle.tl_number.proofs.Common.{AreSame, County, Eight, Five, Four, I, IsCounty, IsWithinLimits, One, Record, Seven, Six, Two, grouped}
+use Rattle.tl_number.proofs.Common.{groups_cmp, length-map, most_records, ordering_then, packed, packed_by_type, records_cmp, slice_cmp}
+use Rattle.tl_number.proofs.Common.{spelling_cmp, text_of, tied_itself, type_1_by_chain, type_2_by_chain, type_4_by_chain, type_5_by_name}
+use Rattle.tl_number.proofs.Common.{type_6_by_chain, type_7_by_landmark, type_8_together, type_i_by_chain, types_1_to_4, types_5_to_7}
+use Rattle.tl_number.proofs.Common.{types_8_to_p}
 use Rattle.tl_county.proofs.Limits.CarriedLimits.{carried_many}
 use Rattle.tl_county.proofs.Limits.FitsPacked.{packed-fits}
 use Rattle.tl_county.specs.Laws.TypeCounts.{HasAsMany}
-use Rattle.tl_number.specs.CountyGroups.{type_1_by_chain, type_2_by_chain, type_4_by_chain, type_5_by_name, type_6_by_chain}
-use Rattle.tl_number.specs.CountyGroups.{type_7_by_landmark, type_8_together, type_i_by_chain}
-use Rattle.tl_number.specs.CountyGroups.{types_1_to_4, types_5_to_7, types_8_to_p}
-use Rattle.tl_number.specs.Groups.{grouped}
-use Rattle.tl_number.specs.RecordOrder.{groups_cmp, records_cmp, spelling_cmp, types_1_to_4_cmp, types_5_to_7_cmp, types_8_to_p_cmp}
+use Rattle.tl_number.specs.RecordOrder.{types_1_to_4_cmp, types_5_to_7_cmp, types_8_to_p_cmp}
 use Rattle.tl_number.proofs.Texts.GroupOrders.{records_total}
 use Rattle.tl_number.proofs.Records.PackedGroups.{all_groups, ones, twos, fours, fives, sixes, sevens, eights, is}
 use Rattle.tl_number.proofs.Texts.RecordTexts.{cmp-append, text_cmp}

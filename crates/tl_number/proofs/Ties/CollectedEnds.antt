@@ -1,21 +1,11 @@
 -- Collecting the nodes of open chains and the critical ends.
 use Rattle.std.proofs.Common.{◌≡◌, ◌<◌, ◌≤◌, ◌+◌, nat_lt, Bool, true, false, arith, ℕ, zero, suc, List, [], ◌∷◌, map, drop, get_or, length, slice_get, Option, Some, None, option_map, option_to_list}
 use Rattle.std.proofs.Common.{IsTrue, nat_cmp, refl, sym, ap, ◌∙◌, subst}
-use Rattle.std.proofs.lemmas.Bool.{lt-ltb, ltb-false, ltb-true}
+use Rattle.tl_number.proofs.Common.{Chain, County, DirectedChain, HasChainsOf, HasNodes, OpenPlace, all_known, all_weaker, directed_chain}
+use Rattle.tl_number.proofs.Common.{ends_along, ends_of, ends_or_none, first_seen_after, is_open, lt-ltb, ltb-false, ltb-true, nat_keys}
+use Rattle.tl_number.proofs.Common.{nodes_at, slice_get-get_or, stands_in, times}
 use Rattle.std.proofs.lemmas.List.{drop_more}
-use Rattle.std.proofs.lemmas.Option.{slice_get-get_or}
-use Rattle.tl_shape.specs.Chain.{Chain}
-use Rattle.tl_county.specs.County.{County}
-use Rattle.tl_county.specs.DirectedChains.{directed_chain}
-use Rattle.tl_county.specs.declared.directed_chain.DirectedChain.{DirectedChain}
-use Rattle.tl_profile.specs.declared.open_places.OpenPlace.{OpenPlace}
-use Rattle.ordered_lists.specs.Orders.{stands_in, times}
-use Rattle.ordered_lists.proofs.ByKey.Keys.{all_known, nat_keys}
-use Rattle.ordered_lists.proofs.Lists.Elements.{all_weaker}
-use Rattle.tl_number.specs.CriticalPlaces.{HasNodes, is_open, ends_along, ends_or_none, met_after_both}
-use Rattle.tl_number.specs.DirectedChains.{HasChainsOf}
-use Rattle.tl_number.specs.EndsAndSides.{ends_of, nodes_at}
-use Rattle.tl_number.specs.Growth.{first_seen_after}
+use Rattle.tl_number.specs.CriticalPlaces.{met_after_both}
 use Rattle.tl_number.proofs.Numbering.FirstSeen.{all_after, seen_after}
 use Rattle.tl_number.proofs.Numbering.SeenLists.{seen_append}
 

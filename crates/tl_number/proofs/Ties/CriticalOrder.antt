@@ -1,37 +1,15 @@
 -- Choices that differ only in the nodes of their chains are in the order of the numbers of their critical ends.
 use Rattle.std.proofs.Common.{◌≡◌, ◌∙◌, ℕ, List, ◌++◌, flat_map, length, map, slice_get, Bool, true, false, not, cond, Option, Some, None, option_map, option_to_list}
 use Rattle.std.proofs.Common.{Ordering, nat_cmp, is_gt, refl, sym, ap, subst}
-use Rattle.std.proofs.lemmas.List.{length-map}
-use Rattle.std.proofs.lemmas.Option.{slice_get-map}
-use Rattle.std.specs.Cmp.Lexicographic.{slice_cmp}
-use Rattle.tl_layout.specs.RecordText.{text_of}
-use Rattle.tl_layout.specs.declared.record_type.Record.TheVariants.{One}
-use Rattle.tl_shape.specs.Chain.{Chain}
-use Rattle.tl_shape.specs.Turned.{turned_if}
-use Rattle.tl_county.specs.ChartWords.{chain_at}
-use Rattle.tl_county.specs.County.{County}
-use Rattle.tl_county.specs.CountyRules.{IsCounty}
-use Rattle.tl_county.specs.DirectedChains.{directed_chain}
-use Rattle.tl_county.specs.Limits.{IsWithinLimits, most_records}
-use Rattle.tl_county.specs.Packing.{packed}
-use Rattle.tl_county.specs.Renumbering.{AreSame}
-use Rattle.tl_county.specs.declared.directed_chain.DirectedChain.{DirectedChain}
-use Rattle.tl_profile.specs.ShapeOrder.{OrderOfShapes}
+use Rattle.tl_number.proofs.Common.{AreNodeTies, AreSame, AreWhole, Chain, County, DirectedChain, HasChainsOf, HasNodes, IsCounty}
+use Rattle.tl_number.proofs.Common.{IsNotAfter, IsWithinLimits, One, OrderOfShapes, arrangement_of, chain_at, choice_list, critical_numbers}
+use Rattle.tl_number.proofs.Common.{directed_chain, ends_along, ends_among, ends_at, ends_cmp, ends_or_none, first_seen, groups_cmp}
+use Rattle.tl_number.proofs.Common.{is_open, length-map, most_records, nodes_at, numbered_arrangement, other_way, packed, renumbered_ends}
+use Rattle.tl_number.proofs.Common.{slice_cmp, slice_get-map, text_of, turned_if, type_1_by_chain, type_2_by_chain}
 use Rattle.tl_number.specs.Arrangement.{arranged}
-use Rattle.tl_number.specs.Canonical.{IsNotAfter}
 use Rattle.tl_number.specs.ChoiceSearch.{LeavesChoices}
-use Rattle.tl_number.specs.CountyGroups.{type_1_by_chain, type_2_by_chain}
-use Rattle.tl_number.specs.CriticalPlaces.{AreCritical, HasNodes, HasOpenNodes, critical_numbers, ends_along, ends_at, ends_cmp, ends_or_none, is_open, renumbered_ends}
-use Rattle.tl_number.specs.DirectedChains.{HasChainsOf, arrangement_of}
-use Rattle.tl_number.specs.EndsAndSides.{ends_among, nodes_at}
-use Rattle.tl_number.specs.Growth.{first_seen}
-use Rattle.tl_number.specs.LeastNumber.{choice_list}
-use Rattle.tl_number.specs.MovedChains.{other_way}
-use Rattle.tl_number.specs.ChoiceSearch.{numbered_arrangement}
-use Rattle.tl_number.specs.NodeTies.{AreNodeTies}
-use Rattle.tl_number.specs.RecordOrder.{groups_cmp}
+use Rattle.tl_number.specs.CriticalPlaces.{AreCritical, HasOpenNodes}
 use Rattle.tl_number.specs.Tidy.{numbered_choice}
-use Rattle.tl_number.specs.ViewFacts.{AreWhole}
 use Rattle.tl_number.specs.declared.critical_places.CriticalEnds.{CriticalEnds}
 use Rattle.tl_number.proofs.CanonicalLists.SameShapes.{twos_of_numbers}
 use Rattle.tl_number.proofs.Choices.AscendingArrangement.{arrangement_there}

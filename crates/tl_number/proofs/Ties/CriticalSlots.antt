@@ -1,17 +1,10 @@
 -- The numbers of the nodes in two arrangements are in the order of their numbers at critical ends.
 use Rattle.std.proofs.Common.{◌≡◌, ◌+◌, ◌&&◌, ℕ, zero, suc, List, [], ◌∷◌, ◌++◌, map, flat_map, length, get_or, slice_get, Bool, true, false, cond, not}
 use Rattle.std.proofs.Common.{Option, Some, None, option_to_list, IfSome, IsTrue, nat_cmp, refl, sym, ap, ap₂, ◌∙◌, inl, inr, arith, append_assoc}
-use Rattle.std.proofs.lemmas.Bool.{false≢true}
+use Rattle.tl_number.proofs.Common.{HasNodes, OpenPlace, critical_from, ends_among, ends_at, ends_cmp, false≢true, first_seen, is_open}
+use Rattle.tl_number.proofs.Common.{map-append, node_among, node_cmp, nodes_at, ordering_then, renumbered_ends, slice_cmp, stands_in}
 use Rattle.std.proofs.lemmas.Grind.{flat_map-append}
-use Rattle.std.proofs.lemmas.List.{map-append}
-use Rattle.std.specs.Cmp.Lexicographic.{slice_cmp}
-use Rattle.std.specs.Ordering.{ordering_then}
-use Rattle.ordered_lists.specs.Orders.{stands_in}
-use Rattle.tl_profile.specs.declared.open_places.OpenPlace.{OpenPlace}
-use Rattle.tl_number.specs.CriticalPlaces.{HasNodes, critical_from, ends_at, ends_cmp, fixed_ends, is_open, met_after, met_after_both, newly_met, newly_met_ends}
-use Rattle.tl_number.specs.CriticalPlaces.{node_cmp, renumbered_ends}
-use Rattle.tl_number.specs.EndsAndSides.{ends_among, node_among, nodes_at}
-use Rattle.tl_number.specs.Growth.{first_seen}
+use Rattle.tl_number.specs.CriticalPlaces.{fixed_ends, met_after, met_after_both, newly_met, newly_met_ends}
 use Rattle.tl_number.specs.declared.critical_places.CriticalEnds.{CriticalEnds}
 use Rattle.tl_number.specs.declared.critical_places.CriticalEnds.TheVariants.{Open}
 use Rattle.tl_number.proofs.Names.NameOrder.{then_assoc}

@@ -1,38 +1,18 @@
 -- The texts of two arrangements whose chains differ only in their nodes are in the order of the numbers of these.
 use Rattle.std.proofs.Common.{◌≡◌, ◌∙◌, ℕ, suc, List, [], ◌∷◌, map, flat_map, Option, Some, None, option_map, option_to_list, Equal, nat_cmp}
 use Rattle.std.proofs.Common.{refl, sym, ap, ap₂, subst}
-use Rattle.std.specs.Cmp.Lexicographic.{slice_cmp}
-use Rattle.std.specs.List.{AllByRecursion}
-use Rattle.std.specs.Ordering.{on, ordering_then}
-use Rattle.tl_layout.specs.Fields.{Fields8}
-use Rattle.tl_layout.specs.PolygonSide.{PolygonSide}
-use Rattle.tl_layout.specs.RecordText.{text_of}
-use Rattle.tl_layout.specs.declared.record_type.Record.TheVariants.{One, Four, Five, Six, Seven, Eight, I, P}
-use Rattle.tl_layout.specs.declared.type7.Body7.{Body7}
-use Rattle.tl_layout.specs.declared.type_p.BodyP.{BodyP}
-use Rattle.tl_shape.specs.Chain.{Chain}
-use Rattle.tl_county.specs.ChartWords.{feats_of, ranges_of}
-use Rattle.tl_county.specs.County.{County}
-use Rattle.tl_county.specs.CountyRules.{IsCounty}
-use Rattle.tl_county.specs.DirectedChains.{directed_chain}
-use Rattle.tl_county.specs.Limits.{FitsNumbers}
-use Rattle.tl_county.specs.Packing.{numbered_from, packed, packed_i, packed_p, packed_sevens}
-use Rattle.tl_county.specs.PolygonKeys.{PolygonKey, key_cmp}
-use Rattle.tl_county.specs.Renumbering.{AreSame, Renumbering, renumbered, renumbered_polygon, renumbered_side, side_of}
-use Rattle.tl_county.specs.declared.directed_chain.DirectedChain.{DirectedChain}
-use Rattle.ordered_lists.specs.Orders.{in_order}
-use Rattle.ordered_lists.specs.Pairs.{image}
-use Rattle.ordered_lists.proofs.Lists.Elements.{all_map, all_weaker, map-map}
-use Rattle.tl_number.specs.Arrangement.{new_keys, renaming_of, under_cenid}
-use Rattle.tl_number.specs.ByNumber.{entry_polyid}
-use Rattle.tl_number.specs.CountyGroups.{type_1_by_chain, type_2_by_chain, type_4_by_chain, type_5_by_name, type_6_by_chain, type_7_by_landmark}
-use Rattle.tl_number.specs.CountyGroups.{type_8_together, type_i_by_chain, type_p_by_number}
-use Rattle.tl_number.specs.CriticalPlaces.{AreSameButNodes, ButNodes, but_nodes, but_nodes_list, ends_along, ends_cmp, ends_or_none, renumbered_ends}
-use Rattle.tl_number.specs.DirectedChains.{arrangement_of, parts_along}
-use Rattle.tl_number.specs.EndsAndSides.{ends_of, polygons_at, sides_of}
-use Rattle.tl_number.specs.Growth.{first_seen, numbered}
-use Rattle.tl_number.specs.RecordOrder.{groups_cmp, records_cmp}
-use Rattle.tl_number.specs.ViewFacts.{AreWhole, arranged_by}
+use Rattle.tl_number.proofs.Common.{AllByRecursion, AreSame, AreWhole, Body7, BodyP, Chain, County, DirectedChain, Eight, Fields8}
+use Rattle.tl_number.proofs.Common.{FitsNumbers, Five, Four, I, IsCounty, One, P, PolygonKey, PolygonSide, Renumbering, Seven, Six, all_map}
+use Rattle.tl_number.proofs.Common.{all_weaker, arranged_by, arrangement_of, but_nodes_list, directed_chain, ends_along, ends_cmp, ends_of}
+use Rattle.tl_number.proofs.Common.{ends_or_none, entry_polyid, feats_of, first_seen, groups_cmp, image, in_order, key_cmp, map-map}
+use Rattle.tl_number.proofs.Common.{new_keys, numbered, numbered_from, on, ordering_then, packed, packed_i, packed_p, packed_sevens}
+use Rattle.tl_number.proofs.Common.{parts_along, ranges_of, records_cmp, renumbered, renumbered_ends, renumbered_polygon, side_of, sides_of}
+use Rattle.tl_number.proofs.Common.{slice_cmp, text_of, type_1_by_chain, type_2_by_chain, type_4_by_chain, type_5_by_name, type_6_by_chain}
+use Rattle.tl_number.proofs.Common.{type_7_by_landmark, type_8_together, type_i_by_chain, type_p_by_number, under_cenid}
+use Rattle.tl_county.specs.Renumbering.{renumbered_side}
+use Rattle.tl_number.specs.Arrangement.{renaming_of}
+use Rattle.tl_number.specs.CriticalPlaces.{AreSameButNodes, ButNodes, but_nodes}
+use Rattle.tl_number.specs.EndsAndSides.{polygons_at}
 use Rattle.tl_number.proofs.Arrangements.Carrying.{chains_arranged}
 use Rattle.tl_number.proofs.Records.PackedGroups.{is}
 use Rattle.tl_number.proofs.Texts.RecordTexts.{then_equal}

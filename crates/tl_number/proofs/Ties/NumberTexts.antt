@@ -1,16 +1,11 @@
 -- Numbers are in the order of their canonical texts of one width.
 use Rattle.std.proofs.Common.{◌≡◌, ◌==◌, ◌<◌, ◌+◌, ◌/◌, ◌%◌, ◌^◌, ℕ, zero, suc, [], ◌∷◌, nat_eq, Bool, true, false, cond}
 use Rattle.std.proofs.Common.{Ordering, Less, Equal, Greater, Option, Some, None, nat_cmp, refl, sym, ◌∙◌, arith}
-use Rattle.std.proofs.lemmas.Bool.{eqb-true, eqb-false}
-use Rattle.std.proofs.lemmas.Cmp.{ranked}
+use Rattle.tl_number.proofs.Common.{IsNumberOrNone, MatchOrdering, eqb-true, node_cmp, ordering_then, ranked, slice_cmp, unwrap_or}
+use Rattle.std.proofs.lemmas.Bool.{eqb-false}
 use Rattle.std.specs.Cmp.{nat_cmp_is}
-use Rattle.std.specs.Cmp.Lexicographic.{slice_cmp}
-use Rattle.std.specs.Ordering.{MatchOrdering, ordering_then}
-use Rattle.std.specs.Prelude.{unwrap_or}
 use Rattle.tl_layout.specs.FieldTexts.{number_text}
 use Rattle.tl_layout.specs.Laws.NumberTextLaws.{length-number_text, tenth_below}
-use Rattle.tl_layout.specs.Numbers.{IsNumberOrNone}
-use Rattle.tl_number.specs.CriticalPlaces.{node_cmp}
 use Rattle.tl_number.proofs.Texts.RecordTexts.{cmp-append, then_equal}
 
 -- two pairs of numbers in one order

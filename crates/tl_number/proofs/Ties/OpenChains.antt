@@ -1,12 +1,10 @@
 -- A move at open places puts chains of open places at open places.
 use Rattle.std.proofs.Common.{◌≡◌, ◌<◌, ◌≤◌, ◌+◌, ◌/◌, ◌%◌, ◌&&◌, ◌||◌, ℕ, zero, suc, nat_le, nat_lt, List, [], ◌∷◌, ◌++◌, take, drop, length, Bool, true, false, cond}
 use Rattle.std.proofs.Common.{Some, slice_get, sym, refl, ap, ◌∙◌, subst, arith}
-use Rattle.std.proofs.lemmas.Bool.{and_from, and_parts, false≢true, le-leb, leb-true, lt-ltb, ltb-false, ltb-true}
-use Rattle.std.specs.List.{AllByRecursion, insert}
-use Rattle.tl_profile.specs.declared.open_places.OpenPlace.{OpenPlace}
-use Rattle.tl_number.specs.CriticalPlaces.{is_open}
-use Rattle.tl_number.specs.MovedChains.{AreWithin, IsApart}
-use Rattle.tl_number.specs.NumberedChoices.{first_stood, moved, turned_by}
+use Rattle.tl_number.proofs.Common.{AllByRecursion, AreWithin, OpenPlace, false≢true, first_stood, insert, is_open, lt-ltb, ltb-false}
+use Rattle.tl_number.proofs.Common.{ltb-true, moved, turned_by}
+use Rattle.std.proofs.lemmas.Bool.{and_from, and_parts, le-leb, leb-true}
+use Rattle.tl_number.specs.MovedChains.{IsApart}
 use Rattle.tl_number.proofs.Choices.FixedPlaces.{moved_count, stood_kept}
 
 -- a place that isn't open is apart from each open place

@@ -3,10 +3,8 @@
 use Rattle.std.proofs.Common.{◌≡◌, ◌⊎◌, ◌<◌, ◌≤◌, ◌+◌, ℕ, suc, List, [], ◌∷◌, ◌++◌, length, Bool, true, false, cond, not}
 use Rattle.std.proofs.Common.{is_eq, nat_cmp, refl, sym, ap, ◌∙◌}
 use Rattle.std.proofs.Common.{subst, inl, inr, arith, length-append}
-use Rattle.std.specs.List.{list_any, position_or_len}
-use Rattle.ordered_lists.proofs.ByKey.Keys.{nat_keys, same-true, same-itself, same_or_not}
-use Rattle.tl_county.proofs.ByKey.KeySets.{any-stands_in}
-use Rattle.tl_number.specs.Growth.{first_seen_after}
+use Rattle.tl_number.proofs.Common.{any-stands_in, first_seen_after, list_any, nat_keys, position_or_len, same-itself, same-true}
+use Rattle.tl_number.proofs.Common.{same_or_not}
 use Rattle.tl_number.proofs.Numbering.SeenPlaces.{any_within, first_stays, none_within}
 use Rattle.tl_number.proofs.Ties.NumberTexts.{InOneOrder}
 

@@ -2,18 +2,9 @@
 use Rattle.std.proofs.Common.{◌≡◌, ◌⊎◌, ◌<◌, ◌+◌, ℕ, List, [], ◌∷◌, ◌++◌, map, flat_map, length, Bool, true, false, cond}
 use Rattle.std.proofs.Common.{Ordering, Less, Equal, Greater, Option, Some, None, option_to_list, IfSome, IsTrue, is_eq, nat_cmp, refl, sym, ap, ap₂, ◌∙◌}
 use Rattle.std.proofs.Common.{subst, inl, inr, arith}
-use Rattle.std.proofs.lemmas.Bool.{ltb-true, lt-ltb, false≢true}
-use Rattle.std.proofs.lemmas.Cmp.{nat_cmp_total, tied_itself}
-use Rattle.std.proofs.lemmas.Map.Lookups.{exact_unsigned}
-use Rattle.std.specs.Cmp.Lexicographic.{slice_cmp}
-use Rattle.std.specs.List.{position}
-use Rattle.std.specs.Ordering.{ordering_then}
-use Rattle.std.specs.Prelude.{unwrap_or}
-use Rattle.ordered_lists.specs.Orders.{stands_in, times}
-use Rattle.ordered_lists.proofs.ByKey.Keys.{Known, nat_keys, same_or_not, times-no}
-use Rattle.tl_number.specs.CriticalPlaces.{node_cmp}
-use Rattle.tl_number.specs.EndsAndSides.{node_among}
-use Rattle.tl_number.specs.Growth.{first_seen_after}
+use Rattle.tl_number.proofs.Common.{Known, exact_unsigned, false≢true, first_seen_after, lt-ltb, ltb-true, nat_cmp_total, nat_keys}
+use Rattle.tl_number.proofs.Common.{node_among, node_cmp, ordering_then, position, same_or_not, slice_cmp, stands_in, tied_itself, times}
+use Rattle.tl_number.proofs.Common.{times-no, unwrap_or}
 use Rattle.tl_number.proofs.Numbering.FirstSeen.{known_after}
 use Rattle.tl_number.proofs.Numbering.SeenKeys.{inserted-seen}
 use Rattle.tl_number.proofs.Numbering.SeenLists.{seen_append}

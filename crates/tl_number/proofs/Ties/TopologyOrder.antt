@@ -1,25 +1,14 @@
 -- Records of type I that differ only in their nodes are in the order of these.
 use Rattle.std.proofs.Common.{◌≡◌, ◌+◌, ℕ, suc, List, [], ◌∷◌, ◌++◌, length, map, nat_cmp, refl, sym, ap, ap₂, ◌∙◌, length-append}
-use Rattle.std.proofs.lemmas.Cmp.{nat_list_cmp_total, tied_itself}
-use Rattle.std.specs.Cmp.Lexicographic.{slice_cmp}
-use Rattle.std.specs.List.{AllByRecursion}
-use Rattle.std.specs.Ordering.{ordering_then}
-use Rattle.std.specs.Prelude.{codes, unwrap_or}
-use Rattle.tl_layout.specs.Columns.{joined}
+use Rattle.tl_number.proofs.Common.{AllByRecursion, Chain, FieldsI, I, IsNumberOrNone, PolygonSide, ends_cmp, ends_of, joined}
+use Rattle.tl_number.proofs.Common.{nat_list_cmp_total, numbered_from, ordering_then, packed_i, records_cmp, slice_cmp, spelling_cmp}
+use Rattle.tl_number.proofs.Common.{tied_itself, unwrap_or}
+use Rattle.std.specs.Prelude.{codes}
 use Rattle.tl_layout.specs.FieldTexts.{number_text}
-use Rattle.tl_layout.specs.Fields.{FieldsI}
 use Rattle.tl_layout.specs.Laws.NumberTextLaws.{length-number_text}
-use Rattle.tl_layout.specs.Numbers.{IsNumberOrNone}
-use Rattle.tl_layout.specs.PolygonSide.{PolygonSide}
 use Rattle.tl_layout.specs.RecordText.{spelling_of}
 use Rattle.tl_layout.specs.TypeI.{type_i_spelling}
-use Rattle.tl_layout.specs.declared.record_type.Record.TheVariants.{I}
 use Rattle.tl_layout.specs.declared.type_i.BodyI.{BodyI}
-use Rattle.tl_shape.specs.Chain.{Chain}
-use Rattle.tl_county.specs.Packing.{numbered_from, packed_i}
-use Rattle.tl_number.specs.CriticalPlaces.{ends_cmp}
-use Rattle.tl_number.specs.EndsAndSides.{ends_of}
-use Rattle.tl_number.specs.RecordOrder.{records_cmp, spelling_cmp}
 use Rattle.tl_number.proofs.Texts.RecordTexts.{cmp-append, then_equal}
 use Rattle.tl_number.proofs.Ties.NumberTexts.{node_order}
 

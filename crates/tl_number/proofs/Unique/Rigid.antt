@@ -2,25 +2,14 @@
 use Rattle.std.proofs.Common.{◌≡◌, ℕ, List, map, false, Option, Some, None, option_map}
 use Rattle.std.proofs.Common.{option_to_list, IsTrue, sym, refl, ap, ◌∙◌, subst, nat_cmp}
 use Rattle.std.proofs.Common.{IsPermutation, map-id}
-use Rattle.std.proofs.lemmas.Bool.{ltb-true}
-use Rattle.std.proofs.lemmas.Cmp.{nat_cmp_total}
-use Rattle.std.specs.List.{AllByRecursion}
+use Rattle.tl_number.proofs.Common.{AllByRecursion, BodyP, Carries, Chain, County, IsArranged, IsCounty, Known, PolygonKey, Renumbering}
+use Rattle.tl_number.proofs.Common.{all_both, all_left, all_right, carried_chain, carried_polygon, chain_nodes, chain_polygons, image}
+use Rattle.tl_number.proofs.Common.{key_cmp, key_keys, key_on, key_under, keys_known, known_all, ltb-true, map-map, map_agree_all}
+use Rattle.tl_number.proofs.Common.{nat_cmp_total, nat_keys, polygon_keys, polygons_along, renumbered, renumbered_polygon, stands_in}
+use Rattle.tl_number.proofs.Common.{strict-map, times, tlids, turned_if, turns}
 use Rattle.std.specs.List.Sorted.{IsStrictlySortedBy}
-use Rattle.tl_layout.specs.declared.type_p.BodyP.{BodyP}
-use Rattle.tl_shape.specs.Chain.{Chain}
-use Rattle.tl_county.specs.County.{County}
-use Rattle.tl_county.specs.CountyRules.{IsCounty, tlids, polygon_keys, polygons_along, chain_nodes, chain_polygons}
-use Rattle.ordered_lists.specs.Orders.{stands_in, times}
-use Rattle.tl_county.specs.PolygonKeys.{PolygonKey, key_cmp, key_on, key_under}
-use Rattle.tl_county.specs.Renumbering.{Renumbering, Carries, turns, renumbered, renumbered_polygon, carried_chain, carried_polygon}
-use Rattle.ordered_lists.specs.Pairs.{image}
-use Rattle.tl_shape.specs.Turned.{turned_if}
-use Rattle.ordered_lists.proofs.Lists.InOrder.{strict-permutation, strict-map}
-use Rattle.tl_county.specs.Laws.KeyOrders.{key_keys}
-use Rattle.ordered_lists.proofs.ByKey.Keys.{Known, nat_keys, known_all}
-use Rattle.ordered_lists.proofs.Lists.Elements.{map-map, map_agree_all, all_both, all_pieces, all_left, all_right}
-use Rattle.tl_county.proofs.Sameness.Equivalence.{keys_known}
-use Rattle.tl_number.specs.ArrangedCounty.{IsArranged}
+use Rattle.ordered_lists.proofs.Lists.InOrder.{strict-permutation}
+use Rattle.ordered_lists.proofs.Lists.Elements.{all_pieces}
 use Rattle.tl_number.proofs.Unique.SameNumbers.{kept_entry, KeepsChains, nodes_kept, polygons_kept}
 use Rattle.tl_number.proofs.Unique.SameNames.{names_equal, feats_kept}
 use Rattle.tl_number.proofs.Unique.SameLandmarks.{landmarks_equal, links_equal}

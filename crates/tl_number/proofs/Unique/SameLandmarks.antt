@@ -3,32 +3,20 @@
 use Rattle.std.proofs.Common.{◌≡◌, ◌⊎◌, ◌<◌, ℕ, zero, suc, ◌==◌, List, [], ◌∷◌, map, filter, length, Bool, true, false, cond}
 use Rattle.std.proofs.Common.{◌&&◌, IsTrue, Ordering, Less, Equal, Greater, is_eq, is_gt, sym, refl, ap, ◌∙◌, subst, inl, inr}
 use Rattle.std.proofs.Common.{arith, nat_cmp, IsPermutation}
-use Rattle.std.proofs.lemmas.Bool.{false≢true, ltb-true, eqb-true, eq-eqb, ne_eqb, cases_eq}
-use Rattle.std.proofs.lemmas.Cmp.{tied_itself, nat_cmp_total}
-use Rattle.std.proofs.lemmas.List.{length-map}
+use Rattle.tl_number.proofs.Common.{AllByRecursion, Body7, Carries, County, Fields8, IsArranged, IsAscending, IsClosed, IsInOrder}
+use Rattle.tl_number.proofs.Common.{IsKeyOrder, IsPermutation-map, Known, PolygonKey, Renumbering, all_map, all_weaker, carried_landmark}
+use Rattle.tl_number.proofs.Common.{carried_link, eq-eqb, eqb-true, false≢true, image, in_order-equal, in_order-map, in_order-permutation}
+use Rattle.tl_number.proofs.Common.{key_cmp, keys_known, known_all, landmark_key, landmark_key_cmp, lands, length-map, link_cmp, link_key}
+use Rattle.tl_number.proofs.Common.{link_keys, link_part, link_part_cmp, link_part_keys, lists_keys, ltb-true, map-map, map_agree_all}
+use Rattle.tl_number.proofs.Common.{nat_cmp_total, nat_keys, ne_eqb, ordering_then, pair_keys, polygon_keys, stands_in, tied_itself, times}
+use Rattle.tl_number.proofs.Common.{up_to}
+use Rattle.std.proofs.lemmas.Bool.{cases_eq}
 use Rattle.std.proofs.lemmas.List.Sums.{length-filter}
-use Rattle.std.proofs.lemmas.List.Sorted.{IsPermutation-map, sum_by-IsPermutation}
-use Rattle.std.specs.List.{AllByRecursion}
-use Rattle.std.specs.Ordering.{ordering_then}
-use Rattle.tl_layout.specs.Fields.{Fields8}
-use Rattle.tl_layout.specs.declared.type7.Body7.{Body7}
-use Rattle.tl_county.specs.BodyOrder.{LinkPart, link_part, link_part_cmp, link_cmp}
-use Rattle.tl_county.specs.County.{County, link_key}
-use Rattle.tl_county.specs.CountyRules.{IsAscending, IsClosed, lands, polygon_keys}
-use Rattle.ordered_lists.specs.Orders.{stands_in, times, IsInOrder}
-use Rattle.tl_county.specs.PolygonKeys.{PolygonKey, key_cmp}
-use Rattle.tl_county.specs.Renumbering.{Renumbering, Carries, carried_landmark, carried_link}
-use Rattle.ordered_lists.specs.Pairs.{image}
-use Rattle.ordered_lists.proofs.Lists.InOrder.{in_order-equal, in_order-permutation, in_order-map}
-use Rattle.tl_county.specs.Laws.KeyOrders.{landmark_body_keys, link_part_keys, link_keys}
-use Rattle.ordered_lists.proofs.ByKey.KeyOrders.{pair_keys, lists_keys}
-use Rattle.ordered_lists.proofs.ByKey.Keys.{IsKeyOrder, Known, nat_keys}
-use Rattle.ordered_lists.proofs.ByKey.Keys.{known_all, differ}
-use Rattle.ordered_lists.proofs.Lists.Elements.{map-map, map_agree_all, all_weaker, all_map}
-use Rattle.tl_county.proofs.Sameness.Equivalence.{keys_known}
-use Rattle.tl_number.specs.Growth.{up_to}
-use Rattle.tl_number.specs.ArrangedCounty.{IsArranged}
-use Rattle.tl_number.specs.Uses.{links_of, LandmarkKey, landmark_key, landmark_key_cmp}
+use Rattle.std.proofs.lemmas.List.Sorted.{sum_by-IsPermutation}
+use Rattle.tl_county.specs.BodyOrder.{LinkPart}
+use Rattle.tl_county.specs.Laws.KeyOrders.{landmark_body_keys}
+use Rattle.ordered_lists.proofs.ByKey.Keys.{differ}
+use Rattle.tl_number.specs.Uses.{links_of, LandmarkKey}
 use Rattle.tl_number.proofs.Unique.SameNumbers.{counted_injective}
 use Rattle.tl_number.proofs.Lists.Counting.{entries_equal, map-equal_all}
 

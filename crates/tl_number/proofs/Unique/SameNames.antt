@@ -2,30 +2,17 @@
 -- equal: names are in the order of content and uses, and their uses determine the chains' lists.
 use Rattle.std.proofs.Common.{◌≡◌, ◌⊎◌, ℕ, suc, ◌==◌, List, [], ◌∷◌, ◌++◌, map, filter, length, Bool, true, false, cond, IsTrue}
 use Rattle.std.proofs.Common.{sym, refl, ap, ap₂, ◌∙◌, subst, inl, inr, nat_cmp, IsPermutation}
-use Rattle.std.proofs.lemmas.Bool.{ltb-true, eq-eqb, ne_eqb, cases_eq}
-use Rattle.std.proofs.lemmas.List.{map-append, length-map}
-use Rattle.std.proofs.lemmas.List.Sorted.{IsPermutation-map}
-use Rattle.std.specs.List.{AllByRecursion}
+use Rattle.tl_number.proofs.Common.{AllByRecursion, AllStandIn, Among, Body5, Carries, Chain, County, IsApart, IsArranged, IsClosed}
+use Rattle.tl_number.proofs.Common.{IsKeyOrder, IsPermutation-map, Known, Renumbering, Use, all_append, all_left, all_map, all_right}
+use Rattle.tl_number.proofs.Common.{all_uses, all_weaker, among-unmap, apart_from_sorted, carried_name, eq-eqb, feats, image, in_order-map}
+use Rattle.tl_number.proofs.Common.{in_order-permutation, keys_known, known_all, length-map, lists_keys, ltb-true, map-append, map-map}
+use Rattle.tl_number.proofs.Common.{map_agree_all, name_key, name_key_cmp, nat_keys, ne_eqb, pair_keys, stands_in, times, up_to, use_cmp}
+use Rattle.tl_number.proofs.Common.{uses_from, uses_of_name}
+use Rattle.std.proofs.lemmas.Bool.{cases_eq}
 use Rattle.std.specs.List.Sorted.{IsStrictlySortedBy}
-use Rattle.tl_layout.specs.declared.type5.Body5.{Body5}
-use Rattle.tl_shape.specs.Chain.{Chain}
-use Rattle.tl_county.specs.County.{County}
-use Rattle.tl_county.specs.CountyRules.{IsClosed, feats, AllStandIn}
-use Rattle.ordered_lists.specs.Orders.{stands_in, times}
-use Rattle.tl_county.specs.Renumbering.{Renumbering, Carries, carried_name}
-use Rattle.ordered_lists.specs.Pairs.{image}
-use Rattle.ordered_lists.proofs.Lists.Among.{Among}
-use Rattle.ordered_lists.proofs.Lists.InOrder.{in_order-permutation, in_order-map}
 use Rattle.tl_county.specs.Laws.KeyOrders.{name_body_keys}
-use Rattle.ordered_lists.proofs.ByKey.KeyOrders.{pair_keys, lists_keys}
-use Rattle.ordered_lists.proofs.ByKey.Keys.{IsKeyOrder, Known, IsApart, nat_keys}
-use Rattle.ordered_lists.proofs.ByKey.Keys.{apart_from_sorted, known_all}
-use Rattle.ordered_lists.proofs.Lists.Elements.{map-map, map_agree_all, all_weaker, all_map, all_append, all_left, all_right}
-use Rattle.ordered_lists.proofs.Lists.Members.{among-unmap, one_entry}
-use Rattle.tl_county.proofs.Sameness.Equivalence.{keys_known}
-use Rattle.tl_number.specs.Growth.{up_to}
-use Rattle.tl_number.specs.ArrangedCounty.{IsArranged}
-use Rattle.tl_number.specs.Uses.{Use, use_cmp, uses_from, all_uses, uses_of_name, NameKey, name_key, name_key_cmp}
+use Rattle.ordered_lists.proofs.Lists.Members.{one_entry}
+use Rattle.tl_number.specs.Uses.{NameKey}
 use Rattle.tl_number.proofs.Lists.Counting.{entries_equal, map-equal_all, up_to-strict}
 use Rattle.tl_number.proofs.Unique.SameNumbers.{counted_injective, kept_entry, KeepsChains, all_themselves}
 use Rattle.tl_number.proofs.Names.UsesOrder.{use_keys, all_uses-strict, use_under, under_use}

@@ -2,28 +2,14 @@
 -- have equal numbers: they are numbered by first appearance along the same chains.
 use Rattle.std.proofs.Common.{◌≡◌, ℕ, List, [], ◌∷◌, ◌++◌, map, IsTrue, sym, refl, ap, ap₂, ◌∙◌, subst, inl, inr, nat_cmp, map-id}
 use Rattle.std.proofs.Common.{IsPermutation}
-use Rattle.std.proofs.lemmas.Bool.{ltb-true}
-use Rattle.std.proofs.lemmas.List.{map-append}
-use Rattle.std.specs.List.{AllByRecursion}
-use Rattle.tl_shape.specs.Chain.{Chain}
-use Rattle.tl_county.specs.County.{County}
-use Rattle.tl_county.specs.CountyRules.{IsAscending, IsClosed, polygon_keys, nodes, nodes_along, polygons_along, chain_nodes}
-use Rattle.tl_county.specs.CountyRules.{chain_polygons}
-use Rattle.ordered_lists.specs.Orders.{stands_in, times}
-use Rattle.tl_county.specs.PolygonKeys.{PolygonKey, key_cmp}
-use Rattle.tl_county.specs.Renumbering.{Renumbering, Carries, renumbered}
-use Rattle.ordered_lists.specs.Pairs.{image}
+use Rattle.tl_number.proofs.Common.{AllByRecursion, Among, Carries, Chain, County, Grows, IsApart, IsArranged, IsAscending, IsClosed, Known}
+use Rattle.tl_number.proofs.Common.{PolygonKey, Renumbering, all_among, all_joined, all_known, all_weaker, among-map, apart-distinct}
+use Rattle.tl_number.proofs.Common.{apart-permutation, apart_from_sorted, chain_nodes, chain_polygons, image, key_cmp, key_keys}
+use Rattle.tl_number.proofs.Common.{known-distinct, known-permutation, lefts, ltb-true, map-append, map-map, nat_keys, nodes, nodes_along}
+use Rattle.tl_number.proofs.Common.{polygon_keys, polygons_along, renumbered, rights, stands_in, times, up_to}
 use Rattle.tl_county.proofs.Sameness.Carried.{chain_nodes-renumbered, chain_polygons-renumbered}
-use Rattle.ordered_lists.proofs.Lists.Distinct.{apart-distinct, known-distinct}
-use Rattle.ordered_lists.proofs.Lists.Among.{Among, all_among}
-use Rattle.tl_county.specs.Laws.KeyOrders.{key_keys}
-use Rattle.ordered_lists.proofs.ByKey.Keys.{IsApart, Known, nat_keys, lefts, rights, apart-permutation, known-permutation, image-injective}
-use Rattle.ordered_lists.proofs.ByKey.Keys.{apart_from_sorted, all_known}
-use Rattle.ordered_lists.proofs.Lists.Elements.{map-map, all_weaker, all_joined}
-use Rattle.ordered_lists.proofs.Lists.Members.{among-map}
+use Rattle.ordered_lists.proofs.ByKey.Keys.{image-injective}
 use Rattle.tl_county.proofs.Sameness.Equivalence.{image-keeps}
-use Rattle.tl_number.specs.Growth.{Grows, up_to}
-use Rattle.tl_number.specs.ArrangedCounty.{IsArranged}
 use Rattle.tl_number.proofs.Lists.Counting.{up_to-strict}
 use Rattle.tl_number.proofs.Numbering.Growth.{grown}
 

@@ -1,15 +1,8 @@
 -- Two lists in the canonical order, packing and numbering are equal if a renaming keeps the choice of TLIDs and directions.
 use Rattle.std.proofs.Common.{◌≡◌, List, sym, ap, ◌∙◌, nat_cmp}
-use Rattle.tl_layout.specs.declared.record_type.Record.{Record}
-use Rattle.tl_county.specs.County.{county_of}
-use Rattle.tl_county.specs.CountyRules.{tlids}
-use Rattle.ordered_lists.specs.Orders.{stands_in}
-use Rattle.tl_county.specs.Renumbering.{Renumbering, Carries}
-use Rattle.ordered_lists.specs.Pairs.{image}
-use Rattle.ordered_lists.proofs.ByKey.Keys.{nat_keys, known_all}
-use Rattle.tl_county.proofs.Rules.LinkedCounty.{county-is_county}
-use Rattle.tl_number.specs.Canonical.{IsArrangedList, KeepsChainNumbers}
-use Rattle.tl_county.specs.Packing.{packed}
+use Rattle.tl_number.proofs.Common.{Carries, IsArrangedList, Record, Renumbering, county-is_county, county_of, image, known_all, nat_keys}
+use Rattle.tl_number.proofs.Common.{packed, stands_in, tlids}
+use Rattle.tl_number.specs.Canonical.{KeepsChainNumbers}
 use Rattle.tl_number.proofs.Arrangements.RepackedPolygons.{arranged_list_is_packed}
 use Rattle.tl_number.proofs.Unique.Rigid.{rigid}
 

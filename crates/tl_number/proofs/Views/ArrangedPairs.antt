@@ -2,17 +2,11 @@
 use Rattle.std.proofs.Common.{◌≡◌, ◌≤◌, ℕ, zero, suc, List, [], ◌∷◌, ◌++◌, map, flat_map, drop, take, length}
 use Rattle.std.proofs.Common.{Ordering, Option, Some, slice_get, sym, ap, ◌∙◌, arith, ◌+◌}
 use Rattle.std.proofs.Common.{Equal, ◌<◌, ◌^◌, get_or, is_eq, nat_cmp, set}
-use Rattle.std.specs.Cmp.{IsTotalOrder}
+use Rattle.tl_number.proofs.Common.{IsKeyOrder, IsTotalOrder, PolygonKey, PolygonSide, changed_both, first_seen_after, key_cmp, key_keys}
+use Rattle.tl_number.proofs.Common.{key_on, key_under, keys_at, map-append, nat_keys, node_among, position, side_of}
 use Rattle.std.proofs.lemmas.Grind.{drop_more_same}
-use Rattle.std.proofs.lemmas.List.{drop_more, drop-set-lt, map-append}
-use Rattle.std.specs.List.{position}
-use Rattle.tl_layout.specs.PolygonSide.{PolygonSide}
-use Rattle.tl_county.specs.PolygonKeys.{PolygonKey, key_cmp, key_on, key_under}
-use Rattle.tl_county.specs.Renumbering.{side_of}
-use Rattle.tl_county.specs.Laws.KeyOrders.{key_keys}
-use Rattle.ordered_lists.proofs.ByKey.Keys.{IsKeyOrder, nat_keys}
-use Rattle.tl_number.specs.EndsAndSides.{changed_both, keys_at, node_among, polygon_among, side_among}
-use Rattle.tl_number.specs.Growth.{first_seen_after}
+use Rattle.std.proofs.lemmas.List.{drop_more, drop-set-lt}
+use Rattle.tl_number.specs.EndsAndSides.{polygon_among, side_among}
 use Rattle.ordered_lists.proofs.Lists.Places.{one_more_taken}
 use Rattle.tl_number.proofs.Records.Grouped.{get_dropped}
 use Rattle.tl_number.proofs.Numbering.SeenLists.{seen_append}

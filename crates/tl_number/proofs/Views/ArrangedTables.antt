@@ -2,24 +2,12 @@
 -- their numbers.
 use Rattle.std.proofs.Common.{◌≡◌, ◌<◌, ◌^◌, ℕ, List, [], ◌∷◌, map, flat_map, length, Option, Some, None, option_map}
 use Rattle.std.proofs.Common.{Ordering, nat_cmp, sym, refl, ap, ◌∙◌}
-use Rattle.tl_layout.specs.PolygonSide.{PolygonSide}
-use Rattle.tl_shape.specs.Chain.{Chain}
-use Rattle.tl_county.specs.County.{County}
-use Rattle.tl_county.specs.CountyRules.{IsCounty}
-use Rattle.ordered_lists.specs.Entries.{entry_values}
-use Rattle.tl_county.specs.Packing.{numbered_from}
-use Rattle.tl_county.specs.PolygonKeys.{key_cmp}
-use Rattle.ordered_lists.specs.Pairs.{image}
-use Rattle.tl_county.specs.Renumbering.{side_of, renumbered, renumbered_polygon}
-use Rattle.tl_county.proofs.Packing.Pieces.{rights-numbered_from}
-use Rattle.ordered_lists.proofs.Lists.Elements.{map-map}
-use Rattle.tl_number.specs.Arrangement.{Arrangement, nodes_in_order, placed, polygons_in_order, renaming_of}
-use Rattle.tl_number.specs.EndsAndSides.{ends_among, ends_of, nodes_at, polygon_among, polygons_at, sides_among, sides_of}
-use Rattle.tl_number.specs.Growth.{first_seen}
-use Rattle.tl_number.specs.DirectedChains.{arrangement_of}
-use Rattle.tl_county.specs.DirectedChains.{directed_chain}
-use Rattle.tl_number.specs.ViewFacts.{AreWhole, arranged_by}
-use Rattle.tl_county.specs.declared.directed_chain.DirectedChain.{DirectedChain}
+use Rattle.tl_number.proofs.Common.{AreWhole, Arrangement, Chain, County, DirectedChain, IsCounty, PolygonSide, arranged_by, arrangement_of}
+use Rattle.tl_number.proofs.Common.{directed_chain, ends_among, ends_of, entry_values, first_seen, image, key_cmp, map-map, nodes_at}
+use Rattle.tl_number.proofs.Common.{nodes_in_order, numbered_from, placed, polygons_in_order, renumbered, renumbered_polygon}
+use Rattle.tl_number.proofs.Common.{rights-numbered_from, side_of, sides_of}
+use Rattle.tl_number.specs.Arrangement.{renaming_of}
+use Rattle.tl_number.specs.EndsAndSides.{polygon_among, polygons_at, sides_among}
 use Rattle.tl_number.proofs.Polygons.PolygonOrder.{few_polygons}
 use Rattle.tl_number.proofs.Views.DirectedChains.{flat_map-map}
 use Rattle.tl_number.proofs.Views.ViewChains.{bodies_read, chains, values}

@@ -1,17 +1,11 @@
 -- Directed chains that name each chain once turn a county into a county.
 use Rattle.std.proofs.Common.{◌<◌, ◌^◌, length, arith, nat_cmp}
-use Rattle.tl_county.specs.County.{County}
-use Rattle.tl_county.specs.CountyRules.{IsCounty, AllKeysStandIn, polygons_along, polygon_keys, tlids}
-use Rattle.tl_county.specs.Limits.{IsWithinLimits, most_records}
-use Rattle.ordered_lists.proofs.ByKey.Keys.{IsApart, nat_keys, apart_from_sorted}
-use Rattle.ordered_lists.proofs.Lists.Permutations.{apart-permutation_of}
-use Rattle.tl_number.specs.Arrangement.{Arrangement, Arranges, arranged_tlids}
-use Rattle.tl_number.specs.DirectedChains.{HasChainsOf, arrangement_of}
-use Rattle.tl_number.specs.ViewFacts.{AreWhole, NamesEachOnce}
-use Rattle.tl_county.specs.declared.directed_chain.DirectedChain.{DirectedChain}
 use Rattle.tl_number.proofs.Arrangements.ArrangedCounties.{arranged_county}
 use Rattle.tl_number.proofs.Arrangements.ArrangedNumbers.{arrangement_within}
 use Rattle.std.proofs.Common.{List}
+use Rattle.tl_number.proofs.Common.{AllKeysStandIn, AreWhole, Arrangement, Arranges, County, DirectedChain, HasChainsOf, IsApart, IsCounty}
+use Rattle.tl_number.proofs.Common.{IsWithinLimits, NamesEachOnce, apart-permutation_of, apart_from_sorted, arranged_tlids, arrangement_of}
+use Rattle.tl_number.proofs.Common.{most_records, nat_keys, polygon_keys, polygons_along, tlids}
 
 pub arranges_once : (county : County) (order : Arrangement) → IsCounty county → NamesEachOnce county order → Arranges order county
 arranges_once county order is once =

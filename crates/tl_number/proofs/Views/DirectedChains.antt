@@ -1,24 +1,12 @@
 -- The chains of an arrangement given by directed chains are those at their places.
 use Rattle.std.proofs.Common.{◌≡◌, ◌⊎◌, ◌<◌, ◌≤◌, ◌==◌, ℕ, zero, suc, List, [], ◌∷◌, ◌++◌, map, flat_map, length, Option, Some, None}
 use Rattle.std.proofs.Common.{option_map, slice_get, sym, refl, ap, ap₂, ◌∙◌, inl, inr, arith, append-nil, append_assoc}
-use Rattle.std.proofs.lemmas.Bool.{eq-eqb}
-use Rattle.std.proofs.lemmas.Option.{slice_get-map, get_or_from_slice_get}
-use Rattle.tl_shape.specs.Chain.{Chain}
-use Rattle.tl_shape.specs.Turned.{turned_if}
-use Rattle.tl_county.specs.ChartWords.{chain_at, feats_of}
-use Rattle.tl_county.specs.County.{County}
-use Rattle.tl_county.specs.CountyRules.{IsCounty, tlids}
-use Rattle.tl_county.specs.Packing.{numbered_from}
-use Rattle.tl_county.proofs.Packing.Pieces.{rights-numbered_from}
-use Rattle.ordered_lists.proofs.Lists.Among.{Among}
-use Rattle.ordered_lists.proofs.ByKey.Keys.{nat_keys, apart_from_sorted}
+use Rattle.tl_number.proofs.Common.{Among, Arrangement, Chain, County, DirectedChain, HasChainsOf, IsCounty, apart_from_sorted}
+use Rattle.tl_number.proofs.Common.{arrangement_of, chain_at, chains_in_order, directed_chain, entries_of, eq-eqb, feats_of, nat_keys}
+use Rattle.tl_number.proofs.Common.{numbered_from, placed, rights-numbered_from, slice_get-map, times-of_number, tlid_at, tlids, to_filter}
+use Rattle.tl_number.proofs.Common.{turned_if}
+use Rattle.std.proofs.lemmas.Option.{get_or_from_slice_get}
 use Rattle.ordered_lists.proofs.Lists.Elements.{flat_map_agree}
-use Rattle.tl_county.proofs.Lists.OfNumber.{times-of_number}
-use Rattle.ordered_lists.proofs.Lists.Reordered.{to_filter}
-use Rattle.tl_number.specs.Arrangement.{Arrangement, entries_of, chains_in_order, placed}
-use Rattle.tl_number.specs.DirectedChains.{arrangement_of, HasChainsOf, tlid_at}
-use Rattle.tl_county.specs.DirectedChains.{directed_chain}
-use Rattle.tl_county.specs.declared.directed_chain.DirectedChain.{DirectedChain}
 
 -- the element at a place is in the list
 pub among-get : {X : Type 0} (xs : List X) (i : ℕ) (x : X) → slice_get xs i ≡ Some x → Among x xs

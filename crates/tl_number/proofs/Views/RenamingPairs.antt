@@ -1,20 +1,10 @@
 -- The pairs of a renaming, one after another.
 use Rattle.std.proofs.Common.{◌≡◌, ◌<◌, ◌+◌, ℕ, suc, List, [], ◌∷◌, filter, filter_map, length, map, cond, zip}
 use Rattle.std.proofs.Common.{Some, slice_get, refl, ap, ap₂, ◌∙◌, arith, Bool, true, false}
-use Rattle.std.proofs.lemmas.List.{length-map}
-use Rattle.std.proofs.lemmas.Option.{slice_get-get_or}
-use Rattle.std.specs.List.{cons_option, enumerate_from, range_with_len}
-use Rattle.tl_layout.specs.declared.type7.Body7.{Body7}
-use Rattle.tl_county.specs.County.{County}
-use Rattle.tl_county.specs.CountyRules.{tlids, lands}
-use Rattle.ordered_lists.specs.Entries.{entry_keys}
-use Rattle.tl_county.specs.Packing.{numbered_from}
-use Rattle.tl_number.specs.Arrangement.{arranged_tlids, turned_tlids}
-use Rattle.tl_number.specs.Growth.{numbered}
-use Rattle.tl_number.specs.LandmarkItems.{lands_at}
-use Rattle.tl_number.specs.DirectedChains.{HasChainsOf, arrangement_of, tlid_at}
-use Rattle.tl_number.specs.ViewFacts.{AreReadAt}
-use Rattle.tl_county.specs.declared.directed_chain.DirectedChain.{DirectedChain}
+use Rattle.tl_number.proofs.Common.{AreReadAt, Body7, County, DirectedChain, HasChainsOf, arranged_tlids, arrangement_of, cons_option}
+use Rattle.tl_number.proofs.Common.{entry_keys, lands, lands_at, length-map, numbered, numbered_from, range_with_len, slice_get-get_or}
+use Rattle.tl_number.proofs.Common.{tlid_at, tlids, turned_tlids}
+use Rattle.std.specs.List.{enumerate_from}
 use Rattle.tl_number.proofs.Names.NameOrder.{filter_map_all}
 use Rattle.tl_number.proofs.Polygons.PolygonOrder.{read_mapped}
 

@@ -1,25 +1,11 @@
 -- The chains of a county in an arrangement, read at the places of its directed chains.
 use Rattle.std.proofs.Common.{◌≡◌, ◌≤◌, ℕ, zero, suc, List, [], ◌∷◌, ◌++◌, map, flat_map, length, Option, Some, None, option_map}
 use Rattle.std.proofs.Common.{slice_get, sym, refl, ap, ◌∙◌, arith, nat_cmp}
-use Rattle.std.proofs.lemmas.List.{length-map}
-use Rattle.std.proofs.lemmas.Option.{slice_get-map, slice_get_past}
-use Rattle.tl_shape.specs.Chain.{Chain}
-use Rattle.tl_shape.specs.Turned.{turned_if}
-use Rattle.tl_county.specs.ChartWords.{chain_at}
-use Rattle.tl_county.specs.County.{County}
-use Rattle.tl_county.specs.CountyRules.{IsCounty, tlids}
-use Rattle.ordered_lists.specs.Entries.{entry_values}
-use Rattle.tl_county.specs.Renumbering.{Renumbering, renumbered}
-use Rattle.tl_county.proofs.Packing.Pieces.{rights-numbered_from}
-use Rattle.ordered_lists.proofs.ByKey.Keys.{IsApart, nat_keys, apart_from_sorted}
-use Rattle.ordered_lists.proofs.Lists.Elements.{map-map}
-use Rattle.ordered_lists.proofs.Lists.Permutations.{apart-permutation_of}
-use Rattle.tl_number.specs.Arrangement.{Arrangement, Arranges, arranged_tlids, entries_of, placed, renaming_of}
-use Rattle.tl_number.specs.Growth.{up_to}
-use Rattle.tl_number.specs.DirectedChains.{HasChainsOf, arrangement_of, tlid_at}
-use Rattle.tl_county.specs.DirectedChains.{directed_chain}
-use Rattle.tl_number.specs.ViewFacts.{AreWhole, arranged_by}
-use Rattle.tl_county.specs.declared.directed_chain.DirectedChain.{DirectedChain}
+use Rattle.tl_number.proofs.Common.{AreWhole, Arrangement, Arranges, Chain, County, DirectedChain, HasChainsOf, IsApart, IsCounty}
+use Rattle.tl_number.proofs.Common.{Renumbering, apart-permutation_of, apart_from_sorted, arranged_by, arranged_tlids, arrangement_of}
+use Rattle.tl_number.proofs.Common.{chain_at, directed_chain, entries_of, entry_values, length-map, map-map, nat_keys, placed, renumbered}
+use Rattle.tl_number.proofs.Common.{rights-numbered_from, slice_get-map, slice_get_past, tlid_at, tlids, turned_if, up_to}
+use Rattle.tl_number.specs.Arrangement.{renaming_of}
 use Rattle.tl_number.proofs.Arrangements.Carrying.{chains_arranged, tlids_arranged}
 use Rattle.tl_number.proofs.Unique.SameNumbers.{kept_entry}
 use Rattle.tl_number.proofs.Views.DirectedChains.{one_here}

@@ -1,21 +1,12 @@
 -- New numbers from places: the image of a number, and the numbers from 1.
 use Rattle.std.proofs.Common.{◌≡◌, ◌⊎◌, ◌<◌, ◌≤◌, ◌+◌, ◌-◌, ℕ, zero, suc, nat_lt, List, [], ◌∷◌, map, length, Bool, true, false, cond, not}
 use Rattle.std.proofs.Common.{Ordering, Some, None, is_eq, refl, sym, ap, ap₂, ◌∙◌, inl, inr, arith, nat_cmp, slice_get}
-use Rattle.std.proofs.lemmas.Bool.{ltb-true, ltb-false, lt-ltb, false_from_ne_true}
-use Rattle.std.proofs.lemmas.List.FromFn.{length-range_with_len}
-use Rattle.std.proofs.lemmas.Option.{slice_get_past, cond_some}
-use Rattle.std.specs.List.{AllByRecursion, position, position_or_len, range_with_len}
-use Rattle.ordered_lists.specs.Orders.{times, stands_in}
-use Rattle.tl_county.specs.Packing.{numbered_from}
-use Rattle.tl_county.specs.PolygonKeys.{PolygonKey, key_cmp}
-use Rattle.ordered_lists.specs.Pairs.{image}
-use Rattle.ordered_lists.proofs.Lists.Among.{all_among}
-use Rattle.tl_county.specs.Laws.KeyOrders.{key_keys}
-use Rattle.ordered_lists.proofs.ByKey.Keys.{IsKeyOrder, nat_keys, same-true}
-use Rattle.ordered_lists.proofs.Lists.Elements.{map-map, all_weaker}
-use Rattle.ordered_lists.proofs.Lists.Members.{among_known, known_is_among}
-use Rattle.tl_number.specs.Arrangement.{under_cenid}
-use Rattle.tl_number.specs.Growth.{numbered, up_to}
+use Rattle.tl_number.proofs.Common.{AllByRecursion, IsKeyOrder, PolygonKey, all_among, all_weaker, among_known, image, key_cmp, key_keys}
+use Rattle.tl_number.proofs.Common.{known_is_among, length-range_with_len, lt-ltb, ltb-false, ltb-true, map-map, nat_keys, numbered}
+use Rattle.tl_number.proofs.Common.{numbered_from, position, position_or_len, range_with_len, same-true, slice_get_past, stands_in, times}
+use Rattle.tl_number.proofs.Common.{under_cenid, up_to}
+use Rattle.std.proofs.lemmas.Bool.{false_from_ne_true}
+use Rattle.std.proofs.lemmas.Option.{cond_some}
 use Rattle.tl_number.proofs.Views.DirectedChains.{among-get}
 
 no_cond : {X : Type 0} (b : Bool) (x : X) → None ≡ cond b (Some x) None → b ≡ false

@@ -2,32 +2,17 @@
 use Rattle.std.proofs.Common.{◌≡◌, ℕ, suc, List, [], ◌∷◌, map, length, Option, Some, None, option_map, Less, Equal}
 use Rattle.std.proofs.Common.{Greater, is_gt, false, ◌+◌, ◌-◌, ap₂}
 use Rattle.std.proofs.Common.{Ordering, slice_get, unwrap_or, sym, refl, ap, ◌∙◌, subst, arith, nat_cmp, IsPermutation}
-use Rattle.std.proofs.lemmas.List.{length-map}
+use Rattle.tl_number.proofs.Common.{AreReadAt, AreWhole, Arrangement, Body5, Body7, County, DirectedChain, Fields8, IsCounty, IsInOrder}
+use Rattle.tl_number.proofs.Common.{PolygonKey, all_weaker, arranged_by, arrangement_of, carried_landmark, carried_name, eight_land}
+use Rattle.tl_number.proofs.Common.{entry_values, feats, in_order-permutation, landmarks_in_order, lands, length-map, link_bounds, link_cmp}
+use Rattle.tl_number.proofs.Common.{link_part, link_part_cmp, links_at, links_up_to, links_with, map-map, names_in_order, nat_keys, nodes}
+use Rattle.tl_number.proofs.Common.{nodes_along, nodes_in_order, numbered, on, ordering_then, polygons_in_order, slice_get-map, under_cenid}
+use Rattle.tl_number.proofs.Common.{up_to}
 use Rattle.std.proofs.lemmas.List.FromFn.{length-map-range_with_len}
-use Rattle.std.proofs.lemmas.Option.{slice_get-map}
 use Rattle.std.specs.List.Sorted.{IsStrictlySortedBy}
-use Rattle.std.specs.Ordering.{on, ordering_then}
-use Rattle.tl_layout.specs.Fields.{Fields8}
-use Rattle.tl_layout.specs.declared.type5.Body5.{Body5}
-use Rattle.tl_layout.specs.declared.type7.Body7.{Body7}
-use Rattle.tl_county.specs.BodyOrder.{link_cmp, link_part, link_part_cmp}
-use Rattle.tl_county.specs.ChartWords.{links_with, links_at}
-use Rattle.tl_county.specs.County.{County, eight_land}
-use Rattle.tl_county.specs.CountyRules.{IsCounty, feats, lands, nodes, nodes_along}
-use Rattle.ordered_lists.specs.Entries.{entry_values}
-use Rattle.ordered_lists.specs.Orders.{IsInOrder}
-use Rattle.tl_county.specs.PolygonKeys.{PolygonKey}
-use Rattle.tl_county.specs.Renumbering.{carried_name, carried_landmark}
-use Rattle.ordered_lists.proofs.Lists.InOrder.{in_order-permutation}
-use Rattle.ordered_lists.proofs.ByKey.Keys.{nat_keys}
-use Rattle.ordered_lists.proofs.Lists.Elements.{map-map, all_weaker}
 use Rattle.ordered_lists.proofs.ByKey.Numbers.{distinct-in_order}
-use Rattle.tl_number.specs.Arrangement.{Arrangement, nodes_in_order, polygons_in_order, names_in_order, landmarks_in_order}
-use Rattle.tl_number.specs.Arrangement.{renaming_of, under_cenid}
-use Rattle.tl_number.specs.Growth.{numbered, up_to}
-use Rattle.tl_number.specs.DirectedChains.{arrangement_of}
-use Rattle.tl_number.specs.ViewFacts.{AreWhole, AreReadAt, MatchesNames, MatchesLandmarks, arranged_by, links_up_to, link_bounds}
-use Rattle.tl_county.specs.declared.directed_chain.DirectedChain.{DirectedChain}
+use Rattle.tl_number.specs.Arrangement.{renaming_of}
+use Rattle.tl_number.specs.ViewFacts.{MatchesNames, MatchesLandmarks}
 use Rattle.tl_number.specs.declared.arranged_tables.LandmarkTables.{LandmarkTables}
 use Rattle.tl_number.specs.declared.arranged_tables.NameTables.{NameTables}
 use Rattle.tl_number.proofs.Arrangements.Carrying.{names_arranged, landmarks_arranged, feats_arranged, lands_arranged, paired_nodes, node_rights}

@@ -1,12 +1,8 @@
 use Rattle.std.proofs.Common.{◌≡◌, ◌∙◌, Result, Ok, Err, IfOk, ap, sym, subst}
+use Rattle.tl_number.proofs.Common.{Carries, County, IfOk-weaker, IsCanonCounty, IsLeastChoice, arranged_county}
 use Rattle.std.specs.Prelude.{MatchResult}
-use Rattle.std.proofs.lemmas.Result.{IfOk-weaker}
-use Rattle.tl_county.specs.County.{County}
-use Rattle.tl_county.specs.Renumbering.{Carries}
 use Rattle.tl_number.specs.Arrangement.{arranged, renaming_of}
-use Rattle.tl_number.specs.CanonCounties.{IsCanonCounty}
-use Rattle.tl_number.specs.Tidy.{IsLeastChoice}
-use Rattle.tl_number.specs.Views.{arranged_county, arrangement_in}
+use Rattle.tl_number.specs.Views.{arrangement_in}
 use Rattle.tl_number.proofs.arranging.canonise.Goals as goal
 
 -- what holds of a value holds of it beside any other

@@ -1,16 +1,10 @@
 use Rattle.std.proofs.Common.{◌∙◌, sym, ap, subst}
-use Rattle.tl_county.specs.County.{County}
-use Rattle.tl_county.specs.CountyRules.{IsCounty}
-use Rattle.tl_county.specs.Renumbering.{AreSame, Carries}
-use Rattle.tl_profile.specs.Profile.{IsInProfile}
-use Rattle.tl_number.specs.Arrangement.{Arrangement, arranged, renaming_of}
-use Rattle.tl_number.specs.CanonCounties.{IsCanonCounty}
-use Rattle.tl_number.specs.Tidy.{IsLeastChoice}
-use Rattle.tl_number.specs.ViewFacts.{arranged_by}
-use Rattle.tl_number.specs.DirectedChains.{arrangement_of}
+use Rattle.tl_number.proofs.Common.{AreSame, Arrangement, Carries, County, IsCanonCounty, IsCounty, IsInProfile, IsLeastChoice, arranged_by}
+use Rattle.tl_number.proofs.Common.{arrangement_of}
+use Rattle.tl_number.proofs.Lemmas.{arrangement_carries}
+use Rattle.tl_number.specs.Arrangement.{arranged, renaming_of}
 use Rattle.tl_number.proofs.CanonicalLists.Ascending.{few_in_profile, sides_in_profile}
 use Rattle.tl_number.proofs.CanonicalLists.CanonLists.{least_choice_county}
-use Rattle.tl_number.proofs.Arrangements.Carrying.{arrangement_carries}
 use Rattle.tl_number.proofs.arranging.canonise_in_order.Goals as goal
 
 -- the county of a choice of least text is canonical, and its renaming carries

@@ -1,7 +1,5 @@
 use Rattle.std.proofs.Common.{◌≡◌}
-use Rattle.std.proofs.lemmas.Result.{IfOk-weaker}
-use Rattle.tl_number.specs.Arrangement.{ascending}
-use Rattle.tl_number.specs.DirectedChains.{arrangement_of, HasChainsOf}
+use Rattle.tl_number.proofs.Common.{HasChainsOf, IfOk-weaker, arrangement_of, ascending}
 use Rattle.tl_number.proofs.Choices.AscendingArrangement.{arrangement_ascend, arrangement_there}
 use Rattle.tl_number.proofs.ascending_order.ascending_arrangement.Goals as goal
 

@@ -1,7 +1,6 @@
 use Rattle.std.proofs.Common.{subst, sym}
-use Rattle.tl_layout.specs.Numbers.{IsNumber}
-use Rattle.tl_number.proofs.Records.ChainPlaces.{chain_there}
-use Rattle.tl_number.proofs.Records.RecordPlaces.{tlid_of}
+use Rattle.tl_number.proofs.Common.{IsNumber}
+use Rattle.tl_number.proofs.Lemmas.{chain_there, tlid_of}
 use Rattle.tl_number.proofs.chain_records.chain_tlid.Goals as goal
 
 pub returns-clause-in_range : goal.returns-clause-in_range

@@ -1,6 +1,6 @@
 -- the critical ends so far
 use Rattle.std.proofs.Common.{◌≡◌, map, take}
-use Rattle.tl_number.specs.CriticalPlaces.{ends_along, ends_at}
+use Rattle.tl_number.proofs.Common.{ends_along, ends_at}
 use Rattle.tl_number.proofs.critical_places.all_ends_in.Given as goal
 
 abbrev pub invariant-loop-one : goal.invariant-loop-one

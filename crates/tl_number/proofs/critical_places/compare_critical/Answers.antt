@@ -1,8 +1,5 @@
 use Rattle.std.proofs.Common.{◌<◌, ◌≤◌, ◌+◌, drop, length, sym, ap, ap₂, ◌∙◌, arith}
-use Rattle.std.proofs.lemmas.List.{drop_all}
-use Rattle.std.specs.Cmp.Lexicographic.{slice_cmp}
-use Rattle.std.specs.Ordering.{ordering_then}
-use Rattle.tl_number.specs.CriticalPlaces.{ends_cmp}
+use Rattle.tl_number.proofs.Common.{drop_all, ends_cmp, ordering_then, slice_cmp}
 use Rattle.tl_number.proofs.Texts.GroupOrders.{decided}
 use Rattle.tl_number.proofs.Ties.CollectedEnds.{item_dropped}
 use Rattle.tl_number.proofs.critical_places.compare_critical.Goals as goal

@@ -1,7 +1,6 @@
 -- the rest decides
 use Rattle.std.proofs.Common.{◌≡◌, drop}
-use Rattle.std.specs.Cmp.Lexicographic.{slice_cmp}
-use Rattle.tl_number.specs.CriticalPlaces.{ends_cmp}
+use Rattle.tl_number.proofs.Common.{ends_cmp, slice_cmp}
 use Rattle.tl_number.proofs.critical_places.compare_critical.Given as goal
 
 abbrev pub invariant-loop-place : goal.invariant-loop-place

@@ -1,6 +1,6 @@
 use Rattle.std.proofs.Common.{◌∙◌, ◌||◌, sym, ap}
-use Rattle.tl_number.specs.CriticalPlaces.{is_open}
-use Rattle.tl_number.proofs.Choices.FixedPlaces.{nothing_left}
+use Rattle.tl_number.proofs.Common.{is_open}
+use Rattle.tl_number.proofs.Lemmas.{nothing_left}
 use Rattle.tl_number.proofs.critical_places.is_open_at.Goals as goal
 
 pub returns-then-covered : goal.returns-then-covered

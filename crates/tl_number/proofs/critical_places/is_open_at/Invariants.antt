@@ -1,6 +1,6 @@
 -- the rest of the open places decides
 use Rattle.std.proofs.Common.{◌≡◌, length}
-use Rattle.tl_number.specs.CriticalPlaces.{is_open}
+use Rattle.tl_number.proofs.Common.{is_open}
 use Rattle.tl_number.proofs.critical_places.is_open_at.Given as goal
 
 abbrev pub invariant-loop-at : goal.invariant-loop-at

@@ -1,7 +1,6 @@
 -- the nodes of the chains at open places so far
 use Rattle.std.proofs.Common.{◌≡◌, ◌<◌, ℕ, Option, Some, true, slice_get}
-use Rattle.tl_number.specs.CriticalPlaces.{HasNodes, is_open}
-use Rattle.tl_number.specs.EndsAndSides.{nodes_at}
+use Rattle.tl_number.proofs.Common.{HasNodes, is_open, nodes_at}
 use Rattle.tl_number.proofs.critical_places.open_nodes.Given as goal
 
 abbrev pub invariant-loop-place : goal.invariant-loop-place

@@ -1,8 +1,5 @@
 use Rattle.std.proofs.Common.{◌≡◌, ◌∙◌, false, sym, subst, IsTrue, nat_cmp, rules}
-use Rattle.std.proofs.lemmas.Bool.{false≢true}
-use Rattle.ordered_lists.specs.Orders.{stands_in}
-use Rattle.tl_number.specs.CriticalPlaces.{HasNodes}
-use Rattle.tl_number.specs.EndsAndSides.{nodes_at}
+use Rattle.tl_number.proofs.Common.{HasNodes, false≢true, nodes_at, stands_in}
 use Rattle.tl_number.proofs.Ties.CollectedEnds.{both_seen_now, still_seen}
 use Rattle.tl_number.proofs.critical_places.see_if_open.Goals as goal
 

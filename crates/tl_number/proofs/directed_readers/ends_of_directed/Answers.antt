@@ -1,5 +1,5 @@
 -- A county's nodes have numbers from 1 on.
-use Rattle.tl_number.proofs.Records.ChainPlaces.{chain_there}
+use Rattle.tl_number.proofs.Lemmas.{chain_there}
 use Rattle.tl_number.proofs.Records.RecordPlaces.{node_from_one}
 use Rattle.tl_number.proofs.directed_readers.ends_of_directed.Goals as goal
 

@@ -1,6 +1,5 @@
 use Rattle.std.proofs.Common.{◌≡◌, Some, map, option_map, take}
-use Rattle.tl_number.specs.EndsAndSides.{ends_of, sides_of}
-use Rattle.tl_county.specs.DirectedChains.{directed_chain}
+use Rattle.tl_number.proofs.Common.{directed_chain, ends_of, sides_of}
 use Rattle.tl_number.proofs.first_appearance.links_along.Given as goal
 
 abbrev pub invariant-loop-directed : goal.invariant-loop-directed

@@ -1,7 +1,5 @@
 use Rattle.std.proofs.Common.{◌≡◌, ◌∙◌, flat_map, length, map, ap, arith}
-use Rattle.std.proofs.Math.Seq.{take-append_seam}
-use Rattle.tl_number.specs.EndsAndSides.{changed_both, keys_at}
-use Rattle.tl_number.specs.Growth.{first_seen}
+use Rattle.tl_number.proofs.Common.{changed_both, first_seen, keys_at, take-append_seam}
 use Rattle.tl_number.proofs.first_appearance.number_pairs.Goals as goal
 
 pub returns-clause-pairs : goal.returns-clause-pairs

@@ -1,8 +1,7 @@
 -- The keys seen so far, and then those of the rest, are those of all pairs; the numbered part has its final numbers, and the rest is
 -- unchanged.
 use Rattle.std.proofs.Common.{◌≡◌, drop, flat_map, map, take}
-use Rattle.tl_number.specs.EndsAndSides.{changed_both, keys_at}
-use Rattle.tl_number.specs.Growth.{first_seen, first_seen_after}
+use Rattle.tl_number.proofs.Common.{changed_both, first_seen, first_seen_after, keys_at}
 use Rattle.tl_number.proofs.first_appearance.see_pairs.Given as goal
 
 abbrev pub invariant-loop-pair : goal.invariant-loop-pair

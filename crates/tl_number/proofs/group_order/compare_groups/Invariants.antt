@@ -1,6 +1,5 @@
 use Rattle.std.proofs.Common.{◌≡◌, length, map}
-use Rattle.tl_number.specs.Groups.{rest_of}
-use Rattle.tl_number.specs.RecordOrder.{groups_cmp, records_cmp}
+use Rattle.tl_number.proofs.Common.{groups_cmp, records_cmp, rest_of}
 use Rattle.tl_number.proofs.group_order.compare_groups.Given as goal
 
 -- the rest decides

@@ -1,6 +1,6 @@
 use Rattle.std.proofs.Common.{◌≡◌, ◌<◌, ◌∙◌, length, take, sym, subst, refl, arith}
-use Rattle.std.proofs.lemmas.List.{length-set, length-take, take_more_set}
-use Rattle.tl_number.specs.Groups.{AreHeads}
+use Rattle.tl_number.proofs.Common.{AreHeads, length-take}
+use Rattle.std.proofs.lemmas.List.{length-set, take_more_set}
 use Rattle.tl_number.proofs.Records.ReadHeads.{no_heads, one_more_head}
 use Rattle.tl_number.proofs.groups.read_heads.Goals as goal
 

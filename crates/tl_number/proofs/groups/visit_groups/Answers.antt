@@ -1,9 +1,7 @@
 use Rattle.std.proofs.Common.{◌∙◌, Ok, Err, map, take, drop, subst, sym, refl, arith}
-use Rattle.std.proofs.lemmas.List.{length-take, take_all}
-use Rattle.std.proofs.lemmas.Result.{err_from_is_err_and}
-use Rattle.tl_number.specs.Groups.{grouped}
+use Rattle.tl_number.proofs.Common.{err_from_is_err_and, grouped, length-take, take_all}
+use Rattle.tl_number.proofs.Lemmas.{second_stops}
 use Rattle.tl_number.proofs.Records.GivenGroups.{around_groups, with_groups}
-use Rattle.tl_number.proofs.Records.OneAfterAnother.{second_stops}
 use Rattle.tl_number.proofs.groups.visit_groups.Goals as goal
 
 pub loop-first-init : goal.loop-first-init

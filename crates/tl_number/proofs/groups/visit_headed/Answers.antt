@@ -1,11 +1,8 @@
 use Rattle.std.proofs.Common.{◌+◌, Ok, length, map, take, drop, suc, subst, sym, refl, arith}
-use Rattle.std.proofs.lemmas.List.{take_all}
-use Rattle.std.proofs.lemmas.Option.{slice_get_read}
-use Rattle.std.proofs.lemmas.Result.{err_from_is_err_and}
-use Rattle.tl_number.specs.Groups.{group_at, grouped}
+use Rattle.tl_number.proofs.Common.{err_from_is_err_and, group_at, grouped, slice_get_read, take_all}
+use Rattle.tl_number.proofs.Lemmas.{second_stops}
 use Rattle.tl_number.proofs.Records.GivenGroups.{around_group, with_group}
 use Rattle.tl_number.proofs.Records.Grouped.{length_headed}
-use Rattle.tl_number.proofs.Records.OneAfterAnother.{second_stops}
 use Rattle.tl_number.proofs.groups.visit_headed.Goals as goal
 
 pub loop-ahead-init : goal.loop-ahead-init

@@ -1,7 +1,5 @@
 use Rattle.std.proofs.Common.{◌≡◌, ◌+◌, ◌++◌, ◌∷◌, ◌∙◌, [], Ok, Err, map, take, drop, suc, subst, sym, ap, arith, add-one}
-use Rattle.std.proofs.lemmas.List.{take_all}
-use Rattle.std.proofs.lemmas.Result.{err_from_is_err_and}
-use Rattle.tl_number.specs.Groups.{group_at}
+use Rattle.tl_number.proofs.Common.{err_from_is_err_and, group_at, take_all}
 use Rattle.ordered_lists.proofs.Lists.Places.{next_taken}
 use Rattle.tl_number.proofs.Records.ChainPlaces.{some_at}
 use Rattle.tl_number.proofs.Records.Grouped.{map-append, parted}

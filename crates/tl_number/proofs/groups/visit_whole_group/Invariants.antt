@@ -1,5 +1,5 @@
 use Rattle.std.proofs.Common.{map, take, Ok}
-use Rattle.tl_number.specs.Groups.{group_at}
+use Rattle.tl_number.proofs.Common.{group_at}
 use Rattle.tl_number.proofs.groups.visit_whole_group.Given as goal
 
 -- the records up to the place were taken

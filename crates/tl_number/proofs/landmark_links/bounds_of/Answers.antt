@@ -1,10 +1,7 @@
 use Rattle.std.proofs.Common.{◌∷◌, [], ◌++◌, sym, ap₂, ◌∙◌, subst, arith, is_gt, nat_cmp}
+use Rattle.tl_number.proofs.Common.{IsInOrder, eight_land, links_up_to, on}
 use Rattle.std.proofs.lemmas.List.FromFn.{map-range_with_len_more}
-use Rattle.std.specs.Ordering.{on}
-use Rattle.tl_county.specs.County.{eight_land}
-use Rattle.ordered_lists.specs.Orders.{IsInOrder}
 use Rattle.ordered_lists.proofs.ByKey.KeyedLists.{in_order-filter}
-use Rattle.tl_number.specs.ViewFacts.{links_up_to}
 use Rattle.tl_number.proofs.Landmarks.LandmarkLinks.{fewer_later, bound_stated, later_next}
 use Rattle.tl_number.proofs.landmark_links.bounds_of.Goals as goal
 

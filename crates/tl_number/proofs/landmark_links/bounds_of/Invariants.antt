@@ -1,9 +1,5 @@
 use Rattle.std.proofs.Common.{◌≡◌, ◌≤◌, ℕ, map, filter, is_gt, nat_cmp}
-use Rattle.std.specs.List.{range_with_len}
-use Rattle.std.specs.Ordering.{on}
-use Rattle.tl_county.specs.County.{eight_land}
-use Rattle.ordered_lists.specs.Orders.{IsInOrder}
-use Rattle.tl_number.specs.ViewFacts.{links_up_to}
+use Rattle.tl_number.proofs.Common.{IsInOrder, eight_land, links_up_to, on, range_with_len}
 use Rattle.tl_number.proofs.landmark_links.bounds_of.Given as goal
 
 abbrev pub invariant-loop-land : goal.invariant-loop-land

@@ -1,6 +1,5 @@
 use Rattle.std.proofs.Common.{◌++◌, map, ap, ◌∙◌}
-use Rattle.tl_county.specs.ChartWords.{links_at}
-use Rattle.tl_number.specs.LandmarkItems.{link_under}
+use Rattle.tl_number.proofs.Common.{link_under, links_at}
 use Rattle.tl_number.proofs.Landmarks.LandmarkLinks.{pieces_next}
 use Rattle.tl_number.proofs.landmark_links.gather_links.Goals as goal
 

@@ -1,7 +1,5 @@
 use Rattle.std.proofs.Common.{◌≡◌, map, flat_map}
-use Rattle.std.specs.List.{range_with_len}
-use Rattle.tl_county.specs.ChartWords.{links_at}
-use Rattle.tl_number.specs.LandmarkItems.{link_under}
+use Rattle.tl_number.proofs.Common.{link_under, links_at, range_with_len}
 use Rattle.tl_number.proofs.landmark_links.gather_links.Given as goal
 
 abbrev pub invariant-loop-place : goal.invariant-loop-place

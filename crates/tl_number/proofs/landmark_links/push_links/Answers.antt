@@ -1,10 +1,7 @@
 use Rattle.std.proofs.Common.{◌≡◌, ◌++◌, OnOk, arith, length, map, rules, slice_get, subst, tests}
-use Rattle.std.proofs.lemmas.Iterator.{YieldsList-from_map, YieldsList-from_range}
+use Rattle.tl_number.proofs.Common.{YieldsList-at, YieldsList-from_filter_map, YieldsList-from_map, YieldsList-from_range, link_under}
+use Rattle.tl_number.proofs.Common.{links_at, range_with_len}
 use Rattle.std.proofs.lemmas.Iterator.Adapters.{items_from_extend}
-use Rattle.std.proofs.lemmas.Iterator.Consumers.{YieldsList-at, YieldsList-from_filter_map}
-use Rattle.std.specs.List.{range_with_len}
-use Rattle.tl_county.specs.ChartWords.{links_at}
-use Rattle.tl_number.specs.LandmarkItems.{link_under}
 use Rattle.tl_number.proofs.Landmarks.LandmarkLinks.{listed}
 use Rattle.tl_number.proofs.Names.NameOrder.{filter_map_all}
 use Rattle.tl_number.proofs.landmark_links.push_links.Goals as goal

@@ -1,8 +1,5 @@
 use Rattle.std.proofs.Common.{◌≡◌, length, nat_cmp, false, refl, sym, ap, ap₂, ◌∙◌, subst, arith}
-use Rattle.tl_county.specs.CountyRules.{lands}
-use Rattle.ordered_lists.specs.Orders.{has_repeat}
-use Rattle.tl_number.specs.LandmarkItems.{lands_at, numbered_links}
-use Rattle.tl_number.specs.ViewFacts.{link_bounds, arranged_by}
+use Rattle.tl_number.proofs.Common.{arranged_by, has_repeat, lands, lands_at, link_bounds, numbered_links}
 use Rattle.tl_number.proofs.Landmarks.LandmarkOrder.{landmarks_stated, lands_once, places_counted, new_links}
 use Rattle.tl_number.proofs.landmark_order.arrange_landmarks.Goals as goal
 

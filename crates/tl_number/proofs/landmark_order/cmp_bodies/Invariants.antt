@@ -1,7 +1,5 @@
 use Rattle.std.proofs.Common.{◌≡◌, drop}
-use Rattle.std.specs.Cmp.Lexicographic.{slice_cmp}
-use Rattle.tl_county.specs.BodyOrder.{landmark_body_cmp}
-use Rattle.tl_county.specs.ChartWords.{bodies_at}
+use Rattle.tl_number.proofs.Common.{bodies_at, landmark_body_cmp, slice_cmp}
 use Rattle.tl_number.proofs.landmark_order.cmp_bodies.Given as goal
 
 abbrev pub invariant-loop-body : goal.invariant-loop-body

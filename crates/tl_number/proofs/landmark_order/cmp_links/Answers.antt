@@ -1,11 +1,7 @@
 use Rattle.std.proofs.Common.{◌≡◌, ◌∙◌, ℕ, List, Ordering, ap, nat_cmp, refl, rules, sym}
-use Rattle.std.proofs.lemmas.Iterator.{YieldsList-from_map, YieldsList-from_slice}
+use Rattle.tl_number.proofs.Common.{Fields8, YieldsList-from_map, YieldsList-from_slice, link_part, link_part_cmp, ordering_then, slice_cmp}
 use Rattle.std.proofs.lemmas.Iterator.Search.{cmp_from_yields_List}
-use Rattle.std.specs.Cmp.Lexicographic.{slice_cmp}
 use Rattle.std.specs.Iterator.Adapters.{map_callee}
-use Rattle.std.specs.Ordering.{ordering_then}
-use Rattle.tl_layout.specs.Fields.{Fields8}
-use Rattle.tl_county.specs.BodyOrder.{link_part, link_part_cmp}
 use Rattle.tl_number.proofs.Landmarks.LandmarkOrder.{cmp_mapped}
 use Rattle.tl_number.proofs.landmark_order.cmp_links.Goals as goal
 

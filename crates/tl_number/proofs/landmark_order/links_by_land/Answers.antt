@@ -1,10 +1,5 @@
 use Rattle.std.proofs.Common.{length, nat_cmp, sym, ap, ◌∙◌, subst, slice_get, arith}
-use Rattle.std.specs.Ordering.{on}
-use Rattle.tl_county.specs.County.{eight_land}
-use Rattle.tl_county.specs.CountyRules.{lands}
-use Rattle.ordered_lists.specs.Orders.{IsInOrder}
-use Rattle.tl_number.specs.LandmarkItems.{numbered_links}
-use Rattle.tl_number.specs.ViewFacts.{link_bounds}
+use Rattle.tl_number.proofs.Common.{IsInOrder, eight_land, lands, link_bounds, numbered_links, on}
 use Rattle.tl_number.proofs.Landmarks.LandmarkOrder.{few_lands, numbered_by_land}
 use Rattle.tl_number.proofs.landmark_order.links_by_land.Goals as goal
 

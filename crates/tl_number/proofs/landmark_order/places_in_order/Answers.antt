@@ -1,15 +1,8 @@
 use Rattle.std.proofs.Common.{◌≡◌, ◌+◌, ◌-◌, ℕ, List, length, nat_cmp, false, sym, ap, ◌∙◌, subst, arith}
-use Rattle.std.proofs.lemmas.List.FromFn.{length-map-range_with_len, length-range_with_len}
-use Rattle.std.proofs.lemmas.Result.{IfOk-weaker}
-use Rattle.std.specs.List.{range_with_len}
-use Rattle.std.specs.Ordering.{on}
-use Rattle.tl_layout.specs.Fields.{Fields8}
-use Rattle.tl_county.specs.County.{County, eight_land}
-use Rattle.tl_county.specs.CountyRules.{lands}
-use Rattle.ordered_lists.specs.Orders.{IsInOrder, has_repeat}
-use Rattle.tl_county.specs.PolygonKeys.{PolygonKey}
-use Rattle.tl_number.specs.LandmarkItems.{landmark_place_cmp, lands_at, numbered_links, place_cmp_under}
-use Rattle.tl_number.specs.ViewFacts.{link_bounds, links_up_to}
+use Rattle.tl_number.proofs.Common.{County, Fields8, IfOk-weaker, IsInOrder, PolygonKey, eight_land, has_repeat, landmark_place_cmp, lands}
+use Rattle.tl_number.proofs.Common.{lands_at, length-range_with_len, link_bounds, links_up_to, numbered_links, on, range_with_len}
+use Rattle.std.proofs.lemmas.List.FromFn.{length-map-range_with_len}
+use Rattle.tl_number.specs.LandmarkItems.{place_cmp_under}
 use Rattle.tl_number.proofs.Landmarks.LandmarkOrder.{all_lands, all_lands_once, numbered_by_land}
 use Rattle.tl_number.proofs.landmark_order.places_in_order.Given.{Over}
 use Rattle.tl_number.proofs.landmark_order.places_in_order.Goals.{After-as_slice-2}

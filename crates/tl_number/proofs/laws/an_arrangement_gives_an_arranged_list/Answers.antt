@@ -1,4 +1,4 @@
-use Rattle.tl_number.proofs.Arrangements.Carrying.{arrangement_carries}
+use Rattle.tl_number.proofs.Lemmas.{arrangement_carries}
 use Rattle.tl_number.proofs.Arrangements.ArrangedCounties.{arranged_county, is_arranged}
 use Rattle.tl_number.proofs.Arrangements.ArrangedPacking.{packed_arranged}
 use Rattle.tl_number.proofs.laws.an_arrangement_gives_an_arranged_list.Goals as goal

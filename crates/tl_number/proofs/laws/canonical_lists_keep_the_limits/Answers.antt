@@ -1,8 +1,6 @@
 use Rattle.std.proofs.Common.{arith}
-use Rattle.tl_county.specs.Limits.{most_records}
-use Rattle.tl_number.specs.Sights.{plain}
-use Rattle.tl_number.proofs.CanonicalLists.Accepted.{plain_sight}
-use Rattle.tl_number.proofs.Arrangements.ArrangedNumbers.{canonical_counts, canonical_within, canonical_low}
+use Rattle.tl_number.proofs.Common.{most_records, plain}
+use Rattle.tl_number.proofs.Lemmas.{canonical_counts, canonical_low, canonical_within, plain_sight}
 use Rattle.tl_number.proofs.laws.canonical_lists_keep_the_limits.Goals as goal
 
 pub returns-clause-counts : goal.returns-clause-counts

@@ -1,6 +1,6 @@
 use Rattle.std.proofs.Common.{arith}
-use Rattle.tl_county.specs.Limits.{most_records}
-use Rattle.tl_number.proofs.Arrangements.ArrangedNumbers.{canonical_counts, canonical_within, canonical_low}
+use Rattle.tl_number.proofs.Common.{most_records}
+use Rattle.tl_number.proofs.Lemmas.{canonical_counts, canonical_low, canonical_within}
 use Rattle.tl_number.proofs.laws.canonical_lists_keep_the_limits_through_each_sight.Goals as goal
 
 pub returns-clause-counts : goal.returns-clause-counts

@@ -1,8 +1,6 @@
-use Rattle.tl_county.specs.County.{county_of}
-use Rattle.tl_county.proofs.Sameness.Equivalence.{same-reflexive}
-use Rattle.tl_number.specs.Sights.{plain}
-use Rattle.tl_number.proofs.CanonicalLists.Accepted.{plain_sight, same_canonical_text}
-use Rattle.tl_number.proofs.CanonicalLists.Ascending.{canonical_exists, choice_is_canonical, ascends_where_apart}
+use Rattle.tl_number.proofs.Common.{county_of, plain, same-reflexive}
+use Rattle.tl_number.proofs.Lemmas.{canonical_exists, plain_sight, same_canonical_text}
+use Rattle.tl_number.proofs.CanonicalLists.Ascending.{choice_is_canonical, ascends_where_apart}
 use Rattle.tl_number.proofs.laws.each_accepted_list_has_one_canonical_text.Goals as goal
 
 pub returns-clause-exists : goal.returns-clause-exists

@@ -1,5 +1,5 @@
-use Rattle.tl_number.specs.Sights.{plain}
-use Rattle.tl_number.proofs.CanonicalLists.Accepted.{plain_sight, same_canonical_text, one_canonical_same, canonical_of_itself}
+use Rattle.tl_number.proofs.Common.{plain}
+use Rattle.tl_number.proofs.Lemmas.{canonical_of_itself, one_canonical_same, plain_sight, same_canonical_text}
 use Rattle.tl_number.proofs.laws.one_canonical_text_for_one_map.Goals as goal
 
 pub returns : goal.returns

@@ -1,7 +1,6 @@
-use Rattle.tl_county.specs.County.{county_of}
-use Rattle.tl_county.proofs.Sameness.Equivalence.{same-reflexive}
-use Rattle.tl_number.proofs.CanonicalLists.Accepted.{same_canonical_text, one_canonical_same, canonical_of_itself, canonical_as_it_is}
-use Rattle.tl_number.proofs.CanonicalLists.Ascending.{canonical_exists}
+use Rattle.tl_number.proofs.Common.{county_of, same-reflexive}
+use Rattle.tl_number.proofs.Lemmas.{canonical_exists, canonical_of_itself, one_canonical_same, same_canonical_text}
+use Rattle.tl_number.proofs.CanonicalLists.Accepted.{canonical_as_it_is}
 use Rattle.tl_number.proofs.laws.one_canonical_text_through_each_sight.Goals as goal
 
 pub returns-clause-exists : goal.returns-clause-exists

@@ -1,11 +1,9 @@
 use Rattle.std.proofs.Common.{◌≡◌, ap, ◌∙◌, sym, subst}
-use Rattle.std.proofs.lemmas.Result.{IfOk-weaker}
+use Rattle.tl_number.proofs.Common.{HasChainsOf, IfOk-weaker, NamesEachOnce, arranged_county, arrangement_of}
+use Rattle.tl_number.proofs.Lemmas.{arrangement_of_number, places_within}
 use Rattle.tl_number.specs.Arrangement.{arranged}
-use Rattle.tl_number.specs.DirectedChains.{arrangement_of, HasChainsOf}
 use Rattle.tl_number.specs.Tidy.{numbered_choice}
-use Rattle.tl_number.specs.ViewFacts.{NamesEachOnce}
-use Rattle.tl_number.specs.Views.{arranged_county}
-use Rattle.tl_number.proofs.Choices.ChosenArrangements.{places_within, arrangement_of_number, arrangement_of_number_there, arrangement_of_number_once}
+use Rattle.tl_number.proofs.Choices.ChosenArrangements.{arrangement_of_number_there, arrangement_of_number_once}
 use Rattle.tl_number.proofs.least_choice.arrange_choice.Goals as goal
 
 pub arrangement_of_number-requires : goal.arrangement_of_number-requires

@@ -1,13 +1,8 @@
 use Rattle.std.proofs.Common.{length, sym, ap, ap₂, ◌∙◌, subst}
-use Rattle.tl_layout.specs.declared.record_type.Record.TheVariants.{One}
+use Rattle.tl_number.proofs.Common.{AgreeApart, AreWithin, One, arranged_by, groups_cmp, moved, other_way, type_1_by_chain}
+use Rattle.tl_number.proofs.Lemmas.{agree_of_numbers, arrangement_of_number, places_within}
 use Rattle.tl_number.specs.Arrangement.{arranged}
-use Rattle.tl_number.specs.CountyGroups.{type_1_by_chain}
-use Rattle.tl_number.specs.MovedChains.{AgreeApart, AreWithin, other_way}
-use Rattle.tl_number.specs.NumberedChoices.{moved}
-use Rattle.tl_number.specs.RecordOrder.{groups_cmp}
-use Rattle.tl_number.specs.ViewFacts.{arranged_by}
-use Rattle.tl_number.proofs.Choices.ChosenArrangements.{places_within, arrangement_of_number, moved_of_number}
-use Rattle.tl_number.proofs.Choices.LeastOnes.{agree_of_numbers}
+use Rattle.tl_number.proofs.Choices.ChosenArrangements.{moved_of_number}
 use Rattle.tl_number.proofs.least_choice.compare_number.Goals as goal
 
 pub put_back-requires-clause-within : goal.put_back-requires-clause-within

@@ -1,8 +1,7 @@
 use Rattle.std.proofs.Common.{◌≡◌, ◌∙◌, Bool, true, false, not, is_eq, sym, ap, refl}
-use Rattle.std.proofs.lemmas.Bool.{false≢true}
-use Rattle.tl_profile.specs.Choices.{choices}
-use Rattle.tl_number.specs.TypeOneOrder.{ones_cmp}
-use Rattle.tl_number.proofs.Choices.LeastOnes.{agree_of_numbers, equal_from, least_one_first, one_list}
+use Rattle.tl_number.proofs.Common.{choices, false≢true, ones_cmp}
+use Rattle.tl_number.proofs.Lemmas.{agree_of_numbers}
+use Rattle.tl_number.proofs.Choices.LeastOnes.{equal_from, least_one_first, one_list}
 use Rattle.tl_number.proofs.least_choice.is_other_tie.Goals as goal
 
 was_true : (b : Bool) → not b ≡ false → b ≡ true

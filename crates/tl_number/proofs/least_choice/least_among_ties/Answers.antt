@@ -1,5 +1,5 @@
 use Rattle.std.proofs.Common.{◌∙◌}
-use Rattle.tl_number.proofs.Choices.LeastOnes.{agree_of_numbers}
+use Rattle.tl_number.proofs.Lemmas.{agree_of_numbers}
 use Rattle.tl_number.proofs.least_choice.least_among_ties.Goals as goal
 
 pub have_same_open_parts-same-requires : goal.have_same_open_parts-same-requires

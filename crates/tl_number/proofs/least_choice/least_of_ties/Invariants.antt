@@ -1,13 +1,8 @@
 -- The least choice so far is arranged, and it is the least below the number where the search goes on.
 use Rattle.std.proofs.Common.{◌≡◌, ◌-◌, Equal}
-use Rattle.tl_profile.specs.Choices.{choices}
+use Rattle.tl_number.proofs.Common.{IsLeastBelow, IsMoved, IsNotAfter, arranged_county, choice_list, choices, ones_cmp}
 use Rattle.tl_number.specs.Arrangement.{arranged}
-use Rattle.tl_number.specs.LeastNumber.{IsLeastBelow, choice_list}
-use Rattle.tl_number.specs.Canonical.{IsNotAfter}
-use Rattle.tl_number.specs.ChoiceSearch.{IsMoved}
 use Rattle.tl_number.specs.Tidy.{numbered_choice}
-use Rattle.tl_number.specs.TypeOneOrder.{ones_cmp}
-use Rattle.tl_number.specs.Views.{arranged_county}
 use Rattle.tl_number.proofs.least_choice.least_of_ties.Given as goal
 
 abbrev pub invariant-loop-next : goal.invariant-loop-next

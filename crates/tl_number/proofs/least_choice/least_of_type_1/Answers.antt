@@ -1,6 +1,7 @@
 use Rattle.std.proofs.Common.{◌≡◌, is_gt, length, sym, ap, ◌∙◌, true, false}
-use Rattle.tl_number.specs.TypeOneOrder.{ones_cmp}
-use Rattle.tl_number.proofs.Choices.ChosenArrangements.{moved_of_number, places_within}
+use Rattle.tl_number.proofs.Common.{ones_cmp}
+use Rattle.tl_number.proofs.Lemmas.{places_within}
+use Rattle.tl_number.proofs.Choices.ChosenArrangements.{moved_of_number}
 use Rattle.tl_number.proofs.Choices.FixedPlaces.{agree_itself}
 use Rattle.tl_number.proofs.Choices.LeastOnes.{first_one, greater_from, not_greater_from, one_gives_way, one_stays}
 use Rattle.tl_number.proofs.least_choice.least_of_type_1.Goals as goal

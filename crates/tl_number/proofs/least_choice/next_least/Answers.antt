@@ -1,14 +1,8 @@
 use Rattle.std.proofs.Common.{◌≡◌, ◌∙◌, Equal, is_gt, ap, ap₂, sym, subst}
-use Rattle.tl_layout.specs.declared.record_type.Record.TheVariants.{One}
-use Rattle.tl_county.specs.Renumbering.{AreSame}
+use Rattle.tl_number.proofs.Common.{AreSame, IsNotAfter, One, arranged_county, choice_list, groups_cmp, ones_cmp, type_1_by_chain}
+use Rattle.tl_number.proofs.Common.{type_2_by_chain}
 use Rattle.tl_number.specs.Arrangement.{arranged}
-use Rattle.tl_number.specs.CountyGroups.{type_1_by_chain, type_2_by_chain}
-use Rattle.tl_number.specs.LeastNumber.{choice_list}
-use Rattle.tl_number.specs.Canonical.{IsNotAfter}
-use Rattle.tl_number.specs.RecordOrder.{groups_cmp}
 use Rattle.tl_number.specs.Tidy.{numbered_choice}
-use Rattle.tl_number.specs.TypeOneOrder.{ones_cmp}
-use Rattle.tl_number.specs.Views.{arranged_county}
 use Rattle.tl_number.proofs.Choices.LeastNumbers.{choices_same, of_either, text_compared, stated_of_either}
 use Rattle.tl_number.proofs.Choices.LeastOnes.{tied_with_itself}
 use Rattle.tl_number.proofs.CanonicalLists.SameShapes.{twos_of_numbers}

@@ -1,10 +1,6 @@
 use Rattle.std.proofs.Common.{subst}
-use Rattle.std.proofs.lemmas.Result.{IfOk-weaker}
-use Rattle.tl_county.specs.County.{County}
-use Rattle.tl_county.specs.Renumbering.{Carries}
-use Rattle.tl_county.specs.MaskedCounty.{masked}
+use Rattle.tl_number.proofs.Common.{Carries, County, IfOk-weaker, arranged_county, masked}
 use Rattle.tl_county.proofs.Masks.MaskedCounties.{masked_twice, carried_masked}
-use Rattle.tl_number.specs.Views.{arranged_county}
 use Rattle.tl_number.proofs.masking.canonise_masked.Goals as goal
 
 pub returns-clause-own : goal.returns-clause-own

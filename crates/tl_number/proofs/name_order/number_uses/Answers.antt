@@ -1,8 +1,5 @@
 use Rattle.std.proofs.Common.{◌≡◌, ◌∷◌, sym, ap, ◌∙◌, nat_cmp}
-use Rattle.tl_county.specs.ChartWords.{feats_of}
-use Rattle.tl_number.specs.Growth.{first_seen_after}
-use Rattle.tl_number.specs.NameItems.{feats_along_arrangement}
-use Rattle.tl_county.specs.DirectedChains.{directed_chain}
+use Rattle.tl_number.proofs.Common.{directed_chain, feats_along_arrangement, feats_of, first_seen_after}
 use Rattle.tl_number.proofs.Numbering.SeenLists.{seen_append}
 use Rattle.tl_number.proofs.name_order.number_uses.Goals as goal
 

@@ -1,15 +1,10 @@
 use Rattle.std.proofs.Common.{◌≡◌, List, map, length, is_lt, rules, ap, ◌∙◌, subst, sym}
 use Rattle.std.proofs.Common.{IsPermutation}
+use Rattle.tl_number.proofs.Common.{AreReadAt, IfOk-weaker, IsInOrder, arrangement_of, names_in_order, range_with_len}
 use Rattle.std.proofs.lemmas.Fn.{always_returns_same}
 use Rattle.std.proofs.lemmas.List.Sorted.{ranks_by}
-use Rattle.std.proofs.lemmas.Result.{IfOk-weaker}
-use Rattle.std.specs.List.{range_with_len}
-use Rattle.ordered_lists.specs.Orders.{IsInOrder}
 use Rattle.ordered_lists.proofs.ByKey.KeyedLists.{in_order-from_sorted}
-use Rattle.tl_number.specs.Arrangement.{names_in_order}
 use Rattle.tl_number.specs.NameItems.{ranked_at, ranked_cmp, ranked_place}
-use Rattle.tl_number.specs.DirectedChains.{arrangement_of}
-use Rattle.tl_number.specs.ViewFacts.{AreReadAt}
 use Rattle.tl_number.specs.declared.name_order.RankedName.{RankedName}
 use Rattle.tl_number.proofs.Names.NameOrder.{names_stated, ranked_total}
 use Rattle.tl_number.proofs.name_order.places_in_order.Goals as goal

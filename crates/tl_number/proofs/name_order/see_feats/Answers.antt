@@ -1,6 +1,5 @@
 use Rattle.std.proofs.Common.{Some, nat_cmp, slice_get, ap, ◌∙◌}
-use Rattle.tl_county.specs.ChartWords.{feats_of}
-use Rattle.tl_county.specs.DirectedChains.{directed_chain}
+use Rattle.tl_number.proofs.Common.{directed_chain, feats_of}
 use Rattle.tl_number.proofs.Numbering.SeenLists.{seen_next}
 use Rattle.tl_number.proofs.name_order.see_feats.Goals as goal
 

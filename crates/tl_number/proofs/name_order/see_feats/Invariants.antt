@@ -1,7 +1,5 @@
 use Rattle.std.proofs.Common.{◌≡◌, drop, nat_cmp}
-use Rattle.tl_county.specs.ChartWords.{feats_of}
-use Rattle.tl_number.specs.Growth.{first_seen_after}
-use Rattle.tl_county.specs.DirectedChains.{directed_chain}
+use Rattle.tl_number.proofs.Common.{directed_chain, feats_of, first_seen_after}
 use Rattle.tl_number.proofs.name_order.see_feats.Given as goal
 
 abbrev pub invariant-loop-name : goal.invariant-loop-name

@@ -1,12 +1,9 @@
 use Rattle.std.proofs.Common.{◌≡◌, ◌∙◌, true, sym, subst, arith, rules, ap, ap₂}
-use Rattle.tl_profile.specs.Choices.{choices}
-use Rattle.tl_number.specs.CriticalPlaces.{AreCritical, but_nodes_list, critical_numbers}
-use Rattle.tl_number.specs.DirectedChains.{parts_along}
-use Rattle.tl_number.specs.LeastNumber.{choice_list}
-use Rattle.tl_number.specs.ChoiceSearch.{numbered_arrangement}
+use Rattle.tl_number.proofs.Common.{but_nodes_list, choice_list, choices, critical_numbers, numbered_arrangement, parts_along}
+use Rattle.tl_number.proofs.Lemmas.{agree_of_numbers}
+use Rattle.tl_number.specs.CriticalPlaces.{AreCritical}
 use Rattle.tl_number.proofs.CanonicalLists.TidyLists.{not_after_itself}
 use Rattle.tl_number.proofs.Choices.LeastNumbers.{not_after_both, tie_least, ties_least}
-use Rattle.tl_number.proofs.Choices.LeastOnes.{agree_of_numbers}
 use Rattle.tl_number.proofs.Ties.CriticalOrder.{there_by_shape, there_numbered, tie_along, tie_of_both, tie_with_itself}
 use Rattle.tl_number.proofs.node_ties.least_of_node_ties.Goals as goal
 

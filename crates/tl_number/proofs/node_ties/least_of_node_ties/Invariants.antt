@@ -1,11 +1,7 @@
 -- The least choice so far, given by the numbers of its critical ends, is the least below the number where the search goes on.
 use Rattle.std.proofs.Common.{◌≡◌, ◌-◌}
-use Rattle.tl_profile.specs.Choices.{choices}
-use Rattle.tl_number.specs.Canonical.{IsNotAfter}
-use Rattle.tl_number.specs.CriticalPlaces.{critical_numbers}
-use Rattle.tl_number.specs.LeastNumber.{IsLeastBelow, choice_list}
-use Rattle.tl_number.specs.ChoiceSearch.{IsMoved, numbered_arrangement}
-use Rattle.tl_number.specs.NodeTies.{AreNodeTies}
+use Rattle.tl_number.proofs.Common.{AreNodeTies, IsLeastBelow, IsMoved, IsNotAfter, choice_list, choices, critical_numbers}
+use Rattle.tl_number.proofs.Common.{numbered_arrangement}
 use Rattle.tl_number.proofs.node_ties.least_of_node_ties.Given as goal
 
 abbrev pub invariant-loop-next : goal.invariant-loop-next

@@ -1,10 +1,5 @@
 use Rattle.std.proofs.Common.{◌≡◌, ◌∙◌, List, is_gt, length, ap, ap₂, sym, subst}
-use Rattle.std.specs.Cmp.Lexicographic.{slice_cmp}
-use Rattle.tl_number.specs.Canonical.{IsNotAfter}
-use Rattle.tl_number.specs.CriticalPlaces.{critical_numbers, ends_cmp}
-use Rattle.tl_number.specs.LeastNumber.{choice_list}
-use Rattle.tl_number.specs.ChoiceSearch.{numbered_arrangement}
-use Rattle.tl_number.specs.NodeTies.{AreNodeTies}
+use Rattle.tl_number.proofs.Common.{AreNodeTies, IsNotAfter, choice_list, critical_numbers, ends_cmp, numbered_arrangement, slice_cmp}
 use Rattle.tl_number.proofs.Choices.LeastNumbers.{of_either, stated_of_either}
 use Rattle.tl_number.proofs.Ties.CriticalOrder.{as_many_numbers, lesser_tie, there_numbered, tie_with_itself}
 use Rattle.tl_number.proofs.node_ties.next_by_nodes.Goals as goal

@@ -1,6 +1,6 @@
 use Rattle.std.proofs.Common.{◌≡◌, ◌+◌, ℕ, IfOk, rules, subst, tests}
-use Rattle.std.proofs.lemmas.Iterator.{YieldsList-from_map, YieldsList-from_slice, items_from_collect}
-use Rattle.std.proofs.lemmas.Iterator.Consumers.{YieldsList-at, YieldsList-from_enumerate}
+use Rattle.tl_number.proofs.Common.{YieldsList-at, YieldsList-from_map, YieldsList-from_slice, items_from_collect}
+use Rattle.std.proofs.lemmas.Iterator.Consumers.{YieldsList-from_enumerate}
 use Rattle.tl_number.proofs.Views.RenamingPairs.{enumerated}
 use Rattle.tl_number.proofs.number_pairs.name_pairs.Goals as goal
 

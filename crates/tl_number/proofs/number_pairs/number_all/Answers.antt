@@ -1,6 +1,7 @@
 use Rattle.std.proofs.Common.{◌≡◌, ◌+◌, IfOk, arith, length, subst}
-use Rattle.std.proofs.lemmas.Iterator.{YieldsList-from_range, YieldsList-from_slice, YieldsList-from_zip, items_from_collect}
-use Rattle.std.proofs.lemmas.Iterator.Consumers.{YieldsList-at, YieldsList-from_copied}
+use Rattle.tl_number.proofs.Common.{YieldsList-at, YieldsList-from_range, YieldsList-from_slice, items_from_collect}
+use Rattle.std.proofs.lemmas.Iterator.{YieldsList-from_zip}
+use Rattle.std.proofs.lemmas.Iterator.Consumers.{YieldsList-from_copied}
 use Rattle.tl_number.proofs.Views.RenamingPairs.{zip_numbered}
 use Rattle.tl_number.proofs.number_pairs.number_all.Goals as goal
 

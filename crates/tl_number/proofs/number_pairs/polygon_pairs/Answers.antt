@@ -1,8 +1,8 @@
 use Rattle.std.proofs.Common.{◌≡◌, ◌+◌, IfOk, ap, arith, length, map, rules, subst, tests}
-use Rattle.std.proofs.lemmas.Iterator.{YieldsList-from_map, YieldsList-from_range, YieldsList-from_slice, YieldsList-from_zip}
-use Rattle.std.proofs.lemmas.Iterator.{items_from_collect}
-use Rattle.std.proofs.lemmas.Iterator.Consumers.{YieldsList-at, YieldsList-from_copied}
-use Rattle.tl_number.specs.Arrangement.{under_cenid}
+use Rattle.tl_number.proofs.Common.{YieldsList-at, YieldsList-from_map, YieldsList-from_range, YieldsList-from_slice, items_from_collect}
+use Rattle.tl_number.proofs.Common.{under_cenid}
+use Rattle.std.proofs.lemmas.Iterator.{YieldsList-from_zip}
+use Rattle.std.proofs.lemmas.Iterator.Consumers.{YieldsList-from_copied}
 use Rattle.tl_number.proofs.Views.RenamingPairs.{zip_numbered}
 use Rattle.tl_number.proofs.number_pairs.polygon_pairs.Goals as goal
 

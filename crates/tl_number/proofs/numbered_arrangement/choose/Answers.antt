@@ -1,7 +1,6 @@
 use Rattle.std.proofs.Common.{◌∷◌, [], length, sym, ap, ◌∙◌, subst}
-use Rattle.ordered_lists.proofs.Lists.Elements.{all_left}
-use Rattle.tl_number.specs.MovedChains.{AreWithin, IsWithin, other_way}
-use Rattle.tl_number.specs.NumberedChoices.{moved}
+use Rattle.tl_number.proofs.Common.{AreWithin, all_left, moved, other_way}
+use Rattle.tl_number.specs.MovedChains.{IsWithin}
 use Rattle.tl_number.proofs.Choices.MovedChoice.{moved-last}
 use Rattle.tl_number.proofs.numbered_arrangement.choose.Goals as goal
 

@@ -1,11 +1,8 @@
 use Rattle.std.proofs.Common.{◌≡◌, ◌∙◌, length, map, option_map, slice_get, true, false, rules, refl, sym, ap, subst}
-use Rattle.std.proofs.lemmas.Option.{slice_get-map}
-use Rattle.std.specs.List.{AllByRecursion}
-use Rattle.tl_number.specs.MovedChains.{AreWithin, HaveSamePartAt, IsApart, StandInOrder}
-use Rattle.tl_county.specs.DirectedChains.{directed_chain}
-use Rattle.tl_county.specs.declared.directed_chain.DirectedChain.{DirectedChain}
-use Rattle.ordered_lists.proofs.Lists.ByPlace.{decides_no}
-use Rattle.tl_number.proofs.Choices.FixedPlaces.{before_apart, nothing_left, past_first, same_everywhere}
+use Rattle.tl_number.proofs.Common.{AllByRecursion, AreWithin, DirectedChain, StandInOrder, decides_no, directed_chain, slice_get-map}
+use Rattle.tl_number.proofs.Lemmas.{nothing_left}
+use Rattle.tl_number.specs.MovedChains.{HaveSamePartAt, IsApart}
+use Rattle.tl_number.proofs.Choices.FixedPlaces.{before_apart, past_first, same_everywhere}
 use Rattle.tl_number.proofs.same_chains.have_same_open_parts.Goals as goal
 
 pub loop-at-init : goal.loop-at-init

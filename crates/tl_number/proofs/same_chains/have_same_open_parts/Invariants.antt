@@ -1,7 +1,7 @@
 -- The lists of the chains apart from the remaining open places are the same.
 use Rattle.std.proofs.Common.{ℕ, length}
-use Rattle.std.specs.List.{AllByRecursion}
-use Rattle.tl_number.specs.MovedChains.{AreWithin, HaveSamePartAt, IsApart, StandInOrder}
+use Rattle.tl_number.proofs.Common.{AllByRecursion, AreWithin, StandInOrder}
+use Rattle.tl_number.specs.MovedChains.{HaveSamePartAt, IsApart}
 use Rattle.tl_number.proofs.same_chains.have_same_open_parts.Given as goal
 
 abbrev pub invariant-loop-at : goal.invariant-loop-at

@@ -1,6 +1,5 @@
 use Rattle.std.proofs.Common.{◌≡◌, true, rules}
-use Rattle.tl_county.specs.DirectedChains.{directed_chain}
-use Rattle.ordered_lists.proofs.Lists.ByPlace.{decides_same}
+use Rattle.tl_number.proofs.Common.{decides_same, directed_chain}
 use Rattle.tl_cert.proofs.Towards.{agree, agree_lists}
 use Rattle.tl_number.proofs.same_chains.is_same_chain.Goals as goal
 

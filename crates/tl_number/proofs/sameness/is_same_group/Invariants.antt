@@ -1,5 +1,5 @@
 use Rattle.std.proofs.Common.{◌≡◌, take}
-use Rattle.tl_number.specs.Groups.{group_at}
+use Rattle.tl_number.proofs.Common.{group_at}
 use Rattle.tl_number.proofs.sameness.is_same_group.Given as goal
 
 -- the records up to the place are the same

@@ -1,10 +1,6 @@
 use Rattle.std.proofs.Common.{◌≡◌, ◌∙◌, nat_cmp, sym, ap, ap₂}
-use Rattle.std.specs.Cmp.Lexicographic.{slice_cmp}
-use Rattle.tl_layout.specs.RecordText.{text_of}
-use Rattle.tl_county.specs.Packing.{packed}
-use Rattle.std.specs.Ordering.{ordering_then}
+use Rattle.tl_number.proofs.Common.{arranged_by, ordering_then, packed, slice_cmp, text_of}
 use Rattle.tl_number.specs.RecordOrder.{types_5_to_7_cmp, types_8_to_p_cmp}
-use Rattle.tl_number.specs.ViewFacts.{arranged_by}
 use Rattle.tl_number.proofs.Texts.GroupOrders.{decided}
 use Rattle.tl_number.proofs.Texts.SameLists.{type_4_through}
 use Rattle.tl_number.proofs.Texts.TypeOrders.{tied_texts_in_order}

@@ -1,7 +1,5 @@
 use Rattle.std.proofs.Common.{ap, ◌∙◌}
-use Rattle.std.specs.Option.{option_cmp}
-use Rattle.tl_number.specs.RecordOrder.{spelling_cmp}
-use Rattle.tl_number.specs.TypeOneOrder.{one_at}
+use Rattle.tl_number.proofs.Common.{one_at, option_cmp, spelling_cmp}
 use Rattle.tl_number.proofs.Texts.TypeOnes.{same_one}
 use Rattle.tl_number.proofs.type_1_order.compare_at.Goals as goal
 

@@ -1,7 +1,5 @@
 -- the records before a place are tied
-use Rattle.tl_number.specs.RecordOrder.{AreTiedBelow}
-use Rattle.tl_number.specs.TypeOneOrder.{ones_of}
-use Rattle.tl_number.specs.ViewFacts.{arranged_by}
+use Rattle.tl_number.proofs.Common.{AreTiedBelow, arranged_by, ones_of}
 use Rattle.tl_number.proofs.type_1_order.compare_at_open.Given as goal
 
 abbrev pub invariant-loop-place : goal.invariant-loop-place

@@ -1,10 +1,8 @@
 use Rattle.std.proofs.Common.{length, sym, subst}
-use Rattle.std.specs.List.{AllByRecursion}
-use Rattle.tl_number.specs.MovedChains.{AreWithin, IsApart, StandInOrder}
-use Rattle.tl_number.specs.RecordOrder.{AreTiedAt}
-use Rattle.tl_number.specs.TypeOneOrder.{ones_of}
-use Rattle.tl_number.specs.ViewFacts.{arranged_by}
-use Rattle.tl_number.proofs.Choices.FixedPlaces.{before_apart, nothing_left, past_first}
+use Rattle.tl_number.proofs.Common.{AllByRecursion, AreTiedAt, AreWithin, StandInOrder, arranged_by, ones_of}
+use Rattle.tl_number.proofs.Lemmas.{nothing_left}
+use Rattle.tl_number.specs.MovedChains.{IsApart}
+use Rattle.tl_number.proofs.Choices.FixedPlaces.{before_apart, past_first}
 use Rattle.tl_number.proofs.Texts.TiedOnes.{all_tied, same_tied}
 use Rattle.tl_number.proofs.type_1_order.compare_ones.Goals as goal
 

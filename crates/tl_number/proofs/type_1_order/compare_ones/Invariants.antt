@@ -1,10 +1,7 @@
 -- The records apart from the remaining open places are tied.
 use Rattle.std.proofs.Common.{ℕ, length}
-use Rattle.std.specs.List.{AllByRecursion}
-use Rattle.tl_number.specs.MovedChains.{AreWithin, IsApart, StandInOrder}
-use Rattle.tl_number.specs.RecordOrder.{AreTiedAt}
-use Rattle.tl_number.specs.TypeOneOrder.{ones_of}
-use Rattle.tl_number.specs.ViewFacts.{arranged_by}
+use Rattle.tl_number.proofs.Common.{AllByRecursion, AreTiedAt, AreWithin, StandInOrder, arranged_by, ones_of}
+use Rattle.tl_number.specs.MovedChains.{IsApart}
 use Rattle.tl_number.proofs.type_1_order.compare_ones.Given as goal
 
 abbrev pub invariant-loop-at : goal.invariant-loop-at

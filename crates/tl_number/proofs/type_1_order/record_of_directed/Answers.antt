@@ -1,9 +1,7 @@
 use Rattle.std.proofs.Common.{◌≡◌, ◌+◌, ◌-◌, Some, is_some, length, option_map, slice_get, sym, ap, ◌∙◌, arith}
-use Rattle.tl_county.specs.ChartWords.{points_of}
-use Rattle.tl_county.specs.Packing.{first_point, last_point, packed_one}
-use Rattle.tl_county.proofs.Limits.FewChains.{few_chains}
+use Rattle.tl_number.proofs.Common.{few_chains, first_point, last_point, packed_one, points_of}
+use Rattle.tl_number.proofs.Lemmas.{some-same}
 use Rattle.tl_number.proofs.Records.ChainPlaces.{first_at, last_at}
-use Rattle.tl_number.proofs.Records.Grouped.{some-same}
 use Rattle.tl_number.proofs.Texts.TypeOnes.{directed_there}
 use Rattle.tl_number.proofs.type_1_order.record_of_directed.Goals as goal
 

@@ -1,7 +1,5 @@
 use Rattle.std.proofs.Common.{◌∙◌, slice_get, ap, ap₂}
-use Rattle.std.specs.Option.{option_cmp}
-use Rattle.tl_number.specs.RecordOrder.{links_of, spelling_cmp}
-use Rattle.tl_number.specs.ViewFacts.{arranged_by}
+use Rattle.tl_number.proofs.Common.{arranged_by, links_of, option_cmp, spelling_cmp}
 use Rattle.tl_number.proofs.Texts.TypeOnes.{same_one}
 use Rattle.tl_number.proofs.type_i_and_p_order.compare_link.Goals as goal
 

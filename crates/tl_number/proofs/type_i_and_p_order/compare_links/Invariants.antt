@@ -1,6 +1,5 @@
 -- the records before a place are tied
-use Rattle.tl_number.specs.RecordOrder.{AreTiedBelow, links_of}
-use Rattle.tl_number.specs.ViewFacts.{arranged_by}
+use Rattle.tl_number.proofs.Common.{AreTiedBelow, arranged_by, links_of}
 use Rattle.tl_number.proofs.type_i_and_p_order.compare_links.Given as goal
 
 abbrev pub invariant-loop-place : goal.invariant-loop-place

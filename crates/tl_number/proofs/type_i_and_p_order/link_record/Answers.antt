@@ -1,10 +1,7 @@
 use Rattle.std.proofs.Common.{◌<◌, ◌∙◌, ◌∷◌, [], length, option_map, slice_get, sym, ap, subst, arith}
-use Rattle.std.proofs.lemmas.List.{length-map}
-use Rattle.tl_layout.specs.declared.record_type.Record.TheVariants.{I}
-use Rattle.tl_county.specs.Packing.{packed_i}
-use Rattle.tl_number.specs.ViewFacts.{arranged_by}
+use Rattle.tl_number.proofs.Common.{I, arranged_by, length-map, packed_i}
+use Rattle.tl_number.proofs.Lemmas.{group_of}
 use Rattle.tl_number.proofs.Records.ChainPlaces.{some_at}
-use Rattle.tl_number.proofs.Records.Grouped.{group_of}
 use Rattle.tl_number.proofs.Texts.LinkOrder.{link_there}
 use Rattle.tl_number.proofs.type_i_and_p_order.link_record.Goals as goal
 

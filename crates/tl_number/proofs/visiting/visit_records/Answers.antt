@@ -1,8 +1,7 @@
 use Rattle.std.proofs.Common.{◌++◌, subst}
-use Rattle.std.proofs.lemmas.Result.{err_from_is_err_and}
-use Rattle.tl_number.specs.ViewFacts.{arranged_by}
-use Rattle.tl_number.specs.CountyGroups.{types_1_to_4, types_5_to_7, types_8_to_p}
-use Rattle.tl_number.proofs.Records.OneAfterAnother.{second_stops, third_ends}
+use Rattle.tl_number.proofs.Common.{arranged_by, err_from_is_err_and, types_1_to_4, types_5_to_7, types_8_to_p}
+use Rattle.tl_number.proofs.Lemmas.{second_stops}
+use Rattle.tl_number.proofs.Records.OneAfterAnother.{third_ends}
 use Rattle.tl_number.proofs.Records.PackedGroups.{all_groups}
 use Rattle.tl_number.proofs.visiting.visit_records.Goals as goal
 

@@ -1,7 +1,7 @@
 use Rattle.std.proofs.Common.{◌++◌, map}
-use Rattle.std.proofs.lemmas.Result.{err_from_is_err_and}
-use Rattle.tl_number.specs.Groups.{grouped}
-use Rattle.tl_number.proofs.Records.OneAfterAnother.{second_stops, third_ends}
+use Rattle.tl_number.proofs.Common.{err_from_is_err_and, grouped}
+use Rattle.tl_number.proofs.Lemmas.{second_stops}
+use Rattle.tl_number.proofs.Records.OneAfterAnother.{third_ends}
 use Rattle.tl_number.proofs.visiting.visit_three.Goals as goal
 
 pub returns-in_err-visit_groups-clause-given : goal.returns-in_err-visit_groups-clause-given

@@ -1,5 +1,5 @@
 use Rattle.std.proofs.Common.{arith, false}
-use Rattle.tl_county.proofs.Limits.FewChains.{few_chains}
+use Rattle.tl_number.proofs.Common.{few_chains}
 use Rattle.tl_number.proofs.Views.ViewChains.{numbered_past, numbered_there}
 use Rattle.tl_number.proofs.arranged.Arranged.directed_or_past.Goals as goal
 

@@ -1,8 +1,6 @@
 use Rattle.std.proofs.Common.{◌∙◌, ap, map, subst, sym}
-use Rattle.tl_number.specs.Arrangement.{landmarks_in_order, renaming_of, under_cenid}
-use Rattle.tl_number.specs.DirectedChains.{arrangement_of}
-use Rattle.tl_number.specs.Growth.{numbered}
-use Rattle.tl_number.specs.ViewFacts.{AreReadAt}
+use Rattle.tl_number.proofs.Common.{AreReadAt, arrangement_of, landmarks_in_order, numbered, under_cenid}
+use Rattle.tl_number.specs.Arrangement.{renaming_of}
 use Rattle.tl_number.proofs.arranged.Arranged.place_pairs.Goals as goal
 
 pub returns-clause-polygons : goal.returns-clause-polygons

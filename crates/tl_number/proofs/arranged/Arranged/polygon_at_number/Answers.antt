@@ -1,8 +1,5 @@
 use Rattle.std.proofs.Common.{◌+◌, ◌∙◌, Some, option_map, slice_get, sym, ap}
-use Rattle.std.proofs.lemmas.Option.{slice_get-map}
-use Rattle.tl_county.specs.PolygonKeys.{PolygonKey}
-use Rattle.tl_number.specs.ByNumber.{under_number}
-use Rattle.tl_number.specs.Growth.{numbered}
+use Rattle.tl_number.proofs.Common.{PolygonKey, numbered, slice_get-map, under_number}
 use Rattle.tl_number.proofs.Polygons.PolygonNumbers.{key_numbered}
 use Rattle.tl_number.proofs.arranged.Arranged.polygon_at_number.Goals as goal
 

@@ -1,10 +1,6 @@
 use Rattle.std.proofs.Common.{◌+◌, ◌∙◌, slice_get, option_map, sym, ap}
-use Rattle.std.proofs.lemmas.Option.{slice_get-map}
+use Rattle.tl_number.proofs.Common.{PolygonKey, arranged_by, numbered, slice_get-map, under_number}
 use Rattle.std.specs.Option.{option_flatten}
-use Rattle.tl_county.specs.PolygonKeys.{PolygonKey}
-use Rattle.tl_number.specs.ByNumber.{under_number}
-use Rattle.tl_number.specs.Growth.{numbered}
-use Rattle.tl_number.specs.ViewFacts.{arranged_by}
 use Rattle.tl_number.proofs.Polygons.PolygonNumbers.{content_at_number, key_numbered}
 use Rattle.tl_number.proofs.arranged.Arranged.polygon_body_at_number.Goals as goal
 

@@ -1,8 +1,6 @@
 use Rattle.std.proofs.Common.{◌<◌, ◌∙◌, sym, subst, nat_cmp}
-use Rattle.std.specs.Ordering.{on}
+use Rattle.tl_number.proofs.Common.{arranged_by, entry_polyid, on, polygons_by_number}
 use Rattle.ordered_lists.proofs.ByKey.Numbers.{length-in_order}
-use Rattle.tl_number.specs.ByNumber.{entry_polyid, polygons_by_number}
-use Rattle.tl_number.specs.ViewFacts.{arranged_by}
 use Rattle.tl_profile.proofs.Places.{stands_at, is_some_from}
 use Rattle.tl_number.proofs.arranged.Arranged.polygon_by_number.Goals as goal
 

@@ -1,10 +1,7 @@
 use Rattle.std.proofs.Common.{◌∙◌, ap, subst, sym}
-use Rattle.tl_county.specs.Renumbering.{Carries}
+use Rattle.tl_number.proofs.Common.{Carries, arranged_by, arrangement_of, numbered}
+use Rattle.tl_number.proofs.Lemmas.{arrangement_carries}
 use Rattle.tl_number.specs.Arrangement.{renaming_of}
-use Rattle.tl_number.specs.Growth.{numbered}
-use Rattle.tl_number.specs.DirectedChains.{arrangement_of}
-use Rattle.tl_number.specs.ViewFacts.{arranged_by}
-use Rattle.tl_number.proofs.Arrangements.Carrying.{arrangement_carries}
 use Rattle.tl_number.proofs.Views.ViewChains.{arranges}
 use Rattle.tl_number.proofs.arranged.Arranged.renaming.Goals as goal
 

@@ -1,8 +1,5 @@
 use Rattle.std.proofs.Common.{ap, ◌∙◌, slice_get}
-use Rattle.std.proofs.lemmas.Option.{slice_get-map}
-use Rattle.ordered_lists.specs.Entries.{entry_values}
-use Rattle.tl_number.specs.EndsAndSides.{sides_of}
-use Rattle.tl_number.specs.ViewFacts.{arranged_by}
+use Rattle.tl_number.proofs.Common.{arranged_by, entry_values, sides_of, slice_get-map}
 use Rattle.tl_number.proofs.arranged.Arranged.sides_at.Goals as goal
 
 pub returns : goal.returns

@@ -1,7 +1,6 @@
 use Rattle.std.proofs.Common.{◌∙◌, ap}
-use Rattle.tl_number.specs.Arrangement.{arranged_tlids, renaming_of, turned_tlids}
-use Rattle.tl_number.specs.Growth.{numbered}
-use Rattle.tl_number.specs.DirectedChains.{arrangement_of}
+use Rattle.tl_number.proofs.Common.{arranged_tlids, arrangement_of, numbered, turned_tlids}
+use Rattle.tl_number.specs.Arrangement.{renaming_of}
 use Rattle.tl_number.proofs.arranged.Arranged.tlid_pairs.Goals as goal
 
 pub returns-clause-chains : goal.returns-clause-chains

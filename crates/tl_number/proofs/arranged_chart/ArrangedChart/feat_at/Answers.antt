@@ -1,7 +1,5 @@
 use Rattle.std.proofs.Common.{◌≡◌, ◌≤◌, slice_get, sym, ap, ◌∙◌, arith}
-use Rattle.tl_county.specs.CountyRules.{feats}
-use Rattle.tl_number.specs.Growth.{up_to}
-use Rattle.tl_number.specs.ViewFacts.{arranged_by}
+use Rattle.tl_number.proofs.Common.{arranged_by, feats, up_to}
 use Rattle.tl_number.proofs.Views.ViewNumbers.{within_up_to}
 use Rattle.tl_number.proofs.Views.ViewTables.{feats_arranged_by}
 use Rattle.tl_number.proofs.arranged_chart.ArrangedChart.feat_at.Given.{Over}

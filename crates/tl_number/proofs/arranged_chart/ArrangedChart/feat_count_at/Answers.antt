@@ -1,7 +1,6 @@
 use Rattle.std.proofs.Common.{sym, ap, ◌∙◌, length}
-use Rattle.std.proofs.lemmas.List.{length-map}
-use Rattle.tl_county.specs.ChartWords.{feats_of}
-use Rattle.tl_number.proofs.Views.ViewChains.{unnumbered_part}
+use Rattle.tl_number.proofs.Common.{feats_of, length-map}
+use Rattle.tl_number.proofs.Lemmas.{unnumbered_part}
 use Rattle.tl_number.proofs.arranged_chart.ArrangedChart.feat_count_at.Goals as goal
 
 pub returns : goal.returns

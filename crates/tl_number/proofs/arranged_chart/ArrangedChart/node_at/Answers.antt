@@ -1,6 +1,6 @@
 use Rattle.std.proofs.Common.{slice_get, sym, ap, ◌∙◌}
-use Rattle.tl_number.specs.Growth.{up_to}
-use Rattle.tl_number.proofs.Views.ViewTables.{nodes_arranged_by}
+use Rattle.tl_number.proofs.Common.{up_to}
+use Rattle.tl_number.proofs.Lemmas.{nodes_arranged_by}
 use Rattle.tl_number.proofs.arranged_chart.ArrangedChart.node_at.Goals as goal
 
 pub returns : goal.returns

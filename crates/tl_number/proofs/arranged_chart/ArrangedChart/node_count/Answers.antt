@@ -1,6 +1,6 @@
 use Rattle.std.proofs.Common.{sym, ap, ◌∙◌, length}
-use Rattle.std.proofs.lemmas.List.FromFn.{length-range_with_len}
-use Rattle.tl_number.proofs.Views.ViewTables.{nodes_arranged_by}
+use Rattle.tl_number.proofs.Common.{length-range_with_len}
+use Rattle.tl_number.proofs.Lemmas.{nodes_arranged_by}
 use Rattle.tl_number.proofs.arranged_chart.ArrangedChart.node_count.Goals as goal
 
 pub returns : goal.returns

@@ -1,6 +1,6 @@
 use Rattle.std.proofs.Common.{refl, ap, ◌∙◌, length}
-use Rattle.tl_county.specs.ChartWords.{points_of}
-use Rattle.tl_number.proofs.Views.ViewChains.{unnumbered_part}
+use Rattle.tl_number.proofs.Common.{points_of}
+use Rattle.tl_number.proofs.Lemmas.{unnumbered_part}
 use Rattle.tl_number.proofs.arranged_chart.ArrangedChart.point_count_at.Goals as goal
 
 pub returns : goal.returns

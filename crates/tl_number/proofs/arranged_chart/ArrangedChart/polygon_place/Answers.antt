@@ -1,6 +1,5 @@
 use Rattle.std.proofs.Common.{sym, ◌∙◌, subst}
-use Rattle.ordered_lists.specs.Orders.{IsInOrder}
-use Rattle.tl_county.specs.PolygonKeys.{key_cmp}
+use Rattle.tl_number.proofs.Common.{IsInOrder, key_cmp}
 use Rattle.tl_number.proofs.Views.ViewTables.{order_from_strict}
 use Rattle.tl_number.proofs.arranged_chart.ArrangedChart.polygon_place.Goals as goal
 

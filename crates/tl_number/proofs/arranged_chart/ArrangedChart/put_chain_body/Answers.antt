@@ -1,11 +1,10 @@
 use Rattle.std.proofs.Common.{◌≡◌, ◌<◌, ◌∙◌, List, ℕ, Option, Some, length, option_map, take, refl, sym, ap, is_some, false}
-use Rattle.tl_layout.specs.Columns.{joined}
+use Rattle.tl_number.proofs.Common.{Chain, arranged_by, joined}
+use Rattle.tl_number.proofs.Lemmas.{chain_there}
 use Rattle.tl_layout.specs.Turned.{body_towards}
 use Rattle.tl_layout.specs.Type1Groups.{body_1_texts}
-use Rattle.tl_number.proofs.Records.ChainPlaces.{all_at, chain_there}
+use Rattle.tl_number.proofs.Records.ChainPlaces.{all_at}
 use Rattle.tl_number.proofs.Views.ViewChains.{stated, unstated}
-use Rattle.tl_number.specs.ViewFacts.{arranged_by}
-use Rattle.tl_shape.specs.Chain.{Chain}
 use Rattle.tl_number.proofs.arranged_chart.ArrangedChart.put_chain_body.Goals as goal
 
 pub put_body-requires-clause-place : goal.put_body-requires-clause-place

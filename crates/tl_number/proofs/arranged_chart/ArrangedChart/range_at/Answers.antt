@@ -1,6 +1,6 @@
 use Rattle.std.proofs.Common.{refl, ap, ◌∙◌, slice_get}
-use Rattle.tl_county.specs.ChartWords.{ranges_of}
-use Rattle.tl_number.proofs.Views.ViewChains.{unnumbered_part}
+use Rattle.tl_number.proofs.Common.{ranges_of}
+use Rattle.tl_number.proofs.Lemmas.{unnumbered_part}
 use Rattle.tl_number.proofs.arranged_chart.ArrangedChart.range_at.Goals as goal
 
 pub returns : goal.returns

@@ -1,6 +1,6 @@
 use Rattle.std.proofs.Common.{refl, ◌∙◌, option_map}
-use Rattle.tl_shape.specs.Chain.{Chain}
-use Rattle.tl_number.proofs.Views.ViewChains.{unnumbered_part}
+use Rattle.tl_number.proofs.Common.{Chain}
+use Rattle.tl_number.proofs.Lemmas.{unnumbered_part}
 use Rattle.tl_number.proofs.arranged_chart.ArrangedChart.topology_at.Goals as goal
 
 pub returns : goal.returns

@@ -1,4 +1,4 @@
-use Rattle.tl_county.specs.Packing.{packed_one}
+use Rattle.tl_number.proofs.Common.{packed_one}
 use Rattle.tl_number.proofs.Records.RecordPlaces.{lone_counted}
 use Rattle.tl_number.proofs.chain_records.ChainRecordsRecordGroups.count_in.Goals as goal
 

@@ -1,13 +1,11 @@
 -- The number, the content and the points are written one after another, as the record is spelled.
 use Rattle.std.proofs.Common.{◌<◌, ◌∙◌, ◌∷◌, ◌++◌, [], Some, option_map, codes, take, sym, ap, subst}
-use Rattle.std.proofs.lemmas.List.{length-map}
-use Rattle.tl_county.specs.Packing.{packed_one, first_point, last_point}
-use Rattle.tl_layout.specs.Columns.{joined}
+use Rattle.tl_number.proofs.Common.{first_point, joined, last_point, length-map, packed_one}
+use Rattle.tl_number.proofs.Lemmas.{chain_of_group, lone_of, part_of, tlid_of}
 use Rattle.tl_layout.specs.FieldTexts.{number_text}
 use Rattle.tl_layout.specs.RecordTables.{rtype_1}
 use Rattle.tl_layout.specs.Type1.{type_1_spelling}
 use Rattle.tl_layout.specs.Type1Groups.{body_1_texts, point_texts}
-use Rattle.tl_number.proofs.Records.RecordPlaces.{chain_of_group, tlid_of, part_of, lone_of}
 use Rattle.tl_number.proofs.chain_records.ChainRecordsRecordGroups.put.Goals as goal
 
 pub put_chain_body-requires-clause-place : goal.put_chain_body-requires-clause-place

@@ -1,6 +1,6 @@
 use Rattle.std.proofs.Common.{◌∙◌, ◌∷◌, [], Some, sym, ap}
-use Rattle.tl_county.specs.Packing.{packed_one, first_point, last_point}
-use Rattle.tl_number.proofs.Records.RecordPlaces.{chain_of_group, tlid_of, part_of, lone_of}
+use Rattle.tl_number.proofs.Common.{first_point, last_point, packed_one}
+use Rattle.tl_number.proofs.Lemmas.{chain_of_group, lone_of, part_of, tlid_of}
 use Rattle.tl_number.proofs.chain_records.ChainRecordsRecordGroups.record.Goals as goal
 
 pub returns : goal.returns

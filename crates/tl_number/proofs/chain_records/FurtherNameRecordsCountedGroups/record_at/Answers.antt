@@ -1,9 +1,8 @@
 use Rattle.std.proofs.Common.{◌*◌, ◌<◌, ◌∙◌, Some, drop, length, sym, ap, subst, arith}
-use Rattle.std.specs.List.{AllByRecursion}
-use Rattle.tl_layout.specs.Numbers.{IsNumber}
-use Rattle.tl_county.specs.ChartWords.{chain_at, feats_of}
+use Rattle.tl_number.proofs.Common.{AllByRecursion, IsNumber, chain_at, feats_of}
+use Rattle.tl_number.proofs.Lemmas.{tlid_of}
 use Rattle.ordered_lists.proofs.Lists.Counted.{all_take, all_drop}
-use Rattle.tl_number.proofs.Records.RecordPlaces.{PieceThere, four_of, piece_there, tlid_of}
+use Rattle.tl_number.proofs.Records.RecordPlaces.{PieceThere, four_of, piece_there}
 use Rattle.tl_number.proofs.chain_records.FurtherNameRecordsCountedGroups.record_at.Given.{Over}
 use Rattle.tl_number.proofs.chain_records.FurtherNameRecordsCountedGroups.record_at.Goals.{Start}
 use Rattle.tl_number.proofs.chain_records.FurtherNameRecordsCountedGroups.record_at.Goals as goal

@@ -1,6 +1,7 @@
 use Rattle.std.proofs.Common.{◌<◌, ◌∙◌, Some, length, sym, ap, arith}
-use Rattle.tl_county.specs.ChartWords.{ranges_of}
-use Rattle.tl_number.proofs.Records.RecordPlaces.{ItemThere, item_there, six_of, tlid_of}
+use Rattle.tl_number.proofs.Common.{ranges_of}
+use Rattle.tl_number.proofs.Lemmas.{tlid_of}
+use Rattle.tl_number.proofs.Records.RecordPlaces.{ItemThere, item_there, six_of}
 use Rattle.tl_number.proofs.chain_records.RangeRecordsCountedGroups.record_at.Given.{Over}
 use Rattle.tl_number.proofs.chain_records.RangeRecordsCountedGroups.record_at.Goals.{Start}
 use Rattle.tl_number.proofs.chain_records.RangeRecordsCountedGroups.record_at.Goals as goal

@@ -1,7 +1,7 @@
 use Rattle.std.proofs.Common.{◌<◌, ◌∙◌, Some, length, sym, ap, arith}
-use Rattle.tl_county.specs.ChartWords.{points_of}
-use Rattle.tl_county.specs.Packing.{inner_points}
-use Rattle.tl_number.proofs.Records.RecordPlaces.{PieceThere, piece_there, tlid_of, two_of}
+use Rattle.tl_number.proofs.Common.{inner_points, points_of}
+use Rattle.tl_number.proofs.Lemmas.{tlid_of}
+use Rattle.tl_number.proofs.Records.RecordPlaces.{PieceThere, piece_there, two_of}
 use Rattle.tl_number.proofs.chain_records.ShapePointRecordsCountedGroups.record_at.Given.{Over}
 use Rattle.tl_number.proofs.chain_records.ShapePointRecordsCountedGroups.record_at.Goals.{Start}
 use Rattle.tl_number.proofs.chain_records.ShapePointRecordsCountedGroups.record_at.Goals as goal

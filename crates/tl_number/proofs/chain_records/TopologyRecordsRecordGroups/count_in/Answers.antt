@@ -1,4 +1,4 @@
-use Rattle.tl_county.specs.Packing.{packed_i}
+use Rattle.tl_number.proofs.Common.{packed_i}
 use Rattle.tl_number.proofs.Records.RecordPlaces.{lone_counted}
 use Rattle.tl_number.proofs.chain_records.TopologyRecordsRecordGroups.count_in.Goals as goal
 

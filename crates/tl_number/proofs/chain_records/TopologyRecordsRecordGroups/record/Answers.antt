@@ -1,7 +1,7 @@
 use Rattle.std.proofs.Common.{◌∙◌, ◌∷◌, [], Some, sym, ap, subst}
-use Rattle.tl_layout.specs.Numbers.{IsNumberOrNone}
-use Rattle.tl_county.specs.Packing.{packed_i}
-use Rattle.tl_number.proofs.Records.RecordPlaces.{chain_of_group, part_of, lone_of, topology_of}
+use Rattle.tl_number.proofs.Common.{IsNumberOrNone, packed_i}
+use Rattle.tl_number.proofs.Lemmas.{chain_of_group, lone_of, part_of}
+use Rattle.tl_number.proofs.Records.RecordPlaces.{topology_of}
 use Rattle.tl_number.proofs.chain_records.TopologyRecordsRecordGroups.record.Goals as goal
 
 pub new-requires-clause-nodes : goal.new-requires-clause-nodes

@@ -1,13 +1,7 @@
 use Rattle.std.proofs.Common.{◌≡◌, ◌<◌, ◌∙◌, Some, length, slice_get, option_map, sym, ap, subst}
-use Rattle.std.proofs.lemmas.List.{length-map}
-use Rattle.std.proofs.lemmas.Option.{slice_get-map}
-use Rattle.tl_layout.specs.Fields.{Fields7}
-use Rattle.tl_layout.specs.Numbers.{IsNumber}
-use Rattle.tl_layout.specs.declared.type7.Body7.{Body7}
-use Rattle.tl_county.specs.CountyRules.{lands}
-use Rattle.tl_county.specs.Packing.{packed_sevens}
+use Rattle.tl_number.proofs.Common.{Body7, Fields7, IsNumber, lands, length-map, packed_sevens, slice_get-map}
+use Rattle.tl_number.proofs.Lemmas.{group_of, some-same}
 use Rattle.tl_number.proofs.Records.EntryPlaces.{landmark_of_group}
-use Rattle.tl_number.proofs.Records.Grouped.{group_of, some-same}
 use Rattle.tl_number.proofs.name_records.LandmarkRecordsCountedGroups.record_at.Goals as goal
 
 pub landmark_body_there-requires : goal.landmark_body_there-requires

@@ -1,8 +1,8 @@
 use Rattle.std.proofs.Common.{◌∙◌, ◌∷◌, [], Some, sym, ap, subst}
-use Rattle.tl_layout.specs.Numbers.{IsNumber}
-use Rattle.tl_county.specs.Packing.{packed_five}
+use Rattle.tl_number.proofs.Common.{IsNumber, packed_five}
+use Rattle.tl_number.proofs.Lemmas.{group_of, some-same}
 use Rattle.tl_number.proofs.Records.EntryPlaces.{NameThere, name_of_group}
-use Rattle.tl_number.proofs.Records.Grouped.{group_of, lone, some-same}
+use Rattle.tl_number.proofs.Records.Grouped.{lone}
 use Rattle.tl_number.proofs.name_records.NameRecordsCountedGroups.record_at.Given.{Over}
 use Rattle.tl_number.proofs.name_records.NameRecordsCountedGroups.record_at.Goals.{Start}
 use Rattle.tl_number.proofs.name_records.NameRecordsCountedGroups.record_at.Goals as goal

@@ -1,7 +1,7 @@
 use Rattle.std.proofs.Common.{◌∷◌, [], length, sym, ap}
-use Rattle.tl_county.specs.Packing.{packed_five}
+use Rattle.tl_number.proofs.Common.{packed_five}
+use Rattle.tl_number.proofs.Lemmas.{group_of}
 use Rattle.tl_number.proofs.Records.EntryPlaces.{name_of_group}
-use Rattle.tl_number.proofs.Records.Grouped.{group_of}
 use Rattle.tl_number.proofs.name_records.NameRecordsCountedGroups.record_count.Goals as goal
 
 pub returns : goal.returns

@@ -1,8 +1,7 @@
 use Rattle.std.proofs.Common.{◌≡◌, ◌<◌, ◌^◌, ◌+◌, ◌∷◌, [], ◌++◌, Some, ◌%◌, get_or, length, length-append, ap, sym, subst, ◌∙◌, arith}
+use Rattle.tl_number.proofs.Common.{IsKeyOrder, stands_in}
 use Rattle.indexmap.specs.IndexMap.{get as found_by_hash}
 use Rattle.std.specs.BTreeMap.{get as found_in_order}
-use Rattle.ordered_lists.specs.Orders.{stands_in}
-use Rattle.ordered_lists.proofs.ByKey.Keys.{IsKeyOrder}
 use Rattle.tl_number.specs.PlacedKeys.{AreApart, ArePlaced, found_by_either}
 use Rattle.tl_number.proofs.Numbering.PlacedKeys.{apart_more, nowhere, slot_marked, tabled_ahead, tabled_more}
 use Rattle.tl_number.proofs.numbers.Interner.add.Goals as goal

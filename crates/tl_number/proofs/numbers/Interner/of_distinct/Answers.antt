@@ -1,7 +1,5 @@
 use Rattle.std.proofs.Common.{◌∙◌, ap}
-use Rattle.ordered_lists.proofs.Lists.Distinct.{apart_from_no_repeat}
-use Rattle.ordered_lists.proofs.ByKey.Keys.{IsKeyOrder}
-use Rattle.tl_number.specs.Growth.{first_seen_after}
+use Rattle.tl_number.proofs.Common.{IsKeyOrder, apart_from_no_repeat, first_seen_after}
 use Rattle.tl_number.proofs.Names.NameOrder.{first_seen-itself}
 use Rattle.tl_number.proofs.numbers.Interner.of_distinct.Goals as goal
 

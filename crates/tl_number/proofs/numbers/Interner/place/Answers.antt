@@ -1,8 +1,6 @@
 use Rattle.std.proofs.Common.{is_eq, ap, ◌∙◌, arith}
+use Rattle.tl_number.proofs.Common.{IsKeyOrder, position, stands_in}
 use Rattle.std.proofs.lemmas.Option.{IfSome_then, slice_get_within}
-use Rattle.std.specs.List.{position}
-use Rattle.ordered_lists.specs.Orders.{stands_in}
-use Rattle.ordered_lists.proofs.ByKey.Keys.{IsKeyOrder}
 use Rattle.tl_number.proofs.Numbering.PlacedKeys.{stated_first}
 use Rattle.tl_number.proofs.numbers.Interner.place.Goals as goal
 

@@ -1,7 +1,5 @@
 use Rattle.std.proofs.Common.{◌∙◌, Some, ap, length, refl, sym}
-use Rattle.std.proofs.lemmas.List.{drop_all}
-use Rattle.std.proofs.lemmas.Option.{slice_get_read}
-use Rattle.tl_number.specs.Growth.{first_seen_after}
+use Rattle.tl_number.proofs.Common.{drop_all, first_seen_after, slice_get_read}
 use Rattle.tl_number.proofs.Numbering.SeenLists.{seen_next}
 use Rattle.tl_number.proofs.numbers.Interner.see_all.Goals as goal
 

@@ -1,5 +1,5 @@
 use Rattle.std.proofs.Common.{sym}
-use Rattle.ordered_lists.proofs.ByKey.Keys.{IsKeyOrder}
+use Rattle.tl_number.proofs.Common.{IsKeyOrder}
 use Rattle.tl_number.proofs.Numbering.PlacedKeys.{added_first}
 use Rattle.tl_number.proofs.numbers.Interner.see_place.Goals as goal
 

@@ -1,4 +1,4 @@
-use Rattle.tl_number.specs.ViewFacts.{arranged_by}
+use Rattle.tl_number.proofs.Common.{arranged_by}
 use Rattle.tl_number.proofs.Records.EntryPlaces.{polygon_counted}
 use Rattle.tl_number.proofs.polygon_records.PolygonRecordsRecordGroups.count_in.Goals as goal
 

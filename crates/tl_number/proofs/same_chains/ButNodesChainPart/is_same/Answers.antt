@@ -1,6 +1,5 @@
 use Rattle.std.proofs.Common.{◌≡◌, true, rules}
-use Rattle.tl_county.specs.DirectedChains.{directed_chain}
-use Rattle.ordered_lists.proofs.Lists.ByPlace.{decides_no, decides_same}
+use Rattle.tl_number.proofs.Common.{decides_no, decides_same, directed_chain}
 use Rattle.tl_number.proofs.Texts.SameButNodes.{alike_but_nodes, parts_alike}
 use Rattle.tl_number.proofs.same_chains.ButNodesChainPart.is_same.Goals as goal
 
