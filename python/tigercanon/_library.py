@@ -7,7 +7,7 @@ import functools
 import os
 from contextlib import ExitStack
 from pathlib import Path
-from typing import Any, Union
+from typing import Any
 
 from ._parts import ADDRESS_OF_EMPTY, Piece, Set, lent
 from ._refusal import FORMS, OutOfMemory, Refusal
@@ -44,12 +44,10 @@ class Fault(ctypes.Structure):
     ]
 
     def refusal(self) -> Refusal:
-        form = FORMS[self.number]
-        places: list[Union[int, str]] = [chr(self.record_type)] if form.has_type else []
-        places += [bytes(self.cenid).hex()] if form.has_cenid else []
-        places += self.numbers[: form.numbers]
-        kind = OutOfMemory if self.number == 9 else Refusal
-        return kind(self.number, form.name, tuple(places), self.set or None)
+        name, kinds = FORMS[self.number]
+        places = {"type": iter([chr(self.record_type)]), "cenid": iter([bytes(self.cenid).hex()]), "number": iter(self.numbers)}
+        raised = OutOfMemory if self.number == 9 else Refusal
+        return raised(self.number, name, tuple(next(places[kind]) for kind in kinds.split()), self.set or None)
 
 
 bytes_at = ctypes.pythonapi.PyBytes_FromStringAndSize
@@ -64,37 +62,31 @@ free.restype = None
 def place_of_library() -> str:
     """Where the library is: the file that the variable names, else the one beside this package, else where the system has it."""
     package = Path(__file__).resolve().parent
-    folders = (package, package.parent.parent / "lib", package.parent.parent / "out/library/lib")
-    beside = (str(folder / NAME) for folder in folders if (folder / NAME).exists())
-    named = os.environ.get(VARIABLE)
-    return named if named else next(beside, NAME)
+    places = (folder / NAME for folder in (package, package.parent.parent / "lib", package.parent.parent / "out/library/lib"))
+    return os.environ.get(VARIABLE, "") or next((str(place) for place in places if place.exists()), NAME)
 
 
 @functools.lru_cache(maxsize=None)
 def library() -> ctypes.CDLL:
     """The library, which is loaded at the first call. Raises ImportError if it can't be."""
-    try:
-        loaded = ctypes.CDLL(place_of_library())
-        declare(loaded)
-    except (OSError, AttributeError) as error:
-        raise ImportError(f"the library {NAME} can't be loaded ({error}): {ADVICE}") from None
-    return loaded
-
-
-def declare(loaded: ctypes.CDLL) -> None:
-    """Declares the arguments of the calls."""
     parts: list[Any] = [ctypes.POINTER(Piece), ctypes.c_size_t]
     flags: list[Any] = [ctypes.c_bool, ctypes.c_bool]
     text, fault = ctypes.POINTER(Text), ctypes.POINTER(Fault)
-    for name, arguments in {
+    calls = {
         "check": [*parts, fault],
         "respell": [*parts, text, fault],
         "normalise": [*parts, *flags, text, fault],
         "fingerprint": [*parts, *flags, ctypes.POINTER(Hash), fault],
         "compare": [*parts, *parts, *flags, fault],
-    }.items():
-        function = getattr(loaded, f"tigercanon_{name}")
-        function.argtypes, function.restype = arguments, ctypes.c_uint8
+    }
+    try:
+        loaded = ctypes.CDLL(place_of_library())
+        for name, arguments in calls.items():
+            function = getattr(loaded, f"tigercanon_{name}")
+            function.argtypes, function.restype = arguments, ctypes.c_uint8
+    except (OSError, AttributeError) as error:
+        raise ImportError(f"the library {NAME} can't be loaded ({error}): {ADVICE}") from None
+    return loaded
 
 
 def call(name: str, sets: list[Set], *arguments: Any) -> int:

@@ -2,9 +2,7 @@
 
 from __future__ import annotations
 
-from typing import NamedTuple, Union
-
-Places = tuple[Union[int, str], ...]
+from typing import Union
 
 
 class Refusal(Exception):
@@ -19,7 +17,7 @@ class Refusal(Exception):
     line    the line that the program prints, without its line ending: "refused 4 BadNumber 1 4 6"
     """
 
-    def __init__(self, number: int, name: str, places: Places = (), set: int | None = None) -> None:
+    def __init__(self, number: int, name: str, places: tuple[Union[int, str], ...] = (), set: int | None = None) -> None:
         super().__init__(number, name, places, set)
         self.number, self.name, self.places, self.set = number, name, places, set
         line = " ".join(["refused", str(number), name, *map(str, places)])
@@ -33,35 +31,26 @@ class OutOfMemory(Refusal, MemoryError):
     """Memory ran out: refusal 9."""
 
 
-class Form(NamedTuple):
-    """The name of a refusal, and its places: perhaps a record type or a CENID, and how many numbers follow."""
-
-    name: str
-    has_type: bool = False
-    has_cenid: bool = False
-    numbers: int = 0
-
-
-FORMS: dict[int, Form] = {
-    1: Form("UnknownType", numbers=2),
-    2: Form("LineTooLong", numbers=2),
-    3: Form("BadByte", numbers=3),
-    4: Form("BadNumber", numbers=3),
-    5: Form("BadPoint", numbers=3),
-    6: Form("GapInRecord", numbers=3),
-    7: Form("TooManyRecords", has_type=True),
-    9: Form("Memory"),
-    11: Form("ChainTwice", numbers=1),
-    12: Form("NoChain", has_type=True, numbers=1),
-    13: Form("SequenceBroken", has_type=True, numbers=1),
-    14: Form("LinkMissing", numbers=1),
-    15: Form("LinkTwice", numbers=1),
-    16: Form("NameTwice", numbers=1),
-    17: Form("NameUnknown", numbers=2),
-    18: Form("PolygonTwice", has_cenid=True, numbers=1),
-    19: Form("LandUnknown", numbers=1),
-    20: Form("PolygonUnknown", has_cenid=True, numbers=1),
-    23: Form("PolygonWithoutChain", has_cenid=True, numbers=1),
-    24: Form("TooSymmetric"),
+FORMS = {
+    1: ("UnknownType", "number number"),
+    2: ("LineTooLong", "number number"),
+    3: ("BadByte", "number number number"),
+    4: ("BadNumber", "number number number"),
+    5: ("BadPoint", "number number number"),
+    6: ("GapInRecord", "number number number"),
+    7: ("TooManyRecords", "type"),
+    9: ("Memory", ""),
+    11: ("ChainTwice", "number"),
+    12: ("NoChain", "type number"),
+    13: ("SequenceBroken", "type number"),
+    14: ("LinkMissing", "number"),
+    15: ("LinkTwice", "number"),
+    16: ("NameTwice", "number"),
+    17: ("NameUnknown", "number number"),
+    18: ("PolygonTwice", "cenid number"),
+    19: ("LandUnknown", "number"),
+    20: ("PolygonUnknown", "cenid number"),
+    23: ("PolygonWithoutChain", "cenid number"),
+    24: ("TooSymmetric", ""),
 }
-"""The form of each refusal that a call can report."""
+"""The name of each refusal that a call can report, and the kinds of its places."""

@@ -64,8 +64,7 @@ def unpack(archive: zipfile.ZipFile, members: Members, stem: str) -> None:
     """Unpacks the files under the names of a stem. Raises BadZip, and OSError if they can't be written."""
     for kind, member in members.items():
         with open(file_name(stem, kind), "wb") as target:
-            for piece in pieces_of(archive, member):
-                target.write(piece)
+            target.writelines(pieces_of(archive, member))
 
 
 def pieces_of(archive: zipfile.ZipFile, member: zipfile.ZipInfo) -> Iterator[bytes]:
