@@ -12,6 +12,7 @@ import threading
 import time
 from contextlib import contextmanager, suppress
 from dataclasses import dataclass
+from pathlib import Path
 from typing import Callable, Iterator, Sequence
 
 PREFIX = "tigercanon-"
@@ -132,12 +133,8 @@ def held(path: str) -> int:
 def remove_stale_folders() -> None:
     """Removes the folders of runs that were killed."""
     for room in {os.environ.get(VARIABLE, IN_MEMORY), tempfile.gettempdir()}:
-        try:
-            names = [name for name in os.listdir(room) if name.startswith(PREFIX)]
-        except OSError:
-            continue
-        for name in names:
-            remove_if_stale(os.path.join(room, name))
+        for path in Path(room).glob(f"{PREFIX}*") if room else []:
+            remove_if_stale(str(path))
 
 
 def remove_if_stale(path: str) -> None:

@@ -112,10 +112,9 @@ def how_far() -> str:
 
 def bar_of(counties: int) -> Any | None:
     """A progress bar, where standard error is a terminal and tqdm is installed."""
-    if sys.stderr is None or not sys.stderr.isatty():
-        return None
-    try:
-        from tqdm import tqdm
-    except ImportError:
-        return None
-    return tqdm(total=counties, unit=" counties", file=sys.stderr, leave=False, dynamic_ncols=True)
+    with suppress(ImportError, AttributeError):
+        if sys.stderr.isatty():
+            from tqdm import tqdm
+
+            return tqdm(total=counties, unit=" counties", file=sys.stderr, leave=False, dynamic_ncols=True)
+    return None

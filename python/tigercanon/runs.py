@@ -88,7 +88,8 @@ class Run:
 
     def end(self, number: int, result: Result) -> None:
         if result.answer.kind == "refused":
-            self.tally.refused[rule_of(result.answer.text)] += 1
+            words = result.answer.text.split()
+            self.tally.refused["--strict" if words[0] == "rejected" else " ".join(words[1:3])] += 1
         elif result.answer.kind != "made":
             self.tally.failed += 1
         remarks = self.take(number, result)
@@ -107,11 +108,6 @@ class Run:
             report(f"refused: {', '.join(f'{count:,} by {rule}' for rule, count in rules)}")
         if self.gone:
             report(f"{self.gone}: {self.missing:,} counties are left; run the same command again to do them")
-
-
-def rule_of(line: str) -> str:
-    """The rule that refuses a county: the number and name in the program's line, or the flag."""
-    return "--strict" if line.startswith("rejected") else " ".join(line.split()[1:3])
 
 
 def counted(count: int, noun: str = "county", nouns: str = "counties") -> str:
@@ -163,7 +159,9 @@ class Fingerprints:
             return self.make()
         with written(self.options.output, self.flags, PROCESS) as self.manifest:
             status = self.make()
-        self.report_duplicates()
+        count = sum(map(len, duplicates(self.manifest.lines)))
+        if count:
+            report(f"{count:,} counties in the manifest share their map with another one: see the command duplicates")
         return status
 
     def make(self) -> int:
@@ -184,23 +182,16 @@ class Fingerprints:
         return int(self.run.missing > 0 or self.run.tally.failed > 0 or bool(self.run.tally.refused))
 
     def take(self, number: int, result: Result) -> str:
-        line = Line(result.answer.text, result.county.stem) if result.answer.kind == "made" else None
+        stem, answer = result.county.stem, result.answer
+        line = Line(answer.text, stem) if answer.kind == "made" else None
         if line:
             self.run.tally.good += 1
         if line and self.manifest:
             self.manifest.add(line)
-        self.printer.put(number, None if self.manifest else line and str(line), self.described(result))
+        fingerprint, why = (answer.text, None) if line else (None, answer.text)
+        row = {"county": stem, "fingerprint": fingerprint, "reason": why, "notes": list(answer.notes)}
+        self.printer.put(number, None if self.manifest else line and str(line), row)
         return result.remarks
-
-    def described(self, result: Result) -> dict[str, Any]:
-        """A county in JSON."""
-        answer, made = result.answer, result.answer.kind == "made"
-        return {
-            "county": result.county.stem,
-            "fingerprint": answer.text if made else None,
-            "reason": None if made else answer.text,
-            "notes": list(answer.notes),
-        }
 
     def report_end(self, before: int) -> None:
         tally = self.run.tally
@@ -209,12 +200,6 @@ class Fingerprints:
         words += [f"{sum(tally.refused.values()):,} refused", f"{tally.failed:,} failed"]
         report(f"{counted(tally.counties + before)}: {', '.join(words)}; {tally.took}")
         self.run.report_refusals()
-
-    def report_duplicates(self) -> None:
-        groups = duplicates(self.manifest.lines) if self.manifest else []
-        if groups:
-            count = sum(map(len, groups))
-            report(f"{count:,} counties in the manifest share their map with another one: see the command duplicates")
 
 
 class Verification:
@@ -235,26 +220,21 @@ class Verification:
         if asked:
             agreed(self.options.manifest, content.flags, asked)
         self.lines = content.lines
-        finder = Finder()
-        counties = [finder.of_name(self.place(line.stem)) for line in self.lines]
+        finder, root = Finder(), self.options.root
+        counties = [finder.of_name(joined(root, line.stem) if root else line.stem) for line in self.lines]
         counties += self.new_counties({tidy(county.stem) for county in counties})
         self.run.judge(counties, lambda: order_of(self.options, content.flags or ()))
         return self.finish()
 
-    def place(self, stem: str) -> str:
-        """Where a county of the manifest lies."""
-        return joined(self.options.root, stem) if self.options.root else stem
-
-    def new_counties(self, known: "set[str]") -> list[County]:
+    def new_counties(self, known: set[str]) -> list[County]:
         """The counties of the sources that the manifest doesn't have. They aren't judged."""
         found, _ = Finder().counties(self.options.sources, known.__contains__)
-        new = [county for county in found if not county.trouble]
         troubled = [county for county in found if county.trouble]
         for county in troubled:
             report(f"{county.stem}: {county.trouble}")
         if troubled:
             raise Failure("not every source can be read")
-        return [replace(county, trouble="not in the manifest") for county in new]
+        return [replace(county, trouble="not in the manifest") for county in found]
 
     def take(self, number: int, result: Result) -> str:
         kind, remarks = self.verdict(number, result)
@@ -268,11 +248,10 @@ class Verification:
     def verdict(self, number: int, result: Result) -> tuple[str, str]:
         if number >= len(self.lines):
             return "NEW", result.remarks
-        if result.county.is_absent:
-            return "MISSING", result.remarks
-        if result.answer.kind == "made" and result.answer.text == self.lines[number].fingerprint:
-            return "OK", result.remarks
-        return "FAILED", result.remarks if result.answer.kind != "made" else "another map"
+        if result.county.is_absent or result.answer.kind != "made":
+            return "MISSING" if result.county.is_absent else "FAILED", result.remarks
+        is_so = result.answer.text == self.lines[number].fingerprint
+        return ("OK", result.remarks) if is_so else ("FAILED", "another map")
 
     def finish(self) -> int:
         self.printer.end()
