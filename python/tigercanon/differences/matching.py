@@ -12,7 +12,7 @@ from __future__ import annotations
 
 from collections import defaultdict, deque
 from dataclasses import dataclass, field, replace
-from functools import cached_property
+from functools import cached_property, partial
 from typing import Any, Callable, Generic, Hashable, Iterable, Iterator, NamedTuple, Sequence, TypeVar
 
 from .columns import CHAIN, LANDMARK, RANGE
@@ -120,30 +120,26 @@ def pair_by(first: Iterable[T], second: Iterable[T], key: Callable[[T], Hashable
 # Chains
 
 
-def chains_by_points(first: County, second: County) -> list[tuple[list[Chain], list[Chain]]]:
+def chains_by_points(first: County, second: County) -> list[Pair[list[Chain]]]:
     """The chains of both maps that run through the same points, in the order of the points."""
-    groups: dict[str, tuple[list[Chain], list[Chain]]] = {}
+    groups: dict[str, Pair[list[Chain]]] = defaultdict(lambda: ([], []))
     for place, county in enumerate((first, second)):
         for chain in county.chains:
-            group = groups.get(chain.points)
-            if group is None:
-                group = groups[chain.points] = ([], [])
-            group[place].append(chain)
+            groups[chain.points][place].append(chain)
     return list(groups.values())
 
 
-def match_chains(groups: list[tuple[list[Chain], list[Chain]]], first: Teller, second: Teller) -> Matched[Chain]:
+def match_chains(groups: list[Pair[list[Chain]]], first: Teller, second: Teller) -> Matched[Chain]:
     """Matches the chains of each group."""
     matched: Matched[Chain] = Matched()
     for ones, others in groups:
-        if not others:
-            matched.first += ones
-        elif not ones:
-            matched.second += others
-        elif len(ones) == len(others) == 1 and says(ones[0], first) == says(others[0], second):
+        if len(ones) == len(others) == 1 and says(ones[0], first) == says(others[0], second):
             matched.alike.append((ones[0], others[0]))
-        else:
+        elif ones and others:
             match_group(ones, others, first, second, matched)
+        else:
+            matched.first += ones
+            matched.second += others
     return matched
 
 
@@ -163,7 +159,7 @@ def match_group(ones: list[Chain], others: list[Chain], first: Teller, second: T
         )
         matched.changed.append((one, other))
         ones = [chain for chain in ones if chain is not one]
-        others = [chain for chain in others if chain.tlid != other.tlid]
+        others = [chain for chain in others if chain.key != other.key]
     matched.first += ones
     matched.second += others
 
@@ -221,21 +217,11 @@ def match_polygons(first: County, second: County, certain: list[Pair[Chain]]) ->
     sides: dict[int, Hashable] = {}
     for county, found in zip((first, second), first_sides(certain)):
         sides.update((id(polygon), found[key]) for key, polygon in county.polygons.items() if key in found)
-
-    def side(polygon: Polygon) -> Hashable | None:
-        return sides.get(id(polygon))
-
-    def content(polygon: Polygon) -> Hashable:
-        return polygon.key.cenid, polygon.body
-
-    def point(polygon: Polygon) -> Hashable | None:
-        return polygon.point if polygon.point != NO_POINT else None
-
     ones, others = list(first.polygons.values()), list(second.polygons.values())
-    alike, ones, others = pair_by(ones, others, lambda polygon: (content(polygon), side(polygon)))
-    more, ones, others = pair_by(ones, others, content)
-    at_one_point, ones, others = pair_by(ones, others, point)
-    on_one_side, ones, others = pair_by(ones, others, side)
+    alike, ones, others = pair_by(ones, others, lambda polygon: (polygon.content, sides.get(id(polygon))))
+    more, ones, others = pair_by(ones, others, lambda polygon: polygon.content)
+    at_one_point, ones, others = pair_by(ones, others, lambda polygon: polygon.point if polygon.point != NO_POINT else None)
+    on_one_side, ones, others = pair_by(ones, others, lambda polygon: sides.get(id(polygon)))
     return Matched(ones, others, at_one_point + on_one_side, alike + more)
 
 
@@ -251,14 +237,9 @@ def first_sides(certain: list[Pair[Chain]]) -> Pair[dict[PolygonKey, tuple[int, 
 
 def marks_of(polygons: Matched[Polygon]) -> Pair[PolygonMarks]:
     """A mark of each map's polygons: their content, or, if they changed, one mark for both maps."""
-
-    def content(polygon: Polygon) -> str:
-        return polygon.key.cenid + polygon.body
-
-    first = {polygon.key: content(polygon) for polygon in polygons.first}
-    second = {polygon.key: content(polygon) for polygon in polygons.second}
+    first, second = ({polygon.key: polygon.content for polygon in alone} for alone in (polygons.first, polygons.second))
     for one, other in polygons.alike:
-        first[one.key] = second[other.key] = content(one)
+        first[one.key] = second[other.key] = one.content
     for number, (one, other) in enumerate(polygons.changed):
         first[one.key] = second[other.key] = f"changed {number}"
     return first, second
@@ -271,22 +252,19 @@ def match_landmarks(first: Teller, second: Teller) -> Matched[Landmark]:
         for landmark in teller.county.landmarks:
             places[id(landmark)] = tuple(sorted((place.file, teller.marks[place.key]) for place in landmark.places))
 
-    def bodies(landmark: Landmark) -> tuple[str, ...]:
+    def bodies(landmark: Landmark) -> Hashable:
         return tuple(sorted(landmark.bodies))
 
-    def column(name: str) -> Callable[[Landmark], tuple[str, ...] | None]:
+    def column(name: str, landmark: Landmark) -> Hashable | None:
         """A column of the landmark's records, or nothing if it is blank in all."""
-
-        def told(landmark: Landmark) -> tuple[str, ...] | None:
-            values = tuple(sorted(LANDMARK.value(body, name) for body in landmark.bodies))
-            return values if any(not value.isspace() for value in values) else None
-
-        return told
+        values = tuple(sorted(LANDMARK.value(body, name) for body in landmark.bodies))
+        return values if any(not value.isspace() for value in values) else None
 
     ones, others = first.county.landmarks, second.county.landmarks
     alike, ones, others = pair_by(ones, others, lambda landmark: (bodies(landmark), places[id(landmark)]))
     changed = []
-    for key in (bodies, column("LALONG, LALAT"), column("LANAME"), lambda landmark: places[id(landmark)] or None):
+    keys: list[Callable[[Landmark], Hashable | None]] = [bodies, partial(column, "LALONG, LALAT"), partial(column, "LANAME")]
+    for key in (*keys, lambda landmark: places[id(landmark)] or None):
         pairs, ones, others = pair_by(ones, others, key)
         changed += pairs
     return Matched(ones, others, changed, alike)
@@ -315,13 +293,9 @@ class Tied(NamedTuple):
 
 def find_ties(certain: list[Pair[Chain]], first: Teller, second: Teller) -> list[Tie]:
     """The nodes, polygons and names that are one in one map and several in the other."""
-    subjects: list[tuple[str, Callable[[], Iterator[Tied]]]] = [
-        ("node", lambda: tied_nodes(certain)),
-        ("polygon", lambda: tied_polygons(certain, first, second)),
-        ("feature name", lambda: tied_names(certain, first, second)),
-    ]
     ties: list[Tie] = []
-    for subject, tied in subjects:
+    for subject, find in (("node", tied_nodes), ("polygon", tied_polygons), ("feature name", tied_names)):
+        tied = partial(find, certain, first, second)
         ones, others = split_numbers(tied())
         forth = ((at.first, at.second, at) for at in tied() if at.first in ones)
         back = ((at.second, at.first, at) for at in tied() if at.second in others)
@@ -330,7 +304,7 @@ def find_ties(certain: list[Pair[Chain]], first: Teller, second: Teller) -> list
     return ties
 
 
-def tied_nodes(certain: list[Pair[Chain]]) -> Iterator[Tied]:
+def tied_nodes(certain: list[Pair[Chain]], _first: Teller, _second: Teller) -> Iterator[Tied]:
     """The nodes at both ends of chains."""
     for chain, twin in certain:
         for place, one, other in (("start", chain.start_node, twin.start_node), ("end", chain.end_node, twin.end_node)):

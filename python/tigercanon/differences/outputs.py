@@ -76,15 +76,13 @@ def new_files(names: Sequence[str | None]) -> Iterator[list[NewFile | None]]:
     for example, there are none of them, and what had these names is as it was. Without a name there is no file.
     """
     with ExitStack() as stack:
-        files: list[NewFile | None] = []
-        for name in names:
-            file = NewFile(name) if name is not None else None
-            files.append(file)
-            if file:
-                stack.enter_context(PROCESS.at_end(file.discard))
-        yield files
-        for file in filter(None, files):
+        files: dict[str | None, NewFile] = {}
+        for name in filter(None, names):
+            files[name] = NewFile(name)
+            stack.enter_context(PROCESS.at_end(files[name].discard))
+        yield [files.get(name) for name in names]
+        for file in files.values():
             file.finish()
-        for file in filter(None, files):
+        for file in files.values():
             with file.told():
                 os.replace(file.path, file.place)

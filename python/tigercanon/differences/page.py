@@ -70,10 +70,10 @@ class PageData:
     def thing(self, thing: Thing) -> dict[str, Any] | None:
         """The entry of a thing. After the space for fields is used up, chains and polygons are bare, and have none."""
         kind = KINDS.index(thing.kind)
+        if thing.what == "chain" and self.room <= 0:
+            self.bare_chains.append([kind, self.title(thing.title), *self.line(thing.either.points)])
+            return None
         if thing.what == "chain":
-            if self.room <= 0:
-                self.bare_chains.append([kind, self.title(thing.title), *self.line(thing.either.points)])
-                return None
             return {**self.entry(thing.what, kind, thing.title, "", thing.rows), "line": self.line(thing.either.points)}
         points = self.points(thing.points)
         if thing.what == "polygon" and self.room <= 0 and points:
@@ -145,23 +145,21 @@ class PageData:
 def write_page(file: NewFile, comparison: Comparison, sets: Sets, leaflet: Leaflet) -> None:
     """Writes the page."""
     parts = {
-        "leaflet_style": without_pictures(leaflet.style),
+        # The style without the files that it names, and the script as an element can hold it, without the file that its end names.
+        "leaflet_style": re.sub(r"[^;{}]*url\([^)]*\)[^;}]*;?", "", re.sub(r"/\*#.*?\*/", "", leaflet.style)),
         "style": asset("page.css"),
-        "leaflet_script": in_script(leaflet.script),
+        "leaflet_script": re.sub(r"(?m)^//# sourceMappingURL=.*$", "", leaflet.script).replace("</", "<\\/"),
         "script": asset("page.js"),
-        "data": as_data(page_data(comparison, sets)),
+        # JSON in which no letter begins a tag, whatever the input says.
+        "data": json.dumps(page_data(comparison, sets), ensure_ascii=False, separators=(",", ":")).replace("<", "\\u003c"),
         "compared": html.escape(f"left out: {' '.join(sets.masks)}" if sets.masks else "all fields"),
     }
     for side, one in (("first", sets.first), ("second", sets.second)):
         parts[f"{side}_name"] = html.escape(one.shown_name)
-        parts[f"{side}_path"] = in_pieces(one.shown_name)
+        # A line is broken between the pieces of a path.
+        parts[f"{side}_path"] = "".join(f"<span>{html.escape(piece)}</span>" for piece in re.split("(?<=/)", one.shown_name))
         parts[f"{side}_fingerprint"] = one.fingerprint
     file.write(re.sub(r"@@(\w+)@@", lambda marker: parts[marker[1]], asset("page.html")))
-
-
-def in_pieces(path: str) -> str:
-    """A path as HTML, in pieces that a line is broken between."""
-    return "".join(f"<span>{html.escape(piece)}</span>" for piece in re.split("(?<=/)", path))
 
 
 def page_data(comparison: Comparison, sets: Sets) -> dict[str, Any]:
@@ -199,18 +197,3 @@ def shift_of(comparison: Comparison) -> int:
 
 def asset(name: str) -> str:
     return Path(__file__).with_name(name).read_text("utf-8")
-
-
-def as_data(value: Any) -> str:
-    """The value as JSON in which no letter begins a tag, whatever the input says."""
-    return json.dumps(value, ensure_ascii=False, separators=(",", ":")).replace("<", "\\u003c")
-
-
-def in_script(text: str) -> str:
-    """A script as an element `script` can hold it, without the file that its last line may name."""
-    return re.sub(r"^//# sourceMappingURL=.*$", "", text, flags=re.MULTILINE).replace("</", "<\\/")
-
-
-def without_pictures(style: str) -> str:
-    """The style without the files that it names."""
-    return re.sub(r"[^;{}]*url\([^)]*\)[^;}]*;?", "", re.sub(r"/\*#.*?\*/", "", style))

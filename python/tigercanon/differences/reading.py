@@ -47,7 +47,7 @@ class PolygonKey(NamedTuple):
 class Chain:
     """The content of the records of one TLID."""
 
-    tlid: int
+    key: int
     body: str
     points: str
     feats: tuple[str, ...]
@@ -59,12 +59,8 @@ class Chain:
     right: PolygonKey
 
     @property
-    def key(self) -> int:
-        return self.tlid
-
-    @property
     def number(self) -> int:
-        return self.tlid
+        return self.key
 
 
 @dataclass(eq=False)
@@ -91,6 +87,10 @@ class Polygon:
     def point(self) -> str:
         return POLYGON.value(self.body, "POLYLONG, POLYLAT") if self.body else NO_POINT
 
+    @property
+    def content(self) -> str:
+        return self.key.cenid + self.body
+
 
 class Place(NamedTuple):
     """A polygon that contains a landmark, as a record of type 8 has it."""
@@ -103,17 +103,13 @@ class Place(NamedTuple):
 class Landmark:
     """The records of type 7 of one LAND, and those of type 8."""
 
-    land: str
+    key: str
     bodies: list[str] = field(default_factory=list)
     places: list[Place] = field(default_factory=list)
 
     @property
-    def key(self) -> str:
-        return self.land
-
-    @property
     def number(self) -> int:
-        return int(self.land)
+        return int(self.key)
 
 
 @dataclass(eq=False)
@@ -176,7 +172,7 @@ def read_chains(records: Records) -> list[Chain]:
         link = links[tlid]
         feats = [each[at : at + 8] for each in names.get(tlid, ()) for at in range(18, 58, 8)]
         return Chain(
-            tlid=int(tlid),
+            key=int(tlid),
             body=CHAIN.content(line),
             points=line[190:209] + "".join([without_unused(each[18:]) for each in inner.get(tlid, ())]) + line[209:],
             feats=tuple([feat for feat in feats if not feat.isspace()]),

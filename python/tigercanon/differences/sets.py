@@ -74,8 +74,13 @@ def opened(name: str, is_stem: bool) -> Iterator[Source]:
     elif stat.S_ISREG(os.stat(name).st_mode):
         yield Source(name, name, [name])
     else:
-        with PROCESS.folder(0) as folder:
-            place = copied(name, os.path.join(folder, "set"))
+        with PROCESS.folder(0) as folder:  # a copy of what can be read only once, such as a pipe
+            place = os.path.join(folder, "set")
+            try:
+                with open(name, "rb") as source, open(place, "wb") as copy:
+                    shutil.copyfileobj(source, copy)
+            except OSError as error:
+                raise Failure(f"{printable(name)}: can't be read: {reason(error)}") from None
             yield Source(name, place, [place])
 
 
@@ -90,16 +95,6 @@ def is_zip(name: str) -> bool:
         raise Failure(f"{printable(name)}: can't be read: {reason(error)}") from None
 
 
-def copied(name: str, target: str) -> str:
-    """A copy of what can be read only once, such as a pipe."""
-    try:
-        with open(name, "rb") as source, open(target, "wb") as copy:
-            shutil.copyfileobj(source, copy)
-    except OSError as error:
-        raise Failure(f"{printable(name)}: can't be read: {reason(error)}") from None
-    return target
-
-
 def printed(program: str, command: Sequence[str], sources: Sequence[Source]) -> list[bytes]:
     """What the program prints for each set, all at once. The first set that is rejected is reported."""
 
@@ -110,8 +105,7 @@ def printed(program: str, command: Sequence[str], sources: Sequence[Source]) -> 
             raise Failure(f"the program {program} can't be run: {reason(error)}") from None
         if ended.status != 0:
             line = complaint(ended)
-            more = hint(line, source.files)
-            raise Failure(f"{printable(source.name)}: {line}{f'; {more}' if more else ''}")
+            raise Failure(f"{printable(source.name)}: {'; '.join(filter(None, [line, hint(line, source.files)]))}")
         return ended.out
 
     with ThreadPoolExecutor() as threads:
