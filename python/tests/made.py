@@ -1,7 +1,5 @@
 """An archive made of the examples: renumbered and changed counties, and refused ones among them, as zips and as single files."""
 
-from __future__ import annotations
-
 import zipfile
 from pathlib import Path
 from typing import NamedTuple

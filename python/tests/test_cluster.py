@@ -1,7 +1,5 @@
 """Whole runs over 300 counties by the real program, here and by a Dask scheduler whose workers are killed."""
 
-from __future__ import annotations
-
 import os
 import re
 import signal

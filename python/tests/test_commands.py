@@ -1,7 +1,5 @@
 """The command line: help, versions, errors, and how the program is found."""
 
-from __future__ import annotations
-
 import os
 import shutil
 import subprocess

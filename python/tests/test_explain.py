@@ -1,7 +1,5 @@
 """The command explain, and the hints beside refusals."""
 
-from __future__ import annotations
-
 from pathlib import Path
 
 import pytest

@@ -1,7 +1,5 @@
 """How counties are found: in folders, by globs and by names, on disks and in stores."""
 
-from __future__ import annotations
-
 import os
 from importlib.util import find_spec
 from pathlib import Path

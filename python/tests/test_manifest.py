@@ -1,7 +1,5 @@
 """The manifest: its lines, its lock, and what two of them say."""
 
-from __future__ import annotations
-
 import json
 import os
 import stat

@@ -1,7 +1,5 @@
 """The module for Python over a stand-in for the library: what it passes to the library, and what it makes of the answers."""
 
-from __future__ import annotations
-
 import array
 import gzip
 import inspect

@@ -1,7 +1,5 @@
 """A signal, whenever it comes: the command ends by it within a second and leaves nothing behind, and the same command goes on."""
 
-from __future__ import annotations
-
 import os
 import random
 import signal

@@ -1,7 +1,5 @@
 """Zips as they shouldn't be, and servers that break off: each is reported in one line, and all other counties are done."""
 
-from __future__ import annotations
-
 import io
 import re
 import struct

@@ -1,7 +1,5 @@
 """The shared library with the calls of tigercanon, and how it is found."""
 
-from __future__ import annotations
-
 import ctypes
 import functools
 import os

@@ -1,7 +1,5 @@
 """The parts of a set: what a caller passes, as bytes that the C library can read."""
 
-from __future__ import annotations
-
 import ctypes
 import os
 import zipfile

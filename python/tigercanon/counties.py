@@ -1,7 +1,5 @@
 """Finds the counties of an archive: in folders, by globs, by names and behind URLs."""
 
-from __future__ import annotations
-
 import os
 import re
 from collections import Counter

@@ -1,7 +1,5 @@
 """Errors that end a command with one line on standard error."""
 
-from __future__ import annotations
-
 
 class Failure(Exception):
     """A command can't start or can't go on. The text names the file and the cause; the exit status is 2."""

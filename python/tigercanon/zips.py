@@ -1,7 +1,5 @@
 """Zips as they are distributed: the files of the one county in a zip, unpacked under the names that the program reads."""
 
-from __future__ import annotations
-
 import zipfile
 from typing import Iterator
 

@@ -1,7 +1,5 @@
 """A page in Chromium."""
 
-from __future__ import annotations
-
 import json
 import shutil
 from importlib.util import find_spec

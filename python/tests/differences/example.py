@@ -5,8 +5,6 @@
 writes its files again, and with --picture also the picture of its page, docs/differences.png. That needs Debian's python3-pil.
 """
 
-from __future__ import annotations
-
 import sys
 import tempfile
 from io import BytesIO

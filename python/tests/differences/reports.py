@@ -1,7 +1,5 @@
 """Calls of tigercanon-tools diff, and readers of what it reports."""
 
-from __future__ import annotations
-
 import json
 import re
 from dataclasses import replace

@@ -1,7 +1,5 @@
 """The columns of the records agree with docs/format.md."""
 
-from __future__ import annotations
-
 import re
 
 import pytest

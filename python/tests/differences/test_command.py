@@ -1,7 +1,5 @@
 """The command line, with a stand-in for the program: statuses, refusals, and files that are whole or not there."""
 
-from __future__ import annotations
-
 import json
 import os
 import signal

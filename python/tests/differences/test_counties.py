@@ -1,7 +1,5 @@
 """Counties of 5,000 chains by two hands: as they are one map, and as they differ at known places."""
 
-from __future__ import annotations
-
 import re
 from collections import Counter
 from copy import deepcopy

@@ -1,7 +1,5 @@
 """The example in examples/two-maps: its files are those that are made, and differ at the places that are known."""
 
-from __future__ import annotations
-
 from pathlib import Path
 
 from .example import example, texts

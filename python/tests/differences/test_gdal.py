@@ -1,7 +1,5 @@
 """The GeoJSON as another reader sees it: GDAL's ogrinfo."""
 
-from __future__ import annotations
-
 import re
 import shutil
 import subprocess

@@ -1,7 +1,5 @@
 """How small counties are matched and reported. They are read as they are written, without the program."""
 
-from __future__ import annotations
-
 import copy
 from typing import Any, Callable, Optional
 

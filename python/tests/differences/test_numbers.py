@@ -1,7 +1,5 @@
 """The numbers in GeoJSON agree with the records of the user's files."""
 
-from __future__ import annotations
-
 import json
 import zipfile
 from pathlib import Path

@@ -1,7 +1,5 @@
 """The page in a browser: what it shows, by the pointer and by the keyboard."""
 
-from __future__ import annotations
-
 import base64
 import re
 import shutil

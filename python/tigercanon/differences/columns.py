@@ -4,8 +4,6 @@ Numbers that differ from file to file (TLID, RTSQ, FEAT, LAND, POLYID and those 
 among them.
 """
 
-from __future__ import annotations
-
 from dataclasses import dataclass, replace
 from functools import cached_property
 from itertools import accumulate

@@ -1,7 +1,5 @@
 """The subcommand diff of tigercanon-tools: reports where two maps differ."""
 
-from __future__ import annotations
-
 import argparse
 import contextlib
 import gc

@@ -5,8 +5,6 @@ one map, so they are matched as two maps are: chains by their points, landmarks 
 that nothing tells apart may have their numbers exchanged.
 """
 
-from __future__ import annotations
-
 from dataclasses import replace
 from typing import Hashable, Sequence
 

@@ -5,8 +5,6 @@ and latitude in millionths of a degree. A chain's points are one string of these
 each point in one way, in a canonical text and when it respells records.
 """
 
-from __future__ import annotations
-
 from collections import defaultdict
 from dataclasses import dataclass, field
 from functools import lru_cache

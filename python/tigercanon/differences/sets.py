@@ -1,7 +1,5 @@
 """The two sets that are compared: their files, and what the program prints for them."""
 
-from __future__ import annotations
-
 import contextlib
 import hashlib
 import os

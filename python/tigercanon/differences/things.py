@@ -1,7 +1,5 @@
 """What differs, thing by thing, as each report shows it: a chain, landmark, polygon or feature name of one map or of both."""
 
-from __future__ import annotations
-
 from dataclasses import dataclass
 from typing import Any, Iterator
 

@@ -1,7 +1,5 @@
 """Writes the report of where two maps differ as text."""
 
-from __future__ import annotations
-
 from itertools import groupby
 from typing import Iterator
 
