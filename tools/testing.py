@@ -85,6 +85,12 @@ def make_county(*words: object) -> bytes:
     return made.stdout
 
 
+def by_type(text: bytes) -> dict[str, bytes]:
+    """The lines of a set by their record types."""
+    lines = text.splitlines(keepends=True)
+    return {kind: b"".join(line for line in lines if line.startswith(kind.encode())) for kind in TYPES}
+
+
 def files_of(root: Path) -> set[str]:
     """The files of a repository; without git all that are there."""
     done = run(["git", "ls-files", "--cached", "--others", "--exclude-standard"], cwd=root)
