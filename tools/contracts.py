@@ -5,9 +5,9 @@ they need: where an item begins and ends, which clauses it has, and which names 
 """
 
 import re
-from pathlib import Path
+from collections import namedtuple
 
-ROOT = Path(__file__).resolve().parent.parent
+from testing import ROOT
 
 IMPORT = re.compile(r"\buse\s+Rattle\.([\w.]+?)(?:\.\{([^}]*)\}|\s+as\s+(\w+)|;|$)", re.M)
 # A name that is used, with the module before it. A name after a dot is a field.
@@ -103,11 +103,8 @@ def blanked(text):
     return COMMENT_OR_TEXT.sub(lambda found: blank(found[0]), text)
 
 
-class Block:
-    """The block of a trait, a type or an impl: its owner and its trait."""
-
-    def __init__(self, owner, kind, trait=None):
-        self.owner, self.kind, self.trait = owner, kind, trait
+Block = namedtuple("Block", "owner kind trait", defaults=[None])
+"""The block of a trait, a type or an impl: its owner and its trait."""
 
 
 class CodeFile:
@@ -133,18 +130,15 @@ class CodeFile:
         """Takes the items between two places, which may be those of a block."""
         while head := HEAD.search(self.text, at, end):
             kind, named = head.group(2), NAME.match(self.text, head.end())
+            at = head.end()
             if kind == "impl":
-                at = self.take_impl(head.end())
-            elif named is None:
-                at = head.end()
-            elif kind == "fn":
+                at = self.take_impl(at)
+            elif named and kind == "fn":
                 at = self.take_function(head, named, block)
-            elif kind == "ghost" and named.group(1) != "use":
+            elif named and kind == "ghost" and named.group(1) != "use":
                 at = self.take_ghost(head, named, block)
-            elif kind in ("trait", "struct", "enum"):
+            elif named and kind in ("trait", "struct", "enum"):
                 at = self.take_type(head, named)
-            else:
-                at = head.end()
 
     def take_type(self, head, named):
         name, kind = named.group(1), head.group(2)

@@ -12,6 +12,7 @@ import sys
 import threading
 import time
 import zipfile
+from itertools import product
 from pathlib import Path
 from typing import Any, Callable, Iterator
 
@@ -124,9 +125,7 @@ def test_several_parts(tmp_path: Path) -> None:
 
 
 def test_nothing() -> None:
-    empty = [b"", bytearray(), memoryview(b""), [], [b""], array.array("H"), io.BytesIO()]
-    empty.append(memoryview(b"").cast("B"))
-    for nothing in empty:
+    for nothing in (b"", bytearray(), memoryview(b""), memoryview(b"").cast("B"), [], [b""], array.array("H"), io.BytesIO()):
         assert echoed(nothing) == b""
     assert echoed([b""] * 3) == b"||"
 
@@ -203,19 +202,13 @@ def test_zips(tmp_path: Path) -> None:
 # Answers
 
 
-def places_of(words: str) -> tuple[tuple[Any, ...], str]:
-    """The places of a refusal by their kinds: as the exception has them, and as the line has them."""
-    numbers = iter((12345678901, 22, 33))
-    places: list[Any] = []
-    for word in words.split():
-        places.append("6" if word == "type" else "3036303031" if word == "cenid" else next(numbers))
-    return tuple(places), "".join(f" {place}" for place in places)
-
-
 @pytest.mark.parametrize("number, name, words", REFUSALS)
 def test_refusals(number: int, name: str, words: str) -> None:
     """Each refusal with its places, by each call."""
-    places, line = places_of(words)
+    numbers = iter((12345678901, 22, 33))
+    of_kind = {"type": "6", "cenid": "3036303031"}
+    places = tuple(of_kind[word] if word in of_kind else next(numbers) for word in words.split())
+    line = "".join(f" {place}" for place in places)
     for which in (0, 1, 2):
         fault = f"fault {number} {which} 6 3036303031 12345678901 22 33".encode()
         calls: list[Callable[[], object]] = [
@@ -238,19 +231,16 @@ def test_refusals(number: int, name: str, words: str) -> None:
 
 def test_flags() -> None:
     """Each flag is passed as itself. Any true value counts as given."""
-    for given in (True, 1, "yes"):
-        flags: Any = {"no_sources": given}
-        assert tigercanon.normalise(TEXT, **flags) == TEXT + b"+no_sources"
-        assert tigercanon.fingerprint(TEXT, **flags)[62:] == "01"
-        assert tigercanon.compare(TEXT, TEXT, **flags) is False
-        flags = {"no_reserved": given}
-        assert tigercanon.normalise(TEXT, **flags) == TEXT + b"+no_reserved"
-        assert tigercanon.fingerprint(TEXT, **flags)[62:] == "02"
-        assert tigercanon.compare(TEXT, TEXT, **flags) is False
-        flags = {"no_sources": given, "no_reserved": given}
-        assert tigercanon.normalise(TEXT, **flags) == TEXT + b"+both"
-        assert tigercanon.fingerprint(TEXT, **flags)[62:] == "03"
-        assert tigercanon.compare(TEXT, b"other", **flags) is True
+    rows = [
+        ("no_sources", b"+no_sources", "01"),
+        ("no_reserved", b"+no_reserved", "02"),
+        ("no_sources no_reserved", b"+both", "03"),
+    ]
+    for given, (names, ending, digits) in product((True, 1, "yes"), rows):
+        flags: Any = dict.fromkeys(names.split(), given)
+        assert tigercanon.normalise(TEXT, **flags) == TEXT + ending
+        assert tigercanon.fingerprint(TEXT, **flags)[62:] == digits
+        assert tigercanon.compare(TEXT, b"other" if len(flags) == 2 else TEXT, **flags) is (len(flags) == 2)
     for absent in (False, 0, "", None):
         nothing: Any = {"no_sources": absent, "no_reserved": absent}
         assert tigercanon.normalise(TEXT, **nothing) == TEXT

@@ -23,16 +23,13 @@ Point = tuple[int, int]
 Values = dict[str, str]
 """Fields of a record by their names. A field that isn't there is blank."""
 
-Cell = tuple[int, int]
-Cells = dict[Cell, Cell]
+Cells = dict[Point, Point]
 """For each cell of the net, one cell that represents all cells joined with it."""
 
-TREES = """
-    Oak Elm Maple Cedar Birch Walnut Chestnut Hickory Laurel Magnolia Willow Poplar Sycamore Juniper Aspen Hazel
-""".split()
-PEOPLE = """
-    Washington Jefferson Madison Monroe Jackson Harrison Taylor Lincoln Grant Hayes Garfield Cleveland Wilson Coolidge
-""".split()
+TREES = "Oak Elm Maple Cedar Birch Walnut Chestnut Hickory Laurel Magnolia Willow Poplar Sycamore Juniper Aspen Hazel".split()
+PEOPLE = (
+    "Washington Jefferson Madison Monroe Jackson Harrison Taylor Lincoln Grant Hayes Garfield Cleveland Wilson Coolidge".split()
+)
 
 
 @dataclass
@@ -75,9 +72,6 @@ class County:
     landmarks: list[Landmark]
 
 
-# Making a county
-
-
 @dataclass
 class Town:
     """A town on a net of lines. Each line is a street or something else. A cell of the net is a
@@ -88,24 +82,15 @@ class Town:
     chance: random.Random
     middle: Point = (-86_474_000, 32_462_000)
 
+    def __post_init__(self) -> None:
+        self.river, self.highway, self.railroad = self.rows // 3, self.rows // 2 + 1, 3 * self.columns // 4
+
     def place(self, column: float, row: float) -> Point:
         """Where a place of the net lies: the net is bent a little, and wider at its rim."""
         across, up = column - self.columns / 2, row - self.rows / 2
         bent_across = across + 0.45 * math.sin(up / 2.3) + 0.012 * across * abs(across) / (1 + self.columns / 24)
         bent_up = up + 0.4 * math.sin(across / 2.9 + 1) + 0.012 * up * abs(up) / (1 + self.rows / 24)
         return self.middle[0] + round(1400 * bent_across), self.middle[1] + round(1150 * bent_up)
-
-    @property
-    def river(self) -> int:
-        return self.rows // 3
-
-    @property
-    def railroad(self) -> int:
-        return 3 * self.columns // 4
-
-    @property
-    def highway(self) -> int:
-        return self.rows // 2 + 1
 
     def is_kept(self, column: int, row: int, is_across: bool) -> bool:
         """Whether there is a chain along this edge of the net. At the rim of the town there are fewer."""
@@ -126,17 +111,19 @@ def made_county(columns: int, rows: int, seed: int) -> County:
     edges += [(column, row, False) for column in range(columns + 1) for row in range(rows) if town.is_kept(column, row, False)]
     cells = joined_cells(town, set(edges))
     polygon_of = {cell: number for number, cell in enumerate(sorted(set(cells.values())))}
-    polygons = [made_polygon(town, cell) for cell in polygon_of]
+    polygons = []
+    for column, row in polygon_of:
+        water = "1" if (column * 7 + row * 11) % 61 == 5 else ""
+        polygons.append(Polygon({"FILE": FILE, "WATER": water}, town.place(column + 0.5, row + 0.45)))
     names = [{"FILE": FILE, "FENAME": "State Highway 14"}, {"FILE": FILE, "FENAME": "Old Mill", "FETYPE": "Rd"}]
     chains = [made_chain(town, edge, cells, polygon_of) for edge in edges]
     return County(chains, names, polygons, list(made_landmarks(town, cells, polygon_of)))
 
 
 def joined_cells(town: Town, edges: set[tuple[int, int, bool]]) -> Cells:
-    """For each cell of the net, one cell that represents all cells joined with it."""
     parents = {(column, row): (column, row) for column in range(town.columns) for row in range(town.rows)}
 
-    def root(cell: Cell) -> tuple[int, int]:
+    def root(cell: Point) -> Point:
         while parents[cell] != cell:
             parents[cell] = parents[parents[cell]]
             cell = parents[cell]
@@ -150,31 +137,21 @@ def joined_cells(town: Town, edges: set[tuple[int, int, bool]]) -> Cells:
     return {cell: root(cell) for cell in parents}
 
 
-def made_polygon(town: Town, cell: Cell) -> Polygon:
-    column, row = cell
-    is_pond = (column * 7 + row * 11) % 61 == 5
-    return Polygon({"FILE": FILE, "WATER": "1" if is_pond else ""}, town.place(column + 0.5, row + 0.45))
-
-
-def made_chain(town: Town, edge: tuple[int, int, bool], cells: Cells, polygon_of: dict[Cell, int]) -> Chain:
+def made_chain(town: Town, edge: tuple[int, int, bool], cells: Cells, polygon_of: dict[Point, int]) -> Chain:
     """The chain along an edge of the net, which runs to the east or to the north."""
     column, row, is_across = edge
-    start, end = (column, row), (column + 1, row) if is_across else (column, row + 1)
+    start = row * (town.columns + 1) + column + 1
+    end = start + (1 if is_across else town.columns + 1)
     above, below = (column, row), (column, row - 1) if is_across else (column - 1, row)
     sides = [cells.get(cell) for cell in ((above, below) if is_across else (below, above))]
     left, right = [polygon_of[cell] if cell is not None else None for cell in sides]
-    chain = Chain(named_fields(town, edge), points_between(town, edge), node(town, start), node(town, end), left, right)
+    chain = Chain(named_fields(town, edge), points_between(town, edge), start, end, left, right, link={"FILE": FILE})
     if is_across and row == town.highway:
         chain.names = [0]
     if is_across and row == town.highway and column % 3 == 0:
         chain.names = [0, 1]
         chain.ranges = [addresses(100 * column + 50, 100 * column + 58, "36067", "36067")]
-    chain.link = {"FILE": FILE}
     return chain
-
-
-def node(town: Town, place: tuple[int, int]) -> int:
-    return place[1] * (town.columns + 1) + place[0] + 1
 
 
 def points_between(town: Town, edge: tuple[int, int, bool]) -> list[Point]:
@@ -195,7 +172,9 @@ def points_between(town: Town, edge: tuple[int, int, bool]) -> list[Point]:
 def named_fields(town: Town, edge: tuple[int, int, bool]) -> Values:
     """The fields of a chain of type 1."""
     column, row, is_across = edge
-    fields: Values = {"SOURCE": "A", **{f"{name}{hand}": value for hand in "LR" for name, value in codes(column, row).items()}}
+    tract, block = 20100 + 100 * (column // 12) + row // 12, 1000 + (column % 12) * 12 + row % 12
+    codes = {"STATE": "01", "COUNTY": "001", "COUSUB": "92106", "PLACE": "62328", "TRACT": f"{tract:06}", "BLOCK": str(block)}
+    fields: Values = {"SOURCE": "A", **{f"{name}{hand}": value for hand in "LR" for name, value in codes.items()}}
     if is_across and row == town.river:
         return {**fields, "SOURCE": "B", "FENAME": "Autauga Creek", "CFCC": "H11"}
     if not is_across and column == town.railroad:
@@ -218,19 +197,13 @@ def named_fields(town: Town, edge: tuple[int, int, bool]) -> Values:
     return {**fields, "FEDIRP": part, "FENAME": name, "FETYPE": way, "CFCC": "A41", **numbers}
 
 
-def codes(column: int, row: int) -> Values:
-    tract = 20100 + 100 * (column // 12) + row // 12
-    block = 1000 + (column % 12) * 12 + row % 12
-    return {"STATE": "01", "COUNTY": "001", "COUSUB": "92106", "PLACE": "62328", "TRACT": f"{tract:06}", "BLOCK": str(block)}
-
-
 def addresses(first: int, last: int, left: str, right: str) -> Values:
     """A range of odd addresses on the left and of even ones on the right."""
     numbers = {"FRADDL": first, "TOADDL": last, "FRADDR": first + 1, "TOADDR": last + 1}
     return {**{name: f"{number:>11}" for name, number in numbers.items()}, "ZIPL": left, "ZIPR": right}
 
 
-def made_landmarks(town: Town, cells: Cells, polygon_of: dict[Cell, int]) -> Iterator[Landmark]:
+def made_landmarks(town: Town, cells: Cells, polygon_of: dict[Point, int]) -> Iterator[Landmark]:
     """Churches and schools as points, and ponds and parks as polygons."""
     kinds = [("Church", "D44"), ("School", "D43"), ("Cemetery", "D82")]
     for number in range(max(6, town.columns * town.rows // 24)):
@@ -245,11 +218,7 @@ def made_landmarks(town: Town, cells: Cells, polygon_of: dict[Cell, int]) -> Ite
         yield Landmark({"FILE": FILE, "SOURCE": "B", "CFCC": cfcc, "LANAME": title}, None, [polygon_of[cell]])
 
 
-# Writing it
-
-
 def content(layout: Layout, fields: Values) -> str:
-    """The content of a record."""
     return "".join(fields.get(column.name, "").ljust(column.width) for column in layout.columns)
 
 
@@ -332,18 +301,10 @@ def lines(county: County, hand: Hand) -> Iterator[str]:
 
 def turned(chain: Chain) -> Chain:
     """The chain as seen from its other end."""
-    return replace(
-        chain,
-        fields=turned_fields(CHAIN, chain.fields),
-        points=chain.points[::-1],
-        start=chain.end,
-        end=chain.start,
-        left=chain.right,
-        right=chain.left,
-        ranges=[turned_fields(RANGE, fields) for fields in chain.ranges],
-    )
 
+    def fields(layout: Layout, had: Values) -> Values:
+        return {column.name: had.get(column.partner or column.name, "") for column in layout.columns}
 
-def turned_fields(layout: Layout, fields: Values) -> Values:
-    """Fields as seen from the chain's other end."""
-    return {column.name: fields.get(column.partner or column.name, "") for column in layout.columns}
+    ends = {"start": chain.end, "end": chain.start, "left": chain.right, "right": chain.left}
+    ranges = [fields(RANGE, each) for each in chain.ranges]
+    return replace(chain, fields=fields(CHAIN, chain.fields), points=chain.points[::-1], ranges=ranges, **ends)

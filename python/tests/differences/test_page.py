@@ -88,7 +88,7 @@ def town(tmp_path_factory: pytest.TempPathFactory) -> Town:
     folder = tmp_path_factory.mktemp("town")
     county = made_county(20, 20, 20)
     changing = much_changed(county, 21)
-    changing.rename(1, SCRIPT)
+    changing.change_field(1, "FENAME", SCRIPT)
     changing.county.landmarks[-1].fields["LANAME"] = PICTURE
     return Town(county, changing, page_of(folder, "page", written(county, 22), written(changing.county, 23)))
 
@@ -222,15 +222,11 @@ class TestLayout:
 class TestVerdicts:
     """Pages of maps that don't differ, or only in how things are tied."""
 
-    def test_one_map(self, browser: Browser, room: Path) -> None:
-        county = made_county(6, 6, 24)
+    @pytest.mark.parametrize("county", [made_county(6, 6, 24), County([], [], [], [])], ids=["county", "nothing"])
+    def test_one_map(self, browser: Browser, room: Path, county: County) -> None:
         browser.open(page_of(room, "same", written(county, 25), written(county, 26)))
         assert browser.texts("#notes") == ["No differences: the two are one map."]
         assert browser.texts("#list li") == []
-
-    def test_nothing(self, browser: Browser, room: Path) -> None:
-        browser.open(page_of(room, "nothing", b"", b""))
-        assert browser.texts("#notes") == ["No differences: the two are one map."]
 
     def test_ties(self, browser: Browser, room: Path) -> None:
         county = made_county(10, 10, 27)
