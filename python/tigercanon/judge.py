@@ -17,7 +17,6 @@ from .errors import printable, reason
 from .hints import hint
 from .layout import TYPES, file_name
 from .own import Ended, Own, remove_stale_folders
-from .program import TUNABLES
 from .storage import Broken, fetch, is_url
 from .zips import BadZip, members_of, opened, unpack
 
@@ -188,7 +187,7 @@ def asked(name: str, files: Files, order: Order, own: Own, notes: list[str]) -> 
     """What the program answers for a set."""
     stem = ["--stem"] if len(files) > 1 else []
     words = [order.program, "fingerprint", *stem, *order.flags, "--", name]
-    ended = own.run(words, environment(), order.memory)
+    ended = own.run(words, order.memory)
     if ended.status == 0 and DIGITS.fullmatch(ended.out):
         return Answer("made", ended.out[:64].decode(), tuple(notes))
     line = complaint(ended)
@@ -196,11 +195,6 @@ def asked(name: str, files: Files, order: Order, own: Own, notes: list[str]) -> 
     lacks_memory = line.startswith("refused 9 ") or not 0 <= ended.status <= 128
     kind = "memory" if lacks_memory else "refused" if line.startswith("refused ") else "failed"
     return Answer(kind, line, (*notes, *filter(None, [hint(line, files)])))
-
-
-def environment() -> dict[str, str]:
-    """The environment in which the program is run: with settings for memory, unless the user has settings of their own."""
-    return {"GLIBC_TUNABLES": TUNABLES, **os.environ}
 
 
 def complaint(ended: Ended) -> str:

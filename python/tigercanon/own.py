@@ -15,6 +15,8 @@ from dataclasses import dataclass
 from pathlib import Path
 from typing import Callable, Iterator, Sequence
 
+from .program import TUNABLES
+
 PREFIX = "tigercanon-"
 VARIABLE = "TIGERCANON_SHM"
 IN_MEMORY = "/dev/shm"
@@ -49,9 +51,10 @@ class Own:
         self.folders: dict[str, int] = {}
         self.last: list[Callable[[], None]] = []
 
-    def run(self, words: Sequence[str], environment: dict[str, str], memory: int | None) -> Ended:
-        """Runs a program in a session of its own, so that all of it can be ended. memory limits its address space."""
-        pipe, nothing = subprocess.PIPE, subprocess.DEVNULL
+    def run(self, words: Sequence[str], memory: int | None = None) -> Ended:
+        """Runs the program in a session of its own, so that all of it can be ended. memory limits its address space. Its settings for
+        memory are those that make it faster, unless the user has settings of their own."""
+        pipe, nothing, environment = subprocess.PIPE, subprocess.DEVNULL, {"GLIBC_TUNABLES": TUNABLES, **os.environ}
         if memory is not None:
             words = ["/bin/sh", "-c", f'ulimit -v {memory // 1024} && exec "$@"', "sh", *words]
         with self.lock:

@@ -14,7 +14,7 @@ from typing import Iterator, Sequence
 from ..counties import as_stem
 from ..errors import Failure, printable, reason
 from ..hints import hint
-from ..judge import Files, complaint, environment, files_of
+from ..judge import Files, complaint, files_of
 from ..layout import TYPES, file_name
 from ..own import PROCESS
 
@@ -98,7 +98,7 @@ def printed(program: str, command: Sequence[str], sources: Sequence[Source]) -> 
 
     def printed_for(source: Source) -> bytes:
         try:
-            ended = PROCESS.run([program, *command, *source.words], environment(), None)
+            ended = PROCESS.run([program, *command, *source.words])
         except OSError as error:
             raise Failure(f"the program {program} can't be run: {reason(error)}") from None
         if ended.status != 0:
