@@ -71,7 +71,6 @@ class Answer(NamedTuple):
 
 
 def run(words: Sequence[object], **how: object) -> Answer:
-    """Runs a program to its end."""
     called = [word if isinstance(word, bytes) else str(word) for word in words]
     if "input" not in how:
         how = {"stdin": subprocess.DEVNULL, **how}

@@ -78,12 +78,10 @@ class Ended(NamedTuple):
 
     @property
     def lines(self) -> list[str]:
-        """What was reported, without the command's name."""
         return [line[len(NAME) :] for line in self.err.splitlines() if line.startswith(NAME)]
 
     @property
     def reports(self) -> dict[str, str]:
-        """What was reported of single counties."""
         parts = [line.partition(": ") for line in self.lines]
         return {stem: text for stem, _, text in parts if "/" in stem and text}
 
@@ -107,12 +105,10 @@ def words_of(*words: object) -> list[str]:
 
 
 def call(*words: object, **options: Any) -> Ended:
-    """Calls the tools in the current folder."""
     return end(begin(*words, **options))
 
 
 def begin(*words: object, env: dict[str, str] | None = None, **options: Any) -> "subprocess.Popen[bytes]":
-    """Starts the tools in the current folder."""
     streams = {"stdin": subprocess.DEVNULL, "stdout": subprocess.PIPE, "stderr": subprocess.PIPE}
     options = {"start_new_session": True, "preexec_fn": die_with_the_test, **streams, **options}
     return subprocess.Popen(words_of(*words), env=environment(**(env or {})), **options)

@@ -172,7 +172,6 @@ def test_rounds() -> None:
 
 @pytest.fixture(scope="module", name="county")
 def made_county(tmp_path_factory: pytest.TempPathFactory) -> Path:
-    """A county of 2,000 chains."""
     path = tmp_path_factory.mktemp("county") / "county.txt"
     make_county(2000, path)
     return path

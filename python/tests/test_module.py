@@ -52,7 +52,6 @@ REFUSALS = [
 
 @pytest.fixture(scope="module", name="library")
 def compiled(tmp_path_factory: pytest.TempPathFactory) -> Path:
-    """The stand-in as a shared library."""
     if not shutil.which("gcc"):
         pytest.skip("no gcc")
     made = tmp_path_factory.mktemp("library") / _library.NAME
@@ -63,7 +62,6 @@ def compiled(tmp_path_factory: pytest.TempPathFactory) -> Path:
 
 @pytest.fixture(autouse=True)
 def loaded(library: Path, monkeypatch: pytest.MonkeyPatch) -> Iterator[None]:
-    """The module takes the stand-in."""
     monkeypatch.setenv(_library.VARIABLE, str(library))
     _library.library.cache_clear()
     yield

@@ -63,7 +63,6 @@ class Parser(argparse.ArgumentParser):
 
 
 def parser() -> Parser:
-    """The parser of the whole command line."""
     raw = argparse.RawDescriptionHelpFormatter
     made = Parser(prog=NAME, description=ABOUT, epilog=STATUSES, formatter_class=raw, allow_abbrev=False)
     made.add_argument("--version", action="version", version=f"{NAME} {VERSION}")

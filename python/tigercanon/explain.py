@@ -63,6 +63,5 @@ def places(heading: str, given: list[str]) -> list[str]:
 
 
 def run(options: argparse.Namespace) -> int:
-    """Explains a refusal."""
     print_lines(explained(" ".join(options.line), page()))
     return 0

@@ -36,7 +36,6 @@ def flags_of(options: argparse.Namespace) -> tuple[str, ...]:
 
 
 def heading(flags: Sequence[str]) -> str:
-    """The first line of a manifest."""
     return " ".join([FORM, *flags])
 
 

@@ -57,7 +57,6 @@ class Browser:
         return float(self.run(drawn)) / 1000
 
     def paper(self, orientation: str) -> Any:
-        """The options for printing a page in portrait or landscape."""
         from selenium.webdriver.common.print_page_options import PrintOptions
 
         options = PrintOptions()
@@ -106,7 +105,6 @@ class Browser:
         )
 
     def complaints(self) -> Any:
-        """The lines of the browser's log."""
         return self.driver.get_log("browser")
 
     def requests(self) -> list[str]:

@@ -105,7 +105,6 @@ class Town:
 
 
 def made_county(columns: int, rows: int, seed: int) -> County:
-    """The county of a town on a net of columns times rows cells."""
     town = Town(columns, rows, random.Random(seed))
     edges = [(column, row, True) for row in range(rows + 1) for column in range(columns) if town.is_kept(column, row, True)]
     edges += [(column, row, False) for column in range(columns + 1) for row in range(rows) if town.is_kept(column, row, False)]
@@ -170,7 +169,6 @@ def points_between(town: Town, edge: tuple[int, int, bool]) -> list[Point]:
 
 
 def named_fields(town: Town, edge: tuple[int, int, bool]) -> Values:
-    """The fields of a chain of type 1."""
     column, row, is_across = edge
     tract, block = 20100 + 100 * (column // 12) + row // 12, 1000 + (column % 12) * 12 + row % 12
     codes = {"STATE": "01", "COUNTY": "001", "COUSUB": "92106", "PLACE": "62328", "TRACT": f"{tract:06}", "BLOCK": str(block)}
@@ -223,7 +221,6 @@ def content(layout: Layout, fields: Values) -> str:
 
 
 def spelt(point: Point | None) -> str:
-    """A point as records have it."""
     return " " * 19 if point is None else f"{point[0]:+010d}{point[1]:+09d}"
 
 
@@ -263,7 +260,6 @@ def written(county: County, seed: int | None = None) -> bytes:
 
 
 def lines(county: County, hand: Hand) -> Iterator[str]:
-    """The records, type by type."""
     most = 9 * len(county.chains) + 99
     numbered: list[list[Any]] = [county.chains, county.names, county.landmarks, county.polygons]
     tlids, feats, lands, polyids = (hand.numbers(len(things), most) for things in numbered)

@@ -37,13 +37,11 @@ def example() -> tuple[County, Changing]:
 
 
 def texts() -> tuple[bytes, bytes]:
-    """The texts of both files."""
     town, later = example()
     return written(town), written(later.county, SEED)
 
 
 def write_picture(picture: Path) -> None:
-    """Writes the picture of the example's page."""
     from PIL import Image
 
     from .browser import Browser

@@ -35,7 +35,6 @@ def diff(*words: object, program: object = PROGRAM, **options: Any) -> Ended:
 
 
 def sets_of(first: bytes, second: bytes) -> Sets:
-    """Two sets with these canonical texts."""
     return Sets(Canonical("one", first), Canonical("other", second))
 
 
@@ -68,7 +67,6 @@ def in_words(difference: Difference) -> Difference:
 
 
 def counts_in_words(text: str) -> dict[str, list[str]]:
-    """The table of counts."""
     return {line[:19].strip(): line[19:].split() for line in text.splitlines()[3:8]}
 
 
@@ -88,7 +86,6 @@ def told_in_geojson(path: Path) -> set[Difference]:
 
 
 def page_data(path: Path) -> dict[str, Any]:
-    """The data in a page."""
     found = re.search(r'<script type="application/json" id="data">(.*?)</script>', path.read_text("utf-8"), re.DOTALL)
     data: dict[str, Any] = json.loads(found[1]) if found else {}
     return data
@@ -107,7 +104,6 @@ def told_in_page(path: Path) -> set[Difference]:
 
 
 def line_of(distances: list[int]) -> Place:
-    """The points of a list of distances."""
     longitude = latitude = 0
     points = []
     for at in range(0, len(distances), 2):

@@ -26,7 +26,6 @@ class Made(NamedTuple):
     second: Path
 
     def counts(self) -> dict[str, list[str]]:
-        """The table of counts, as it follows from the changes."""
         told = self.changing.counts(self.county)
         names = dict(zip((*KINDS, "alike"), ("0", str(len(self.changing.names)), "-", str(len(self.county.names)))))
         table = {kind: [*(f"{told[what, kind]:,}" for what in SUBJECTS), count] for kind, count in names.items()}

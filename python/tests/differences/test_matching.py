@@ -23,7 +23,6 @@ def compared(first: County, second: County) -> Comparison:
 
 
 def words_of(first: County, second: County) -> str:
-    """The printed report."""
     return "\n".join(told(compared(first, second), sets_of(written(first), written(second))))
 
 

@@ -76,7 +76,6 @@ def browser(window: Browser) -> Iterator[Browser]:
 
 
 def page_of(folder: Path, name: str, first: bytes, second: bytes) -> Path:
-    """A page of two sets."""
     one, other = put(folder / f"{name}-<b>first", first), put(folder / f"{name}-<b>second", second)
     ended = diff("--page", folder / f"{name}.html", one, other)
     assert ended.err == ""

@@ -56,7 +56,6 @@ class Layout:
         return {column.name: slice(end - column.width, end) for column, end in zip(self.columns, ends)}
 
     def content(self, line: str) -> str:
-        """The content of a record."""
         return line[self.runs[0]] if len(self.runs) == 1 else "".join([line[run] for run in self.runs])
 
     def value(self, content: str, name: str) -> str:

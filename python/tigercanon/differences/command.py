@@ -58,7 +58,6 @@ class Progress:
 
 
 def add_arguments(parser: argparse.ArgumentParser) -> None:
-    """Declares the arguments of the subcommand."""
     parser.formatter_class = argparse.RawDescriptionHelpFormatter
     parser.description = ABOUT
     add = parser.add_argument
@@ -99,7 +98,6 @@ def check_options(options: argparse.Namespace) -> None:
 
 
 def compared(options: argparse.Namespace) -> int:
-    """Compares the sets and writes what was asked for."""
     leaflet = find_leaflet(options.leaflet) if options.page is not None else None
     program, masks = find_program(options.program), flags_of(options)
     with contextlib.ExitStack() as stack:

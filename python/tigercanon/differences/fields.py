@@ -65,7 +65,6 @@ class Teller:
     marks: PolygonMarks
 
     def chain(self, chain: Chain) -> Fields:
-        """The fields of a chain without its points."""
         fields = text_fields(CHAIN, chain.body)
         for place, body in enumerate(self.county.name_bodies(chain), 1):
             name = FieldName(f"further name {place}", "a further name of the chain")
@@ -81,7 +80,6 @@ class Teller:
         return fields
 
     def side(self, hand: str, side: PolygonKey) -> Fields:
-        """The fields of a chain's side."""
         cenid = FieldName(f"CENID{hand[0].upper()}", f"office of the polygon on the {hand}")
         polygon = FieldName(f"{hand} polygon", f"the polygon on the {hand}, by what its record says")
         fields = {cenid: Text(side.cenid.strip(), side.cenid, side.cenid)}
@@ -101,7 +99,6 @@ class Teller:
 
 
 def text_fields(layout: Layout, content: str, suffix: str = "") -> Fields:
-    """The fields of a record's content."""
     fields = {}
     for name, value in zip(field_names(layout, suffix), layout.values(content)):
         plain = "" if value.isspace() else degrees(value) if name.kind == "point" else value.strip()
@@ -218,12 +215,10 @@ def name_text(layout: Layout, content: str) -> str:
 
 
 def chain_title(chain: Chain) -> str:
-    """A chain by its name and class."""
     return titled(name_text(CHAIN, chain.body) or "unnamed", CHAIN.value(chain.body, "CFCC"))
 
 
 def landmark_title(landmark: Landmark) -> str:
-    """A landmark by its name and class."""
     body = landmark.bodies[0]
     return titled(LANDMARK.value(body, "LANAME").strip() or "unnamed landmark", LANDMARK.value(body, "CFCC"))
 

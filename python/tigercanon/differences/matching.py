@@ -87,7 +87,6 @@ class Comparison:
 
 
 def compare(first: County, second: County) -> Comparison:
-    """Where the maps differ."""
     groups = chains_by_points(first, second)
     certain = [(ones[0], others[0]) for ones, others in groups if len(ones) == len(others) == 1 and not is_own_reverse(ones[0])]
     polygons = match_polygons(first, second, certain)
@@ -130,7 +129,6 @@ def chains_by_points(first: County, second: County) -> list[Pair[list[Chain]]]:
 
 
 def match_chains(groups: list[Pair[list[Chain]]], first: Teller, second: Teller) -> Matched[Chain]:
-    """Matches the chains of each group."""
     matched: Matched[Chain] = Matched()
     for ones, others in groups:
         if len(ones) == len(others) == 1 and says(ones[0], first) == says(others[0], second):
@@ -186,7 +184,6 @@ def is_own_reverse(chain: Chain) -> bool:
 
 
 def turned(chain: Chain) -> Chain:
-    """The chain as seen from its other end."""
     return replace(
         chain,
         body=CHAIN.turned(chain.body),

@@ -143,7 +143,6 @@ class PageData:
 
 
 def write_page(file: NewFile, comparison: Comparison, sets: Sets, leaflet: Leaflet) -> None:
-    """Writes the page."""
     parts = {
         # The style without the files that it names, and the script as an element can hold it, without the file that its end names.
         "leaflet_style": re.sub(r"[^;{}]*url\([^)]*\)[^;}]*;?", "", re.sub(r"/\*#.*?\*/", "", leaflet.style)),
@@ -163,7 +162,6 @@ def write_page(file: NewFile, comparison: Comparison, sets: Sets, leaflet: Leafl
 
 
 def page_data(comparison: Comparison, sets: Sets) -> dict[str, Any]:
-    """All that the page's script reads."""
     data = PageData(comparison, shift_of(comparison))
     is_too_large = sum(comparison.chains.counts) > MOST_CHAINS
     page = {

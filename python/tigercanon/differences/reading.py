@@ -146,7 +146,6 @@ def read_county(text: bytes) -> County:
 
 
 def records_of(text: bytes) -> Records:
-    """The lines of each type, in their order."""
     lines = text.decode("latin-1").split("\n")
     if lines.pop():
         raise NotCanonical("the last line has no line ending")
@@ -215,7 +214,6 @@ def read_landmarks(records: Records) -> list[Landmark]:
 
 
 def points_of(points: str) -> list[tuple[int, int]]:
-    """The points in a string of them."""
     return [point(points[at : at + POINT_WIDTH]) for at in range(0, len(points), POINT_WIDTH)]
 
 

@@ -29,7 +29,6 @@ class Source:
 
     @property
     def words(self) -> list[str]:
-        """The program's arguments for the set."""
         return [*(["--stem"] if len(self.files) > 1 else []), "--", self.place]
 
 

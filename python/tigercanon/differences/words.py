@@ -46,7 +46,6 @@ def told(comparison: Comparison, sets: Sets, is_summary: bool = False) -> Iterat
 
 
 def told_counts(comparison: Comparison) -> Iterator[str]:
-    """A table of how many of each kind there are."""
     heads = ("chains", "landmarks", "polygons", "feature names")
     table = [[f"{count:,}" for count in part.counts] for part in comparison.parts]
     table[3][2] = "-"
