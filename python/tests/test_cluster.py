@@ -27,32 +27,27 @@ class Archive(NamedTuple):
     reports: dict[str, str]
 
 
-def by_program(program: str, county: made.Made, folder: Path) -> "subprocess.CompletedProcess[str]":
-    """What the program itself answers for a county as single files."""
-    made.put_files(folder, county)
-    return subprocess.run([program, "fingerprint", "--stem", "--", folder / county.stem], capture_output=True, text=True)
-
-
 @pytest.fixture(scope="module")
 def expected(tmp_path_factory: pytest.TempPathFactory) -> Iterator[Archive]:
     """What the program prints for each county alone."""
     if not PROGRAM:
         pytest.skip("no program is built")
-    folder = tmp_path_factory.mktemp("files")
-    counties = made.counties()
+    folder, asks = tmp_path_factory.mktemp("files"), [PROGRAM, "fingerprint", "--stem", "--"]
+    counties = sorted(made.counties(), key=lambda county: county.stem)
+    for county in counties:
+        made.put_files(folder, county)
     with ThreadPoolExecutor() as pool:
-        runs = list(pool.map(lambda county: by_program(str(PROGRAM), county, folder), counties))
+        stems = [folder / county.stem for county in counties]
+        runs = list(pool.map(lambda stem: subprocess.run([*asks, stem], capture_output=True, text=True), stems))
     lines, reports = ["# tigercanon form 1"], {}
-    for county, run in sorted(zip(counties, runs), key=lambda pair: pair[0].stem):
-        missing = [kind for kind in TYPES if kind not in county.parts]
-        empty = ["empty .RT1"] if county.parts.get("1") == b"" else []
-        notes = [*([f"no {endings(missing)}"] if missing else []), *empty]
+    for county, run in zip(counties, runs):
+        missing = endings(kind for kind in TYPES if kind not in county.parts)
+        empty = "empty .RT1" if county.parts.get("1") == b"" else ""
         if run.returncode == 0:
             lines.append(f"{run.stdout.strip()}  {county.stem}")
-        else:
-            notes.insert(0, run.stderr.strip())
+        notes = "; ".join(filter(None, [run.stderr.strip(), missing and f"no {missing}", empty]))
         if notes:
-            reports[county.stem] = "; ".join(notes)
+            reports[county.stem] = notes
     yield Archive(folder, lines, reports)
 
 

@@ -102,9 +102,7 @@ def county_at(path: str) -> list[bytes]:
     """The parts of the county at a path: of a file, of a zip, or of the files of a stem."""
     if not os.path.lexists(path):
         return files_behind(path)
-    if zipfile.is_zipfile(path):
-        return files_in_zip(path)
-    return [Path(path).read_bytes()]
+    return files_in_zip(path) if zipfile.is_zipfile(path) else [Path(path).read_bytes()]
 
 
 def files_behind(stem: str) -> list[bytes]:

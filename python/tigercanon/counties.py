@@ -53,17 +53,15 @@ class Finder:
             for county in self.of_source(source):
                 if is_known(county.stem):
                     known.add(county.stem)
-                elif county.stem not in found and not self.is_same(county, places):
-                    found[county.stem] = county
+                    continue
+                files = [file for file in (county.zip, county.whole, *county.files.values()) if file]
+                # A name that its files have whichever links lead to them.
+                first = places.setdefault(real(files[0].place), county.stem) if files else county.stem
+                if first != county.stem and county.stem not in found:
+                    self.same.append((county.stem, first))
+                else:
+                    found.setdefault(county.stem, county)
         return list(found.values()), len(known)
-
-    def is_same(self, county: County, places: dict[str, str]) -> bool:
-        """Whether a county's files were found before under another name. It is noted then."""
-        place = place_of(county)
-        first = places.setdefault(place, county.stem) if place else county.stem
-        if first != county.stem:
-            self.same.append((county.stem, first))
-        return first != county.stem
 
     def of_source(self, source: str) -> Iterator[County]:
         """The counties of a source: a folder, a glob, or the name of a county or of one of its files."""
@@ -184,12 +182,6 @@ def names_among(found: list[Entry]) -> dict[str, Names]:
     return grouped
 
 
-def place_of(county: County) -> str:
-    """A name that a county's files have whichever links lead to them."""
-    files = [file for file in (county.zip, county.whole, *county.files.values()) if file]
-    return real(files[0].place) if files else ""
-
-
 def ending_of(name: str) -> str:
     """The ending under which a file that is passed over is counted."""
     return ".tar.gz" if name.lower().endswith(".tar.gz") else os.path.splitext(name)[1] or "without an ending"
@@ -202,10 +194,9 @@ def whole(path: str) -> County:
     if not os.path.lexists(path):
         absent = "no such file" if stem_of(path) != path else "no such file, folder or county"
         return County(path, trouble=absent, is_absent=True)
-    if not os.path.isfile(path):
-        return County(path, trouble="isn't a regular file")
-    if RECORD_FILE.fullmatch(path):
-        return County(path, trouble="isn't one of a county's nine files")
+    if not os.path.isfile(path) or RECORD_FILE.fullmatch(path):
+        why = "one of a county's nine files" if os.path.isfile(path) else "a regular file"
+        return County(path, trouble=f"isn't {why}")
     return County(path, whole=File(os.path.abspath(path), os.path.getsize(path)))
 
 

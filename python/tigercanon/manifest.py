@@ -265,7 +265,10 @@ class Lock:
             except OSError as error:
                 raise Failure(f"{self.name}.lock: can't be written: {reason(error)}") from None
             try:
-                self.see_that_it_is_a_lock(handle)
+                status = os.fstat(handle)
+                lines = os.pread(handle, status.st_size, 0).splitlines() if stat.S_ISREG(status.st_mode) else [b""]
+                if not all(map(LOCK_LINE.match, lines)):  # a file of the user's
+                    raise Failure(f"{self.name}.lock: isn't the lock of {self.name} but another file: move it away")
                 self.lock(handle, fcntl.LOCK_EX, PATIENCE_FOR_LOCK)
                 with suppress(FileNotFoundError):  # another run may have removed it meanwhile
                     if os.path.samestat(os.stat(self.path), os.fstat(handle)):
@@ -307,10 +310,3 @@ class Lock:
                 time.sleep(0.02)
             except OSError as error:
                 raise Failure(f"{self.name}.lock: can't be locked: {reason(error)}") from None
-
-    def see_that_it_is_a_lock(self, handle: int) -> None:
-        """Leaves a file of the user's that has such a name alone."""
-        status = os.fstat(handle)
-        lines = os.pread(handle, status.st_size, 0).splitlines() if stat.S_ISREG(status.st_mode) else [b""]
-        if not all(map(LOCK_LINE.match, lines)):
-            raise Failure(f"{self.name}.lock: isn't the lock of {self.name} but another file: move it away")

@@ -72,7 +72,9 @@ class Own:
         """A temporary folder, in memory if this many bytes fit there, else where TMPDIR says."""
         with self.lock:
             path = tempfile.mkdtemp(prefix=PREFIX, dir=room_for(size))
-            self.folders[path] = held(path)
+            # While the folder is locked, no other run removes it.
+            self.folders[path] = handle = os.open(path, os.O_RDONLY | os.O_DIRECTORY)
+            fcntl.flock(handle, fcntl.LOCK_EX)
         try:
             yield path
         finally:
@@ -124,13 +126,6 @@ def room_for(size: int) -> str | None:
         return room if room and shutil.disk_usage(room).free >= size + SPARE else None
     except OSError:
         return None
-
-
-def held(path: str) -> int:
-    """Opens and locks a folder: while it is locked, no other run removes it."""
-    handle = os.open(path, os.O_RDONLY | os.O_DIRECTORY)
-    fcntl.flock(handle, fcntl.LOCK_EX)
-    return handle
 
 
 def remove_stale_folders() -> None:

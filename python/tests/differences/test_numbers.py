@@ -9,7 +9,7 @@ import pytest
 from support import put
 
 from .changes import Changing, much_changed
-from .county import FILE, Landmark, Point, Values, made_county, written
+from .county import FILE, Landmark, Point, made_county, written
 from .reports import diff
 
 Features = list[dict[str, Any]]
@@ -45,11 +45,6 @@ def is_of(line: str, feature: dict[str, Any], side: str) -> bool:
     return micro(list(point)) == point_at(line, 26)
 
 
-def same_place(kind: int) -> Values:
-    """One of several landmarks with one name. They differ only in SOURCE and CFCC."""
-    return {"FILE": FILE, "SOURCE": "ABC"[kind % 3], "CFCC": f"D{kind}", "LANAME": "Fair Ground"}
-
-
 class Made(NamedTuple):
     """Two files, and their records."""
 
@@ -78,7 +73,9 @@ class Made(NamedTuple):
 @pytest.fixture
 def made(room: Path) -> Made:
     county = made_county(12, 12, 40)
-    county.landmarks += [Landmark(same_place(kind), (-86_470_001, 32_460_001)) for kind in range(60, 68)]
+    for kind in range(60, 68):  # landmarks with one name, which differ only in SOURCE and CFCC
+        fields = {"FILE": FILE, "SOURCE": "ABC"[kind % 3], "CFCC": f"D{kind}", "LANAME": "Fair Ground"}
+        county.landmarks.append(Landmark(fields, (-86_470_001, 32_460_001)))
     changing = much_changed(county, 41)
     first, second = put(room / "first", written(county, 42)), put(room / "second", written(changing.county, 43))
     return Made(first, second, {"first": records(first), "second": records(second)})

@@ -7,7 +7,7 @@ import json
 import re
 from dataclasses import dataclass, field
 from pathlib import Path
-from typing import Any, Iterator, Sequence
+from typing import Any, Sequence
 
 from ..errors import Failure
 from .fields import FieldName, Row, chain_title, landmark_points, landmark_title
@@ -174,15 +174,9 @@ def page_data(comparison: Comparison, sets: Sets) -> dict[str, Any]:
         "titles": list(data.titles),
         "labels": [[name.label, name.holds] for name in data.labels],
     }
-    return {**page, "verdict": verdict(comparison, sets), "notes": list(notes(is_too_large, data.room <= 0))}
-
-
-def notes(is_too_large: bool, is_out_of_room: bool) -> Iterator[str]:
-    """What the page leaves out."""
-    if is_too_large:
-        yield f"The maps have more than {MOST_CHAINS:,} chains: chains and polygons that are alike are left out."
-    if is_out_of_room:
-        yield "There are so many differences that only the first ones have their fields here. --geojson writes all fields."
+    left_out = f"The maps have more than {MOST_CHAINS:,} chains: chains and polygons that are alike are left out."
+    bare = "There are so many differences that only the first ones have their fields here. --geojson writes all fields."
+    return {**page, "verdict": verdict(comparison, sets), "notes": [left_out] * is_too_large + [bare] * (data.room <= 0)}
 
 
 def shift_of(comparison: Comparison) -> int:

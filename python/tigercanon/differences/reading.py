@@ -5,6 +5,7 @@ and latitude in millionths of a degree. A chain's points are one string of these
 each point in one way, in a canonical text and when it respells records.
 """
 
+import re
 from collections import defaultdict
 from dataclasses import dataclass, field
 from functools import lru_cache
@@ -14,7 +15,8 @@ from .columns import CHAIN, LANDMARK, LENGTHS, LINK, NAME, POLYGON, RANGE
 
 POINT_WIDTH = 19
 NO_POINT = " " * POINT_WIDTH
-UNUSED_PLACE = "+000000000+00000000"
+UNUSED_PLACES = re.compile(r"(\+000000000\+00000000)+$")
+"""The unused places at the end of a record of type 2."""
 
 Records = dict[str, list[str]]
 """The lines of each record type."""
@@ -171,7 +173,7 @@ def read_chains(records: Records) -> list[Chain]:
         return Chain(
             key=int(tlid),
             body=CHAIN.content(line),
-            points=line[190:209] + "".join([without_unused(each[18:]) for each in inner.get(tlid, ())]) + line[209:],
+            points=line[190:209] + "".join([UNUSED_PLACES.sub("", each[18:]) for each in inner.get(tlid, ())]) + line[209:],
             feats=tuple([feat for feat in feats if not feat.isspace()]),
             ranges=tuple([RANGE.content(each) for each in ranges.get(tlid, ())]),
             link_body=LINK.content(link),
@@ -190,13 +192,6 @@ def by_chain(lines: list[str]) -> dict[str, list[str]]:
     for line in sorted(lines, key=lambda line: line[5:18]):
         found[line[5:15]].append(line)
     return found
-
-
-def without_unused(places: str) -> str:
-    """The places of a record of type 2, without the unused ones at its end."""
-    while places.endswith(UNUSED_PLACE):
-        places = places[:-POINT_WIDTH]
-    return places
 
 
 def read_landmarks(records: Records) -> list[Landmark]:
