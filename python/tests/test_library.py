@@ -77,9 +77,6 @@ def test_vectors() -> None:
     assert wrong == {}
 
 
-# Refusals
-
-
 def test_examples_of_refusals() -> None:
     """Every example of a refusal, with all that the exception has."""
     table = (ROOT / "examples/README.md").read_text("utf-8").split("## Refused sets")[1]
@@ -123,9 +120,6 @@ def test_lines_of_the_guide() -> None:
 def test_a_line_of_the_third_part() -> None:
     with pytest.raises(tigercanon.Refusal, match="^refused 4 BadNumber 3 1 6$"):
         tigercanon.respell([AUTAUGA, b"", b"1\n\n"])
-
-
-# Answers
 
 
 def test_counties(tmp_path: Path) -> None:

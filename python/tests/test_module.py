@@ -73,9 +73,6 @@ def echoed(parts: Any) -> bytes:
     return tigercanon.respell(parts)
 
 
-# Parts
-
-
 def kinds(folder: Path) -> dict[str, Callable[[], Any]]:
     """One part with the text, in each form that a part may have."""
     path = folder / "part"
@@ -161,9 +158,6 @@ def test_parts_are_given_back() -> None:
     lent.extend(b"a bytearray that is lent can't be made longer")
 
 
-# Counties by their paths
-
-
 def test_stems(tmp_path: Path) -> None:
     """The nine files in their order, in either case of their endings. An absent one is empty."""
     (tmp_path / "TGR01001.RT1").write_bytes(b"one")
@@ -195,9 +189,6 @@ def test_zips(tmp_path: Path) -> None:
         county.writestr("TGR01003.RT1", "another county")
     with pytest.raises(ValueError, match="TGR01001.ZIP: .*2 counties"):
         tigercanon.check(path)
-
-
-# Answers
 
 
 @pytest.mark.parametrize("number, name, words", REFUSALS)
@@ -263,9 +254,6 @@ def test_other_threads_run() -> None:
 
 def test_check_returns_nothing() -> None:
     assert tigercanon.check(TEXT) is None  # type: ignore[func-returns-value]
-
-
-# The library, and what stands about the calls
 
 
 def imported(*words: str, package: Path = ROOT / "python", **more: str) -> "subprocess.CompletedProcess[str]":

@@ -38,9 +38,6 @@ def sets_of(first: bytes, second: bytes) -> Sets:
     return Sets(Canonical("one", first), Canonical("other", second))
 
 
-# Reading reports
-
-
 def told_in_words(text: str) -> set[Difference]:
     """The differences in a printed report. It has only the ends of a chain."""
     found = set()

@@ -191,9 +191,6 @@ def test_degrees(point: str, words: str, numbers: tuple[str, str]) -> None:
     assert (decimal(point[:10]), decimal(point[10:])) == numbers
 
 
-# Maps in which nothing differs except how things are tied
-
-
 def assert_tied(first: County, second: County, *lines: str) -> None:
     comparison = compared(first, second)
     assert comparison.is_alike

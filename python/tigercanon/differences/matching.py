@@ -116,9 +116,6 @@ def pair_by(first: Iterable[T], second: Iterable[T], key: Callable[[T], Hashable
     return pairs, left, [item for item in second if id(item) not in taken]
 
 
-# Chains
-
-
 def chains_by_points(first: County, second: County) -> list[Pair[list[Chain]]]:
     """The chains of both maps that run through the same points, in the order of the points."""
     groups: dict[str, Pair[list[Chain]]] = defaultdict(lambda: ([], []))
@@ -206,9 +203,6 @@ def lesser_turn(chain: Chain, teller: Teller) -> Chain:
     return min(ways_to_see(chain), key=lambda seen: repr(says(seen, teller)))
 
 
-# Polygons and landmarks
-
-
 def match_polygons(first: County, second: County, certain: list[Pair[Chain]]) -> Matched[Polygon]:
     """Matches polygons by their content, the others by their point, and then by the sides of chains."""
     sides: dict[int, Hashable] = {}
@@ -265,9 +259,6 @@ def match_landmarks(first: Teller, second: Teller) -> Matched[Landmark]:
         pairs, ones, others = pair_by(ones, others, key)
         changed += pairs
     return Matched(ones, others, changed, alike)
-
-
-# Ties
 
 
 class Tied(NamedTuple):
