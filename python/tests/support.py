@@ -11,13 +11,12 @@ import signal
 import subprocess
 import sys
 import tempfile
-import time
 from contextlib import suppress
 from pathlib import Path
 from typing import Any, Callable, Iterator, NamedTuple
 
 from testing import PROGRAM as BUILT
-from testing import ROOT, TYPES
+from testing import ROOT, TYPES, await_that
 
 PACKAGE = ROOT / "python"
 NAMED = os.path.abspath(os.environ.get("TIGERCANON") or BUILT)
@@ -127,16 +126,6 @@ def kill_group(run: "subprocess.Popen[bytes]") -> None:
     with suppress(ProcessLookupError):
         os.killpg(run.pid, signal.SIGKILL)
     run.wait()
-
-
-def await_that(holds: Callable[[], Any], seconds: float = 60.0) -> bool:
-    """Waits until something holds. Returns whether it did."""
-    until = time.monotonic() + seconds
-    while not holds():
-        if time.monotonic() > until:
-            return False
-        time.sleep(0.02)
-    return True
 
 
 def count_of_lines(name: str) -> int:

@@ -12,8 +12,8 @@ from pathlib import Path
 from typing import Iterator, NamedTuple
 
 import pytest
-from support import PROGRAM, Engine, await_that, begin, call, count_of_lines, end, left_behind, put
-from testing import ROOT, TYPES
+from support import PROGRAM, Engine, begin, call, count_of_lines, end, left_behind, put
+from testing import ROOT, TYPES, await_that
 
 from tigercanon.judge import endings
 

@@ -6,7 +6,8 @@ import stat
 from pathlib import Path
 
 import pytest
-from support import begin, await_that, call, complete, digest, end, put
+from support import begin, call, complete, digest, end, put
+from testing import await_that
 
 A, B, C = ("a" * 64, "b" * 64, "c" * 64)
 HEAD = b"# tigercanon form 1\n"

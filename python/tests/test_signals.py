@@ -8,8 +8,8 @@ import zipfile
 from pathlib import Path
 
 import pytest
-from support import HEAD, await_that, begin, call, complete, count_of_lines, end, left_behind, limit_files, line, processes, put
-from testing import TYPES
+from support import HEAD, begin, call, complete, count_of_lines, end, left_behind, limit_files, line, processes, put
+from testing import TYPES, await_that
 
 SIGNALS = [signal.SIGINT, signal.SIGTERM, signal.SIGHUP, signal.SIGQUIT, signal.SIGUSR1, signal.SIGXCPU]
 
