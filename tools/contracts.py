@@ -184,20 +184,14 @@ class CodeFile:
     def clauses_of_function(self, at):
         """The clauses of a function, the line of each, and the end of its body. `at` is the end of its name."""
         clauses, lines = [], []
-        while at < len(self.text):
+        while at < len(self.text) and self.text[at] not in "{;":
             clause = CLAUSE.match(self.text, at)
+            opening = clause.end() if clause else at
+            at = end_of_block(self.text, opening) if clause or self.text[at] in "([" else at + 1
             if clause:
-                end = end_of_block(self.text, clause.end())
-                clauses.append((clause.group(2) or None, clause.group(1), self.text[clause.end() + 1 : end - 1]))
+                clauses.append((clause.group(2) or None, clause.group(1), self.text[opening + 1 : at - 1]))
                 lines.append(self.text.count("\n", 0, clause.start(1)) + 1)
-                at = end
-            elif self.text[at] in "([":
-                at = end_of_block(self.text, at)
-            elif self.text[at] in "{;":
-                return clauses, lines, end_of_block(self.text, at) if self.text[at] == "{" else at + 1
-            else:
-                at += 1
-        return clauses, lines, at
+        return clauses, lines, end_of_block(self.text, at) if self.text.startswith("{", at) else at + 1
 
     def take_ghost(self, head, named, block):
         """A ghost member: what a trait leaves open or requires, what a type states about itself, or what it defines for a trait."""
@@ -234,10 +228,9 @@ class Sources:
             word.cites = self.cited(word.text, word.scope, word)
 
     def read_definitions(self, crate, path):
-        folder = self.root / "crates" / crate / "specs"
-        module = ".".join(path.relative_to(folder).with_suffix("").parts)
-        lines = path.read_text(encoding="utf-8").split("\n")
-        scope = Scope("\n".join(lines))
+        module = ".".join(path.relative_to(self.root / "crates" / crate / "specs").with_suffix("").parts)
+        text = path.read_text(encoding="utf-8")
+        lines, scope = text.split("\n"), Scope(text)
         word, above, said = None, [], lines[0].lstrip("- ")
         for number, line in enumerate(lines, 1):
             if line.lstrip().startswith("--"):
@@ -259,10 +252,9 @@ class Sources:
         exported = set()
         if folder / "lib.rt" in paths:
             for listed, one in EXPORT.findall((folder / "lib.rt").read_text(encoding="utf-8")):
-                exported |= {name.strip() for name in (listed or one).split(",") if name.strip()}
-        for path in paths:
-            aliases = dict(ALIAS.findall(path.read_text(encoding="utf-8")))
-            self.aliases |= {(crate, alias): named for alias, named in aliases.items() if alias in exported}
+                exported |= set(re.findall(r"[^,\s]+", listed or one))
+        aliases = [found for path in paths for found in ALIAS.findall(path.read_text(encoding="utf-8"))]
+        self.aliases |= {(crate, alias): named for alias, named in aliases if alias in exported}
         exported |= {named for (of_crate, _), named in self.aliases.items() if of_crate == crate}
         self.exported |= {(crate, name) for name in exported}
         for path in paths:
@@ -304,10 +296,9 @@ class Sources:
         aliases = {alias: named for (_, alias), named in self.aliases.items()}
         for _, _, text in item.clauses:
             cited.take(self.cited(text, item.scope))
-            for name, trait, member in QUOTED.findall(text):
-                told = self.members.get((name, trait, member)) or self.members.get((aliases.get(name), trait, member))
-                if told:
-                    cited.take(self.cited(*told))
+            for name, *member in QUOTED.findall(text):
+                told = self.members.get((name, *member)) or self.members.get((aliases.get(name), *member))
+                cited.take(self.cited(*told) if told else Cited())
         return cited
 
     def closure(self, keys, passed_over=()):

@@ -68,9 +68,8 @@ def loaded(library: Path, monkeypatch: pytest.MonkeyPatch) -> Iterator[None]:
     _library.library.cache_clear()
 
 
-def echoed(parts: Any) -> bytes:
-    """What the stand-in was lent."""
-    return tigercanon.respell(parts)
+echoed: Callable[[Any], bytes] = tigercanon.respell
+"""What the stand-in was lent."""
 
 
 def kinds(folder: Path) -> dict[str, Callable[[], Any]]:

@@ -17,7 +17,7 @@ from .errors import Failure, reason
 from .manifest import changes, duplicates, loaded
 from .own import PATIENCE, PROCESS
 from .printing import print_json, print_lines
-from .progress import LOG, Lines, how_far, report
+from .progress import LOG, Lines, Tally, report
 from .version import VERSION
 
 NAME = "tigercanon-tools"
@@ -228,7 +228,9 @@ def stop(number: int, _: object) -> None:
         signal.signal(each, signal.SIG_IGN)
     PROCESS.end()
     Lines.bar = None
-    text = f"stopped by {signal.Signals(number).name[3:]}{how_far()}"
+    tally = Tally.current
+    how_far = f": {tally.ended:,} of {tally.counties:,} counties done" if tally else ""
+    text = f"stopped by {signal.Signals(number).name[3:]}{how_far}"
     last = threading.Thread(target=report, args=(text,), daemon=True)
     last.start()
     last.join(PATIENCE)  # nobody may be reading standard error

@@ -104,12 +104,6 @@ class Tally:
         return f"{amount(self.bytes)} in {duration(time.monotonic() - self.started)}"
 
 
-def how_far() -> str:
-    """How many counties are done, if there is a run over some."""
-    tally = Tally.current
-    return f": {tally.ended:,} of {tally.counties:,} counties done" if tally else ""
-
-
 def bar_of(counties: int) -> Any | None:
     """A progress bar, where standard error is a terminal and tqdm is installed."""
     with suppress(ImportError, AttributeError):

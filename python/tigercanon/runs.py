@@ -114,15 +114,6 @@ def counted(count: int, noun: str = "county", nouns: str = "counties") -> str:
     return f"{count:,} {noun if count == 1 else nouns}"
 
 
-def report_finds(finder: Finder) -> None:
-    """Reports what was found and isn't judged."""
-    for stem, first in finder.same:
-        report(f"{stem}: the same file as {first}, which is counted once")
-    if finder.passed_over:
-        found = ", ".join(f"{count:,} {ending}" for ending, count in sorted(finder.passed_over.items()))
-        report(f"passed over: {counted(sum(finder.passed_over.values()), 'file', 'files')} ({found})")
-
-
 class Printer:
     """Prints results in the order of their numbers: lines, each as soon as those before it are there, or a list in JSON at the end."""
 
@@ -174,7 +165,11 @@ class Fingerprints:
             counties.sort(key=lambda county: os.fsencode(county.stem))
             if not self.options.json:
                 print_lines([heading(self.flags)])
-        report_finds(finder)
+        for stem, first in finder.same:
+            report(f"{stem}: the same file as {first}, which is counted once")
+        if finder.passed_over:
+            found = ", ".join(f"{count:,} {ending}" for ending, count in sorted(finder.passed_over.items()))
+            report(f"passed over: {counted(sum(finder.passed_over.values()), 'file', 'files')} ({found})")
         del finder  # and what it has listed
         self.run.judge(counties, lambda: order_of(self.options, self.flags, self.options.strict))
         self.printer.end()

@@ -55,7 +55,7 @@ def write_picture(picture: Path) -> None:
         try:
             browser.open(page)
             browser.click_at_changed("Commerce")
-            shot = Image.open(BytesIO(browser.picture())).convert("RGB")
+            shot = Image.open(BytesIO(browser.driver.get_screenshot_as_png())).convert("RGB")
         finally:
             browser.quit()
     shot.quantize(256, dither=Image.Dither.NONE).save(picture, optimize=True)

@@ -13,7 +13,6 @@ from testing import ROOT
 from tigercanon.differences.sets import Canonical, Sets
 
 from .changes import Difference, Place
-from .county import Point
 
 EXAMPLE = ROOT / "examples/two-maps"
 LEAFLET = Path("/usr/share/javascript/leaflet")
@@ -21,6 +20,7 @@ KINDS = ("in the first alone", "in the second alone", "changed")
 
 WORDS_HEADING = re.compile(rf"(?m)^(chain|landmark|polygon|feature name)s ({'|'.join(KINDS)}): ([\d,]+)$")
 DEGREES = re.compile(r"(\d+)\.(\d{6})° ([NS]), (\d+)\.(\d{6})° ([WE])")
+SIGNS = {"N": 1, "E": 1, "S": -1, "W": -1}
 PROGRESS = re.compile(r"tigercanon-tools: (normalising|reading|comparing|finding|writing) .*\n")
 
 needs_leaflet = pytest.mark.skipif(not (LEAFLET / "leaflet.css").exists(), reason="libjs-leaflet isn't installed")
@@ -44,17 +44,12 @@ def told_in_words(text: str) -> set[Difference]:
     _, *sections = re.split(WORDS_HEADING, text)
     for what, kind, listed in zip(sections[::4], sections[1::4], sections[3::4]):
         for title, table in re.findall(r"(?m)^ {2}(\S.*)\n?((?: {6}.*\n?)*)", listed):
-            place = tuple(map(point_of_words, DEGREES.findall(title)))
+            found_points = DEGREES.findall(title)
+            place = tuple((SIGNS[we] * int(e + more), SIGNS[ns] * int(n + rest)) for n, rest, ns, e, more, we in found_points)
             if place:
                 fields = re.findall(r"(?m)^ {6}(\S.*?)(?: {2}|$)", table)
                 found.add(Difference(what, kind, place, frozenset(fields)))
     return found
-
-
-def point_of_words(parts: tuple[str, ...]) -> Point:
-    """The point of a printed text in degrees."""
-    north, east = int(parts[0] + parts[1]), int(parts[3] + parts[4])
-    return (-east if parts[5] == "W" else east, -north if parts[2] == "S" else north)
 
 
 def in_words(difference: Difference) -> Difference:

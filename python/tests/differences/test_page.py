@@ -1,6 +1,5 @@
 """The page in a browser: what it shows, by the pointer and by the keyboard."""
 
-import base64
 import re
 import shutil
 import subprocess
@@ -179,16 +178,13 @@ class TestPage:
         assert browser.run("return window.printed") == browser.listed()
         assert browser.run("return JSON.stringify(window.differences.map.getBounds())") == before
 
-    def test_printed_map(self, browser: Browser, town: Town, room: Path) -> None:
+    def test_printed_map(self, browser: Browser, town: Town) -> None:
         """The map is whole on the first sheet, with its scale, whichever way the paper lies."""
         if not shutil.which("pdftotext"):
             pytest.skip("no poppler-utils")
         for orientation in ("portrait", "landscape"):
-            options = browser.paper(orientation)
-            printed = room / "printed.pdf"
-            printed.write_bytes(base64.b64decode(browser.driver.print_page(options)))
-            words = ["pdftotext", "-f", "1", "-l", "1", str(printed), "-"]
-            text = subprocess.run(words, check=True, stdout=subprocess.PIPE).stdout.decode()
+            words = ["pdftotext", "-f", "1", "-l", "1", "-", "-"]
+            text = subprocess.run(words, check=True, input=browser.printed(orientation), stdout=subprocess.PIPE).stdout.decode()
             assert re.search(r"(?m)^ *\d+ k?m$", text)
             assert re.search(r"(?m)^ *\d+ (ft|mi)$", text)
 

@@ -6,7 +6,6 @@ import gc
 import json
 import os
 import threading
-from typing import Any
 
 from ..errors import Failure
 from ..manifest import flags_of
@@ -129,7 +128,6 @@ def compared(options: argparse.Namespace) -> int:
 
 def as_json(comparison: Comparison, sets: Sets, own: BothOwn) -> list[str]:
     """The counts and the differences, as one JSON object."""
-    answer: dict[str, Any] = head(comparison, sets)
-    answer["counts"] = {f"{subject.what}s": dict(zip(KINDS, part.counts)) for subject, part in zip(SUBJECTS, comparison.parts)}
-    answer["differences"] = [feature.properties for feature in features(comparison, own)]
-    return [json.dumps(answer, ensure_ascii=False, indent=1)]
+    counts = {f"{subject.what}s": dict(zip(KINDS, part.counts)) for subject, part in zip(SUBJECTS, comparison.parts)}
+    differences = [feature.properties for feature in features(comparison, own)]
+    return [json.dumps({**head(comparison, sets), "counts": counts, "differences": differences}, ensure_ascii=False, indent=1)]
