@@ -264,31 +264,34 @@ def imported(*words: str, package: Path = ROOT / "python", **more: str) -> "subp
     return subprocess.run(command, cwd="/", env=environment, capture_output=True, text=True)
 
 
-def test_where_the_library_is(library: Path, tmp_path: Path) -> None:
+@pytest.fixture
+def package(tmp_path: Path) -> Path:
+    """The package elsewhere."""
+    shutil.copytree(ROOT / "python/tigercanon", tmp_path / "python/tigercanon")
+    return tmp_path / "python"
+
+
+def test_where_the_library_is(library: Path, tmp_path: Path, package: Path) -> None:
     """The variable wins over a library beside the package, and that one over one of the system."""
-    package = tmp_path / "python"
-    shutil.copytree(ROOT / "python/tigercanon", package / "tigercanon")
     call = "print(tigercanon.respell(b'x'))"
     system = {"LD_LIBRARY_PATH": str(library.parent)}
     assert imported(call, package=package, **system).stdout == "b'x'\n"
-    broken = tmp_path / "lib"
-    broken.mkdir()
-    (broken / _library.NAME).write_bytes(b"no library")
+    beside = tmp_path / "lib" / _library.NAME
+    beside.parent.mkdir()
+    beside.write_bytes(b"no library")
     assert "ImportError" in imported(call, package=package, **system).stderr
     assert imported(call, package=package, TIGERCANON_LIBRARY=str(library)).stdout == "b'x'\n"
-    (broken / _library.NAME).unlink()
-    (broken / _library.NAME).symlink_to(library)
+    beside.unlink()
+    beside.symlink_to(library)
     assert imported(call, package=package).stdout == "b'x'\n"
     assert "ImportError" in imported(call, package=package, TIGERCANON_LIBRARY=str(tmp_path / "none")).stderr
     (package / "tigercanon" / _library.NAME).symlink_to(library)
-    (broken / _library.NAME).unlink()
+    beside.unlink()
     assert imported(call, package=package).stdout == "b'x'\n"
 
 
-def test_without_a_library(tmp_path: Path) -> None:
+def test_without_a_library(package: Path) -> None:
     """The package can be imported, and a call says in one line how to get the library."""
-    package = tmp_path / "python"
-    shutil.copytree(ROOT / "python/tigercanon", package / "tigercanon")
     ended = imported("print(tigercanon.FORM)", "tigercanon.check(b'')", package=package)
     assert ended.stdout == "tigercanon form 1\n"
     last = ended.stderr.splitlines()[-1]

@@ -160,12 +160,12 @@ def points_between(town: Town, edge: tuple[int, int, bool]) -> list[Point]:
     steps = 12 if is_river else town.chance.choice((1, 2, 3, 3, 4, 6))
     width = 0.12 if is_river else 0.02
     phase = town.chance.uniform(1.5, 2.5)
-    points = []
-    for step in range(steps + 1):
-        along = step / steps
+
+    def point(along: float) -> Point:
         aside = width * math.sin(math.pi * along) * math.sin(phase * math.pi * along + phase)
-        points.append(town.place(column + along, row + aside) if is_across else town.place(column + aside, row + along))
-    return points
+        return town.place(column + along, row + aside) if is_across else town.place(column + aside, row + along)
+
+    return [point(step / steps) for step in range(steps + 1)]
 
 
 def named_fields(town: Town, edge: tuple[int, int, bool]) -> Values:

@@ -13,8 +13,7 @@ from ..printing import print_lines
 from ..program import find_program
 from ..progress import report
 from .geojson import BothOwn, features, head, write_geojson
-from .matching import Comparison, compare
-from .numbers import own_numbers
+from .matching import Comparison, compare, own_numbers
 from .outputs import new_files
 from .page import find_leaflet, write_page
 from .reading import NotCanonical, read_county

@@ -9,8 +9,7 @@ from functools import lru_cache
 from typing import Any, Iterator, Sequence
 
 from .fields import BLANK, NONE, YES, FieldName, decimal
-from .matching import Comparison, Tie
-from .numbers import OwnNumbers
+from .matching import Comparison, OwnNumbers, Tie
 from .outputs import NewFile
 from .reading import NO_POINT, POINT_WIDTH
 from .sets import Sets

@@ -5,7 +5,11 @@ Polygons are matched by the content of their records; the others by their point,
 Landmarks are matched in the same way; the others by their records, points, names and polygons. Feature names are
 compared as a multiset.
 
-Each map has numbers of its own, so numbers are never compared. The things that they tie together come last.
+Each map has numbers of its own, so numbers are never compared. The things that they tie together come after the rest.
+
+A canonical text has numbers of its own. The same set, respelled by the program, keeps its own numbers. Both describe
+one map, so they are matched as two maps are: chains by their points, landmarks and polygons by their content. Things
+that nothing tells apart may have their numbers exchanged.
 """
 
 from __future__ import annotations
@@ -17,7 +21,8 @@ from typing import Any, Callable, Generic, Hashable, Iterable, Iterator, NamedTu
 
 from .columns import CHAIN, LANDMARK, RANGE
 from .fields import PolygonMarks, Teller, count_of_differing
-from .reading import NO_POINT, POINT_WIDTH, Chain, County, Landmark, Name, Polygon, PolygonKey, reversed_points
+from .reading import NO_POINT, POINT_WIDTH, Chain, County, Landmark, Name, Polygon, PolygonKey
+from .reading import comes_after_its_reverse, reversed_points
 
 T = TypeVar("T")
 Pair = tuple[T, T]
@@ -336,3 +341,24 @@ def told_ties(subject: str, is_one_in_first: bool, tied: Iterable[tuple[Hashable
     for one, several, at in tied:
         groups[one][several].append(at)
     return [Tie(subject, is_one_in_first, list(several.values())) for several in groups.values()]
+
+
+OwnNumbers = dict[Hashable, int]
+"""The number in the user's files of each chain, landmark and polygon, by its key in the canonical text."""
+
+
+def own_numbers(records: County, canonical: County, masks: Sequence[str] = ()) -> OwnNumbers:
+    """The numbers in these records of the things in their canonical text, which was printed with these masks."""
+    found = compare(as_in_a_canonical_text(records, masks), canonical)
+    return {other.key: one.number for part in found.parts[:3] for one, other in part.pairs}
+
+
+def as_in_a_canonical_text(county: County, masks: Sequence[str]) -> County:
+    """The county with its chains turned and its landmarks masked as in its canonical text. Chains are matched by their
+    points, so that they need no mask."""
+    hidden = ["SOURCE"] if "--no-sources" in masks else []
+    landmarks = [
+        replace(landmark, bodies=[LANDMARK.blanked(body, hidden) for body in landmark.bodies]) for landmark in county.landmarks
+    ]
+    chains = [turned(chain) if comes_after_its_reverse(chain.points) else chain for chain in county.chains]
+    return replace(county, chains=chains, landmarks=landmarks)

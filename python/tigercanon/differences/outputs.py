@@ -61,12 +61,9 @@ def mode_of(name: str, place: str) -> int | None:
         return None
     except OSError as error:
         raise Failure(f"{name}: can't be written: {error.strerror}") from None
-    if stat.S_ISDIR(found.st_mode):
-        raise Failure(f"{name}: can't be written: it is a folder")
-    if not stat.S_ISREG(found.st_mode):
-        raise Failure(f"{name}: can't be written: it isn't a regular file")
-    if not os.access(place, os.W_OK):
-        raise Failure(f"{name}: can't be written: Permission denied")
+    why = "it is a folder" if stat.S_ISDIR(found.st_mode) else "it isn't a regular file"
+    if not stat.S_ISREG(found.st_mode) or not os.access(place, os.W_OK):
+        raise Failure(f"{name}: can't be written: {'Permission denied' if stat.S_ISREG(found.st_mode) else why}")
     return stat.S_IMODE(found.st_mode)
 
 
