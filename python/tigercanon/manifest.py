@@ -17,7 +17,7 @@ import time
 from contextlib import contextmanager, suppress
 from typing import Iterator, NamedTuple, Sequence
 
-from .errors import Failure, reason
+from .errors import Failure, reason, told
 from .layout import RECORD_FILE, ZIP_FILE
 from .own import Own
 
@@ -173,22 +173,14 @@ class Manifest:
             if text:
                 self.put_in_order()
 
-    @contextmanager
-    def told(self) -> Iterator[None]:
-        """Reports errors with this manifest's name."""
-        try:
-            yield
-        except OSError as error:
-            raise Failure(f"{self.name}: can't be written: {reason(error)}") from None
-
     def start_writing(self) -> int:
-        with self.told():
+        with told(self.name):
             self.handle = os.open(self.place, os.O_WRONLY | os.O_APPEND | os.O_CREAT, 0o666)
         return self.handle
 
     def add(self, line: Line) -> None:
         """Adds a county, whose line is written at once: the whole of it or nothing."""
-        with self.own.lock, self.told():
+        with self.own.lock, told(self.name):
             handle = self.start_writing() if self.handle is None else self.handle
             before = os.fstat(handle).st_size
             text = os.fsencode(f"{line}\n" if before else f"{heading(self.flags)}\n{line}\n")
@@ -207,7 +199,7 @@ class Manifest:
         self.lines.sort(key=lambda line: (os.fsencode(line.stem), line.fingerprint))
         text = "".join(f"{line}\n" for line in [heading(self.flags), *self.lines])
         copy = f"{self.place}.new"
-        with self.own.at_end(lambda: discard(copy)), self.told():
+        with self.own.at_end(lambda: discard(copy)), told(self.name):
             with open(copy, "wb") as file:
                 file.write(os.fsencode(text))
                 file.flush()
@@ -260,10 +252,8 @@ class Lock:
     def take(self) -> None:
         """Takes the lock. It waits a little, since a verification has it for a moment."""
         while self.handle is None:
-            try:
+            with told(f"{self.name}.lock"):
                 handle = os.open(self.path, os.O_RDWR | os.O_CREAT | os.O_NONBLOCK, 0o666)
-            except OSError as error:
-                raise Failure(f"{self.name}.lock: can't be written: {reason(error)}") from None
             try:
                 status = os.fstat(handle)
                 lines = os.pread(handle, status.st_size, 0).splitlines() if stat.S_ISREG(status.st_mode) else [b""]
@@ -300,13 +290,10 @@ class Lock:
     def lock(self, handle: int, how: int, patience: float) -> None:
         until = time.monotonic() + patience
         while True:
-            try:
+            with told(f"{self.name}.lock", "can't be locked"), suppress(BlockingIOError):
                 fcntl.flock(handle, how | fcntl.LOCK_NB)
                 return
-            except BlockingIOError:
-                if time.monotonic() >= until:
-                    holder = os.pread(handle, 1000, 0).decode(errors="replace").strip() or "an unknown process"
-                    raise Failure(f"{self.name}: another run writes to it: {holder}") from None
-                time.sleep(0.02)
-            except OSError as error:
-                raise Failure(f"{self.name}.lock: can't be locked: {reason(error)}") from None
+            if time.monotonic() >= until:
+                holder = os.pread(handle, 1000, 0).decode(errors="replace").strip() or "an unknown process"
+                raise Failure(f"{self.name}: another run writes to it: {holder}")
+            time.sleep(0.02)

@@ -60,7 +60,7 @@ class Run:
     def __init__(self, options: argparse.Namespace, take: Callable[[int, Result], str]) -> None:
         self.options, self.take = options, take
         self.tally = Tally()
-        self.gone = ""
+        self.gone, self.left = "", 0
 
     def judge(self, counties: list[County], order: Callable[[], Order]) -> None:
         """Judges the counties. Those that can't be judged are reported first."""
@@ -84,7 +84,7 @@ class Run:
                         self.end(number, Result(counties[number], result[1]))
                     self.tally.look()
             except Gone as gone:
-                self.gone = str(gone)
+                self.gone, self.left = str(gone), self.tally.counties - self.tally.ended
 
     def end(self, number: int, result: Result) -> None:
         if result.answer.kind == "refused":
@@ -97,17 +97,12 @@ class Run:
             report(f"{result.county.stem}: {remarks}")
         self.tally.end(result.county.size)
 
-    @property
-    def missing(self) -> int:
-        """How many counties weren't judged, because the engine is gone."""
-        return self.tally.counties - self.tally.ended
-
     def report_refusals(self) -> None:
         rules = sorted(self.tally.refused.items(), key=lambda item: (-item[1], item[0]))
         if rules:
             report(f"refused: {', '.join(f'{count:,} by {rule}' for rule, count in rules)}")
         if self.gone:
-            report(f"{self.gone}: {self.missing:,} counties are left; run the same command again to do them")
+            report(f"{self.gone}: {self.left:,} counties are left; run the same command again to do them")
 
 
 def counted(count: int, noun: str = "county", nouns: str = "counties") -> str:
@@ -140,9 +135,8 @@ class Fingerprints:
 
     def __init__(self, options: argparse.Namespace) -> None:
         self.options, self.flags = options, flags_of(options)
+        self.printer, self.run = Printer(options.json), Run(options, self.take)
         self.manifest: Manifest | None = None
-        self.printer = Printer(options.json)
-        self.run = Run(options, self.take)
 
     def __call__(self) -> int:
         see_names([*self.options.sources, *([self.options.output] if self.options.output else [])])
@@ -174,7 +168,7 @@ class Fingerprints:
         self.run.judge(counties, lambda: order_of(self.options, self.flags, self.options.strict))
         self.printer.end()
         self.report_end(before)
-        return int(self.run.missing > 0 or self.run.tally.failed > 0 or bool(self.run.tally.refused))
+        return int(bool(self.run.left or self.run.tally.failed or self.run.tally.refused))
 
     def take(self, number: int, result: Result) -> str:
         stem, answer = result.county.stem, result.answer
@@ -201,11 +195,9 @@ class Verification:
     """The command verify."""
 
     def __init__(self, options: argparse.Namespace) -> None:
-        self.options = options
+        self.options, self.printer, self.run = options, Printer(options.json), Run(options, self.take)
         self.lines: list[Line] = []
-        self.printer = Printer(options.json)
         self.counts = {"OK": 0, "FAILED": 0, "MISSING": 0, "NEW": 0}
-        self.run = Run(options, self.take)
 
     def __call__(self) -> int:
         see_names([self.options.manifest, *self.options.sources])
@@ -253,7 +245,7 @@ class Verification:
         counts = ", ".join(f"{count:,} {kind}" for kind, count in self.counts.items() if count or kind == "OK")
         report(f"{counted(sum(self.counts.values()))}: {counts}; {self.run.tally.took}")
         self.run.report_refusals()
-        return int(self.run.missing > 0 or self.counts["OK"] < sum(self.counts.values()))
+        return int(self.run.left > 0 or self.counts["OK"] < sum(self.counts.values()))
 
 
 def see_names(names: Sequence[str]) -> None:

@@ -166,18 +166,10 @@ def match_group(ones: list[Chain], others: list[Chain], first: Teller, second: T
 
 def says(chain: Chain, teller: Teller) -> tuple[Hashable, ...]:
     """The content of a chain without its points and numbers."""
-    return (
-        chain.body,
-        chain.link_body,
-        chain.left.cenid,
-        chain.right.cenid,
-        teller.marks.get(chain.left),
-        teller.marks.get(chain.right),
-        chain.start_node.isspace(),
-        chain.end_node.isspace(),
-        teller.county.name_bodies(chain) if chain.feats else (),
-        chain.ranges,
-    )
+    sides = chain.left.cenid, chain.right.cenid, teller.marks.get(chain.left), teller.marks.get(chain.right)
+    nodes = chain.start_node.isspace(), chain.end_node.isspace()
+    names = teller.county.name_bodies(chain) if chain.feats else ()
+    return chain.body, chain.link_body, *sides, *nodes, names, chain.ranges
 
 
 def is_own_reverse(chain: Chain) -> bool:
@@ -186,16 +178,9 @@ def is_own_reverse(chain: Chain) -> bool:
 
 
 def turned(chain: Chain) -> Chain:
-    return replace(
-        chain,
-        body=CHAIN.turned(chain.body),
-        points=reversed_points(chain.points),
-        ranges=tuple(RANGE.turned(content) for content in chain.ranges),
-        start_node=chain.end_node,
-        end_node=chain.start_node,
-        left=chain.right,
-        right=chain.left,
-    )
+    ends: Any = {"start_node": chain.end_node, "end_node": chain.start_node, "left": chain.right, "right": chain.left}
+    ranges = tuple(RANGE.turned(content) for content in chain.ranges)
+    return replace(chain, body=CHAIN.turned(chain.body), points=reversed_points(chain.points), ranges=ranges, **ends)
 
 
 def ways_to_see(chain: Chain) -> list[Chain]:

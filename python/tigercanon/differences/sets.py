@@ -12,7 +12,7 @@ from functools import cached_property
 from typing import Iterator, Sequence
 
 from ..counties import as_stem
-from ..errors import Failure, printable, reason
+from ..errors import Failure, printable, reason, told
 from ..hints import hint
 from ..judge import Files, complaint, files_of
 from ..layout import TYPES, file_name
@@ -73,23 +73,18 @@ def opened(name: str, is_stem: bool) -> Iterator[Source]:
     else:
         with PROCESS.folder(0) as folder:  # a copy of what can be read only once, such as a pipe
             place = os.path.join(folder, "set")
-            try:
-                with open(name, "rb") as source, open(place, "wb") as copy:
-                    shutil.copyfileobj(source, copy)
-            except OSError as error:
-                raise Failure(f"{printable(name)}: can't be read: {reason(error)}") from None
+            with told(printable(name), "can't be read"), open(name, "rb") as source, open(place, "wb") as copy:
+                shutil.copyfileobj(source, copy)
             yield Source(name, place, [place])
 
 
 def is_zip(name: str) -> bool:
     """Whether this is the file of a zip. Raises Failure for a folder and for what can't be read."""
-    try:
+    with told(printable(name), "can't be read"):
         mode = os.stat(name).st_mode
         if stat.S_ISDIR(mode):
             raise Failure(f"{printable(name)}: it is a folder: name a file, a zip or the stem of a county's files")
         return stat.S_ISREG(mode) and zipfile.is_zipfile(name)
-    except OSError as error:
-        raise Failure(f"{printable(name)}: can't be read: {reason(error)}") from None
 
 
 def printed(program: str, command: Sequence[str], sources: Sequence[Source]) -> list[bytes]:

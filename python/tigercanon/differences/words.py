@@ -62,8 +62,7 @@ def told_things(comparison: Comparison) -> Iterator[str]:
         yield from ["", f"{what}s {kind}: {len(listed):,}"]
         if kind != KINDS[2]:
             yield from ["", *(f"  {thing.name}, {thing.about}" for thing in listed)]
-            continue
-        for thing in listed:
+        for thing in listed if kind == KINDS[2] else []:
             yield from ["", f"  {thing.name}, {thing.about}", *differing(thing.rows)]
 
 
