@@ -47,12 +47,10 @@ class Crates:
 
     def below(self, crate: str) -> set[str]:
         """All crates that this one depends on."""
-        found: set[str] = set()
-        left = [*self.named[crate]]
+        found, left = set(), set(self.named[crate])
         while left:
-            it = left.pop()
-            left += self.named[it] - found
-            found |= {it}
+            found |= left
+            left = set().union(*map(self.named.get, left)) - found
         return found
 
     def makes_library(self, crate: str) -> bool:

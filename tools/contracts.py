@@ -5,9 +5,9 @@ they need: where an item begins and ends, which clauses it has, and which names 
 """
 
 import re
-from pathlib import Path
+from collections import namedtuple
 
-ROOT = Path(__file__).resolve().parent.parent
+from testing import ROOT
 
 IMPORT = re.compile(r"\buse\s+Rattle\.([\w.]+?)(?:\.\{([^}]*)\}|\s+as\s+(\w+)|;|$)", re.M)
 # A name that is used, with the module before it. A name after a dot is a field.
@@ -103,11 +103,8 @@ def blanked(text):
     return COMMENT_OR_TEXT.sub(lambda found: blank(found[0]), text)
 
 
-class Block:
-    """The block of a trait, a type or an impl: its owner and its trait."""
-
-    def __init__(self, owner, kind, trait=None):
-        self.owner, self.kind, self.trait = owner, kind, trait
+Block = namedtuple("Block", "owner kind trait", defaults=[None])
+"""The block of a trait, a type or an impl: its owner and its trait."""
 
 
 class CodeFile:
@@ -133,18 +130,15 @@ class CodeFile:
         """Takes the items between two places, which may be those of a block."""
         while head := HEAD.search(self.text, at, end):
             kind, named = head.group(2), NAME.match(self.text, head.end())
+            at = head.end()
             if kind == "impl":
-                at = self.take_impl(head.end())
-            elif named is None:
-                at = head.end()
-            elif kind == "fn":
+                at = self.take_impl(at)
+            elif named and kind == "fn":
                 at = self.take_function(head, named, block)
-            elif kind == "ghost" and named.group(1) != "use":
+            elif named and kind == "ghost" and named.group(1) != "use":
                 at = self.take_ghost(head, named, block)
-            elif kind in ("trait", "struct", "enum"):
+            elif named and kind in ("trait", "struct", "enum"):
                 at = self.take_type(head, named)
-            else:
-                at = head.end()
 
     def take_type(self, head, named):
         name, kind = named.group(1), head.group(2)
@@ -190,20 +184,14 @@ class CodeFile:
     def clauses_of_function(self, at):
         """The clauses of a function, the line of each, and the end of its body. `at` is the end of its name."""
         clauses, lines = [], []
-        while at < len(self.text):
+        while at < len(self.text) and self.text[at] not in "{;":
             clause = CLAUSE.match(self.text, at)
+            opening = clause.end() if clause else at
+            at = end_of_block(self.text, opening) if clause or self.text[at] in "([" else at + 1
             if clause:
-                end = end_of_block(self.text, clause.end())
-                clauses.append((clause.group(2) or None, clause.group(1), self.text[clause.end() + 1 : end - 1]))
+                clauses.append((clause.group(2) or None, clause.group(1), self.text[opening + 1 : at - 1]))
                 lines.append(self.text.count("\n", 0, clause.start(1)) + 1)
-                at = end
-            elif self.text[at] in "([":
-                at = end_of_block(self.text, at)
-            elif self.text[at] in "{;":
-                return clauses, lines, end_of_block(self.text, at) if self.text[at] == "{" else at + 1
-            else:
-                at += 1
-        return clauses, lines, at
+        return clauses, lines, end_of_block(self.text, at) if self.text.startswith("{", at) else at + 1
 
     def take_ghost(self, head, named, block):
         """A ghost member: what a trait leaves open or requires, what a type states about itself, or what it defines for a trait."""
@@ -240,10 +228,9 @@ class Sources:
             word.cites = self.cited(word.text, word.scope, word)
 
     def read_definitions(self, crate, path):
-        folder = self.root / "crates" / crate / "specs"
-        module = ".".join(path.relative_to(folder).with_suffix("").parts)
-        lines = path.read_text(encoding="utf-8").split("\n")
-        scope = Scope("\n".join(lines))
+        module = ".".join(path.relative_to(self.root / "crates" / crate / "specs").with_suffix("").parts)
+        text = path.read_text(encoding="utf-8")
+        lines, scope = text.split("\n"), Scope(text)
         word, above, said = None, [], lines[0].lstrip("- ")
         for number, line in enumerate(lines, 1):
             if line.lstrip().startswith("--"):
@@ -265,10 +252,9 @@ class Sources:
         exported = set()
         if folder / "lib.rt" in paths:
             for listed, one in EXPORT.findall((folder / "lib.rt").read_text(encoding="utf-8")):
-                exported |= {name.strip() for name in (listed or one).split(",") if name.strip()}
-        for path in paths:
-            aliases = dict(ALIAS.findall(path.read_text(encoding="utf-8")))
-            self.aliases |= {(crate, alias): named for alias, named in aliases.items() if alias in exported}
+                exported |= set(re.findall(r"[^,\s]+", listed or one))
+        aliases = [found for path in paths for found in ALIAS.findall(path.read_text(encoding="utf-8"))]
+        self.aliases |= {(crate, alias): named for alias, named in aliases if alias in exported}
         exported |= {named for (of_crate, _), named in self.aliases.items() if of_crate == crate}
         self.exported |= {(crate, name) for name in exported}
         for path in paths:
@@ -310,10 +296,9 @@ class Sources:
         aliases = {alias: named for (_, alias), named in self.aliases.items()}
         for _, _, text in item.clauses:
             cited.take(self.cited(text, item.scope))
-            for name, trait, member in QUOTED.findall(text):
-                told = self.members.get((name, trait, member)) or self.members.get((aliases.get(name), trait, member))
-                if told:
-                    cited.take(self.cited(*told))
+            for name, *member in QUOTED.findall(text):
+                told = self.members.get((name, *member)) or self.members.get((aliases.get(name), *member))
+                cited.take(self.cited(*told) if told else Cited())
         return cited
 
     def closure(self, keys, passed_over=()):

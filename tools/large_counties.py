@@ -82,10 +82,8 @@ class County(NamedTuple):
     other: Callable[[], Pieces]
 
 
-# A street of very many chains, each between two nodes and with a polygon on its left.
-
-
 def street(count: int) -> County:
+    """Very many chains, each between two nodes and with a polygon on its left."""
     return County(lambda: street_text(count), lambda: street_otherwise(count))
 
 
@@ -117,9 +115,6 @@ def halves(count: int) -> Sequence[list[int]]:
     return [place for place in places if place % 2 == 0], [place for place in places if place % 2 == 1]
 
 
-# A county with many names, landmarks, polygons and CENIDs, one long chain with many names and ranges, and one large landmark.
-
-
 CHAINS = 70_100
 POLYGONS, NAMES, PARKS = 2 * CHAINS, 2 * CHAINS, 2 * CHAINS
 CONTENTS = 100_000
@@ -129,6 +124,7 @@ POINT, NO_POINT = b"%+010d%+09d", b"+000000000+00000000"
 
 
 def crowded() -> County:
+    """Many names, landmarks, polygons and CENIDs, one long chain with many names and ranges, and one large landmark."""
     return County(crowded_text, crowded_otherwise)
 
 
@@ -149,8 +145,8 @@ def cenids(polygons: Iterable[int]) -> Iterator[int]:
 
 def link_line() -> bytes:
     """A line of type I with its TLID, nodes and two polygons left open."""
-    fields = {6: FILE, 11: b"%10d%10d%10d%05X%10d%05X%10d", 71: SOURCE, 98: RESERVED, 108: RESERVED, 118: RESERVED}
-    return laid_out("I", fields)
+    reserved = dict.fromkeys((98, 108, 118), RESERVED)
+    return laid_out("I", {6: FILE, 11: b"%10d%10d%10d%05X%10d%05X%10d", 71: SOURCE, **reserved})
 
 
 def crowded_text() -> Pieces:
@@ -257,27 +253,24 @@ def range_line(is_turned: bool) -> bytes:
     return laid_out("6", {6: b"%10d%3d", address: b"%11d", mark: b"1"})
 
 
-# Two groups of chains of one shape among others.
-
-
 TWINS = {500: (b"Ash", b"Birch", b"Cedar"), 1_500: (b"Main", b"Main", b"Main", b"Main")}
 
 
 def twins(count: int = 2_000) -> County:
-    """Of the chains at one place the names by type 1 decide which comes first, and of those at the other the names by type 4."""
+    """Two groups of chains of one shape among others. At one place the names by type 1 decide which comes first, and at the other the
+    names by type 4."""
     placed = [(place, name, twin) for place in range(count) for twin, name in enumerate(TWINS.get(place, (b"Main",)))]
     return County(lambda: twins_text(placed), lambda: twins_otherwise(placed))
 
 
 def twins_text(placed: list[tuple[int, bytes, int]]) -> Pieces:
-    for tlid, (place, name, _) in enumerate(placed, 1):
-        yield chain_line(name) % (tlid, *longitudes((place, place + 1)))
-    for tlid, (place, _, twin) in enumerate(placed, 1):
-        if place == 1_500:
-            yield laid_out("4", {6: b"%10d  1%8d"}) % (tlid, twin + 1)
+    numbered = list(enumerate(placed, 1))
+    yield from (chain_line(name) % (tlid, *longitudes((place, place + 1))) for tlid, (place, name, _) in numbered)
+    names = laid_out("4", {6: b"%10d  1%8d"})
+    yield from (names % (tlid, twin + 1) for tlid, (place, _, twin) in numbered if place == 1_500)
     yield from lines(name_line(), range(1, 5), range(4))
-    for tlid, (place, _, _) in enumerate(placed, 1):
-        yield laid_out("I", {6: FILE, 11: b"%10d%10d%10d", 71: SOURCE, 98: RESERVED}) % (tlid, place + 1, place + 2)
+    link = laid_out("I", {6: FILE, 11: b"%10d%10d%10d", 71: SOURCE, 98: RESERVED})
+    yield from (link % (tlid, place + 1, place + 2) for tlid, (place, _, _) in numbered)
 
 
 def twins_otherwise(placed: list[tuple[int, bytes, int]]) -> Pieces:

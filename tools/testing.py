@@ -3,10 +3,11 @@
 import hashlib
 import subprocess
 import threading
+import time
 from importlib.machinery import SourceFileLoader
 from pathlib import Path
 from types import ModuleType
-from typing import Any, NamedTuple, Sequence
+from typing import Any, Callable, NamedTuple, Sequence
 
 ROOT = Path(__file__).resolve().parent.parent
 PROGRAM = ROOT / "crates/tigercanon_main/out/tigercanon_main"
@@ -71,7 +72,6 @@ class Answer(NamedTuple):
 
 
 def run(words: Sequence[object], **how: object) -> Answer:
-    """Runs a program to its end."""
     called = [word if isinstance(word, bytes) else str(word) for word in words]
     if "input" not in how:
         how = {"stdin": subprocess.DEVNULL, **how}
@@ -83,6 +83,22 @@ def make_county(*words: object) -> bytes:
     """Calls make-county, and returns what it prints."""
     made = subprocess.run([str(word) for word in (ROOT / "tools/make-county", *words)], stdout=subprocess.PIPE, check=True)
     return made.stdout
+
+
+def await_that(holds: Callable[[], Any], seconds: float = 60.0) -> bool:
+    """Waits until something holds. Returns whether it did."""
+    until = time.monotonic() + seconds
+    while not holds():
+        if time.monotonic() > until:
+            return False
+        time.sleep(0.02)
+    return True
+
+
+def by_type(text: bytes) -> dict[str, bytes]:
+    """The lines of a set by their record types."""
+    lines = text.splitlines(keepends=True)
+    return {kind: b"".join(line for line in lines if line.startswith(kind.encode())) for kind in TYPES}
 
 
 def files_of(root: Path) -> set[str]:

@@ -1,7 +1,5 @@
 """What the tests share: a folder of their own, the real program, and a stand-in for it."""
 
-from __future__ import annotations
-
 import sys
 from pathlib import Path
 from typing import Iterator

@@ -11,13 +11,12 @@ import signal
 import subprocess
 import sys
 import tempfile
-import time
 from contextlib import suppress
 from pathlib import Path
 from typing import Any, Callable, Iterator, NamedTuple
 
 from testing import PROGRAM as BUILT
-from testing import ROOT, TYPES
+from testing import ROOT, TYPES, await_that
 
 PACKAGE = ROOT / "python"
 NAMED = os.path.abspath(os.environ.get("TIGERCANON") or BUILT)
@@ -78,12 +77,10 @@ class Ended(NamedTuple):
 
     @property
     def lines(self) -> list[str]:
-        """What was reported, without the command's name."""
         return [line[len(NAME) :] for line in self.err.splitlines() if line.startswith(NAME)]
 
     @property
     def reports(self) -> dict[str, str]:
-        """What was reported of single counties."""
         parts = [line.partition(": ") for line in self.lines]
         return {stem: text for stem, _, text in parts if "/" in stem and text}
 
@@ -107,12 +104,10 @@ def words_of(*words: object) -> list[str]:
 
 
 def call(*words: object, **options: Any) -> Ended:
-    """Calls the tools in the current folder."""
     return end(begin(*words, **options))
 
 
 def begin(*words: object, env: dict[str, str] | None = None, **options: Any) -> "subprocess.Popen[bytes]":
-    """Starts the tools in the current folder."""
     streams = {"stdin": subprocess.DEVNULL, "stdout": subprocess.PIPE, "stderr": subprocess.PIPE}
     options = {"start_new_session": True, "preexec_fn": die_with_the_test, **streams, **options}
     return subprocess.Popen(words_of(*words), env=environment(**(env or {})), **options)
@@ -131,16 +126,6 @@ def kill_group(run: "subprocess.Popen[bytes]") -> None:
     with suppress(ProcessLookupError):
         os.killpg(run.pid, signal.SIGKILL)
     run.wait()
-
-
-def await_that(holds: Callable[[], Any], seconds: float = 60.0) -> bool:
-    """Waits until something holds. Returns whether it did."""
-    until = time.monotonic() + seconds
-    while not holds():
-        if time.monotonic() > until:
-            return False
-        time.sleep(0.02)
-    return True
 
 
 def count_of_lines(name: str) -> int:

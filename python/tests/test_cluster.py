@@ -1,24 +1,124 @@
-"""Whole runs over 300 counties by the real program, here and by a Dask scheduler whose workers are killed."""
-
-from __future__ import annotations
+"""Whole runs over 300 counties by the real program, here and by a Dask scheduler whose workers are killed. Their archive is made of the
+examples: renumbered and changed counties, and refused ones among them, as zips and as single files."""
 
 import os
 import re
 import signal
 import subprocess
+import zipfile
 from concurrent.futures import ThreadPoolExecutor
 from importlib.util import find_spec
 from pathlib import Path
 from typing import Iterator, NamedTuple
 
-import made
 import pytest
-from support import PROGRAM, Engine, await_that, begin, call, count_of_lines, end, left_behind, put
-from testing import TYPES
+from support import PROGRAM, Engine, begin, call, count_of_lines, end, left_behind, put
+from testing import ROOT, TYPES, await_that
 
 from tigercanon.judge import endings
 
 needs_dask = pytest.mark.skipif(not find_spec("distributed"), reason="distributed isn't installed")
+
+
+EXAMPLES = ROOT / "examples"
+
+ACCEPTED = [
+    "autauga/all.txt",
+    "autauga-renumbered/all.txt",
+    "autauga-one-address.txt",
+    "two-maps/second.txt",
+    "twins/there-and-back.txt",
+    "twins/one-shape.txt",
+]
+COUNTIES = 300
+
+Parts = dict[str, bytes]
+"""A county's files by their types. A type that isn't there has no file."""
+
+
+class Made(NamedTuple):
+    """A county of the archive: its stem, its files, and whether it is a zip there."""
+
+    stem: str
+    parts: Parts
+    is_zip: bool
+
+
+def parts_of(text: bytes) -> Parts:
+    """The records of a county by their types, each type a file."""
+    parts = {kind: b"" for kind in TYPES}
+    for line in text.splitlines():
+        kind = chr(line[0]) if line else "1"
+        parts[kind if kind in parts else "1"] += line + b"\r\n"
+    return parts
+
+
+def renumbered(text: bytes, by: int) -> bytes:
+    """The same map: TLIDs, which types 1, 2, 4 and 6 have in columns 6 to 15, and type I in 11 to 20, are greater by a number."""
+    lines = []
+    for line in text.splitlines():
+        at = {b"1": 5, b"2": 5, b"4": 5, b"6": 5, b"I": 10}.get(line[:1])
+        if at is not None:
+            line = line[:at] + b"%10d" % (int(line[at : at + 10]) + by) + line[at + 10 :]
+        lines.append(line + b"\n")
+    return b"".join(lines)
+
+
+def changed(text: bytes, number: int) -> bytes:
+    """Another map: the first chain's name, in columns 20 to 49, has a number."""
+    lines = text.splitlines(keepends=True)
+    at = next(at for at, line in enumerate(lines) if line.startswith(b"1"))
+    lines[at] = lines[at][:19] + b"%-30s" % (b"Street %d" % number) + lines[at][49:]
+    return b"".join(lines)
+
+
+def texts(count: int) -> list[bytes]:
+    """The texts of count counties: each map twice under other numbers, and some once. Each tenth county is refused."""
+    accepted = [(EXAMPLES / name).read_bytes() for name in ACCEPTED]
+    refused = [path.read_bytes() for path in sorted((EXAMPLES / "refused").iterdir())] + [(EXAMPLES / "broken.txt").read_bytes()]
+    made = []
+    for number in range(count):
+        if number % 10 == 9:
+            made.append(refused[number // 10 % len(refused)])
+        else:
+            text = accepted[number // 2 % len(accepted)]
+            made.append(changed(renumbered(text, 1000 * (number % 7)), number // 2))
+    return made
+
+
+def made_counties(count: int = COUNTIES) -> list[Made]:
+    """The counties of the archive: each third is a zip, some are in a folder of a folder, and some lack files."""
+    made = []
+    for number, text in enumerate(texts(count)):
+        parts = parts_of(text)
+        for kind in TYPES[1:] if number % 25 == 4 else "78" if number % 25 == 14 else "1" if number % 100 == 44 else "":
+            del parts[kind]
+        folder = "in/more/of it" if number % 5 == 0 else "in"
+        made.append(Made(f"{folder}/TGR{number:05}", parts, number % 3 == 0))
+    return made
+
+
+def put_files(room: Path, county: Made) -> None:
+    """A county as single files."""
+    for kind, text in county.parts.items():
+        put(room / f"{county.stem}.RT{kind}", text)
+
+
+def put_zip(room: Path, county: Made, is_small: bool) -> None:
+    """A county as a zip, in which other types lie too; with all names in lower case, or in capitals."""
+    path = put(room / f"{county.stem}{'.zip' if is_small else '.ZIP'}")
+    with zipfile.ZipFile(path, "w", zipfile.ZIP_DEFLATED) as packed:
+        for kind, text in {**county.parts, "A": b"A2006\r\n", "Z": b"Z2006\r\n"}.items():
+            member = f"{Path(county.stem).name}.RT{kind}"
+            packed.writestr(member.lower() if is_small else member, text)
+
+
+def put_archive(room: Path, made: list[Made]) -> None:
+    for number, county in enumerate(made):
+        if county.is_zip:
+            put_zip(room, county, number % 2 == 1)
+        else:
+            put_files(room, county)
 
 
 class Archive(NamedTuple):
@@ -29,38 +129,33 @@ class Archive(NamedTuple):
     reports: dict[str, str]
 
 
-def by_program(program: str, county: made.Made, folder: Path) -> "subprocess.CompletedProcess[str]":
-    """What the program itself answers for a county as single files."""
-    made.put_files(folder, county)
-    return subprocess.run([program, "fingerprint", "--stem", "--", folder / county.stem], capture_output=True, text=True)
-
-
 @pytest.fixture(scope="module")
 def expected(tmp_path_factory: pytest.TempPathFactory) -> Iterator[Archive]:
     """What the program prints for each county alone."""
     if not PROGRAM:
         pytest.skip("no program is built")
-    folder = tmp_path_factory.mktemp("files")
-    counties = made.counties()
+    folder, asks = tmp_path_factory.mktemp("files"), [PROGRAM, "fingerprint", "--stem", "--"]
+    counties = sorted(made_counties(), key=lambda county: county.stem)
+    for county in counties:
+        put_files(folder, county)
     with ThreadPoolExecutor() as pool:
-        runs = list(pool.map(lambda county: by_program(str(PROGRAM), county, folder), counties))
+        stems = [folder / county.stem for county in counties]
+        runs = list(pool.map(lambda stem: subprocess.run([*asks, stem], capture_output=True, text=True), stems))
     lines, reports = ["# tigercanon form 1"], {}
-    for county, run in sorted(zip(counties, runs), key=lambda pair: pair[0].stem):
-        missing = [kind for kind in TYPES if kind not in county.parts]
-        empty = ["empty .RT1"] if county.parts.get("1") == b"" else []
-        notes = [*([f"no {endings(missing)}"] if missing else []), *empty]
+    for county, run in zip(counties, runs):
+        missing = endings(kind for kind in TYPES if kind not in county.parts)
+        empty = "empty .RT1" if county.parts.get("1") == b"" else ""
         if run.returncode == 0:
             lines.append(f"{run.stdout.strip()}  {county.stem}")
-        else:
-            notes.insert(0, run.stderr.strip())
+        notes = "; ".join(filter(None, [run.stderr.strip(), missing and f"no {missing}", empty]))
         if notes:
-            reports[county.stem] = "; ".join(notes)
+            reports[county.stem] = notes
     yield Archive(folder, lines, reports)
 
 
 @pytest.fixture
 def archive(room: Path, program: str, expected: Archive) -> Archive:
-    made.put_archive(room, made.counties())
+    put_archive(room, made_counties())
     return expected
 
 
@@ -102,7 +197,7 @@ def assert_all_done(archive: Archive, killed: int = 0) -> None:
 
 
 def test_most_counties_have_a_fingerprint(expected: Archive) -> None:
-    assert made.COUNTIES * 8 // 10 < len(expected.lines) - 1 < made.COUNTIES
+    assert COUNTIES * 8 // 10 < len(expected.lines) - 1 < COUNTIES
 
 
 def test_on_this_machine(archive: Archive) -> None:
@@ -112,12 +207,12 @@ def test_on_this_machine(archive: Archive) -> None:
     count = len(archive.lines) - 1
     refused = [text.split(";")[0] for text in archive.reports.values() if text.startswith("refused")]
     rules = [" ".join(text.split()[1:3]) for text in refused]
-    (summary,) = [line for line in ended.lines if line.startswith(f"{made.COUNTIES} counties: ")]
-    assert summary.startswith(f"{made.COUNTIES} counties: {count} new, {len(refused)} refused, 0 failed; ")
+    (summary,) = [line for line in ended.lines if line.startswith(f"{COUNTIES} counties: ")]
+    assert summary.startswith(f"{COUNTIES} counties: {count} new, {len(refused)} refused, 0 failed; ")
     (line,) = [line for line in ended.lines if line.startswith("refused: ")]
     assert sorted(line[9:].split(", ")) == sorted({f"{rules.count(rule)} by {rule}" for rule in rules})
     again = call("fingerprint", "-o", "m", "in")
-    assert again.lines[-3].startswith(f"{made.COUNTIES} counties: {count} in the manifest already, 0 new, {len(refused)} refused, ")
+    assert again.lines[-3].startswith(f"{COUNTIES} counties: {count} in the manifest already, 0 new, {len(refused)} refused, ")
     assert call("verify", "--quiet", "m").out == ""
 
 
@@ -178,7 +273,7 @@ class TestDask:
         assert ended.status == 1, ended.err
         done = Path("m").read_text().splitlines()
         (left,) = re.findall(r"is gone: (\d+) counties are left; run the same command again to do them", ended.err)
-        assert int(left) == made.COUNTIES - (len(done) - 1) - sum("refused" in text for text in ended.reports.values())
+        assert int(left) == COUNTIES - (len(done) - 1) - sum("refused" in text for text in ended.reports.values())
         assert set(done) <= set(archive.lines) and done[1:] == sorted(done[1:], key=lambda line: line[66:])
         assert call("fingerprint", "-o", "m", "in").status == 1
         assert_all_done(archive)
@@ -189,7 +284,7 @@ class TestDask:
         run.send_signal(signal.SIGTERM)
         assert run.wait(2) == -signal.SIGTERM
         ended = end(run)
-        assert re.fullmatch(rf"stopped by TERM: \d+ of {made.COUNTIES} counties done", ended.lines[-1])
+        assert re.fullmatch(rf"stopped by TERM: \d+ of {COUNTIES} counties done", ended.lines[-1])
         assert call("fingerprint", "--scheduler", engine.file, "-o", "m", "in").status == 1
         assert_all_done(archive)
 

@@ -1,7 +1,5 @@
 """The command line: help, versions, errors, and how the program is found."""
 
-from __future__ import annotations
-
 import os
 import shutil
 import subprocess
@@ -103,27 +101,26 @@ class TestProgram:
         shutil.copytree(PACKAGE / "tigercanon", room / "packages/tigercanon")
         return room / "packages"
 
-    def call_installed(self, room: Path, path: str) -> "subprocess.CompletedProcess[bytes]":
-        env = {"PYTHONPATH": str(room / "packages"), "PATH": path, "ROOM": str(room), "TMPDIR": str(room / "tmp")}
+    def call_installed(self, room: Path) -> "subprocess.CompletedProcess[bytes]":
+        complete("in/a", b"x\n")
+        env = {
+            "PYTHONPATH": str(room / "packages"),
+            "PATH": f"{room}/bin:/bin:/usr/bin",
+            "ROOM": str(room),
+            "TMPDIR": str(room / "tmp"),
+        }
         return subprocess.run([sys.executable, "-m", "tigercanon", "fingerprint", "in"], env=env, capture_output=True)
 
-    def test_on_the_path(self, installed: Path, room: Path, stand_in: Path) -> None:
-        complete("in/a", b"x\n")
-        os.mkdir("bin")
-        os.rename(stand_in, "bin/tigercanon")
-        run = self.call_installed(room, f"{room}/bin:/bin:/usr/bin")
+    @pytest.mark.parametrize("place", ["bin", "packages/tigercanon/bin"])
+    def test_one_that_is_found(self, installed: Path, room: Path, stand_in: Path, place: str) -> None:
+        """On the PATH, and inside the package, as a wheel has it."""
+        os.mkdir(room / place)
+        os.rename(stand_in, room / place / "tigercanon")
+        run = self.call_installed(room)
         assert (run.returncode, run.stdout.splitlines()[-1]) == (0, f"{digest(b'x' + bytes([10]))}  in/a".encode())
 
-    def test_inside_the_package(self, installed: Path, room: Path, stand_in: Path) -> None:
-        """As a wheel has it."""
-        complete("in/a", b"x\n")
-        os.mkdir(installed / "tigercanon/bin")
-        os.rename(stand_in, installed / "tigercanon/bin/tigercanon")
-        assert self.call_installed(room, "/bin:/usr/bin").returncode == 0
-
     def test_none(self, installed: Path, room: Path) -> None:
-        complete("in/a", b"x\n")
-        run = self.call_installed(room, "/bin:/usr/bin")
+        run = self.call_installed(room)
         why = "there is no program tigercanon here: run ./tigercanon once, which builds it, or name one with --program"
         assert (run.returncode, run.stderr.decode()) == (2, f"tigercanon-tools: {why}\n")
 

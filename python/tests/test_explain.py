@@ -1,7 +1,5 @@
 """The command explain, and the hints beside refusals."""
 
-from __future__ import annotations
-
 from pathlib import Path
 
 import pytest
@@ -77,12 +75,11 @@ def test_hints(room: Path, text: bytes, line: str, wanted: str) -> None:
     assert hint(line, [str(put("x.RT1", text)), None]) == wanted
 
 
-@pytest.mark.parametrize("present", [["tgr01013.rt1"], ["TGR01013.rt1"]])
-def test_a_hint_for_names(room: Path, present: list[str]) -> None:
-    for name in present:
-        put(name)
+@pytest.mark.parametrize("present", ["tgr01013.rt1", "TGR01013.rt1"])
+def test_a_hint_for_names(room: Path, present: str) -> None:
+    put(present)
     found = hint("refused 8 Device", [f"{room}/TGR01013.RT1", f"{room}/TGR01013.RT2"])
-    assert found == f"there is {present[0]}: the program reads names in capitals only"
+    assert found == f"there is {present}: the program reads names in capitals only"
     assert hint("refused 8 Device", [f"{room}/other.RT1"]) == ""
 
 

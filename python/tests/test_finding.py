@@ -1,7 +1,5 @@
 """How counties are found: in folders, by globs and by names, on disks and in stores."""
 
-from __future__ import annotations
-
 import os
 from importlib.util import find_spec
 from pathlib import Path
@@ -148,18 +146,9 @@ def test_files_that_are_passed_over(archive: Path) -> None:
     assert finder.passed_over == {".RTA": 1, ".me": 1, ".tar.gz": 2, ".gz": 4, "without an ending": 1}
 
 
-@pytest.mark.parametrize(
-    "path, folder, name",
-    [
-        ("a", "", "a"),
-        ("a/b", "a", "b"),
-        ("/a", "/", "a"),
-        ("s3://a/b", "s3://a", "b"),
-        ("s3://a", "s3://", "a"),
-        ("file:///a", "file:///", "a"),
-    ],
-)
-def test_paths(path: str, folder: str, name: str) -> None:
+@pytest.mark.parametrize("folder, name", [("", "a"), ("a", "b"), ("/", "a"), ("s3://a", "b"), ("s3://", "a"), ("file:///", "a")])
+def test_paths(folder: str, name: str) -> None:
+    path = f"{folder}/{name}" if folder in ("a", "s3://a") else f"{folder}{name}"
     assert (parted(path), joined(folder, name)) == ((folder, name), path)
 
 

@@ -1,7 +1,5 @@
 """The command fingerprint, with a stand-in for the program."""
 
-from __future__ import annotations
-
 import json
 import os
 import subprocess
@@ -109,22 +107,24 @@ def test_the_summary_counts_refusals(four: dict[str, bytes]) -> None:
     assert ended.lines[-1] == "refused: 2 by 1 UnknownType"
 
 
+def zip_up(stem: str) -> None:
+    subprocess.run(["zip", "-qmj", f"{stem}.zip", *sorted(map(str, Path(".").glob(f"{stem}.RT?")))], check=True)
+
+
 @pytest.mark.parametrize("is_zip", [False, True])
 @pytest.mark.parametrize("kind", TYPES)
 def test_strict_without_a_file(room: Path, stand_in: Path, kind: str, is_zip: bool) -> None:
     complete("in/b", b"b\n")
     os.unlink(f"in/b.RT{kind}")
     if is_zip:
-        subprocess.run(["zip", "-qmj", "in/b.zip", *sorted(map(str, Path("in").glob("b.RT?")))], check=True)
+        zip_up("in/b")
     ended = call("fingerprint", "--strict", "-o", "m", "in")
     assert (ended.status, ended.reports) == (1, {"in/b": f"rejected by --strict: no .RT{kind}"})
     assert ended.lines[-1] == "refused: 1 by --strict"
     assert calls() == [] and not os.path.exists("m")
     ended = call("fingerprint", "-o", "m", "in")
-    if kind == "1":
-        assert (ended.status, ended.reports) == (1, {"in/b": "refused 8 Device; no .RT1"})
-    else:
-        assert (ended.status, ended.reports) == (0, {"in/b": f"no .RT{kind}"})
+    refused = "refused 8 Device; " if kind == "1" else ""
+    assert (ended.status, ended.reports) == (int(kind == "1"), {"in/b": f"{refused}no .RT{kind}"})
 
 
 @pytest.mark.parametrize("is_zip", [False, True])
@@ -134,12 +134,10 @@ def test_empty_files(room: Path, stand_in: Path, kind: str, is_zip: bool) -> Non
     complete("in/b", b"b\n")
     put(f"in/b.RT{kind}")
     if is_zip:
-        subprocess.run(["zip", "-qmj", "in/b.zip", *sorted(map(str, Path("in").glob("b.RT?")))], check=True)
+        zip_up("in/b")
     ended = call("fingerprint", "--strict", "in")
-    if kind in "12I":
-        assert (ended.status, ended.reports) == (1, {"in/b": f"rejected by --strict: empty .RT{kind}"})
-    else:
-        assert (ended.status, ended.reports) == (0, {"in/b": f"empty .RT{kind}"})
+    rejected = "rejected by --strict: " if kind in "12I" else ""
+    assert (ended.status, ended.reports) == (int(kind in "12I"), {"in/b": f"{rejected}empty .RT{kind}"})
     ended = call("fingerprint", "in")
     assert (ended.status, ended.reports) == (0, {"in/b": "empty .RT1"} if kind == "1" else {})
 
@@ -219,7 +217,7 @@ def test_a_manifest_that_takes_no_more(four: dict[str, bytes], count: int, added
 def test_no_room_for_a_zip(four: dict[str, bytes]) -> None:
     """It is reported, and the others are done."""
     put("in/b.RT1", b"x" * 3000)
-    subprocess.run(["zip", "-qmj", "in/b.zip", *sorted(map(str, Path("in").glob("b.RT?")))], check=True)
+    zip_up("in/b")
     ended = call("fingerprint", "in", preexec_fn=limit_files(1024))
     assert ended.reports == {"in/b": "can't be read or unpacked: File too large"}
     assert (ended.status, len(ended.out.splitlines()), left_behind()) == (1, 4, [])

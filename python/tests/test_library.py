@@ -15,7 +15,7 @@ from pathlib import Path
 from typing import Any, Callable, Iterator
 
 import pytest
-from testing import ROOT, TYPES, Answer, script
+from testing import ROOT, TYPES, Answer, make_county, script
 
 import tigercanon
 from tigercanon import _library
@@ -44,20 +44,13 @@ def loaded() -> Iterator[Path]:
 
 def answer(words: list[str], files: dict[str, bytes]) -> Answer:
     """What the program would answer to these words, by the module and with files in memory."""
-    command, flags = words[0], {}
-    names: list[str] = []
-    rest = iter(words[1:])
-    for word in rest:
-        if word == "--":
-            names += rest
-        elif not word.startswith("-"):
-            names.append(word)
-        elif word != "--stem":
-            flags[word[2:].replace("-", "_")] = True
-    is_stem = "--stem" in words
+    command, end = words[0], words.index("--") if "--" in words else len(words)
+    options = [word for word in words[1:end] if word.startswith("-")]
+    names = [word for word in words[1:end] if word not in options] + words[end + 1 :]
+    is_stem = "--stem" in options
     sets = [[files.get(name + end, b"") for end in ENDINGS] if is_stem else files[name] for name in names]
     try:
-        answered = getattr(tigercanon, command)(*sets, **flags)
+        answered = getattr(tigercanon, command)(*sets, **{it[2:].replace("-", "_"): True for it in options if it != "--stem"})
     except tigercanon.Refusal as refusal:
         return Answer(5 if refusal.number == 9 else 3, b"", f"{refusal}\n".encode())
     if command == "compare":
@@ -82,9 +75,6 @@ def test_vectors() -> None:
     assert len(cases) > 100
     wrong = {case["name"]: told for case in cases for told in [vectors.judge([], case)] if told}
     assert wrong == {}
-
-
-# Refusals
 
 
 def test_examples_of_refusals() -> None:
@@ -132,9 +122,6 @@ def test_a_line_of_the_third_part() -> None:
         tigercanon.respell([AUTAUGA, b"", b"1\n\n"])
 
 
-# Answers
-
-
 def test_counties(tmp_path: Path) -> None:
     """One county as bytes, as a file, as nine files and as a zip, in either case of their names."""
     packed = tmp_path / "TGR01001.ZIP"
@@ -155,7 +142,7 @@ def test_counties(tmp_path: Path) -> None:
 
 
 def memory() -> int:
-    """The memory that this process has, in KiB."""
+    """In KiB."""
     return int(Path("/proc/self/statm").read_text().split()[1]) * resource.getpagesize() // 1024
 
 
@@ -179,10 +166,8 @@ def test_rounds() -> None:
 
 @pytest.fixture(scope="module", name="county")
 def made_county(tmp_path_factory: pytest.TempPathFactory) -> Path:
-    """A county of 2,000 chains."""
     path = tmp_path_factory.mktemp("county") / "county.txt"
-    maker = next(ROOT / place for place in ("scripts/make-county", "tools/make-county") if (ROOT / place).exists())
-    subprocess.run([maker, "2000", path], check=True)
+    make_county(2000, path)
     return path
 
 

@@ -1,18 +1,18 @@
 """The manifest: its lines, its lock, and what two of them say."""
 
-from __future__ import annotations
-
 import json
 import os
 import stat
 from pathlib import Path
 
 import pytest
-from support import begin, await_that, call, complete, digest, end, put
+from support import begin, call, complete, digest, end, line, put
+from testing import await_that
 
 A, B, C = ("a" * 64, "b" * 64, "c" * 64)
 HEAD = b"# tigercanon form 1\n"
 OVERWRITTEN = "has the name of a county's file, and isn't overwritten by a manifest"
+INCOMPARABLE = "their fingerprints can't be compared"
 
 
 def lines(*pairs: str) -> bytes:
@@ -66,6 +66,8 @@ def test_names_that_are_no_files(room: Path, stand_in: Path, name: str) -> None:
         (["verify", "cut"], "cut: its last line is cut off; let the run that writes it finish first"),
         (["fingerprint", ""], "a name is empty or has a line break in it"),
         (["verify", "head", "a\nb"], "a name is empty or has a line break in it"),
+        (["changes", "plain", "masked"], f"plain was made with no flags and masked with --no-sources: {INCOMPARABLE}"),
+        (["changes", "plain", "twice"], "twice: one/x and two/X have the same name, so counties can't be matched by it"),
     ],
 )
 def test_errors(room: Path, stand_in: Path, words: list[str], why: str) -> None:
@@ -74,6 +76,9 @@ def test_errors(room: Path, stand_in: Path, words: list[str], why: str) -> None:
     put("empty")
     put("head", HEAD)
     put("cut", lines("a x", "b y")[:-5])
+    put("plain", lines("a x"))
+    put("masked", b"# --no-sources\n" + lines("a x"))
+    put("twice", lines("a one/x", "b two/X"))
     ended = call(*words)
     assert (ended.status, ended.out, ended.lines) == (2, "", [why.format(room=room)])
     assert (Path("in/b.RT1").read_bytes(), Path("empty").read_bytes()) == (b"", b"")
@@ -121,7 +126,7 @@ def test_a_line_that_was_being_written(room: Path, stand_in: Path) -> None:
     put("m", HEAD[:9])
     complete("in/b", b"b\n")
     assert call("fingerprint", "-o", "m", "in").status == 0
-    assert Path("m").read_text() == f"# tigercanon form 1\n{digest(b'b' + bytes([10]))}  in/b\n"
+    assert Path("m").read_text() == HEAD.decode() + line("in/b", b"b\n")
 
 
 def test_a_linked_manifest(room: Path, stand_in: Path) -> None:
@@ -190,15 +195,3 @@ def test_changes(room: Path) -> None:
         ("added", "TGR01007", None, "TGR01007"),
     ]
     assert call("changes", "old", "old").status == 0
-
-
-def test_manifests_that_dont_compare(room: Path) -> None:
-    put("plain", lines("a x"))
-    put("masked", b"# --no-sources\n" + lines("a x"))
-    put("twice", lines("a one/x", "b two/X"))
-    ended = call("changes", "plain", "masked")
-    why = "plain was made with no flags and masked with --no-sources: their fingerprints can't be compared"
-    assert (ended.status, ended.out, ended.lines) == (2, "", [why])
-    ended = call("changes", "plain", "twice")
-    why = "twice: one/x and two/X have the same name, so counties can't be matched by it"
-    assert (ended.status, ended.lines) == (2, [why])

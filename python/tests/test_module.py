@@ -1,7 +1,5 @@
 """The module for Python over a stand-in for the library: what it passes to the library, and what it makes of the answers."""
 
-from __future__ import annotations
-
 import array
 import gzip
 import inspect
@@ -14,6 +12,7 @@ import sys
 import threading
 import time
 import zipfile
+from itertools import product
 from pathlib import Path
 from typing import Any, Callable, Iterator
 
@@ -53,7 +52,6 @@ REFUSALS = [
 
 @pytest.fixture(scope="module", name="library")
 def compiled(tmp_path_factory: pytest.TempPathFactory) -> Path:
-    """The stand-in as a shared library."""
     if not shutil.which("gcc"):
         pytest.skip("no gcc")
     made = tmp_path_factory.mktemp("library") / _library.NAME
@@ -64,19 +62,14 @@ def compiled(tmp_path_factory: pytest.TempPathFactory) -> Path:
 
 @pytest.fixture(autouse=True)
 def loaded(library: Path, monkeypatch: pytest.MonkeyPatch) -> Iterator[None]:
-    """The module takes the stand-in."""
     monkeypatch.setenv(_library.VARIABLE, str(library))
     _library.library.cache_clear()
     yield
     _library.library.cache_clear()
 
 
-def echoed(parts: Any) -> bytes:
-    """What the stand-in was lent."""
-    return tigercanon.respell(parts)
-
-
-# Parts
+echoed: Callable[[Any], bytes] = tigercanon.respell
+"""What the stand-in was lent."""
 
 
 def kinds(folder: Path) -> dict[str, Callable[[], Any]]:
@@ -126,9 +119,7 @@ def test_several_parts(tmp_path: Path) -> None:
 
 
 def test_nothing() -> None:
-    empty = [b"", bytearray(), memoryview(b""), [], [b""], array.array("H"), io.BytesIO()]
-    empty.append(memoryview(b"").cast("B"))
-    for nothing in empty:
+    for nothing in (b"", bytearray(), memoryview(b""), memoryview(b"").cast("B"), [], [b""], array.array("H"), io.BytesIO()):
         assert echoed(nothing) == b""
     assert echoed([b""] * 3) == b"||"
 
@@ -166,9 +157,6 @@ def test_parts_are_given_back() -> None:
     lent.extend(b"a bytearray that is lent can't be made longer")
 
 
-# Counties by their paths
-
-
 def test_stems(tmp_path: Path) -> None:
     """The nine files in their order, in either case of their endings. An absent one is empty."""
     (tmp_path / "TGR01001.RT1").write_bytes(b"one")
@@ -202,22 +190,13 @@ def test_zips(tmp_path: Path) -> None:
         tigercanon.check(path)
 
 
-# Answers
-
-
-def places_of(words: str) -> tuple[tuple[Any, ...], str]:
-    """The places of a refusal by their kinds: as the exception has them, and as the line has them."""
-    numbers = iter((12345678901, 22, 33))
-    places: list[Any] = []
-    for word in words.split():
-        places.append("6" if word == "type" else "3036303031" if word == "cenid" else next(numbers))
-    return tuple(places), "".join(f" {place}" for place in places)
-
-
 @pytest.mark.parametrize("number, name, words", REFUSALS)
 def test_refusals(number: int, name: str, words: str) -> None:
     """Each refusal with its places, by each call."""
-    places, line = places_of(words)
+    numbers = iter((12345678901, 22, 33))
+    of_kind = {"type": "6", "cenid": "3036303031"}
+    places = tuple(of_kind[word] if word in of_kind else next(numbers) for word in words.split())
+    line = "".join(f" {place}" for place in places)
     for which in (0, 1, 2):
         fault = f"fault {number} {which} 6 3036303031 12345678901 22 33".encode()
         calls: list[Callable[[], object]] = [
@@ -240,19 +219,16 @@ def test_refusals(number: int, name: str, words: str) -> None:
 
 def test_flags() -> None:
     """Each flag is passed as itself. Any true value counts as given."""
-    for given in (True, 1, "yes"):
-        flags: Any = {"no_sources": given}
-        assert tigercanon.normalise(TEXT, **flags) == TEXT + b"+no_sources"
-        assert tigercanon.fingerprint(TEXT, **flags)[62:] == "01"
-        assert tigercanon.compare(TEXT, TEXT, **flags) is False
-        flags = {"no_reserved": given}
-        assert tigercanon.normalise(TEXT, **flags) == TEXT + b"+no_reserved"
-        assert tigercanon.fingerprint(TEXT, **flags)[62:] == "02"
-        assert tigercanon.compare(TEXT, TEXT, **flags) is False
-        flags = {"no_sources": given, "no_reserved": given}
-        assert tigercanon.normalise(TEXT, **flags) == TEXT + b"+both"
-        assert tigercanon.fingerprint(TEXT, **flags)[62:] == "03"
-        assert tigercanon.compare(TEXT, b"other", **flags) is True
+    rows = [
+        ("no_sources", b"+no_sources", "01"),
+        ("no_reserved", b"+no_reserved", "02"),
+        ("no_sources no_reserved", b"+both", "03"),
+    ]
+    for given, (names, ending, digits) in product((True, 1, "yes"), rows):
+        flags: Any = dict.fromkeys(names.split(), given)
+        assert tigercanon.normalise(TEXT, **flags) == TEXT + ending
+        assert tigercanon.fingerprint(TEXT, **flags)[62:] == digits
+        assert tigercanon.compare(TEXT, b"other" if len(flags) == 2 else TEXT, **flags) is (len(flags) == 2)
     for absent in (False, 0, "", None):
         nothing: Any = {"no_sources": absent, "no_reserved": absent}
         assert tigercanon.normalise(TEXT, **nothing) == TEXT
@@ -279,9 +255,6 @@ def test_check_returns_nothing() -> None:
     assert tigercanon.check(TEXT) is None  # type: ignore[func-returns-value]
 
 
-# The library, and what stands about the calls
-
-
 def imported(*words: str, package: Path = ROOT / "python", **more: str) -> "subprocess.CompletedProcess[str]":
     """What Python prints that loads the package from this folder."""
     plain = {key: value for key, value in os.environ.items() if key not in ("LD_LIBRARY_PATH", _library.VARIABLE)}
@@ -291,31 +264,34 @@ def imported(*words: str, package: Path = ROOT / "python", **more: str) -> "subp
     return subprocess.run(command, cwd="/", env=environment, capture_output=True, text=True)
 
 
-def test_where_the_library_is(library: Path, tmp_path: Path) -> None:
+@pytest.fixture
+def package(tmp_path: Path) -> Path:
+    """The package elsewhere."""
+    shutil.copytree(ROOT / "python/tigercanon", tmp_path / "python/tigercanon")
+    return tmp_path / "python"
+
+
+def test_where_the_library_is(library: Path, tmp_path: Path, package: Path) -> None:
     """The variable wins over a library beside the package, and that one over one of the system."""
-    package = tmp_path / "python"
-    shutil.copytree(ROOT / "python/tigercanon", package / "tigercanon")
     call = "print(tigercanon.respell(b'x'))"
     system = {"LD_LIBRARY_PATH": str(library.parent)}
     assert imported(call, package=package, **system).stdout == "b'x'\n"
-    broken = tmp_path / "lib"
-    broken.mkdir()
-    (broken / _library.NAME).write_bytes(b"no library")
+    beside = tmp_path / "lib" / _library.NAME
+    beside.parent.mkdir()
+    beside.write_bytes(b"no library")
     assert "ImportError" in imported(call, package=package, **system).stderr
     assert imported(call, package=package, TIGERCANON_LIBRARY=str(library)).stdout == "b'x'\n"
-    (broken / _library.NAME).unlink()
-    (broken / _library.NAME).symlink_to(library)
+    beside.unlink()
+    beside.symlink_to(library)
     assert imported(call, package=package).stdout == "b'x'\n"
     assert "ImportError" in imported(call, package=package, TIGERCANON_LIBRARY=str(tmp_path / "none")).stderr
     (package / "tigercanon" / _library.NAME).symlink_to(library)
-    (broken / _library.NAME).unlink()
+    beside.unlink()
     assert imported(call, package=package).stdout == "b'x'\n"
 
 
-def test_without_a_library(tmp_path: Path) -> None:
+def test_without_a_library(package: Path) -> None:
     """The package can be imported, and a call says in one line how to get the library."""
-    package = tmp_path / "python"
-    shutil.copytree(ROOT / "python/tigercanon", package / "tigercanon")
     ended = imported("print(tigercanon.FORM)", "tigercanon.check(b'')", package=package)
     assert ended.stdout == "tigercanon form 1\n"
     last = ended.stderr.splitlines()[-1]

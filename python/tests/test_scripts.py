@@ -1,8 +1,6 @@
 """Scripts beside the package: the man page and the completions of the tools agree with their help; and what the runner of the cases in
 vectors/ does without a program."""
 
-from __future__ import annotations
-
 import shutil
 import subprocess
 

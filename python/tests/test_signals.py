@@ -1,17 +1,16 @@
 """A signal, whenever it comes: the command ends by it within a second and leaves nothing behind, and the same command goes on."""
 
-from __future__ import annotations
-
 import os
 import random
 import signal
+import subprocess
 import time
 import zipfile
 from pathlib import Path
 
 import pytest
-from support import HEAD, await_that, begin, call, complete, count_of_lines, end, left_behind, limit_files, line, processes, put
-from testing import TYPES
+from support import HEAD, begin, call, complete, count_of_lines, end, left_behind, limit_files, line, processes, put
+from testing import TYPES, await_that
 
 SIGNALS = [signal.SIGINT, signal.SIGTERM, signal.SIGHUP, signal.SIGQUIT, signal.SIGUSR1, signal.SIGXCPU]
 
@@ -40,11 +39,17 @@ def assert_nothing_is_left(room: Path) -> None:
     assert await_that(lambda: not any(program in command for _, _, command in processes()), 1)
 
 
+def waiting(*words: str) -> "subprocess.Popen[bytes]":
+    """A run that waits for the zip, when all others are done."""
+    put("waits")
+    run = begin("fingerprint", *words, "-o", "m", "in")
+    assert await_that(lambda: count_of_lines("m") == 10)
+    return run
+
+
 @pytest.mark.parametrize("number", SIGNALS)
 def test_a_signal(archive: Path, number: signal.Signals) -> None:
-    put("waits")
-    run = begin("fingerprint", "--jobs", "3", "-o", "m", "in")
-    assert await_that(lambda: count_of_lines("m") == 10)
+    run = waiting("--jobs", "3")
     assert left_behind() != []
     at = time.monotonic()
     run.send_signal(number)
@@ -84,11 +89,9 @@ def test_at_any_moment(archive: Path) -> None:
 
 def test_a_signal_that_is_ignored(archive: Path) -> None:
     """A command that was started by nohup isn't ended by a hangup."""
-    put("waits")
     before = signal.signal(signal.SIGHUP, signal.SIG_IGN)
-    run = begin("fingerprint", "-o", "m", "in")
+    run = waiting()
     signal.signal(signal.SIGHUP, before)
-    assert await_that(lambda: count_of_lines("m") == 10)
     run.send_signal(signal.SIGHUP)
     os.unlink("waits")
     assert end(run).status == 0
@@ -97,9 +100,7 @@ def test_a_signal_that_is_ignored(archive: Path) -> None:
 
 def test_a_run_that_is_killed(archive: Path) -> None:
     """What it leaves behind is removed by a later run, once it is a minute old; a folder in use stays."""
-    put("waits")
-    run = begin("fingerprint", "-o", "m", "in")
-    assert await_that(lambda: count_of_lines("m") == 10)
+    run = waiting()
     (folder,) = left_behind()
     os.utime(folder, (0, 0))
     assert call("fingerprint", "in/TGR1").status == 0

@@ -1,7 +1,5 @@
 """The command verify, with a stand-in for the program."""
 
-from __future__ import annotations
-
 import json
 import os
 import shutil

@@ -1,7 +1,5 @@
 """Zips as they shouldn't be, and servers that break off: each is reported in one line, and all other counties are done."""
 
-from __future__ import annotations
-
 import io
 import re
 import struct
@@ -36,13 +34,6 @@ def members(name: str = "TGR00001") -> Texts:
     return [(f"{name}.RT{kind}", TEXT if kind == "1" else b"x\n") for kind in TYPES]
 
 
-def headers(text: bytes, name: str) -> tuple[int, int]:
-    """Where the header before a file starts, and its line in the directory."""
-    with zipfile.ZipFile(io.BytesIO(text)) as archive:
-        before = archive.getinfo(name).header_offset
-    return before, text.rindex(name.encode()) - 46
-
-
 def patched(text: bytes, *changes: tuple[int, bytes]) -> bytes:
     changed = bytearray(text)
     for at, new in changes:
@@ -53,9 +44,11 @@ def patched(text: bytes, *changes: tuple[int, bytes]) -> bytes:
 def broken_zips() -> dict[str, tuple[bytes, str]]:
     """Zips by what is wrong with them, and the expected reports."""
     good, name, size = packed(members()), NAMES[0], len(TEXT)
-    before, line = headers(good, name)
+    # Where the header before a file starts, and its line in the directory.
+    before, line = zipfile.ZipFile(io.BytesIO(good)).getinfo(name).header_offset, good.rindex(name.encode()) - 46
     data = before + 30 + len(name)
-    broken = f"the zip is broken at {name}"
+    broken, two = f"the zip is broken at {name}", "the zip has 2 counties in it:"
+    large = r"the zip unpacks to \d+ bytes, more than --largest 200000"
     both = (before + 6, b"\1"), (line + 8, b"\1")
     unknown = (before + 8, b"\x09"), (line + 10, b"\x09")
     return {
@@ -71,17 +64,11 @@ def broken_zips() -> dict[str, tuple[bytes, str]]:
         "says-nothing": (patched(good, (line + 24, struct.pack("<L", 0))), broken),
         "says-less": (patched(good, (line + 24, struct.pack("<L", size - 1))), broken),
         "says-more": (patched(good, (line + 24, struct.pack("<L", size + 1))), broken),
-        "two": (packed([*members(), *members("tgr00003")]), "the zip has 2 counties in it: TGR00001, TGR00003"),
-        "folders": (
-            packed([*members("a/TGR00001"), ("b/TGR00001.RT2", b"")]),
-            "the zip has 2 counties in it: A/TGR00001, B/TGR00001",
-        ),
+        "two": (packed([*members(), *members("tgr00003")]), f"{two} TGR00001, TGR00003"),
+        "folders": (packed([*members("a/TGR00001"), ("b/TGR00001.RT2", b"")]), f"{two} A/TGR00001, B/TGR00001"),
         "none": (packed([("TGR00001.RTA", b"A"), ("read.me", b"")]), "the zip has no county in it"),
         "twice": (packed([*members(), ("tgr00001.rt2", b"")]), "the zip has 2 files .RT2"),
-        "large": (
-            packed([*members()[:-1], (NAMES[-1], b" " * 300_000)]),
-            r"the zip unpacks to \d+ bytes, more than --largest 200000",
-        ),
+        "large": (packed([*members()[:-1], (NAMES[-1], b" " * 300_000)]), large),
     }
 
 

@@ -28,11 +28,9 @@ names, else the one beside this package, else the one that the system finds. In 
 it. Without it, the first call raises ImportError; the command tigercanon-tools works without the library.
 """
 
-from __future__ import annotations
-
 from . import _library
+from ._library import OutOfMemory, Refusal
 from ._parts import Part, Set
-from ._refusal import OutOfMemory, Refusal
 from .version import VERSION as __version__
 
 __all__ = ["FORM", "OutOfMemory", "Part", "Refusal", "Set", "__version__"]

@@ -1,14 +1,11 @@
 """Starts the tools: python3 -m tigercanon, or the command tigercanon-tools."""
 
-from __future__ import annotations
-
 import sys
+
+from .commands import run
 
 
 def main() -> None:
-    """Runs the command line and exits with its status."""
-    from .commands import run
-
     sys.exit(run(sys.argv[1:]))
 
 

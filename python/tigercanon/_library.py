@@ -1,4 +1,4 @@
-"""The shared library with the calls of tigercanon, and how it is found."""
+"""The shared library with the calls of tigercanon: how it is found, and refusals as exceptions."""
 
 from __future__ import annotations
 
@@ -10,7 +10,6 @@ from pathlib import Path
 from typing import Any, Union
 
 from ._parts import ADDRESS_OF_EMPTY, Piece, Set, lent
-from ._refusal import FORMS, OutOfMemory, Refusal
 
 NAME = "libtigercanon.so.1"
 VARIABLE = "TIGERCANON_LIBRARY"
@@ -18,6 +17,57 @@ ADVICE = f"scripts/build-library builds it, a release has it, and {VARIABLE} nam
 
 DIFFERENT = 1
 """The status of compare for two maps. Higher ones are refusals."""
+
+
+class Refusal(Exception):
+    """The set is rejected. docs/guide.md describes each refusal and what to do about it.
+
+    number  1 to 7 for a faulty line, 9 if memory ran out (OutOfMemory), 11 to 24 if the records don't fit together
+    name    the refusal's name, for example "BadNumber"
+    places  where it is, in the order of the line: a record type as a string ("6"), a CENID as ten hexadecimal digits
+            ("3036303031"), everything else as numbers: parts, lines and columns, counted from 1, or TLIDs, FEATs,
+            LANDs and POLYIDs
+    set     from compare: which set is at fault, 1 or 2; otherwise None
+    line    the line that the program prints, without its line ending: "refused 4 BadNumber 1 4 6"
+    """
+
+    def __init__(self, number: int, name: str, places: tuple[Union[int, str], ...] = (), set: int | None = None) -> None:
+        super().__init__(number, name, places, set)
+        self.number, self.name, self.places, self.set = number, name, places, set
+        line = " ".join(["refused", str(number), name, *map(str, places)])
+        self.line = line if set is None else f"{line} in set {set}"
+
+    def __str__(self) -> str:
+        return self.line
+
+
+class OutOfMemory(Refusal, MemoryError):
+    """Memory ran out: refusal 9."""
+
+
+FORMS = {
+    1: ("UnknownType", "number number"),
+    2: ("LineTooLong", "number number"),
+    3: ("BadByte", "number number number"),
+    4: ("BadNumber", "number number number"),
+    5: ("BadPoint", "number number number"),
+    6: ("GapInRecord", "number number number"),
+    7: ("TooManyRecords", "type"),
+    9: ("Memory", ""),
+    11: ("ChainTwice", "number"),
+    12: ("NoChain", "type number"),
+    13: ("SequenceBroken", "type number"),
+    14: ("LinkMissing", "number"),
+    15: ("LinkTwice", "number"),
+    16: ("NameTwice", "number"),
+    17: ("NameUnknown", "number number"),
+    18: ("PolygonTwice", "cenid number"),
+    19: ("LandUnknown", "number"),
+    20: ("PolygonUnknown", "cenid number"),
+    23: ("PolygonWithoutChain", "cenid number"),
+    24: ("TooSymmetric", ""),
+}
+"""The name of each refusal that a call can report, and the kinds of its places."""
 
 
 class Text(ctypes.Structure):
@@ -44,12 +94,10 @@ class Fault(ctypes.Structure):
     ]
 
     def refusal(self) -> Refusal:
-        form = FORMS[self.number]
-        places: list[Union[int, str]] = [chr(self.record_type)] if form.has_type else []
-        places += [bytes(self.cenid).hex()] if form.has_cenid else []
-        places += self.numbers[: form.numbers]
-        kind = OutOfMemory if self.number == 9 else Refusal
-        return kind(self.number, form.name, tuple(places), self.set or None)
+        name, kinds = FORMS[self.number]
+        places = {"type": iter([chr(self.record_type)]), "cenid": iter([bytes(self.cenid).hex()]), "number": iter(self.numbers)}
+        raised = OutOfMemory if self.number == 9 else Refusal
+        return raised(self.number, name, tuple(next(places[kind]) for kind in kinds.split()), self.set or None)
 
 
 bytes_at = ctypes.pythonapi.PyBytes_FromStringAndSize
@@ -64,37 +112,31 @@ free.restype = None
 def place_of_library() -> str:
     """Where the library is: the file that the variable names, else the one beside this package, else where the system has it."""
     package = Path(__file__).resolve().parent
-    folders = (package, package.parent.parent / "lib", package.parent.parent / "out/library/lib")
-    beside = (str(folder / NAME) for folder in folders if (folder / NAME).exists())
-    named = os.environ.get(VARIABLE)
-    return named if named else next(beside, NAME)
+    places = (folder / NAME for folder in (package, package.parent.parent / "lib", package.parent.parent / "out/library/lib"))
+    return os.environ.get(VARIABLE, "") or next((str(place) for place in places if place.exists()), NAME)
 
 
 @functools.lru_cache(maxsize=None)
 def library() -> ctypes.CDLL:
     """The library, which is loaded at the first call. Raises ImportError if it can't be."""
-    try:
-        loaded = ctypes.CDLL(place_of_library())
-        declare(loaded)
-    except (OSError, AttributeError) as error:
-        raise ImportError(f"the library {NAME} can't be loaded ({error}): {ADVICE}") from None
-    return loaded
-
-
-def declare(loaded: ctypes.CDLL) -> None:
-    """Declares the arguments of the calls."""
     parts: list[Any] = [ctypes.POINTER(Piece), ctypes.c_size_t]
     flags: list[Any] = [ctypes.c_bool, ctypes.c_bool]
     text, fault = ctypes.POINTER(Text), ctypes.POINTER(Fault)
-    for name, arguments in {
+    calls = {
         "check": [*parts, fault],
         "respell": [*parts, text, fault],
         "normalise": [*parts, *flags, text, fault],
         "fingerprint": [*parts, *flags, ctypes.POINTER(Hash), fault],
         "compare": [*parts, *parts, *flags, fault],
-    }.items():
-        function = getattr(loaded, f"tigercanon_{name}")
-        function.argtypes, function.restype = arguments, ctypes.c_uint8
+    }
+    try:
+        loaded = ctypes.CDLL(place_of_library())
+        for name, arguments in calls.items():
+            function = getattr(loaded, f"tigercanon_{name}")
+            function.argtypes, function.restype = arguments, ctypes.c_uint8
+    except (OSError, AttributeError) as error:
+        raise ImportError(f"the library {NAME} can't be loaded ({error}): {ADVICE}") from None
+    return loaded
 
 
 def call(name: str, sets: list[Set], *arguments: Any) -> int:

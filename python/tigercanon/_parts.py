@@ -1,7 +1,5 @@
 """The parts of a set: what a caller passes, as bytes that the C library can read."""
 
-from __future__ import annotations
-
 import ctypes
 import os
 import zipfile
@@ -16,13 +14,8 @@ if TYPE_CHECKING:
     import mmap
     from array import array
 
-Lender = Union[bytes, bytearray, memoryview, "mmap.mmap", "array[Any]"]
-"""An object that lends its bytes in one piece."""
-
-Path_ = Union[str, "os.PathLike[str]"]
-
-Part = Union[Lender, BinaryIO, Path_]
-"""A part of a set: an object that lends its bytes, a file opened in binary mode, or the path of a file."""
+Part = Union[bytes, bytearray, memoryview, "mmap.mmap", "array[Any]", BinaryIO, str, "os.PathLike[str]"]
+"""A part of a set: an object that lends its bytes in one piece, a file opened in binary mode, or the path of a file."""
 
 Set = Union[Part, Iterable[Part]]
 """A set: one part, several parts, or the path of a county: one file, a zip, or the stem of its files."""
@@ -35,20 +28,13 @@ class Piece(ctypes.Structure):
 
 
 class Buffer(ctypes.Structure):
-    """CPython's Py_buffer."""
+    """CPython's Py_buffer, of 80 bytes."""
 
     _fields_ = [
         ("address", ctypes.c_void_p),
         ("object", ctypes.c_void_p),
         ("length", ctypes.c_ssize_t),
-        ("item_size", ctypes.c_ssize_t),
-        ("is_readonly", ctypes.c_int),
-        ("dimensions", ctypes.c_int),
-        ("format", ctypes.c_void_p),
-        ("shape", ctypes.c_void_p),
-        ("strides", ctypes.c_void_p),
-        ("suboffsets", ctypes.c_void_p),
-        ("internal", ctypes.c_void_p),
+        ("rest", ctypes.c_void_p * 7),
     ]
 
 
@@ -82,9 +68,7 @@ def parts_of(parts: Set) -> Iterable[Any]:
     """The parts of a set, each as an object that lends its bytes."""
     if isinstance(parts, (str, os.PathLike)):
         return county_at(os.fspath(parts))
-    if lends_bytes(parts) or hasattr(parts, "read"):
-        return [bytes_of(parts)]
-    return (bytes_of(part) for part in parts)
+    return map(bytes_of, [parts] if lends_bytes(parts) or hasattr(parts, "read") else parts)
 
 
 def bytes_of(part: Any) -> Any:
@@ -114,16 +98,11 @@ def view_of(part: Any) -> memoryview:
         return view.cast("B") if view.nbytes else memoryview(b"")
 
 
-# Counties by their paths
-
-
 def county_at(path: str) -> list[bytes]:
     """The parts of the county at a path: of a file, of a zip, or of the files of a stem."""
     if not os.path.lexists(path):
         return files_behind(path)
-    if zipfile.is_zipfile(path):
-        return files_in_zip(path)
-    return [Path(path).read_bytes()]
+    return files_in_zip(path) if zipfile.is_zipfile(path) else [Path(path).read_bytes()]
 
 
 def files_behind(stem: str) -> list[bytes]:

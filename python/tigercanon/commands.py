@@ -9,13 +9,15 @@ import re
 import signal
 import threading
 import traceback
-from importlib import import_module
 from typing import Any, Callable, Sequence
 
+from . import explain, runs
+from .differences import command as differences
 from .errors import Failure, reason
+from .manifest import changes, duplicates, loaded
 from .own import PATIENCE, PROCESS
 from .printing import print_json, print_lines
-from .progress import LOG, Lines, how_far, report
+from .progress import LOG, Lines, Tally, report
 from .version import VERSION
 
 NAME = "tigercanon-tools"
@@ -61,18 +63,12 @@ class Parser(argparse.ArgumentParser):
 
 
 def parser() -> Parser:
-    """The parser of the whole command line."""
-    made = Parser(
-        prog=NAME, description=ABOUT, epilog=STATUSES, formatter_class=argparse.RawDescriptionHelpFormatter, allow_abbrev=False
-    )
+    raw = argparse.RawDescriptionHelpFormatter
+    made = Parser(prog=NAME, description=ABOUT, epilog=STATUSES, formatter_class=raw, allow_abbrev=False)
     made.add_argument("--version", action="version", version=f"{NAME} {VERSION}")
     commands = made.add_subparsers(metavar="COMMAND", required=True, dest="command")
-    add_fingerprint(commands)
-    add_verify(commands)
-    add_duplicates(commands)
-    add_changes(commands)
-    add_diff(commands)
-    add_explain(commands)
+    for add in (add_fingerprint, add_verify, add_duplicates, add_changes, add_diff, add_explain):
+        add(commands)
     return made
 
 
@@ -120,7 +116,7 @@ def add_judging(made: argparse.ArgumentParser) -> None:
 
 def add_fingerprint(commands: Any) -> None:
     about = "print or write a manifest: the fingerprint and the name of each county"
-    made = add_command(commands, "fingerprint", about, fingerprint)
+    made = add_command(commands, "fingerprint", about, lambda options: runs.Fingerprints(options)())
     about = "write the manifest to this file; counties that it already lists are skipped"
     made.add_argument("-o", "--output", metavar="MANIFEST", help=about)
     about = "reject a county if one of its files is missing, or if the one of type 1, 2 or I is empty"
@@ -131,7 +127,7 @@ def add_fingerprint(commands: Any) -> None:
 
 def add_verify(commands: Any) -> None:
     about = "check counties against their fingerprints in a manifest: OK, FAILED or MISSING for each"
-    made = add_command(commands, "verify", about, verify)
+    made = add_command(commands, "verify", about, lambda options: runs.Verification(options)())
     made.add_argument("--quiet", action="store_true", help="don't print counties that are OK")
     made.add_argument("--root", metavar="FOLDER", help="look for the names in the manifest below this folder")
     add_judging(made)
@@ -157,61 +153,36 @@ def add_changes(commands: Any) -> None:
 
 
 def add_diff(commands: Any) -> None:
-    module = import_module(".differences.command", __package__)
-    made = add_command(commands, "diff", "show where two maps differ, as text, a page or GeoJSON", module.run)
+    made = add_command(commands, "diff", "show where two maps differ, as text, a page or GeoJSON", differences.run)
     add_program(made)
     add_masks(made)
-    module.add_arguments(made)
+    differences.add_arguments(made)
 
 
 def add_explain(commands: Any) -> None:
-    made = add_command(commands, "explain", "explain a refusal: what it means, an example, and what to do", explain)
+    made = add_command(commands, "explain", "explain a refusal: what it means, an example, and what to do", explain.run)
     made.add_argument("line", metavar="LINE", nargs="+", help="the line that the program printed, or the refusal's number or name")
 
 
-def fingerprint(options: argparse.Namespace) -> int:
-    from .runs import Fingerprints
-
-    return Fingerprints(options)()
-
-
-def verify(options: argparse.Namespace) -> int:
-    from .runs import Verification
-
-    return Verification(options)()
-
-
 def list_duplicates(options: argparse.Namespace) -> int:
-    from .manifest import duplicates, loaded
-
     groups = duplicates(loaded(options.manifest).lines)
     if options.json:
-        rows = [{"fingerprint": group[0].fingerprint, "counties": [line.stem for line in group]} for group in groups]
-        print_json(rows)
+        print_json([{"fingerprint": group[0].fingerprint, "counties": [line.stem for line in group]} for group in groups])
     else:
         print_lines("\n".join(map(str, group)) + ("" if group is groups[-1] else "\n") for group in groups)
     return 0
 
 
 def list_changes(options: argparse.Namespace) -> int:
-    from .manifest import changes
-
     found = changes(options.old, options.new)
     shown = [change for change in found if change.kind != "same" or not options.quiet]
     if options.json:
-        rows = [{"county": each.name, "change": each.kind, "old": each.first, "new": each.second} for each in shown]
-        print_json(rows)
+        print_json([{"county": each.name, "change": each.kind, "old": each.first, "new": each.second} for each in shown])
     else:
         print_lines(f"{change.kind}  {change.second or change.first}" for change in shown)
     counts = {kind: sum(change.kind == kind for change in found) for kind in ("same", "changed", "added", "removed")}
     report(", ".join(f"{count:,} {kind}" for kind, count in counts.items()))
     return int(counts["same"] < len(found))
-
-
-def explain(options: argparse.Namespace) -> int:
-    from .explain import run as explain_line
-
-    return explain_line(options)
 
 
 class Command(threading.Thread):
@@ -257,7 +228,9 @@ def stop(number: int, _: object) -> None:
         signal.signal(each, signal.SIG_IGN)
     PROCESS.end()
     Lines.bar = None
-    text = f"stopped by {signal.Signals(number).name[3:]}{how_far()}"
+    tally = Tally.current
+    how_far = f": {tally.ended:,} of {tally.counties:,} counties done" if tally else ""
+    text = f"stopped by {signal.Signals(number).name[3:]}{how_far}"
     last = threading.Thread(target=report, args=(text,), daemon=True)
     last.start()
     last.join(PATIENCE)  # nobody may be reading standard error

@@ -1,20 +1,19 @@
 """Finds the counties of an archive: in folders, by globs, by names and behind URLs."""
 
-from __future__ import annotations
-
 import os
 import re
 from collections import Counter
 from contextlib import contextmanager
 from dataclasses import dataclass, field
 from fnmatch import fnmatchcase
+from functools import lru_cache
 from typing import Callable, Iterable, Iterator
 
 from .errors import Failure, reason
 from .judge import County, File, Order, prepared
 from .layout import RECORD_FILE, TYPES, ZIP_FILE, file_name, stem_of
 from .own import PROCESS, Own
-from .storage import Broken, Entry, Folders, is_folder, is_url, joined, parted, real, system_of, tidy
+from .storage import Broken, Entry, entries, is_folder, is_url, joined, parted, real, system_of, tidy
 from .zips import BadZip
 
 MAGIC = re.compile(r"[*?[]")
@@ -39,8 +38,8 @@ class Finder:
     """Finds counties, and counts the files that it passes over."""
 
     def __init__(self) -> None:
-        self.folders = Folders()
-        self.grouped: dict[str, dict[str, Names]] = {}
+        listed = self.entries = lru_cache(maxsize=None)(entries)
+        self.names = lru_cache(maxsize=None)(lambda folder: names_among(listed(folder)))
         self.passed_over: Counter[str] = Counter()
         self.same: list[tuple[str, str]] = []
         self.counted: set[str] = set()
@@ -54,24 +53,23 @@ class Finder:
             for county in self.of_source(source):
                 if is_known(county.stem):
                     known.add(county.stem)
-                elif county.stem not in found and not self.is_same(county, places):
-                    found[county.stem] = county
+                    continue
+                files = [file for file in (county.zip, county.whole, *county.files.values()) if file]
+                # A name that its files have whichever links lead to them.
+                first = places.setdefault(real(files[0].place), county.stem) if files else county.stem
+                if first != county.stem and county.stem not in found:
+                    self.same.append((county.stem, first))
+                else:
+                    found.setdefault(county.stem, county)
         return list(found.values()), len(known)
-
-    def is_same(self, county: County, places: dict[str, str]) -> bool:
-        """Whether a county's files were found before under another name. It is noted then."""
-        place = place_of(county)
-        first = places.setdefault(place, county.stem) if place else county.stem
-        if first != county.stem:
-            self.same.append((county.stem, first))
-        return first != county.stem
 
     def of_source(self, source: str) -> Iterator[County]:
         """The counties of a source: a folder, a glob, or the name of a county or of one of its files."""
         path = tidy(source) or ("/" if source.startswith("/") else "")
         try:
             if not RECORD_FILE.fullmatch(path) and not ZIP_FILE.fullmatch(path) and is_folder(path or "."):
-                yield from self.of_folder(path)
+                absent = County(path or ".", trouble="there is no county in this folder", is_absent=True)
+                yield from list(self.below(path, set())) or [absent]
             elif MAGIC.search(path) and not self.is_named(path):
                 yield from self.of_glob(path)
             else:
@@ -81,42 +79,34 @@ class Finder:
         except Exception as error:
             yield County(source, trouble=f"can't be read: {reason(error)}")
 
-    def of_folder(self, folder: str) -> Iterator[County]:
-        count = 0
-        for county in self.below(folder, set()):
-            count += 1
-            yield county
-        if count == 0:
-            yield County(folder or ".", trouble="there is no county in this folder", is_absent=True)
-
     def below(self, folder: str, seen: set[str]) -> Iterator[County]:
         """The counties in a folder and in all folders below it."""
         if real(folder or ".") in seen:
             return
         seen.add(real(folder or "."))
         try:
-            entries = self.folders.entries(folder)
+            found = self.entries(folder)
         except Exception as error:
             yield County(folder, trouble=f"can't be listed: {reason(error)}")
             return
-        self.count_passed_over(folder, entries)
+        self.count_passed_over(folder, found)
         for name, names in self.names(folder).items():
             if names.zips or names.files:
                 yield county_of(joined(folder, name), folder, names)
-        for entry in entries:
+        for entry in found:
             if entry.is_folder:
                 yield from self.below(joined(folder, entry.name), seen)
 
-    def count_passed_over(self, folder: str, entries: list[Entry]) -> None:
+    def count_passed_over(self, folder: str, found: list[Entry]) -> None:
         """Counts the files of a folder that belong to no county, by their endings."""
         if folder in self.counted:
             return
         self.counted.add(folder)
-        for entry in entries:
+        for entry in found:
             record = RECORD_FILE.fullmatch(entry.name)
-            if not entry.is_folder and not ZIP_FILE.fullmatch(entry.name):
-                if not record or record[3].upper() not in TYPES:
-                    self.passed_over[ending_of(entry.name)] += 1
+            is_of_a_county = record[3].upper() in TYPES if record else ZIP_FILE.fullmatch(entry.name)
+            if not entry.is_folder and not is_of_a_county:
+                self.passed_over[ending_of(entry.name)] += 1
 
     def of_glob(self, pattern: str) -> Iterator[County]:
         """The counties that a glob matches: folders with all that is in them, zips and single files."""
@@ -142,7 +132,7 @@ class Finder:
         word, rest = words[0], words[1:]
         if word == "**" and rest:
             yield from self.matches(folder, rest)
-        for entry in self.folders.entries(folder):
+        for entry in self.entries(folder):
             path = joined(folder, entry.name)
             if word == "**" and rest:
                 if entry.is_folder:
@@ -163,17 +153,6 @@ class Finder:
         except Exception:
             return False
 
-    def names(self, folder: str) -> dict[str, Names]:
-        """The stems in a folder."""
-        if folder not in self.grouped:
-            grouped: dict[str, Names] = {}
-            for entry in self.folders.entries(folder):
-                ending = RECORD_FILE.fullmatch(entry.name) or ZIP_FILE.fullmatch(entry.name)
-                if ending and not entry.is_folder:
-                    grouped.setdefault(ending[1], Names()).add(entry)
-            self.grouped[folder] = grouped
-        return self.grouped[folder]
-
     def of_name(self, path: str) -> County:
         """The county of this name, or the one that a file of this name belongs to."""
         stem = stem_of(path)
@@ -193,10 +172,14 @@ class Finder:
         return whole(path)
 
 
-def place_of(county: County) -> str:
-    """A name that a county's files have whichever links lead to them."""
-    files = [file for file in (county.zip, county.whole, *county.files.values()) if file]
-    return real(files[0].place) if files else ""
+def names_among(found: list[Entry]) -> dict[str, Names]:
+    """The stems in a folder with these entries."""
+    grouped: dict[str, Names] = {}
+    for entry in found:
+        ending = RECORD_FILE.fullmatch(entry.name) or ZIP_FILE.fullmatch(entry.name)
+        if ending and not entry.is_folder:
+            grouped.setdefault(ending[1], Names()).add(entry)
+    return grouped
 
 
 def ending_of(name: str) -> str:
@@ -211,10 +194,9 @@ def whole(path: str) -> County:
     if not os.path.lexists(path):
         absent = "no such file" if stem_of(path) != path else "no such file, folder or county"
         return County(path, trouble=absent, is_absent=True)
-    if not os.path.isfile(path):
-        return County(path, trouble="isn't a regular file")
-    if RECORD_FILE.fullmatch(path):
-        return County(path, trouble="isn't one of a county's nine files")
+    if not os.path.isfile(path) or RECORD_FILE.fullmatch(path):
+        why = "one of a county's nine files" if os.path.isfile(path) else "a regular file"
+        return County(path, trouble=f"isn't {why}")
     return County(path, whole=File(os.path.abspath(path), os.path.getsize(path)))
 
 
@@ -233,17 +215,16 @@ def county_of(stem: str, folder: str, names: Names) -> County:
 
 
 def single_files(stem: str, folder: str, names: Names) -> County:
-    for kind in TYPES:
-        entries = names.files.get(kind, [])
-        if len(entries) > 1:
-            return County(stem, trouble=f"there are {len(entries)} files of type {kind}: {listed(entries)}")
-        if entries and entries[0].trouble:
-            return County(stem, trouble=f"{entries[0].name} {entries[0].trouble}")
-    entries_of = {kind: names.files[kind][0] for kind in TYPES if kind in names.files}
-    files = {kind: File(absolute(joined(folder, entry.name)), entry.size) for kind, entry in entries_of.items()}
-    name = parted(stem)[1]
-    is_readable = all(entry.name == file_name(name, kind) for kind, entry in entries_of.items())
-    readable = absolute(stem) if is_readable and not is_url(stem) else None
+    files, is_readable = {}, not is_url(stem)
+    for kind in filter(names.files.__contains__, TYPES):
+        entry, *others = names.files[kind]
+        if others:
+            return County(stem, trouble=f"there are {1 + len(others)} files of type {kind}: {listed(names.files[kind])}")
+        if entry.trouble:
+            return County(stem, trouble=f"{entry.name} {entry.trouble}")
+        files[kind] = File(absolute(joined(folder, entry.name)), entry.size)
+        is_readable &= entry.name == file_name(parted(stem)[1], kind)
+    readable = absolute(stem) if is_readable else None
     notes = (f"its single files are read, and not {listed(names.zips)}",) if names.zips else ()
     return County(stem, files, notes=notes, readable_stem=readable)
 

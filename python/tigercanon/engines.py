@@ -100,10 +100,8 @@ class DaskEngine:
         return tried_again(self.first_answers(counties, order), lambda number: self.alone(counties[number], order))
 
     def alone(self, county: County, order: Order) -> Answer:
-        for result in self.first_answers([county], order):
-            if result:
-                return result[1]
-        raise Gone(f"{self.name} is gone")
+        ((_, answer),) = filter(None, self.first_answers([county], order))
+        return answer
 
     def first_answers(self, counties: Sequence[County], order: Order) -> Iterator[Result]:
         waiting: deque[int] = deque(range(len(counties)))
@@ -204,15 +202,10 @@ def client_of(address: str) -> Any:
     try:
         if ":" in address:
             return connect(address, timeout=PATIENCE_FOR_SCHEDULER)
-        wait_for_file(address)
+        until = time.monotonic() + PATIENCE_FOR_SCHEDULER
+        while not os.path.exists(address) and time.monotonic() < until:
+            time.sleep(0.1)
+        os.stat(address)  # distributed would wait for it without end
         return connect(scheduler_file=address, timeout=PATIENCE_FOR_SCHEDULER)
     except Exception as error:
         raise Failure(f"no scheduler answers at {address}: {reason(error)}") from None
-
-
-def wait_for_file(name: str) -> None:
-    """Waits for the file that a scheduler writes when it starts. Raises OSError if it doesn't come."""
-    until = time.monotonic() + PATIENCE_FOR_SCHEDULER
-    while not os.path.exists(name) and time.monotonic() < until:
-        time.sleep(0.1)
-    os.stat(name)

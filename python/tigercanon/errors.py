@@ -1,6 +1,7 @@
 """Errors that end a command with one line on standard error."""
 
-from __future__ import annotations
+from contextlib import contextmanager
+from typing import Iterator
 
 
 class Failure(Exception):
@@ -17,3 +18,12 @@ def reason(error: BaseException) -> str:
     if isinstance(error, OSError) and error.strerror:
         return error.strerror
     return printable(" ".join(str(error).split())) or type(error).__name__
+
+
+@contextmanager
+def told(name: str, what: str = "can't be written") -> Iterator[None]:
+    """Reports an error of the system with a file's name, and what can't be done with the file."""
+    try:
+        yield
+    except OSError as error:
+        raise Failure(f"{name}: {what}: {reason(error)}") from None

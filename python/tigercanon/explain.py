@@ -48,7 +48,9 @@ def explained(line: str, text: str) -> list[str]:
     if number not in known:
         raise Failure(f"{line!r} isn't a refusal: give the program's line, its number or its name")
     heading, *body = known[number]
-    return [heading[len("### `") : -1], *places(heading, words[3].split() if words else []), *trimmed(body)]
+    # Plain text instead of Markdown: links and emphasis lose their marks.
+    plain = re.sub(r"\[([^\]]+)\]\([^)]*\)", r"\1", "\n".join(body).rstrip("\n")).replace("**", "")
+    return [heading[len("### `") : -1], *places(heading, words[3].split() if words else []), *plain.splitlines()]
 
 
 def places(heading: str, given: list[str]) -> list[str]:
@@ -60,15 +62,6 @@ def places(heading: str, given: list[str]) -> list[str]:
     return ["", ", ".join(f"{meaning.lower()} {place}" for meaning, place in zip(meanings, given))]
 
 
-def trimmed(lines: list[str]) -> list[str]:
-    """Plain text instead of Markdown: links and emphasis lose their marks."""
-    plain = [re.sub(r"\[([^\]]+)\]\([^)]*\)", r"\1", line).replace("**", "") for line in lines]
-    while plain and not plain[-1]:
-        plain.pop()
-    return plain
-
-
 def run(options: argparse.Namespace) -> int:
-    """Explains a refusal."""
     print_lines(explained(" ".join(options.line), page()))
     return 0

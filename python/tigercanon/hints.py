@@ -50,16 +50,10 @@ def bytes_hint(file: str, line: int) -> str:
         start = opened.read(4)
         opened.seek(max(0, opened.seek(0, os.SEEK_END) - 4))
         end = opened.read()
-    if line == 1:
         for beginning, text in BEGINNINGS:
-            if start.startswith(beginning):
+            if line == 1 and start.startswith(beginning):
                 return text
-    if end.rstrip(b"\r\n").endswith(CONTROL_Z) and line == count_lines(file):
-        return "the file ends with a Control-Z, the end mark of an old system: remove it"
+        opened.seek(0)
+        if end.rstrip(b"\r\n").endswith(CONTROL_Z) and line == sum(1 for _ in opened):
+            return "the file ends with a Control-Z, the end mark of an old system: remove it"
     return ""
-
-
-def count_lines(file: str) -> int:
-    """How many lines a file has."""
-    with open(file, "rb") as opened:
-        return sum(1 for _ in opened)

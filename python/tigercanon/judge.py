@@ -17,7 +17,6 @@ from .errors import printable, reason
 from .hints import hint
 from .layout import TYPES, file_name
 from .own import Ended, Own, remove_stale_folders
-from .program import TUNABLES
 from .storage import Broken, fetch, is_url
 from .zips import BadZip, members_of, opened, unpack
 
@@ -91,10 +90,8 @@ class Rejected(Exception):
 
 def judge(county: County, order: Order, own: Own) -> Answer:
     """Judges a county. Whatever goes wrong is part of the answer."""
-    notes: list[str] = list(county.notes)
+    notes = list(county.notes)
     try:
-        if county.trouble:
-            return Answer("failed", county.trouble, tuple(notes))
         with prepared(county, order, own, notes) as (name, files):
             return asked(name, files, order, own, notes)
     except Rejected as rejected:
@@ -129,20 +126,15 @@ def prepared(county: County, order: Order, own: Own, notes: list[str]) -> Iterat
         with own.folder(sum(size or 0 for size in sizes.values())) as folder:
             stem = f"{folder}/{STEM}"
             for kind, file in county.files.items():
-                bring(file, file_name(stem, kind))
+                if is_url(file.place):
+                    fetch(file.place, file.size, file_name(stem, kind))
+                else:
+                    os.symlink(file.place, file_name(stem, kind))
             yield stem, files_of(stem)
 
 
 def files_of(stem: str) -> Files:
     return [file_name(stem, kind) for kind in TYPES]
-
-
-def bring(file: File, target: str) -> None:
-    """Makes a file readable under another name."""
-    if is_url(file.place):
-        fetch(file.place, file.size, target)
-    else:
-        os.symlink(file.place, target)
 
 
 @contextmanager
@@ -195,17 +187,14 @@ def asked(name: str, files: Files, order: Order, own: Own, notes: list[str]) -> 
     """What the program answers for a set."""
     stem = ["--stem"] if len(files) > 1 else []
     words = [order.program, "fingerprint", *stem, *order.flags, "--", name]
-    ended = own.run(words, environment(), order.memory)
+    ended = own.run(words, order.memory)
     if ended.status == 0 and DIGITS.fullmatch(ended.out):
         return Answer("made", ended.out[:64].decode(), tuple(notes))
     line = complaint(ended)
-    more = hint(line, files)
-    return Answer(kind_of(line, ended.status), line, (*notes, *([more] if more else [])))
-
-
-def environment() -> dict[str, str]:
-    """The environment in which the program is run: with settings for memory, unless the user has settings of their own."""
-    return {"GLIBC_TUNABLES": TUNABLES, **os.environ}
+    # Signals end a program that finds no memory in one way or another; a shell between reports them as a status over 128.
+    lacks_memory = line.startswith("refused 9 ") or not 0 <= ended.status <= 128
+    kind = "memory" if lacks_memory else "refused" if line.startswith("refused ") else "failed"
+    return Answer(kind, line, (*notes, *filter(None, [hint(line, files)])))
 
 
 def complaint(ended: Ended) -> str:
@@ -220,27 +209,17 @@ def complaint(ended: Ended) -> str:
     return f"the program ended with status {ended.status}"
 
 
-def kind_of(line: str, status: int) -> str:
-    """Signals end a program that finds no memory in one way or another; a shell between reports them as a status over 128."""
-    if line.startswith("refused 9 ") or status < 0 or status > 128:
-        return "memory"
-    return "refused" if line.startswith("refused ") else "failed"
-
-
-def from_plain(stem: str, files: Any, whole: Any, packed: Any, *rest: Any) -> County:
-    """The county of a plain tuple, as `astuple` makes it: the client's classes aren't known to workers."""
-    return County(
-        stem, {kind: File(*file) for kind, file in files.items()}, whole and File(*whole), packed and File(*packed), *rest
-    )
-
-
 def judge_on_a_worker(county: tuple[Any, ...], order: tuple[Any, ...]) -> tuple[str, str, tuple[str, ...]]:
-    """Judges a county on a worker, by the program at the client's path or the one on the worker's PATH."""
+    """Judges a county on a worker, by the program at the client's path or the one on the worker's PATH. Both come as the plain tuples
+    that `astuple` makes: the client's classes aren't known to workers."""
     remove_stale_folders()
     named = Order(*order)
     program = shutil.which(named.program) or shutil.which("tigercanon")
     if program is None:
         why = f"there is no {named.program}, and no tigercanon on its PATH"
         return "lost", f"a worker has no program: {why}", ()
-    answer = judge(from_plain(*county), replace(named, program=program), Own())
+    stem, files, whole, packed, *rest = county
+    singles = {kind: File(*file) for kind, file in files.items()}
+    there = County(stem, singles, whole and File(*whole), packed and File(*packed), *rest)
+    answer = judge(there, replace(named, program=program), Own())
     return answer.kind, answer.text, answer.notes

@@ -1,7 +1,5 @@
 """The record types and file names of a TIGER/Line county."""
 
-from __future__ import annotations
-
 import re
 
 TYPES = "1245678IP"

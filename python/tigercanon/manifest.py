@@ -17,13 +17,13 @@ import time
 from contextlib import contextmanager, suppress
 from typing import Iterator, NamedTuple, Sequence
 
-from .errors import Failure, reason
+from .errors import Failure, reason, told
 from .layout import RECORD_FILE, ZIP_FILE
 from .own import Own
 
 FORM = "# tigercanon form 1"
 FLAGS = ("--no-sources", "--no-reserved")
-FLAG_SETS: tuple[tuple[str, ...], ...] = ((), FLAGS[:1], FLAGS[1:], FLAGS)
+FLAG_SETS = ((), FLAGS[:1], FLAGS[1:], FLAGS)
 LINE = re.compile(rb"[0-9a-f]{64}  [^\n]+")
 STARTED_LINE = re.compile(rb"[0-9a-f]{0,64}|[0-9a-f]{64} ( [^\n]*)?")
 LOCK_LINE = re.compile(rb"process [0-9]* on ")
@@ -36,11 +36,10 @@ def flags_of(options: argparse.Namespace) -> tuple[str, ...]:
 
 
 def heading(flags: Sequence[str]) -> str:
-    """The first line of a manifest."""
     return " ".join([FORM, *flags])
 
 
-HEADINGS = {heading(flags).encode(): flags for flags in FLAG_SETS}
+HEADINGS: dict[bytes, tuple[str, ...]] = {heading(flags).encode(): flags for flags in FLAG_SETS}
 HEADINGS.update({f"# {' '.join(flags)}".encode(): flags for flags in FLAG_SETS if flags})
 
 
@@ -100,16 +99,14 @@ def loaded(name: str) -> Content:
     return content
 
 
+def named(flags: tuple[str, ...] | None) -> str:
+    return " ".join(flags or ["no flags"])
+
+
 def agreed(name: str, made: tuple[str, ...] | None, asked: tuple[str, ...]) -> None:
     """Raises Failure if a manifest was made with other flags."""
     if made is not None and made != asked:
-        have, want = " ".join(made) or "no flags", " ".join(asked) or "no flags"
-        raise Failure(f"{name}: made with {have}, but this run has {want}")
-
-
-def key_of(stem: str) -> str:
-    """The name that matches counties of two manifests: without folder, case and ending."""
-    return os.path.splitext(stem.rpartition("/")[2])[0].upper()
+        raise Failure(f"{name}: made with {named(made)}, but this run has {named(asked)}")
 
 
 class Change(NamedTuple):
@@ -121,11 +118,12 @@ class Change(NamedTuple):
     second: str | None
 
 
-def by_key(name: str, content: Content) -> "dict[str, Line]":
-    """The counties of a manifest by the names that they are matched by. Raises Failure if two have one name."""
-    found: "dict[str, Line]" = {}
+def by_key(name: str, content: Content) -> dict[str, Line]:
+    """The counties of a manifest by the names that they are matched by: without folder, case and ending. Raises Failure if two have one
+    name."""
+    found: dict[str, Line] = {}
     for line in content.lines:
-        first = found.setdefault(key_of(line.stem), line)
+        first = found.setdefault(os.path.splitext(line.stem.rpartition("/")[2])[0].upper(), line)
         if first is not line:
             raise Failure(f"{name}: {first.stem} and {line.stem} have the same name, so counties can't be matched by it")
     return found
@@ -135,23 +133,21 @@ def changes(old_name: str, new_name: str) -> list[Change]:
     """How the counties of two manifests compare, in the order of their names."""
     old, new = loaded(old_name), loaded(new_name)
     if old.flags != new.flags:
-        made = [" ".join(content.flags or ()) or "no flags" for content in (old, new)]
-        raise Failure(f"{old_name} was made with {made[0]} and {new_name} with {made[1]}: their fingerprints can't be compared")
-    first, second = by_key(old_name, old), by_key(new_name, new)
-    return [change_of(name, first.get(name), second.get(name)) for name in sorted({*first, *second})]
-
-
-def change_of(name: str, first: Line | None, second: Line | None) -> Change:
-    if first is None or second is None:
-        kind = "added" if first is None else "removed"
-    else:
-        kind = "same" if first.fingerprint == second.fingerprint else "changed"
-    return Change(kind, name, first and first.stem, second and second.stem)
+        made = f"{old_name} was made with {named(old.flags)} and {new_name} with {named(new.flags)}"
+        raise Failure(f"{made}: their fingerprints can't be compared")
+    before, after = by_key(old_name, old), by_key(new_name, new)
+    found = []
+    for name in sorted({*before, *after}):
+        first, second = before.get(name), after.get(name)
+        is_same = first and second and first.fingerprint == second.fingerprint
+        kind = "added" if first is None else "removed" if second is None else "same" if is_same else "changed"
+        found.append(Change(kind, name, first and first.stem, second and second.stem))
+    return found
 
 
 def duplicates(lines: Sequence[Line]) -> list[list[Line]]:
     """The counties that are one map with another one, in groups."""
-    groups: "dict[str, list[Line]]" = {}
+    groups: dict[str, list[Line]] = {}
     for line in lines:
         groups.setdefault(line.fingerprint, []).append(line)
     return [group for group in groups.values() if len(group) > 1]
@@ -177,30 +173,23 @@ class Manifest:
             if text:
                 self.put_in_order()
 
-    def start_writing(self) -> None:
-        try:
+    def start_writing(self) -> int:
+        with told(self.name):
             self.handle = os.open(self.place, os.O_WRONLY | os.O_APPEND | os.O_CREAT, 0o666)
-        except OSError as error:
-            raise self.failure(error) from None
-
-    def failure(self, error: OSError) -> Failure:
-        return Failure(f"{self.name}: can't be written: {reason(error)}")
+        return self.handle
 
     def add(self, line: Line) -> None:
         """Adds a county, whose line is written at once: the whole of it or nothing."""
-        with self.own.lock:
-            if self.handle is None:
-                self.start_writing()
-            assert self.handle is not None
-            text = os.fsencode(f"{line}\n")
-            before = os.fstat(self.handle).st_size
-            if before == 0:
-                text = f"{heading(self.flags)}\n".encode() + text
+        with self.own.lock, told(self.name):
+            handle = self.start_writing() if self.handle is None else self.handle
+            before = os.fstat(handle).st_size
+            text = os.fsencode(f"{line}\n" if before else f"{heading(self.flags)}\n{line}\n")
             try:
-                write_all(self.handle, text)
-            except OSError as error:
-                os.ftruncate(self.handle, before)
-                raise self.failure(error) from None
+                while text:
+                    text = text[os.write(handle, text) :]
+            except OSError:
+                os.ftruncate(handle, before)
+                raise
             self.lines.append(line)
 
     def put_in_order(self) -> None:
@@ -210,17 +199,14 @@ class Manifest:
         self.lines.sort(key=lambda line: (os.fsencode(line.stem), line.fingerprint))
         text = "".join(f"{line}\n" for line in [heading(self.flags), *self.lines])
         copy = f"{self.place}.new"
-        with self.own.at_end(lambda: discard(copy)):
-            try:
-                with open(copy, "wb") as file:
-                    file.write(os.fsencode(text))
-                    file.flush()
-                    os.fsync(file.fileno())
-                shutil.copymode(self.place, copy)
-                with self.own.lock:
-                    os.replace(copy, self.place)
-            except OSError as error:
-                raise self.failure(error) from None
+        with self.own.at_end(lambda: discard(copy)), told(self.name):
+            with open(copy, "wb") as file:
+                file.write(os.fsencode(text))
+                file.flush()
+                os.fsync(file.fileno())
+            shutil.copymode(self.place, copy)
+            with self.own.lock:
+                os.replace(copy, self.place)
         self.close()
         self.start_writing()
 
@@ -230,29 +216,19 @@ class Manifest:
             self.handle = None
 
 
-def write_all(handle: int, text: bytes) -> None:
-    while text:
-        text = text[os.write(handle, text) :]
-
-
 def discard(path: str) -> None:
     with suppress(OSError):
         os.unlink(path)
 
 
-def see_that_it_may_be_a_manifest(name: str) -> None:
-    """Keeps a county's file from being taken for a manifest, as when the manifest's name was forgotten."""
+@contextmanager
+def written(name: str, flags: tuple[str, ...], own: Own) -> Iterator[Manifest]:
+    """A manifest to write to. No other run writes to it meanwhile. It can't have a county's name, as when its own was forgotten."""
     if RECORD_FILE.fullmatch(name) or ZIP_FILE.fullmatch(name):
         raise Failure(f"{name}: has the name of a county's file, and isn't overwritten by a manifest")
     folder = os.path.dirname(os.path.realpath(name))
     if not os.path.isdir(folder):
         raise Failure(f"{name}: can't be written: there is no folder {folder}")
-
-
-@contextmanager
-def written(name: str, flags: tuple[str, ...], own: Own) -> Iterator[Manifest]:
-    """A manifest to write to. No other run writes to it meanwhile."""
-    see_that_it_may_be_a_manifest(name)
     lock = Lock(name)
     with own.at_end(lock.give_back):
         with own.lock:
@@ -276,12 +252,13 @@ class Lock:
     def take(self) -> None:
         """Takes the lock. It waits a little, since a verification has it for a moment."""
         while self.handle is None:
-            try:
+            with told(f"{self.name}.lock"):
                 handle = os.open(self.path, os.O_RDWR | os.O_CREAT | os.O_NONBLOCK, 0o666)
-            except OSError as error:
-                raise Failure(f"{self.name}.lock: can't be written: {reason(error)}") from None
             try:
-                self.see_that_it_is_a_lock(handle)
+                status = os.fstat(handle)
+                lines = os.pread(handle, status.st_size, 0).splitlines() if stat.S_ISREG(status.st_mode) else [b""]
+                if not all(map(LOCK_LINE.match, lines)):  # a file of the user's
+                    raise Failure(f"{self.name}.lock: isn't the lock of {self.name} but another file: move it away")
                 self.lock(handle, fcntl.LOCK_EX, PATIENCE_FOR_LOCK)
                 with suppress(FileNotFoundError):  # another run may have removed it meanwhile
                     if os.path.samestat(os.stat(self.path), os.fstat(handle)):
@@ -313,25 +290,10 @@ class Lock:
     def lock(self, handle: int, how: int, patience: float) -> None:
         until = time.monotonic() + patience
         while True:
-            try:
+            with told(f"{self.name}.lock", "can't be locked"), suppress(BlockingIOError):
                 fcntl.flock(handle, how | fcntl.LOCK_NB)
                 return
-            except BlockingIOError:
-                if time.monotonic() >= until:
-                    raise Failure(f"{self.name}: another run writes to it: {self.holder()}") from None
-                time.sleep(0.02)
-            except OSError as error:
-                raise Failure(f"{self.name}.lock: can't be locked: {reason(error)}") from None
-
-    def holder(self) -> str:
-        line = ""
-        with suppress(OSError), open(self.path, encoding="utf-8", errors="replace") as file:
-            line = file.readline().strip()
-        return line or "an unknown process"
-
-    def see_that_it_is_a_lock(self, handle: int) -> None:
-        """Leaves a file of the user's that has such a name alone."""
-        status = os.fstat(handle)
-        lines = os.pread(handle, status.st_size, 0).splitlines() if stat.S_ISREG(status.st_mode) else [b""]
-        if not all(map(LOCK_LINE.match, lines)):
-            raise Failure(f"{self.name}.lock: isn't the lock of {self.name} but another file: move it away")
+            if time.monotonic() >= until:
+                holder = os.pread(handle, 1000, 0).decode(errors="replace").strip() or "an unknown process"
+                raise Failure(f"{self.name}: another run writes to it: {holder}")
+            time.sleep(0.02)

@@ -12,7 +12,10 @@ import threading
 import time
 from contextlib import contextmanager, suppress
 from dataclasses import dataclass
+from pathlib import Path
 from typing import Callable, Iterator, Sequence
+
+from .program import TUNABLES
 
 PREFIX = "tigercanon-"
 VARIABLE = "TIGERCANON_SHM"
@@ -48,9 +51,10 @@ class Own:
         self.folders: dict[str, int] = {}
         self.last: list[Callable[[], None]] = []
 
-    def run(self, words: Sequence[str], environment: dict[str, str], memory: int | None) -> Ended:
-        """Runs a program in a session of its own, so that all of it can be ended. memory limits its address space."""
-        pipe, nothing = subprocess.PIPE, subprocess.DEVNULL
+    def run(self, words: Sequence[str], memory: int | None = None) -> Ended:
+        """Runs the program in a session of its own, so that all of it can be ended. memory limits its address space. Its settings for
+        memory are those that make it faster, unless the user has settings of their own."""
+        pipe, nothing, environment = subprocess.PIPE, subprocess.DEVNULL, {"GLIBC_TUNABLES": TUNABLES, **os.environ}
         if memory is not None:
             words = ["/bin/sh", "-c", f'ulimit -v {memory // 1024} && exec "$@"', "sh", *words]
         with self.lock:
@@ -68,7 +72,9 @@ class Own:
         """A temporary folder, in memory if this many bytes fit there, else where TMPDIR says."""
         with self.lock:
             path = tempfile.mkdtemp(prefix=PREFIX, dir=room_for(size))
-            self.folders[path] = held(path)
+            # While the folder is locked, no other run removes it.
+            self.folders[path] = handle = os.open(path, os.O_RDONLY | os.O_DIRECTORY)
+            fcntl.flock(handle, fcntl.LOCK_EX)
         try:
             yield path
         finally:
@@ -122,22 +128,11 @@ def room_for(size: int) -> str | None:
         return None
 
 
-def held(path: str) -> int:
-    """Opens and locks a folder: while it is locked, no other run removes it."""
-    handle = os.open(path, os.O_RDONLY | os.O_DIRECTORY)
-    fcntl.flock(handle, fcntl.LOCK_EX)
-    return handle
-
-
 def remove_stale_folders() -> None:
     """Removes the folders of runs that were killed."""
     for room in {os.environ.get(VARIABLE, IN_MEMORY), tempfile.gettempdir()}:
-        try:
-            names = [name for name in os.listdir(room) if name.startswith(PREFIX)]
-        except OSError:
-            continue
-        for name in names:
-            remove_if_stale(os.path.join(room, name))
+        for path in Path(room).glob(f"{PREFIX}*") if room else []:
+            remove_if_stale(str(path))
 
 
 def remove_if_stale(path: str) -> None:

@@ -1,7 +1,5 @@
 """Standard output."""
 
-from __future__ import annotations
-
 import json
 import os
 import sys

@@ -8,7 +8,6 @@ import subprocess
 import sys
 import sysconfig
 from pathlib import Path
-from typing import Iterator
 
 from .errors import Failure, reason
 
@@ -20,37 +19,20 @@ TUNABLES = "glibc.malloc.hugetlb=1:glibc.malloc.mmap_threshold=8589934592:glibc.
 """Settings that make the program faster: its memory lies in large pages, and memory that it frees is used again."""
 
 
-def clone() -> Path | None:
-    """The top folder of the clone that this package is part of."""
-    root = PACKAGE.parent.parent
-    return root if (root / "scripts/launch").is_file() else None
-
-
-def candidates() -> Iterator[Path]:
-    """The places of a program beside an installed package, in the order of preference."""
-    yield PACKAGE / "bin/tigercanon"
-    yield PACKAGE.parent.parent / "bin/tigercanon"
-    yield Path(sysconfig.get_path("scripts")) / "tigercanon"
-    yield Path(sys.argv[0]).resolve().parent / "tigercanon"
-
-
 def find_program(named: str | None = None) -> str:
     """The program that the option or the variable names, else the built one of the clone or release, else that on the PATH.
 
     In a clone where sources were edited since it was built, ./tigercanon builds it again first.
     Raises Failure if there is none.
     """
-    given = named or os.environ.get(VARIABLE)
+    given, root = named or os.environ.get(VARIABLE), PACKAGE.parent.parent
     if given:
         return checked(given)
-    root = clone()
-    if root and (root / BUILT).is_file():
+    if (root / "scripts/launch").is_file() and (root / BUILT).is_file():
         run_once(str(root / "tigercanon"))
         return str(root / BUILT)
-    for place in candidates():
-        if place.is_file() and os.access(place, os.X_OK):
-            return checked(str(place))
-    found = shutil.which("tigercanon")
+    beside = (PACKAGE / "bin", root / "bin", Path(sysconfig.get_path("scripts")), Path(sys.argv[0]).resolve().parent)
+    found = next(filter(None, (shutil.which("tigercanon", path=str(folder)) for folder in beside)), shutil.which("tigercanon"))
     if not found:
         raise Failure(f"there is no program tigercanon here: {ADVICE}")
     return checked(found)

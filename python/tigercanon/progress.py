@@ -104,18 +104,11 @@ class Tally:
         return f"{amount(self.bytes)} in {duration(time.monotonic() - self.started)}"
 
 
-def how_far() -> str:
-    """How many counties are done, if there is a run over some."""
-    tally = Tally.current
-    return f": {tally.ended:,} of {tally.counties:,} counties done" if tally else ""
-
-
 def bar_of(counties: int) -> Any | None:
     """A progress bar, where standard error is a terminal and tqdm is installed."""
-    if sys.stderr is None or not sys.stderr.isatty():
-        return None
-    try:
-        from tqdm import tqdm
-    except ImportError:
-        return None
-    return tqdm(total=counties, unit=" counties", file=sys.stderr, leave=False, dynamic_ncols=True)
+    with suppress(ImportError, AttributeError):
+        if sys.stderr.isatty():
+            from tqdm import tqdm
+
+            return tqdm(total=counties, unit=" counties", file=sys.stderr, leave=False, dynamic_ncols=True)
+    return None

@@ -60,7 +60,7 @@ class Run:
     def __init__(self, options: argparse.Namespace, take: Callable[[int, Result], str]) -> None:
         self.options, self.take = options, take
         self.tally = Tally()
-        self.gone = ""
+        self.gone, self.left = "", 0
 
     def judge(self, counties: list[County], order: Callable[[], Order]) -> None:
         """Judges the counties. Those that can't be judged are reported first."""
@@ -84,11 +84,12 @@ class Run:
                         self.end(number, Result(counties[number], result[1]))
                     self.tally.look()
             except Gone as gone:
-                self.gone = str(gone)
+                self.gone, self.left = str(gone), self.tally.counties - self.tally.ended
 
     def end(self, number: int, result: Result) -> None:
         if result.answer.kind == "refused":
-            self.tally.refused[rule_of(result.answer.text)] += 1
+            words = result.answer.text.split()
+            self.tally.refused["--strict" if words[0] == "rejected" else " ".join(words[1:3])] += 1
         elif result.answer.kind != "made":
             self.tally.failed += 1
         remarks = self.take(number, result)
@@ -96,35 +97,16 @@ class Run:
             report(f"{result.county.stem}: {remarks}")
         self.tally.end(result.county.size)
 
-    @property
-    def missing(self) -> int:
-        """How many counties weren't judged, because the engine is gone."""
-        return self.tally.counties - self.tally.ended
-
     def report_refusals(self) -> None:
         rules = sorted(self.tally.refused.items(), key=lambda item: (-item[1], item[0]))
         if rules:
             report(f"refused: {', '.join(f'{count:,} by {rule}' for rule, count in rules)}")
         if self.gone:
-            report(f"{self.gone}: {self.missing:,} counties are left; run the same command again to do them")
-
-
-def rule_of(line: str) -> str:
-    """The rule that refuses a county: the number and name in the program's line, or the flag."""
-    return "--strict" if line.startswith("rejected") else " ".join(line.split()[1:3])
+            report(f"{self.gone}: {self.left:,} counties are left; run the same command again to do them")
 
 
 def counted(count: int, noun: str = "county", nouns: str = "counties") -> str:
     return f"{count:,} {noun if count == 1 else nouns}"
-
-
-def report_finds(finder: Finder) -> None:
-    """Reports what was found and isn't judged."""
-    for stem, first in finder.same:
-        report(f"{stem}: the same file as {first}, which is counted once")
-    if finder.passed_over:
-        found = ", ".join(f"{count:,} {ending}" for ending, count in sorted(finder.passed_over.items()))
-        report(f"passed over: {counted(sum(finder.passed_over.values()), 'file', 'files')} ({found})")
 
 
 class Printer:
@@ -153,9 +135,8 @@ class Fingerprints:
 
     def __init__(self, options: argparse.Namespace) -> None:
         self.options, self.flags = options, flags_of(options)
+        self.printer, self.run = Printer(options.json), Run(options, self.take)
         self.manifest: Manifest | None = None
-        self.printer = Printer(options.json)
-        self.run = Run(options, self.take)
 
     def __call__(self) -> int:
         see_names([*self.options.sources, *([self.options.output] if self.options.output else [])])
@@ -163,7 +144,9 @@ class Fingerprints:
             return self.make()
         with written(self.options.output, self.flags, PROCESS) as self.manifest:
             status = self.make()
-        self.report_duplicates()
+        count = sum(map(len, duplicates(self.manifest.lines)))
+        if count:
+            report(f"{count:,} counties in the manifest share their map with another one: see the command duplicates")
         return status
 
     def make(self) -> int:
@@ -176,31 +159,28 @@ class Fingerprints:
             counties.sort(key=lambda county: os.fsencode(county.stem))
             if not self.options.json:
                 print_lines([heading(self.flags)])
-        report_finds(finder)
+        for stem, first in finder.same:
+            report(f"{stem}: the same file as {first}, which is counted once")
+        if finder.passed_over:
+            found = ", ".join(f"{count:,} {ending}" for ending, count in sorted(finder.passed_over.items()))
+            report(f"passed over: {counted(sum(finder.passed_over.values()), 'file', 'files')} ({found})")
         del finder  # and what it has listed
         self.run.judge(counties, lambda: order_of(self.options, self.flags, self.options.strict))
         self.printer.end()
         self.report_end(before)
-        return int(self.run.missing > 0 or self.run.tally.failed > 0 or bool(self.run.tally.refused))
+        return int(bool(self.run.left or self.run.tally.failed or self.run.tally.refused))
 
     def take(self, number: int, result: Result) -> str:
-        line = Line(result.answer.text, result.county.stem) if result.answer.kind == "made" else None
+        stem, answer = result.county.stem, result.answer
+        line = Line(answer.text, stem) if answer.kind == "made" else None
         if line:
             self.run.tally.good += 1
         if line and self.manifest:
             self.manifest.add(line)
-        self.printer.put(number, None if self.manifest else line and str(line), self.described(result))
+        fingerprint, why = (answer.text, None) if line else (None, answer.text)
+        row = {"county": stem, "fingerprint": fingerprint, "reason": why, "notes": list(answer.notes)}
+        self.printer.put(number, None if self.manifest else line and str(line), row)
         return result.remarks
-
-    def described(self, result: Result) -> dict[str, Any]:
-        """A county in JSON."""
-        answer, made = result.answer, result.answer.kind == "made"
-        return {
-            "county": result.county.stem,
-            "fingerprint": answer.text if made else None,
-            "reason": None if made else answer.text,
-            "notes": list(answer.notes),
-        }
 
     def report_end(self, before: int) -> None:
         tally = self.run.tally
@@ -210,22 +190,14 @@ class Fingerprints:
         report(f"{counted(tally.counties + before)}: {', '.join(words)}; {tally.took}")
         self.run.report_refusals()
 
-    def report_duplicates(self) -> None:
-        groups = duplicates(self.manifest.lines) if self.manifest else []
-        if groups:
-            count = sum(map(len, groups))
-            report(f"{count:,} counties in the manifest share their map with another one: see the command duplicates")
-
 
 class Verification:
     """The command verify."""
 
     def __init__(self, options: argparse.Namespace) -> None:
-        self.options = options
+        self.options, self.printer, self.run = options, Printer(options.json), Run(options, self.take)
         self.lines: list[Line] = []
-        self.printer = Printer(options.json)
         self.counts = {"OK": 0, "FAILED": 0, "MISSING": 0, "NEW": 0}
-        self.run = Run(options, self.take)
 
     def __call__(self) -> int:
         see_names([self.options.manifest, *self.options.sources])
@@ -235,26 +207,21 @@ class Verification:
         if asked:
             agreed(self.options.manifest, content.flags, asked)
         self.lines = content.lines
-        finder = Finder()
-        counties = [finder.of_name(self.place(line.stem)) for line in self.lines]
+        finder, root = Finder(), self.options.root
+        counties = [finder.of_name(joined(root, line.stem) if root else line.stem) for line in self.lines]
         counties += self.new_counties({tidy(county.stem) for county in counties})
         self.run.judge(counties, lambda: order_of(self.options, content.flags or ()))
         return self.finish()
 
-    def place(self, stem: str) -> str:
-        """Where a county of the manifest lies."""
-        return joined(self.options.root, stem) if self.options.root else stem
-
-    def new_counties(self, known: "set[str]") -> list[County]:
+    def new_counties(self, known: set[str]) -> list[County]:
         """The counties of the sources that the manifest doesn't have. They aren't judged."""
         found, _ = Finder().counties(self.options.sources, known.__contains__)
-        new = [county for county in found if not county.trouble]
         troubled = [county for county in found if county.trouble]
         for county in troubled:
             report(f"{county.stem}: {county.trouble}")
         if troubled:
             raise Failure("not every source can be read")
-        return [replace(county, trouble="not in the manifest") for county in new]
+        return [replace(county, trouble="not in the manifest") for county in found]
 
     def take(self, number: int, result: Result) -> str:
         kind, remarks = self.verdict(number, result)
@@ -268,18 +235,17 @@ class Verification:
     def verdict(self, number: int, result: Result) -> tuple[str, str]:
         if number >= len(self.lines):
             return "NEW", result.remarks
-        if result.county.is_absent:
-            return "MISSING", result.remarks
-        if result.answer.kind == "made" and result.answer.text == self.lines[number].fingerprint:
-            return "OK", result.remarks
-        return "FAILED", result.remarks if result.answer.kind != "made" else "another map"
+        if result.county.is_absent or result.answer.kind != "made":
+            return "MISSING" if result.county.is_absent else "FAILED", result.remarks
+        is_so = result.answer.text == self.lines[number].fingerprint
+        return ("OK", result.remarks) if is_so else ("FAILED", "another map")
 
     def finish(self) -> int:
         self.printer.end()
         counts = ", ".join(f"{count:,} {kind}" for kind, count in self.counts.items() if count or kind == "OK")
         report(f"{counted(sum(self.counts.values()))}: {counts}; {self.run.tally.took}")
         self.run.report_refusals()
-        return int(self.run.missing > 0 or self.counts["OK"] < sum(self.counts.values()))
+        return int(self.run.left > 0 or self.counts["OK"] < sum(self.counts.values()))
 
 
 def see_names(names: Sequence[str]) -> None:

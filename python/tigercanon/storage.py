@@ -48,23 +48,10 @@ def tidy(path: str) -> str:
     return ("/" if path.startswith("/") else "") + "/".join(parts)
 
 
-class Folders:
-    """The folders that were listed. None is listed twice."""
-
-    def __init__(self) -> None:
-        self.known: dict[str, list[Entry]] = {}
-
-    def entries(self, folder: str) -> list[Entry]:
-        """The entries of a folder in the order of their names. Raises OSError, or what fsspec raises."""
-        if folder not in self.known:
-            found = remote_entries(folder) if is_url(folder) else local_entries(folder)
-            self.known[folder] = sorted(found, key=lambda entry: os.fsencode(entry.name))
-        return self.known[folder]
-
-
-def local_entries(folder: str) -> list[Entry]:
-    with os.scandir(folder or ".") as items:
-        return [local_entry(item) for item in items]
+def entries(folder: str) -> list[Entry]:
+    """The entries of a folder in the order of their names. Raises OSError, or what fsspec raises."""
+    found = remote_entries(folder) if is_url(folder) else map(local_entry, os.scandir(folder or "."))
+    return sorted(found, key=lambda entry: os.fsencode(entry.name))
 
 
 def local_entry(item: os.DirEntry[str]) -> Entry:

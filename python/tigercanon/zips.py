@@ -1,7 +1,5 @@
 """Zips as they are distributed: the files of the one county in a zip, unpacked under the names that the program reads."""
 
-from __future__ import annotations
-
 import zipfile
 from typing import Iterator
 
@@ -64,8 +62,7 @@ def unpack(archive: zipfile.ZipFile, members: Members, stem: str) -> None:
     """Unpacks the files under the names of a stem. Raises BadZip, and OSError if they can't be written."""
     for kind, member in members.items():
         with open(file_name(stem, kind), "wb") as target:
-            for piece in pieces_of(archive, member):
-                target.write(piece)
+            target.writelines(pieces_of(archive, member))
 
 
 def pieces_of(archive: zipfile.ZipFile, member: zipfile.ZipInfo) -> Iterator[bytes]:

@@ -34,13 +34,10 @@ def try_header(tests: Tests) -> None:
     source = tests.room / "header.c"
     source.write_text('#include "tigercanon.h"\n#include "tigercanon.h"\nint main(void) { struct tigercanon_text text = '
                       "TIGERCANON_NO_TEXT; tigercanon_free(&text); return 0; }\n")
-    for compiler in tools("gcc", "clang"):
-        for standard in ("c99", "c11"):
-            words = [compiler, f"-std={standard}", *WARNINGS, "-Wno-unused-function", "-fsyntax-only", "-I", header.parent, source]
-            tests.count(run(words).status == 0, f"the header by {compiler} in {standard}: {run(words).err.decode()[:1000]}")
-    for compiler in tools("g++", "clang++"):
-        words = [compiler, "-std=c++11", *WARNINGS, "-Wno-unused-function", "-fsyntax-only", "-I", header.parent, "-x", "c++", source]
-        tests.count(run(words).status == 0, f"the header by {compiler}: {run(words).err.decode()[:1000]}")
+    ways = [(compiler, standard, []) for compiler in tools("gcc", "clang") for standard in ("c99", "c11")]
+    for compiler, standard, more in [*ways, *((compiler, "c++11", ["-x", "c++"]) for compiler in tools("g++", "clang++"))]:
+        words = [compiler, f"-std={standard}", *WARNINGS, "-Wno-unused-function", "-fsyntax-only", "-I", header.parent, *more, source]
+        tests.count(run(words).status == 0, f"the header by {compiler} in {standard}: {run(words).err.decode()[:1000]}")
 
 
 def compile_callers(tests: Tests) -> None:
@@ -155,18 +152,13 @@ def run_all(tests: Tests) -> None:
     if not tools("gcc"):
         tests.skip("gcc isn't installed: nothing was tried by C")
         return
-    try_header(tests)
-    in_header.run_all(tests)
-    compile_callers(tests)
+    for test in (try_header, in_header.run_all, compile_callers):
+        test(tests)
     if "gcc" not in tests.callers:
         return
     county = tests.room / "county.txt"
     make_county(2000, county)
-    try_vectors(tests)
-    if "shared" in tests.callers:
-        try_shared(tests)
-    try_empty(tests)
-    try_rounds(tests)
+    for test in (try_vectors, *([try_shared] if "shared" in tests.callers else []), try_empty, try_rounds, try_checked):
+        test(tests)
     try_threads(tests, county)
     try_little_memory(tests, county)
-    try_checked(tests)

@@ -19,15 +19,6 @@ def blocks(heading: str) -> list[str]:
     return [re.sub("^    ", "", block, flags=re.M).strip("\n") + "\n" for block in re.findall(r"(?:^(?:    .*)?\n)*^    .*\n", page, re.M)]
 
 
-def desk(tests: Tests) -> Path:
-    """A folder like the root of the repository, with the library in the place that the page names."""
-    place = tests.room / "guide"
-    (place / "out").mkdir(parents=True)
-    (place / "out/library").symlink_to(tests.library)
-    (place / "examples").symlink_to(ROOT / "examples")
-    return place
-
-
 def try_c(tests: Tests, place: Path, fingerprint: str) -> None:
     """The program of the page, by each of its lines that compile and run it."""
     source, lines = blocks("From C")
@@ -78,6 +69,10 @@ def try_python(tests: Tests, place: Path, fingerprint: str) -> None:
 def run_all(tests: Tests) -> None:
     readme = (ROOT / "README.md").read_text(encoding="utf-8")
     fingerprint = re.search(r"fingerprint --stem examples/autauga/TGR01001\n +([0-9a-f]{64})\n", readme)[1]
-    place = desk(tests)
+    # A folder like the root of the repository, with the library in the place that the page names.
+    place = tests.room / "guide"
+    (place / "out").mkdir(parents=True)
+    (place / "out/library").symlink_to(tests.library)
+    (place / "examples").symlink_to(ROOT / "examples")
     try_c(tests, place, fingerprint)
     try_python(tests, place, fingerprint)

@@ -81,7 +81,6 @@ def try_constants(tests: Tests, header: Path, shown: Answer) -> None:
 
 
 def try_lines(tests: Tests, program: Path) -> None:
-    """The line of each refusal."""
     rows = [row.partition(" = ") for row in (LINES.strip().replace(" =\n", " = \n") + "\n" + "\n".join(LONGEST)).splitlines()]
     given = "".join(f"{fault}\n" for fault, _, _ in rows).encode()
     found = run([program, "lines"], input=given)

@@ -8,18 +8,10 @@ import sys
 from pathlib import Path
 
 from library_tests.support import SUFFIXES, Tests
-from measuring import use_large_pages
+from measuring import TURNED, use_large_pages
 from testing import Answer, make_county, run, script
 
 CHAINS = 100_000
-
-
-def make_counties(room: Path) -> tuple[Path, Path]:
-    """One file of a county, and the stem of nine files of it under other numbers."""
-    whole, stem = room / "large.txt", room / "large"
-    make_county(CHAINS, whole)
-    make_county("--stem", "--shuffle", "--renumber", "--turn", CHAINS, stem)
-    return whole, stem
 
 
 def try_c(tests: Tests, whole: Path, stem: Path) -> None:
@@ -47,9 +39,13 @@ def try_python(tests: Tests, whole: Path, stem: Path) -> None:
         tests.equal("fingerprint of nine parts", digits, module.fingerprint(parts))
         tests.equal("fingerprint of a file", digits, module.fingerprint(file))
         text = run([tests.program, "normalise", whole]).out
-        tests.count(module.normalise(mapped) == text, "normalise of an mmap isn't what the program prints")
-        tests.count(module.normalise(parts) == text, "normalise of nine parts isn't what the program prints")
-        tests.count(module.respell(mapped) == run([tests.program, "respell", whole]).out, "respell isn't what the program prints")
+        respelt = run([tests.program, "respell", whole]).out
+        for what, answer, wanted in (
+            ("normalise of an mmap", module.normalise(mapped), text),
+            ("normalise of nine parts", module.normalise(parts), text),
+            ("respell", module.respell(mapped), respelt),
+        ):
+            tests.count(answer == wanted, f"{what} isn't what the program prints")
         tests.equal("compare", True, module.compare(mapped, parts))
 
 
@@ -77,7 +73,10 @@ def try_counties(tests: Tests) -> None:
 
 def run_all(tests: Tests) -> None:
     use_large_pages()
-    whole, stem = make_counties(tests.room)
+    # One file of a county, and the stem of nine files of it under other numbers.
+    whole, stem = tests.room / "large.txt", tests.room / "large"
+    make_county(CHAINS, whole)
+    make_county("--stem", *TURNED, CHAINS, stem)
     if "gcc" in tests.callers:
         try_c(tests, whole, stem)
         try_little_memory(tests, whole)

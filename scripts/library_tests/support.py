@@ -10,10 +10,10 @@ from typing import Sequence
 
 sys.path.insert(0, str(Path(__file__).resolve().parent.parent.parent / "tools"))
 
-from testing import ROOT, Tally, run  # noqa: E402
+from testing import ROOT, TYPES, Tally, run  # noqa: E402
 
 CALLER = Path(__file__).resolve().parent / "caller.c"
-SUFFIXES = [f".RT{letter}" for letter in "1245678IP"]
+SUFFIXES = [f".RT{kind}" for kind in TYPES]
 WARNINGS = ["-Wall", "-Wextra", "-pedantic", "-Werror"]
 
 

@@ -1,9 +1,9 @@
 """A page in Chromium."""
 
-from __future__ import annotations
-
+import base64
 import json
 import shutil
+from contextlib import suppress
 from importlib.util import find_spec
 from pathlib import Path
 from typing import Any
@@ -12,6 +12,13 @@ import pytest
 
 from .reports import LEAFLET
 
+with suppress(ImportError):
+    from selenium import webdriver
+    from selenium.webdriver.chrome.service import Service
+    from selenium.webdriver.common.action_chains import ActionChains
+    from selenium.webdriver.common.by import By
+    from selenium.webdriver.common.print_page_options import PrintOptions
+    from selenium.webdriver.support.ui import WebDriverWait
 
 MIDDLE_OF = """
 const { map, entries } = window.differences;
@@ -32,9 +39,6 @@ class Browser:
     """A browser without a window, and without a network."""
 
     def __init__(self, width: int = 1400, height: int = 900) -> None:
-        from selenium import webdriver
-        from selenium.webdriver.chrome.service import Service
-
         options = webdriver.ChromeOptions()
         options.binary_location = shutil.which("chromium")
         words = "headless=new no-sandbox disable-gpu disable-dev-shm-usage hide-scrollbars disable-lcd-text".split()
@@ -51,47 +55,32 @@ class Browser:
 
     def open(self, page: Path, seconds: float = 30) -> float:
         """Opens a page, waits until it has drawn, and answers after how many seconds it had."""
-        from selenium.webdriver.support.ui import WebDriverWait
-
         self.driver.get(page.as_uri())
         drawn = "return document.documentElement.dataset.drawn"
         WebDriverWait(self.driver, seconds, 0.05).until(lambda driver: driver.execute_script(drawn) is not None)
         return float(self.run(drawn)) / 1000
 
-    def paper(self, orientation: str) -> Any:
-        """The options for printing a page in portrait or landscape."""
-        from selenium.webdriver.common.print_page_options import PrintOptions
-
+    def printed(self, orientation: str) -> bytes:
+        """The page as PDF."""
         options = PrintOptions()
         options.orientation = orientation
-        return options
+        return base64.b64decode(self.driver.print_page(options))
 
     def run(self, script: str, *arguments: Any) -> Any:
         return self.driver.execute_script(script, *arguments)
 
     def click(self, selector: str) -> None:
-        from selenium.webdriver.common.by import By
-
         self.driver.find_element(By.CSS_SELECTOR, selector).click()
-
-    def click_map(self, x: float, y: float) -> None:
-        """Clicks at a place of the map, counted from its upper left corner."""
-        from selenium.webdriver.common.action_chains import ActionChains
-        from selenium.webdriver.common.by import By
-
-        chart = self.driver.find_element(By.ID, "map")
-        from_middle = x - chart.size["width"] / 2, y - chart.size["height"] / 2
-        ActionChains(self.driver).move_to_element_with_offset(chart, *from_middle).click().perform()
 
     def click_at_changed(self, value: str) -> str:
         """Clicks at a chain that changed to this value, and returns its title."""
         x, y, title = self.run(MIDDLE_OF, value)
-        self.click_map(x, y)
+        chart = self.driver.find_element(By.ID, "map")
+        from_middle = x - chart.size["width"] / 2, y - chart.size["height"] / 2
+        ActionChains(self.driver).move_to_element_with_offset(chart, *from_middle).click().perform()
         return str(title)
 
     def press(self, *keys: str) -> None:
-        from selenium.webdriver.common.action_chains import ActionChains
-
         ActionChains(self.driver).send_keys(*keys).perform()
 
     def texts(self, selector: str) -> list[str]:
@@ -108,16 +97,12 @@ class Browser:
         )
 
     def complaints(self) -> Any:
-        """The lines of the browser's log."""
         return self.driver.get_log("browser")
 
     def requests(self) -> list[str]:
         """The addresses of all that was asked for since the browser began."""
         messages = [json.loads(entry["message"])["message"] for entry in self.driver.get_log("performance")]
         return [message["params"]["request"]["url"] for message in messages if message["method"] == "Network.requestWillBeSent"]
-
-    def picture(self) -> Any:
-        return self.driver.get_screenshot_as_png()
 
     def quit(self) -> None:
         self.driver.quit()

@@ -67,20 +67,17 @@ class Changing:
         self.touched.update(map(id, chosen))
         return chosen
 
-    # Chains
-
     def take_away(self, count: int) -> None:
-        gone = self.some_chains(count)
-        for chain in gone:
+        for chain in self.some_chains(count):
             self.tell("chain", "in the first alone", chain.points)
-        self.county.chains = [chain for chain in self.county.chains if not any(chain is other for other in gone)]
+            self.county.chains = [other for other in self.county.chains if other is not chain]
 
     def add_courts(self, count: int) -> None:
         """Streets that end within a polygon, on both sides of them."""
         for chain in self.some_chains(count):
             begin, inside = chain.points[0], place_of(self.county.polygons[chain.left or 0])
             points = [begin, (begin[0] + (inside[0] - begin[0]) // 3 + 7, begin[1] + (inside[1] - begin[1]) // 3 + 9)]
-            fields = {"SOURCE": "L", "FENAME": f"{self.chance.choice(('Quail', 'Heron', 'Wren'))}", "FETYPE": "Ct", "CFCC": "A41"}
+            fields = {"SOURCE": "L", "FENAME": self.chance.choice(("Quail", "Heron", "Wren")), "FETYPE": "Ct", "CFCC": "A41"}
             end = 10**6 + len(self.county.chains)
             court = Chain(fields, points, chain.start, end, chain.left, chain.left, link=dict(chain.link))
             self.county.chains.append(court)
@@ -94,24 +91,20 @@ class Changing:
             chain.points[-1] = (longitude + 131, latitude - 57)
             self.tell("chain", "in the second alone", chain.points)
 
-    def rename(self, count: int, name: str) -> None:
-        for chain in self.some_chains(count):
-            chain.fields["FENAME"] = name
-            self.tell("chain", "changed", chain.points, "FENAME")
-
     def rename_street(self, old: str, new: str, count: int) -> None:
         """Some chains of a street that lie one after another."""
         street = [chain for chain in self.county.chains if chain.fields.get("FENAME") == old and id(chain) not in self.touched]
-        middle = len(street) // 2
-        for chain in street[middle : middle + count]:
-            chain.fields["FENAME"] = new
-            self.touched.add(id(chain))
-            self.tell("chain", "changed", chain.points, "FENAME")
+        some = street[len(street) // 2 :][:count]
+        self.touched.update(map(id, some))
+        self.change(some, "FENAME", new)
 
     def change_field(self, count: int, name: str, value: str) -> None:
-        """A field of one side. The canonical text may have it in its partner's columns."""
-        partner = next(column.partner for column in CHAIN.columns if column.name == name)
-        for chain in self.some_chains(count):
+        self.change(self.some_chains(count), name, value)
+
+    def change(self, chains: list[Chain], name: str, value: str) -> None:
+        """A field of one side may be in its partner's columns in the canonical text."""
+        partner = next(column.partner or name for column in CHAIN.columns if column.name == name)
+        for chain in chains:
             chain.fields[name] = value
             self.tell("chain", "changed", chain.points, partner if chain.points > chain.points[::-1] else name)
 
@@ -130,15 +123,10 @@ class Changing:
     def move_sides(self, count: int) -> None:
         """Puts another polygon on a side."""
         for chain in self.some_chains(count):
-            while True:
-                other = self.chance.randrange(len(self.county.polygons))
-                if other not in (chain.left, chain.right):
-                    break
+            others = iter(lambda: self.chance.randrange(len(self.county.polygons)), None)
+            chain.left = next(other for other in others if other not in (chain.left, chain.right))
             is_turned = chain.points > chain.points[::-1]
-            chain.left = other
             self.tell("chain", "changed", chain.points, "right polygon" if is_turned else "left polygon")
-
-    # Polygons, landmarks and names
 
     def some(self, things: list[T], count: int) -> list[T]:
         """Of these things some that no change has touched."""
@@ -166,10 +154,9 @@ class Changing:
             self.tell("landmark", "changed", [place_of(landmark)], "LANAME")
 
     def take_landmarks(self, count: int) -> None:
-        gone = self.some_landmarks(count)
-        for landmark in gone:
+        for landmark in self.some_landmarks(count):
             self.tell("landmark", "in the first alone", [place_of(landmark)])
-        self.county.landmarks = [landmark for landmark in self.county.landmarks if not any(landmark is other for other in gone)]
+            self.county.landmarks = [other for other in self.county.landmarks if other is not landmark]
 
     def add_landmarks(self, count: int) -> None:
         for number in range(count):
@@ -185,8 +172,6 @@ class Changing:
         self.names.append(("in the second alone", name))
         return len(self.county.names) - 1
 
-    # Ties
-
     def split_nodes(self, count: int) -> list[Point]:
         """Gives a chain's start a node of its own. Nothing that is said differs by this."""
         split: list[Point] = []
@@ -199,7 +184,6 @@ class Changing:
 
 
 def place_of(thing: Landmark | Polygon) -> Point:
-    """The point of something that has one."""
     assert thing.point
     return thing.point
 
@@ -210,7 +194,7 @@ def much_changed(county: County, seed: int) -> Changing:
     changing.move_sides(5)
     changing.take_away(15)
     changing.move_ends(20)
-    changing.rename(25, "Changed")
+    changing.change_field(25, "FENAME", "Changed")
     changing.change_field(6, "ZIPL", "36111")
     changing.change_field(4, "BLOCKR", "9876")
     changing.give_names(4, changing.add_name("Chang\xe9d Name"))

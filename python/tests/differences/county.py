@@ -1,81 +1,23 @@
-"""Makes counties for the tests: a town with streets, a river, a railroad, ponds and landmarks, the same for the same
-seed.
-
-A county is a value whose parts can be changed, and it can be written by several hands: under other numbers, with
-chains turned, and with records in another order and packed otherwise. All that is one map.
-"""
+"""Makes counties for the tests: a town with streets, a river, a railroad, ponds and landmarks, the same for the same seed."""
 
 from __future__ import annotations
 
 import math
 import random
-from dataclasses import dataclass, field, replace
-from typing import Any, Iterator, Sequence
+from dataclasses import dataclass
+from typing import Iterator
 
-from tigercanon.differences.columns import CHAIN, LANDMARK, LINK, NAME, POLYGON, RANGE, Layout
+from maps import FILE, Chain, County, Landmark, Point, Polygon, Values, written
 
-FILE = "01001"
-CENID = "06001"
+__all__ = ["FILE", "Chain", "County", "Landmark", "Point", "Polygon", "Values", "addresses", "made_county", "written"]
 
-Point = tuple[int, int]
-"""Longitude and latitude in millionths of a degree."""
-
-Values = dict[str, str]
-"""Fields of a record by their names. A field that isn't there is blank."""
-
-Cell = tuple[int, int]
-Cells = dict[Cell, Cell]
+Cells = dict[Point, Point]
 """For each cell of the net, one cell that represents all cells joined with it."""
 
-TREES = """
-    Oak Elm Maple Cedar Birch Walnut Chestnut Hickory Laurel Magnolia Willow Poplar Sycamore Juniper Aspen Hazel
-""".split()
-PEOPLE = """
-    Washington Jefferson Madison Monroe Jackson Harrison Taylor Lincoln Grant Hayes Garfield Cleveland Wilson Coolidge
-""".split()
-
-
-@dataclass
-class Chain:
-    """A chain: the fields of types 1 and I, all its points, its further names and ranges, and the nodes and polygons
-    at it."""
-
-    fields: Values
-    points: list[Point]
-    start: int | None
-    end: int | None
-    left: int | None
-    right: int | None
-    names: list[int] = field(default_factory=list)
-    ranges: list[Values] = field(default_factory=list)
-    link: Values = field(default_factory=dict)
-
-
-@dataclass
-class Polygon:
-    fields: Values
-    point: Point | None
-    has_record: bool = True
-
-
-@dataclass
-class Landmark:
-    fields: Values
-    point: Point | None = None
-    polygons: list[int] = field(default_factory=list)
-
-
-@dataclass
-class County:
-    """A map. Nodes, polygons and names have their places in these lists as numbers; a node is its point."""
-
-    chains: list[Chain]
-    names: list[Values]
-    polygons: list[Polygon]
-    landmarks: list[Landmark]
-
-
-# Making a county
+TREES = "Oak Elm Maple Cedar Birch Walnut Chestnut Hickory Laurel Magnolia Willow Poplar Sycamore Juniper Aspen Hazel".split()
+PEOPLE = (
+    "Washington Jefferson Madison Monroe Jackson Harrison Taylor Lincoln Grant Hayes Garfield Cleveland Wilson Coolidge".split()
+)
 
 
 @dataclass
@@ -88,24 +30,15 @@ class Town:
     chance: random.Random
     middle: Point = (-86_474_000, 32_462_000)
 
+    def __post_init__(self) -> None:
+        self.river, self.highway, self.railroad = self.rows // 3, self.rows // 2 + 1, 3 * self.columns // 4
+
     def place(self, column: float, row: float) -> Point:
         """Where a place of the net lies: the net is bent a little, and wider at its rim."""
         across, up = column - self.columns / 2, row - self.rows / 2
         bent_across = across + 0.45 * math.sin(up / 2.3) + 0.012 * across * abs(across) / (1 + self.columns / 24)
         bent_up = up + 0.4 * math.sin(across / 2.9 + 1) + 0.012 * up * abs(up) / (1 + self.rows / 24)
         return self.middle[0] + round(1400 * bent_across), self.middle[1] + round(1150 * bent_up)
-
-    @property
-    def river(self) -> int:
-        return self.rows // 3
-
-    @property
-    def railroad(self) -> int:
-        return 3 * self.columns // 4
-
-    @property
-    def highway(self) -> int:
-        return self.rows // 2 + 1
 
     def is_kept(self, column: int, row: int, is_across: bool) -> bool:
         """Whether there is a chain along this edge of the net. At the rim of the town there are fewer."""
@@ -120,23 +53,24 @@ class Town:
 
 
 def made_county(columns: int, rows: int, seed: int) -> County:
-    """The county of a town on a net of columns times rows cells."""
     town = Town(columns, rows, random.Random(seed))
     edges = [(column, row, True) for row in range(rows + 1) for column in range(columns) if town.is_kept(column, row, True)]
     edges += [(column, row, False) for column in range(columns + 1) for row in range(rows) if town.is_kept(column, row, False)]
     cells = joined_cells(town, set(edges))
     polygon_of = {cell: number for number, cell in enumerate(sorted(set(cells.values())))}
-    polygons = [made_polygon(town, cell) for cell in polygon_of]
+    polygons = []
+    for column, row in polygon_of:
+        water = "1" if (column * 7 + row * 11) % 61 == 5 else ""
+        polygons.append(Polygon({"FILE": FILE, "WATER": water}, town.place(column + 0.5, row + 0.45)))
     names = [{"FILE": FILE, "FENAME": "State Highway 14"}, {"FILE": FILE, "FENAME": "Old Mill", "FETYPE": "Rd"}]
     chains = [made_chain(town, edge, cells, polygon_of) for edge in edges]
     return County(chains, names, polygons, list(made_landmarks(town, cells, polygon_of)))
 
 
 def joined_cells(town: Town, edges: set[tuple[int, int, bool]]) -> Cells:
-    """For each cell of the net, one cell that represents all cells joined with it."""
     parents = {(column, row): (column, row) for column in range(town.columns) for row in range(town.rows)}
 
-    def root(cell: Cell) -> tuple[int, int]:
+    def root(cell: Point) -> Point:
         while parents[cell] != cell:
             parents[cell] = parents[parents[cell]]
             cell = parents[cell]
@@ -150,31 +84,21 @@ def joined_cells(town: Town, edges: set[tuple[int, int, bool]]) -> Cells:
     return {cell: root(cell) for cell in parents}
 
 
-def made_polygon(town: Town, cell: Cell) -> Polygon:
-    column, row = cell
-    is_pond = (column * 7 + row * 11) % 61 == 5
-    return Polygon({"FILE": FILE, "WATER": "1" if is_pond else ""}, town.place(column + 0.5, row + 0.45))
-
-
-def made_chain(town: Town, edge: tuple[int, int, bool], cells: Cells, polygon_of: dict[Cell, int]) -> Chain:
+def made_chain(town: Town, edge: tuple[int, int, bool], cells: Cells, polygon_of: dict[Point, int]) -> Chain:
     """The chain along an edge of the net, which runs to the east or to the north."""
     column, row, is_across = edge
-    start, end = (column, row), (column + 1, row) if is_across else (column, row + 1)
+    start = row * (town.columns + 1) + column + 1
+    end = start + (1 if is_across else town.columns + 1)
     above, below = (column, row), (column, row - 1) if is_across else (column - 1, row)
     sides = [cells.get(cell) for cell in ((above, below) if is_across else (below, above))]
     left, right = [polygon_of[cell] if cell is not None else None for cell in sides]
-    chain = Chain(named_fields(town, edge), points_between(town, edge), node(town, start), node(town, end), left, right)
+    chain = Chain(named_fields(town, edge), points_between(town, edge), start, end, left, right, link={"FILE": FILE})
     if is_across and row == town.highway:
         chain.names = [0]
     if is_across and row == town.highway and column % 3 == 0:
         chain.names = [0, 1]
         chain.ranges = [addresses(100 * column + 50, 100 * column + 58, "36067", "36067")]
-    chain.link = {"FILE": FILE}
     return chain
-
-
-def node(town: Town, place: tuple[int, int]) -> int:
-    return place[1] * (town.columns + 1) + place[0] + 1
 
 
 def points_between(town: Town, edge: tuple[int, int, bool]) -> list[Point]:
@@ -184,18 +108,19 @@ def points_between(town: Town, edge: tuple[int, int, bool]) -> list[Point]:
     steps = 12 if is_river else town.chance.choice((1, 2, 3, 3, 4, 6))
     width = 0.12 if is_river else 0.02
     phase = town.chance.uniform(1.5, 2.5)
-    points = []
-    for step in range(steps + 1):
-        along = step / steps
+
+    def point(along: float) -> Point:
         aside = width * math.sin(math.pi * along) * math.sin(phase * math.pi * along + phase)
-        points.append(town.place(column + along, row + aside) if is_across else town.place(column + aside, row + along))
-    return points
+        return town.place(column + along, row + aside) if is_across else town.place(column + aside, row + along)
+
+    return [point(step / steps) for step in range(steps + 1)]
 
 
 def named_fields(town: Town, edge: tuple[int, int, bool]) -> Values:
-    """The fields of a chain of type 1."""
     column, row, is_across = edge
-    fields: Values = {"SOURCE": "A", **{f"{name}{hand}": value for hand in "LR" for name, value in codes(column, row).items()}}
+    tract, block = 20100 + 100 * (column // 12) + row // 12, 1000 + (column % 12) * 12 + row % 12
+    codes = {"STATE": "01", "COUNTY": "001", "COUSUB": "92106", "PLACE": "62328", "TRACT": f"{tract:06}", "BLOCK": str(block)}
+    fields: Values = {"SOURCE": "A", **{f"{name}{hand}": value for hand in "LR" for name, value in codes.items()}}
     if is_across and row == town.river:
         return {**fields, "SOURCE": "B", "FENAME": "Autauga Creek", "CFCC": "H11"}
     if not is_across and column == town.railroad:
@@ -218,19 +143,13 @@ def named_fields(town: Town, edge: tuple[int, int, bool]) -> Values:
     return {**fields, "FEDIRP": part, "FENAME": name, "FETYPE": way, "CFCC": "A41", **numbers}
 
 
-def codes(column: int, row: int) -> Values:
-    tract = 20100 + 100 * (column // 12) + row // 12
-    block = 1000 + (column % 12) * 12 + row % 12
-    return {"STATE": "01", "COUNTY": "001", "COUSUB": "92106", "PLACE": "62328", "TRACT": f"{tract:06}", "BLOCK": str(block)}
-
-
 def addresses(first: int, last: int, left: str, right: str) -> Values:
     """A range of odd addresses on the left and of even ones on the right."""
     numbers = {"FRADDL": first, "TOADDL": last, "FRADDR": first + 1, "TOADDR": last + 1}
     return {**{name: f"{number:>11}" for name, number in numbers.items()}, "ZIPL": left, "ZIPR": right}
 
 
-def made_landmarks(town: Town, cells: Cells, polygon_of: dict[Cell, int]) -> Iterator[Landmark]:
+def made_landmarks(town: Town, cells: Cells, polygon_of: dict[Point, int]) -> Iterator[Landmark]:
     """Churches and schools as points, and ponds and parks as polygons."""
     kinds = [("Church", "D44"), ("School", "D43"), ("Cemetery", "D82")]
     for number in range(max(6, town.columns * town.rows // 24)):
@@ -243,107 +162,3 @@ def made_landmarks(town: Town, cells: Cells, polygon_of: dict[Cell, int]) -> Ite
         name, cfcc = (("Park", "D85"), ("Pond", "H31"))[number % 2]
         title = f"{TREES[number % len(TREES)]} {name} {number // len(TREES) or ''}".strip()
         yield Landmark({"FILE": FILE, "SOURCE": "B", "CFCC": cfcc, "LANAME": title}, None, [polygon_of[cell]])
-
-
-# Writing it
-
-
-def content(layout: Layout, fields: Values) -> str:
-    """The content of a record."""
-    return "".join(fields.get(column.name, "").ljust(column.width) for column in layout.columns)
-
-
-def spelt(point: Point | None) -> str:
-    """A point as records have it."""
-    return " " * 19 if point is None else f"{point[0]:+010d}{point[1]:+09d}"
-
-
-@dataclass
-class Hand:
-    """A way to write a county: how everything is numbered, which chains are turned, and how records are packed and
-    ordered."""
-
-    chance: random.Random | None = None
-
-    def numbers(self, count: int, most: int) -> list[int]:
-        """A number for each of count things."""
-        return list(range(1, count + 1)) if self.chance is None else self.chance.sample(range(1, most), count)
-
-    def turns(self) -> bool:
-        return self.chance is not None and self.chance.random() < 0.5
-
-    def packs(self, items: Sequence[str], most: int) -> Iterator[tuple[int, Sequence[str]]]:
-        """The items record by record, with a number for each record."""
-        number, begin = 0, 0
-        while begin < len(items):
-            size = most if self.chance is None else self.chance.randint(1, most)
-            number += 1 if self.chance is None else self.chance.randint(1, 3)
-            yield number, items[begin : begin + size]
-            begin += size
-
-    def orders(self, lines: list[str]) -> list[str]:
-        if self.chance is not None:
-            self.chance.shuffle(lines)
-        return lines
-
-
-def written(county: County, seed: int | None = None) -> bytes:
-    """The records of a county in one file, by a hand with this seed, or as it is."""
-    hand = Hand(random.Random(seed) if seed is not None else None)
-    return "".join(line + "\n" for line in hand.orders(list(lines(county, hand)))).encode("latin-1")
-
-
-def lines(county: County, hand: Hand) -> Iterator[str]:
-    """The records, type by type."""
-    most = 9 * len(county.chains) + 99
-    numbered: list[list[Any]] = [county.chains, county.names, county.landmarks, county.polygons]
-    tlids, feats, lands, polyids = (hand.numbers(len(things), most) for things in numbered)
-    nodes = sorted({node for chain in county.chains for node in (chain.start, chain.end) if node is not None})
-    node_numbers: dict[int | None, Any] = {None: "", **dict(zip(nodes, hand.numbers(len(nodes), most)))}
-
-    def key(polygon: int | None) -> str:
-        return f"{CENID}{polyids[polygon]:>10}" if polygon is not None else f"{CENID}{'':10}"
-
-    for chain, tlid in zip(county.chains, tlids):
-        chain = turned(chain) if hand.turns() else chain
-        yield f"12006{tlid:>10}{content(CHAIN, chain.fields)}{spelt(chain.points[0])}{spelt(chain.points[-1])}"
-        for number, points in hand.packs([spelt(point) for point in chain.points[1:-1]], 10):
-            yield f"22006{tlid:>10}{number:>3}" + "".join(points).ljust(190, "\0").replace("\0" * 19, "+000000000+00000000")
-        for number, names in hand.packs([f"{feats[name]:>8}" for name in chain.names], 5):
-            yield f"42006{tlid:>10}{number:>3}" + "".join(names).ljust(40)
-        for number, fields in enumerate(chain.ranges, 1):
-            yield f"62006{tlid:>10}{number:>3}{content(RANGE, fields)}"
-        link = content(LINK, chain.link)
-        ends = f"{node_numbers[chain.start]:>10}{node_numbers[chain.end]:>10}"
-        yield f"I2006{link[:5]}{tlid:>10}{ends}{key(chain.left)}{key(chain.right)}{link[5:]}"
-    for name, feat in zip(county.names, feats):
-        body = content(NAME, name)
-        yield f"52006{body[:5]}{feat:>8}{body[5:]}"
-    for landmark, land in zip(county.landmarks, lands):
-        body = content(LANDMARK, landmark.fields)[:-19]
-        yield f"72006{body[:5]}{land:>10}{body[5:]}{spelt(landmark.point)} "
-        for polygon in landmark.polygons:
-            yield f"82006{FILE}{key(polygon)}{land:>10} "
-    for number, each in enumerate(county.polygons):
-        if each.has_record:
-            body = content(POLYGON, each.fields)
-            yield f"P2006{body[:5]}{key(number)}{spelt(each.point)}{body[-1]}"
-
-
-def turned(chain: Chain) -> Chain:
-    """The chain as seen from its other end."""
-    return replace(
-        chain,
-        fields=turned_fields(CHAIN, chain.fields),
-        points=chain.points[::-1],
-        start=chain.end,
-        end=chain.start,
-        left=chain.right,
-        right=chain.left,
-        ranges=[turned_fields(RANGE, fields) for fields in chain.ranges],
-    )
-
-
-def turned_fields(layout: Layout, fields: Values) -> Values:
-    """Fields as seen from the chain's other end."""
-    return {column.name: fields.get(column.partner or column.name, "") for column in layout.columns}

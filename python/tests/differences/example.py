@@ -5,8 +5,6 @@
 writes its files again, and with --picture also the picture of its page, docs/differences.png. That needs Debian's python3-pil.
 """
 
-from __future__ import annotations
-
 import sys
 import tempfile
 from io import BytesIO
@@ -39,13 +37,11 @@ def example() -> tuple[County, Changing]:
 
 
 def texts() -> tuple[bytes, bytes]:
-    """The texts of both files."""
     town, later = example()
     return written(town), written(later.county, SEED)
 
 
 def write_picture(picture: Path) -> None:
-    """Writes the picture of the example's page."""
     from PIL import Image
 
     from .browser import Browser
@@ -59,7 +55,7 @@ def write_picture(picture: Path) -> None:
         try:
             browser.open(page)
             browser.click_at_changed("Commerce")
-            shot = Image.open(BytesIO(browser.picture())).convert("RGB")
+            shot = Image.open(BytesIO(browser.driver.get_screenshot_as_png())).convert("RGB")
         finally:
             browser.quit()
     shot.quantize(256, dither=Image.Dither.NONE).save(picture, optimize=True)

@@ -1,7 +1,5 @@
 """Calls of tigercanon-tools diff, and readers of what it reports."""
 
-from __future__ import annotations
-
 import json
 import re
 from dataclasses import replace
@@ -15,7 +13,6 @@ from testing import ROOT
 from tigercanon.differences.sets import Canonical, Sets
 
 from .changes import Difference, Place
-from .county import Point
 
 EXAMPLE = ROOT / "examples/two-maps"
 LEAFLET = Path("/usr/share/javascript/leaflet")
@@ -23,6 +20,7 @@ KINDS = ("in the first alone", "in the second alone", "changed")
 
 WORDS_HEADING = re.compile(rf"(?m)^(chain|landmark|polygon|feature name)s ({'|'.join(KINDS)}): ([\d,]+)$")
 DEGREES = re.compile(r"(\d+)\.(\d{6})° ([NS]), (\d+)\.(\d{6})° ([WE])")
+SIGNS = {"N": 1, "E": 1, "S": -1, "W": -1}
 PROGRESS = re.compile(r"tigercanon-tools: (normalising|reading|comparing|finding|writing) .*\n")
 
 needs_leaflet = pytest.mark.skipif(not (LEAFLET / "leaflet.css").exists(), reason="libjs-leaflet isn't installed")
@@ -37,11 +35,7 @@ def diff(*words: object, program: object = PROGRAM, **options: Any) -> Ended:
 
 
 def sets_of(first: bytes, second: bytes) -> Sets:
-    """Two sets with these canonical texts."""
     return Sets(Canonical("one", first), Canonical("other", second))
-
-
-# Reading reports
 
 
 def told_in_words(text: str) -> set[Difference]:
@@ -50,17 +44,12 @@ def told_in_words(text: str) -> set[Difference]:
     _, *sections = re.split(WORDS_HEADING, text)
     for what, kind, listed in zip(sections[::4], sections[1::4], sections[3::4]):
         for title, table in re.findall(r"(?m)^ {2}(\S.*)\n?((?: {6}.*\n?)*)", listed):
-            place = tuple(map(point_of_words, DEGREES.findall(title)))
+            found_points = DEGREES.findall(title)
+            place = tuple((SIGNS[we] * int(e + more), SIGNS[ns] * int(n + rest)) for n, rest, ns, e, more, we in found_points)
             if place:
                 fields = re.findall(r"(?m)^ {6}(\S.*?)(?: {2}|$)", table)
                 found.add(Difference(what, kind, place, frozenset(fields)))
     return found
-
-
-def point_of_words(parts: tuple[str, ...]) -> Point:
-    """The point of a printed text in degrees."""
-    north, east = int(parts[0] + parts[1]), int(parts[3] + parts[4])
-    return (-east if parts[5] == "W" else east, -north if parts[2] == "S" else north)
 
 
 def in_words(difference: Difference) -> Difference:
@@ -70,7 +59,6 @@ def in_words(difference: Difference) -> Difference:
 
 
 def counts_in_words(text: str) -> dict[str, list[str]]:
-    """The table of counts."""
     return {line[:19].strip(): line[19:].split() for line in text.splitlines()[3:8]}
 
 
@@ -90,7 +78,6 @@ def told_in_geojson(path: Path) -> set[Difference]:
 
 
 def page_data(path: Path) -> dict[str, Any]:
-    """The data in a page."""
     found = re.search(r'<script type="application/json" id="data">(.*?)</script>', path.read_text("utf-8"), re.DOTALL)
     data: dict[str, Any] = json.loads(found[1]) if found else {}
     return data
@@ -109,7 +96,6 @@ def told_in_page(path: Path) -> set[Difference]:
 
 
 def line_of(distances: list[int]) -> Place:
-    """The points of a list of distances."""
     longitude = latitude = 0
     points = []
     for at in range(0, len(distances), 2):

@@ -1,7 +1,5 @@
 """The columns of the records agree with docs/format.md."""
 
-from __future__ import annotations
-
 import re
 
 import pytest
@@ -28,7 +26,6 @@ def documented() -> dict[str, tuple[int, list[Told]]]:
 
 
 def told(row: list[str]) -> Told:
-    """A row of a table."""
     columns = [int(number) for number in re.findall(r"\d+", row[0])]
     return row[1], columns[0], columns[-1], row[4] if len(row) > 4 else ""
 

@@ -1,7 +1,5 @@
 """The command line, with a stand-in for the program: statuses, refusals, and files that are whole or not there."""
 
-from __future__ import annotations
-
 import json
 import os
 import signal
@@ -32,7 +30,9 @@ SLOW = STAND_IN.replace('exec cat "$name"', "exec sleep 600")
 NOTING = STAND_IN.replace("exec cat", 'echo "$*" >>"$(dirname "$0")/words"; exec cat')
 
 LEAFLET = ("--leaflet", "leaflet")
-REFUSED = "broken: refused 4 BadNumber 1 4 6"
+REFUSED = "refused 4 BadNumber 1 4 6"
+PACKED = "refused 1 UnknownType 1 1; the file is compressed by gzip: unpack it first"
+NO_SETS = ["nowhere", "leaflet", "not.zip"]
 
 
 @pytest.fixture(autouse=True)
@@ -83,27 +83,22 @@ def test_statuses(second: str, status: int) -> None:
     assert ask("one", second).status == status
 
 
-@pytest.mark.parametrize(
-    "words", ["", "one", "one one one", "--loud one one", "--all one one", "--leaflet x one one", "--summary --json one one"]
-)
-def test_wrong_use(words: str) -> None:
+WRONG_USE = ["", "one", "one one one", "--loud one one", "--all one one", "--leaflet x one one", "--summary --json one one"]
+
+
+@pytest.mark.parametrize("words, named", [*((words, "") for words in WRONG_USE), *((f"{it} one", it) for it in NO_SETS)])
+def test_wrong_use(words: str, named: str) -> None:
+    """One line, which names what is no set."""
+    put("not.zip", b"PK\x03\x04 broken")
     ended = ask(*words.split())
-    assert (ended.status, ended.out, ended.err.count("\n")) == (2, "", 1)
+    assert (ended.status, ended.out, ended.err.count("\n"), named in ended.err) == (2, "", 1, True)
 
 
-@pytest.mark.parametrize(
-    "flags, wanted",
-    [
-        ([], ""),
-        (["--no-sources"], "--no-sources"),
-        (["--no-reserved"], "--no-reserved"),
-        (["--no-reserved", "--no-sources"], "--no-sources --no-reserved"),
-    ],
-)
-def test_masks(flags: list[str], wanted: str) -> None:
+@pytest.mark.parametrize("wanted", ["", "--no-sources", "--no-reserved", "--no-sources --no-reserved"])
+def test_masks(wanted: str) -> None:
     """The flags that leave fields out go to the program, and all that is written names them."""
     put_program("program", NOTING)
-    ended = ask(*flags, "--page", "page", "--geojson", "geojson", *LEAFLET, "one", "other")
+    ended = ask(*wanted.split()[::-1], "--page", "page", "--geojson", "geojson", *LEAFLET, "one", "other")
     assert (ended.status, ended.err) == (1, "")
     asked = [f"normalise {wanted}{' ' * bool(wanted)}-- {name}" for name in ("one", "other")]
     asked += [f"respell -- {name}" for name in ("one", "other")]
@@ -117,29 +112,30 @@ def test_masks(flags: list[str], wanted: str) -> None:
 @pytest.mark.parametrize(
     "words, line",
     [
-        (["broken", "one"], REFUSED),
-        (["one", "broken"], REFUSED),
-        (["broken", "again"], REFUSED),
-        (["again", "broken"], "again: refused 4 BadNumber 1 4 6"),
-        (["--page", "page.html", "--geojson", "geojson", *LEAFLET, "one", "broken"], REFUSED),
-        (["one", "packed"], "packed: refused 1 UnknownType 1 1; the file is compressed by gzip: unpack it first"),
-        (["in/packed", "one"], "in/packed: refused 1 UnknownType 1 1; the file is compressed by gzip: unpack it first"),
+        ("broken one", f"broken: {REFUSED}"),
+        ("one broken", f"broken: {REFUSED}"),
+        ("broken again", f"broken: {REFUSED}"),
+        ("again broken", f"again: {REFUSED}"),
+        ("--page page.html --geojson geojson --leaflet leaflet one broken", f"broken: {REFUSED}"),
+        ("one packed", f"packed: {PACKED}"),
+        ("in/packed one", f"in/packed: {PACKED}"),
+        ("--geojson leaflet one other", "leaflet: can't be written: it is a folder"),
+        ("--geojson /dev/null one other", "/dev/null: can't be written: it isn't a regular file"),
+        ("--geojson none/page one other", "none/page: can't be written: No such file or directory"),
+        ("--geojson one/page one other", "one/page: can't be written: Not a directory"),
+        ("--page one one other", "one: can't be written: it belongs to one of the sets"),
+        ("--geojson other one other", "other: can't be written: it belongs to one of the sets"),
+        ("--page x --geojson x one other", "--page and --geojson name the same file"),
+        ("--page page.html --leaflet in one other", "in: there is no Leaflet here: it needs leaflet.js and leaflet.css"),
     ],
 )
-def test_refused(words: list[str], line: str) -> None:
-    """The file, the program's line and a hint. The first set is reported before the second."""
+def test_failures(words: str, line: str) -> None:
+    """Of a set that is refused the file, the program's line and a hint; the first set comes before the second. Files that can't be
+    written, or belong to a set."""
     put("again", b"broken\n")
     put("packed", b"\x1f\x8bpacked\n")
     put("in/packed.RT1", b"\x1f\x8bpacked\n")
-    assert_fails(line, *words)
-
-
-@pytest.mark.parametrize("name", ["nowhere", "leaflet", "not.zip"])
-def test_what_is_no_set(name: str) -> None:
-    put("not.zip", b"PK\x03\x04 broken")
-    ended = ask(name, "one")
-    assert (ended.status, ended.out, ended.err.count("\n")) == (2, "", 1)
-    assert name in ended.err
+    assert_fails(line, *words.split())
 
 
 def test_program(room: Path) -> None:
@@ -200,43 +196,12 @@ def test_files_are_written() -> None:
     assert sorted(os.listdir(".")) == sorted([*before, "a.html"])
 
 
-@pytest.mark.parametrize(
-    "name, why",
-    [
-        ("leaflet", "it is a folder"),
-        ("/dev/null", "it isn't a regular file"),
-        ("none/page", "No such file or directory"),
-        ("one/page", "Not a directory"),
-    ],
-)
-def test_files_that_cant_be_written(name: str, why: str) -> None:
-    assert_fails(f"{name}: can't be written: {why}", "--geojson", name, "one", "other")
-
-
-@pytest.mark.parametrize(
-    "words, line",
-    [
-        (["--page", "one"], "one: can't be written: it belongs to one of the sets"),
-        (["--geojson", "other"], "other: can't be written: it belongs to one of the sets"),
-        (["--page", "x", "--geojson", "x"], "--page and --geojson name the same file"),
-    ],
-)
-def test_files_that_are_in_use(words: list[str], line: str) -> None:
-    assert_fails(line, *words, "one", "other")
-
-
 def test_a_full_disk() -> None:
     """A file that can't be written to its end isn't left behind, and an older file of its name is unchanged."""
     put("geojson", b"older")
     words = ("--geojson", "geojson", "--all", "one", "other")
     assert_fails("geojson: can't be written: File too large", *words, preexec_fn=limit_files(20_000))
     assert Path("geojson").read_bytes() == b"older"
-
-
-def test_no_leaflet() -> None:
-    os.mkdir("empty")
-    why = "empty: there is no Leaflet here: it needs leaflet.js and leaflet.css"
-    assert_fails(why, "--page", "page.html", "--leaflet", "empty", "one", "other")
 
 
 @pytest.mark.parametrize(

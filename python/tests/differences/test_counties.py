@@ -1,6 +1,4 @@
-"""Counties of 5,000 chains by two hands: as they are one map, and as they differ at known places."""
-
-from __future__ import annotations
+"""Counties of 5,000 chains by two hands: as they are one map, and as they differ at known places; and the example of two maps."""
 
 import re
 from collections import Counter
@@ -13,7 +11,9 @@ from support import put
 
 from .changes import Changing, much_changed
 from .county import County, made_county, written
-from .reports import KINDS, counts_in_words, diff, in_words, needs_leaflet, page_data, told_in_geojson, told_in_page, told_in_words
+from .example import example, texts
+from .reports import EXAMPLE, KINDS, counts_in_words, diff, in_words, needs_leaflet, page_data
+from .reports import told_in_geojson, told_in_page, told_in_words
 
 SUBJECTS = ("chain", "landmark", "polygon")
 
@@ -28,7 +28,6 @@ class Made(NamedTuple):
     second: Path
 
     def counts(self) -> dict[str, list[str]]:
-        """The table of counts, as it follows from the changes."""
         told = self.changing.counts(self.county)
         names = dict(zip((*KINDS, "alike"), ("0", str(len(self.changing.names)), "-", str(len(self.county.names)))))
         table = {kind: [*(f"{told[what, kind]:,}" for what in SUBJECTS), count] for kind, count in names.items()}
@@ -42,6 +41,20 @@ def made(tmp_path_factory: pytest.TempPathFactory) -> Made:
     changing = much_changed(county, 2)
     first, copy = put(folder / "first.txt", written(county, 3)), put(folder / "copy.txt", written(county, 4))
     return Made(county, changing, first, copy, put(folder / "second.txt", written(changing.county, 5)))
+
+
+@pytest.mark.parametrize("name, text", zip(("first.txt", "second.txt"), texts()), ids=["first", "second"])
+def test_example_files(name: str, text: bytes) -> None:
+    """The files in examples/two-maps are those that are made."""
+    assert (EXAMPLE / name).read_bytes() == text, "python/tests/differences/example.py makes it again"
+
+
+def test_example(room: Path) -> None:
+    ended = diff("--geojson", "example.geojson", EXAMPLE / "first.txt", EXAMPLE / "second.txt")
+    assert (ended.status, ended.err) == (1, "")
+    _, later = example()
+    assert told_in_geojson(room / "example.geojson") == later.differences
+    assert {told for told in told_in_words(ended.out) if told.place} == set(map(in_words, later.differences))
 
 
 def test_size(made: Made) -> None:

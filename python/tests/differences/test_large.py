@@ -1,7 +1,5 @@
 """Large maps: how long a page of 100,000 chains takes to be made and drawn, how much memory, and how large it is."""
 
-from __future__ import annotations
-
 import subprocess
 import sys
 import time

@@ -1,7 +1,5 @@
 """How small counties are matched and reported. They are read as they are written, without the program."""
 
-from __future__ import annotations
-
 import copy
 from typing import Any, Callable, Optional
 
@@ -25,7 +23,6 @@ def compared(first: County, second: County) -> Comparison:
 
 
 def words_of(first: County, second: County) -> str:
-    """The printed report."""
     return "\n".join(told(compared(first, second), sets_of(written(first), written(second))))
 
 
@@ -40,13 +37,8 @@ def two_sided(*chains: Chain) -> County:
     return County(list(chains), [{"FENAME": "Old Rd"}, {"FENAME": "Old Rd"}], polygons, [])
 
 
-def differing_chain(change: Callable[[Chain], None]) -> list[Told]:
-    """The differences in the only chain of two counties, after a change of one of them."""
-    first = two_sided(chain_between([(1, 1), (2, 5), (9, 9)]))
-    second = copy.deepcopy(first)
-    change(second.chains[0])
-    comparison = compared(first, second)
-    assert comparison.chains.counts == (0, 0, 1, 0)
+def differing_fields(comparison: Comparison) -> list[Told]:
+    """The differences in the chain that changed first."""
     one, other = comparison.chains.changed[0]
     table = rows(comparison.first.chain(one), comparison.second.chain(other))
     return [(row.name.label, row.first, row.second) for row in table if row.differs]
@@ -73,7 +65,12 @@ def differing_chain(change: Callable[[Chain], None]) -> list[Told]:
     ],
 )
 def test_fields(change: Callable[[Chain], None], wanted: list[Told]) -> None:
-    assert differing_chain(change) == wanted
+    """The differences in the only chain of two counties, after a change of one of them."""
+    first = two_sided(chain_between([(1, 1), (2, 5), (9, 9)]))
+    second = copy.deepcopy(first)
+    change(second.chains[0])
+    comparison = compared(first, second)
+    assert (comparison.chains.counts, differing_fields(comparison)) == ((0, 0, 1, 0), wanted)
 
 
 def test_chains_of_one_shape() -> None:
@@ -99,10 +96,7 @@ def test_own_reverse() -> None:
     turned.left, turned.right = 1, 0
     assert compared(two_sided(chain), two_sided(turned)).chains.counts == (0, 0, 0, 1)
     turned.fields["FENAME"] = "Maple"
-    comparison = compared(two_sided(chain), two_sided(turned))
-    one, other = comparison.chains.changed[0]
-    table = rows(comparison.first.chain(one), comparison.second.chain(other))
-    assert [row.name.label for row in table if row.differs] == ["FENAME"]
+    assert differing_fields(compared(two_sided(chain), two_sided(turned))) == [("FENAME", "Main", "Maple")]
 
 
 @pytest.mark.parametrize(
@@ -192,9 +186,6 @@ def test_date_line() -> None:
 def test_degrees(point: str, words: str, numbers: tuple[str, str]) -> None:
     assert degrees(point) == words
     assert (decimal(point[:10]), decimal(point[10:])) == numbers
-
-
-# Maps in which nothing differs except how things are tied
 
 
 def assert_tied(first: County, second: County, *lines: str) -> None:

@@ -1,8 +1,9 @@
-"""The numbers in GeoJSON agree with the records of the user's files."""
-
-from __future__ import annotations
+"""The numbers in GeoJSON agree with the records of the user's files; and GeoJSON as another reader sees it, GDAL's ogrinfo."""
 
 import json
+import re
+import shutil
+import subprocess
 import zipfile
 from pathlib import Path
 from typing import Any, NamedTuple
@@ -11,8 +12,8 @@ import pytest
 from support import put
 
 from .changes import Changing, much_changed
-from .county import FILE, Landmark, Point, Values, made_county, written
-from .reports import diff
+from .county import FILE, Landmark, Point, made_county, written
+from .reports import KINDS, diff
 
 Features = list[dict[str, Any]]
 
@@ -47,11 +48,6 @@ def is_of(line: str, feature: dict[str, Any], side: str) -> bool:
     return micro(list(point)) == point_at(line, 26)
 
 
-def same_place(kind: int) -> Values:
-    """One of several landmarks with one name. They differ only in SOURCE and CFCC."""
-    return {"FILE": FILE, "SOURCE": "ABC"[kind % 3], "CFCC": f"D{kind}", "LANAME": "Fair Ground"}
-
-
 class Made(NamedTuple):
     """Two files, and their records."""
 
@@ -80,7 +76,9 @@ class Made(NamedTuple):
 @pytest.fixture
 def made(room: Path) -> Made:
     county = made_county(12, 12, 40)
-    county.landmarks += [Landmark(same_place(kind), (-86_470_001, 32_460_001)) for kind in range(60, 68)]
+    for kind in range(60, 68):  # landmarks with one name, which differ only in SOURCE and CFCC
+        fields = {"FILE": FILE, "SOURCE": "ABC"[kind % 3], "CFCC": f"D{kind}", "LANAME": "Fair Ground"}
+        county.landmarks.append(Landmark(fields, (-86_470_001, 32_460_001)))
     changing = much_changed(county, 41)
     first, second = put(room / "first", written(county, 42)), put(room / "second", written(changing.county, 43))
     return Made(first, second, {"first": records(first), "second": records(second)})
@@ -135,3 +133,34 @@ def test_ties(room: Path) -> None:
     lines = records(one)
     for tlid in tie["properties"]["first_TLIDs"].replace(" | ", "; ").split("; "):
         assert split in (point_at(lines["1", int(tlid)], 191), point_at(lines["1", int(tlid)], 210))
+
+
+def ogrinfo(path: Path, *words: str) -> str:
+    run = subprocess.run(["ogrinfo", "-ro", "-so", "-al", *words, str(path)], capture_output=True, text=True)
+    assert (run.returncode, run.stderr) == (0, "")
+    return run.stdout
+
+
+def count(text: str) -> int:
+    found = re.search(r"Feature Count: (\d+)", text)
+    assert found
+    return int(found[1])
+
+
+@pytest.mark.skipif(not shutil.which("ogrinfo"), reason="gdal-bin isn't installed")
+def test_ogrinfo(room: Path) -> None:
+    county = made_county(20, 20, 8)
+    changing = much_changed(county, 9)
+    first, second = put(room / "first.txt", written(county, 10)), put(room / "second.txt", written(changing.county, 11))
+    geojson = room / "differences.geojson"
+    assert diff("--geojson", geojson, first, second).status == 1
+    text = ogrinfo(geojson)
+    assert count(text) == len(changing.differences) + len(changing.names)
+    assert "WGS 84" in text
+    for kind in KINDS:
+        wanted = sum(difference.kind == kind for difference in changing.differences)
+        assert count(ogrinfo(geojson, "-where", f"what <> 'feature name' AND kind = '{kind}'")) == wanted
+    assert count(ogrinfo(geojson, "-where", "differs = 'FENAME' AND second_FENAME = 'Changed'")) == 25
+    text = ogrinfo(geojson, "-where", "what = 'polygon' AND first_POLYLONG <> second_POLYLONG")
+    assert count(text) == 2
+    assert re.search(r"first_POLYLAT: Real", text) and re.search(r"first_TLID: Integer", text)

@@ -1,8 +1,5 @@
 """The page in a browser: what it shows, by the pointer and by the keyboard."""
 
-from __future__ import annotations
-
-import base64
 import re
 import shutil
 import subprocess
@@ -78,7 +75,6 @@ def browser(window: Browser) -> Iterator[Browser]:
 
 
 def page_of(folder: Path, name: str, first: bytes, second: bytes) -> Path:
-    """A page of two sets."""
     one, other = put(folder / f"{name}-<b>first", first), put(folder / f"{name}-<b>second", second)
     ended = diff("--page", folder / f"{name}.html", one, other)
     assert ended.err == ""
@@ -90,7 +86,7 @@ def town(tmp_path_factory: pytest.TempPathFactory) -> Town:
     folder = tmp_path_factory.mktemp("town")
     county = made_county(20, 20, 20)
     changing = much_changed(county, 21)
-    changing.rename(1, SCRIPT)
+    changing.change_field(1, "FENAME", SCRIPT)
     changing.county.landmarks[-1].fields["LANAME"] = PICTURE
     return Town(county, changing, page_of(folder, "page", written(county, 22), written(changing.county, 23)))
 
@@ -182,16 +178,13 @@ class TestPage:
         assert browser.run("return window.printed") == browser.listed()
         assert browser.run("return JSON.stringify(window.differences.map.getBounds())") == before
 
-    def test_printed_map(self, browser: Browser, town: Town, room: Path) -> None:
+    def test_printed_map(self, browser: Browser, town: Town) -> None:
         """The map is whole on the first sheet, with its scale, whichever way the paper lies."""
         if not shutil.which("pdftotext"):
             pytest.skip("no poppler-utils")
         for orientation in ("portrait", "landscape"):
-            options = browser.paper(orientation)
-            printed = room / "printed.pdf"
-            printed.write_bytes(base64.b64decode(browser.driver.print_page(options)))
-            words = ["pdftotext", "-f", "1", "-l", "1", str(printed), "-"]
-            text = subprocess.run(words, check=True, stdout=subprocess.PIPE).stdout.decode()
+            words = ["pdftotext", "-f", "1", "-l", "1", "-", "-"]
+            text = subprocess.run(words, check=True, input=browser.printed(orientation), stdout=subprocess.PIPE).stdout.decode()
             assert re.search(r"(?m)^ *\d+ k?m$", text)
             assert re.search(r"(?m)^ *\d+ (ft|mi)$", text)
 
@@ -224,15 +217,11 @@ class TestLayout:
 class TestVerdicts:
     """Pages of maps that don't differ, or only in how things are tied."""
 
-    def test_one_map(self, browser: Browser, room: Path) -> None:
-        county = made_county(6, 6, 24)
+    @pytest.mark.parametrize("county", [made_county(6, 6, 24), County([], [], [], [])], ids=["county", "nothing"])
+    def test_one_map(self, browser: Browser, room: Path, county: County) -> None:
         browser.open(page_of(room, "same", written(county, 25), written(county, 26)))
         assert browser.texts("#notes") == ["No differences: the two are one map."]
         assert browser.texts("#list li") == []
-
-    def test_nothing(self, browser: Browser, room: Path) -> None:
-        browser.open(page_of(room, "nothing", b"", b""))
-        assert browser.texts("#notes") == ["No differences: the two are one map."]
 
     def test_ties(self, browser: Browser, room: Path) -> None:
         county = made_county(10, 10, 27)

@@ -4,8 +4,6 @@ Numbers that differ from file to file (TLID, RTSQ, FEAT, LAND, POLYID and those 
 among them.
 """
 
-from __future__ import annotations
-
 from dataclasses import dataclass, replace
 from functools import cached_property
 from itertools import accumulate
@@ -58,17 +56,12 @@ class Layout:
         return {column.name: slice(end - column.width, end) for column, end in zip(self.columns, ends)}
 
     def content(self, line: str) -> str:
-        """The content of a record."""
-        if len(self.runs) == 1:
-            return line[self.runs[0]]
-        return "".join([line[run] for run in self.runs])
+        return line[self.runs[0]] if len(self.runs) == 1 else "".join([line[run] for run in self.runs])
 
     def value(self, content: str, name: str) -> str:
-        """A field of the content."""
         return content[self.places[name]]
 
     def values(self, content: str) -> list[str]:
-        """The content's fields, in the order of the columns."""
         return [content[place] for place in self.places.values()]
 
     def blanked(self, content: str, names: Collection[str]) -> str:
@@ -113,55 +106,41 @@ ADDRESSES = (
     *on_both_sides("ZIP", 107, 5, "postal code"),
 )
 
-CHAIN = Layout(
-    "1",
-    (
-        Column("SIDE1", 16, 16, "mark of a chain with one side alone"),
-        Column("SOURCE", 17, 17, "where the chain comes from"),
-        *FEATURE_NAME,
-        Column("CFCC", 56, 58, "class of the feature"),
-        *ADDRESSES,
-        *on_both_sides("AIANHHFP", 117, 5, "American Indian, Alaska Native or Hawaiian home land"),
-        *on_both_sides("AIHHTLI", 127, 1, "kind of home land"),
-        Column("CENSUS1", 129, 129, "the Bureau's own use"),
-        Column("CENSUS2", 130, 130, "the Bureau's own use"),
-        *on_both_sides("STATE", 131, 2, "state"),
-        *on_both_sides("COUNTY", 135, 3, "county"),
-        *on_both_sides("COUSUB", 141, 5, "county subdivision"),
-        *on_both_sides("SUBMCD", 151, 5, "subbarrio"),
-        *on_both_sides("PLACE", 161, 5, "place"),
-        *on_both_sides("TRACT", 171, 6, "census tract"),
-        *on_both_sides("BLOCK", 183, 4, "census block"),
-    ),
+OF_CHAIN = (
+    Column("SIDE1", 16, 16, "mark of a chain with one side alone"),
+    Column("SOURCE", 17, 17, "where the chain comes from"),
+    *FEATURE_NAME,
+    Column("CFCC", 56, 58, "class of the feature"),
+    *ADDRESSES,
+    *on_both_sides("AIANHHFP", 117, 5, "American Indian, Alaska Native or Hawaiian home land"),
+    *on_both_sides("AIHHTLI", 127, 1, "kind of home land"),
+    Column("CENSUS1", 129, 129, "the Bureau's own use"),
+    Column("CENSUS2", 130, 130, "the Bureau's own use"),
+    *on_both_sides("STATE", 131, 2, "state"),
+    *on_both_sides("COUNTY", 135, 3, "county"),
+    *on_both_sides("COUSUB", 141, 5, "county subdivision"),
+    *on_both_sides("SUBMCD", 151, 5, "subbarrio"),
+    *on_both_sides("PLACE", 161, 5, "place"),
+    *on_both_sides("TRACT", 171, 6, "census tract"),
+    *on_both_sides("BLOCK", 183, 4, "census block"),
+)
+OF_LANDMARK = (
+    Column("SOURCE", 21, 21, "where it comes from"),
+    Column("CFCC", 22, 24, "class of the feature"),
+    Column("LANAME", 25, 54, "name"),
+    Column("LALONG, LALAT", 55, 73, "where it lies, for a landmark that is a point"),
+)
+OF_LINK = (
+    Column("SOURCE", 71, 80, "where the link comes from"),
+    Column("FTSEG", 81, 97, "segment of the feature"),
+    *(Column(f"RS_I{number}", 88 + 10 * number, 97 + 10 * number, "reserved") for number in (1, 2, 3)),
 )
 
+CHAIN = Layout("1", OF_CHAIN)
 NAME = Layout("5", (FILE, *moved(FEATURE_NAME, 1)))
-
 RANGE = Layout("6", moved(ADDRESSES, -40))
-
-LANDMARK = Layout(
-    "7",
-    (
-        FILE,
-        Column("SOURCE", 21, 21, "where it comes from"),
-        Column("CFCC", 22, 24, "class of the feature"),
-        Column("LANAME", 25, 54, "name"),
-        Column("LALONG, LALAT", 55, 73, "where it lies, for a landmark that is a point"),
-    ),
-)
-
-LINK = Layout(
-    "I",
-    (
-        FILE,
-        Column("SOURCE", 71, 80, "where the link comes from"),
-        Column("FTSEG", 81, 97, "segment of the feature"),
-        Column("RS_I1", 98, 107, "reserved"),
-        Column("RS_I2", 108, 117, "reserved"),
-        Column("RS_I3", 118, 127, "reserved"),
-    ),
-)
-
+LANDMARK = Layout("7", (FILE, *OF_LANDMARK))
+LINK = Layout("I", (FILE, *OF_LINK))
 POLYGON = Layout("P", (FILE, Column("POLYLONG, POLYLAT", 26, 44, "a point inside it"), Column("WATER", 45, 45, "mark of water")))
 
 LENGTHS = {"1": 228, "2": 208, "4": 58, "5": 56, "6": 76, "7": 74, "8": 36, "I": 127, "P": 45}

@@ -1,14 +1,11 @@
 """The subcommand diff of tigercanon-tools: reports where two maps differ."""
 
-from __future__ import annotations
-
 import argparse
 import contextlib
 import gc
 import json
 import os
 import threading
-from typing import Any
 
 from ..errors import Failure
 from ..manifest import flags_of
@@ -16,8 +13,7 @@ from ..printing import print_lines
 from ..program import find_program
 from ..progress import report
 from .geojson import BothOwn, features, head, write_geojson
-from .matching import Comparison, compare
-from .numbers import own_numbers
+from .matching import Comparison, compare, own_numbers
 from .outputs import new_files
 from .page import find_leaflet, write_page
 from .reading import NotCanonical, read_county
@@ -60,7 +56,6 @@ class Progress:
 
 
 def add_arguments(parser: argparse.ArgumentParser) -> None:
-    """Declares the arguments of the subcommand."""
     parser.formatter_class = argparse.RawDescriptionHelpFormatter
     parser.description = ABOUT
     add = parser.add_argument
@@ -101,7 +96,6 @@ def check_options(options: argparse.Namespace) -> None:
 
 
 def compared(options: argparse.Namespace) -> int:
-    """Compares the sets and writes what was asked for."""
     leaflet = find_leaflet(options.leaflet) if options.page is not None else None
     program, masks = find_program(options.program), flags_of(options)
     with contextlib.ExitStack() as stack:
@@ -133,7 +127,6 @@ def compared(options: argparse.Namespace) -> int:
 
 def as_json(comparison: Comparison, sets: Sets, own: BothOwn) -> list[str]:
     """The counts and the differences, as one JSON object."""
-    answer: dict[str, Any] = head(comparison, sets)
-    answer["counts"] = {f"{subject.what}s": dict(zip(KINDS, part.counts)) for subject, part in zip(SUBJECTS, comparison.parts)}
-    answer["differences"] = [feature.properties for feature in features(comparison, own)]
-    return [json.dumps(answer, ensure_ascii=False, indent=1)]
+    counts = {f"{subject.what}s": dict(zip(KINDS, part.counts)) for subject, part in zip(SUBJECTS, comparison.parts)}
+    differences = [feature.properties for feature in features(comparison, own)]
+    return [json.dumps({**head(comparison, sets), "counts": counts, "differences": differences}, ensure_ascii=False, indent=1)]

@@ -5,7 +5,7 @@ from __future__ import annotations
 from collections import Counter
 from dataclasses import dataclass
 from functools import lru_cache
-from typing import Callable, Hashable, NamedTuple, Sequence, TypeVar
+from typing import Callable, Hashable, Iterable, NamedTuple, Sequence, TypeVar
 
 from .columns import CHAIN, LANDMARK, LINK, NAME, POLYGON, RANGE, Layout
 from .reading import NO_POINT, POINT_WIDTH, Chain, County, Landmark, Place, Polygon, PolygonKey
@@ -65,7 +65,6 @@ class Teller:
     marks: PolygonMarks
 
     def chain(self, chain: Chain) -> Fields:
-        """The fields of a chain without its points."""
         fields = text_fields(CHAIN, chain.body)
         for place, body in enumerate(self.county.name_bodies(chain), 1):
             name = FieldName(f"further name {place}", "a further name of the chain")
@@ -81,7 +80,6 @@ class Teller:
         return fields
 
     def side(self, hand: str, side: PolygonKey) -> Fields:
-        """The fields of a chain's side."""
         cenid = FieldName(f"CENID{hand[0].upper()}", f"office of the polygon on the {hand}")
         polygon = FieldName(f"{hand} polygon", f"the polygon on the {hand}, by what its record says")
         fields = {cenid: Text(side.cenid.strip(), side.cenid, side.cenid)}
@@ -94,14 +92,13 @@ class Teller:
         body = self.county.polygons[key].body
         return Text(polygon_words(body), key.cenid + body, self.marks[key])
 
-    def place_text(self, place: Place) -> Text:
-        """A polygon, as a landmark's record of type 8 names it."""
-        text = self.polygon_text(place.key)
-        return Text(f"{text.plain} ({place.key.cenid.strip()})", place.file + text.exact, (place.file, text.mark))
+    def place_texts(self, places: Iterable[Place]) -> list[Text]:
+        """Polygons, as a landmark's records of type 8 name them."""
+        named = [(place.file, place.key.cenid, self.polygon_text(place.key)) for place in places]
+        return [Text(f"{text.plain} ({cenid.strip()})", file + text.exact, (file, text.mark)) for file, cenid, text in named]
 
 
 def text_fields(layout: Layout, content: str, suffix: str = "") -> Fields:
-    """The fields of a record's content."""
     fields = {}
     for name, value in zip(field_names(layout, suffix), layout.values(content)):
         plain = "" if value.isspace() else degrees(value) if name.kind == "point" else value.strip()
@@ -111,12 +108,10 @@ def text_fields(layout: Layout, content: str, suffix: str = "") -> Fields:
 
 @lru_cache(maxsize=None)
 def field_names(layout: Layout, suffix: str) -> list[FieldName]:
-    """The names of a record's fields with this suffix."""
     return [FieldName(column.name + suffix, column.holds, "point" if column.is_point else "text") for column in layout.columns]
 
 
 def polygon_fields(polygon: Polygon) -> Fields:
-    """The fields of a polygon."""
     cenid = polygon.key.cenid
     fields = {
         FieldName("CENID", "the office that numbers polygons"): Text(cenid.strip(), cenid, cenid),
@@ -142,12 +137,9 @@ def landmark_fields(bodies: Sequence[str], places: Sequence[Text]) -> Fields:
 def landmark_rows(first: Teller, second: Teller, one: Landmark | None, other: Landmark | None) -> list[Row]:
     """The fields of a landmark of both maps, or of one of them. What both have stands first in its repeated
     fields."""
+    told, others = first.place_texts(one.places if one else []), second.place_texts(other.places if other else [])
     bodies = aligned(one.bodies if one else [], other.bodies if other else [], lambda body: body)
-    places = aligned(
-        [first.place_text(place) for place in one.places] if one else [],
-        [second.place_text(place) for place in other.places] if other else [],
-        lambda text: text.mark,
-    )
+    places = aligned(told, others, lambda text: text.mark)
     return rows(landmark_fields(bodies[0], places[0]) if one else None, landmark_fields(bodies[1], places[1]) if other else None)
 
 
@@ -157,13 +149,11 @@ def aligned(first: Sequence[T], second: Sequence[T], mark: Callable[[T], Hashabl
 
     def common_first(items: Sequence[T]) -> list[T]:
         left = Counter(common)
-        shared, others = [], []
+        shared: list[T] = []
+        others: list[T] = []
         for item in items:
-            if left[mark(item)]:
-                left[mark(item)] -= 1
-                shared.append(item)
-            else:
-                others.append(item)
+            (shared if left[mark(item)] > 0 else others).append(item)
+            left[mark(item)] -= 1
         return sorted(shared, key=lambda item: repr(mark(item))) + others
 
     return common_first(first), common_first(second)
@@ -174,12 +164,13 @@ def rows(first: Fields | None, second: Fields | None) -> list[Row]:
     table = []
     for name in {**(first or {}), **(second or {})}:
         one, other = (first or {}).get(name, NOTHING), (second or {}).get(name, NOTHING)
+        if not (one.plain or other.plain):
+            continue
         if first is None or second is None:
-            plain = (None, other.plain) if first is None else (one.plain, None)
-            row = Row(name, *plain, False, one.exact, other.exact)
+            told = (None if first is None else one.plain, None if second is None else other.plain, False)
         else:
-            row = Row(name, shown(name, one, other), shown(name, other, one), differ(one, other), one.exact, other.exact)
-        table += [row] if one.plain or other.plain else []
+            told = (shown(name, one, other), shown(name, other, one), differ(one, other))
+        table.append(Row(name, *told, one.exact, other.exact))
     return table
 
 
@@ -224,12 +215,10 @@ def name_text(layout: Layout, content: str) -> str:
 
 
 def chain_title(chain: Chain) -> str:
-    """A chain by its name and class."""
     return titled(name_text(CHAIN, chain.body) or "unnamed", CHAIN.value(chain.body, "CFCC"))
 
 
 def landmark_title(landmark: Landmark) -> str:
-    """A landmark by its name and class."""
     body = landmark.bodies[0]
     return titled(LANDMARK.value(body, "LANAME").strip() or "unnamed landmark", LANDMARK.value(body, "CFCC"))
 
@@ -247,17 +236,11 @@ def landmark_points(landmark: Landmark, county: County) -> list[str]:
 
 def degrees(point: str) -> str:
     """A point as maps print it."""
-    longitude, latitude = point[:10], point[10:POINT_WIDTH]
-    north = "S" if latitude[0] == "-" else "N"
-    east = "W" if longitude[0] == "-" else "E"
-    return f"{in_degrees(latitude[1:])}° {north}, {in_degrees(longitude[1:])}° {east}"
-
-
-def in_degrees(digits: str) -> str:
-    """Millionths of a degree as degrees, with six places."""
-    return f"{int(digits[:-6])}.{digits[-6:]}"
+    longitude, latitude = decimal(point[:10]), decimal(point[10:POINT_WIDTH])
+    north, east = "S" if latitude[0] == "-" else "N", "W" if longitude[0] == "-" else "E"
+    return f"{latitude.lstrip('-')}° {north}, {longitude.lstrip('-')}° {east}"
 
 
 def decimal(coordinate: str) -> str:
-    """A coordinate as a number of degrees with its sign, as GeoJSON has it."""
-    return ("-" if coordinate[0] == "-" else "") + in_degrees(coordinate[1:])
+    """A coordinate in millionths of a degree as a number of degrees with six places, as GeoJSON has it."""
+    return f"{'-' if coordinate[0] == '-' else ''}{int(coordinate[1:-6])}.{coordinate[-6:]}"

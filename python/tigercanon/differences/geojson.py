@@ -9,8 +9,7 @@ from functools import lru_cache
 from typing import Any, Iterator, Sequence
 
 from .fields import BLANK, NONE, YES, FieldName, decimal
-from .matching import Comparison, Tie
-from .numbers import OwnNumbers
+from .matching import Comparison, OwnNumbers, Tie
 from .outputs import NewFile
 from .reading import NO_POINT, POINT_WIDTH
 from .sets import Sets
@@ -63,19 +62,22 @@ def head(comparison: Comparison, sets: Sets) -> Properties:
 def features(comparison: Comparison, own: BothOwn, with_alike: bool = False) -> Iterator[Feature]:
     """A feature for each thing that isn't alike, or for each one, and for each tie."""
     for thing in things(comparison, with_alike):
-        geometry = line_geometry(thing.either.points) if thing.what == "chain" else points_geometry(thing.points)
-        yield Feature(geometry, properties(thing, own))
+        points = thing.either.points if thing.what == "chain" else ""
+        line = [points[at : at + POINT_WIDTH] for at in range(0, len(points), POINT_WIDTH)]
+        yield Feature(geometry("LineString", line) if line else points_geometry(thing.points), properties(thing, own))
     for tie in comparison.ties:
         yield tie_feature(tie, own[0])
 
 
 def properties(thing: Thing, own: BothOwn) -> Properties:
-    """The properties of a thing: its numbers, and its fields in both maps."""
-    table = thing.rows
+    """The properties of a thing: its numbers in the user's files and in the canonical texts, and its fields in both maps."""
+    table, number = thing.rows, thing.number_field
     told: Properties = {"what": thing.what, "kind": thing.kind, "title": thing.name}
     told["differs"] = "; ".join(row.name.label for row in table if row.differs) or None
-    if thing.number_field:
-        told.update(numbers_of(thing, own))
+    found = [(side, one, numbers) for side, one, numbers in zip(SIDES, (thing.one, thing.other), own) if one is not None]
+    if number:
+        told.update({f"{side}_{number}": numbers.get(one.key) for side, one, numbers in found})
+        told.update({f"canonical_{side}_{number}": one.number for side, one, _ in found})
     else:
         told["uses"] = thing.about
     for row in table:
@@ -83,13 +85,6 @@ def properties(thing: Thing, own: BothOwn) -> Properties:
     for row in table:
         told.update(values(SIDES[1], row.name, row.second, row.second_exact))
     return told
-
-
-def numbers_of(thing: Thing, own: BothOwn) -> Properties:
-    """The numbers of a thing in the user's files, and those in the canonical texts."""
-    found = [(side, one, numbers) for side, one, numbers in zip(SIDES, (thing.one, thing.other), own) if one is not None]
-    told: Properties = {f"{side}_{thing.number_field}": numbers.get(one.key) for side, one, numbers in found}
-    return {**told, **{f"canonical_{side}_{thing.number_field}": one.number for side, one, _ in found}}
 
 
 def tie_feature(tie: Tie, own: OwnNumbers) -> Feature:
@@ -130,23 +125,14 @@ def property_name(side: str, label: str) -> str:
     return f"{side}_" + re.sub(r"\W+", "_", label)
 
 
-def line_geometry(points: str) -> str:
-    positions = [position(points[at : at + POINT_WIDTH]) for at in range(0, len(points), POINT_WIDTH)]
-    return f'{{"type":"LineString","coordinates":[{",".join(positions)}]}}'
-
-
 def points_geometry(points: list[str]) -> str:
     """One point, several, or none."""
-    if not points:
-        return "null"
-    if len(points) == 1:
-        return f'{{"type":"Point","coordinates":{position(points[0])}}}'
-    return f'{{"type":"MultiPoint","coordinates":[{",".join(map(position, points))}]}}'
+    return geometry("MultiPoint" if len(points) > 1 else "Point", points) if points else "null"
 
 
-def position(point: str) -> str:
-    """Longitude and latitude in degrees."""
-    return f"[{decimal(point[:10])},{decimal(point[10:])}]"
+def geometry(kind: str, points: list[str]) -> str:
+    positions = ",".join(f"[{decimal(point[:10])},{decimal(point[10:])}]" for point in points)
+    return f'{{"type":"{kind}","coordinates":{positions if kind == "Point" else f"[{positions}]"}}}'
 
 
 as_json = json.JSONEncoder(ensure_ascii=False, separators=(",", ":")).encode

@@ -5,19 +5,24 @@ Polygons are matched by the content of their records; the others by their point,
 Landmarks are matched in the same way; the others by their records, points, names and polygons. Feature names are
 compared as a multiset.
 
-Each map has numbers of its own, so numbers are never compared. The things that they tie together come last.
+Each map has numbers of its own, so numbers are never compared. The things that they tie together come after the rest.
+
+A canonical text has numbers of its own. The same set, respelled by the program, keeps its own numbers. Both describe
+one map, so they are matched as two maps are: chains by their points, landmarks and polygons by their content. Things
+that nothing tells apart may have their numbers exchanged.
 """
 
 from __future__ import annotations
 
 from collections import defaultdict, deque
 from dataclasses import dataclass, field, replace
-from functools import cached_property
+from functools import cached_property, partial
 from typing import Any, Callable, Generic, Hashable, Iterable, Iterator, NamedTuple, Sequence, TypeVar
 
 from .columns import CHAIN, LANDMARK, RANGE
 from .fields import PolygonMarks, Teller, count_of_differing
-from .reading import NO_POINT, POINT_WIDTH, Chain, County, Landmark, Name, Polygon, PolygonKey, reversed_points
+from .reading import NO_POINT, POINT_WIDTH, Chain, County, Landmark, Name, Polygon, PolygonKey
+from .reading import comes_after_its_reverse, reversed_points
 
 T = TypeVar("T")
 Pair = tuple[T, T]
@@ -87,7 +92,6 @@ class Comparison:
 
 
 def compare(first: County, second: County) -> Comparison:
-    """Where the maps differ."""
     groups = chains_by_points(first, second)
     certain = [(ones[0], others[0]) for ones, others in groups if len(ones) == len(others) == 1 and not is_own_reverse(ones[0])]
     polygons = match_polygons(first, second, certain)
@@ -117,33 +121,25 @@ def pair_by(first: Iterable[T], second: Iterable[T], key: Callable[[T], Hashable
     return pairs, left, [item for item in second if id(item) not in taken]
 
 
-# Chains
-
-
-def chains_by_points(first: County, second: County) -> list[tuple[list[Chain], list[Chain]]]:
+def chains_by_points(first: County, second: County) -> list[Pair[list[Chain]]]:
     """The chains of both maps that run through the same points, in the order of the points."""
-    groups: dict[str, tuple[list[Chain], list[Chain]]] = {}
+    groups: dict[str, Pair[list[Chain]]] = defaultdict(lambda: ([], []))
     for place, county in enumerate((first, second)):
         for chain in county.chains:
-            group = groups.get(chain.points)
-            if group is None:
-                group = groups[chain.points] = ([], [])
-            group[place].append(chain)
+            groups[chain.points][place].append(chain)
     return list(groups.values())
 
 
-def match_chains(groups: list[tuple[list[Chain], list[Chain]]], first: Teller, second: Teller) -> Matched[Chain]:
-    """Matches the chains of each group."""
+def match_chains(groups: list[Pair[list[Chain]]], first: Teller, second: Teller) -> Matched[Chain]:
     matched: Matched[Chain] = Matched()
     for ones, others in groups:
-        if not others:
-            matched.first += ones
-        elif not ones:
-            matched.second += others
-        elif len(ones) == len(others) == 1 and says(ones[0], first) == says(others[0], second):
+        if len(ones) == len(others) == 1 and says(ones[0], first) == says(others[0], second):
             matched.alike.append((ones[0], others[0]))
-        else:
+        elif ones and others:
             match_group(ones, others, first, second, matched)
+        else:
+            matched.first += ones
+            matched.second += others
     return matched
 
 
@@ -163,25 +159,17 @@ def match_group(ones: list[Chain], others: list[Chain], first: Teller, second: T
         )
         matched.changed.append((one, other))
         ones = [chain for chain in ones if chain is not one]
-        others = [chain for chain in others if chain.tlid != other.tlid]
+        others = [chain for chain in others if chain.key != other.key]
     matched.first += ones
     matched.second += others
 
 
 def says(chain: Chain, teller: Teller) -> tuple[Hashable, ...]:
     """The content of a chain without its points and numbers."""
-    return (
-        chain.body,
-        chain.link_body,
-        chain.left.cenid,
-        chain.right.cenid,
-        teller.marks.get(chain.left),
-        teller.marks.get(chain.right),
-        chain.start_node.isspace(),
-        chain.end_node.isspace(),
-        teller.county.name_bodies(chain) if chain.feats else (),
-        chain.ranges,
-    )
+    sides = chain.left.cenid, chain.right.cenid, teller.marks.get(chain.left), teller.marks.get(chain.right)
+    nodes = chain.start_node.isspace(), chain.end_node.isspace()
+    names = teller.county.name_bodies(chain) if chain.feats else ()
+    return chain.body, chain.link_body, *sides, *nodes, names, chain.ranges
 
 
 def is_own_reverse(chain: Chain) -> bool:
@@ -190,17 +178,9 @@ def is_own_reverse(chain: Chain) -> bool:
 
 
 def turned(chain: Chain) -> Chain:
-    """The chain as seen from its other end."""
-    return replace(
-        chain,
-        body=CHAIN.turned(chain.body),
-        points=reversed_points(chain.points),
-        ranges=tuple(RANGE.turned(content) for content in chain.ranges),
-        start_node=chain.end_node,
-        end_node=chain.start_node,
-        left=chain.right,
-        right=chain.left,
-    )
+    ends: Any = {"start_node": chain.end_node, "end_node": chain.start_node, "left": chain.right, "right": chain.left}
+    ranges = tuple(RANGE.turned(content) for content in chain.ranges)
+    return replace(chain, body=CHAIN.turned(chain.body), points=reversed_points(chain.points), ranges=ranges, **ends)
 
 
 def ways_to_see(chain: Chain) -> list[Chain]:
@@ -213,29 +193,16 @@ def lesser_turn(chain: Chain, teller: Teller) -> Chain:
     return min(ways_to_see(chain), key=lambda seen: repr(says(seen, teller)))
 
 
-# Polygons and landmarks
-
-
 def match_polygons(first: County, second: County, certain: list[Pair[Chain]]) -> Matched[Polygon]:
     """Matches polygons by their content, the others by their point, and then by the sides of chains."""
     sides: dict[int, Hashable] = {}
     for county, found in zip((first, second), first_sides(certain)):
         sides.update((id(polygon), found[key]) for key, polygon in county.polygons.items() if key in found)
-
-    def side(polygon: Polygon) -> Hashable | None:
-        return sides.get(id(polygon))
-
-    def content(polygon: Polygon) -> Hashable:
-        return polygon.key.cenid, polygon.body
-
-    def point(polygon: Polygon) -> Hashable | None:
-        return polygon.point if polygon.point != NO_POINT else None
-
     ones, others = list(first.polygons.values()), list(second.polygons.values())
-    alike, ones, others = pair_by(ones, others, lambda polygon: (content(polygon), side(polygon)))
-    more, ones, others = pair_by(ones, others, content)
-    at_one_point, ones, others = pair_by(ones, others, point)
-    on_one_side, ones, others = pair_by(ones, others, side)
+    alike, ones, others = pair_by(ones, others, lambda polygon: (polygon.content, sides.get(id(polygon))))
+    more, ones, others = pair_by(ones, others, lambda polygon: polygon.content)
+    at_one_point, ones, others = pair_by(ones, others, lambda polygon: polygon.point if polygon.point != NO_POINT else None)
+    on_one_side, ones, others = pair_by(ones, others, lambda polygon: sides.get(id(polygon)))
     return Matched(ones, others, at_one_point + on_one_side, alike + more)
 
 
@@ -251,14 +218,9 @@ def first_sides(certain: list[Pair[Chain]]) -> Pair[dict[PolygonKey, tuple[int, 
 
 def marks_of(polygons: Matched[Polygon]) -> Pair[PolygonMarks]:
     """A mark of each map's polygons: their content, or, if they changed, one mark for both maps."""
-
-    def content(polygon: Polygon) -> str:
-        return polygon.key.cenid + polygon.body
-
-    first = {polygon.key: content(polygon) for polygon in polygons.first}
-    second = {polygon.key: content(polygon) for polygon in polygons.second}
+    first, second = ({polygon.key: polygon.content for polygon in alone} for alone in (polygons.first, polygons.second))
     for one, other in polygons.alike:
-        first[one.key] = second[other.key] = content(one)
+        first[one.key] = second[other.key] = one.content
     for number, (one, other) in enumerate(polygons.changed):
         first[one.key] = second[other.key] = f"changed {number}"
     return first, second
@@ -271,28 +233,22 @@ def match_landmarks(first: Teller, second: Teller) -> Matched[Landmark]:
         for landmark in teller.county.landmarks:
             places[id(landmark)] = tuple(sorted((place.file, teller.marks[place.key]) for place in landmark.places))
 
-    def bodies(landmark: Landmark) -> tuple[str, ...]:
+    def bodies(landmark: Landmark) -> Hashable:
         return tuple(sorted(landmark.bodies))
 
-    def column(name: str) -> Callable[[Landmark], tuple[str, ...] | None]:
+    def column(name: str, landmark: Landmark) -> Hashable | None:
         """A column of the landmark's records, or nothing if it is blank in all."""
-
-        def told(landmark: Landmark) -> tuple[str, ...] | None:
-            values = tuple(sorted(LANDMARK.value(body, name) for body in landmark.bodies))
-            return values if any(not value.isspace() for value in values) else None
-
-        return told
+        values = tuple(sorted(LANDMARK.value(body, name) for body in landmark.bodies))
+        return values if any(not value.isspace() for value in values) else None
 
     ones, others = first.county.landmarks, second.county.landmarks
     alike, ones, others = pair_by(ones, others, lambda landmark: (bodies(landmark), places[id(landmark)]))
     changed = []
-    for key in (bodies, column("LALONG, LALAT"), column("LANAME"), lambda landmark: places[id(landmark)] or None):
+    keys: list[Callable[[Landmark], Hashable | None]] = [bodies, partial(column, "LALONG, LALAT"), partial(column, "LANAME")]
+    for key in (*keys, lambda landmark: places[id(landmark)] or None):
         pairs, ones, others = pair_by(ones, others, key)
         changed += pairs
     return Matched(ones, others, changed, alike)
-
-
-# Ties
 
 
 class Tied(NamedTuple):
@@ -315,13 +271,9 @@ class Tied(NamedTuple):
 
 def find_ties(certain: list[Pair[Chain]], first: Teller, second: Teller) -> list[Tie]:
     """The nodes, polygons and names that are one in one map and several in the other."""
-    subjects: list[tuple[str, Callable[[], Iterator[Tied]]]] = [
-        ("node", lambda: tied_nodes(certain)),
-        ("polygon", lambda: tied_polygons(certain, first, second)),
-        ("feature name", lambda: tied_names(certain, first, second)),
-    ]
     ties: list[Tie] = []
-    for subject, tied in subjects:
+    for subject, find in (("node", tied_nodes), ("polygon", tied_polygons), ("feature name", tied_names)):
+        tied = partial(find, certain, first, second)
         ones, others = split_numbers(tied())
         forth = ((at.first, at.second, at) for at in tied() if at.first in ones)
         back = ((at.second, at.first, at) for at in tied() if at.second in others)
@@ -330,7 +282,7 @@ def find_ties(certain: list[Pair[Chain]], first: Teller, second: Teller) -> list
     return ties
 
 
-def tied_nodes(certain: list[Pair[Chain]]) -> Iterator[Tied]:
+def tied_nodes(certain: list[Pair[Chain]], _first: Teller, _second: Teller) -> Iterator[Tied]:
     """The nodes at both ends of chains."""
     for chain, twin in certain:
         for place, one, other in (("start", chain.start_node, twin.start_node), ("end", chain.end_node, twin.end_node)):
@@ -374,3 +326,24 @@ def told_ties(subject: str, is_one_in_first: bool, tied: Iterable[tuple[Hashable
     for one, several, at in tied:
         groups[one][several].append(at)
     return [Tie(subject, is_one_in_first, list(several.values())) for several in groups.values()]
+
+
+OwnNumbers = dict[Hashable, int]
+"""The number in the user's files of each chain, landmark and polygon, by its key in the canonical text."""
+
+
+def own_numbers(records: County, canonical: County, masks: Sequence[str] = ()) -> OwnNumbers:
+    """The numbers in these records of the things in their canonical text, which was printed with these masks."""
+    found = compare(as_in_a_canonical_text(records, masks), canonical)
+    return {other.key: one.number for part in found.parts[:3] for one, other in part.pairs}
+
+
+def as_in_a_canonical_text(county: County, masks: Sequence[str]) -> County:
+    """The county with its chains turned and its landmarks masked as in its canonical text. Chains are matched by their
+    points, so that they need no mask."""
+    hidden = ["SOURCE"] if "--no-sources" in masks else []
+    landmarks = [
+        replace(landmark, bodies=[LANDMARK.blanked(body, hidden) for body in landmark.bodies]) for landmark in county.landmarks
+    ]
+    chains = [turned(chain) if comes_after_its_reverse(chain.points) else chain for chain in county.chains]
+    return replace(county, chains=chains, landmarks=landmarks)

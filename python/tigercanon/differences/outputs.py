@@ -7,7 +7,7 @@ import stat
 from contextlib import ExitStack, contextmanager, suppress
 from typing import Iterator, Sequence
 
-from ..errors import Failure
+from ..errors import Failure, told
 from ..own import PROCESS
 
 
@@ -20,25 +20,17 @@ class NewFile:
         self.mode = mode_of(name, self.place)
         folder, base = os.path.split(self.place)
         self.path = os.path.join(folder, f".{base[:200]}.{os.getpid()}.part")
-        with self.told():
+        with told(name):
             handle = os.open(self.path, os.O_WRONLY | os.O_CREAT | os.O_EXCL, 0o666)
         self.file = open(handle, "w", encoding="utf-8", newline="\n")
 
-    @contextmanager
-    def told(self) -> Iterator[None]:
-        """Reports errors with this file's name."""
-        try:
-            yield
-        except OSError as error:
-            raise Failure(f"{self.name}: can't be written: {error.strerror}") from None
-
     def write(self, text: str) -> None:
-        with self.told():
+        with told(self.name):
             self.file.write(text)
 
     def finish(self) -> None:
         """Brings all of it to the disk."""
-        with self.told():
+        with told(self.name):
             self.file.flush()
             if self.mode is not None:
                 os.fchmod(self.file.fileno(), self.mode)
@@ -55,18 +47,14 @@ class NewFile:
 
 def mode_of(name: str, place: str) -> int | None:
     """The mode of the file that is there already, if there is one. Only a file may be written over."""
-    try:
-        found = os.stat(place)
-    except FileNotFoundError:
-        return None
-    except OSError as error:
-        raise Failure(f"{name}: can't be written: {error.strerror}") from None
-    if stat.S_ISDIR(found.st_mode):
-        raise Failure(f"{name}: can't be written: it is a folder")
-    if not stat.S_ISREG(found.st_mode):
-        raise Failure(f"{name}: can't be written: it isn't a regular file")
-    if not os.access(place, os.W_OK):
-        raise Failure(f"{name}: can't be written: Permission denied")
+    with told(name):
+        try:
+            found = os.stat(place)
+        except FileNotFoundError:
+            return None
+    why = "it is a folder" if stat.S_ISDIR(found.st_mode) else "it isn't a regular file"
+    if not stat.S_ISREG(found.st_mode) or not os.access(place, os.W_OK):
+        raise Failure(f"{name}: can't be written: {'Permission denied' if stat.S_ISREG(found.st_mode) else why}")
     return stat.S_IMODE(found.st_mode)
 
 
@@ -76,15 +64,13 @@ def new_files(names: Sequence[str | None]) -> Iterator[list[NewFile | None]]:
     for example, there are none of them, and what had these names is as it was. Without a name there is no file.
     """
     with ExitStack() as stack:
-        files: list[NewFile | None] = []
-        for name in names:
-            file = NewFile(name) if name is not None else None
-            files.append(file)
-            if file:
-                stack.enter_context(PROCESS.at_end(file.discard))
-        yield files
-        for file in filter(None, files):
+        files: dict[str | None, NewFile] = {}
+        for name in filter(None, names):
+            files[name] = NewFile(name)
+            stack.enter_context(PROCESS.at_end(files[name].discard))
+        yield [files.get(name) for name in names]
+        for file in files.values():
             file.finish()
-        for file in filter(None, files):
-            with file.told():
+        for file in files.values():
+            with told(file.name):
                 os.replace(file.path, file.place)

@@ -7,7 +7,7 @@ import json
 import re
 from dataclasses import dataclass, field
 from pathlib import Path
-from typing import Any, Iterator, Sequence
+from typing import Any, Sequence
 
 from ..errors import Failure
 from .fields import FieldName, Row, chain_title, landmark_points, landmark_title
@@ -70,10 +70,10 @@ class PageData:
     def thing(self, thing: Thing) -> dict[str, Any] | None:
         """The entry of a thing. After the space for fields is used up, chains and polygons are bare, and have none."""
         kind = KINDS.index(thing.kind)
+        if thing.what == "chain" and self.room <= 0:
+            self.bare_chains.append([kind, self.title(thing.title), *self.line(thing.either.points)])
+            return None
         if thing.what == "chain":
-            if self.room <= 0:
-                self.bare_chains.append([kind, self.title(thing.title), *self.line(thing.either.points)])
-                return None
             return {**self.entry(thing.what, kind, thing.title, "", thing.rows), "line": self.line(thing.either.points)}
         points = self.points(thing.points)
         if thing.what == "polygon" and self.room <= 0 and points:
@@ -143,29 +143,25 @@ class PageData:
 
 
 def write_page(file: NewFile, comparison: Comparison, sets: Sets, leaflet: Leaflet) -> None:
-    """Writes the page."""
     parts = {
-        "leaflet_style": without_pictures(leaflet.style),
+        # The style without the files that it names, and the script as an element can hold it, without the file that its end names.
+        "leaflet_style": re.sub(r"[^;{}]*url\([^)]*\)[^;}]*;?", "", re.sub(r"/\*#.*?\*/", "", leaflet.style)),
         "style": asset("page.css"),
-        "leaflet_script": in_script(leaflet.script),
+        "leaflet_script": re.sub(r"(?m)^//# sourceMappingURL=.*$", "", leaflet.script).replace("</", "<\\/"),
         "script": asset("page.js"),
-        "data": as_data(page_data(comparison, sets)),
+        # JSON in which no letter begins a tag, whatever the input says.
+        "data": json.dumps(page_data(comparison, sets), ensure_ascii=False, separators=(",", ":")).replace("<", "\\u003c"),
         "compared": html.escape(f"left out: {' '.join(sets.masks)}" if sets.masks else "all fields"),
     }
     for side, one in (("first", sets.first), ("second", sets.second)):
         parts[f"{side}_name"] = html.escape(one.shown_name)
-        parts[f"{side}_path"] = in_pieces(one.shown_name)
+        # A line is broken between the pieces of a path.
+        parts[f"{side}_path"] = "".join(f"<span>{html.escape(piece)}</span>" for piece in re.split("(?<=/)", one.shown_name))
         parts[f"{side}_fingerprint"] = one.fingerprint
     file.write(re.sub(r"@@(\w+)@@", lambda marker: parts[marker[1]], asset("page.html")))
 
 
-def in_pieces(path: str) -> str:
-    """A path as HTML, in pieces that a line is broken between."""
-    return "".join(f"<span>{html.escape(piece)}</span>" for piece in re.split("(?<=/)", path))
-
-
 def page_data(comparison: Comparison, sets: Sets) -> dict[str, Any]:
-    """All that the page's script reads."""
     data = PageData(comparison, shift_of(comparison))
     is_too_large = sum(comparison.chains.counts) > MOST_CHAINS
     page = {
@@ -178,15 +174,9 @@ def page_data(comparison: Comparison, sets: Sets) -> dict[str, Any]:
         "titles": list(data.titles),
         "labels": [[name.label, name.holds] for name in data.labels],
     }
-    return {**page, "verdict": verdict(comparison, sets), "notes": list(notes(is_too_large, data.room <= 0))}
-
-
-def notes(is_too_large: bool, is_out_of_room: bool) -> Iterator[str]:
-    """What the page leaves out."""
-    if is_too_large:
-        yield f"The maps have more than {MOST_CHAINS:,} chains: chains and polygons that are alike are left out."
-    if is_out_of_room:
-        yield "There are so many differences that only the first ones have their fields here. --geojson writes all fields."
+    left_out = f"The maps have more than {MOST_CHAINS:,} chains: chains and polygons that are alike are left out."
+    bare = "There are so many differences that only the first ones have their fields here. --geojson writes all fields."
+    return {**page, "verdict": verdict(comparison, sets), "notes": [left_out] * is_too_large + [bare] * (data.room <= 0)}
 
 
 def shift_of(comparison: Comparison) -> int:
@@ -199,18 +189,3 @@ def shift_of(comparison: Comparison) -> int:
 
 def asset(name: str) -> str:
     return Path(__file__).with_name(name).read_text("utf-8")
-
-
-def as_data(value: Any) -> str:
-    """The value as JSON in which no letter begins a tag, whatever the input says."""
-    return json.dumps(value, ensure_ascii=False, separators=(",", ":")).replace("<", "\\u003c")
-
-
-def in_script(text: str) -> str:
-    """A script as an element `script` can hold it, without the file that its last line may name."""
-    return re.sub(r"^//# sourceMappingURL=.*$", "", text, flags=re.MULTILINE).replace("</", "<\\/")
-
-
-def without_pictures(style: str) -> str:
-    """The style without the files that it names."""
-    return re.sub(r"[^;{}]*url\([^)]*\)[^;}]*;?", "", re.sub(r"/\*#.*?\*/", "", style))

@@ -5,8 +5,7 @@ and latitude in millionths of a degree. A chain's points are one string of these
 each point in one way, in a canonical text and when it respells records.
 """
 
-from __future__ import annotations
-
+import re
 from collections import defaultdict
 from dataclasses import dataclass, field
 from functools import lru_cache
@@ -16,7 +15,8 @@ from .columns import CHAIN, LANDMARK, LENGTHS, LINK, NAME, POLYGON, RANGE
 
 POINT_WIDTH = 19
 NO_POINT = " " * POINT_WIDTH
-UNUSED_PLACE = "+000000000+00000000"
+UNUSED_PLACES = re.compile(r"(\+000000000\+00000000)+$")
+"""The unused places at the end of a record of type 2."""
 
 Records = dict[str, list[str]]
 """The lines of each record type."""
@@ -47,7 +47,7 @@ class PolygonKey(NamedTuple):
 class Chain:
     """The content of the records of one TLID."""
 
-    tlid: int
+    key: int
     body: str
     points: str
     feats: tuple[str, ...]
@@ -59,12 +59,8 @@ class Chain:
     right: PolygonKey
 
     @property
-    def key(self) -> int:
-        return self.tlid
-
-    @property
     def number(self) -> int:
-        return self.tlid
+        return self.key
 
 
 @dataclass(eq=False)
@@ -91,6 +87,10 @@ class Polygon:
     def point(self) -> str:
         return POLYGON.value(self.body, "POLYLONG, POLYLAT") if self.body else NO_POINT
 
+    @property
+    def content(self) -> str:
+        return self.key.cenid + self.body
+
 
 class Place(NamedTuple):
     """A polygon that contains a landmark, as a record of type 8 has it."""
@@ -103,17 +103,13 @@ class Place(NamedTuple):
 class Landmark:
     """The records of type 7 of one LAND, and those of type 8."""
 
-    land: str
+    key: str
     bodies: list[str] = field(default_factory=list)
     places: list[Place] = field(default_factory=list)
 
     @property
-    def key(self) -> str:
-        return self.land
-
-    @property
     def number(self) -> int:
-        return int(self.land)
+        return int(self.key)
 
 
 @dataclass(eq=False)
@@ -152,7 +148,6 @@ def read_county(text: bytes) -> County:
 
 
 def records_of(text: bytes) -> Records:
-    """The lines of each type, in their order."""
     lines = text.decode("latin-1").split("\n")
     if lines.pop():
         raise NotCanonical("the last line has no line ending")
@@ -176,9 +171,9 @@ def read_chains(records: Records) -> list[Chain]:
         link = links[tlid]
         feats = [each[at : at + 8] for each in names.get(tlid, ()) for at in range(18, 58, 8)]
         return Chain(
-            tlid=int(tlid),
+            key=int(tlid),
             body=CHAIN.content(line),
-            points=line[190:209] + "".join([without_unused(each[18:]) for each in inner.get(tlid, ())]) + line[209:],
+            points=line[190:209] + "".join([UNUSED_PLACES.sub("", each[18:]) for each in inner.get(tlid, ())]) + line[209:],
             feats=tuple([feat for feat in feats if not feat.isspace()]),
             ranges=tuple([RANGE.content(each) for each in ranges.get(tlid, ())]),
             link_body=LINK.content(link),
@@ -199,13 +194,6 @@ def by_chain(lines: list[str]) -> dict[str, list[str]]:
     return found
 
 
-def without_unused(places: str) -> str:
-    """The places of a record of type 2, without the unused ones at its end."""
-    while places.endswith(UNUSED_PLACE):
-        places = places[:-POINT_WIDTH]
-    return places
-
-
 def read_landmarks(records: Records) -> list[Landmark]:
     """The landmarks, in the order of their first records."""
     landmarks: dict[str, Landmark] = {}
@@ -221,7 +209,6 @@ def read_landmarks(records: Records) -> list[Landmark]:
 
 
 def points_of(points: str) -> list[tuple[int, int]]:
-    """The points in a string of them."""
     return [point(points[at : at + POINT_WIDTH]) for at in range(0, len(points), POINT_WIDTH)]
 
 

@@ -1,7 +1,5 @@
 """The two sets that are compared: their files, and what the program prints for them."""
 
-from __future__ import annotations
-
 import contextlib
 import hashlib
 import os
@@ -14,9 +12,9 @@ from functools import cached_property
 from typing import Iterator, Sequence
 
 from ..counties import as_stem
-from ..errors import Failure, printable, reason
+from ..errors import Failure, printable, reason, told
 from ..hints import hint
-from ..judge import Files, complaint, environment, files_of
+from ..judge import Files, complaint, files_of
 from ..layout import TYPES, file_name
 from ..own import PROCESS
 
@@ -31,7 +29,6 @@ class Source:
 
     @property
     def words(self) -> list[str]:
-        """The program's arguments for the set."""
         return [*(["--stem"] if len(self.files) > 1 else []), "--", self.place]
 
 
@@ -74,30 +71,20 @@ def opened(name: str, is_stem: bool) -> Iterator[Source]:
     elif stat.S_ISREG(os.stat(name).st_mode):
         yield Source(name, name, [name])
     else:
-        with PROCESS.folder(0) as folder:
-            place = copied(name, os.path.join(folder, "set"))
+        with PROCESS.folder(0) as folder:  # a copy of what can be read only once, such as a pipe
+            place = os.path.join(folder, "set")
+            with told(printable(name), "can't be read"), open(name, "rb") as source, open(place, "wb") as copy:
+                shutil.copyfileobj(source, copy)
             yield Source(name, place, [place])
 
 
 def is_zip(name: str) -> bool:
     """Whether this is the file of a zip. Raises Failure for a folder and for what can't be read."""
-    try:
+    with told(printable(name), "can't be read"):
         mode = os.stat(name).st_mode
         if stat.S_ISDIR(mode):
             raise Failure(f"{printable(name)}: it is a folder: name a file, a zip or the stem of a county's files")
         return stat.S_ISREG(mode) and zipfile.is_zipfile(name)
-    except OSError as error:
-        raise Failure(f"{printable(name)}: can't be read: {reason(error)}") from None
-
-
-def copied(name: str, target: str) -> str:
-    """A copy of what can be read only once, such as a pipe."""
-    try:
-        with open(name, "rb") as source, open(target, "wb") as copy:
-            shutil.copyfileobj(source, copy)
-    except OSError as error:
-        raise Failure(f"{printable(name)}: can't be read: {reason(error)}") from None
-    return target
 
 
 def printed(program: str, command: Sequence[str], sources: Sequence[Source]) -> list[bytes]:
@@ -105,13 +92,12 @@ def printed(program: str, command: Sequence[str], sources: Sequence[Source]) -> 
 
     def printed_for(source: Source) -> bytes:
         try:
-            ended = PROCESS.run([program, *command, *source.words], environment(), None)
+            ended = PROCESS.run([program, *command, *source.words])
         except OSError as error:
             raise Failure(f"the program {program} can't be run: {reason(error)}") from None
         if ended.status != 0:
             line = complaint(ended)
-            more = hint(line, source.files)
-            raise Failure(f"{printable(source.name)}: {line}{f'; {more}' if more else ''}")
+            raise Failure(f"{printable(source.name)}: {'; '.join(filter(None, [line, hint(line, source.files)]))}")
         return ended.out
 
     with ThreadPoolExecutor() as threads:

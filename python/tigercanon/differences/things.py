@@ -1,7 +1,5 @@
 """What differs, thing by thing, as each report shows it: a chain, landmark, polygon or feature name of one map or of both."""
 
-from __future__ import annotations
-
 from dataclasses import dataclass
 from typing import Any, Iterator
 
@@ -19,7 +17,7 @@ from .fields import (
     polygon_words,
     rows,
 )
-from .matching import Comparison, Matched
+from .matching import Comparison
 from .reading import NO_POINT, POINT_WIDTH
 
 KINDS = ("in the first alone", "in the second alone", "changed", "alike")
@@ -153,13 +151,7 @@ SUBJECTS = (ChainThing, LandmarkThing, PolygonThing, NameThing)
 def things(comparison: Comparison, with_alike: bool = False) -> Iterator[Thing]:
     """Everything that isn't alike, or everything: the things of each subject, in the order of their kinds."""
     for subject, matched in zip(SUBJECTS, comparison.parts):
-        for kind, one, other in pairs_of(matched, with_alike):
-            yield subject(comparison, kind, one, other)
-
-
-def pairs_of(matched: Matched[Any], with_alike: bool) -> Iterator[tuple[str, Any, Any]]:
-    """What is matched, by its kind. What is in one of the maps alone is paired with None."""
-    yield from ((KINDS[0], one, None) for one in matched.first)
-    yield from ((KINDS[1], None, other) for other in matched.second)
-    yield from ((KINDS[2], *pair) for pair in matched.changed)
-    yield from ((KINDS[3], *pair) for pair in (matched.alike if with_alike else []))
+        yield from (subject(comparison, KINDS[0], one, None) for one in matched.first)
+        yield from (subject(comparison, KINDS[1], None, other) for other in matched.second)
+        yield from (subject(comparison, KINDS[2], *pair) for pair in matched.changed)
+        yield from (subject(comparison, KINDS[3], *pair) for pair in (matched.alike if with_alike else []))

@@ -1,7 +1,5 @@
 """Writes the report of where two maps differ as text."""
 
-from __future__ import annotations
-
 from itertools import groupby
 from typing import Iterator
 
@@ -48,7 +46,6 @@ def told(comparison: Comparison, sets: Sets, is_summary: bool = False) -> Iterat
 
 
 def told_counts(comparison: Comparison) -> Iterator[str]:
-    """A table of how many of each kind there are."""
     heads = ("chains", "landmarks", "polygons", "feature names")
     table = [[f"{count:,}" for count in part.counts] for part in comparison.parts]
     table[3][2] = "-"
@@ -65,8 +62,7 @@ def told_things(comparison: Comparison) -> Iterator[str]:
         yield from ["", f"{what}s {kind}: {len(listed):,}"]
         if kind != KINDS[2]:
             yield from ["", *(f"  {thing.name}, {thing.about}" for thing in listed)]
-            continue
-        for thing in listed:
+        for thing in listed if kind == KINDS[2] else []:
             yield from ["", f"  {thing.name}, {thing.about}", *differing(thing.rows)]
 
 

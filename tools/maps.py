@@ -1,0 +1,159 @@
+"""Maps as values whose parts can be changed, and hands that write one: under other numbers, with chains turned, and with records in
+another order and packed otherwise. All that is one map."""
+
+from __future__ import annotations
+
+import random
+import sys
+from dataclasses import dataclass, field, replace
+from pathlib import Path
+from typing import Any, Iterator, Sequence
+
+sys.path.insert(0, str(Path(__file__).resolve().parent.parent / "python"))
+
+from tigercanon.differences.columns import CHAIN, LANDMARK, LINK, NAME, POLYGON, RANGE, Layout  # noqa: E402
+
+FILE = "01001"
+
+Point = tuple[int, int]
+"""Longitude and latitude in millionths of a degree."""
+
+Values = dict[str, str]
+"""Fields of a record by their names. A field that isn't there is blank."""
+
+
+@dataclass
+class Chain:
+    """A chain: the fields of types 1 and I, all its points, its further names and ranges, and the nodes and polygons
+    at it."""
+
+    fields: Values
+    points: list[Point]
+    start: int | None
+    end: int | None
+    left: int | None
+    right: int | None
+    names: list[int] = field(default_factory=list)
+    ranges: list[Values] = field(default_factory=list)
+    link: Values = field(default_factory=dict)
+
+
+@dataclass
+class Polygon:
+    fields: Values
+    point: Point | None
+    has_record: bool = True
+
+
+@dataclass
+class Landmark:
+    fields: Values
+    point: Point | None = None
+    polygons: list[int] = field(default_factory=list)
+
+
+@dataclass
+class County:
+    """A map. Nodes, polygons and names have their places in these lists as numbers; a node is its point."""
+
+    chains: list[Chain]
+    names: list[Values]
+    polygons: list[Polygon]
+    landmarks: list[Landmark]
+    cenid: str = "06001"
+    outside: str = f"06001{'':10}"
+    """The CENID and POLYID on a side without a polygon."""
+
+    def nodes(self) -> list[int]:
+        """The numbers of all nodes, in their order."""
+        return sorted({node for chain in self.chains for node in (chain.start, chain.end) if node is not None})
+
+
+def content(layout: Layout, fields: Values) -> str:
+    return "".join(fields.get(column.name, "").ljust(column.width) for column in layout.columns)
+
+
+def spelt(point: Point | None) -> str:
+    return " " * 19 if point is None else f"{point[0]:+010d}{point[1]:+09d}"
+
+
+@dataclass
+class Hand:
+    """A way to write a county: how everything is numbered, which chains are turned, and how records are packed and
+    ordered."""
+
+    chance: random.Random | None = None
+
+    def numbers(self, count: int, most: int) -> list[int]:
+        """A number for each of count things."""
+        return list(range(1, count + 1)) if self.chance is None else self.chance.sample(range(1, most), count)
+
+    def turns(self) -> bool:
+        return self.chance is not None and self.chance.random() < 0.5
+
+    def packs(self, items: Sequence[str], most: int) -> Iterator[tuple[int, Sequence[str]]]:
+        """The items record by record, with a number for each record."""
+        number, begin = 0, 0
+        while begin < len(items):
+            size = most if self.chance is None else self.chance.randint(1, most)
+            number += 1 if self.chance is None else self.chance.randint(1, 3)
+            yield number, items[begin : begin + size]
+            begin += size
+
+    def orders(self, lines: list[str]) -> list[str]:
+        if self.chance is not None:
+            self.chance.shuffle(lines)
+        return lines
+
+
+def written(county: County, seed: int | None = None) -> bytes:
+    """The records of a county in one file, by a hand with this seed, or as it is."""
+    hand = Hand(random.Random(seed) if seed is not None else None)
+    return "".join(line + "\n" for line in hand.orders(list(lines(county, hand)))).encode("latin-1")
+
+
+def lines(county: County, hand: Hand) -> Iterator[str]:
+    most = 9 * len(county.chains) + 99
+    numbered: list[list[Any]] = [county.chains, county.names, county.landmarks, county.polygons]
+    tlids, feats, lands, polyids = (hand.numbers(len(things), most) for things in numbered)
+    nodes = county.nodes()
+    node_numbers: dict[int | None, Any] = {None: "", **dict(zip(nodes, hand.numbers(len(nodes), most)))}
+
+    def key(polygon: int | None) -> str:
+        return f"{county.cenid}{polyids[polygon]:>10}" if polygon is not None else county.outside
+
+    for chain, tlid in zip(county.chains, tlids):
+        chain = turned(chain) if hand.turns() else chain
+        yield f"12006{tlid:>10}{content(CHAIN, chain.fields)}{spelt(chain.points[0])}{spelt(chain.points[-1])}"
+        for number, points in hand.packs([spelt(point) for point in chain.points[1:-1]], 10):
+            yield f"22006{tlid:>10}{number:>3}" + "".join(points).ljust(190, "\0").replace("\0" * 19, "+000000000+00000000")
+        for number, names in hand.packs([f"{feats[name]:>8}" for name in chain.names], 5):
+            yield f"42006{tlid:>10}{number:>3}" + "".join(names).ljust(40)
+        for number, fields in enumerate(chain.ranges, 1):
+            yield f"62006{tlid:>10}{number:>3}{content(RANGE, fields)}"
+        link = content(LINK, chain.link)
+        ends = f"{node_numbers[chain.start]:>10}{node_numbers[chain.end]:>10}"
+        yield f"I2006{link[:5]}{tlid:>10}{ends}{key(chain.left)}{key(chain.right)}{link[5:]}"
+    for name, feat in zip(county.names, feats):
+        body = content(NAME, name)
+        yield f"52006{body[:5]}{feat:>8}{body[5:]}"
+    for landmark, land in zip(county.landmarks, lands):
+        body = content(LANDMARK, landmark.fields)[:-19]
+        yield f"72006{body[:5]}{land:>10}{body[5:]}{spelt(landmark.point)} "
+        for polygon in landmark.polygons:
+            yield f"82006{FILE}{key(polygon)}{land:>10} "
+    for number, each in enumerate(county.polygons):
+        if each.has_record:
+            body = content(POLYGON, each.fields)
+            yield f"P2006{body[:5]}{key(number)}{spelt(each.point)}{body[-1]}"
+
+
+def turned(chain: Chain) -> Chain:
+    """The chain as seen from its other end."""
+
+    def fields(layout: Layout, had: Values) -> Values:
+        return {column.name: had.get(column.partner or column.name, "") for column in layout.columns}
+
+    ends = {"start": chain.end, "end": chain.start, "left": chain.right, "right": chain.left}
+    ranges = [fields(RANGE, each) for each in chain.ranges]
+    return replace(chain, fields=fields(CHAIN, chain.fields), points=chain.points[::-1], ranges=ranges, **ends)
