@@ -164,27 +164,28 @@ module _ (In : ℕ → Type 0) where
       let m = are x known in
       restated In _ _ _ _ _ _ _ _ (sym (already_seen S x m.0)) (sym (already_seen T x m.2)) refl refl agree
 
+  -- an entry for none in both short lists decides nothing
+  no_end : (entry : Bool) (s t : List ℕ) (os ps : List (Option ℕ))
+      → slice_cmp node_cmp (numbers_after s (cond entry (None ∷ []) [] ++ os)) (numbers_after t (cond entry (None ∷ []) [] ++ ps))
+      ≡ slice_cmp node_cmp (numbers_after s os) (numbers_after t ps)
+  no_end true s t os ps = refl
+  no_end false s t os ps = refl
+
   -- The whole lists are in the order of the short ones, by their numbers.
   pub slots_order : (slots : List Slot) (met S T s t : List ℕ) → Agree In S T s t → AreMet met S T → AreSound In met slots
       → slice_cmp node_cmp (numbers_after S (map left_of slots)) (numbers_after T (map right_of slots))
       ≡ slice_cmp node_cmp (numbers_after s (flat_map short_left slots)) (numbers_after t (flat_map short_right slots))
   slots_order [] met S T s t agree are sound = refl
-  slots_order (LeftOut true None ∷ slots) met S T s t agree are sound = slots_order slots met S T s t agree are sound.1
-  slots_order (LeftOut false None ∷ slots) met S T s t agree are sound = slots_order slots met S T s t agree are sound.1
-  slots_order (LeftOut true (Some x) ∷ slots) met S T s t agree are sound =
+  slots_order (LeftOut entry None ∷ slots) met S T s t agree are sound =
+      slots_order slots met S T s t agree are sound.1 ∙ sym (no_end entry s t (flat_map short_left slots) (flat_map short_right slots))
+  slots_order (LeftOut entry (Some x) ∷ slots) met S T s t agree are sound =
       first_numbers S T (Some x) (Some x) (map left_of slots) (map right_of slots)
       ∙ ap (λ n. ordering_then (nat_cmp (n + 1) (at T x + 1)) (slice_cmp node_cmp (numbers_after (and_then S x) (map left_of slots))
       (numbers_after (and_then T x) (map right_of slots)))) (one_place met S T s t x sound.0 are agree)
       ∙ ap (λ o. ordering_then o (slice_cmp node_cmp (numbers_after (and_then S x) (map left_of slots))
       (numbers_after (and_then T x) (map right_of slots)))) (tied_itself nat_cmp_total (at T x + 1))
       ∙ slots_order slots met (and_then S x) (and_then T x) s t (agree_without met S T s t x sound.0 are agree) (still_met met S T x x are) sound.1
-  slots_order (LeftOut false (Some x) ∷ slots) met S T s t agree are sound =
-      first_numbers S T (Some x) (Some x) (map left_of slots) (map right_of slots)
-      ∙ ap (λ n. ordering_then (nat_cmp (n + 1) (at T x + 1)) (slice_cmp node_cmp (numbers_after (and_then S x) (map left_of slots))
-      (numbers_after (and_then T x) (map right_of slots)))) (one_place met S T s t x sound.0 are agree)
-      ∙ ap (λ o. ordering_then o (slice_cmp node_cmp (numbers_after (and_then S x) (map left_of slots))
-      (numbers_after (and_then T x) (map right_of slots)))) (tied_itself nat_cmp_total (at T x + 1))
-      ∙ slots_order slots met (and_then S x) (and_then T x) s t (agree_without met S T s t x sound.0 are agree) (still_met met S T x x are) sound.1
+      ∙ sym (no_end entry s t (flat_map short_left slots) (flat_map short_right slots))
   slots_order (FirstFixed x ∷ slots) met S T s t agree are sound =
       first_numbers S T (Some x) (Some x) (map left_of slots) (map right_of slots)
       ∙ then_alike (nat_cmp (at S x + 1) (at T x + 1)) (nat_cmp (at s x + 1) (at t x + 1)) _ _
