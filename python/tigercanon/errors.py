@@ -21,7 +21,7 @@ def reason(error: BaseException) -> str:
 
 
 @contextmanager
-def told(name: str, what: str = "can't be written") -> Iterator[None]:
+def reported(name: str, what: str = "can't be written") -> Iterator[None]:
     """Reports an error of the system with a file's name, and what can't be done with the file."""
     try:
         yield

@@ -17,7 +17,7 @@ import time
 from contextlib import contextmanager, suppress
 from typing import Iterator, NamedTuple, Sequence
 
-from .errors import Failure, reason, told
+from .errors import Failure, reason, reported
 from .layout import RECORD_FILE, ZIP_FILE
 from .own import Own
 
@@ -174,13 +174,13 @@ class Manifest:
                 self.put_in_order()
 
     def start_writing(self) -> int:
-        with told(self.name):
+        with reported(self.name):
             self.handle = os.open(self.place, os.O_WRONLY | os.O_APPEND | os.O_CREAT, 0o666)
         return self.handle
 
     def add(self, line: Line) -> None:
         """Adds a county, whose line is written at once: the whole of it or nothing."""
-        with self.own.lock, told(self.name):
+        with self.own.lock, reported(self.name):
             handle = self.start_writing() if self.handle is None else self.handle
             before = os.fstat(handle).st_size
             text = os.fsencode(f"{line}\n" if before else f"{heading(self.flags)}\n{line}\n")
@@ -199,7 +199,7 @@ class Manifest:
         self.lines.sort(key=lambda line: (os.fsencode(line.stem), line.fingerprint))
         text = "".join(f"{line}\n" for line in [heading(self.flags), *self.lines])
         copy = f"{self.place}.new"
-        with self.own.at_end(lambda: discard(copy)), told(self.name):
+        with self.own.at_end(lambda: discard(copy)), reported(self.name):
             with open(copy, "wb") as file:
                 file.write(os.fsencode(text))
                 file.flush()
@@ -252,7 +252,7 @@ class Lock:
     def take(self) -> None:
         """Takes the lock. It waits a little, since a verification has it for a moment."""
         while self.handle is None:
-            with told(f"{self.name}.lock"):
+            with reported(f"{self.name}.lock"):
                 handle = os.open(self.path, os.O_RDWR | os.O_CREAT | os.O_NONBLOCK, 0o666)
             try:
                 status = os.fstat(handle)
@@ -290,7 +290,7 @@ class Lock:
     def lock(self, handle: int, how: int, patience: float) -> None:
         until = time.monotonic() + patience
         while True:
-            with told(f"{self.name}.lock", "can't be locked"), suppress(BlockingIOError):
+            with reported(f"{self.name}.lock", "can't be locked"), suppress(BlockingIOError):
                 fcntl.flock(handle, how | fcntl.LOCK_NB)
                 return
             if time.monotonic() >= until:

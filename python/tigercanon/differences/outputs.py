@@ -7,7 +7,7 @@ import stat
 from contextlib import ExitStack, contextmanager, suppress
 from typing import Iterator, Sequence
 
-from ..errors import Failure, told
+from ..errors import Failure, reported
 from ..own import PROCESS
 
 
@@ -20,17 +20,17 @@ class NewFile:
         self.mode = mode_of(name, self.place)
         folder, base = os.path.split(self.place)
         self.path = os.path.join(folder, f".{base[:200]}.{os.getpid()}.part")
-        with told(name):
+        with reported(name):
             handle = os.open(self.path, os.O_WRONLY | os.O_CREAT | os.O_EXCL, 0o666)
         self.file = open(handle, "w", encoding="utf-8", newline="\n")
 
     def write(self, text: str) -> None:
-        with told(self.name):
+        with reported(self.name):
             self.file.write(text)
 
     def finish(self) -> None:
         """Brings all of it to the disk."""
-        with told(self.name):
+        with reported(self.name):
             self.file.flush()
             if self.mode is not None:
                 os.fchmod(self.file.fileno(), self.mode)
@@ -47,7 +47,7 @@ class NewFile:
 
 def mode_of(name: str, place: str) -> int | None:
     """The mode of the file that is there already, if there is one. Only a file may be written over."""
-    with told(name):
+    with reported(name):
         try:
             found = os.stat(place)
         except FileNotFoundError:
@@ -72,5 +72,5 @@ def new_files(names: Sequence[str | None]) -> Iterator[list[NewFile | None]]:
         for file in files.values():
             file.finish()
         for file in files.values():
-            with told(file.name):
+            with reported(file.name):
                 os.replace(file.path, file.place)

@@ -12,7 +12,7 @@ from functools import cached_property
 from typing import Iterator, Sequence
 
 from ..counties import as_stem
-from ..errors import Failure, printable, reason, told
+from ..errors import Failure, printable, reason, reported
 from ..hints import hint
 from ..judge import Files, complaint, files_of
 from ..layout import TYPES, file_name
@@ -73,14 +73,14 @@ def opened(name: str, is_stem: bool) -> Iterator[Source]:
     else:
         with PROCESS.folder(0) as folder:  # a copy of what can be read only once, such as a pipe
             place = os.path.join(folder, "set")
-            with told(printable(name), "can't be read"), open(name, "rb") as source, open(place, "wb") as copy:
+            with reported(printable(name), "can't be read"), open(name, "rb") as source, open(place, "wb") as copy:
                 shutil.copyfileobj(source, copy)
             yield Source(name, place, [place])
 
 
 def is_zip(name: str) -> bool:
     """Whether this is the file of a zip. Raises Failure for a folder and for what can't be read."""
-    with told(printable(name), "can't be read"):
+    with reported(printable(name), "can't be read"):
         mode = os.stat(name).st_mode
         if stat.S_ISDIR(mode):
             raise Failure(f"{printable(name)}: it is a folder: name a file, a zip or the stem of a county's files")
