@@ -1,10 +1,11 @@
 //! The choice with the least text.
 //!
 //! Records of type 1 come first in a text, and a choice alone determines them. So this first searches all choices for the one whose
-//! records of type 1 are least; from one choice to the next it only reads what moves at open places. Only other choices with the same
-//! records of type 1 are arranged and compared as texts. There are few of these: chains with the same shape mostly differ in an
-//! address, a name or a code. Choices with the same chains at every place aren't arranged either: if chains were entered twice with all
-//! their data, every order of them makes the same county.
+//! records of type 1 are least; from one choice to the next it only reads what moves at open places. Of the other choices with the
+//! same records of type 1, those with the same chains at every place are skipped: if chains were entered twice with all their data,
+//! every order of them makes the same county. If the rest differ only in the nodes of their chains, the numbers of their critical ends
+//! are compared. Otherwise each of them is arranged and compared as a text. There are few of these: chains with the same shape mostly
+//! differ in an address, a name or a code.
 
 ghost use Rattle.std.specs.declared.cmp.Ordering.TheVariants.{Equal};
 ghost use Rattle.std.specs.Ordering.{is_gt};

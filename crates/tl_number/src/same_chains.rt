@@ -1,5 +1,5 @@
-//! Whether arrangements have the same chains. Chains that were entered twice are the same except for their TLIDs. Two arrangements that
-//! only differ in the order of such chains make the same county.
+//! Whether arrangements have the same chains, or the same part of each chain. Chains that were entered twice are the same except for
+//! their TLIDs. Two arrangements that only differ in the order of such chains make the same county.
 
 ghost use Rattle.std.specs.Bool.{Decides};
 ghost use Rattle.std.specs.Prelude.{◌≡◌, ◌+◌, ◌≤◌, length, map};
