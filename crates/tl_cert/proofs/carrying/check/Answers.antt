@@ -4,11 +4,6 @@ use Rattle.tl_county.specs.Renumbering.{Carries, NumbersArePaired}
 use Rattle.ordered_lists.proofs.Lists.ByPlace.{decides_no}
 use Rattle.tl_cert.proofs.carrying.check.Goals as goal
 
-pub returns-then-not-paired : goal.returns-then-not-paired
-returns-then-not-paired g c =
-    let not_paired : c.in_ok-paired.paired ≡ false = search rules in
-    decides_no c.in_ok-paired.paired not_paired c.in_ok-paired.ensures (λ h. h.numbers)
-
 pub carries_parts-requires : goal.carries_parts-requires
 carries_parts-requires g c =
     let paired : c.in_ok-paired.paired ≡ true = search rules in

@@ -16,13 +16,3 @@ loop-first-preserved-else-first-second c =
           (subst (IsInOrder nat_cmp) both c.loop-first.invariant.in_order) c.if-first-second.false
           ∙ sym (ap (has_repeat nat_cmp) both) ∙ c.loop-first.invariant.same;
     }
-
-pub loop-first-preserved : goal.loop-first-preserved
-loop-first-preserved c =
-    let first : c.loop-first.rest.now ≡ c.in-Some.first.now ∷ c.in-Some.later.now = c.in-Some.ensures.cases.0 in
-    let none : c.in-Some.later.now ≡ [] = empty_list c.in-Some.later.now c.in_default-split_first.ensures.cases in
-    record {
-      in_order = (subst (IsInOrder nat_cmp) first c.loop-first.invariant.in_order).1;
-      same = ap (has_repeat nat_cmp) none
-          ∙ sym (ap (has_repeat nat_cmp) (first ∙ ap (λ l. c.in-Some.first.now ∷ l) none)) ∙ c.loop-first.invariant.same;
-    }

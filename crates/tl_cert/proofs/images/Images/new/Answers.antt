@@ -24,8 +24,3 @@ loop-last-preserved g c =
           ∙ ap (cond (g.K.PartialEq.eq c.in-Some.last.now.0 old) (Some c.in-Some.last.now.1)) (c.loop-last.invariant.stated old)
           ∙ put_before g.K.PartialEq.eq g.K.Ord.cmp g.met.K.Ord.matches_eq o c.in-Some.last.now c.loop-last.invariant.done old;
     }
-
-pub invariant_of-result : goal.invariant_of-result
-invariant_of-result g c = λ old. c.loop-last.invariant.stated old
-    ∙ ap (value_under g.K.Ord.cmp old) (sym (c.loop-last.invariant.cut ∙ ap (λ rest. rest ++ c.loop-last.invariant.done)
-    (empty_list c.loop-last.rest.now c.in_default.ensures.cases)))
