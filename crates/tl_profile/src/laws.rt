@@ -26,6 +26,7 @@ pub fn same_counties_agree_on_the_profile()
 {}
 
 /// Counties that are the same leave equally many choices open.
+#[tactic(auto, using(crate::proofs::SameChoices::same_choices))]
 pub fn same_counties_have_equal_choices()
     ensures { (a b : County) → AreSame a b → choices a ≡ choices b }
 {}

@@ -5,9 +5,6 @@ use Rattle.ordered_lists.proofs.ByKey.Marks.{none_marked, marked_more, marked_wi
 use Rattle.ordered_lists.proofs.marks.marks_of.Goals as goal
 use Rattle.ordered_lists.proofs.marks.marks_of.Goals.{then-place-len, else-place-len}
 
-pub loop-number-init : goal.loop-number-init
-loop-number-init c = subst (AreMarksOf []) (sym (c.in_ok-marks.ensures.items_if_clones_equal (λ y e. e))) (none_marked c.places_for.result)
-
 pub loop-number-preserved : goal.loop-number-preserved
 loop-number-preserved c =
     let numbers = c.args.numbers.now in

@@ -7,6 +7,3 @@ pub loop-entry-preserved : goal.loop-entry-preserved
 loop-entry-preserved c =
     mapped_next turned_ranges c.args.ranges.now c.loop-entry.ranges c.loop-entry.entry-index c.entry-item.result c.turn.new.self
     (omega arith) c.loop-entry.invariant c.entry-item.is (c.turn.ensures ∙ ap turned_ranges (sym c.entry-item.is))
-
-pub returns : goal.returns
-returns c = mapped_all turned_ranges c.args.ranges.now c.loop-entry.ranges c.loop-entry.entry-index (omega arith) c.loop-entry.invariant

@@ -4,12 +4,6 @@ use Rattle.tl_shape.specs.Turned.{IsTurned, turned}
 use Rattle.tl_shape.specs.TurnLaws.{turned-turned, turned_from_relation, relation_of_turned}
 use Rattle.tl_shape.proofs.laws.each_chain_has_one_turned_chain.Goals as goal
 
-pub returns-clause-exists : goal.returns-clause-exists
-returns-clause-exists c chain = relation_of_turned chain
-
-pub returns-clause-only : goal.returns-clause-only
-returns-clause-only c chain other t = turned_from_relation chain other t
-
 pub returns-clause-back : goal.returns-clause-back
 returns-clause-back c chain other t =
     let back = subst (IsTurned (turned chain)) (turned-turned chain) (relation_of_turned (turned chain)) in
