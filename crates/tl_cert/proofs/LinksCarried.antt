@@ -1,20 +1,15 @@
 -- The links of landmarks, collected landmark by landmark and compared by their fields.
-use Rattle.std.proofs.Common.{◌≡◌, ◌+◌, ℕ, zero, suc, List, [], ◌∷◌, ◌++◌, map, flat_map, take, Bool, IsTrue, slice_get, refl, sym}
-use Rattle.std.proofs.Common.{ap, ◌∙◌, subst, add-one, append_assoc, append-nil, IsPermutation, nat_cmp}
+use Rattle.tl_cert.proofs.Common.{◌≡◌, ℕ, zero, suc, List, [], ◌∷◌, ◌++◌, map, flat_map, take, Bool, slice_get, refl, sym, ap, ◌∙◌}
+use Rattle.tl_cert.proofs.Common.{subst, append_assoc, append-nil, IsPermutation, nat_cmp, IsPermutation-sym, IsPermutation-trans}
+use Rattle.tl_cert.proofs.Common.{IsPermutation-map, Decides, of_number, Fields8, County, eight_land, IsCounty, lands, times}
+use Rattle.tl_cert.proofs.Common.{stands_in, Known, nat_keys, apart_from_sorted, all_weaker, map-map, LinkFields, link_fields}
+use Rattle.tl_cert.proofs.Common.{decides_same}
+use Rattle.std.proofs.Common.{◌+◌, IsTrue}
+use Rattle.std.proofs.Common.{add-one}
 use Rattle.std.proofs.lemmas.Bool.{ltb-true}
-use Rattle.std.proofs.lemmas.List.Sorted.{IsPermutation-sym, IsPermutation-trans, IsPermutation-map}
-use Rattle.std.specs.Bool.{Decides}
-use Rattle.tl_layout.specs.ByType.{of_number}
-use Rattle.tl_layout.specs.Fields.{Fields8}
 use Rattle.tl_county.specs.ChartWords.{links_with}
-use Rattle.tl_county.specs.County.{County, eight_land}
-use Rattle.tl_county.specs.CountyRules.{IsCounty, lands}
-use Rattle.ordered_lists.specs.Orders.{times, stands_in}
-use Rattle.ordered_lists.proofs.ByKey.Keys.{Known, nat_keys, apart_from_sorted}
-use Rattle.ordered_lists.proofs.Lists.Elements.{all_weaker, map-map, map_itself}
+use Rattle.ordered_lists.proofs.Lists.Elements.{map_itself}
 use Rattle.tl_county.proofs.Lists.OfNumber.{groups-permutation}
-use Rattle.tl_cert.specs.LinkFields.{LinkFields, link_fields}
-use Rattle.ordered_lists.proofs.Lists.ByPlace.{decides_same}
 
 -- the links of the landmarks with these LANDs, landmark by landmark
 abbrev pub under_lands : List Fields8 → List ℕ → List Fields8

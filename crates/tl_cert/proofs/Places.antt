@@ -1,18 +1,15 @@
 -- The numbers and the entries of a county, decided place by place.
-use Rattle.std.proofs.Common.{◌≡◌, ◌≤◌, ℕ, zero, suc, List, [], ◌∷◌, Bool, true, false, Ordering}
-use Rattle.std.proofs.Common.{is_eq, Option, Some, IfSome, slice_get, refl, sym, ap, ◌∙◌, subst, arith}
-use Rattle.std.proofs.Common.{IsPermutation, nat_cmp, is_gt, ◌||◌}
+use Rattle.tl_cert.proofs.Common.{◌≡◌, ◌≤◌, ℕ, zero, suc, List, [], ◌∷◌, Bool, true, false, Ordering, is_eq, Option, Some, slice_get}
+use Rattle.tl_cert.proofs.Common.{refl, sym, ap, ◌∙◌, subst, arith, IsPermutation, nat_cmp, IsPermutation-sym, IsPermutation-trans}
+use Rattle.tl_cert.proofs.Common.{Decides, slice_cmp, IsInOrder, times, has_repeat, entry_keys, ArePaired, decides_over, decides_same}
+use Rattle.tl_cert.proofs.Common.{IsKeyOrder, Known, nat_keys, same-itself, lefts, apart-permutation}
+use Rattle.std.proofs.Common.{IfSome}
+use Rattle.std.proofs.Common.{is_gt, ◌||◌}
 use Rattle.std.proofs.lemmas.Bool.{le-ltb}
-use Rattle.std.proofs.lemmas.List.Sorted.{IsPermutation-sym, IsPermutation-trans}
-use Rattle.std.specs.Bool.{Decides}
-use Rattle.std.specs.Cmp.Lexicographic.{slice_cmp}
-use Rattle.ordered_lists.specs.Orders.{IsInOrder, times, has_repeat}
-use Rattle.ordered_lists.specs.Entries.{entry_keys, entry_values}
-use Rattle.ordered_lists.specs.Pairs.{ArePaired}
-use Rattle.ordered_lists.proofs.Lists.ByPlace.{decides_over, decides_same}
+use Rattle.ordered_lists.specs.Entries.{entry_values}
 use Rattle.ordered_lists.proofs.Lists.InOrder.{in_order-permutation}
 use Rattle.ordered_lists.proofs.ByKey.KeyOrders.{lists_keys}
-use Rattle.ordered_lists.proofs.ByKey.Keys.{IsKeyOrder, Known, nat_keys, same-true, same-itself, lefts, rights, known_all, order_itself, order_antisymm, apart-permutation}
+use Rattle.ordered_lists.proofs.ByKey.Keys.{same-true, rights, known_all, order_itself, order_antisymm}
 use Rattle.ordered_lists.proofs.Lists.Distinct.{has_repeat-apart, apart_from_no_repeat}
 
 -- the key and the value of an entry are at the same place

@@ -1,14 +1,12 @@
 -- Pairs of numbers by the values under their old numbers.
-use Rattle.std.proofs.Common.{◌≡◌, nat_lt, suc, List, [], ◌∷◌, map, filter, filter_map, length, Bool, true, false, cond}
-use Rattle.std.proofs.Common.{Ordering, is_eq, Option, Some, None, is_some, unwrap_or, option_map, refl, ap, ◌∙◌, arith}
+use Rattle.tl_cert.proofs.Common.{◌≡◌, nat_lt, suc, List, [], ◌∷◌, map, filter, filter_map, length, Bool, true, false, cond, Ordering}
+use Rattle.tl_cert.proofs.Common.{is_eq, Option, Some, None, unwrap_or, option_map, refl, ap, ◌∙◌, arith, value_under, image, is_named}
+use Rattle.tl_cert.proofs.Common.{composed, IsKeyOrder, lefts, named_images, pair_on}
+use Rattle.std.proofs.Common.{is_some}
 use Rattle.std.proofs.Common.{Less, Equal, Greater}
 use Rattle.std.proofs.lemmas.Bool.{lt-ltb}
 use Rattle.std.specs.List.{cons_option}
 use Rattle.std.specs.Ordering.{ordering_reverse}
-use Rattle.ordered_lists.specs.Entries.{value_under}
-use Rattle.ordered_lists.specs.Pairs.{image, is_named, composed}
-use Rattle.ordered_lists.proofs.ByKey.Keys.{IsKeyOrder, lefts}
-use Rattle.tl_cert.specs.Images.{named_images, pair_on}
 
 is_eq-reverse : (a : Ordering) → is_eq (ordering_reverse a) ≡ is_eq a
 is_eq-reverse Less = refl

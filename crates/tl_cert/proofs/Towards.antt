@@ -1,9 +1,7 @@
 -- The parts of chains under new numbers, and that chains with the same parts are the same.
-use Rattle.std.proofs.Common.{◌≡◌, Option, Some, None, option_map, map, refl, ap, nat_cmp}
+use Rattle.tl_cert.proofs.Common.{◌≡◌, Option, Some, None, option_map, map, refl, ap, nat_cmp, Renumbering, renumbered, image}
 use Rattle.tl_shape.specs.Chain.{Chain}
 use Rattle.tl_county.specs.ChartWords.{points_of, feats_of, ranges_of}
-use Rattle.tl_county.specs.Renumbering.{Renumbering, renumbered}
-use Rattle.ordered_lists.specs.Pairs.{image}
 use Rattle.tl_cert.specs.PartsThere.{HaveSameContent, HaveSameEnds, HaveSameLists}
 
 -- a field of a chain under its new numbers, if there is such a chain

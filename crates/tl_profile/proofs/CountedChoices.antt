@@ -1,13 +1,12 @@
 -- A pass over ordered keys, from the last to the first: the running product, and the places with a choice.
-use Rattle.std.proofs.Common.{◌≡◌, ◌⊎◌, ◌<◌, ◌≤◌, ◌+◌, ◌*◌, ℕ, suc, List, [], ◌∷◌, ◌++◌, length, reverse, Bool, true, false, cond}
-use Rattle.std.proofs.Common.{Ordering, is_eq, refl, ap, ◌∙◌, inl, inr, arith}
+use Rattle.tl_profile.proofs.Common.{◌≡◌, ◌⊎◌, ◌<◌, ◌≤◌, ◌+◌, ◌*◌, ℕ, suc, List, [], ◌∷◌, ◌++◌, length, reverse, Bool, true, false}
+use Rattle.tl_profile.proofs.Common.{cond, Ordering, is_eq, refl, ap, ◌∙◌, inl, inr, arith, AllByRecursion, times, IsInOrder}
+use Rattle.tl_profile.proofs.Common.{IsKeyOrder, same-true, times-yes, times-no, is_first, is_settled, open_places, open_place_at}
+use Rattle.tl_profile.proofs.Common.{running, ways_at, OpenPlace}
 use Rattle.std.proofs.lemmas.List.{reverse-append}
-use Rattle.std.specs.List.{AllByRecursion}
-use Rattle.ordered_lists.specs.Orders.{times, IsInOrder}
-use Rattle.ordered_lists.proofs.ByKey.Keys.{IsKeyOrder, same_or_not, same-true, times-yes, times-no}
+use Rattle.ordered_lists.proofs.ByKey.Keys.{same_or_not}
 use Rattle.ordered_lists.proofs.ByKey.KeyedLists.{before_all, less_from}
-use Rattle.tl_profile.specs.Choices.{alike_first, is_first, is_settled, open_places, open_place_at, running, ways_at}
-use Rattle.tl_profile.specs.declared.open_places.OpenPlace.{OpenPlace}
+use Rattle.tl_profile.specs.Choices.{alike_first}
 
 module _ {K : Type 0} {cmp : K → K → Ordering} (o : IsKeyOrder cmp) where
   -- in order, a key occurs after itself one time more than the next key does if they are the same, and never if they aren't

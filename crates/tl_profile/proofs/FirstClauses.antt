@@ -1,16 +1,12 @@
 -- The least polygon without a chain is the first broken clause.
-use Rattle.std.proofs.Common.{◌≡◌, true, false, Some, is_gt, refl, nat_cmp}
+use Rattle.tl_profile.proofs.Common.{◌≡◌, true, false, Some, is_gt, refl, false≢true, County, IsLeastPassing, PolygonKey, key_cmp}
+use Rattle.tl_profile.proofs.Common.{ProfileFault, PolygonWithoutChain, TooSymmetric, Memory, is_clause_broken, profile_fault_place}
+use Rattle.tl_profile.proofs.Common.{IsFirstBrokenClause}
+use Rattle.std.proofs.Common.{nat_cmp}
 use Rattle.std.specs.Cmp.Lexicographic.{slice_cmp}
-use Rattle.std.proofs.lemmas.Bool.{false≢true}
-use Rattle.tl_county.specs.County.{County}
 use Rattle.tl_county.specs.CountyRules.{is_without_chain}
 use Rattle.tl_county.specs.FirstOf.{place_cmp}
-use Rattle.ordered_lists.specs.Keyed.{IsLeastPassing}
-use Rattle.tl_county.specs.PolygonKeys.{PolygonKey, key_cmp}
 use Rattle.tl_county.proofs.Rules.RuleTests.{keyed}
-use Rattle.tl_profile.specs.declared.fault.ProfileFault.{ProfileFault}
-use Rattle.tl_profile.specs.declared.fault.ProfileFault.TheVariants.{PolygonWithoutChain, TooSymmetric, Memory}
-use Rattle.tl_profile.specs.Profile.{is_clause_broken, profile_fault_place, IsFirstBrokenClause}
 
 module _ (county : County) where
   pub first_polygon : (key : PolygonKey) → IsLeastPassing key_cmp (is_without_chain county) (Some key)

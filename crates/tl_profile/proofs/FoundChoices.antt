@@ -1,25 +1,18 @@
 -- The shapes of a county in order, and a pass over them from the last to the first.
-use Rattle.std.proofs.Common.{◌≡◌, ◌<◌, ◌≤◌, ◌+◌, ◌-◌, ◌*◌, ◌^◌, ℕ, suc, List, [], ◌∷◌, ◌++◌, map, length, min, reverse, take, drop}
-use Rattle.std.proofs.Common.{false, cond, Ordering, Less, Equal, Greater, is_gt, refl, sym, ap, ◌∙◌, subst, arith}
-use Rattle.std.proofs.Common.{append_assoc, length-append}
-use Rattle.std.specs.List.{AllByRecursion}
-use Rattle.std.specs.Ordering.{nat_cmp, ordering_then}
-use Rattle.std.proofs.lemmas.List.{length-map, map-append, take_all}
+use Rattle.tl_profile.proofs.Common.{◌≡◌, ◌<◌, ◌≤◌, ◌+◌, ◌*◌, ◌^◌, ℕ, suc, List, [], ◌∷◌, ◌++◌, map, length, reverse, take, drop}
+use Rattle.tl_profile.proofs.Common.{false, cond, Ordering, Less, Equal, Greater, is_gt, refl, sym, ap, ◌∙◌, subst, arith}
+use Rattle.tl_profile.proofs.Common.{append_assoc, length-append, AllByRecursion, ordering_then, length-map, map-append, points_cmp}
+use Rattle.tl_profile.proofs.Common.{County, IsInOrder, map-map, choices, is_either_way, is_settled, most_choices, open_places}
+use Rattle.tl_profile.proofs.Common.{open_place_at, running, ways_at, placed_directed, whole_shape, AreInShapeOrder, along_shape}
+use Rattle.tl_profile.proofs.Common.{along_shapes, points_along, directed_cmp, DirectedChain, OpenPlace, PlacedShape, few_chains}
+use Rattle.std.proofs.Common.{◌-◌, min}
+use Rattle.std.specs.Ordering.{nat_cmp}
+use Rattle.std.proofs.lemmas.List.{take_all}
 use Rattle.std.proofs.lemmas.List.FromFn.{length-map-range_with_len}
 use Rattle.std.proofs.lemmas.List.Sorted.{length_permutation}
-use Rattle.tl_shape.specs.PointOrder.{points_cmp}
-use Rattle.tl_county.specs.County.{County}
 use Rattle.tl_county.specs.Limits.{IsWithinLimits, most_records}
-use Rattle.ordered_lists.specs.Orders.{IsInOrder}
-use Rattle.ordered_lists.proofs.Lists.Elements.{map-map}
-use Rattle.tl_profile.specs.Choices.{choices, counted_choices, is_either_way, is_settled, most_choices, open_places, open_place_at, running, ways_at}
-use Rattle.tl_profile.specs.PlacedShapes.{placed_directed, whole_shape}
-use Rattle.tl_profile.specs.ShapeOrder.{AreInShapeOrder, along_shape, along_shapes, points_along, directed_cmp}
-use Rattle.tl_county.specs.declared.directed_chain.DirectedChain.{DirectedChain}
-use Rattle.tl_profile.specs.declared.open_places.OpenPlace.{OpenPlace}
-use Rattle.tl_profile.specs.declared.shapes.PlacedShape.{PlacedShape}
+use Rattle.tl_profile.specs.Choices.{counted_choices}
 use Rattle.tl_profile.proofs.CountedChoices.{IsCounted, counted_next, more_choices-append}
-use Rattle.tl_county.proofs.Limits.FewChains.{few_chains}
 use Rattle.tl_profile.proofs.SameChoices.{choices_stated}
 
 first_not_greater : (a b : Ordering) → is_gt (ordering_then a b) ≡ false → is_gt a ≡ false

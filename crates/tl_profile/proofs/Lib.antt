@@ -1,3 +1,4 @@
+pub mod Common
 pub mod ProfileFaults
 pub mod SameProfile
 pub mod OnSamples

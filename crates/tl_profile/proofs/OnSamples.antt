@@ -1,5 +1,6 @@
 -- The profile of the samples.
-use Rattle.std.proofs.Common.{List, [], ◌∷◌, flat_map, Some, refl}
+use Rattle.tl_profile.proofs.Common.{List, [], ◌∷◌, Some, refl, IsInProfile, IsFirstBrokenClause, PolygonWithoutChain, TooSymmetric}
+use Rattle.std.proofs.Common.{flat_map}
 use Rattle.tl_layout.specs.declared.record_type.Record.{Record}
 use Rattle.tl_county.specs.County.{county_of}
 use Rattle.tl_county.proofs.Samples.Counties.{
@@ -17,8 +18,6 @@ use Rattle.tl_county.proofs.Samples.Counties.{
   no_side,
 }
 use Rattle.std.proofs.Common.{codes}
-use Rattle.tl_profile.specs.Profile.{IsInProfile, IsFirstBrokenClause}
-use Rattle.tl_profile.specs.declared.fault.ProfileFault.TheVariants.{PolygonWithoutChain, TooSymmetric}
 use Rattle.tl_profile.proofs.ProfileFaults.{profile_computed, first_clause_computed}
 
 pub there_in_profile : IsInProfile (county_of there)

@@ -1,23 +1,16 @@
 -- The order of placed shapes is the order of their chains.
-use Rattle.std.proofs.Common.{◌≡◌, ◌∷◌, [], List, map, false, Ordering, Less, Equal}
-use Rattle.std.proofs.Common.{Greater, is_gt, refl, sym, ap, ap₂, ◌∙◌, subst, nat_cmp, IsPermutation}
+use Rattle.tl_profile.proofs.Common.{◌≡◌, ◌∷◌, [], List, map, false, Ordering, Less, Equal, Greater, is_gt, refl, sym, ap, ap₂, ◌∙◌}
+use Rattle.tl_profile.proofs.Common.{subst, IsPermutation, AllByRecursion, ordering_then, IsPermutation-sym, point_cmp, points_cmp}
+use Rattle.tl_profile.proofs.Common.{County, IsInOrder, points_keys, among-permutation, Among, all_among, AreInShapeOrder}
+use Rattle.tl_profile.proofs.Common.{along_shapes, directed_cmp, HasHead, placed_key_cmp, placed_directed, whole_shape, PlacedShape}
+use Rattle.std.proofs.Common.{nat_cmp}
 use Rattle.std.specs.Cmp.{IsTotalOrder}
-use Rattle.std.specs.List.{AllByRecursion}
-use Rattle.std.specs.Ordering.{ordering_then}
 use Rattle.std.proofs.lemmas.Cmp.{int_cmp_total, nat_cmp_total, then_total, on_total}
-use Rattle.std.proofs.lemmas.List.Sorted.{IsPermutation-map, IsPermutation-sym}
-use Rattle.tl_shape.specs.PointOrder.{point_cmp, points_cmp}
-use Rattle.tl_county.specs.County.{County}
-use Rattle.ordered_lists.specs.Orders.{IsInOrder}
-use Rattle.tl_county.specs.Laws.KeyOrders.{points_keys}
+use Rattle.std.proofs.lemmas.List.Sorted.{IsPermutation-map}
 use Rattle.ordered_lists.proofs.ByKey.Numbers.{all_themselves}
 use Rattle.ordered_lists.proofs.Lists.Elements.{all_weaker}
-use Rattle.ordered_lists.proofs.Lists.Members.{among-permutation}
-use Rattle.ordered_lists.proofs.Lists.Among.{Among, all_among}
 use Rattle.tl_profile.proofs.PointRanks.{as_points}
-use Rattle.tl_profile.specs.ShapeOrder.{AreInShapeOrder, along_shapes, directed_cmp}
-use Rattle.tl_profile.specs.PlacedShapes.{HasHead, placed_cmp, placed_key_cmp, placed_directed, whole_shape}
-use Rattle.tl_profile.specs.declared.shapes.PlacedShape.{PlacedShape}
+use Rattle.tl_profile.specs.PlacedShapes.{placed_cmp}
 
 -- a property of all elements of a list is one of all elements of a permutation
 pub all_permuted : {X : Type 0} (P : X → Type 0) (xs ys : List X) → IsPermutation xs ys → AllByRecursion P xs → AllByRecursion P ys

@@ -1,22 +1,12 @@
 -- The chain at a place of a county.
-use Rattle.std.proofs.Common.{◌≡◌, ℕ, zero, suc, ◌<◌, ◌≤◌, List, [], ◌∷◌, ◌++◌, length, take, drop, slice_get, reverse}
-use Rattle.std.proofs.Common.{Bool, true, false, Option, Some, option_map, refl, sym, ap, ◌∙◌, subst, inl, inr, arith}
-use Rattle.std.proofs.Common.{IsSome, Ordering}
-use Rattle.std.specs.List.{AllByRecursion}
+use Rattle.tl_profile.proofs.Common.{◌≡◌, ℕ, zero, suc, ◌<◌, ◌≤◌, List, [], ◌∷◌, ◌++◌, length, take, drop, slice_get, reverse, Bool}
+use Rattle.tl_profile.proofs.Common.{true, false, Option, Some, option_map, refl, sym, ap, ◌∙◌, subst, inl, inr, arith, Ordering}
+use Rattle.tl_profile.proofs.Common.{AllByRecursion, slice_get-map, Coordinates, Chain, points_cmp, chain_at, points_of, County}
+use Rattle.tl_profile.proofs.Common.{IsCounty, Among, all_among, DirectedChain, points_along, least_points, points_at, points_from}
+use Rattle.std.proofs.Common.{IsSome}
 use Rattle.std.specs.Ordering.{is_lt}
 use Rattle.std.proofs.lemmas.List.{length-reverse}
-use Rattle.std.proofs.lemmas.Option.{slice_get-map}
-use Rattle.tl_layout.specs.Coordinates.{Coordinates}
-use Rattle.tl_shape.specs.Chain.{Chain}
-use Rattle.tl_shape.specs.PointOrder.{points_cmp}
-use Rattle.tl_county.specs.ChartWords.{chain_at, points_of}
-use Rattle.tl_county.specs.County.{County}
-use Rattle.tl_county.specs.CountyRules.{IsCounty}
-use Rattle.ordered_lists.proofs.Lists.Among.{Among, all_among}
-use Rattle.tl_county.specs.declared.directed_chain.DirectedChain.{DirectedChain}
 use Rattle.tl_county.proofs.DirectedChains.{points_turned}
-use Rattle.tl_profile.specs.ShapeOrder.{points_along}
-use Rattle.tl_profile.specs.Shapes.{least_points, points_at, points_from}
 
 -- an item, and the lists before and after it
 pub record StandsAt {X : Type 0} (xs : List X) (place : ℕ) : Type 0 where

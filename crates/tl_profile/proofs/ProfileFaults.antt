@@ -1,22 +1,12 @@
 -- A county is in the profile, or exactly one clause is broken first.
-use Rattle.std.proofs.Common.{◌≡◌, ◌⊎◌, ℕ, zero, suc, ◌==◌, List, [], ◌∷◌, map, true, cond, not, ◌&&◌}
-use Rattle.std.proofs.Common.{is_eq, is_some, inl, inr, sym, refl, subst, Option}
-use Rattle.std.proofs.lemmas.Bool.{false≢true, and_parts}
-use Rattle.tl_layout.specs.declared.type_p.BodyP.{BodyP}
-use Rattle.tl_county.specs.CountyRules.{has_body}
-use Rattle.tl_county.specs.County.{County}
-use Rattle.tl_county.specs.CountyRules.{polygons_along}
-use Rattle.ordered_lists.specs.Orders.{stands_in}
-use Rattle.tl_county.specs.PolygonKeys.{PolygonKey, key_cmp}
-use Rattle.ordered_lists.proofs.Lists.Among.{Among}
+use Rattle.tl_profile.proofs.Common.{◌≡◌, ◌⊎◌, ℕ, zero, suc, List, [], ◌∷◌, map, true, cond, not, ◌&&◌, is_eq, is_some, inl, inr, sym}
+use Rattle.tl_profile.proofs.Common.{refl, subst, Option, false≢true, and_parts, BodyP, has_body, County, polygons_along, stands_in}
+use Rattle.tl_profile.proofs.Common.{PolygonKey, key_cmp, Among, key_keys, same-true, among-map, ProfileFault, PolygonWithoutChain}
+use Rattle.tl_profile.proofs.Common.{TooSymmetric, Memory, is_clause_broken, profile_fault_place, IsInProfile, IsFirstBrokenClause}
+use Rattle.std.proofs.Common.{◌==◌}
 use Rattle.tl_county.proofs.Rules.FirstFault.{first_or_none, not_first, one_first, none_there}
 use Rattle.tl_county.proofs.Rules.FirstFault.{least_there, none_computed, first_computed}
-use Rattle.tl_county.specs.Laws.KeyOrders.{key_keys}
-use Rattle.ordered_lists.proofs.ByKey.Keys.{same-true}
-use Rattle.ordered_lists.proofs.Lists.Members.{any_among, among-map}
-use Rattle.tl_profile.specs.declared.fault.ProfileFault.{ProfileFault}
-use Rattle.tl_profile.specs.declared.fault.ProfileFault.TheVariants.{PolygonWithoutChain, TooSymmetric, Memory}
-use Rattle.tl_profile.specs.Profile.{is_clause_broken, profile_fault_place, IsInProfile, IsFirstBrokenClause}
+use Rattle.ordered_lists.proofs.Lists.Members.{any_among}
 
 -- the fault at a place
 abbrev part : List (List ℕ) → ℕ → List ℕ

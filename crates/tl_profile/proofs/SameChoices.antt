@@ -1,19 +1,10 @@
 -- Counties that are the same leave equally many choices, and the shapes of a county in order determine how many.
-use Rattle.std.proofs.Common.{◌≡◌, ℕ, List, map, Bool, true, false, refl, sym, ◌∙◌, subst, IsPermutation}
-use Rattle.std.proofs.lemmas.List.Sorted.{IsPermutation-sym}
-use Rattle.tl_layout.specs.Coordinates.{Coordinates}
-use Rattle.tl_shape.specs.Chain.{Chain}
-use Rattle.tl_shape.specs.Turned.{turned_if}
-use Rattle.tl_shape.specs.PointOrder.{points_cmp}
-use Rattle.tl_county.specs.County.{County}
-use Rattle.tl_county.specs.Renumbering.{Renumbering, Carries, AreSame, carried_chain, turns}
-use Rattle.tl_county.specs.Laws.KeyOrders.{points_keys}
-use Rattle.ordered_lists.proofs.Lists.Elements.{map-map, map_agree_everywhere}
-use Rattle.ordered_lists.proofs.Lists.Reordered.{SameElements, from_permutation, same-map}
-use Rattle.tl_profile.specs.Choices.{choices, is_either_way, running, shapes}
-use Rattle.tl_profile.specs.Shapes.{least_points}
-use Rattle.tl_profile.specs.ShapeOrder.{AreInShapeOrder, along_shapes, points_along}
-use Rattle.tl_county.specs.declared.directed_chain.DirectedChain.{DirectedChain}
+use Rattle.tl_profile.proofs.Common.{◌≡◌, ℕ, List, map, Bool, true, false, refl, sym, ◌∙◌, subst, IsPermutation, IsPermutation-sym}
+use Rattle.tl_profile.proofs.Common.{Coordinates, Chain, turned_if, points_cmp, County, Renumbering, Carries, AreSame, carried_chain}
+use Rattle.tl_profile.proofs.Common.{turns, points_keys, map-map, SameElements, choices, is_either_way, running, shapes, least_points}
+use Rattle.tl_profile.proofs.Common.{AreInShapeOrder, along_shapes, points_along, DirectedChain}
+use Rattle.ordered_lists.proofs.Lists.Elements.{map_agree_everywhere}
+use Rattle.ordered_lists.proofs.Lists.Reordered.{from_permutation, same-map}
 use Rattle.tl_profile.proofs.Factorials.{running_is, running-same}
 use Rattle.tl_profile.proofs.ShapePoints.{least_reverse}
 use Rattle.tl_profile.proofs.ShapesOfCounty.{shapes_along}

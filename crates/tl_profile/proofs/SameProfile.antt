@@ -1,27 +1,17 @@
 -- If two counties are the same map, both are in the profile or neither is.
-use Rattle.std.proofs.Common.{◌≡◌, nat_lt, map, Bool, true, false, not, ◌&&◌, is_eq, is_some}
-use Rattle.std.proofs.Common.{sym, refl, ap, ◌∙◌, subst, Option}
-use Rattle.std.proofs.lemmas.Bool.{false≢true, and_parts, and_from, ltb-true, lt-ltb, false_from_ne_true}
-use Rattle.std.proofs.lemmas.List.Sorted.{IsPermutation-sym}
-use Rattle.tl_layout.specs.declared.type_p.BodyP.{BodyP}
-use Rattle.tl_shape.specs.Chain.{Chain}
-use Rattle.tl_county.specs.CountyRules.{has_body}
-use Rattle.tl_county.specs.County.{County}
-use Rattle.tl_county.specs.CountyRules.{IsCounty, polygons_along, chain_polygons}
-use Rattle.ordered_lists.specs.Orders.{stands_in, times}
-use Rattle.tl_county.specs.PolygonKeys.{PolygonKey, key_cmp}
-use Rattle.tl_county.specs.Renumbering.{Renumbering, Carries, AreSame, turns, carried_chain, carried_polygon, renumbered}
+use Rattle.tl_profile.proofs.Common.{◌≡◌, nat_lt, map, Bool, true, false, not, ◌&&◌, is_eq, is_some, sym, refl, ap, ◌∙◌, subst, Option}
+use Rattle.tl_profile.proofs.Common.{false≢true, and_parts, ltb-true, lt-ltb, IsPermutation-sym, BodyP, Chain, has_body, County}
+use Rattle.tl_profile.proofs.Common.{IsCounty, polygons_along, chain_polygons, stands_in, times, PolygonKey, key_cmp, Renumbering}
+use Rattle.tl_profile.proofs.Common.{Carries, AreSame, turns, carried_chain, turned_if, Among, key_keys, Known, among-permutation}
+use Rattle.tl_profile.proofs.Common.{among-map, PolygonWithoutChain, TooSymmetric, Memory, most_choices, IsInProfile}
+use Rattle.std.proofs.lemmas.Bool.{and_from, false_from_ne_true}
+use Rattle.tl_county.specs.Renumbering.{carried_polygon, renumbered}
 use Rattle.ordered_lists.specs.Pairs.{image}
-use Rattle.tl_shape.specs.Turned.{turned_if}
 use Rattle.tl_county.proofs.Sameness.Carried.{chain_polygons-renumbered, among-unpieces, among-turned}
-use Rattle.ordered_lists.proofs.Lists.Among.{Among}
-use Rattle.tl_county.specs.Laws.KeyOrders.{key_keys}
-use Rattle.ordered_lists.proofs.ByKey.Keys.{Known, same-itself}
+use Rattle.ordered_lists.proofs.ByKey.Keys.{same-itself}
 use Rattle.tl_county.proofs.Sameness.Equivalence.{same-symmetric}
-use Rattle.ordered_lists.proofs.Lists.Members.{among-permutation, among-map, among-unmap, among-pieces, among_any, among_known, known_is_among}
-use Rattle.tl_profile.specs.declared.fault.ProfileFault.TheVariants.{PolygonWithoutChain, TooSymmetric, Memory}
-use Rattle.tl_profile.specs.Choices.{most_choices}
-use Rattle.tl_profile.specs.Profile.{AreAllOnSides, IsInProfile}
+use Rattle.ordered_lists.proofs.Lists.Members.{among-unmap, among-pieces, among_any, among_known, known_is_among}
+use Rattle.tl_profile.specs.Profile.{AreAllOnSides}
 use Rattle.tl_profile.proofs.ProfileFaults.{body_entry}
 use Rattle.tl_profile.proofs.SameChoices.{same_choices}
 

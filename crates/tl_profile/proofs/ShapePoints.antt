@@ -1,12 +1,9 @@
 -- A chain's shape is the same from either end of the chain. If the chain is its own reverse, so is its shape.
-use Rattle.std.proofs.Common.{◌≡◌, List, Bool, true, false, Ordering, Less, Equal, Greater, is_eq, is_lt, reverse, refl, sym, ap, ◌∙◌}
+use Rattle.tl_profile.proofs.Common.{◌≡◌, List, Bool, true, false, Ordering, Less, Equal, Greater, is_eq, reverse, refl, sym, ap, ◌∙◌}
+use Rattle.tl_profile.proofs.Common.{Coordinates, points_cmp, points_keys, is_either_way, least_points, points_from}
+use Rattle.std.proofs.Common.{is_lt}
 use Rattle.std.specs.Ordering.{ordering_reverse}
 use Rattle.std.proofs.lemmas.List.{reverse-reverse}
-use Rattle.tl_layout.specs.Coordinates.{Coordinates}
-use Rattle.tl_shape.specs.PointOrder.{points_cmp}
-use Rattle.tl_county.specs.Laws.KeyOrders.{points_keys}
-use Rattle.tl_profile.specs.Choices.{is_either_way}
-use Rattle.tl_profile.specs.Shapes.{least_points, points_from}
 
 -- the lesser of a list and its reverse is the same for both
 pub least_reverse : (ps : List Coordinates) → least_points (reverse ps) ≡ least_points ps

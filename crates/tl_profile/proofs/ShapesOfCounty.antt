@@ -1,16 +1,8 @@
 -- The points of all directed chains are the county's shapes.
-use Rattle.std.proofs.Common.{◌≡◌, ◌+◌, ℕ, suc, List, [], ◌∷◌, map, length, Some, slice_get, option_map}
-use Rattle.std.proofs.Common.{refl, ap, ap₂, ◌∙◌, subst, arith}
-use Rattle.std.specs.List.{range_with_len}
-use Rattle.std.proofs.lemmas.Option.{slice_get-map}
-use Rattle.tl_shape.specs.Chain.{Chain}
-use Rattle.tl_county.specs.ChartWords.{points_of}
-use Rattle.tl_county.specs.County.{County}
-use Rattle.ordered_lists.proofs.Lists.Elements.{map-map}
-use Rattle.tl_profile.specs.Choices.{shapes}
+use Rattle.tl_profile.proofs.Common.{◌≡◌, ◌+◌, ℕ, suc, List, [], ◌∷◌, map, length, Some, slice_get, option_map, refl, ap, ap₂, ◌∙◌}
+use Rattle.tl_profile.proofs.Common.{subst, arith, range_with_len, slice_get-map, Chain, points_of, County, map-map, shapes}
+use Rattle.tl_profile.proofs.Common.{least_points, along_shape, along_shapes, points_along}
 use Rattle.tl_profile.proofs.Places.{along_from}
-use Rattle.tl_profile.specs.Shapes.{least_points}
-use Rattle.tl_profile.specs.ShapeOrder.{along_shape, along_shapes, points_along}
 
 -- a function of each place that agrees with a function of the item there has the same values
 map_places : {X Y : Type 0} (f : ℕ → Y) (g : X → Y) (a : ℕ) (xs : List X)

@@ -1,27 +1,21 @@
 -- The keys on sides and those with a type P record, gathered place by place, and how the profile judges them.
-use Rattle.std.proofs.Common.{◌≡◌, ℕ, suc, ◌+◌, ◌<◌, nat_lt, List, [], ◌∷◌, ◌++◌, map, filter, length, take, slice_get, Bool, true, false}
-use Rattle.std.proofs.Common.{cond, not, ◌&&◌, ◌||◌, Option, Some, None, is_some, option_map, is_eq, refl, sym, ap, ◌∙◌}
-use Rattle.std.proofs.Common.{append_assoc, append-nil, map-id, arith}
-use Rattle.std.specs.List.{list_any, filter_map, range_with_len, cons_option}
+use Rattle.tl_profile.proofs.Common.{◌≡◌, ℕ, suc, ◌+◌, ◌<◌, nat_lt, List, [], ◌∷◌, ◌++◌, map, filter, length, take, slice_get, Bool}
+use Rattle.tl_profile.proofs.Common.{true, false, cond, not, ◌&&◌, Option, Some, is_some, option_map, is_eq, refl, sym, ap, ◌∙◌}
+use Rattle.tl_profile.proofs.Common.{append_assoc, arith, range_with_len, lt-ltb, BodyP, Chain, chain_at, has_body, County, IsCounty}
+use Rattle.tl_profile.proofs.Common.{chain_polygons, polygons_along, is_unknown, IsInOrder, distinct, stands_in, PolygonKey, key_cmp}
+use Rattle.tl_profile.proofs.Common.{key_keys, key_if_bodied, keys_on}
+use Rattle.std.proofs.Common.{◌||◌, None}
+use Rattle.std.proofs.Common.{append-nil, map-id}
+use Rattle.std.specs.List.{list_any, filter_map, cons_option}
 use Rattle.std.specs.Ordering.{on}
-use Rattle.std.proofs.lemmas.Bool.{lt-ltb}
 use Rattle.std.proofs.lemmas.Grind.{flat_map-append}
 use Rattle.tl_layout.specs.PolygonSide.{PolygonSide}
-use Rattle.tl_layout.specs.declared.type_p.BodyP.{BodyP}
-use Rattle.tl_shape.specs.Chain.{Chain}
-use Rattle.tl_county.specs.ChartWords.{chain_at}
-use Rattle.tl_county.specs.CountyRules.{has_body}
-use Rattle.tl_county.specs.County.{County}
-use Rattle.tl_county.specs.CountyRules.{IsCounty, chain_polygons, polygons_along}
-use Rattle.ordered_lists.specs.Keyed.{is_unknown}
-use Rattle.ordered_lists.specs.Orders.{IsInOrder, distinct, stands_in}
-use Rattle.tl_county.specs.PolygonKeys.{PolygonKey, key_cmp, key_on}
+use Rattle.tl_county.specs.PolygonKeys.{key_on}
 use Rattle.ordered_lists.proofs.Lists.EntryLists.{in_order-strict}
 use Rattle.ordered_lists.proofs.Lists.InOrder.{strict-map, in_order-map}
 use Rattle.ordered_lists.proofs.ByKey.KeyedLists.{in_order-filter}
-use Rattle.tl_county.specs.Laws.KeyOrders.{key_keys}
 use Rattle.tl_county.proofs.ByKey.KeySets.{stands_in-distinct}
-use Rattle.tl_profile.specs.Sides.{key_if_bodied, keys_on, keys_with_body}
+use Rattle.tl_profile.specs.Sides.{keys_with_body}
 use Rattle.tl_profile.proofs.Places.{ChainStands, chain_stands}
 
 -- the sides of one more chain

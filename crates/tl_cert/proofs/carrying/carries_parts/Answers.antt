@@ -1,5 +1,4 @@
-use Rattle.std.proofs.Common.{◌≡◌, true, false, rules}
-use Rattle.ordered_lists.proofs.Lists.ByPlace.{decides_no, decides_same}
+use Rattle.tl_cert.proofs.Common.{◌≡◌, true, false, rules, decides_no, decides_same}
 use Rattle.tl_cert.proofs.PartsCarried.{parts_there, parts_carried}
 use Rattle.tl_cert.proofs.carrying.carries_parts.Goals as goal
 

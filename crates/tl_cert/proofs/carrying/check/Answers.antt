@@ -1,7 +1,4 @@
-use Rattle.std.proofs.Common.{◌≡◌, IfOk, false, rules, subst, sym, true}
-use Rattle.std.specs.Bool.{Decides}
-use Rattle.tl_county.specs.Renumbering.{Carries, NumbersArePaired}
-use Rattle.ordered_lists.proofs.Lists.ByPlace.{decides_no}
+use Rattle.tl_cert.proofs.Common.{◌≡◌, IfOk, false, rules, subst, sym, true, Decides, Carries, NumbersArePaired, decides_no}
 use Rattle.tl_cert.proofs.carrying.check.Goals as goal
 
 pub carries_parts-requires : goal.carries_parts-requires

@@ -1,7 +1,4 @@
-use Rattle.std.proofs.Common.{IfOk, ap, ◌∙◌, subst}
-use Rattle.std.specs.Bool.{Decides}
-use Rattle.tl_county.specs.County.{County}
-use Rattle.tl_county.specs.Renumbering.{Carries}
+use Rattle.tl_cert.proofs.Common.{IfOk, ap, ◌∙◌, subst, Decides, County, Carries}
 use Rattle.tl_county.specs.MaskedCounty.{masked}
 use Rattle.tl_cert.proofs.carrying.check_masked.Goals as goal
 

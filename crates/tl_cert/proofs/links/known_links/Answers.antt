@@ -1,6 +1,4 @@
-use Rattle.std.proofs.Common.{◌∙◌, IsPermutation, ap, map, subst, sym}
-use Rattle.std.proofs.lemmas.List.Sorted.{IsPermutation-map}
-use Rattle.tl_cert.specs.LinkFields.{link_fields}
+use Rattle.tl_cert.proofs.Common.{◌∙◌, IsPermutation, ap, map, subst, sym, IsPermutation-map, link_fields}
 use Rattle.tl_cert.proofs.links.known_links.Goals as goal
 
 pub returns : goal.returns

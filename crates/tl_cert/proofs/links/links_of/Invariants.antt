@@ -1,7 +1,4 @@
-use Rattle.std.proofs.Common.{◌≡◌, take, flat_map}
-use Rattle.tl_layout.specs.ByType.{of_number}
-use Rattle.tl_county.specs.County.{eight_land}
-use Rattle.tl_county.specs.CountyRules.{lands}
+use Rattle.tl_cert.proofs.Common.{◌≡◌, take, flat_map, of_number, eight_land, lands}
 use Rattle.tl_cert.proofs.links.links_of.Given as goal
 
 abbrev pub invariant-loop-place : goal.invariant-loop-place

@@ -1,8 +1,5 @@
-use Rattle.std.proofs.Common.{◌∙◌, IsPermutation, ap, map, subst, sym}
-use Rattle.std.proofs.lemmas.List.Sorted.{IsPermutation-map}
-use Rattle.tl_layout.specs.Fields.{Fields8}
-use Rattle.tl_county.specs.Renumbering.{carried_link}
-use Rattle.tl_cert.specs.LinkFields.{LinkFields, link_fields}
+use Rattle.tl_cert.proofs.Common.{◌∙◌, IsPermutation, ap, map, subst, sym, IsPermutation-map, Fields8, carried_link, LinkFields}
+use Rattle.tl_cert.proofs.Common.{link_fields}
 use Rattle.tl_cert.proofs.links.renumbered_links.Goals as goal
 
 pub returns : goal.returns

@@ -1,7 +1,4 @@
-use Rattle.std.proofs.Common.{is_eq, ap, ◌∙◌}
-use Rattle.std.specs.Cmp.Lexicographic.{slice_cmp}
-use Rattle.ordered_lists.proofs.ByKey.KeyedLists.{in_order-from_sorted}
-use Rattle.ordered_lists.proofs.ByKey.Keys.{IsKeyOrder}
+use Rattle.tl_cert.proofs.Common.{is_eq, ap, ◌∙◌, slice_cmp, in_order-from_sorted, IsKeyOrder}
 use Rattle.tl_cert.proofs.Places.{decides_known}
 use Rattle.tl_cert.proofs.pairing.are_known.Goals as goal
 

@@ -1,9 +1,5 @@
-use Rattle.std.proofs.Common.{sym, subst, IsPermutation}
-use Rattle.std.proofs.lemmas.List.Sorted.{IsPermutation-sym, IsPermutation-trans}
-use Rattle.std.specs.Bool.{Decides}
-use Rattle.ordered_lists.specs.Orders.{IsInOrder}
-use Rattle.ordered_lists.proofs.ByKey.KeyedLists.{in_order-from_sorted}
-use Rattle.ordered_lists.proofs.Lists.ByPlace.{decides_same}
+use Rattle.tl_cert.proofs.Common.{sym, subst, IsPermutation, IsPermutation-sym, IsPermutation-trans, Decides, IsInOrder}
+use Rattle.tl_cert.proofs.Common.{in_order-from_sorted, decides_same}
 use Rattle.tl_cert.proofs.pairing.are_reordered.Goals as goal
 
 pub are_known-requires : goal.are_known-requires

@@ -1,5 +1,4 @@
-use Rattle.std.proofs.Common.{◌∙◌, sym, ap, filter_map}
-use Rattle.tl_cert.specs.Images.{pair_on}
+use Rattle.tl_cert.proofs.Common.{◌∙◌, sym, ap, filter_map, pair_on}
 use Rattle.tl_cert.proofs.Tables.{joined-pairs}
 use Rattle.tl_cert.proofs.pairs.join_pairs.Goals as goal
 

@@ -1,6 +1,4 @@
-use Rattle.std.proofs.Common.{◌≡◌, ◌∷◌, [], ap, sym, subst, ◌∙◌, nat_cmp}
-use Rattle.ordered_lists.specs.Orders.{IsInOrder, has_repeat}
-use Rattle.ordered_lists.proofs.ByKey.KeyedLists.{empty_list}
+use Rattle.tl_cert.proofs.Common.{◌≡◌, ◌∷◌, [], ap, sym, subst, ◌∙◌, nat_cmp, IsInOrder, has_repeat, empty_list}
 use Rattle.tl_cert.proofs.Places.{repeat_later}
 use Rattle.tl_cert.proofs.sorted_numbers.ascend.Goals as goal
 

@@ -1,5 +1,4 @@
-use Rattle.std.proofs.Common.{◌≡◌, length, nat_cmp}
-use Rattle.ordered_lists.specs.Orders.{IsInOrder, has_repeat}
+use Rattle.tl_cert.proofs.Common.{◌≡◌, length, nat_cmp, IsInOrder, has_repeat}
 use Rattle.tl_cert.proofs.sorted_numbers.ascend.Given as goal
 
 abbrev pub invariant-loop-first : goal.invariant-loop-first

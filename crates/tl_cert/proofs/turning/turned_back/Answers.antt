@@ -1,5 +1,4 @@
-use Rattle.std.proofs.Common.{◌∙◌, sym, ap, nat_cmp}
-use Rattle.tl_cert.specs.Images.{named_images}
+use Rattle.tl_cert.proofs.Common.{◌∙◌, sym, ap, nat_cmp, named_images}
 use Rattle.tl_cert.proofs.Tables.{named_images-filtered}
 use Rattle.tl_cert.proofs.turning.turned_back.Goals as goal
 

@@ -1,9 +1,6 @@
-use Rattle.std.proofs.Common.{◌++◌, ◌∷◌, [], map, length, sym, ap, ◌∙◌, subst, append_assoc, length-append, arith}
-use Rattle.tl_shape.specs.PointOrder.{points_cmp}
-use Rattle.ordered_lists.specs.Orders.{IsInOrder}
+use Rattle.tl_profile.proofs.Common.{◌++◌, ◌∷◌, [], map, length, sym, ap, ◌∙◌, subst, append_assoc, length-append, arith, points_cmp}
+use Rattle.tl_profile.proofs.Common.{IsInOrder, is_either_way, whole_shape}
 use Rattle.ordered_lists.proofs.ByKey.KeyedLists.{empty_list}
-use Rattle.tl_profile.specs.Choices.{is_either_way}
-use Rattle.tl_profile.specs.PlacedShapes.{whole_shape}
 use Rattle.tl_profile.specs.declared.open_places.OpenChoices.{OpenChoices}
 use Rattle.tl_profile.proofs.CountedChoices.{IsCounted}
 use Rattle.tl_profile.proofs.FoundChoices.{IsFound, behind, counted_place, few_shapes, found_all, found_many, rest_in_order}

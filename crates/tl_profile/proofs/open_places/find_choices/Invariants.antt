@@ -1,9 +1,6 @@
 -- The remaining shapes, and the shapes after them, which are counted.
-use Rattle.std.proofs.Common.{◌≡◌, ◌≤◌, ◌++◌, List, length, map}
-use Rattle.tl_shape.specs.PointOrder.{points_cmp}
-use Rattle.tl_profile.specs.Choices.{is_either_way, most_choices}
-use Rattle.tl_profile.specs.PlacedShapes.{whole_shape}
-use Rattle.tl_profile.specs.declared.shapes.PlacedShape.{PlacedShape}
+use Rattle.tl_profile.proofs.Common.{◌≡◌, ◌≤◌, ◌++◌, List, length, map, points_cmp, is_either_way, most_choices, whole_shape}
+use Rattle.tl_profile.proofs.Common.{PlacedShape}
 use Rattle.tl_profile.proofs.CountedChoices.{IsCounted}
 use Rattle.tl_profile.proofs.open_places.find_choices.Given as goal
 

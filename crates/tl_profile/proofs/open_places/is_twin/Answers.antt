@@ -1,8 +1,4 @@
-use Rattle.std.proofs.Common.{map, is_eq, sym, ap, ◌∙◌, subst}
-use Rattle.std.specs.List.{AllByRecursion}
-use Rattle.tl_shape.specs.PointOrder.{points_cmp}
-use Rattle.tl_profile.specs.Choices.{is_first}
-use Rattle.tl_profile.specs.PlacedShapes.{HasHead, whole_shape}
+use Rattle.tl_profile.proofs.Common.{map, is_eq, sym, ap, ◌∙◌, subst, AllByRecursion, points_cmp, is_first, HasHead, whole_shape}
 use Rattle.tl_profile.proofs.PlacedOrder.{placed-whole}
 use Rattle.tl_profile.proofs.open_places.is_twin.Goals as goal
 

@@ -1,7 +1,4 @@
-use Rattle.std.proofs.Common.{◌≡◌, ◌+◌, cond, map, sym, ap, ◌∙◌, arith}
-use Rattle.std.proofs.lemmas.List.{length-map}
-use Rattle.tl_county.specs.Laws.KeyOrders.{points_keys}
-use Rattle.tl_profile.specs.PlacedShapes.{whole_shape}
+use Rattle.tl_profile.proofs.Common.{◌≡◌, ◌+◌, cond, map, sym, ap, ◌∙◌, arith, length-map, points_keys, whole_shape}
 use Rattle.tl_profile.proofs.CountedChoices.{alike-next, alike_few}
 use Rattle.tl_profile.proofs.open_places.place_in_order.Goals as goal
 use Rattle.tl_profile.proofs.open_places.place_in_order.Goals.{then-is_twin, else-is_twin}

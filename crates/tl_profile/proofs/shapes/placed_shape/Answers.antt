@@ -1,6 +1,4 @@
-use Rattle.std.proofs.Common.{◌∷◌, slice_get, is_eq, length, sym, ap, ◌∙◌, arith}
-use Rattle.tl_profile.specs.Choices.{is_either_way}
-use Rattle.tl_profile.specs.Shapes.{points_at}
+use Rattle.tl_profile.proofs.Common.{◌∷◌, slice_get, is_eq, length, sym, ap, ◌∙◌, arith, is_either_way, points_at}
 use Rattle.tl_profile.proofs.Places.{along_from, some-same, two_along}
 use Rattle.tl_profile.proofs.ShapePoints.{either_way-from}
 use Rattle.tl_profile.proofs.shapes.placed_shape.Goals as goal

@@ -1,10 +1,6 @@
-use Rattle.std.proofs.Common.{◌∷◌, ◌++◌, [], map, sym, ap, ap₂, ◌∙◌, subst, arith}
-use Rattle.std.specs.List.{AllByRecursion}
-use Rattle.std.proofs.lemmas.List.{map-append}
+use Rattle.tl_profile.proofs.Common.{◌∷◌, ◌++◌, [], map, sym, ap, ap₂, ◌∙◌, subst, arith, AllByRecursion, map-append, along_shape}
+use Rattle.tl_profile.proofs.Common.{HasHead, placed_directed, few_chains}
 use Rattle.std.proofs.lemmas.List.FromFn.{map-range_with_len_more}
-use Rattle.tl_profile.specs.ShapeOrder.{along_shape}
-use Rattle.tl_profile.specs.PlacedShapes.{HasHead, placed_directed}
-use Rattle.tl_county.proofs.Limits.FewChains.{few_chains}
 use Rattle.tl_profile.proofs.Places.{all_next}
 use Rattle.tl_profile.proofs.shapes.placed_shapes.Goals as goal
 

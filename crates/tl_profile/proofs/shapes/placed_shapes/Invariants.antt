@@ -1,7 +1,4 @@
-use Rattle.std.proofs.Common.{◌≡◌, map}
-use Rattle.std.specs.List.{AllByRecursion, range_with_len}
-use Rattle.tl_profile.specs.ShapeOrder.{along_shape}
-use Rattle.tl_profile.specs.PlacedShapes.{HasHead, placed_directed}
+use Rattle.tl_profile.proofs.Common.{◌≡◌, map, AllByRecursion, range_with_len, along_shape, HasHead, placed_directed}
 use Rattle.tl_profile.proofs.shapes.placed_shapes.Given as goal
 
 abbrev pub invariant-loop-place : goal.invariant-loop-place

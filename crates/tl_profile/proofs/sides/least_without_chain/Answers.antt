@@ -1,9 +1,5 @@
-use Rattle.std.proofs.Common.{◌&&◌, not, map, sym, ◌∙◌, subst}
-use Rattle.tl_county.specs.CountyRules.{has_body, polygons_along}
-use Rattle.ordered_lists.specs.Keyed.{IsLeastPassing, is_unknown}
-use Rattle.ordered_lists.specs.Orders.{IsInOrder, stands_in}
-use Rattle.tl_county.specs.PolygonKeys.{key_cmp}
-use Rattle.tl_county.specs.Laws.KeyOrders.{key_keys}
+use Rattle.tl_profile.proofs.Common.{◌&&◌, not, map, sym, ◌∙◌, subst, has_body, polygons_along, IsLeastPassing, is_unknown, IsInOrder}
+use Rattle.tl_profile.proofs.Common.{stands_in, key_cmp, key_keys}
 use Rattle.ordered_lists.proofs.ByKey.KeyedLists.{at_lists, least-same}
 use Rattle.ordered_lists.proofs.ByKey.Numbers.{distinct-in_order}
 use Rattle.tl_profile.proofs.SideKeys.{bodies_in_order, same_unknown}

@@ -1,10 +1,6 @@
-use Rattle.std.proofs.Common.{◌++◌, take, refl, ap, ◌∙◌, arith, add-one}
-use Rattle.tl_county.specs.CountyRules.{polygons_along}
-use Rattle.ordered_lists.specs.Orders.{distinct}
-use Rattle.tl_county.specs.PolygonKeys.{key_cmp}
-use Rattle.tl_county.specs.Laws.KeyOrders.{key_keys}
+use Rattle.tl_profile.proofs.Common.{◌++◌, take, refl, ap, ◌∙◌, arith, polygons_along, distinct, key_cmp, key_keys, keys_on}
+use Rattle.std.proofs.Common.{add-one}
 use Rattle.tl_county.proofs.ByKey.KeySets.{distinct-more}
-use Rattle.tl_profile.specs.Sides.{keys_on}
 use Rattle.tl_profile.proofs.SideKeys.{sides_next}
 use Rattle.tl_profile.proofs.sides.polygons_on_sides.Goals as goal
 

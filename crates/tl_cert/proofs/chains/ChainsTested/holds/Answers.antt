@@ -1,11 +1,7 @@
-use Rattle.std.proofs.Common.{◌≡◌, ap, ◌∙◌, nat_cmp, option_map, arith}
-use Rattle.tl_shape.specs.Turned.{turned_if}
+use Rattle.tl_cert.proofs.Common.{◌≡◌, ap, ◌∙◌, nat_cmp, option_map, arith, turned_if, image, turns, renumbered, decides_over}
 use Rattle.tl_county.specs.ChartWords.{chain_at, chain_under}
-use Rattle.ordered_lists.specs.Pairs.{image}
-use Rattle.tl_county.specs.Renumbering.{turns, renumbered}
 use Rattle.tl_cert.specs.PartsThere.{chain_carried}
 use Rattle.tl_county.proofs.Limits.FewChains.{few_chains}
-use Rattle.ordered_lists.proofs.Lists.ByPlace.{decides_over}
 use Rattle.tl_cert.proofs.Places.{decides_entry}
 use Rattle.tl_cert.proofs.chains.ChainsTested.holds.Goals as goal
 

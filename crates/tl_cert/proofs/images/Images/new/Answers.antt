@@ -1,8 +1,6 @@
-use Rattle.std.proofs.Common.{◌∷◌, [], Some, cond, ◌++◌, sym, ap, ◌∙◌, append_assoc, append-nil}
-use Rattle.ordered_lists.specs.Entries.{value_under}
+use Rattle.tl_cert.proofs.Common.{◌∷◌, [], Some, cond, ◌++◌, sym, ap, ◌∙◌, append_assoc, append-nil, value_under, IsKeyOrder}
+use Rattle.tl_cert.proofs.Common.{empty_list}
 use Rattle.std.specs.Map.{lookup}
-use Rattle.ordered_lists.proofs.ByKey.Keys.{IsKeyOrder}
-use Rattle.ordered_lists.proofs.ByKey.KeyedLists.{empty_list}
 use Rattle.tl_cert.proofs.Tables.{put_before}
 use Rattle.tl_cert.proofs.images.Images.new.Goals as goal
 

@@ -1,6 +1,5 @@
-use Rattle.std.proofs.Common.{◌≡◌, ◌++◌, List, length}
+use Rattle.tl_cert.proofs.Common.{◌≡◌, ◌++◌, List, length, value_under}
 use Rattle.indexmap.specs.IndexMap.{get}
-use Rattle.ordered_lists.specs.Entries.{value_under}
 use Rattle.tl_cert.proofs.images.Images.new.Given as goal
 
 abbrev pub invariant-loop-last : goal.invariant-loop-last

@@ -1,6 +1,5 @@
-use Rattle.std.proofs.Common.{◌∙◌, nat_cmp}
+use Rattle.tl_cert.proofs.Common.{◌∙◌, nat_cmp, image}
 use Rattle.tl_county.specs.ChartWords.{name_under}
-use Rattle.ordered_lists.specs.Pairs.{image}
 use Rattle.tl_cert.proofs.Places.{decides_found}
 use Rattle.tl_cert.proofs.parts.NamesTested.holds.Goals as goal
 

@@ -1,7 +1,5 @@
-use Rattle.std.proofs.Common.{◌∙◌}
+use Rattle.tl_cert.proofs.Common.{◌∙◌, key_cmp, image}
 use Rattle.tl_county.specs.ChartWords.{polygon_under}
-use Rattle.tl_county.specs.PolygonKeys.{key_cmp}
-use Rattle.ordered_lists.specs.Pairs.{image}
 use Rattle.tl_cert.proofs.Places.{decides_found}
 use Rattle.tl_cert.proofs.parts.PolygonsTested.holds.Goals as goal
 

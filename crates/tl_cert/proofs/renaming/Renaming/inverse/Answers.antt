@@ -1,6 +1,5 @@
-use Rattle.std.proofs.Common.{◌∙◌, ap, ap₂, sym, subst, map, filter, nat_cmp}
-use Rattle.tl_county.specs.Renumbering.{Carries}
-use Rattle.ordered_lists.specs.Pairs.{image, is_named, swapped}
+use Rattle.tl_cert.proofs.Common.{◌∙◌, ap, ap₂, sym, subst, map, filter, nat_cmp, Carries, image, is_named}
+use Rattle.ordered_lists.specs.Pairs.{swapped}
 use Rattle.tl_county.proofs.Sameness.Equivalence.{inverse_carries}
 use Rattle.tl_cert.proofs.renaming.Renaming.inverse.Goals as goal
 

@@ -1,7 +1,4 @@
-use Rattle.std.proofs.Common.{◌≡◌, ◌∙◌, ap₂, sym, subst, map, filter, nat_cmp}
-use Rattle.tl_county.specs.PolygonKeys.{key_cmp}
-use Rattle.tl_county.specs.Renumbering.{Carries}
-use Rattle.ordered_lists.specs.Pairs.{composed}
+use Rattle.tl_cert.proofs.Common.{◌≡◌, ◌∙◌, ap₂, sym, subst, map, filter, nat_cmp, key_cmp, Carries, composed}
 use Rattle.tl_county.proofs.Sameness.Equivalence.{then_carries}
 use Rattle.tl_cert.specs.Images.{is_turned_once}
 use Rattle.tl_cert.proofs.renaming.Renaming.then.Goals as goal

@@ -1,6 +1,5 @@
-use Rattle.std.proofs.Common.{◌∙◌, ap, subst, nat_cmp, nat_lt, IsPermutation}
-use Rattle.ordered_lists.specs.Orders.{stands_in}
-use Rattle.ordered_lists.proofs.ByKey.Keys.{nat_keys, times-permutation}
+use Rattle.tl_cert.proofs.Common.{◌∙◌, ap, subst, nat_cmp, nat_lt, IsPermutation, stands_in, nat_keys}
+use Rattle.ordered_lists.proofs.ByKey.Keys.{times-permutation}
 use Rattle.tl_cert.proofs.sorted_numbers.SortedNumbers.contains.Goals as goal
 
 pub returns : goal.returns

@@ -1,8 +1,4 @@
-use Rattle.std.proofs.Common.{◌≡◌, false, subst, nat_cmp, IsPermutation}
-use Rattle.std.proofs.lemmas.List.Sorted.{IsPermutation-sym}
-use Rattle.std.specs.Bool.{Decides}
-use Rattle.ordered_lists.specs.Orders.{has_repeat}
-use Rattle.ordered_lists.proofs.Lists.ByPlace.{decides_same}
+use Rattle.tl_cert.proofs.Common.{◌≡◌, false, subst, nat_cmp, IsPermutation, IsPermutation-sym, Decides, has_repeat, decides_same}
 use Rattle.tl_cert.proofs.Places.{repeat_permuted}
 use Rattle.tl_cert.proofs.sorted_numbers.SortedNumbers.has_no_repeat.Goals as goal
 

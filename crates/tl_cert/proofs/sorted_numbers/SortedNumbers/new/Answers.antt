@@ -1,6 +1,5 @@
-use Rattle.std.proofs.Common.{subst, IsPermutation}
+use Rattle.tl_cert.proofs.Common.{subst, IsPermutation, in_order-from_sorted}
 use Rattle.std.proofs.lemmas.Cmp.{nat_cmp_total}
-use Rattle.ordered_lists.proofs.ByKey.KeyedLists.{in_order-from_sorted}
 use Rattle.tl_cert.proofs.sorted_numbers.SortedNumbers.new.Goals as goal
 
 pub invariant_of-result : goal.invariant_of-result

@@ -1,9 +1,5 @@
-use Rattle.std.proofs.Common.{map, sym, ap, ◌∙◌, subst}
-use Rattle.tl_shape.specs.PointOrder.{points_cmp}
-use Rattle.ordered_lists.proofs.Lists.Elements.{map-map}
-use Rattle.tl_profile.specs.Choices.{is_either_way, open_places}
-use Rattle.tl_profile.specs.PlacedShapes.{placed_directed}
-use Rattle.tl_profile.specs.ShapeOrder.{AreInShapeOrder, points_along}
+use Rattle.tl_profile.proofs.Common.{map, sym, ap, ◌∙◌, subst, points_cmp, map-map, is_either_way, open_places, placed_directed}
+use Rattle.tl_profile.proofs.Common.{AreInShapeOrder, points_along}
 use Rattle.tl_profile.proofs.shape_order.ShapeOrder.of_shapes.Goals as goal
 
 pub returns : goal.returns
