@@ -1,7 +1,7 @@
 -- The canonical text of records that were read, and why there may be none.
 use Rattle.std.proofs.Common.{◌≡◌, ◌∙◌, ℕ, List, Result, Ok, Err, [], ◌∷◌, IfOk, IfErr, subst, sym}
 use Rattle.std.proofs.Common.{◌+◌, ◌++◌, ◌<◌, length, take}
-use Rattle.std.specs.Prelude.{MatchResult, OnOk, if◌then◌else◌, is_ok}
+use Rattle.std.specs.Prelude.{MatchResult, if◌then◌else◌, is_ok}
 use Rattle.tl_write.specs.declared.fault.WriteFault.{WriteFault}
 use Rattle.tl_layout.specs.RecordText.{text_of}
 use Rattle.tl_layout.specs.declared.record_type.Record.{Record}

@@ -1,15 +1,15 @@
 -- The numbers and the entries of a county, decided place by place.
 use Rattle.tl_cert.proofs.Common.{◌≡◌, ◌≤◌, ℕ, zero, suc, List, [], ◌∷◌, Bool, true, false, Ordering, is_eq, Option, Some, slice_get}
 use Rattle.tl_cert.proofs.Common.{refl, sym, ap, ◌∙◌, subst, arith, IsPermutation, nat_cmp, IsPermutation-sym, IsPermutation-trans}
-use Rattle.tl_cert.proofs.Common.{Decides, slice_cmp, IsInOrder, times, has_repeat, entry_keys, ArePaired, decides_over, decides_same}
-use Rattle.tl_cert.proofs.Common.{IsKeyOrder, Known, nat_keys, same-itself, lefts, apart-permutation}
+use Rattle.tl_cert.proofs.Common.{Decides, slice_cmp, IsInOrder, times, has_repeat, entry_keys, decides_over}
+use Rattle.tl_cert.proofs.Common.{IsKeyOrder, Known, nat_keys, same-itself, apart-permutation}
 use Rattle.std.proofs.Common.{IfSome}
 use Rattle.std.proofs.Common.{is_gt, ◌||◌}
 use Rattle.std.proofs.lemmas.Bool.{le-ltb}
 use Rattle.ordered_lists.specs.Entries.{entry_values}
 use Rattle.ordered_lists.proofs.Lists.InOrder.{in_order-permutation}
 use Rattle.ordered_lists.proofs.ByKey.KeyOrders.{lists_keys}
-use Rattle.ordered_lists.proofs.ByKey.Keys.{same-true, rights, known_all, order_itself, order_antisymm}
+use Rattle.ordered_lists.proofs.ByKey.Keys.{same-true, known_all, order_itself, order_antisymm}
 use Rattle.ordered_lists.proofs.Lists.Distinct.{has_repeat-apart, apart_from_no_repeat}
 
 -- the key and the value of an entry are at the same place
@@ -40,10 +40,6 @@ module _ {K : Type 0} {cmp : K → K → Ordering} (o : IsKeyOrder cmp) where
         (in_order-permutation o sorted known g h (IsPermutation-trans sorted numbers known (IsPermutation-sym numbers sorted p) q))
         (same-itself (lists_keys o) sorted),
   )
-
-pub decides_paired : {K : Type 0} (pairs : List (K × K)) (olds news : List K) → IsPermutation (lefts pairs) olds → (b : Bool)
-    → Decides b (IsPermutation (rights pairs) news) → Decides b (ArePaired pairs olds news)
-decides_paired pairs olds news l b d = decides_same b d (λ r. record { left = l; right = r }) (λ h. h.right)
 
 -- if a list is in order and its first two elements differ, it has a repetition exactly if the rest after the first has one
 pub repeat_later : (x y : ℕ) (ys : List ℕ) → IsInOrder nat_cmp (x ∷ y ∷ ys) → (x ≡ y → ⊥) → has_repeat nat_cmp (y ∷ ys) ≡ has_repeat nat_cmp

@@ -1,6 +1,6 @@
 -- A pass over ordered keys, from the last to the first: the running product, and the places with a choice.
-use Rattle.tl_profile.proofs.Common.{◌≡◌, ◌⊎◌, ◌<◌, ◌≤◌, ◌+◌, ◌*◌, ℕ, suc, List, [], ◌∷◌, ◌++◌, length, reverse, Bool, true, false}
-use Rattle.tl_profile.proofs.Common.{cond, Ordering, is_eq, refl, ap, ◌∙◌, inl, inr, arith, AllByRecursion, times, IsInOrder}
+use Rattle.tl_profile.proofs.Common.{◌≡◌, ◌⊎◌, ◌≤◌, ◌+◌, ◌*◌, ℕ, suc, List, [], ◌∷◌, ◌++◌, length, reverse, Bool, true, false}
+use Rattle.tl_profile.proofs.Common.{cond, Ordering, is_eq, refl, ap, ◌∙◌, inl, inr, arith, times, IsInOrder}
 use Rattle.tl_profile.proofs.Common.{IsKeyOrder, same-true, times-yes, times-no, is_first, is_settled, open_places, open_place_at}
 use Rattle.tl_profile.proofs.Common.{running, ways_at, OpenPlace}
 use Rattle.std.proofs.lemmas.List.{reverse-append}
@@ -92,22 +92,3 @@ module _ {K : Type 0} (cmp : K → K → Ordering) (either : K → Bool) where
           ≡ cond b (open_places cmp either (suc place) ks) (here ∷ open_places cmp either (suc place) ks)
       go true = was.places_are
       go false = reverse-append places (here ∷ []) ∙ ap (λ l. here ∷ l) was.places_are
-
--- the keys that an open place counts are all in the list
-module _ {K : Type 0} {cmp : K → K → Ordering} (o : IsKeyOrder cmp) (either : K → Bool) where
-  pub open_places_within : (P : OpenPlace → Type 0) (place : ℕ) (keys : List K)
-      → ((at : OpenPlace) → 0 < at.alike → at.place + at.alike ≤ place + length keys → P at)
-      → AllByRecursion P (open_places cmp either place keys)
-  open_places_within P place [] h = tt
-  open_places_within P place (k ∷ ks) h =
-      go (is_settled (open_place_at cmp either place k ks))
-      (open_places_within P (suc place) ks (λ at some there. h at some (omega (arith, there))))
-    where
-      here : P (open_place_at cmp either place k ks)
-      here = h (open_place_at cmp either place k ks) (omega arith) (let few = times_few o k ks in omega (arith, few))
-
-      go : (b : Bool) → AllByRecursion P (open_places cmp either (suc place) ks)
-          → AllByRecursion P (cond b (open_places cmp either (suc place) ks)
-          (open_place_at cmp either place k ks ∷ open_places cmp either (suc place) ks))
-      go true rest = rest
-      go false rest = (here, rest)

@@ -7,7 +7,6 @@ pub mod PlacedOrder
 pub mod Places
 pub mod ShapesOfCounty
 pub mod SideKeys
-pub mod FirstClauses
 pub mod Factorials
 pub mod CountedChoices
 pub mod ShapePoints

@@ -1,10 +1,10 @@
 -- Comparing a list with its reverse, item by item.
-use Rattle.std.proofs.Common.{◌≡◌, ℕ, ◌+◌, ◌-◌, ◌<◌, ◌≤◌, List, length, drop, reverse, get_or, refl, sym, ap, ◌∙◌, arith}
+use Rattle.std.proofs.Common.{◌≡◌, ℕ, ◌+◌, ◌-◌, ◌<◌, List, length, drop, reverse, get_or, refl, sym, ap, ◌∙◌, arith}
 use Rattle.std.specs.declared.cmp.Ordering.{Ordering}
 use Rattle.std.specs.declared.cmp.Ordering.TheVariants.{Less, Equal, Greater}
 use Rattle.std.specs.Ordering.{ordering_then}
 use Rattle.std.specs.Cmp.Lexicographic.{slice_cmp}
-use Rattle.std.proofs.lemmas.List.{drop_more, drop_all, get_or-reverse, length-reverse, get_or_read}
+use Rattle.std.proofs.lemmas.List.{drop_more, get_or-reverse, length-reverse, get_or_read}
 
 -- from an item on, that item's pair decides, and then the pairs after it
 pub from_item : {X : Type 0} (cmp : X → X → Ordering) (xs : List X) (i : ℕ) (d : X) → i < length xs
@@ -13,13 +13,6 @@ pub from_item : {X : Type 0} (cmp : X → X → Ordering) (xs : List X) (i : ℕ
 from_item cmp xs i d h =
     let long : i < length (reverse xs) = (let e = length-reverse xs in omega arith) in
     rw (drop_more (reverse xs) i d long, drop_more xs i d h, get_or-reverse xs i d h) refl
-
--- after the last item nothing decides
-pub behind_all : {X : Type 0} (cmp : X → X → Ordering) (xs : List X) (i : ℕ) → length xs ≤ i
-    → slice_cmp cmp (drop i (reverse xs)) (drop i xs) ≡ Equal
-behind_all cmp xs i h =
-    let long : length (reverse xs) ≤ i = (let e = length-reverse xs in omega arith) in
-    rw (drop_all i (reverse xs) long, drop_all i xs h) refl
 
 -- the same for items that were read
 from_read : {X : Type 0} (cmp : X → X → Ordering) (xs : List X) (i : ℕ) (there here : X) → i < length xs

@@ -1,9 +1,9 @@
 -- Orders whose equal keys are the same key: of lists, bytes, integers and pairs.
-use Rattle.std.proofs.Common.{◌≡◌, List, [], ◌∷◌, Ordering, Less, Equal, Greater, refl, nat_cmp, int_cmp}
+use Rattle.std.proofs.Common.{◌≡◌, List, [], ◌∷◌, Ordering, Less, Equal, Greater, refl, nat_cmp}
 use Rattle.std.specs.Ordering.{ordering_then}
 use Rattle.std.specs.Cmp.Lexicographic.{slice_cmp}
-use Rattle.std.proofs.lemmas.Cmp.{int_cmp_total, lists_total, then_total, on_total}
-use Rattle.std.proofs.lemmas.Map.Lookups.{exact_signed, exact_pairs}
+use Rattle.std.proofs.lemmas.Cmp.{lists_total, then_total, on_total}
+use Rattle.std.proofs.lemmas.Map.Lookups.{exact_pairs}
 use Rattle.ordered_lists.proofs.ByKey.Keys.{IsKeyOrder, nat_keys}
 
 -- what follows if two orders, one after the other, compare as equal
@@ -32,9 +32,6 @@ lists_keys {X} {cmp} o = record { total = lists_total o.total; exact = lists_exa
 
 pub bytes_keys : IsKeyOrder (slice_cmp nat_cmp)
 bytes_keys = lists_keys nat_keys
-
-pub int_keys : IsKeyOrder int_cmp
-int_keys = record { total = int_cmp_total; exact = exact_signed }
 
 -- the order of pairs by two orders, one per part
 pub pair_keys : {A B : Type 0} {P : A → A → Ordering} {Q : B → B → Ordering} → IsKeyOrder P → IsKeyOrder Q

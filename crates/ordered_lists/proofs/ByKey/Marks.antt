@@ -1,19 +1,13 @@
 -- Marks by number: no marks yet, and one number more.
 use Rattle.std.proofs.Common.{◌≡◌, ◌≢◌, ◌⊎◌, ◌<◌, ◌≤◌, ◌++◌, ◌∷◌, [], ℕ, Bool, true, false, List, length, set, get_or, slice_get}
-use Rattle.std.proofs.Common.{nat_lt, replicate, Some, is_eq, nat_cmp, sym, ap, ◌∙◌, subst, inl, inr, arith}
+use Rattle.std.proofs.Common.{nat_lt, Some, is_eq, nat_cmp, sym, ap, ◌∙◌, subst, inl, inr, arith}
 use Rattle.std.proofs.lemmas.Bool.{false≢true, lt-ltb}
-use Rattle.std.proofs.lemmas.List.{get_or-replicate, get_or-set_other, get_or-set_same, length-set, length-replicate}
+use Rattle.std.proofs.lemmas.List.{get_or-set_other, get_or-set_same, length-set}
 use Rattle.std.proofs.lemmas.Option.{slice_get-get_or}
 use Rattle.ordered_lists.specs.Marks.{AreMarksOf}
 use Rattle.ordered_lists.specs.Orders.{times, stands_in}
 use Rattle.ordered_lists.proofs.ByKey.Keys.{differ, known-here, known-right, nat_keys, same-itself, same_or_not, times-append}
 use Rattle.ordered_lists.proofs.ByKey.Keys.{times-no}
-
--- at first no place is marked
-pub none_marked : (n : ℕ) → AreMarksOf [] (replicate n false)
-none_marked n number within =
-    slice_get-get_or (replicate n false) number false within
-    ∙ ap Some (get_or-replicate n number false false (omega (arith, within, length-replicate n false)))
 
 -- one more number is in the list at its own place, and no other place changes
 stands_in-end : (numbers : List ℕ) (place number : ℕ) → is_eq (nat_cmp number place) ≡ false

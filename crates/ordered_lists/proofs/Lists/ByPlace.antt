@@ -1,5 +1,5 @@
 -- Lists that are read place by place, and tests that decide a property.
-use Rattle.std.proofs.Common.{◌≡◌, ◌<◌, ◌≤◌, ◌+◌, ℕ, zero, suc, List, [], ◌∷◌, length, take, get_or, Bool, true, false, Ordering}
+use Rattle.std.proofs.Common.{◌≡◌, ◌<◌, ◌≤◌, ◌+◌, ℕ, zero, suc, List, [], ◌∷◌, length, take, Bool, true, false, Ordering}
 use Rattle.std.proofs.Common.{IfSome, slice_get, refl, sym, ap, ◌∙◌, subst, add-one, zero-add, arith, IsPermutation}
 use Rattle.std.proofs.lemmas.Bool.{false≢true}
 use Rattle.std.proofs.lemmas.List.{take_all}
@@ -74,13 +74,6 @@ module _ {X : Type 0} where
   pub same_seen : (xs ys : List X) (i n : ℕ) → take i xs ≡ take i ys → length xs ≡ n → length ys ≡ n → n ≤ i → xs ≡ ys
   same_seen xs ys i n e l m h =
       sym (take_all i xs (omega (arith, l, h))) ∙ e ∙ take_all i ys (omega (arith, m, h))
-
--- a test of the element that an index reads
-pub decides_read : {X : Type 0} (P : X → Type 0) (xs : List X) (i : ℕ) (d : X) → i < length xs → (b : Bool) → Decides b (P (get_or xs i d))
-    → Decides b (IfSome (slice_get xs i) P)
-decides_read P [] i d l b e = absurd (omega (arith, l))
-decides_read P (x ∷ xs) zero d l b e = e
-decides_read P (x ∷ xs) (suc i) d l b e = decides_read P xs i d (omega (arith, l)) b e
 
 -- a permutation that is in order is the list put in order
 pub sorted_in_order : {K : Type 0} {cmp : K → K → Ordering} → IsKeyOrder cmp → (before after : List K) → IsPermutation before after

@@ -21,16 +21,6 @@ values-zip [] (v ∷ vs) e = absurd (omega (arith, e))
 values-zip (k ∷ ks) [] e = absurd (omega (arith, e))
 values-zip (k ∷ ks) (v ∷ vs) e = ap (λ l. v ∷ l) (values-zip ks vs (omega (arith, e)))
 
-pub length-zip : {K V : Type 0} (keys : List K) (values : List V) → length keys ≡ length values → length keys ≡ length (zip keys values)
-length-zip [] [] e = refl
-length-zip [] (v ∷ vs) e = refl
-length-zip (k ∷ ks) [] e = absurd (omega (arith, e))
-length-zip (k ∷ ks) (v ∷ vs) e = omega (arith, length-zip ks vs (omega (arith, e)))
-
-pub zip-map : {X K V : Type 0} (f : X → K) (g : X → V) (xs : List X) → zip (map f xs) (map g xs) ≡ map (λ x. (f x, g x)) xs
-zip-map f g [] = refl
-zip-map f g (x ∷ xs) = ap (λ l. (f x, g x) ∷ l) (zip-map f g xs)
-
 -- entries with other values
 pub keys-map_values : {K V W : Type 0} (f : V → W) (xs : List (K × V)) → entry_keys (map_values f xs) ≡ entry_keys xs
 keys-map_values f [] = refl

@@ -1,5 +1,5 @@
 -- Places: the elements up to a place, and the element at the place of a key, or past the end.
-use Rattle.std.proofs.Common.{◌≡◌, ◌+◌, ◌++◌, ℕ, zero, suc, List, [], ◌∷◌, length, take, drop, Option, Some, None, IfSome}
+use Rattle.std.proofs.Common.{◌≡◌, ◌+◌, ◌++◌, ℕ, zero, suc, List, [], ◌∷◌, length, take, Option, Some, None, IfSome}
 use Rattle.std.proofs.Common.{is_some, slice_get, unwrap_or, Ordering, refl, sym, ap, ◌∙◌, arith}
 use Rattle.std.proofs.lemmas.Option.{slice_get_past}
 use Rattle.std.specs.List.Sorted.{IsStrictlySortedBy}
@@ -18,11 +18,6 @@ next_taken (y ∷ ys) (suc place) x e = ap (λ l. y ∷ l) (next_taken ys place 
 pub one_more_taken : {X : Type 0} (xs : List X) (place : ℕ) (x : X) → Some x ≡ slice_get xs place
     → take (place + 1) xs ≡ take place xs ++ (x ∷ [])
 one_more_taken xs place x e = ap (λ n. take n xs) (let next : place + 1 ≡ suc place = omega arith in next) ∙ next_taken xs place x e
-
-pub rest-there : {X : Type 0} (xs : List X) (place : ℕ) (x : X) → Some x ≡ slice_get xs place → drop place xs ≡ x ∷ drop (suc place) xs
-rest-there [] place x e = cc
-rest-there (y ∷ ys) zero x e = let same : y ≡ x = cc in ap (λ z. z ∷ ys) same
-rest-there (y ∷ ys) (suc place) x e = rest-there ys place x e
 
 pub length_keys : {K V : Type 0} (entries : List (K × V)) → length (entry_keys entries) ≡ length entries
 length_keys [] = refl

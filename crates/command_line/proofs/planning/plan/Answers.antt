@@ -1,4 +1,4 @@
-use Rattle.std.proofs.Common.{Some, map, string_bytes, subst}
+use Rattle.std.proofs.Common.{map, string_bytes, subst}
 use Rattle.clap.specs.Words.{app_of, found_of, rows_of, subcommand_of}
 use Rattle.command_line.specs.Grammar.{understood}
 use Rattle.command_line.specs.Names.{IsPlanOf}

@@ -1,4 +1,4 @@
-use Rattle.tl_cert.proofs.Common.{◌≡◌, ◌∷◌, [], ap, sym, subst, ◌∙◌, nat_cmp, IsInOrder, has_repeat, empty_list}
+use Rattle.tl_cert.proofs.Common.{◌≡◌, ◌∷◌, ap, sym, subst, ◌∙◌, nat_cmp, IsInOrder, has_repeat}
 use Rattle.tl_cert.proofs.Places.{repeat_later}
 use Rattle.tl_cert.proofs.sorted_numbers.ascend.Goals as goal
 

@@ -1,6 +1,6 @@
 use Rattle.std.proofs.Common.{arith, ap, sym, ◌∙◌}
 use Rattle.tl_layout.specs.Turned.{turned_ranges}
-use Rattle.tl_shape.proofs.InPlace.{mapped_next, mapped_all}
+use Rattle.tl_shape.proofs.InPlace.{mapped_next}
 use Rattle.tl_shape.proofs.chain.turn_all.Goals as goal
 
 pub loop-entry-preserved : goal.loop-entry-preserved

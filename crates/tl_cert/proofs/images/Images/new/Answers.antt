@@ -1,5 +1,4 @@
-use Rattle.tl_cert.proofs.Common.{◌∷◌, [], Some, cond, ◌++◌, sym, ap, ◌∙◌, append_assoc, append-nil, value_under, IsKeyOrder}
-use Rattle.tl_cert.proofs.Common.{empty_list}
+use Rattle.tl_cert.proofs.Common.{◌∷◌, [], Some, cond, ◌++◌, sym, ap, ◌∙◌, append_assoc, append-nil, IsKeyOrder}
 use Rattle.std.specs.Map.{lookup}
 use Rattle.tl_cert.proofs.Tables.{put_before}
 use Rattle.tl_cert.proofs.images.Images.new.Goals as goal
