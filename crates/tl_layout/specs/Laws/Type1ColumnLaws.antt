@@ -16,11 +16,12 @@ use Rattle.tl_layout.specs.Laws.PieceLaws.{pieces_join, pieces_of_part}
 use Rattle.tl_layout.specs.Pieces.{pieces_from}
 use Rattle.tl_layout.specs.Laws.PlaceLaws.{columns_behind, pair_of_texts}
 use Rattle.tl_layout.specs.RecordTables.{rtype_1}
-use Rattle.tl_layout.specs.Type1.{FitsType1, type_1_reading, type_1_short_reading, type_1_spelling}
+use Rattle.tl_layout.specs.RecordTypes.{Type1, FitsFields, fields_spelling, reading_of}
+use Rattle.tl_layout.specs.Type1.{type_1_short_reading}
 use Rattle.tl_layout.specs.Type1Columns.{body_1_of, body_1_text}
 use Rattle.tl_layout.specs.Type1Groups.{FitsBody1, body_1_at, body_1_texts, entities_at, point_texts}
 use Rattle.tl_layout.specs.Laws.Type1Laws.{type_1_fits, type_1_reading_is_short}
-use Rattle.tl_layout.specs.Laws.TypeLaws.{type_1_laws}
+use Rattle.tl_layout.specs.Laws.TypeLaws.{layout_laws}
 use Rattle.tl_layout.specs.declared.type1.fields.Body1Fields.{Body1Fields}
 
 -- the widths of the fields, from column 16 to column 190
@@ -156,11 +157,11 @@ sample body = record { tlid = 1; body = body; start = somewhere; end = somewhere
 is_on_map : IsOnMap somewhere
 is_on_map = record { long = lit≤ tt; lat = lit≤ tt; somewhere = lit≤ tt }
 
-sample_fits : (body : Body1Fields) → FitsBody1 body → FitsType1 (sample body)
+sample_fits : (body : Body1Fields) → FitsBody1 body → FitsFields Type1 (sample body)
 sample_fits body f = type_1_fits (sample body) (lit≤ tt, lit≤ tt) f is_on_map is_on_map
 
 -- the record that a line is read as has the content of its columns
-content_read : (line : List ℕ) (r : Fields1) → type_1_reading line ≡ Ok r → body_1_at line ≡ r.body
+content_read : (line : List ℕ) (r : Fields1) → reading_of Type1 line ≡ Ok r → body_1_at line ≡ r.body
 unfolding type_1_short_reading
 content_read line r h =
     let tlid = reads (number_at 6 15 line) _ r (sym (type_1_reading_is_short line) ∙ h) in
@@ -182,15 +183,15 @@ spelled_before r = (rtype_1 ∷ codes "2006") ++ number_text 10 r.tlid
 abbrev spelled_behind : Fields1 → List ℕ
 spelled_behind r = joined [] (point_texts r.start) ++ joined [] (point_texts r.end)
 
-spelled_parts : (r : Fields1) → type_1_spelling r ≡ spelled_before r ++ (body_1_text r.body ++ spelled_behind r)
-unfolding type_1_spelling
+spelled_parts : (r : Fields1) → fields_spelling Type1 r ≡ spelled_before r ++ (body_1_text r.body ++ spelled_behind r)
+unfolding fields_spelling
 spelled_parts r = three_groups (spelled_before r) (body_1_texts r.body) (point_texts r.start) (point_texts r.end)
 
 point_is_text : (point : Coordinates) → IsText 19 (joined [] (point_texts point))
 point_is_text point = pair_of_texts 10 9 _ _ (coordinate_text_is_text 9 point.long) (coordinate_text_is_text 8 point.lat)
 
 -- a record's content is in columns 16 to 190 of its spelling
-spelled_content : (r : Fields1) → length (type_1_spelling r) ≡ 228 → columns 16 190 (type_1_spelling r) ≡ body_1_text r.body
+spelled_content : (r : Fields1) → length (fields_spelling Type1 r) ≡ 228 → columns 16 190 (fields_spelling Type1 r) ≡ body_1_text r.body
 spelled_content r l =
     let head = length-append (rtype_1 ∷ codes "2006") (number_text 10 r.tlid) in
     let number = (number_text_is_text 10 r.tlid).len in
@@ -211,13 +212,13 @@ record IsContentText (body : Body1Fields) : Type 0 where
 content_text : (body : Body1Fields) → FitsBody1 body → IsContentText body
 content_text body f =
     let fits = sample_fits body f in
-    let line = type_1_spelling (sample body) in
-    let is_line = type_1_laws.spelling_is_line (sample body) fits in
+    let line = fields_spelling Type1 (sample body) in
+    let is_line = (layout_laws Type1).spelling_is_line (sample body) fits in
     let stands = spelled_content (sample body) is_line.text.len in
     record {
       is_text = subst (IsText 175) stands (columns_of_text 228 line is_line.text 16 190 175 (omega arith) (omega arith) (omega arith));
       again = ap body_1_of (sym stands)
-          ∙ (content_of_line line ∙ content_read line (sample body) (type_1_laws.reads_spelling (sample body) fits));
+          ∙ (content_of_line line ∙ content_read line (sample body) ((layout_laws Type1).reads_spelling (sample body) fits));
     }
 
 -- fields that fit are written as text

@@ -3,19 +3,20 @@ use Rattle.std.proofs.Common.{◌≡◌, ℕ, List, refl}
 use Rattle.tl_layout.specs.Numbers.{IsNumber}
 use Rattle.tl_layout.specs.Coordinates.{IsOnMap}
 use Rattle.tl_layout.specs.Fields.{Fields1}
-use Rattle.tl_layout.specs.Type1.{FitsType1, type_1_reading, type_1_short_reading}
+use Rattle.tl_layout.specs.RecordTypes.{Type1, FitsFields, reading_of}
+use Rattle.tl_layout.specs.Type1.{type_1_short_reading}
 use Rattle.tl_layout.specs.Type1Groups.{FitsBody1, body_1_at, entities_at}
 
-pub type_1_reading_is_short : (line : List ℕ) → type_1_reading line ≡ type_1_short_reading line
-unfolding type_1_reading type_1_short_reading body_1_at entities_at
+pub type_1_reading_is_short : (line : List ℕ) → reading_of Type1 line ≡ type_1_short_reading line
+unfolding reading_of type_1_short_reading body_1_at entities_at
 type_1_reading_is_short line = refl
 
 beside : {A B : Type 0} → A → B → A × B
 beside a b = (a, b)
 
 -- a record whose groups fit fits the columns
-pub type_1_fits : (r : Fields1) → IsNumber 10 r.tlid → FitsBody1 r.body → IsOnMap r.start → IsOnMap r.end → FitsType1 r
-unfolding FitsType1
+pub type_1_fits : (r : Fields1) → IsNumber 10 r.tlid → FitsBody1 r.body → IsOnMap r.start → IsOnMap r.end → FitsFields Type1 r
+unfolding FitsFields
 type_1_fits r tlid f start end =
     let points : IsOnMap r.start × (IsOnMap r.end × Unit {0}) = (start, (end, tt)) in
     let block = beside f.entities.block.left (beside f.entities.block.right points) in

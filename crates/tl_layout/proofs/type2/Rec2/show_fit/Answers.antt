@@ -1,13 +1,13 @@
 use Rattle.std.proofs.Common.{List, length, subst, ◌≤◌}
 use Rattle.std.specs.List.{AllByRecursion}
 use Rattle.tl_layout.specs.Coordinates.{Coordinates, IsOnMap}
-use Rattle.tl_layout.specs.Type2.{FitsType2}
+use Rattle.tl_layout.specs.RecordTypes.{Type2, FitsFields}
 use Rattle.tl_layout.proofs.type2.Rec2.show_fit.Goals as goal
 
 pub returns : goal.returns
-unfolding FitsType2
+unfolding FitsFields
 returns c =
-    subst FitsType2 c.self.view_is (
+    subst (FitsFields Type2) c.self.view_is (
       c.self.invariant.0,
       (
         c.self.invariant.1,

@@ -1,11 +1,11 @@
 use Rattle.std.proofs.Common.{ℕ, List, length, subst, ◌≤◌}
-use Rattle.tl_layout.specs.Type4.{FitsType4}
+use Rattle.tl_layout.specs.RecordTypes.{Type4, FitsFields}
 use Rattle.tl_layout.proofs.type4.Rec4.show_fit.Goals as goal
 
 pub returns : goal.returns
-unfolding FitsType4
+unfolding FitsFields
 returns c =
-    subst FitsType4 c.self.view_is (
+    subst (FitsFields Type4) c.self.view_is (
       c.self.invariant.0,
       (
         c.self.invariant.1,

@@ -1,11 +1,11 @@
 use Rattle.std.proofs.Common.{subst}
-use Rattle.tl_layout.specs.Type7.{FitsType7}
+use Rattle.tl_layout.specs.RecordTypes.{Type7, FitsFields}
 use Rattle.tl_layout.proofs.type7.Rec7.show_fit.Goals as goal
 
 pub returns : goal.returns
-unfolding FitsType7
+unfolding FitsFields
 returns c =
-    subst FitsType7 c.self.view_is (
+    subst (FitsFields Type7) c.self.view_is (
       c.show_fit.ensures,
       (
         c.self.invariant,

@@ -1,13 +1,13 @@
 use Rattle.std.proofs.Common.{subst}
-use Rattle.tl_layout.specs.TypeI.{FitsTypeI}
+use Rattle.tl_layout.specs.RecordTypes.{TypeI, FitsFields}
 use Rattle.tl_layout.proofs.type_i.RecI.show_fit.Goals as goal
 
 pub returns : goal.returns
-unfolding FitsTypeI
+unfolding FitsFields
 returns c =
     let left = c.show_fit-7.ensures in
     let right = c.show_fit-8.ensures in
-    subst FitsTypeI c.self.view_is (
+    subst (FitsFields TypeI) c.self.view_is (
       c.show_fit.ensures,
       (
         c.self.invariant.0,
