@@ -68,6 +68,7 @@ impl Rec2 {
     }
 
     /// Proves that each field fits its columns, which its type guarantees. Does nothing at run time.
+    #[tactic(auto, unfolding(crate::specs::RecordTypes::FitsFields))]
     pub(crate) fn show_fit(&self)
         ensures { FitsFields Type2 self.now }
     {

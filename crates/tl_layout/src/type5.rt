@@ -134,6 +134,7 @@ impl Rec5 {
     }
 
     /// Proves that each field fits its columns, which its type guarantees. Does nothing at run time.
+    #[tactic(auto, unfolding(crate::specs::RecordTypes::FitsFields))]
     pub(crate) fn show_fit(&self)
         ensures { FitsFields Type5 self.now }
     {

@@ -123,6 +123,7 @@ impl RecP {
     }
 
     /// Proves that each field fits its columns, which its type guarantees. Does nothing at run time.
+    #[tactic(auto, unfolding(crate::specs::RecordTypes::FitsFields))]
     pub(crate) fn show_fit(&self)
         ensures { FitsFields TypeP self.now }
     {

@@ -1,9 +1,9 @@
 -- Laws of the record types: each record has one of them, and is selected by that one alone.
 use Rattle.std.proofs.Common.{◌≡◌, ◌==◌, ◌⊎◌, Bool, true, false, Option, Some, None, refl, sym, ap, ◌∙◌, subst, inl, inr}
 use Rattle.std.proofs.lemmas.Bool.{eq-eqb}
-use Rattle.tl_layout.specs.RecordText.{type_of, spelling_of}
+use Rattle.tl_layout.specs.RecordText.{type_of, FitsRecord, spelling_of}
 use Rattle.tl_layout.specs.RecordTypes.{RecordType, Type1, Type2, Type4, Type5, Type6, Type7, Type8, TypeI, TypeP, FieldsOf, byte_of}
-use Rattle.tl_layout.specs.RecordTypes.{fields_spelling, record_of, own_type, as_type}
+use Rattle.tl_layout.specs.RecordTypes.{FitsFields, fields_spelling, record_of, own_type, as_type}
 use Rattle.tl_layout.specs.declared.record_type.Record.{Record}
 use Rattle.tl_layout.specs.declared.record_type.Record.TheVariants.{One, Two, Four, Five, Six, Seven, Eight, I, P}
 
@@ -31,6 +31,12 @@ pub spelling_of_record : (t : RecordType) (fields : FieldsOf t) → spelling_of 
 unfolding spelling_of
 spelling_of_record Type1 fields = refl
 spelling_of_record _ fields = refl
+
+-- a record of a type fits if its fields do
+pub fitting_record : (t : RecordType) (fields : FieldsOf t) → FitsFields t fields → FitsRecord (record_of t fields)
+unfolding FitsRecord
+fitting_record Type1 fields f = f
+fitting_record _ fields f = f
 
 -- records of a type are the same only if their fields are
 pub record_exact : (t : RecordType) (fields others : FieldsOf t) → record_of t fields ≡ record_of t others → fields ≡ others

@@ -22,8 +22,8 @@ use Rattle.tl_layout.specs.Laws.PlaceLaws.{columns_behind, two_parts, pair_of_te
 use Rattle.tl_layout.specs.ColumnTable.{Kind, Number, NumberOrNone, Pair, PairOrNone, NumberPlaces, PointPlaces, Opaque, Filler}
 use Rattle.tl_layout.specs.ColumnTable.{ValueOf, Row, width_of, SpellsValue, SpellsField, SpellsRows, FitsValue, FitsRows}
 use Rattle.tl_layout.specs.ColumnTable.{is_suited, is_laid_out}
-use Rattle.tl_layout.specs.TableReading.{Makes, rows_reading}
-use Rattle.tl_layout.specs.Laws.ValueLaws.{value_reading, reading_goes_on, value_found, value_only}
+use Rattle.tl_layout.specs.TableReading.{Makes, value_reading, rows_reading}
+use Rattle.tl_layout.specs.Laws.ValueLaws.{value_found, value_only}
 use Rattle.tl_layout.specs.CoordinateReading.{within}
 
 -- ---- the values of a record
@@ -66,8 +66,7 @@ rows_found : {R A : Type 0} (rows : List (Row R)) (make : Makes rows A) (line : 
     → rows_reading rows make line ≡ Ok answer → WasRead rows make line answer
 rows_found [] make line answer h = record { values = tt; spelled = tt; gave = ok_value make answer h }
 rows_found (row ∷ rows) make line answer h =
-    let first = reads (value_reading line row.first row.last row.kind) _ answer
-    (sym (reading_goes_on line row.first row.last row.kind (λ value. rows_reading rows (make value) line)) ∙ h) in
+    let first = reads (value_reading line row.first row.last row.kind) _ answer h in
     let later = rows_found rows (make first.value) line answer first.gave in
     record {
       values = (first.value, later.values);
@@ -80,8 +79,7 @@ rows_only : {R A : Type 0} (rows : List (Row R)) (make : Makes rows A) (line : L
     → rows_reading rows make line ≡ Ok (made rows make values)
 rows_only [] make line values s = refl
 rows_only (row ∷ rows) make line values s =
-    reading_goes_on line row.first row.last row.kind (λ value. rows_reading rows (make value) line)
-    ∙ reads_on _ _ values.0 _ (value_only line row.first row.last row.kind values.0 s.0) (rows_only rows (make values.0) line values.1 s.1)
+    reads_on _ _ values.0 _ (value_only line row.first row.last row.kind values.0 s.0) (rows_only rows (make values.0) line values.1 s.1)
 
 spelled_rows : {R : Type 0} (rows : List (Row R)) (line : List ℕ) (r : R) → AreSpelled line rows (values_of rows r) → SpellsRows rows line r
 spelled_rows [] line r s = tt
@@ -144,11 +142,11 @@ value_fits len line t first last PairOrNone from within suited point s =
     point_or_none_on_map (columns first (first + 9) line) (columns (first + 10) (first + 18) line) point s
 value_fits len line t first last NumberPlaces from within suited numbers s = (
   places_len (SpellsNumberPlace line) 8 5 first numbers s,
-  places_each (SpellsNumberPlace line) (IsNumber 8) (number_place_fits line) 8 5 first numbers s,
+  places_each (SpellsNumberPlace line) 8 (IsNumber 8) (number_place_fits line) 5 first numbers s,
 )
 value_fits len line t first last PointPlaces from within suited points s = (
   places_len (SpellsPointPlace line) 19 10 first points s,
-  places_each (SpellsPointPlace line) IsOnMap (λ column point. point_on_map _ _ point) 19 10 first points s,
+  places_each (SpellsPointPlace line) 19 IsOnMap (λ column point. point_on_map _ _ point) 10 first points s,
 )
 value_fits len line t first last Opaque from within suited text s =
     let o = ordered first last Opaque suited in
@@ -222,10 +220,10 @@ value_again before after first last PairOrNone at suited point f =
     let parts = two_parts before (long_text point) (lat_text point) after (long_text_is_text point).len (lat_text_is_text point).len in
     subst (λ (c : ℕ). SpellsValue line c last PairOrNone point) (sym at) (point_or_none_again point _ _ parts.0 parts.1 f)
 value_again before after first last NumberPlaces at suited numbers f =
-    places_again SpellsNumberPlace number_place_text
-    (IsNumber 8) 8 number_place_is_text number_place_again before after 5 first numbers _ at refl f.0 f.1
+    places_again number_place_text 8 number_place_is_text SpellsNumberPlace (IsNumber 8) number_place_again before after
+    5 first numbers _ at refl f.0 f.1
 value_again before after first last PointPlaces at suited points f =
-    places_again SpellsPointPlace point_place_text IsOnMap 19 point_place_is_text point_place_again before after
+    places_again point_place_text 19 point_place_is_text SpellsPointPlace IsOnMap point_place_again before after
     10 first points _ at refl f.0 f.1
 value_again before after first last Opaque at suited text f =
     let o = ordered first last Opaque suited in

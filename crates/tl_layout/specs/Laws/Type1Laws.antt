@@ -2,13 +2,14 @@
 use Rattle.std.proofs.Common.{◌≡◌, ℕ, List, refl}
 use Rattle.tl_layout.specs.Numbers.{IsNumber}
 use Rattle.tl_layout.specs.Coordinates.{IsOnMap}
+use Rattle.tl_layout.specs.FieldReading.{and_then}
 use Rattle.tl_layout.specs.Fields.{Fields1}
 use Rattle.tl_layout.specs.RecordTypes.{Type1, FitsFields, reading_of}
 use Rattle.tl_layout.specs.Type1.{type_1_short_reading}
 use Rattle.tl_layout.specs.Type1Groups.{FitsBody1, body_1_at, entities_at}
 
 pub type_1_reading_is_short : (line : List ℕ) → reading_of Type1 line ≡ type_1_short_reading line
-unfolding reading_of type_1_short_reading body_1_at entities_at
+unfolding reading_of type_1_short_reading body_1_at entities_at and_then
 type_1_reading_is_short line = refl
 
 beside : {A B : Type 0} → A → B → A × B

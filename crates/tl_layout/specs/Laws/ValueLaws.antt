@@ -15,36 +15,13 @@ use Rattle.tl_layout.specs.Laws.FieldLaws.{point_or_none_at_found, point_or_none
 use Rattle.tl_layout.specs.Laws.PlaceLaws.{places_found, places_only}
 use Rattle.tl_layout.specs.ColumnTable.{Kind, Number, NumberOrNone, Pair, PairOrNone, NumberPlaces, PointPlaces, Opaque, Filler}
 use Rattle.tl_layout.specs.ColumnTable.{ValueOf, SpellsValue}
-use Rattle.tl_layout.specs.TableReading.{reading_on}
+use Rattle.tl_layout.specs.TableReading.{value_reading}
 use Rattle.tl_layout.specs.declared.coordinate.Coordinate.{Coordinate}
 use Rattle.tl_layout.specs.declared.coordinate.Coordinate.TheVariants.{Malformed, Blank, Value}
 use Rattle.tl_layout.specs.declared.fault.FieldFault.{FieldFault}
 use Rattle.tl_layout.specs.declared.coordinate.TheConstants.{MOST_LONGITUDE, MOST_LATITUDE}
 
 -- ---- reading
-
--- how the columns of a field are read
-abbrev pub value_reading : List ℕ → ℕ → ℕ → (kind : Kind) → Result (ValueOf kind) FieldFault
-value_reading line first last Number = number_at first last line
-value_reading line first last NumberOrNone = number_or_none_at first last line
-value_reading line first last Pair = point_at first line
-value_reading line first last PairOrNone = point_or_none_at first line
-value_reading line first last NumberPlaces = places_reading (λ column. number_or_none_at column (column + 7) line) 8 false 5 first
-value_reading line first last PointPlaces = places_reading (λ column. point_or_none_at column line) 19 false 10 first
-value_reading line first last Opaque = Ok (columns first last line)
-value_reading line first last Filler = Ok tt
-
-pub reading_goes_on : {A : Type 0} (line : List ℕ) (first last : ℕ) (kind : Kind) (more : ValueOf kind → Result A FieldFault)
-    → reading_on line first last kind more ≡ and_then (value_reading line first last kind) more
-unfolding and_then
-reading_goes_on line first last Number more = refl
-reading_goes_on line first last NumberOrNone more = refl
-reading_goes_on line first last Pair more = refl
-reading_goes_on line first last PairOrNone more = refl
-reading_goes_on line first last NumberPlaces more = refl
-reading_goes_on line first last PointPlaces more = refl
-reading_goes_on line first last Opaque more = refl
-reading_goes_on line first last Filler more = refl
 
 -- if a value is read, the columns spell it
 pub value_found : (line : List ℕ) (first last : ℕ) (kind : Kind) (value : ValueOf kind) → value_reading line first last kind ≡ Ok value
