@@ -89,6 +89,7 @@ impl Rec1 {
     }
 
     /// Proves that each field fits its columns, which its type guarantees. Does nothing at run time.
+    #[tactic(auto, using(crate::specs::Laws::Type1Laws::type_1_fits))]
     pub(crate) fn show_fit(&self)
         ensures { FitsFields Type1 self.now }
     {

@@ -102,7 +102,7 @@ impl Layout for Rec4 {
 
     ghost spelling = { fields_spelling Type4 };
 
-    #[tactic(auto, unfolding(crate::specs::RecordTypes::reading_of, crate::specs::FieldReading::and_then))]
+    #[tactic(auto, using(crate::specs::Laws::Type4Laws::feats_in_range), unfolding(crate::specs::RecordTypes::reading_of, crate::specs::FieldReading::and_then))]
     fn read(line: &[u8]) -> Result<Rec4, FieldFault> {
         let tlid = read_number(line, 6, 15)?;
         let rtsq = read_number(line, 16, 18)?;
