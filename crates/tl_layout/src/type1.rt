@@ -1,11 +1,17 @@
 //! Record type 1: a chain's basic data.
 
+ghost use Rattle.std.proofs.Common.{lit≤};
 ghost use Rattle.std.specs.Prelude.{◌≡◌, ◌≤◌, ◌++◌, ◌∷◌, codes, length, take};
 ghost use Rattle.tl_layout.specs.Bytes.{IsText};
 ghost use Rattle.tl_layout.specs.Columns.{joined};
+ghost use Rattle.tl_layout.specs.FieldFaults.{IsLeftmostFault};
+ghost use Rattle.tl_layout.specs.FieldTexts.{number_text};
+ghost use Rattle.tl_layout.specs.Laws.TypeLaws.{layout_laws};
 ghost use Rattle.tl_layout.specs.Numbers.{IsNumber};
-ghost use Rattle.tl_layout.specs.RecordTables.{len_1};
+ghost use Rattle.tl_layout.specs.RecordTables.{len_1, rtype_1};
 ghost use Rattle.tl_layout.specs.RecordTypes.{Type1, byte_of, line_length, table_of, FitsFields, SpellsFields, reading_of, fields_spelling};
+ghost use Rattle.tl_layout.specs.Type1.{type_1_short_reading};
+ghost use Rattle.tl_layout.specs.Type1Groups.{point_texts};
 
 pub(crate) mod body;
 pub(crate) mod fields;
@@ -41,11 +47,6 @@ impl Model for Rec1 {
 }
 
 impl Rec1 {
-    ghost use Rattle.tl_layout.specs.FieldTexts.{number_text};
-    ghost use Rattle.tl_layout.specs.RecordTables.{rtype_1};
-    ghost use Rattle.tl_layout.specs.Type1.{type_1_short_reading};
-    ghost use Rattle.tl_layout.specs.Type1Groups.{point_texts};
-
     /// Makes a record from these fields. The TLID must be from 1 to 9,999,999,999.
     pub fn new(tlid: u64, body: Body1, start: Point, end: Point) -> Rec1
         requires { IsNumber 10 tlid }
@@ -131,10 +132,6 @@ impl Rec1 {
 }
 
 impl Layout for Rec1 {
-    ghost use Rattle.std.proofs.Common.{lit≤};
-    ghost use Rattle.tl_layout.specs.FieldFaults.{IsLeftmostFault};
-    ghost use Rattle.tl_layout.specs.Laws.TypeLaws.{layout_laws};
-
     const LEN: usize = 228;
 
     ghost LEN = { line_length Type1 };

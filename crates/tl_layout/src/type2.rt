@@ -1,6 +1,9 @@
 //! Record type 2: shape points of a chain.
 
+ghost use Rattle.std.proofs.Common.{lit≤};
 ghost use Rattle.std.specs.Prelude.{◌≡◌, ◌≤◌, length};
+ghost use Rattle.tl_layout.specs.FieldFaults.{IsLeftmostFault};
+ghost use Rattle.tl_layout.specs.Laws.TypeLaws.{layout_laws};
 ghost use Rattle.tl_layout.specs.Numbers.{IsNumber};
 ghost use Rattle.tl_layout.specs.RecordTypes.{Type2, byte_of, line_length, table_of, FitsFields, SpellsFields, reading_of, fields_spelling};
 
@@ -77,10 +80,6 @@ impl Rec2 {
 }
 
 impl Layout for Rec2 {
-    ghost use Rattle.std.proofs.Common.{lit≤};
-    ghost use Rattle.tl_layout.specs.FieldFaults.{IsLeftmostFault};
-    ghost use Rattle.tl_layout.specs.Laws.TypeLaws.{layout_laws};
-
     const LEN: usize = 208;
 
     ghost LEN = { line_length Type2 };

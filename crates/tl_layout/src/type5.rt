@@ -1,7 +1,10 @@
 //! Record type 5: the name of a feature.
 
+ghost use Rattle.std.proofs.Common.{lit≤};
 ghost use Rattle.std.specs.Prelude.{◌≡◌};
 ghost use Rattle.tl_layout.specs.Bytes.{AreAllowed, IsText};
+ghost use Rattle.tl_layout.specs.FieldFaults.{IsLeftmostFault};
+ghost use Rattle.tl_layout.specs.Laws.TypeLaws.{layout_laws};
 ghost use Rattle.tl_layout.specs.Numbers.{IsNumber};
 ghost use Rattle.tl_layout.specs.RecordTypes.{Type5, byte_of, line_length, table_of, FitsFields, SpellsFields, reading_of, fields_spelling};
 
@@ -145,10 +148,6 @@ impl Rec5 {
 }
 
 impl Layout for Rec5 {
-    ghost use Rattle.std.proofs.Common.{lit≤};
-    ghost use Rattle.tl_layout.specs.FieldFaults.{IsLeftmostFault};
-    ghost use Rattle.tl_layout.specs.Laws.TypeLaws.{layout_laws};
-
     const LEN: usize = 56;
 
     ghost LEN = { line_length Type5 };

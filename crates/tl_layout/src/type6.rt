@@ -1,6 +1,9 @@
 //! Record type 6: further address ranges of a chain.
 
+ghost use Rattle.std.proofs.Common.{lit≤};
 ghost use Rattle.std.specs.Prelude.{◌≡◌};
+ghost use Rattle.tl_layout.specs.FieldFaults.{IsLeftmostFault};
+ghost use Rattle.tl_layout.specs.Laws.TypeLaws.{layout_laws};
 ghost use Rattle.tl_layout.specs.Numbers.{IsNumber};
 ghost use Rattle.tl_layout.specs.RecordTypes.{Type6, byte_of, line_length, table_of, FitsFields, SpellsFields, reading_of, fields_spelling};
 
@@ -76,10 +79,6 @@ impl Rec6 {
 }
 
 impl Layout for Rec6 {
-    ghost use Rattle.std.proofs.Common.{lit≤};
-    ghost use Rattle.tl_layout.specs.FieldFaults.{IsLeftmostFault};
-    ghost use Rattle.tl_layout.specs.Laws.TypeLaws.{layout_laws};
-
     const LEN: usize = 76;
 
     ghost LEN = { line_length Type6 };

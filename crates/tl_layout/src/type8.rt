@@ -1,7 +1,10 @@
 //! Record type 8: a polygon of a landmark.
 
+ghost use Rattle.std.proofs.Common.{lit≤};
 ghost use Rattle.std.specs.Prelude.{◌≡◌};
 ghost use Rattle.tl_layout.specs.Bytes.{AreAllowed, IsText};
+ghost use Rattle.tl_layout.specs.FieldFaults.{IsLeftmostFault};
+ghost use Rattle.tl_layout.specs.Laws.TypeLaws.{layout_laws};
 ghost use Rattle.tl_layout.specs.Numbers.{IsNumber};
 ghost use Rattle.tl_layout.specs.RecordTypes.{Type8, byte_of, line_length, table_of, FitsFields, SpellsFields, reading_of, fields_spelling};
 
@@ -95,10 +98,6 @@ impl Rec8 {
 }
 
 impl Layout for Rec8 {
-    ghost use Rattle.std.proofs.Common.{lit≤};
-    ghost use Rattle.tl_layout.specs.FieldFaults.{IsLeftmostFault};
-    ghost use Rattle.tl_layout.specs.Laws.TypeLaws.{layout_laws};
-
     const LEN: usize = 36;
 
     ghost LEN = { line_length Type8 };

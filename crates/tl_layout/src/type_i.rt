@@ -1,7 +1,10 @@
 //! Record type I: the nodes of a chain and the polygons on its sides.
 
+ghost use Rattle.std.proofs.Common.{lit≤};
 ghost use Rattle.std.specs.Prelude.{◌≡◌, ◌≤◌, ◌<◌, Option, Result, Ok, length};
 ghost use Rattle.tl_layout.specs.Bytes.{AreAllowed, IsText};
+ghost use Rattle.tl_layout.specs.FieldFaults.{IsLeftmostFault};
+ghost use Rattle.tl_layout.specs.Laws.TypeLaws.{layout_laws};
 ghost use Rattle.tl_layout.specs.Numbers.{IsNumber, IsNumberOrNone};
 ghost use Rattle.tl_layout.specs.RecordTables.{len_i};
 ghost use Rattle.tl_layout.specs.RecordTypes.{TypeI, byte_of, line_length, table_of, FitsFields, SpellsFields, reading_of, fields_spelling};
@@ -282,10 +285,6 @@ impl RecI {
 }
 
 impl Layout for RecI {
-    ghost use Rattle.std.proofs.Common.{lit≤};
-    ghost use Rattle.tl_layout.specs.FieldFaults.{IsLeftmostFault};
-    ghost use Rattle.tl_layout.specs.Laws.TypeLaws.{layout_laws};
-
     const LEN: usize = 127;
 
     ghost LEN = { line_length TypeI };

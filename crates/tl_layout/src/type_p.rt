@@ -1,7 +1,10 @@
 //! Record type P: a polygon's inner point.
 
+ghost use Rattle.std.proofs.Common.{lit≤};
 ghost use Rattle.std.specs.Prelude.{◌≡◌};
 ghost use Rattle.tl_layout.specs.Bytes.{AreAllowed, IsText};
+ghost use Rattle.tl_layout.specs.FieldFaults.{IsLeftmostFault};
+ghost use Rattle.tl_layout.specs.Laws.TypeLaws.{layout_laws};
 ghost use Rattle.tl_layout.specs.Numbers.{IsNumber};
 ghost use Rattle.tl_layout.specs.RecordTypes.{TypeP, byte_of, line_length, table_of, FitsFields, SpellsFields, reading_of, fields_spelling};
 
@@ -136,10 +139,6 @@ impl RecP {
 }
 
 impl Layout for RecP {
-    ghost use Rattle.std.proofs.Common.{lit≤};
-    ghost use Rattle.tl_layout.specs.FieldFaults.{IsLeftmostFault};
-    ghost use Rattle.tl_layout.specs.Laws.TypeLaws.{layout_laws};
-
     const LEN: usize = 45;
 
     ghost LEN = { line_length TypeP };

@@ -16,7 +16,7 @@ use Rattle.tl_layout.specs.Laws.PieceLaws.{pieces_join, pieces_of_part}
 use Rattle.tl_layout.specs.Pieces.{pieces_from}
 use Rattle.tl_layout.specs.Laws.PlaceLaws.{columns_behind, pair_of_texts}
 use Rattle.tl_layout.specs.RecordTables.{rtype_1}
-use Rattle.tl_layout.specs.RecordTypes.{Type1, FitsFields, fields_spelling, reading_of}
+use Rattle.tl_layout.specs.RecordTypes.{Type1, FitsFields, fields_spelling, make_of, reading_of}
 use Rattle.tl_layout.specs.Type1.{type_1_short_reading}
 use Rattle.tl_layout.specs.Type1Columns.{body_1_of, body_1_text}
 use Rattle.tl_layout.specs.Type1Groups.{FitsBody1, body_1_at, body_1_texts, entities_at, point_texts}
@@ -30,42 +30,16 @@ widths =
     1 ∷ 1 ∷ 2 ∷ 30 ∷ 4 ∷ 2 ∷ 3 ∷ 11 ∷ 11 ∷ 11 ∷ 11 ∷ 1 ∷ 1 ∷ 1 ∷ 1 ∷ 5 ∷ 5 ∷ 5 ∷ 5 ∷ 1 ∷ 1 ∷ 1 ∷ 1
     ∷ 2 ∷ 2 ∷ 3 ∷ 3 ∷ 5 ∷ 5 ∷ 5 ∷ 5 ∷ 5 ∷ 5 ∷ 6 ∷ 6 ∷ 4 ∷ 4 ∷ []
 
+abbrev somewhere : Coordinates
+somewhere = record { long = pos 1; lat = pos 1 }
+
 -- the content made from these texts
 abbrev content : List (List ℕ) → Body1Fields
 content texts =
     let text : ℕ → List ℕ = λ at. get_or texts at [] in
-    record {
-      side1 = text 0;
-      source = text 1;
-      name = record { fedirp = text 2; fename = text 3; fetype = text 4; fedirs = text 5 };
-      cfcc = text 6;
-      ranges = record {
-        fraddl = text 7;
-        toaddl = text 8;
-        fraddr = text 9;
-        toaddr = text 10;
-        friaddl = text 11;
-        toiaddl = text 12;
-        friaddr = text 13;
-        toiaddr = text 14;
-        zip = record { left = text 15; right = text 16 };
-      };
-      native_areas = record {
-        aianhhfp = record { left = text 17; right = text 18 };
-        aihhtli = record { left = text 19; right = text 20 };
-      };
-      census1 = text 21;
-      census2 = text 22;
-      entities = record {
-        state = record { left = text 23; right = text 24 };
-        county = record { left = text 25; right = text 26 };
-        cousub = record { left = text 27; right = text 28 };
-        submcd = record { left = text 29; right = text 30 };
-        place = record { left = text 31; right = text 32 };
-        tract = record { left = text 33; right = text 34 };
-        block = record { left = text 35; right = text 36 };
-      };
-    }
+    (make_of Type1 1 (text 0) (text 1) (text 2) (text 3) (text 4) (text 5) (text 6) (text 7) (text 8) (text 9) (text 10) (text 11) (text 12)
+    (text 13) (text 14) (text 15) (text 16) (text 17) (text 18) (text 19) (text 20) (text 21) (text 22) (text 23) (text 24) (text 25)
+    (text 26) (text 27) (text 28) (text 29) (text 30) (text 31) (text 32) (text 33) (text 34) (text 35) (text 36) somewhere somewhere).body
 
 -- the fields in a line are its pieces from column 16 on
 are_pieces : (line : List ℕ) → body_1_texts (body_1_at line) ≡ pieces_from 15 widths line
@@ -148,9 +122,6 @@ content_fits text t =
 -- ---- the columns of fields that fit
 
 -- some record with this content
-abbrev somewhere : Coordinates
-somewhere = record { long = pos 1; lat = pos 1 }
-
 abbrev sample : Body1Fields → Fields1
 sample body = record { tlid = 1; body = body; start = somewhere; end = somewhere }
 
