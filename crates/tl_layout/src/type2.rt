@@ -106,7 +106,7 @@ impl Layout for Rec2 {
         Ok(Rec2::new(tlid, rtsq as u16, points))
     }
 
-    #[tactic(auto, unfolding(crate::specs::RecordTypes::fields_spelling))]
+    #[tactic(auto, unfolding(crate::specs::RecordTypes::FitsFields, crate::specs::RecordTypes::fields_spelling))]
     fn put(&self, out: &mut [u8]) {
         write_head(out, b'2');
         write_number(out, 6, 15, self.tlid);

@@ -1,6 +1,6 @@
 -- The laws of a record type, derived from its column table.
-use Rattle.std.proofs.Common.{◌≡◌, ℕ, ◌+◌, ◌-◌, ◌≤◌, List, [], ◌∷◌, ◌++◌, length, true, Some, Ok, refl, sym, ap, ◌∙◌, subst}
-use Rattle.std.proofs.Common.{arith, codes, unwrap_or, append_assoc, ◌&&◌, IsTrue, nat_eq}
+use Rattle.std.proofs.Common.{◌≡◌, ℕ, ◌+◌, ◌-◌, ◌≤◌, List, [], ◌∷◌, ◌++◌, length, true, Option, Some, IfSome, Ok, refl, sym, ap, ◌∙◌, subst}
+use Rattle.std.proofs.Common.{suc, arith, codes, unwrap_or, append_assoc, ◌&&◌, IsTrue, nat_eq}
 use Rattle.std.proofs.lemmas.Bool.{and_parts, eqb-true, leb-true}
 use Rattle.std.proofs.lemmas.List.{length-append}
 use Rattle.std.proofs.lemmas.List.Elements.{All-append, All-nil, All-cons}
@@ -9,7 +9,7 @@ use Rattle.tl_layout.specs.Laws.ByteLaws.{blanks_are_text, text_2006}
 use Rattle.tl_layout.specs.Columns.{joined}
 use Rattle.tl_layout.specs.Laws.ColumnLaws.{joined-before, columns_of_text}
 use Rattle.tl_layout.specs.Numbers.{IsNumber}
-use Rattle.tl_layout.specs.Coordinates.{IsOnMap}
+use Rattle.tl_layout.specs.Coordinates.{Coordinates, IsOnMap}
 use Rattle.tl_layout.specs.Laws.NumberTextLaws.{number_text_is_text}
 use Rattle.tl_layout.specs.FieldMeaning.{SpellsNumberPlace, SpellsPointPlace}
 use Rattle.tl_layout.specs.FieldTexts.{long_text, lat_text, number_place_text, point_place_text, value_texts, rows_texts, rows_spelling}
@@ -167,36 +167,38 @@ rows_fit len line t (row ∷ rows) next from h r s =
 
 -- ---- the canonical texts
 
-long_and_lat : (a b : List ℕ) → IsText 10 a → IsText 9 b → IsText 19 (a ++ b)
-long_and_lat a b s t = pair_of_texts 10 9 a b s t
+-- a longitude and a latitude, or blanks, side by side
+pair_text : (point : Option Coordinates) → IsText 19 (long_text point ++ lat_text point)
+pair_text point = pair_of_texts 10 9 _ _ (long_text_is_text point) (lat_text_is_text point)
+
+-- a text fills columns that are as many
+fills : (first last more : ℕ) (text : List ℕ) → nat_eq last (first + more) ≡ true → IsText (suc more) text → IsText (last + 1 - first) text
+fills first last more text suited t =
+    let e = eqb-true last (first + more) suited in
+    let wide : suc more ≡ last + 1 - first = omega arith in
+    subst (λ (w : ℕ). IsText w text) wide t
 
 -- the canonical texts of a value fill its columns
 value_text : (first last : ℕ) (kind : Kind) → is_suited first last kind ≡ true → (value : ValueOf kind)
     → FitsValue (last + 1 - first) kind value → IsText (last + 1 - first) (joined [] (value_texts (last + 1 - first) kind value))
 value_text first last Number suited n f = number_text_is_text (last + 1 - first) n
 value_text first last NumberOrNone suited n f = number_text_is_text (last + 1 - first) (unwrap_or n 0)
-value_text first last Pair suited point f =
-    let e = eqb-true last (first + 18) suited in
-    let wide : 19 ≡ last + 1 - first = omega arith in
-    subst (λ (w : ℕ). IsText w (joined [] (value_texts w Pair point))) wide
-    (long_and_lat _ _ (long_text_is_text (Some point)) (lat_text_is_text (Some point)))
-value_text first last PairOrNone suited point f =
-    let e = eqb-true last (first + 18) suited in
-    let wide : 19 ≡ last + 1 - first = omega arith in
-    subst (λ (w : ℕ). IsText w (joined [] (value_texts w PairOrNone point))) wide
-    (long_and_lat _ _ (long_text_is_text point) (lat_text_is_text point))
+value_text first last Pair suited point f = fills first last 18 _ suited (pair_text (Some point))
+value_text first last PairOrNone suited point f = fills first last 18 _ suited (pair_text point)
 value_text first last NumberPlaces suited numbers f =
-    let e = eqb-true last (first + 39) suited in
-    let wide : 40 ≡ last + 1 - first = omega arith in
-    subst (λ (w : ℕ). IsText w (joined [] (value_texts w NumberPlaces numbers))) wide
-    (places_text_is_text number_place_text 8 number_place_is_text 5 numbers f.0)
+    fills first last 39 _ suited (places_text_is_text number_place_text 8 number_place_is_text 5 numbers f.0)
 value_text first last PointPlaces suited points f =
-    let e = eqb-true last (first + 189) suited in
-    let wide : 190 ≡ last + 1 - first = omega arith in
-    subst (λ (w : ℕ). IsText w (joined [] (value_texts w PointPlaces points))) wide
-    (places_text_is_text point_place_text 19 point_place_is_text 10 points f.0)
+    fills first last 189 _ suited (places_text_is_text point_place_text 19 point_place_is_text 10 points f.0)
 value_text first last Opaque suited text f = f
 value_text first last Filler suited value f = blanks_are_text (last + 1 - first)
+
+-- columns that hold the canonical texts of a point or none spell it
+pair_again : (before after : List ℕ) (first : ℕ) → first ≡ length before + 1 → (point : Option Coordinates) → IfSome point IsOnMap
+    → SpellsValue (before ++ ((long_text point ++ lat_text point) ++ after)) first 0 PairOrNone point
+pair_again before after first at point f =
+    let line = before ++ ((long_text point ++ lat_text point) ++ after) in
+    let parts = two_parts before (long_text point) (lat_text point) after (long_text_is_text point).len (lat_text_is_text point).len in
+    subst (λ (c : ℕ). SpellsValue line c 0 PairOrNone point) (sym at) (point_or_none_again point _ _ parts.0 parts.1 f)
 
 -- columns that hold the canonical texts of a value spell it
 value_again : (before after : List ℕ) (first last : ℕ) (kind : Kind) → first ≡ length before + 1 → is_suited first last kind ≡ true
@@ -210,15 +212,8 @@ value_again before after first last NumberOrNone at suited n f =
     let o = ordered first last NumberOrNone suited in
     let l = (number_text_is_text (last + 1 - first) (unwrap_or n 0)).len in
     number_or_none_again (last + 1 - first) n _ (columns_behind before _ after first last at (omega arith)) f
-value_again before after first last Pair at suited point f =
-    let line = before ++ ((long_text (Some point) ++ lat_text (Some point)) ++ after) in
-    let parts = two_parts before (long_text (Some point)) (lat_text (Some point)) after (long_text_is_text (Some point)).len
-    (lat_text_is_text (Some point)).len in
-    subst (λ (c : ℕ). SpellsValue line c last Pair point) (sym at) (point_again point _ _ parts.0 parts.1 f)
-value_again before after first last PairOrNone at suited point f =
-    let line = before ++ ((long_text point ++ lat_text point) ++ after) in
-    let parts = two_parts before (long_text point) (lat_text point) after (long_text_is_text point).len (lat_text_is_text point).len in
-    subst (λ (c : ℕ). SpellsValue line c last PairOrNone point) (sym at) (point_or_none_again point _ _ parts.0 parts.1 f)
+value_again before after first last Pair at suited point f = pair_again before after first at (Some point) f
+value_again before after first last PairOrNone at suited point f = pair_again before after first at point f
 value_again before after first last NumberPlaces at suited numbers f =
     places_again number_place_text 8 number_place_is_text SpellsNumberPlace (IsNumber 8) number_place_again before after
     5 first numbers _ at refl f.0 f.1

@@ -16,16 +16,3 @@ returns-clause-spelling c =
     let rtsq = c.write_head.ensures ▸ (c.write_number.ensures, refl) ▸ (c.write_number-2.ensures, ap (number_text 3) c.from.ensures) in
     let points = behind c.write_points.ensures.written rtsq (ap (places_text point_place_text 10) c.as_slice.ensures.value) in
     whole 208 c.write_points.new.out _ (omega arith) points ∙ ap (fields_spelling Type2) c.self.view_is
-
-pub returns-clause-fits : goal.returns-clause-fits
-unfolding FitsFields
-returns-clause-fits c =
-    let len : length c.self.inside.points.items ≤ 10 =
-    subst (λ (points : List Coordinates). length points ≤ 10) c.as_slice.ensures.value c.as_slice.ensures.fits in
-    subst (FitsFields Type2) c.self.view_is (
-      c.self.invariant.0,
-      (
-        c.self.invariant.1,
-        ((len, subst (AllByRecursion IsOnMap) c.as_slice.ensures.value c.write_points.ensures.on_map), tt),
-      ),
-    )
