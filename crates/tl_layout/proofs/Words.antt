@@ -197,10 +197,3 @@ selected p zero value [] l = refl
 selected p (suc n) value [] l = absurd (omega arith)
 selected p zero value (x ∷ xs) l = absurd (omega arith)
 selected p (suc n) value (x ∷ xs) l = ap (λ (ys : List ℕ). cond (p x) value x ∷ ys) (selected p n value xs (omega arith))
-
--- leading blanks don't count
-pub behind_two_blanks : (field : List ℕ) → 2 ≤ length field → get_or field 0 0 ≡ 32 → get_or field 1 0 ≡ 32
-    → drop_blanks field ≡ drop_blanks (drop 2 field)
-behind_two_blanks [] l a b = absurd (omega arith)
-behind_two_blanks (x ∷ []) l a b = absurd (omega arith)
-behind_two_blanks (x ∷ y ∷ xs) l a b = rw (a, b) refl

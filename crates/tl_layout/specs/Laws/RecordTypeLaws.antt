@@ -5,7 +5,7 @@ use Rattle.tl_layout.specs.RecordText.{type_of, FitsRecord, spelling_of}
 use Rattle.tl_layout.specs.RecordTypes.{RecordType, Type1, Type2, Type4, Type5, Type6, Type7, Type8, TypeI, TypeP, FieldsOf, byte_of}
 use Rattle.tl_layout.specs.RecordTypes.{FitsFields, fields_spelling, record_of, own_type, as_type}
 use Rattle.tl_layout.specs.declared.record_type.Record.{Record}
-use Rattle.tl_layout.specs.declared.record_type.Record.TheVariants.{One, Two, Four, Five, Six, Seven, Eight, I, P}
+use Rattle.tl_layout.specs.declared.record_type.Record.TheVariants.{One}
 
 -- a record is the record of its type with its fields
 pub typed : (r : Record) → (t : RecordType) × (fields : FieldsOf t) × (r ≡ record_of t fields)

@@ -14,7 +14,7 @@ use Rattle.tl_layout.specs.Laws.NumberTextLaws.{number_text_is_text}
 use Rattle.tl_layout.specs.FieldMeaning.{SpellsNumberPlace, SpellsPointPlace}
 use Rattle.tl_layout.specs.FieldTexts.{long_text, lat_text, number_place_text, point_place_text, value_texts, rows_texts, rows_spelling}
 use Rattle.tl_layout.specs.Laws.FieldLaws.{reads, reads_on, ok_value, number_fits, number_or_none_fits, number_again}
-use Rattle.tl_layout.specs.Laws.FieldLaws.{number_or_none_again, point_on_map, point_or_none_on_map, point_or_none_again, point_again}
+use Rattle.tl_layout.specs.Laws.FieldLaws.{number_or_none_again, point_on_map, point_or_none_on_map, point_or_none_again}
 use Rattle.tl_layout.specs.Laws.FieldLaws.{long_text_is_text, lat_text_is_text}
 use Rattle.tl_layout.specs.Laws.PlaceLaws.{places_len, places_each, number_place_fits, places_text_is_text, places_again}
 use Rattle.tl_layout.specs.Laws.PlaceLaws.{number_place_again, number_place_is_text, point_place_again, point_place_is_text}

@@ -1,13 +1,10 @@
 -- The columns were written one after another, following the record type and the version.
-use Rattle.std.proofs.Common.{arith, refl, ap, ◌∙◌, subst}
-use Rattle.std.proofs.Common.{List, length, ◌≤◌}
-use Rattle.std.specs.List.{AllByRecursion}
-use Rattle.tl_layout.specs.Coordinates.{Coordinates, IsOnMap}
+use Rattle.std.proofs.Common.{arith, refl, ap, ◌∙◌}
 use Rattle.tl_layout.proofs.Writes.{◌▸◌, behind, whole}
 use Rattle.tl_layout.specs.FieldTexts.{number_text}
 use Rattle.tl_layout.specs.FieldTexts.{point_place_text}
 use Rattle.tl_layout.specs.FieldTexts.{places_text}
-use Rattle.tl_layout.specs.RecordTypes.{Type2, FitsFields, fields_spelling}
+use Rattle.tl_layout.specs.RecordTypes.{Type2, fields_spelling}
 use Rattle.tl_layout.proofs.type2.Rec2Layout.put.Goals as goal
 
 pub returns-clause-spelling : goal.returns-clause-spelling
