@@ -1,9 +1,8 @@
 -- The content was written after the number, and the points after both.
-use Rattle.std.proofs.Common.{ap, ◌∙◌}
-use Rattle.tl_layout.proofs.Writes.{group_behind}
+use Rattle.tl_layout.proofs.Common.{ap, body_1_texts, group_behind, ◌∙◌}
 use Rattle.tl_layout.specs.Columns.{joined}
 use Rattle.tl_layout.specs.RecordTypes.{Type1, fields_spelling}
-use Rattle.tl_layout.specs.Type1Groups.{body_1_texts, point_texts}
+use Rattle.tl_layout.specs.Type1Groups.{point_texts}
 use Rattle.tl_layout.proofs.type1.Rec1Layout.put.Goals as goal
 
 pub returns-clause-spelling : goal.returns-clause-spelling

@@ -1,9 +1,5 @@
 -- The columns were written one after another, following the record type and the version.
-use Rattle.std.proofs.Common.{arith, refl, ap, ◌∙◌}
-use Rattle.tl_layout.proofs.Writes.{◌▸◌, behind, whole}
-use Rattle.tl_layout.specs.FieldTexts.{number_text}
-use Rattle.tl_layout.specs.FieldTexts.{number_place_text}
-use Rattle.tl_layout.specs.FieldTexts.{places_text}
+use Rattle.tl_layout.proofs.Common.{ap, arith, behind, number_place_text, number_text, places_text, refl, whole, ◌∙◌, ◌▸◌}
 use Rattle.tl_layout.specs.RecordTypes.{Type4, fields_spelling}
 use Rattle.tl_layout.proofs.type4.Rec4Layout.put.Goals as goal
 

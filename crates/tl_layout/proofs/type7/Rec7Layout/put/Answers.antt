@@ -1,6 +1,5 @@
 -- The columns were written one after another, following the record type and the version.
-use Rattle.std.proofs.Common.{arith, refl, ap, ◌∙◌, [], ◌∷◌}
-use Rattle.tl_layout.proofs.Writes.{◌▸◌, group_behind, whole}
+use Rattle.tl_layout.proofs.Common.{[], ap, arith, group_behind, refl, whole, ◌∙◌, ◌∷◌, ◌▸◌}
 use Rattle.tl_layout.specs.FieldTexts.{long_text, lat_text}
 use Rattle.tl_layout.specs.RecordTypes.{Type7, fields_spelling}
 use Rattle.tl_layout.proofs.type7.Rec7Layout.put.Goals as goal

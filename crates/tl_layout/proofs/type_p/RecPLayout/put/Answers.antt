@@ -1,6 +1,5 @@
 -- The columns were written one after another, following the record type and the version.
-use Rattle.std.proofs.Common.{arith, refl, ap, ◌∙◌, [], ◌∷◌}
-use Rattle.tl_layout.proofs.Writes.{◌▸◌, group_behind, whole}
+use Rattle.tl_layout.proofs.Common.{[], ap, arith, group_behind, refl, whole, ◌∙◌, ◌∷◌, ◌▸◌}
 use Rattle.tl_layout.specs.FieldTexts.{long_text, lat_text}
 use Rattle.tl_layout.specs.RecordTypes.{TypeP, fields_spelling}
 use Rattle.tl_layout.proofs.type_p.RecPLayout.put.Goals as goal
