@@ -10,10 +10,7 @@ use Rattle.tl_layout.specs.Numbers.{IsNumber, IsNumberOrNone}
 use Rattle.tl_layout.specs.RecordText.{FitsRecord}
 use Rattle.tl_layout.specs.Tables.{HoldsByType}
 use Rattle.tl_layout.specs.Type1Groups.{FitsBody1}
-use Rattle.tl_layout.specs.Type5.{FitsType5}
-use Rattle.tl_layout.specs.Type7.{FitsType7}
-use Rattle.tl_layout.specs.TypeI.{FitsTypeI}
-use Rattle.tl_layout.specs.TypeP.{FitsTypeP}
+use Rattle.tl_layout.specs.RecordTypes.{Type5, Type7, TypeI, TypeP, FitsFields}
 use Rattle.tl_layout.specs.declared.record_type.Record.{Record}
 use Rattle.tl_layout.specs.declared.record_type.TheConstants.{MOST_RECORDS}
 use Rattle.tl_layout.specs.declared.tables.Tables.{Tables}
@@ -42,17 +39,17 @@ most_names = 4995
 
 -- A content fits if a record with it fits; the number isn't part of the content, so it is 1 here.
 abbrev pub FitsNameBody : Body5 → Type 0
-FitsNameBody body = FitsType5 (record { feat = 1; body = body })
+FitsNameBody body = FitsFields Type5 (record { feat = 1; body = body })
 
 abbrev pub FitsLandmark : Body7 → Type 0
-FitsLandmark body = FitsType7 (record { land = 1; body = body })
+FitsLandmark body = FitsFields Type7 (record { land = 1; body = body })
 
 abbrev pub FitsPolygon : List ℕ → BodyP → Type 0
-FitsPolygon cenid body = FitsTypeP (record { cenid = cenid; polyid = 1; body = body })
+FitsPolygon cenid body = FitsFields TypeP (record { cenid = cenid; polyid = 1; body = body })
 
 -- the content of a type I record, with the CENIDs of both sides
 abbrev pub FitsLinkContent : BodyI → List ℕ → List ℕ → Type 0
-FitsLinkContent body left right = FitsTypeI (record {
+FitsLinkContent body left right = FitsFields TypeI (record {
   tlid = 1;
   body = body;
   start_node = None;

@@ -5,10 +5,7 @@ use Rattle.tl_layout.specs.Bytes.{AreAllowed}
 use Rattle.tl_layout.specs.ColumnTable.{Kind, Number, NumberOrNone, Pair, PairOrNone, NumberPlaces, PointPlaces, Opaque, Filler}
 use Rattle.tl_layout.specs.ColumnTable.{ValueOf, FitsValue}
 use Rattle.tl_layout.specs.Fields.{Fields5, Fields7, FieldsI, FieldsP}
-use Rattle.tl_layout.specs.Type5.{FitsType5}
-use Rattle.tl_layout.specs.Type7.{FitsType7}
-use Rattle.tl_layout.specs.TypeI.{FitsTypeI}
-use Rattle.tl_layout.specs.TypeP.{FitsTypeP}
+use Rattle.tl_layout.specs.RecordTypes.{Type5, Type7, TypeI, TypeP, FitsFields}
 use Rattle.tl_county.specs.County.{County}
 use Rattle.tl_county.specs.Limits.{IsWithinLimits}
 
@@ -26,20 +23,20 @@ FitsValue-prop width PointPlaces value = hlevel props
 FitsValue-prop width Opaque value = hlevel (props, AreAllowed-prop)
 FitsValue-prop width Filler value = hlevel props
 
-FitsType5-prop : (r : Fields5) → IsProp (FitsType5 r)
-unfolding FitsType5
+FitsType5-prop : (r : Fields5) → IsProp (FitsFields Type5 r)
+unfolding FitsFields
 FitsType5-prop r = hlevel (props, FitsValue-prop)
 
-FitsType7-prop : (r : Fields7) → IsProp (FitsType7 r)
-unfolding FitsType7
+FitsType7-prop : (r : Fields7) → IsProp (FitsFields Type7 r)
+unfolding FitsFields
 FitsType7-prop r = hlevel (props, FitsValue-prop)
 
-FitsTypeI-prop : (r : FieldsI) → IsProp (FitsTypeI r)
-unfolding FitsTypeI
+FitsTypeI-prop : (r : FieldsI) → IsProp (FitsFields TypeI r)
+unfolding FitsFields
 FitsTypeI-prop r = hlevel (props, FitsValue-prop)
 
-FitsTypeP-prop : (r : FieldsP) → IsProp (FitsTypeP r)
-unfolding FitsTypeP
+FitsTypeP-prop : (r : FieldsP) → IsProp (FitsFields TypeP r)
+unfolding FitsFields
 FitsTypeP-prop r = hlevel (props, FitsValue-prop)
 
 pub IsWithinLimits-prop : (limit : ℕ) (c : County) → IsProp (IsWithinLimits limit c)

@@ -1,13 +1,10 @@
 -- A coordinate that is only a sign and digits.
-use Rattle.std.proofs.Common.{◌≡◌, ℕ, ◌≤◌, ◌⊎◌, inl, inr, true, List, [], ◌∷◌, length, get_or, ℤ, Option, Some, None, IfSome}
-use Rattle.std.proofs.Common.{refl, sym, ap, ◌∙◌, arith}
-use Rattle.std.proofs.lemmas.Bool.{le-leb}
+use Rattle.tl_layout.proofs.Common.{IfSome, List, None, Option, Some, [], ap, arith, chunk, get_or, is_digit, le-leb, length, number_after}
+use Rattle.tl_layout.proofs.Common.{refl, sym, true, ℕ, ◌∙◌, ◌∷◌, ◌≡◌, ◌≤◌}
+use Rattle.std.proofs.Common.{◌⊎◌, inl, inr, ℤ}
 use Rattle.std.proofs.lemmas.List.{take_all}
 use Rattle.tl_layout.specs.CoordinateReading.{plus_of, minus_of, magnitude_of, signed_of, coordinate_of}
-use Rattle.tl_layout.specs.NumberField.{is_digit}
-use Rattle.tl_layout.specs.NumberReading.{number_after}
 use Rattle.tl_layout.specs.declared.coordinate.Coordinate.TheVariants.{Value}
-use lib.Lanes.{chunk}
 
 -- a number that begins with a digit and is within the limit is a magnitude
 magnitude_is : (limit m : ℕ) (text : List ℕ) → is_digit (get_or text 0 0) ≡ true → number_after 0 text ≡ Some m → m ≤ limit

@@ -1,3 +1,4 @@
+pub mod Common
 pub mod Exits
 pub mod NumberLemmas
 pub mod Words

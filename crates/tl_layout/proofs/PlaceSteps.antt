@@ -1,22 +1,17 @@
 -- Reading places one after another: the items that were read, followed by those of the remaining places.
-use Rattle.std.proofs.Common.{◌≡◌, ℕ, suc, ◌+◌, List, [], ◌∷◌, ◌++◌, Bool, true, false, Option, Some, None, Result, Ok, Err, refl}
-use Rattle.std.proofs.Common.{sym, ap, ◌∙◌, subst, append_assoc}
-use Rattle.std.proofs.Common.{◌≤◌, ◌*◌, arith}
-use Rattle.std.proofs.Common.{◌-◌, drop, eqb, take, take-take}
+use Rattle.std.proofs.Common.{◌≡◌, ℕ, suc, ◌+◌, List, [], ◌∷◌, ◌++◌, Bool, true, false, Option, Some, None, Result, Ok, Err, refl, sym, ap}
+use Rattle.std.proofs.Common.{◌∙◌, subst, append_assoc, ◌≤◌, ◌*◌, arith, ◌-◌, drop, eqb, take, take-take}
 use Rattle.std.proofs.lemmas.Bool.{and_parts, eqb-true}
-use Rattle.std.proofs.lemmas.List.{drop-drop, drop-take}
+use Rattle.std.proofs.lemmas.List.{drop-drop, drop-take, append-nil}
 use Rattle.tl_layout.specs.Bytes.{columns}
 use Rattle.tl_layout.specs.CoordinateReading.{coordinate_of, signed_of, magnitude_of}
-use Rattle.tl_layout.specs.FieldReading.{pair_of, point_or_none, point_or_none_at}
+use Rattle.tl_layout.specs.FieldReading.{pair_of, point_or_none, point_or_none_at, and_then, places_reading}
 use Rattle.tl_layout.specs.NumberReading.{number_after}
 use Rattle.tl_layout.specs.declared.writing.TheConstants.{ZEROS}
 use lib.Pointwise.{pointwise}
 use Rattle.std.proofs.Math.Nat.{suc-mul}
-use Rattle.std.proofs.lemmas.List.{append-nil}
-use Rattle.tl_layout.specs.FieldReading.{and_then}
 use Rattle.tl_layout.specs.Laws.FieldLaws.{reads_on}
 use Rattle.tl_layout.specs.FieldFaults.{gap}
-use Rattle.tl_layout.specs.FieldReading.{places_reading}
 use Rattle.tl_layout.specs.declared.fault.FieldFault.{FieldFault}
 use Rattle.tl_layout.specs.declared.coordinate.TheConstants.{MOST_LONGITUDE, MOST_LATITUDE}
 
@@ -30,39 +25,35 @@ unfolding and_then
 one_more front x (Ok xs) = ap Ok (sym (append_assoc front (x ∷ []) xs))
 one_more front x (Err e) = refl
 
-pub after_none : {A : Type 0} (reading : ℕ → Result (Option A) FieldFault) (width n column next : ℕ) (unused : Bool) (front : List A)
-    (all : Result (List A) FieldFault) → with_front front (places_reading reading width unused (suc n) column) ≡ all
-    → reading column ≡ Ok None → next ≡ column + width → with_front front (places_reading reading width true n next) ≡ all
-unfolding places_reading
-after_none reading width n column next unused front all h e c =
-    let P : ℕ → Type 0 = λ c. with_front front (places_reading reading width true n c) ≡ all in
-    subst P (sym c) (ap (with_front front) (sym (reads_on (reading column) _ None _ e refl)) ∙ h)
+module _ {A : Type 0} (reading : ℕ → Result (Option A) FieldFault) (width column : ℕ) (front : List A) (all : Result (List A) FieldFault) where
+  -- the items so far, followed by those of that many places from this column on, are all items
+  abbrev IsRest : Bool → ℕ → Type 0
+  IsRest unused n = with_front front (places_reading reading width unused n column) ≡ all
 
-pub after_some : {A : Type 0} (reading : ℕ → Result (Option A) FieldFault) (width n column next : ℕ) (front : List A) (x : A)
-    (all : Result (List A) FieldFault) → with_front front (places_reading reading width false (suc n) column) ≡ all
-    → reading column ≡ Ok (Some x) → next ≡ column + width → with_front (front ++ x ∷ []) (places_reading reading width false n next) ≡ all
-unfolding places_reading
-after_some reading width n column next front x all h e c =
-    let P : ℕ → Type 0 = λ c. with_front (front ++ x ∷ []) (places_reading reading width false n c) ≡ all in
-    subst P (sym c) (sym (one_more front x (places_reading reading width false n (column + width)))
-    ∙ (ap (with_front front) (sym (reads_on (reading column) _ (Some x) _ e refl)) ∙ h))
+  pub after_none : (n next : ℕ) (unused : Bool) → IsRest unused (suc n) → reading column ≡ Ok None → next ≡ column + width
+      → with_front front (places_reading reading width true n next) ≡ all
+  unfolding places_reading
+  after_none n next unused h e c = rw c (ap (with_front front) (sym (reads_on (reading column) _ None _ e refl)) ∙ h)
 
-pub at_gap : {A : Type 0} (reading : ℕ → Result (Option A) FieldFault) (width n column : ℕ) (front : List A) (x : A)
-    (all : Result (List A) FieldFault) → with_front front (places_reading reading width true (suc n) column) ≡ all
-    → reading column ≡ Ok (Some x) → all ≡ Err (gap column)
-unfolding places_reading and_then
-at_gap reading width n column front x all h e = sym h ∙ rw e refl
+  pub after_some : (n next : ℕ) (x : A) (unused : Bool) → unused ≡ false → IsRest unused (suc n) → reading column ≡ Ok (Some x)
+      → next ≡ column + width → with_front (front ++ x ∷ []) (places_reading reading width false n next) ≡ all
+  unfolding places_reading
+  after_some n next x unused u h e c =
+      rw c (sym (one_more front x (places_reading reading width false n (column + width)))
+      ∙ (ap (with_front front) (sym (reads_on (reading column) _ (Some x) _ e refl)) ∙ rw u at h))
 
-pub at_fault : {A : Type 0} (reading : ℕ → Result (Option A) FieldFault) (width n column : ℕ) (unused : Bool) (front : List A)
-    (fault : FieldFault) (all : Result (List A) FieldFault) → with_front front (places_reading reading width unused (suc n) column) ≡ all
-    → reading column ≡ Err fault → all ≡ Err fault
-unfolding places_reading and_then
-at_fault reading width n column unused front fault all h e = sym h ∙ rw e refl
+  pub at_gap : (n : ℕ) (x : A) (unused : Bool) → unused ≡ true → IsRest unused (suc n) → reading column ≡ Ok (Some x)
+      → all ≡ Err (gap column)
+  unfolding places_reading and_then
+  at_gap n x unused u h e = sym h ∙ rw (u, e) refl
 
-pub at_end : {A : Type 0} (reading : ℕ → Result (Option A) FieldFault) (width column : ℕ) (unused : Bool) (front : List A)
-    (all : Result (List A) FieldFault) → with_front front (places_reading reading width unused 0 column) ≡ all → all ≡ Ok front
-unfolding places_reading and_then
-at_end reading width column unused front all h = sym h ∙ ap Ok (append-nil front)
+  pub at_fault : (n : ℕ) (unused : Bool) (fault : FieldFault) → IsRest unused (suc n) → reading column ≡ Err fault → all ≡ Err fault
+  unfolding places_reading and_then
+  at_fault n unused fault h e = sym h ∙ rw e refl
+
+  pub at_end : (unused : Bool) → IsRest unused 0 → all ≡ Ok front
+  unfolding places_reading and_then
+  at_end unused h = sym h ∙ ap Ok (append-nil front)
 
 pub at_start : {A : Type 0} (reading : Result (List A) FieldFault) → with_front [] reading ≡ reading
 unfolding and_then

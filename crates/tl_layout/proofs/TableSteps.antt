@@ -2,8 +2,8 @@
 use Rattle.std.proofs.Common.{◌≡◌, List, [], ◌∷◌, ◌++◌, Option, Some, None, refl, sym, ap, ◌∙◌, append-nil}
 use Rattle.std.specs.List.{filter_map, cons_option}
 use Rattle.std.proofs.lemmas.List.Elements.{filter_map-append}
-use Rattle.tl_layout.specs.ByType.{as_type_1, as_type_2, as_type_4, as_type_5, as_type_6, as_type_7, as_type_8, as_type_i, as_type_p}
-use Rattle.tl_layout.specs.Tables.{HoldsByType, AddsRecord, AreSameTables, and_then_one}
+use Rattle.tl_layout.specs.RecordTypes.{Type1, Type2, Type4, Type5, Type6, Type7, Type8, TypeI, TypeP, as_type}
+use Rattle.tl_layout.specs.Tables.{HoldsByType, AddsRecord, and_then_one}
 use Rattle.tl_layout.specs.declared.record_type.Record.{Record}
 use Rattle.tl_layout.specs.declared.tables.Tables.{Tables}
 
@@ -19,27 +19,13 @@ table_with {X} {Y} f xs x before after held added =
 pub holds_with : (before after : Tables) (records : List Record) (added : Record) → HoldsByType before records
     → AddsRecord before added after → HoldsByType after (records ++ added ∷ [])
 holds_with before after records added held adds = record {
-  type_1 = table_with as_type_1 records added _ _ held.type_1 adds.type_1;
-  type_2 = table_with as_type_2 records added _ _ held.type_2 adds.type_2;
-  type_4 = table_with as_type_4 records added _ _ held.type_4 adds.type_4;
-  type_5 = table_with as_type_5 records added _ _ held.type_5 adds.type_5;
-  type_6 = table_with as_type_6 records added _ _ held.type_6 adds.type_6;
-  type_7 = table_with as_type_7 records added _ _ held.type_7 adds.type_7;
-  type_8 = table_with as_type_8 records added _ _ held.type_8 adds.type_8;
-  type_i = table_with as_type_i records added _ _ held.type_i adds.type_i;
-  type_p = table_with as_type_p records added _ _ held.type_p adds.type_p;
-}
-
-pub holds_still : (before after : Tables) (records : List Record) → HoldsByType before records → AreSameTables before after
-    → HoldsByType after records
-holds_still before after records held same = record {
-  type_1 = same.type_1 ∙ held.type_1;
-  type_2 = same.type_2 ∙ held.type_2;
-  type_4 = same.type_4 ∙ held.type_4;
-  type_5 = same.type_5 ∙ held.type_5;
-  type_6 = same.type_6 ∙ held.type_6;
-  type_7 = same.type_7 ∙ held.type_7;
-  type_8 = same.type_8 ∙ held.type_8;
-  type_i = same.type_i ∙ held.type_i;
-  type_p = same.type_p ∙ held.type_p;
+  type_1 = table_with (as_type Type1) records added _ _ held.type_1 adds.type_1;
+  type_2 = table_with (as_type Type2) records added _ _ held.type_2 adds.type_2;
+  type_4 = table_with (as_type Type4) records added _ _ held.type_4 adds.type_4;
+  type_5 = table_with (as_type Type5) records added _ _ held.type_5 adds.type_5;
+  type_6 = table_with (as_type Type6) records added _ _ held.type_6 adds.type_6;
+  type_7 = table_with (as_type Type7) records added _ _ held.type_7 adds.type_7;
+  type_8 = table_with (as_type Type8) records added _ _ held.type_8 adds.type_8;
+  type_i = table_with (as_type TypeI) records added _ _ held.type_i adds.type_i;
+  type_p = table_with (as_type TypeP) records added _ _ held.type_p adds.type_p;
 }

@@ -71,17 +71,6 @@ digit_of b h =
     let high : b ≤ 57 = leb-true b 57 p.1 in
     record { is = omega arith; below = omega arith; passes = h }
 
--- the bytes of eight digits in a word, the first in its lowest byte, minus the byte of 0 in each
-pub digits_in_word : (w a b c d e f g h : ℕ) → a < 10 → b < 10 → c < 10 → d < 10 → e < 10 → f < 10 → g < 10 → h < 10
-    → w ≡ ((((((((48 + h) * 256 + (48 + g)) * 256 + (48 + f)) * 256 + (48 + e)) * 256 + (48 + d)) * 256 + (48 + c)) * 256 + (48
-    + b)) * 256 + (48 + a))
-    → (w - 3472328296227680304 ≡ ((((((h * 256 + g) * 256 + f) * 256 + e) * 256 + d) * 256 + c) * 256 + b) * 256 + a)
-    × (3472328296227680304 ≤ w) × (11 * (w - 3472328296227680304) < 2 ^ 64)
-digits_in_word w a b c d e f g h la lb lc ld le lf lg lh is =
-    let all : w ≡ 3472328296227680304 + (((((((h * 256 + g) * 256 + f) * 256 + e) * 256 + d) * 256 + c) * 256 + b) * 256 + a) =
-    omega arith in
-    (omega arith, omega arith, omega arith)
-
 -- the number of four pairs of digits in a word
 four_in_word : (a b c d : ℕ) → a < 100 → b < 100 → c < 100 → d < 100 → (pairs fours : ℕ)
     → pairs ≡ ((d * 65536 + c) * 65536 + b) * 65536 + a
@@ -95,25 +84,13 @@ four_in_word a b c d la lb lc ld pairs fours p q =
     ∙ fours_kept (100 * a + b) (100 * b + c) (100 * c + d) (100 * d) (omega arith) (omega arith) (omega arith) (omega arith) in
     and_mask (10000 * fours + fours / 4294967296) 32 ∙ omega arith
 
--- the number that the eight digits in a word make, with the first digit in the lowest byte
-pub eight_in_word : (a b c d e f g h : ℕ) → a < 10 → b < 10 → c < 10 → d < 10 → e < 10 → f < 10 → g < 10 → h < 10 → (ones pairs fours : ℕ)
-    → ones ≡ ((((((h * 256 + g) * 256 + f) * 256 + e) * 256 + d) * 256 + c) * 256 + b) * 256 + a
-    → pairs ≡ bit_and (10 * ones + ones / 256) 71777214294589695
-    → fours ≡ bit_and (100 * pairs + pairs / 65536) 281470681808895
-    → (bit_and (10000 * fours + fours / 4294967296) 4294967295
-    ≡ 10 * (10 * (10 * (10 * (10 * (10 * (10 * a + b) + c) + d) + e) + f) + g) + h)
-eight_in_word a b c d e f g h la lb lc ld le lf lg lh ones pairs fours o p q =
-    let shifted : ones / 256 ≡ (((((h * 256 + g) * 256 + f) * 256 + e) * 256 + d) * 256 + c) * 256 + b = omega arith in
-    let joined : 10 * ones + ones / 256
-    ≡ (((((10 * h) * 256 + (10 * g + h)) * 65536 + ((10 * f + g) * 256 + (10 * e + f))) * 65536
-    + ((10 * d + e) * 256 + (10 * c + d))) * 65536) + ((10 * b + c) * 256 + (10 * a + b)) = omega arith in
-    let two : pairs ≡ (((10 * g + h) * 65536 + (10 * e + f)) * 65536 + (10 * c + d)) * 65536 + (10 * a + b) = p
-    ∙ ap (λ (n : ℕ). bit_and n 71777214294589695) joined
-    ∙ pairs_kept (10 * a + b) (10 * b + c) (10 * c + d) (10 * d + e) (10 * e + f) (10 * f + g) (10 * g + h) (10 * h)
-    (omega arith) (omega arith) (omega arith) (omega arith) (omega arith) (omega arith) (omega arith) (omega arith) in
-    four_in_word (10 * a + b) (10 * c + d) (10 * e + f) (10 * g + h) (omega arith) (omega arith) (omega arith)
-    (omega arith) pairs fours two q
-    ∙ omega arith
+-- eight numbers in the bytes of a word, the first in its lowest byte
+abbrev pub word_of : (ℕ → ℕ) → ℕ
+word_of d = ((((((d 7 * 256 + d 6) * 256 + d 5) * 256 + d 4) * 256 + d 3) * 256 + d 2) * 256 + d 1) * 256 + d 0
+
+-- the number with these eight digits
+abbrev pub number_with : (ℕ → ℕ) → ℕ
+number_with d = 10 * (10 * (10 * (10 * (10 * (10 * (10 * d 0 + d 1) + d 2) + d 3) + d 4) + d 5) + d 6) + d 7
 
 -- one more digit was read
 number_step : (n i next digit more : ℕ) (bytes : List ℕ) → i < length bytes → next ≡ i + 1 → IsDigitOf (get_or bytes i 0) digit
@@ -123,20 +100,45 @@ number_step n i next digit more bytes lt e h m =
     let same : 10 * n + (get_or bytes i 0 - 48) ≡ more = (let is = h.is in omega arith) in
     rw (drop_more bytes i 0 lt, h.passes, e, same) refl
 
+module _ (d : ℕ → ℕ) (below : (k : ℕ) → k < 8 → d k < 10) where
+  pub eight_digits_below : number_with d < 100000000
+  eight_digits_below = omega arith
+
+  -- the bytes of eight digits in a word, minus the byte of 0 in each
+  pub digits_in_word : (w : ℕ) → w ≡ word_of (λ k. 48 + d k) → (w - 3472328296227680304 ≡ word_of d)
+      × (3472328296227680304 ≤ w) × (11 * (w - 3472328296227680304) < 2 ^ 64)
+  digits_in_word w is =
+      let all : w ≡ 3472328296227680304 + word_of d = omega arith in
+      (omega arith, omega arith, omega arith)
+
+  -- the number that the eight digits in a word make
+  pub eight_in_word : (ones pairs fours : ℕ) → ones ≡ word_of d → pairs ≡ bit_and (10 * ones + ones / 256) 71777214294589695
+      → fours ≡ bit_and (100 * pairs + pairs / 65536) 281470681808895
+      → bit_and (10000 * fours + fours / 4294967296) 4294967295 ≡ number_with d
+  eight_in_word ones pairs fours o p q =
+      let shifted : ones / 256 ≡ (((((d 7 * 256 + d 6) * 256 + d 5) * 256 + d 4) * 256 + d 3) * 256 + d 2) * 256 + d 1 = omega arith in
+      let joined : 10 * ones + ones / 256
+      ≡ (((((10 * d 7) * 256 + (10 * d 6 + d 7)) * 65536 + ((10 * d 5 + d 6) * 256 + (10 * d 4 + d 5))) * 65536
+      + ((10 * d 3 + d 4) * 256 + (10 * d 2 + d 3))) * 65536) + ((10 * d 1 + d 2) * 256 + (10 * d 0 + d 1)) = omega arith in
+      let two : pairs ≡ (((10 * d 6 + d 7) * 65536 + (10 * d 4 + d 5)) * 65536 + (10 * d 2 + d 3)) * 65536 + (10 * d 0 + d 1) = p
+      ∙ ap (λ (n : ℕ). bit_and n 71777214294589695) joined
+      ∙ pairs_kept (10 * d 0 + d 1) (10 * d 1 + d 2) (10 * d 2 + d 3) (10 * d 3 + d 4) (10 * d 4 + d 5) (10 * d 5 + d 6) (10 * d 6 + d 7)
+      (10 * d 7) (omega arith) (omega arith) (omega arith) (omega arith) (omega arith) (omega arith) (omega arith) (omega arith) in
+      four_in_word (10 * d 0 + d 1) (10 * d 2 + d 3) (10 * d 4 + d 5) (10 * d 6 + d 7) (omega arith) (omega arith) (omega arith)
+      (omega arith) pairs fours two q
+      ∙ omega arith
+
 -- the number that eight digits make after others, if nothing follows them
-pub number_of_eight : (before : ℕ) (bytes : List ℕ) (a b c d e f g h : ℕ) → length bytes ≡ 8 → IsDigitOf (get_or bytes 0 0) a
-    → IsDigitOf (get_or bytes 1 0) b
-    → IsDigitOf (get_or bytes 2 0) c → IsDigitOf (get_or bytes 3 0) d → IsDigitOf (get_or bytes 4 0) e → IsDigitOf (get_or bytes 5 0) f
-    → IsDigitOf (get_or bytes 6 0) g → IsDigitOf (get_or bytes 7 0) h → (number : ℕ)
-    → number ≡ before * 100000000 + (10 * (10 * (10 * (10 * (10 * (10 * (10 * a + b) + c) + d) + e) + f) + g) + h)
+pub number_of_eight : (before : ℕ) (bytes : List ℕ) (d : ℕ → ℕ) → length bytes ≡ 8
+    → ((k : ℕ) → k < 8 → IsDigitOf (get_or bytes k 0) (d k)) → (number : ℕ) → number ≡ before * 100000000 + number_with d
     → number_after before bytes ≡ Some number
 unfolding number_after
-number_of_eight before bytes a b c d e f g h l ia ib ic id ie i_f ig ih number is =
-    number_step before 0 1 a _ bytes (omega arith) refl ia refl ∙ number_step _ 1 2 b _ bytes (omega arith) refl ib refl
-    ∙ number_step _ 2 3 c _ bytes (omega arith) refl ic refl ∙ number_step _ 3 4 d _ bytes (omega arith) refl id refl
-    ∙ number_step _ 4 5 e _ bytes (omega arith) refl ie refl ∙ number_step _ 5 6 f _ bytes (omega arith) refl i_f refl
-    ∙ number_step _ 6 7 g _ bytes (omega arith) refl ig refl ∙ number_step _ 7 8 h number bytes (omega arith) refl ih (omega arith)
-    ∙ ap (number_after _) (drop_all 8 bytes (omega arith))
+number_of_eight before bytes d l digit number is =
+    let step = λ (n i more : ℕ) (lt : i < 8) (m : more ≡ 10 * n + d i). number_step n i (i + 1) (d i) more bytes (omega arith) refl
+    (digit i lt) m in
+    step before 0 _ (omega arith) refl ∙ step _ 1 _ (omega arith) refl ∙ step _ 2 _ (omega arith) refl ∙ step _ 3 _ (omega arith) refl
+    ∙ step _ 4 _ (omega arith) refl ∙ step _ 5 _ (omega arith) refl ∙ step _ 6 _ (omega arith) refl
+    ∙ step _ 7 number (omega arith) (omega arith) ∙ ap (number_after _) (drop_all 8 bytes (omega arith))
 
 -- the byte of 0 instead of a blank
 abbrev pub filled : ℕ → ℕ
@@ -195,10 +197,3 @@ selected p zero value [] l = refl
 selected p (suc n) value [] l = absurd (omega arith)
 selected p zero value (x ∷ xs) l = absurd (omega arith)
 selected p (suc n) value (x ∷ xs) l = ap (λ (ys : List ℕ). cond (p x) value x ∷ ys) (selected p n value xs (omega arith))
-
--- leading blanks don't count
-pub behind_two_blanks : (field : List ℕ) → 2 ≤ length field → get_or field 0 0 ≡ 32 → get_or field 1 0 ≡ 32
-    → drop_blanks field ≡ drop_blanks (drop 2 field)
-behind_two_blanks [] l a b = absurd (omega arith)
-behind_two_blanks (x ∷ []) l a b = absurd (omega arith)
-behind_two_blanks (x ∷ y ∷ xs) l a b = rw (a, b) refl

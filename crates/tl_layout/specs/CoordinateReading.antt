@@ -1,5 +1,5 @@
 -- How a coordinate is read.
-use Rattle.std.specs.Prelude.{ℕ, ◌==◌, List, [], ◌∷◌, nat_le, Option, Some, None, if◌then◌else◌, pos}
+use Rattle.std.specs.Prelude.{ℕ, ◌==◌, List, [], ◌∷◌, nat_le, Option, Some, None, if◌then◌else◌, ℤ, pos}
 use Rattle.tl_layout.specs.NumberField.{is_digit}
 use Rattle.tl_layout.specs.NumberReading.{drop_blanks, number_after}
 use Rattle.tl_layout.specs.declared.coordinate.Coordinate.{Coordinate}
@@ -16,13 +16,16 @@ unfoldable pub magnitude_of : ℕ → List ℕ → Option ℕ
 magnitude_of limit [] = None
 magnitude_of limit (byte ∷ bytes) = if is_digit byte then within limit (number_after 0 (byte ∷ bytes)) else None
 
+-- the coordinate that is made from a magnitude, if there is one
+abbrev pub made_of : (ℕ → ℤ) → Option ℕ → Coordinate
+made_of make None = Malformed
+made_of make (Some n) = Value (make n)
+
 abbrev pub plus_of : Option ℕ → Coordinate
-plus_of None = Malformed
-plus_of (Some n) = Value (pos n)
+plus_of = made_of pos
 
 abbrev pub minus_of : Option ℕ → Coordinate
-minus_of None = Malformed
-minus_of (Some n) = Value (negated n)
+minus_of = made_of negated
 
 -- the coordinate made from a sign, or no sign, and a magnitude
 unfoldable pub signed_of : ℕ → List ℕ → Coordinate

@@ -18,5 +18,4 @@ pub mod Type1ColumnLaws
 pub mod RecordLaws
 pub mod TurnedFits
 pub mod MaskLaws
-pub mod TabledLaws
 pub mod RecordTypeLaws

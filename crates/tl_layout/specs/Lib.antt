@@ -22,13 +22,6 @@ pub mod Fields
 pub mod Type1
 pub mod Type1Groups
 pub mod TypeI
-pub mod Type5
-pub mod Type6
-pub mod Type7
-pub mod Type8
-pub mod TypeP
-pub mod Type2
-pub mod Type4
 pub mod Pieces
 pub mod Type1Columns
 pub mod RecordText

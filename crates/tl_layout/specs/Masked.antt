@@ -15,36 +15,21 @@ no_mask = record { sources = false; reserved = false }
 -- SOURCE names a source; CENSUS1 and CENSUS2 are reserved
 abbrev pub masked_body_1 : Mask → Body1Fields → Body1Fields
 masked_body_1 mask body =
-    record {
-      side1 = body.side1;
+    record body {
       source = blanks_if mask.sources 1 body.source;
-      name = body.name;
-      cfcc = body.cfcc;
-      ranges = body.ranges;
-      native_areas = body.native_areas;
       census1 = blanks_if mask.reserved 1 body.census1;
       census2 = blanks_if mask.reserved 1 body.census2;
-      entities = body.entities;
     }
 
 -- SOURCE names a source
 abbrev pub masked_body_7 : Mask → Body7 → Body7
-masked_body_7 mask body =
-    record {
-      file = body.file;
-      source = blanks_if mask.sources 1 body.source;
-      cfcc = body.cfcc;
-      laname = body.laname;
-      point = body.point;
-    }
+masked_body_7 mask body = record body { source = blanks_if mask.sources 1 body.source }
 
 -- SOURCE names a source; RS_I1, RS_I2 and RS_I3 are reserved
 abbrev pub masked_body_i : Mask → BodyI → BodyI
 masked_body_i mask body =
-    record {
-      file = body.file;
+    record body {
       source = blanks_if mask.sources 10 body.source;
-      ftseg = body.ftseg;
       rs_i1 = blanks_if mask.reserved 10 body.rs_i1;
       rs_i2 = blanks_if mask.reserved 10 body.rs_i2;
       rs_i3 = blanks_if mask.reserved 10 body.rs_i3;
@@ -52,18 +37,10 @@ masked_body_i mask body =
 
 -- the records with these contents and with the same numbers and points
 abbrev pub masked_type_1 : Mask → Fields1 → Fields1
-masked_type_1 mask r = record { tlid = r.tlid; body = masked_body_1 mask r.body; start = r.start; end = r.end }
+masked_type_1 mask r = record r { body = masked_body_1 mask r.body }
 
 abbrev pub masked_type_7 : Mask → Fields7 → Fields7
-masked_type_7 mask r = record { land = r.land; body = masked_body_7 mask r.body }
+masked_type_7 mask r = record r { body = masked_body_7 mask r.body }
 
 abbrev pub masked_type_i : Mask → FieldsI → FieldsI
-masked_type_i mask r =
-    record {
-      tlid = r.tlid;
-      body = masked_body_i mask r.body;
-      start_node = r.start_node;
-      end_node = r.end_node;
-      left = r.left;
-      right = r.right;
-    }
+masked_type_i mask r = record r { body = masked_body_i mask r.body }

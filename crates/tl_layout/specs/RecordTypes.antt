@@ -1,20 +1,14 @@
--- The type of a record as an index, so that a definition or a lemma over all nine types is written once.
-use Rattle.std.specs.Prelude.{ℕ, List, [], ◌∷◌, ◌++◌, map, filter_map, Option, Result}
-use Rattle.tl_layout.specs.ByType.{as_type_1, as_type_2, as_type_4, as_type_5, as_type_6, as_type_7, as_type_8, as_type_i, as_type_p}
-use Rattle.tl_layout.specs.ColumnTable.{Row}
+-- The type of a record as an index, so that a definition or a lemma over all nine types is written once: what its lines and
+-- its records are, and which records fit.
+use Rattle.std.specs.Prelude.{ℕ, List, [], ◌∷◌, ◌++◌, map, filter_map, Option, Some, None, Result}
+use Rattle.tl_layout.specs.AddressRanges.{ranges_of}
+use Rattle.tl_layout.specs.ColumnTable.{Row, FitsRows, SpellsRows}
+use Rattle.tl_layout.specs.FieldTexts.{rows_spelling}
 use Rattle.tl_layout.specs.Fields.{Fields1, Fields2, Fields4, Fields5, Fields6, Fields7, Fields8, FieldsI, FieldsP}
 use Rattle.tl_layout.specs.RecordTables.{rtype_1, rtype_2, rtype_4, rtype_5, rtype_6, rtype_7, rtype_8, rtype_i, rtype_p}
 use Rattle.tl_layout.specs.RecordTables.{len_1, len_2, len_4, len_5, len_6, len_7, len_8, len_i, len_p}
 use Rattle.tl_layout.specs.RecordTables.{table_1, table_2, table_4, table_5, table_6, table_7, table_8, table_i, table_p}
-use Rattle.tl_layout.specs.Type1.{type_1_reading, SpellsType1}
-use Rattle.tl_layout.specs.Type2.{type_2_reading, SpellsType2}
-use Rattle.tl_layout.specs.Type4.{type_4_reading, SpellsType4}
-use Rattle.tl_layout.specs.Type5.{type_5_reading, SpellsType5}
-use Rattle.tl_layout.specs.Type6.{type_6_reading, SpellsType6}
-use Rattle.tl_layout.specs.Type7.{type_7_reading, SpellsType7}
-use Rattle.tl_layout.specs.Type8.{type_8_reading, SpellsType8}
-use Rattle.tl_layout.specs.TypeI.{type_i_reading, SpellsTypeI}
-use Rattle.tl_layout.specs.TypeP.{type_p_reading, SpellsTypeP}
+use Rattle.tl_layout.specs.TableReading.{Makes, rows_reading}
 use Rattle.tl_layout.specs.declared.fault.FieldFault.{FieldFault}
 use Rattle.tl_layout.specs.declared.record_type.Record.{Record}
 use Rattle.tl_layout.specs.declared.record_type.Record.TheVariants.{One, Two, Four, Five, Six, Seven, Eight, I, P}
@@ -87,29 +81,88 @@ table_of Type8 = table_8
 table_of TypeI = table_i
 table_of TypeP = table_p
 
--- the line of this type spells these fields
-abbrev pub SpellsFields : (t : RecordType) → List ℕ → FieldsOf t → Type 0
-SpellsFields Type1 = SpellsType1
-SpellsFields Type2 = SpellsType2
-SpellsFields Type4 = SpellsType4
-SpellsFields Type5 = SpellsType5
-SpellsFields Type6 = SpellsType6
-SpellsFields Type7 = SpellsType7
-SpellsFields Type8 = SpellsType8
-SpellsFields TypeI = SpellsTypeI
-SpellsFields TypeP = SpellsTypeP
+-- the record made from the values of the rows
+abbrev pub make_of : (t : RecordType) → Makes (table_of t) (FieldsOf t)
+make_of Type1 = λ tlid side1 source fedirp fename fetype fedirs cfcc
+    fraddl toaddl fraddr toaddr friaddl toiaddl friaddr toiaddr zipl zipr
+    aianhhfpl aianhhfpr aihhtlil aihhtlir census1 census2 statel stater countyl countyr cousubl cousubr submcdl submcdr placel placer
+    tractl tractr blockl blockr start end.
+    record {
+      tlid = tlid;
+      body = record {
+        side1 = side1;
+        source = source;
+        name = record { fedirp = fedirp; fename = fename; fetype = fetype; fedirs = fedirs };
+        cfcc = cfcc;
+        ranges = ranges_of fraddl toaddl fraddr toaddr friaddl toiaddl friaddr toiaddr zipl zipr;
+        native_areas = record {
+          aianhhfp = record { left = aianhhfpl; right = aianhhfpr };
+          aihhtli = record { left = aihhtlil; right = aihhtlir };
+        };
+        census1 = census1;
+        census2 = census2;
+        entities = record {
+          state = record { left = statel; right = stater };
+          county = record { left = countyl; right = countyr };
+          cousub = record { left = cousubl; right = cousubr };
+          submcd = record { left = submcdl; right = submcdr };
+          place = record { left = placel; right = placer };
+          tract = record { left = tractl; right = tractr };
+          block = record { left = blockl; right = blockr };
+        };
+      };
+      start = start;
+      end = end;
+    }
+make_of Type2 = λ tlid rtsq points.
+    record { tlid = tlid; rtsq = rtsq; points = points }
+make_of Type4 = λ tlid rtsq feats.
+    record { tlid = tlid; rtsq = rtsq; feats = feats }
+make_of Type5 = λ file feat fedirp fename fetype fedirs.
+    record {
+      feat = feat;
+      body = record { file = file; name = record { fedirp = fedirp; fename = fename; fetype = fetype; fedirs = fedirs } };
+    }
+make_of Type6 = λ tlid rtsq fraddl toaddl fraddr toaddr friaddl toiaddl friaddr toiaddr zipl zipr.
+    record {
+      tlid = tlid;
+      rtsq = rtsq;
+      ranges = ranges_of fraddl toaddl fraddr toaddr friaddl toiaddl friaddr toiaddr zipl zipr;
+    }
+make_of Type7 = λ file land source cfcc laname point _.
+    record {
+      land = land;
+      body = record { file = file; source = source; cfcc = cfcc; laname = laname; point = point };
+    }
+make_of Type8 = λ file cenid polyid land _.
+    record { file = file; cenid = cenid; polyid = polyid; land = land }
+make_of TypeI = λ file tlid start_node end_node cenidl polyidl cenidr polyidr source ftseg rs_i1 rs_i2 rs_i3.
+    record {
+      tlid = tlid;
+      body = record { file = file; source = source; ftseg = ftseg; rs_i1 = rs_i1; rs_i2 = rs_i2; rs_i3 = rs_i3 };
+      start_node = start_node;
+      end_node = end_node;
+      left = record { cenid = cenidl; polyid = polyidl };
+      right = record { cenid = cenidr; polyid = polyidr };
+    }
+make_of TypeP = λ file cenid polyid point water.
+    record { cenid = cenid; polyid = polyid; body = record { file = file; point = point; water = water } }
 
--- the fields that are read from a line of this type
-abbrev pub reading_of : (t : RecordType) → List ℕ → Result (FieldsOf t) FieldFault
-reading_of Type1 = type_1_reading
-reading_of Type2 = type_2_reading
-reading_of Type4 = type_4_reading
-reading_of Type5 = type_5_reading
-reading_of Type6 = type_6_reading
-reading_of Type7 = type_7_reading
-reading_of Type8 = type_8_reading
-reading_of TypeI = type_i_reading
-reading_of TypeP = type_p_reading
+-- fields of a record of this type fit: each value fits its columns
+unfoldable pub FitsFields : (t : RecordType) → FieldsOf t → Type 0
+FitsFields t r = FitsRows (table_of t) r
+
+-- a full line of this type spells these fields, row by row of the column table
+unfoldable pub SpellsFields : (t : RecordType) → List ℕ → FieldsOf t → Type 0
+SpellsFields t line r = SpellsRows (table_of t) line r
+
+-- how a line of this type is read: its fields from the left, up to the first fault
+unfoldable pub reading_of : (t : RecordType) → List ℕ → Result (FieldsOf t) FieldFault
+reading_of t line = rows_reading (table_of t) (make_of t) line
+
+-- the canonical spelling of a record of this type with these fields
+unfoldable pub fields_spelling : (t : RecordType) → FieldsOf t → List ℕ
+fields_spelling t r = rows_spelling (byte_of t) (table_of t) r
 
 -- the record of this type with these fields
 abbrev pub record_of : (t : RecordType) → FieldsOf t → Record
@@ -123,17 +176,30 @@ record_of Type8 = Eight
 record_of TypeI = I
 record_of TypeP = P
 
+-- a record's type and its fields
+abbrev pub own_type : Record → (t : RecordType) × FieldsOf t
+own_type (One r) = (Type1, r)
+own_type (Two r) = (Type2, r)
+own_type (Four r) = (Type4, r)
+own_type (Five r) = (Type5, r)
+own_type (Six r) = (Type6, r)
+own_type (Seven r) = (Type7, r)
+own_type (Eight r) = (Type8, r)
+own_type (I r) = (TypeI, r)
+own_type (P r) = (TypeP, r)
+
 -- the fields of a record, if it has this type
 abbrev pub as_type : (t : RecordType) → Record → Option (FieldsOf t)
-as_type Type1 = as_type_1
-as_type Type2 = as_type_2
-as_type Type4 = as_type_4
-as_type Type5 = as_type_5
-as_type Type6 = as_type_6
-as_type Type7 = as_type_7
-as_type Type8 = as_type_8
-as_type TypeI = as_type_i
-as_type TypeP = as_type_p
+as_type Type1 (One r) = Some r
+as_type Type2 (Two r) = Some r
+as_type Type4 (Four r) = Some r
+as_type Type5 (Five r) = Some r
+as_type Type6 (Six r) = Some r
+as_type Type7 (Seven r) = Some r
+as_type Type8 (Eight r) = Some r
+as_type TypeI (I r) = Some r
+as_type TypeP (P r) = Some r
+as_type _ _ = None
 
 -- the records of this type in a list, in their order
 abbrev pub of_type : (t : RecordType) → List Record → List (FieldsOf t)

@@ -11,19 +11,18 @@ abbrev pub Makes : {R : Type 0} → List (Row R) → Type 0 → Type 0
 Makes [] A = A
 Makes (row ∷ rows) A = ValueOf row.kind → Makes rows A
 
--- reads the value in the columns of a field and continues with it
-abbrev pub reading_on : {A : Type 0} → List ℕ → ℕ → ℕ → (kind : Kind) → (ValueOf kind → Result A FieldFault) → Result A FieldFault
-reading_on line first last Number more = number_at first last line >>= more
-reading_on line first last NumberOrNone more = number_or_none_at first last line >>= more
-reading_on line first last Pair more = point_at first line >>= more
-reading_on line first last PairOrNone more = point_or_none_at first line >>= more
-reading_on line first last NumberPlaces more =
-    places_reading (λ column. number_or_none_at column (column + 7) line) 8 false 5 first >>= more
-reading_on line first last PointPlaces more = places_reading (λ column. point_or_none_at column line) 19 false 10 first >>= more
-reading_on line first last Opaque more = more (columns first last line)
-reading_on line first last Filler more = more tt
+-- how the columns of a field are read
+abbrev pub value_reading : List ℕ → ℕ → ℕ → (kind : Kind) → Result (ValueOf kind) FieldFault
+value_reading line first last Number = number_at first last line
+value_reading line first last NumberOrNone = number_or_none_at first last line
+value_reading line first last Pair = point_at first line
+value_reading line first last PairOrNone = point_or_none_at first line
+value_reading line first last NumberPlaces = places_reading (λ column. number_or_none_at column (column + 7) line) 8 false 5 first
+value_reading line first last PointPlaces = places_reading (λ column. point_or_none_at column line) 19 false 10 first
+value_reading line first last Opaque = Ok (columns first last line)
+value_reading line first last Filler = Ok tt
 
 -- how a line is read: what is made from the values of the rows, or the first fault from the left
 abbrev pub rows_reading : {R A : Type 0} → (rows : List (Row R)) → Makes rows A → List ℕ → Result A FieldFault
 rows_reading [] made line = Ok made
-rows_reading (row ∷ rows) make line = reading_on line row.first row.last row.kind (λ value. rows_reading rows (make value) line)
+rows_reading (row ∷ rows) make line = value_reading line row.first row.last row.kind >>= λ value. rows_reading rows (make value) line

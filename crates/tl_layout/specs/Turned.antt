@@ -45,15 +45,9 @@ turned_entities entities =
 -- SIDE1, SOURCE, the name, CFCC, CENSUS1 and CENSUS2 stay
 abbrev pub turned_body : Body1Fields → Body1Fields
 turned_body body =
-    record {
-      side1 = body.side1;
-      source = body.source;
-      name = body.name;
-      cfcc = body.cfcc;
+    record body {
       ranges = turned_ranges body.ranges;
       native_areas = turned_areas body.native_areas;
-      census1 = body.census1;
-      census2 = body.census2;
       entities = turned_entities body.entities;
     }
 
@@ -63,18 +57,10 @@ body_towards turned body = cond turned (turned_body body) body
 
 -- the records of a chain seen from its other end: the points, the nodes and the sides are exchanged
 abbrev pub turned_type_1 : Fields1 → Fields1
-turned_type_1 r = record { tlid = r.tlid; body = turned_body r.body; start = r.end; end = r.start }
+turned_type_1 r = record r { body = turned_body r.body; start = r.end; end = r.start }
 
 abbrev pub turned_type_6 : Fields6 → Fields6
-turned_type_6 r = record { tlid = r.tlid; rtsq = r.rtsq; ranges = turned_ranges r.ranges }
+turned_type_6 r = record r { ranges = turned_ranges r.ranges }
 
 abbrev pub turned_type_i : FieldsI → FieldsI
-turned_type_i r =
-    record {
-      tlid = r.tlid;
-      body = r.body;
-      start_node = r.end_node;
-      end_node = r.start_node;
-      left = r.right;
-      right = r.left;
-    }
+turned_type_i r = record r { start_node = r.end_node; end_node = r.start_node; left = r.right; right = r.left }

@@ -3,6 +3,7 @@
 ghost use Rattle.std.specs.Prelude.{◌≡◌, ◌+◌, ◌-◌, ◌≤◌, length, take};
 ghost use Rattle.tl_layout.specs.Bytes.{AreAllowed};
 ghost use Rattle.tl_layout.specs.Columns.{joined};
+ghost use Rattle.tl_layout.specs.Names.{FitsName, feature_name_at, name_texts};
 
 use crate::field::text_at;
 use crate::layout::LONGEST_LINE;
@@ -23,8 +24,6 @@ pub struct FeatureName {
 }
 
 impl FeatureName {
-    ghost use Rattle.tl_layout.specs.Names.{FitsName, feature_name_at, name_texts};
-
     /// Makes a name from these fields. Each of their bytes must be allowed in a line.
     pub(crate) fn new(
         fedirp: [u8; 2],

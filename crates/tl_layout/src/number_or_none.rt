@@ -1,5 +1,7 @@
 //! Numbers that can be none, in eight bytes each.
 
+ghost use Rattle.std.proofs.Common.{rules};
+ghost use Rattle.std.specs.Cmp.Rules.{comparing};
 ghost use Rattle.std.specs.Prelude.{◌≡◌, ◌<◌, IfSome};
 
 use std::fmt;
@@ -29,9 +31,6 @@ impl Model for NumberOrNone {
 
 /// Two values are equal if their `Option`s are.
 impl PartialEq for NumberOrNone {
-    ghost use Rattle.std.specs.Cmp.Rules.{comparing};
-    ghost use Rattle.std.proofs.Common.{rules};
-
     ghost eq = { ⟦<Option<u64> as PartialEq>⟧.eq };
 
     ghost laws = { Prim.search (comparing, rules) };
@@ -42,8 +41,6 @@ impl PartialEq for NumberOrNone {
 }
 
 impl Eq for NumberOrNone {
-    ghost use Rattle.std.proofs.Common.{rules};
-
     ghost laws = { Prim.search rules };
 }
 

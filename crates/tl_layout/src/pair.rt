@@ -3,6 +3,7 @@
 ghost use Rattle.std.specs.Prelude.{◌≡◌, ◌+◌, ◌-◌, ◌*◌, ◌≤◌, length, take};
 ghost use Rattle.tl_layout.specs.Bytes.{AreAllowed};
 ghost use Rattle.tl_layout.specs.Columns.{joined};
+ghost use Rattle.tl_layout.specs.Pairs.{FitsPair, pair_at, pair_texts};
 
 use crate::field::text_at;
 use crate::layout::LONGEST_LINE;
@@ -17,8 +18,6 @@ pub struct LeftRight<const N: usize> {
 }
 
 impl<const N: usize> LeftRight<N> {
-    ghost use Rattle.tl_layout.specs.Pairs.{FitsPair, pair_at, pair_texts};
-
     /// Makes a pair from these fields. Each of their bytes must be allowed in a line.
     pub(crate) fn new(left: [u8; N], right: [u8; N]) -> LeftRight<N>
         requires left { AreAllowed left }

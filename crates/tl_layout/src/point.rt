@@ -1,6 +1,6 @@
 //! Points of the map.
 
-ghost use Rattle.std.specs.Prelude.{◌≡◌, IfSome};
+ghost use Rattle.std.specs.Prelude.{◌≡◌, IfSome, pos};
 ghost use Rattle.tl_layout.specs.Coordinates.{Coordinates, IsOnMap};
 
 use std::marker::Model;
@@ -68,8 +68,6 @@ pub(crate) fn show_point_fits(point: &Option<Point>)
 
 /// The point at longitude 0 and one millionth of a degree north. It only fills arrays and is never a point of a map.
 impl Default for Point {
-    ghost use Rattle.std.specs.Prelude.{◌≡◌, pos};
-
     ghost is_default = { λ p. p ≡ record { long = pos 0; lat = pos 1 } };
 
     fn default() -> Point {

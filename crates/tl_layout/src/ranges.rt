@@ -1,6 +1,7 @@
 //! Address ranges and ZIP codes, as in record types 1 and 6.
 
 ghost use Rattle.std.specs.Prelude.{◌≡◌, ◌+◌, ◌-◌, ◌≤◌, length, take};
+ghost use Rattle.tl_layout.specs.AddressRanges.{FitsRanges, ranges_at, ranges_texts};
 ghost use Rattle.tl_layout.specs.Bytes.{AreAllowed, IsText};
 ghost use Rattle.tl_layout.specs.Columns.{joined};
 
@@ -34,8 +35,6 @@ pub struct Ranges {
 }
 
 impl Ranges {
-    ghost use Rattle.tl_layout.specs.AddressRanges.{FitsRanges, ranges_at, ranges_texts};
-
     /// Makes ranges from these fields. Each of their bytes must be allowed in a line.
     pub fn new(
         fraddl: [u8; 11],

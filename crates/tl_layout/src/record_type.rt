@@ -1,6 +1,7 @@
 //! A record of any type.
 
 ghost use Rattle.std.specs.Prelude.{◌≡◌, ◌≤◌, ◌<◌, length};
+ghost use Rattle.tl_layout.specs.RecordText.{type_of, len_of, spelling_of, FitsRecord};
 
 use crate::layout::{LONGEST_LINE, Layout};
 use crate::type_i::RecI;
@@ -40,8 +41,6 @@ pub enum Record {
 }
 
 impl Record {
-    ghost use Rattle.tl_layout.specs.RecordText.{type_of, len_of, spelling_of, FitsRecord};
-
     /// The record type: the byte in column 1.
     #[tactic(auto, unfolding(crate::specs::RecordText::type_of))]
     pub fn record_type(&self) -> u8

@@ -3,7 +3,9 @@
 ghost use Rattle.std.specs.Prelude.{◌≡◌, OnOk, OnErr};
 ghost use Rattle.tl_layout.specs.declared.record_type.Record.{Record};
 ghost use Rattle.tl_layout.specs.RecordText.{type_of, spelling_of};
+ghost use Rattle.tl_layout.specs.RecordTypes.{Type1, Type2, Type4, Type5, Type6, Type7, Type8, TypeI, TypeP, record_of};
 ghost use Rattle.tl_layout.specs.Tables.{AddsRecord, AreSameTables};
+ghost use Rattle.tl_layout.specs.Laws.RecordTypeLaws.{type_of_record, spelling_of_record};
 
 use crate::growing::push_reserving;
 use crate::layout::Layout;
@@ -48,10 +50,7 @@ pub trait Tabled: Layout + Drop {
 }
 
 impl Tabled for Rec1 {
-    ghost use Rattle.tl_layout.specs.declared.record_type.Record.TheVariants.{One};
-    ghost use Rattle.tl_layout.specs.Laws.TabledLaws.{type_1_type, type_1_spelling_is};
-
-    ghost as_record = { One };
+    ghost as_record = { record_of Type1 };
 
     fn into_record(self) -> Record {
         Record::One(self)
@@ -61,16 +60,13 @@ impl Tabled for Rec1 {
         push_reserving(&mut tables.type_1, self)
     }
 
-    ghost type_is = { type_1_type };
+    ghost type_is = { type_of_record Type1 };
 
-    ghost spelling_is = { type_1_spelling_is };
+    ghost spelling_is = { spelling_of_record Type1 };
 }
 
 impl Tabled for Rec2 {
-    ghost use Rattle.tl_layout.specs.declared.record_type.Record.TheVariants.{Two};
-    ghost use Rattle.tl_layout.specs.Laws.TabledLaws.{type_2_type, type_2_spelling_is};
-
-    ghost as_record = { Two };
+    ghost as_record = { record_of Type2 };
 
     fn into_record(self) -> Record {
         Record::Two(self)
@@ -80,16 +76,13 @@ impl Tabled for Rec2 {
         push_reserving(&mut tables.type_2, self)
     }
 
-    ghost type_is = { type_2_type };
+    ghost type_is = { type_of_record Type2 };
 
-    ghost spelling_is = { type_2_spelling_is };
+    ghost spelling_is = { spelling_of_record Type2 };
 }
 
 impl Tabled for Rec4 {
-    ghost use Rattle.tl_layout.specs.declared.record_type.Record.TheVariants.{Four};
-    ghost use Rattle.tl_layout.specs.Laws.TabledLaws.{type_4_type, type_4_spelling_is};
-
-    ghost as_record = { Four };
+    ghost as_record = { record_of Type4 };
 
     fn into_record(self) -> Record {
         Record::Four(self)
@@ -99,16 +92,13 @@ impl Tabled for Rec4 {
         push_reserving(&mut tables.type_4, self)
     }
 
-    ghost type_is = { type_4_type };
+    ghost type_is = { type_of_record Type4 };
 
-    ghost spelling_is = { type_4_spelling_is };
+    ghost spelling_is = { spelling_of_record Type4 };
 }
 
 impl Tabled for Rec5 {
-    ghost use Rattle.tl_layout.specs.declared.record_type.Record.TheVariants.{Five};
-    ghost use Rattle.tl_layout.specs.Laws.TabledLaws.{type_5_type, type_5_spelling_is};
-
-    ghost as_record = { Five };
+    ghost as_record = { record_of Type5 };
 
     fn into_record(self) -> Record {
         Record::Five(self)
@@ -118,16 +108,13 @@ impl Tabled for Rec5 {
         push_reserving(&mut tables.type_5, self)
     }
 
-    ghost type_is = { type_5_type };
+    ghost type_is = { type_of_record Type5 };
 
-    ghost spelling_is = { type_5_spelling_is };
+    ghost spelling_is = { spelling_of_record Type5 };
 }
 
 impl Tabled for Rec6 {
-    ghost use Rattle.tl_layout.specs.declared.record_type.Record.TheVariants.{Six};
-    ghost use Rattle.tl_layout.specs.Laws.TabledLaws.{type_6_type, type_6_spelling_is};
-
-    ghost as_record = { Six };
+    ghost as_record = { record_of Type6 };
 
     fn into_record(self) -> Record {
         Record::Six(self)
@@ -137,16 +124,13 @@ impl Tabled for Rec6 {
         push_reserving(&mut tables.type_6, self)
     }
 
-    ghost type_is = { type_6_type };
+    ghost type_is = { type_of_record Type6 };
 
-    ghost spelling_is = { type_6_spelling_is };
+    ghost spelling_is = { spelling_of_record Type6 };
 }
 
 impl Tabled for Rec7 {
-    ghost use Rattle.tl_layout.specs.declared.record_type.Record.TheVariants.{Seven};
-    ghost use Rattle.tl_layout.specs.Laws.TabledLaws.{type_7_type, type_7_spelling_is};
-
-    ghost as_record = { Seven };
+    ghost as_record = { record_of Type7 };
 
     fn into_record(self) -> Record {
         Record::Seven(self)
@@ -156,16 +140,13 @@ impl Tabled for Rec7 {
         push_reserving(&mut tables.type_7, self)
     }
 
-    ghost type_is = { type_7_type };
+    ghost type_is = { type_of_record Type7 };
 
-    ghost spelling_is = { type_7_spelling_is };
+    ghost spelling_is = { spelling_of_record Type7 };
 }
 
 impl Tabled for Rec8 {
-    ghost use Rattle.tl_layout.specs.declared.record_type.Record.TheVariants.{Eight};
-    ghost use Rattle.tl_layout.specs.Laws.TabledLaws.{type_8_type, type_8_spelling_is};
-
-    ghost as_record = { Eight };
+    ghost as_record = { record_of Type8 };
 
     fn into_record(self) -> Record {
         Record::Eight(self)
@@ -175,16 +156,13 @@ impl Tabled for Rec8 {
         push_reserving(&mut tables.type_8, self)
     }
 
-    ghost type_is = { type_8_type };
+    ghost type_is = { type_of_record Type8 };
 
-    ghost spelling_is = { type_8_spelling_is };
+    ghost spelling_is = { spelling_of_record Type8 };
 }
 
 impl Tabled for RecI {
-    ghost use Rattle.tl_layout.specs.declared.record_type.Record.TheVariants.{I};
-    ghost use Rattle.tl_layout.specs.Laws.TabledLaws.{type_i_type, type_i_spelling_is};
-
-    ghost as_record = { I };
+    ghost as_record = { record_of TypeI };
 
     fn into_record(self) -> Record {
         Record::I(self)
@@ -194,16 +172,13 @@ impl Tabled for RecI {
         push_reserving(&mut tables.type_i, self)
     }
 
-    ghost type_is = { type_i_type };
+    ghost type_is = { type_of_record TypeI };
 
-    ghost spelling_is = { type_i_spelling_is };
+    ghost spelling_is = { spelling_of_record TypeI };
 }
 
 impl Tabled for RecP {
-    ghost use Rattle.tl_layout.specs.declared.record_type.Record.TheVariants.{P};
-    ghost use Rattle.tl_layout.specs.Laws.TabledLaws.{type_p_type, type_p_spelling_is};
-
-    ghost as_record = { P };
+    ghost as_record = { record_of TypeP };
 
     fn into_record(self) -> Record {
         Record::P(self)
@@ -213,7 +188,7 @@ impl Tabled for RecP {
         push_reserving(&mut tables.type_p, self)
     }
 
-    ghost type_is = { type_p_type };
+    ghost type_is = { type_of_record TypeP };
 
-    ghost spelling_is = { type_p_spelling_is };
+    ghost spelling_is = { spelling_of_record TypeP };
 }

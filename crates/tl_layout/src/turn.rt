@@ -1,8 +1,11 @@
 //! Turning: what the fields of a chain are when it is seen from its other end.
 
 ghost use Rattle.std.specs.Prelude.{◌≡◌, ◌+◌, ◌-◌, ◌*◌, ◌≤◌, length, refl, take};
+ghost use Rattle.tl_layout.specs.AddressRanges.{ranges_texts};
 ghost use Rattle.tl_layout.specs.Columns.{joined};
+ghost use Rattle.tl_layout.specs.Pairs.{pair_texts};
 ghost use Rattle.tl_layout.specs.Turned.{exchanged, turned_ranges, turned_entities, turned_body, body_towards};
+ghost use Rattle.tl_layout.specs.Type1Groups.{entities_texts, body_1_texts};
 
 use crate::layout::LONGEST_LINE;
 use crate::pair::LeftRight;
@@ -54,8 +57,6 @@ impl Turn for Ranges {
 }
 
 impl<const N: usize> LeftRight<N> {
-    ghost use Rattle.tl_layout.specs.Pairs.{pair_texts};
-
     /// Writes the pair from this column on, with left and right exchanged.
     fn put_exchanged(&self, out: &mut [u8], first: usize)
         requires from_one { 1 ≤ first }
@@ -68,8 +69,6 @@ impl<const N: usize> LeftRight<N> {
 }
 
 impl Ranges {
-    ghost use Rattle.tl_layout.specs.AddressRanges.{ranges_texts};
-
     /// Writes the ranges, seen from the other end, into columns 59 to 116.
     fn put_turned(&self, out: &mut [u8])
         requires { 116 ≤ length out.old }
@@ -88,8 +87,6 @@ impl Ranges {
 }
 
 impl GeographicEntities {
-    ghost use Rattle.tl_layout.specs.Type1Groups.{entities_texts};
-
     /// Writes the geographic entities into columns 131 to 190, with left and right exchanged.
     fn put_exchanged(&self, out: &mut [u8])
         requires { 190 ≤ length out.old }
@@ -106,8 +103,6 @@ impl GeographicEntities {
 }
 
 impl Body1 {
-    ghost use Rattle.tl_layout.specs.Type1Groups.{body_1_texts};
-
     /// Writes the content, seen from the chain's other end, into columns 16 to 190 of a line.
     #[inline(never)]
     fn put_turned(&self, out: &mut [u8])

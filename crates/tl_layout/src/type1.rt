@@ -1,10 +1,17 @@
 //! Record type 1: a chain's basic data.
 
+ghost use Rattle.std.proofs.Common.{lit≤};
 ghost use Rattle.std.specs.Prelude.{◌≡◌, ◌≤◌, ◌++◌, ◌∷◌, codes, length, take};
 ghost use Rattle.tl_layout.specs.Bytes.{IsText};
 ghost use Rattle.tl_layout.specs.Columns.{joined};
+ghost use Rattle.tl_layout.specs.FieldFaults.{IsLeftmostFault};
+ghost use Rattle.tl_layout.specs.FieldTexts.{number_text};
+ghost use Rattle.tl_layout.specs.Laws.TypeLaws.{layout_laws};
 ghost use Rattle.tl_layout.specs.Numbers.{IsNumber};
-ghost use Rattle.tl_layout.specs.RecordTables.{len_1};
+ghost use Rattle.tl_layout.specs.RecordTables.{len_1, rtype_1};
+ghost use Rattle.tl_layout.specs.RecordTypes.{Type1, byte_of, line_length, table_of, FitsFields, SpellsFields, reading_of, fields_spelling};
+ghost use Rattle.tl_layout.specs.Type1.{type_1_short_reading};
+ghost use Rattle.tl_layout.specs.Type1Groups.{point_texts};
 
 pub(crate) mod body;
 pub(crate) mod fields;
@@ -40,11 +47,6 @@ impl Model for Rec1 {
 }
 
 impl Rec1 {
-    ghost use Rattle.tl_layout.specs.FieldTexts.{number_text};
-    ghost use Rattle.tl_layout.specs.RecordTables.{rtype_1};
-    ghost use Rattle.tl_layout.specs.Type1.{FitsType1, type_1_short_reading};
-    ghost use Rattle.tl_layout.specs.Type1Groups.{point_texts};
-
     /// Makes a record from these fields. The TLID must be from 1 to 9,999,999,999.
     pub fn new(tlid: u64, body: Body1, start: Point, end: Point) -> Rec1
         requires { IsNumber 10 tlid }
@@ -88,8 +90,9 @@ impl Rec1 {
     }
 
     /// Proves that each field fits its columns, which its type guarantees. Does nothing at run time.
+    #[tactic(auto, using(crate::specs::Laws::Type1Laws::type_1_fits))]
     pub(crate) fn show_fit(&self)
-        ensures { FitsType1 self.now }
+        ensures { FitsFields Type1 self.now }
     {
         let _ = &self.tlid;
         self.body.show_fit();
@@ -129,35 +132,29 @@ impl Rec1 {
 }
 
 impl Layout for Rec1 {
-    ghost use Rattle.std.proofs.Common.{lit≤};
-    ghost use Rattle.tl_layout.specs.FieldFaults.{IsLeftmostFault};
-    ghost use Rattle.tl_layout.specs.RecordTables.{rtype_1, table_1};
-    ghost use Rattle.tl_layout.specs.Type1.{FitsType1, SpellsType1, type_1_reading, type_1_spelling};
-    ghost use Rattle.tl_layout.specs.Laws.TypeLaws.{type_1_laws};
-
     const LEN: usize = 228;
 
-    ghost LEN = { len_1 };
+    ghost LEN = { line_length Type1 };
 
     const RTYPE: u8 = b'1';
 
-    ghost RTYPE = { rtype_1 };
+    ghost RTYPE = { byte_of Type1 };
 
-    ghost Fits = { FitsType1 };
+    ghost Fits = { FitsFields Type1 };
 
-    ghost Spells = { SpellsType1 };
+    ghost Spells = { SpellsFields Type1 };
 
-    ghost IsFault = { IsLeftmostFault table_1 };
+    ghost IsFault = { IsLeftmostFault (table_of Type1) };
 
-    ghost reading = { type_1_reading };
+    ghost reading = { reading_of Type1 };
 
-    ghost spelling = { type_1_spelling };
+    ghost spelling = { fields_spelling Type1 };
 
     fn read(line: &[u8]) -> Result<Rec1, FieldFault> {
         Rec1::read_groups(line)
     }
 
-    #[tactic(auto, unfolding(crate::specs::Type1::type_1_spelling))]
+    #[tactic(auto, unfolding(crate::specs::RecordTypes::fields_spelling))]
     fn put(&self, out: &mut [u8]) {
         self.show_fit();
         Rec1::put_number(self.tlid, out);
@@ -167,13 +164,13 @@ impl Layout for Rec1 {
 
     ghost bounded = { (lit≤ tt, lit≤ tt) };
 
-    ghost spelling_is_line = { type_1_laws.spelling_is_line };
+    ghost spelling_is_line = { (layout_laws Type1).spelling_is_line };
 
-    ghost reads_spelling = { type_1_laws.reads_spelling };
+    ghost reads_spelling = { (layout_laws Type1).reads_spelling };
 
-    ghost reads_spelled = { type_1_laws.reads_spelled };
+    ghost reads_spelled = { (layout_laws Type1).reads_spelled };
 
-    ghost spelled_is_read = { type_1_laws.spelled_is_read };
+    ghost spelled_is_read = { (layout_laws Type1).spelled_is_read };
 
-    ghost shows_leftmost = { type_1_laws.shows_leftmost };
+    ghost shows_leftmost = { (layout_laws Type1).shows_leftmost };
 }

@@ -1,8 +1,11 @@
 //! Record type 2: shape points of a chain.
 
+ghost use Rattle.std.proofs.Common.{lit≤};
 ghost use Rattle.std.specs.Prelude.{◌≡◌, ◌≤◌, length};
+ghost use Rattle.tl_layout.specs.FieldFaults.{IsLeftmostFault};
+ghost use Rattle.tl_layout.specs.Laws.TypeLaws.{layout_laws};
 ghost use Rattle.tl_layout.specs.Numbers.{IsNumber};
-ghost use Rattle.tl_layout.specs.RecordTables.{len_2};
+ghost use Rattle.tl_layout.specs.RecordTypes.{Type2, byte_of, line_length, table_of, FitsFields, SpellsFields, reading_of, fields_spelling};
 
 use crate::fault::FieldFault;
 use crate::field::read_number;
@@ -33,8 +36,6 @@ impl Model for Rec2 {
 }
 
 impl Rec2 {
-    ghost use Rattle.tl_layout.specs.Type2.{FitsType2, type_2_reading};
-
     /// Makes a record from these fields. The TLID must be from 1 to 9,999,999,999, the RTSQ from 1 to
     /// 999.
     pub fn new(tlid: u64, rtsq: u16, points: ArrayVec<Point, 10>) -> Rec2
@@ -70,39 +71,34 @@ impl Rec2 {
     }
 
     /// Proves that each field fits its columns, which its type guarantees. Does nothing at run time.
+    #[tactic(auto, unfolding(crate::specs::RecordTypes::FitsFields))]
     pub(crate) fn show_fit(&self)
-        ensures { FitsType2 self.now }
+        ensures { FitsFields Type2 self.now }
     {
         show_points_fit(self.points.as_slice());
     }
 }
 
 impl Layout for Rec2 {
-    ghost use Rattle.std.proofs.Common.{lit≤};
-    ghost use Rattle.tl_layout.specs.FieldFaults.{IsLeftmostFault};
-    ghost use Rattle.tl_layout.specs.RecordTables.{rtype_2, table_2};
-    ghost use Rattle.tl_layout.specs.Type2.{FitsType2, SpellsType2, type_2_reading, type_2_spelling};
-    ghost use Rattle.tl_layout.specs.Laws.TypeLaws.{type_2_laws};
-
     const LEN: usize = 208;
 
-    ghost LEN = { len_2 };
+    ghost LEN = { line_length Type2 };
 
     const RTYPE: u8 = b'2';
 
-    ghost RTYPE = { rtype_2 };
+    ghost RTYPE = { byte_of Type2 };
 
-    ghost Fits = { FitsType2 };
+    ghost Fits = { FitsFields Type2 };
 
-    ghost Spells = { SpellsType2 };
+    ghost Spells = { SpellsFields Type2 };
 
-    ghost IsFault = { IsLeftmostFault table_2 };
+    ghost IsFault = { IsLeftmostFault (table_of Type2) };
 
-    ghost reading = { type_2_reading };
+    ghost reading = { reading_of Type2 };
 
-    ghost spelling = { type_2_spelling };
+    ghost spelling = { fields_spelling Type2 };
 
-    #[tactic(auto, unfolding(crate::specs::Type2::type_2_reading, crate::specs::FieldReading::and_then))]
+    #[tactic(auto, unfolding(crate::specs::RecordTypes::reading_of, crate::specs::FieldReading::and_then))]
     fn read(line: &[u8]) -> Result<Rec2, FieldFault> {
         let tlid = read_number(line, 6, 15)?;
         let rtsq = read_number(line, 16, 18)?;
@@ -110,7 +106,7 @@ impl Layout for Rec2 {
         Ok(Rec2::new(tlid, rtsq as u16, points))
     }
 
-    #[tactic(auto, unfolding(crate::specs::Type2::type_2_spelling))]
+    #[tactic(auto, unfolding(crate::specs::RecordTypes::FitsFields, crate::specs::RecordTypes::fields_spelling))]
     fn put(&self, out: &mut [u8]) {
         write_head(out, b'2');
         write_number(out, 6, 15, self.tlid);
@@ -120,13 +116,13 @@ impl Layout for Rec2 {
 
     ghost bounded = { (lit≤ tt, lit≤ tt) };
 
-    ghost spelling_is_line = { type_2_laws.spelling_is_line };
+    ghost spelling_is_line = { (layout_laws Type2).spelling_is_line };
 
-    ghost reads_spelling = { type_2_laws.reads_spelling };
+    ghost reads_spelling = { (layout_laws Type2).reads_spelling };
 
-    ghost reads_spelled = { type_2_laws.reads_spelled };
+    ghost reads_spelled = { (layout_laws Type2).reads_spelled };
 
-    ghost spelled_is_read = { type_2_laws.spelled_is_read };
+    ghost spelled_is_read = { (layout_laws Type2).spelled_is_read };
 
-    ghost shows_leftmost = { type_2_laws.shows_leftmost };
+    ghost shows_leftmost = { (layout_laws Type2).shows_leftmost };
 }

@@ -1,9 +1,12 @@
 //! Record type 4: further names of a chain.
 
+ghost use Rattle.std.proofs.Common.{lit≤};
 ghost use Rattle.std.specs.List.{AllByRecursion};
 ghost use Rattle.std.specs.Prelude.{◌≡◌, ◌≤◌, length};
+ghost use Rattle.tl_layout.specs.FieldFaults.{IsLeftmostFault};
+ghost use Rattle.tl_layout.specs.Laws.TypeLaws.{layout_laws};
 ghost use Rattle.tl_layout.specs.Numbers.{IsNumber};
-ghost use Rattle.tl_layout.specs.RecordTables.{len_4};
+ghost use Rattle.tl_layout.specs.RecordTypes.{Type4, byte_of, line_length, table_of, FitsFields, SpellsFields, reading_of, fields_spelling};
 
 use crate::fault::FieldFault;
 use crate::field::read_number;
@@ -34,8 +37,6 @@ impl Model for Rec4 {
 }
 
 impl Rec4 {
-    ghost use Rattle.tl_layout.specs.Type4.{FitsType4, type_4_reading};
-
     /// Makes a record from these fields. The TLID must be from 1 to 9,999,999,999, the RTSQ from 1 to 999, each
     /// FEAT from 1 to 99,999,999.
     pub fn new(tlid: u64, rtsq: u16, feats: ArrayVec<u32, 5>) -> Rec4
@@ -73,39 +74,34 @@ impl Rec4 {
     }
 
     /// Proves that each field fits its columns, which its type guarantees. Does nothing at run time.
+    #[tactic(auto, unfolding(crate::specs::RecordTypes::FitsFields))]
     pub(crate) fn show_fit(&self)
-        ensures { FitsType4 self.now }
+        ensures { FitsFields Type4 self.now }
     {
         let _ = self.feats.as_slice();
     }
 }
 
 impl Layout for Rec4 {
-    ghost use Rattle.std.proofs.Common.{lit≤};
-    ghost use Rattle.tl_layout.specs.FieldFaults.{IsLeftmostFault};
-    ghost use Rattle.tl_layout.specs.RecordTables.{rtype_4, table_4};
-    ghost use Rattle.tl_layout.specs.Type4.{FitsType4, SpellsType4, type_4_reading, type_4_spelling};
-    ghost use Rattle.tl_layout.specs.Laws.TypeLaws.{type_4_laws};
-
     const LEN: usize = 58;
 
-    ghost LEN = { len_4 };
+    ghost LEN = { line_length Type4 };
 
     const RTYPE: u8 = b'4';
 
-    ghost RTYPE = { rtype_4 };
+    ghost RTYPE = { byte_of Type4 };
 
-    ghost Fits = { FitsType4 };
+    ghost Fits = { FitsFields Type4 };
 
-    ghost Spells = { SpellsType4 };
+    ghost Spells = { SpellsFields Type4 };
 
-    ghost IsFault = { IsLeftmostFault table_4 };
+    ghost IsFault = { IsLeftmostFault (table_of Type4) };
 
-    ghost reading = { type_4_reading };
+    ghost reading = { reading_of Type4 };
 
-    ghost spelling = { type_4_spelling };
+    ghost spelling = { fields_spelling Type4 };
 
-    #[tactic(auto, unfolding(crate::specs::Type4::type_4_reading, crate::specs::FieldReading::and_then))]
+    #[tactic(auto, using(crate::specs::Laws::Type4Laws::feats_in_range), unfolding(crate::specs::RecordTypes::reading_of, crate::specs::FieldReading::and_then))]
     fn read(line: &[u8]) -> Result<Rec4, FieldFault> {
         let tlid = read_number(line, 6, 15)?;
         let rtsq = read_number(line, 16, 18)?;
@@ -113,7 +109,7 @@ impl Layout for Rec4 {
         Ok(Rec4::new(tlid, rtsq as u16, feats))
     }
 
-    #[tactic(auto, unfolding(crate::specs::Type4::type_4_spelling))]
+    #[tactic(auto, unfolding(crate::specs::RecordTypes::fields_spelling))]
     fn put(&self, out: &mut [u8]) {
         self.show_fit();
         write_head(out, b'4');
@@ -124,13 +120,13 @@ impl Layout for Rec4 {
 
     ghost bounded = { (lit≤ tt, lit≤ tt) };
 
-    ghost spelling_is_line = { type_4_laws.spelling_is_line };
+    ghost spelling_is_line = { (layout_laws Type4).spelling_is_line };
 
-    ghost reads_spelling = { type_4_laws.reads_spelling };
+    ghost reads_spelling = { (layout_laws Type4).reads_spelling };
 
-    ghost reads_spelled = { type_4_laws.reads_spelled };
+    ghost reads_spelled = { (layout_laws Type4).reads_spelled };
 
-    ghost spelled_is_read = { type_4_laws.spelled_is_read };
+    ghost spelled_is_read = { (layout_laws Type4).spelled_is_read };
 
-    ghost shows_leftmost = { type_4_laws.shows_leftmost };
+    ghost shows_leftmost = { (layout_laws Type4).shows_leftmost };
 }

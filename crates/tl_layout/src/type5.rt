@@ -1,9 +1,12 @@
 //! Record type 5: the name of a feature.
 
+ghost use Rattle.std.proofs.Common.{lit≤};
 ghost use Rattle.std.specs.Prelude.{◌≡◌};
 ghost use Rattle.tl_layout.specs.Bytes.{AreAllowed, IsText};
+ghost use Rattle.tl_layout.specs.FieldFaults.{IsLeftmostFault};
+ghost use Rattle.tl_layout.specs.Laws.TypeLaws.{layout_laws};
 ghost use Rattle.tl_layout.specs.Numbers.{IsNumber};
-ghost use Rattle.tl_layout.specs.RecordTables.{len_5};
+ghost use Rattle.tl_layout.specs.RecordTypes.{Type5, byte_of, line_length, table_of, FitsFields, SpellsFields, reading_of, fields_spelling};
 
 use crate::fault::FieldFault;
 use crate::field::{read_number, text_at};
@@ -110,8 +113,6 @@ impl Model for Rec5 {
 }
 
 impl Rec5 {
-    ghost use Rattle.tl_layout.specs.Type5.{FitsType5, type_5_reading};
-
     /// Makes a record from these fields. The FEAT must be from 1 to 99,999,999.
     pub fn new(feat: u32, body: Body5) -> Rec5
         requires { IsNumber 8 feat }
@@ -136,8 +137,9 @@ impl Rec5 {
     }
 
     /// Proves that each field fits its columns, which its type guarantees. Does nothing at run time.
+    #[tactic(auto, unfolding(crate::specs::RecordTypes::FitsFields))]
     pub(crate) fn show_fit(&self)
-        ensures { FitsType5 self.now }
+        ensures { FitsFields Type5 self.now }
     {
         let body = &self.body;
         body.file.show_fit();
@@ -146,31 +148,25 @@ impl Rec5 {
 }
 
 impl Layout for Rec5 {
-    ghost use Rattle.std.proofs.Common.{lit≤};
-    ghost use Rattle.tl_layout.specs.FieldFaults.{IsLeftmostFault};
-    ghost use Rattle.tl_layout.specs.RecordTables.{rtype_5, table_5};
-    ghost use Rattle.tl_layout.specs.Type5.{FitsType5, SpellsType5, type_5_reading, type_5_spelling};
-    ghost use Rattle.tl_layout.specs.Laws.TypeLaws.{type_5_laws};
-
     const LEN: usize = 56;
 
-    ghost LEN = { len_5 };
+    ghost LEN = { line_length Type5 };
 
     const RTYPE: u8 = b'5';
 
-    ghost RTYPE = { rtype_5 };
+    ghost RTYPE = { byte_of Type5 };
 
-    ghost Fits = { FitsType5 };
+    ghost Fits = { FitsFields Type5 };
 
-    ghost Spells = { SpellsType5 };
+    ghost Spells = { SpellsFields Type5 };
 
-    ghost IsFault = { IsLeftmostFault table_5 };
+    ghost IsFault = { IsLeftmostFault (table_of Type5) };
 
-    ghost reading = { type_5_reading };
+    ghost reading = { reading_of Type5 };
 
-    ghost spelling = { type_5_spelling };
+    ghost spelling = { fields_spelling Type5 };
 
-    #[tactic(auto, unfolding(crate::specs::Type5::type_5_reading, crate::specs::FieldReading::and_then))]
+    #[tactic(auto, unfolding(crate::specs::RecordTypes::reading_of, crate::specs::FieldReading::and_then))]
     fn read(line: &[u8]) -> Result<Rec5, FieldFault> {
         let feat = read_number(line, 11, 18)?;
         let body = Body5 {
@@ -180,7 +176,7 @@ impl Layout for Rec5 {
         Ok(Rec5::new(feat as u32, body))
     }
 
-    #[tactic(auto, unfolding(crate::specs::Type5::type_5_spelling))]
+    #[tactic(auto, unfolding(crate::specs::RecordTypes::fields_spelling))]
     fn put(&self, out: &mut [u8]) {
         let body = &self.body;
         self.show_fit();
@@ -192,13 +188,13 @@ impl Layout for Rec5 {
 
     ghost bounded = { (lit≤ tt, lit≤ tt) };
 
-    ghost spelling_is_line = { type_5_laws.spelling_is_line };
+    ghost spelling_is_line = { (layout_laws Type5).spelling_is_line };
 
-    ghost reads_spelling = { type_5_laws.reads_spelling };
+    ghost reads_spelling = { (layout_laws Type5).reads_spelling };
 
-    ghost reads_spelled = { type_5_laws.reads_spelled };
+    ghost reads_spelled = { (layout_laws Type5).reads_spelled };
 
-    ghost spelled_is_read = { type_5_laws.spelled_is_read };
+    ghost spelled_is_read = { (layout_laws Type5).spelled_is_read };
 
-    ghost shows_leftmost = { type_5_laws.shows_leftmost };
+    ghost shows_leftmost = { (layout_laws Type5).shows_leftmost };
 }

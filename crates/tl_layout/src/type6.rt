@@ -1,8 +1,11 @@
 //! Record type 6: further address ranges of a chain.
 
+ghost use Rattle.std.proofs.Common.{lit≤};
 ghost use Rattle.std.specs.Prelude.{◌≡◌};
+ghost use Rattle.tl_layout.specs.FieldFaults.{IsLeftmostFault};
+ghost use Rattle.tl_layout.specs.Laws.TypeLaws.{layout_laws};
 ghost use Rattle.tl_layout.specs.Numbers.{IsNumber};
-ghost use Rattle.tl_layout.specs.RecordTables.{len_6};
+ghost use Rattle.tl_layout.specs.RecordTypes.{Type6, byte_of, line_length, table_of, FitsFields, SpellsFields, reading_of, fields_spelling};
 
 use crate::fault::FieldFault;
 use crate::field::read_number;
@@ -33,8 +36,6 @@ impl Model for Rec6 {
 }
 
 impl Rec6 {
-    ghost use Rattle.tl_layout.specs.Type6.{FitsType6, type_6_reading};
-
     /// Makes a record from these fields. The TLID must be from 1 to 9,999,999,999, the RTSQ from 1 to
     /// 999.
     pub fn new(tlid: u64, rtsq: u16, ranges: Ranges) -> Rec6
@@ -69,46 +70,41 @@ impl Rec6 {
     }
 
     /// Proves that each field fits its columns, which its type guarantees. Does nothing at run time.
+    #[tactic(auto, unfolding(crate::specs::RecordTypes::FitsFields))]
     pub(crate) fn show_fit(&self)
-        ensures { FitsType6 self.now }
+        ensures { FitsFields Type6 self.now }
     {
         self.ranges.show_fit();
     }
 }
 
 impl Layout for Rec6 {
-    ghost use Rattle.std.proofs.Common.{lit≤};
-    ghost use Rattle.tl_layout.specs.FieldFaults.{IsLeftmostFault};
-    ghost use Rattle.tl_layout.specs.RecordTables.{rtype_6, table_6};
-    ghost use Rattle.tl_layout.specs.Type6.{FitsType6, SpellsType6, type_6_reading, type_6_spelling};
-    ghost use Rattle.tl_layout.specs.Laws.TypeLaws.{type_6_laws};
-
     const LEN: usize = 76;
 
-    ghost LEN = { len_6 };
+    ghost LEN = { line_length Type6 };
 
     const RTYPE: u8 = b'6';
 
-    ghost RTYPE = { rtype_6 };
+    ghost RTYPE = { byte_of Type6 };
 
-    ghost Fits = { FitsType6 };
+    ghost Fits = { FitsFields Type6 };
 
-    ghost Spells = { SpellsType6 };
+    ghost Spells = { SpellsFields Type6 };
 
-    ghost IsFault = { IsLeftmostFault table_6 };
+    ghost IsFault = { IsLeftmostFault (table_of Type6) };
 
-    ghost reading = { type_6_reading };
+    ghost reading = { reading_of Type6 };
 
-    ghost spelling = { type_6_spelling };
+    ghost spelling = { fields_spelling Type6 };
 
-    #[tactic(auto, unfolding(crate::specs::Type6::type_6_reading, crate::specs::FieldReading::and_then))]
+    #[tactic(auto, unfolding(crate::specs::RecordTypes::reading_of, crate::specs::FieldReading::and_then))]
     fn read(line: &[u8]) -> Result<Rec6, FieldFault> {
         let tlid = read_number(line, 6, 15)?;
         let rtsq = read_number(line, 16, 18)?;
         Ok(Rec6::new(tlid, rtsq as u16, Ranges::at(line, 19)))
     }
 
-    #[tactic(auto, unfolding(crate::specs::Type6::type_6_spelling))]
+    #[tactic(auto, unfolding(crate::specs::RecordTypes::fields_spelling))]
     fn put(&self, out: &mut [u8]) {
         self.show_fit();
         write_head(out, b'6');
@@ -119,13 +115,13 @@ impl Layout for Rec6 {
 
     ghost bounded = { (lit≤ tt, lit≤ tt) };
 
-    ghost spelling_is_line = { type_6_laws.spelling_is_line };
+    ghost spelling_is_line = { (layout_laws Type6).spelling_is_line };
 
-    ghost reads_spelling = { type_6_laws.reads_spelling };
+    ghost reads_spelling = { (layout_laws Type6).reads_spelling };
 
-    ghost reads_spelled = { type_6_laws.reads_spelled };
+    ghost reads_spelled = { (layout_laws Type6).reads_spelled };
 
-    ghost spelled_is_read = { type_6_laws.spelled_is_read };
+    ghost spelled_is_read = { (layout_laws Type6).spelled_is_read };
 
-    ghost shows_leftmost = { type_6_laws.shows_leftmost };
+    ghost shows_leftmost = { (layout_laws Type6).shows_leftmost };
 }

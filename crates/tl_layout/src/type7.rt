@@ -1,9 +1,12 @@
 //! Record type 7: a landmark.
 
+ghost use Rattle.std.proofs.Common.{lit≤};
 ghost use Rattle.std.specs.Prelude.{◌≡◌};
 ghost use Rattle.tl_layout.specs.Bytes.{AreAllowed, IsText};
+ghost use Rattle.tl_layout.specs.FieldFaults.{IsLeftmostFault};
+ghost use Rattle.tl_layout.specs.Laws.TypeLaws.{layout_laws};
 ghost use Rattle.tl_layout.specs.Numbers.{IsNumber};
-ghost use Rattle.tl_layout.specs.RecordTables.{len_7};
+ghost use Rattle.tl_layout.specs.RecordTypes.{Type7, byte_of, line_length, table_of, FitsFields, SpellsFields, reading_of, fields_spelling};
 
 use crate::fault::FieldFault;
 use crate::field::{read_number, read_point_or_none, text_at};
@@ -115,8 +118,6 @@ impl Model for Rec7 {
 }
 
 impl Rec7 {
-    ghost use Rattle.tl_layout.specs.Type7.{FitsType7, type_7_reading};
-
     /// Makes a record from these fields. The LAND must be from 1 to 9,999,999,999.
     pub fn new(land: u64, body: Body7) -> Rec7
         requires { IsNumber 10 land }
@@ -141,8 +142,9 @@ impl Rec7 {
     }
 
     /// Proves that each field fits its columns, which its type guarantees. Does nothing at run time.
+    #[tactic(auto, unfolding(crate::specs::RecordTypes::FitsFields))]
     pub(crate) fn show_fit(&self)
-        ensures { FitsType7 self.now }
+        ensures { FitsFields Type7 self.now }
     {
         let body = &self.body;
         body.file.show_fit();
@@ -154,31 +156,25 @@ impl Rec7 {
 }
 
 impl Layout for Rec7 {
-    ghost use Rattle.std.proofs.Common.{lit≤};
-    ghost use Rattle.tl_layout.specs.FieldFaults.{IsLeftmostFault};
-    ghost use Rattle.tl_layout.specs.RecordTables.{rtype_7, table_7};
-    ghost use Rattle.tl_layout.specs.Type7.{FitsType7, SpellsType7, type_7_reading, type_7_spelling};
-    ghost use Rattle.tl_layout.specs.Laws.TypeLaws.{type_7_laws};
-
     const LEN: usize = 74;
 
-    ghost LEN = { len_7 };
+    ghost LEN = { line_length Type7 };
 
     const RTYPE: u8 = b'7';
 
-    ghost RTYPE = { rtype_7 };
+    ghost RTYPE = { byte_of Type7 };
 
-    ghost Fits = { FitsType7 };
+    ghost Fits = { FitsFields Type7 };
 
-    ghost Spells = { SpellsType7 };
+    ghost Spells = { SpellsFields Type7 };
 
-    ghost IsFault = { IsLeftmostFault table_7 };
+    ghost IsFault = { IsLeftmostFault (table_of Type7) };
 
-    ghost reading = { type_7_reading };
+    ghost reading = { reading_of Type7 };
 
-    ghost spelling = { type_7_spelling };
+    ghost spelling = { fields_spelling Type7 };
 
-    #[tactic(auto, unfolding(crate::specs::Type7::type_7_reading, crate::specs::FieldReading::and_then))]
+    #[tactic(auto, unfolding(crate::specs::RecordTypes::reading_of, crate::specs::FieldReading::and_then))]
     fn read(line: &[u8]) -> Result<Rec7, FieldFault> {
         let land = read_number(line, 11, 20)?;
         let point = read_point_or_none(line, 55)?;
@@ -192,7 +188,7 @@ impl Layout for Rec7 {
         Ok(Rec7::new(land, body))
     }
 
-    #[tactic(auto, unfolding(crate::specs::Type7::type_7_spelling))]
+    #[tactic(auto, unfolding(crate::specs::RecordTypes::fields_spelling))]
     fn put(&self, out: &mut [u8]) {
         let body = &self.body;
         self.show_fit();
@@ -208,13 +204,13 @@ impl Layout for Rec7 {
 
     ghost bounded = { (lit≤ tt, lit≤ tt) };
 
-    ghost spelling_is_line = { type_7_laws.spelling_is_line };
+    ghost spelling_is_line = { (layout_laws Type7).spelling_is_line };
 
-    ghost reads_spelling = { type_7_laws.reads_spelling };
+    ghost reads_spelling = { (layout_laws Type7).reads_spelling };
 
-    ghost reads_spelled = { type_7_laws.reads_spelled };
+    ghost reads_spelled = { (layout_laws Type7).reads_spelled };
 
-    ghost spelled_is_read = { type_7_laws.spelled_is_read };
+    ghost spelled_is_read = { (layout_laws Type7).spelled_is_read };
 
-    ghost shows_leftmost = { type_7_laws.shows_leftmost };
+    ghost shows_leftmost = { (layout_laws Type7).shows_leftmost };
 }

@@ -1,9 +1,12 @@
 //! Record type 8: a polygon of a landmark.
 
+ghost use Rattle.std.proofs.Common.{lit≤};
 ghost use Rattle.std.specs.Prelude.{◌≡◌};
 ghost use Rattle.tl_layout.specs.Bytes.{AreAllowed, IsText};
+ghost use Rattle.tl_layout.specs.FieldFaults.{IsLeftmostFault};
+ghost use Rattle.tl_layout.specs.Laws.TypeLaws.{layout_laws};
 ghost use Rattle.tl_layout.specs.Numbers.{IsNumber};
-ghost use Rattle.tl_layout.specs.RecordTables.{len_8};
+ghost use Rattle.tl_layout.specs.RecordTypes.{Type8, byte_of, line_length, table_of, FitsFields, SpellsFields, reading_of, fields_spelling};
 
 use crate::fault::FieldFault;
 use crate::field::{read_number, text_at};
@@ -35,8 +38,6 @@ impl Model for Rec8 {
 }
 
 impl Rec8 {
-    ghost use Rattle.tl_layout.specs.Type8.{FitsType8, type_8_reading};
-
     /// Makes a record from these fields. Each byte must be allowed in a line; the POLYID and the LAND
     /// must be from 1 to 9,999,999,999.
     pub fn new(file: [u8; 5], cenid: [u8; 5], polyid: u64, land: u64) -> Rec8
@@ -87,8 +88,9 @@ impl Rec8 {
     }
 
     /// Proves that each field fits its columns, which its type guarantees. Does nothing at run time.
+    #[tactic(auto, unfolding(crate::specs::RecordTypes::FitsFields))]
     pub(crate) fn show_fit(&self)
-        ensures { FitsType8 self.now }
+        ensures { FitsFields Type8 self.now }
     {
         self.file.show_fit();
         self.cenid.show_fit();
@@ -96,31 +98,25 @@ impl Rec8 {
 }
 
 impl Layout for Rec8 {
-    ghost use Rattle.std.proofs.Common.{lit≤};
-    ghost use Rattle.tl_layout.specs.FieldFaults.{IsLeftmostFault};
-    ghost use Rattle.tl_layout.specs.RecordTables.{rtype_8, table_8};
-    ghost use Rattle.tl_layout.specs.Type8.{FitsType8, SpellsType8, type_8_reading, type_8_spelling};
-    ghost use Rattle.tl_layout.specs.Laws.TypeLaws.{type_8_laws};
-
     const LEN: usize = 36;
 
-    ghost LEN = { len_8 };
+    ghost LEN = { line_length Type8 };
 
     const RTYPE: u8 = b'8';
 
-    ghost RTYPE = { rtype_8 };
+    ghost RTYPE = { byte_of Type8 };
 
-    ghost Fits = { FitsType8 };
+    ghost Fits = { FitsFields Type8 };
 
-    ghost Spells = { SpellsType8 };
+    ghost Spells = { SpellsFields Type8 };
 
-    ghost IsFault = { IsLeftmostFault table_8 };
+    ghost IsFault = { IsLeftmostFault (table_of Type8) };
 
-    ghost reading = { type_8_reading };
+    ghost reading = { reading_of Type8 };
 
-    ghost spelling = { type_8_spelling };
+    ghost spelling = { fields_spelling Type8 };
 
-    #[tactic(auto, unfolding(crate::specs::Type8::type_8_reading, crate::specs::FieldReading::and_then))]
+    #[tactic(auto, unfolding(crate::specs::RecordTypes::reading_of, crate::specs::FieldReading::and_then))]
     fn read(line: &[u8]) -> Result<Rec8, FieldFault> {
         let polyid = read_number(line, 16, 25)?;
         let land = read_number(line, 26, 35)?;
@@ -132,7 +128,7 @@ impl Layout for Rec8 {
         })
     }
 
-    #[tactic(auto, unfolding(crate::specs::Type8::type_8_spelling))]
+    #[tactic(auto, unfolding(crate::specs::RecordTypes::fields_spelling))]
     fn put(&self, out: &mut [u8]) {
         self.show_fit();
         write_head(out, b'8');
@@ -145,13 +141,13 @@ impl Layout for Rec8 {
 
     ghost bounded = { (lit≤ tt, lit≤ tt) };
 
-    ghost spelling_is_line = { type_8_laws.spelling_is_line };
+    ghost spelling_is_line = { (layout_laws Type8).spelling_is_line };
 
-    ghost reads_spelling = { type_8_laws.reads_spelling };
+    ghost reads_spelling = { (layout_laws Type8).reads_spelling };
 
-    ghost reads_spelled = { type_8_laws.reads_spelled };
+    ghost reads_spelled = { (layout_laws Type8).reads_spelled };
 
-    ghost spelled_is_read = { type_8_laws.spelled_is_read };
+    ghost spelled_is_read = { (layout_laws Type8).spelled_is_read };
 
-    ghost shows_leftmost = { type_8_laws.shows_leftmost };
+    ghost shows_leftmost = { (layout_laws Type8).shows_leftmost };
 }

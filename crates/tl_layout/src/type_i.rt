@@ -1,10 +1,14 @@
 //! Record type I: the nodes of a chain and the polygons on its sides.
 
+ghost use Rattle.std.proofs.Common.{lit≤};
 ghost use Rattle.std.specs.Prelude.{◌≡◌, ◌≤◌, ◌<◌, Option, Result, Ok, length};
 ghost use Rattle.tl_layout.specs.Bytes.{AreAllowed, IsText};
+ghost use Rattle.tl_layout.specs.FieldFaults.{IsLeftmostFault};
+ghost use Rattle.tl_layout.specs.Laws.TypeLaws.{layout_laws};
 ghost use Rattle.tl_layout.specs.Numbers.{IsNumber, IsNumberOrNone};
 ghost use Rattle.tl_layout.specs.RecordTables.{len_i};
-ghost use Rattle.tl_layout.specs.TypeI.{FitsTypeI, body_i_at, type_i_reading, type_i_spelling};
+ghost use Rattle.tl_layout.specs.RecordTypes.{TypeI, byte_of, line_length, table_of, FitsFields, SpellsFields, reading_of, fields_spelling};
+ghost use Rattle.tl_layout.specs.TypeI.{body_i_at, type_i_spelling};
 
 use crate::fault::FieldFault;
 use crate::field::{read_number, read_number_or_none, text_at};
@@ -226,7 +230,7 @@ impl RecI {
     }
 
     /// Writes the canonical spelling of the record with these fields.
-    #[tactic(auto, unfolding(crate::specs::TypeI::type_i_spelling))]
+    #[tactic(auto, unfolding(crate::specs::RecordTypes::fields_spelling))]
     pub fn put_fields(
         tlid: u64,
         body: &BodyI,
@@ -264,8 +268,9 @@ impl RecI {
     }
 
     /// Proves that each field fits its columns, which its type guarantees. Does nothing at run time.
+    #[tactic(auto, unfolding(crate::specs::RecordTypes::FitsFields))]
     pub(crate) fn show_fit(&self)
-        ensures { FitsTypeI self.now }
+        ensures { FitsFields TypeI self.now }
     {
         let body = &self.body;
         body.file.show_fit();
@@ -280,31 +285,25 @@ impl RecI {
 }
 
 impl Layout for RecI {
-    ghost use Rattle.std.proofs.Common.{lit≤};
-    ghost use Rattle.tl_layout.specs.FieldFaults.{IsLeftmostFault};
-    ghost use Rattle.tl_layout.specs.RecordTables.{rtype_i, table_i};
-    ghost use Rattle.tl_layout.specs.TypeI.{FitsTypeI, SpellsTypeI, type_i_reading, type_i_spelling};
-    ghost use Rattle.tl_layout.specs.Laws.TypeLaws.{type_i_laws};
-
     const LEN: usize = 127;
 
-    ghost LEN = { len_i };
+    ghost LEN = { line_length TypeI };
 
     const RTYPE: u8 = b'I';
 
-    ghost RTYPE = { rtype_i };
+    ghost RTYPE = { byte_of TypeI };
 
-    ghost Fits = { FitsTypeI };
+    ghost Fits = { FitsFields TypeI };
 
-    ghost Spells = { SpellsTypeI };
+    ghost Spells = { SpellsFields TypeI };
 
-    ghost IsFault = { IsLeftmostFault table_i };
+    ghost IsFault = { IsLeftmostFault (table_of TypeI) };
 
-    ghost reading = { type_i_reading };
+    ghost reading = { reading_of TypeI };
 
-    ghost spelling = { type_i_spelling };
+    ghost spelling = { fields_spelling TypeI };
 
-    #[tactic(auto, unfolding(crate::specs::TypeI::type_i_reading, crate::specs::FieldReading::and_then))]
+    #[tactic(auto, unfolding(crate::specs::RecordTypes::reading_of, crate::specs::FieldReading::and_then))]
     fn read(line: &[u8]) -> Result<RecI, FieldFault> {
         let tlid = read_number(line, 11, 20)?;
         let start_node = read_number_or_none(line, 21, 30)?;
@@ -331,13 +330,13 @@ impl Layout for RecI {
 
     ghost bounded = { (lit≤ tt, lit≤ tt) };
 
-    ghost spelling_is_line = { type_i_laws.spelling_is_line };
+    ghost spelling_is_line = { (layout_laws TypeI).spelling_is_line };
 
-    ghost reads_spelling = { type_i_laws.reads_spelling };
+    ghost reads_spelling = { (layout_laws TypeI).reads_spelling };
 
-    ghost reads_spelled = { type_i_laws.reads_spelled };
+    ghost reads_spelled = { (layout_laws TypeI).reads_spelled };
 
-    ghost spelled_is_read = { type_i_laws.spelled_is_read };
+    ghost spelled_is_read = { (layout_laws TypeI).spelled_is_read };
 
-    ghost shows_leftmost = { type_i_laws.shows_leftmost };
+    ghost shows_leftmost = { (layout_laws TypeI).shows_leftmost };
 }

@@ -1,9 +1,12 @@
 //! Record type P: a polygon's inner point.
 
+ghost use Rattle.std.proofs.Common.{lit≤};
 ghost use Rattle.std.specs.Prelude.{◌≡◌};
 ghost use Rattle.tl_layout.specs.Bytes.{AreAllowed, IsText};
+ghost use Rattle.tl_layout.specs.FieldFaults.{IsLeftmostFault};
+ghost use Rattle.tl_layout.specs.Laws.TypeLaws.{layout_laws};
 ghost use Rattle.tl_layout.specs.Numbers.{IsNumber};
-ghost use Rattle.tl_layout.specs.RecordTables.{len_p};
+ghost use Rattle.tl_layout.specs.RecordTypes.{TypeP, byte_of, line_length, table_of, FitsFields, SpellsFields, reading_of, fields_spelling};
 
 use crate::fault::FieldFault;
 use crate::field::{read_number, read_point_or_none, text_at};
@@ -85,8 +88,6 @@ impl Model for RecP {
 }
 
 impl RecP {
-    ghost use Rattle.tl_layout.specs.TypeP.{FitsTypeP, type_p_reading};
-
     /// Makes a record from these fields. The CENID's bytes must be allowed in a line; the POLYID must be from 1
     /// to 9,999,999,999.
     pub fn new(cenid: [u8; 5], polyid: u64, body: BodyP) -> RecP
@@ -125,8 +126,9 @@ impl RecP {
     }
 
     /// Proves that each field fits its columns, which its type guarantees. Does nothing at run time.
+    #[tactic(auto, unfolding(crate::specs::RecordTypes::FitsFields))]
     pub(crate) fn show_fit(&self)
-        ensures { FitsTypeP self.now }
+        ensures { FitsFields TypeP self.now }
     {
         let body = &self.body;
         self.cenid.show_fit();
@@ -137,31 +139,25 @@ impl RecP {
 }
 
 impl Layout for RecP {
-    ghost use Rattle.std.proofs.Common.{lit≤};
-    ghost use Rattle.tl_layout.specs.FieldFaults.{IsLeftmostFault};
-    ghost use Rattle.tl_layout.specs.RecordTables.{rtype_p, table_p};
-    ghost use Rattle.tl_layout.specs.Laws.TypeLaws.{type_p_laws};
-    ghost use Rattle.tl_layout.specs.TypeP.{FitsTypeP, SpellsTypeP, type_p_reading, type_p_spelling};
-
     const LEN: usize = 45;
 
-    ghost LEN = { len_p };
+    ghost LEN = { line_length TypeP };
 
     const RTYPE: u8 = b'P';
 
-    ghost RTYPE = { rtype_p };
+    ghost RTYPE = { byte_of TypeP };
 
-    ghost Fits = { FitsTypeP };
+    ghost Fits = { FitsFields TypeP };
 
-    ghost Spells = { SpellsTypeP };
+    ghost Spells = { SpellsFields TypeP };
 
-    ghost IsFault = { IsLeftmostFault table_p };
+    ghost IsFault = { IsLeftmostFault (table_of TypeP) };
 
-    ghost reading = { type_p_reading };
+    ghost reading = { reading_of TypeP };
 
-    ghost spelling = { type_p_spelling };
+    ghost spelling = { fields_spelling TypeP };
 
-    #[tactic(auto, unfolding(crate::specs::TypeP::type_p_reading, crate::specs::FieldReading::and_then))]
+    #[tactic(auto, unfolding(crate::specs::RecordTypes::reading_of, crate::specs::FieldReading::and_then))]
     fn read(line: &[u8]) -> Result<RecP, FieldFault> {
         let polyid = read_number(line, 16, 25)?;
         let point = read_point_or_none(line, 26)?;
@@ -177,7 +173,7 @@ impl Layout for RecP {
         })
     }
 
-    #[tactic(auto, unfolding(crate::specs::TypeP::type_p_spelling))]
+    #[tactic(auto, unfolding(crate::specs::RecordTypes::fields_spelling))]
     fn put(&self, out: &mut [u8]) {
         let body = &self.body;
         self.show_fit();
@@ -191,13 +187,13 @@ impl Layout for RecP {
 
     ghost bounded = { (lit≤ tt, lit≤ tt) };
 
-    ghost spelling_is_line = { type_p_laws.spelling_is_line };
+    ghost spelling_is_line = { (layout_laws TypeP).spelling_is_line };
 
-    ghost reads_spelling = { type_p_laws.reads_spelling };
+    ghost reads_spelling = { (layout_laws TypeP).reads_spelling };
 
-    ghost reads_spelled = { type_p_laws.reads_spelled };
+    ghost reads_spelled = { (layout_laws TypeP).reads_spelled };
 
-    ghost spelled_is_read = { type_p_laws.spelled_is_read };
+    ghost spelled_is_read = { (layout_laws TypeP).spelled_is_read };
 
-    ghost shows_leftmost = { type_p_laws.shows_leftmost };
+    ghost shows_leftmost = { (layout_laws TypeP).shows_leftmost };
 }

@@ -9,8 +9,9 @@ use Rattle.std.proofs.lemmas.Bool.{eqb-true, eqb-false, ne_eqb}
 use Rattle.tl_layout.specs.FieldFaults.{IsLeftmostFault}
 use Rattle.tl_layout.specs.RecordText.{type_of, FitsRecord}
 use Rattle.tl_layout.specs.RecordTypes.{RecordType, Type1, Type2, Type4, Type5, Type6, Type7, Type8, TypeI, TypeP, types, FieldsOf, byte_of}
-use Rattle.tl_layout.specs.RecordTypes.{line_length, table_of, SpellsFields, reading_of, record_of}
-use Rattle.tl_layout.specs.Laws.RecordTypeLaws.{every_record, type_of_record, record_exact, layout_laws}
+use Rattle.tl_layout.specs.RecordTypes.{line_length, table_of, FitsFields, SpellsFields, reading_of, record_of}
+use Rattle.tl_layout.specs.Laws.RecordTypeLaws.{every_record, type_of_record, record_exact, fitting_record}
+use Rattle.tl_layout.specs.Laws.TypeLaws.{layout_laws}
 use Rattle.tl_layout.specs.declared.record_type.Record.{Record}
 use Rattle.tl_load.specs.declared.fault.LineFault.{LineFault}
 use Rattle.tl_load.specs.declared.fault.LineFault.TheVariants as line_faults
@@ -235,9 +236,9 @@ tiger_is_sound = record {
 -- a line has only records that fit
 pub record_fits : (line : List ℕ) (r : Record) → HasRecord line r → FitsRecord r
 record_fits line = every_record (λ r. HasRecord line r → FitsRecord r) (λ t fields h.
-    line_fits (byte_of t) (line_length t) (SpellsFields t) (λ r. FitsRecord (record_of t r))
+    fitting_record t fields (line_fits (byte_of t) (line_length t) (SpellsFields t) (FitsFields t)
     (λ l r is s. ((layout_laws t).reads_spelled l r is ((layout_laws t).spelled_is_read l r is s)).0) line fields
-    (subst (λ T. T) (line_of_type t line fields) h))
+    (subst (λ T. T) (line_of_type t line fields) h)))
 
 -- if lines have records, these fit
 lines_fit : (lines : List PlacedLine) (records : List Record) → AreLinesSpelled tiger lines records → All FitsRecord records

@@ -7,15 +7,7 @@ use Rattle.std.proofs.lemmas.List.{length-append}
 use Rattle.tl_layout.specs.declared.fault.FieldFault.{FieldFault}
 use Rattle.tl_layout.specs.declared.record_type.Record.{Record}
 use Rattle.tl_layout.specs.declared.record_type.Record.TheVariants.{One, Two, Four, Five, Six, Seven, Eight, I, P}
-use Rattle.tl_layout.specs.Type1.{type_1_reading}
-use Rattle.tl_layout.specs.Type2.{type_2_reading}
-use Rattle.tl_layout.specs.Type4.{type_4_reading}
-use Rattle.tl_layout.specs.Type5.{type_5_reading}
-use Rattle.tl_layout.specs.Type6.{type_6_reading}
-use Rattle.tl_layout.specs.Type7.{type_7_reading}
-use Rattle.tl_layout.specs.Type8.{type_8_reading}
-use Rattle.tl_layout.specs.TypeI.{type_i_reading}
-use Rattle.tl_layout.specs.TypeP.{type_p_reading}
+use Rattle.tl_layout.specs.RecordTypes.{Type1, Type2, Type4, Type5, Type6, Type7, Type8, TypeI, TypeP, reading_of}
 use Rattle.tl_load.specs.declared.fault.LineFault.{LineFault}
 use Rattle.tl_load.specs.declared.fault.LineFault.TheVariants as line_faults
 use Rattle.tl_load.specs.LineOf.{judged_as, judged_full, filled}
@@ -44,15 +36,15 @@ long_fault rtype = long_among types rtype
 long_by : (rtype : ℕ) (line : List ℕ) → LONGEST_LINE < length line → judged_by rtype line ≡ long_fault rtype
 unfolding judged_by long_fault
 long_by rtype line long =
-    let e49 = too_long LONGEST_LINE type_1_reading One line (lit≤ tt) long in
-    let e50 = too_long 208 type_2_reading Two line (lit≤ tt) long in
-    let e52 = too_long 58 type_4_reading Four line (lit≤ tt) long in
-    let e53 = too_long 56 type_5_reading Five line (lit≤ tt) long in
-    let e54 = too_long 76 type_6_reading Six line (lit≤ tt) long in
-    let e55 = too_long 74 type_7_reading Seven line (lit≤ tt) long in
-    let e56 = too_long 36 type_8_reading Eight line (lit≤ tt) long in
-    let e73 = too_long 127 type_i_reading I line (lit≤ tt) long in
-    let e80 = too_long 45 type_p_reading P line (lit≤ tt) long in
+    let e49 = too_long LONGEST_LINE (reading_of Type1) One line (lit≤ tt) long in
+    let e50 = too_long 208 (reading_of Type2) Two line (lit≤ tt) long in
+    let e52 = too_long 58 (reading_of Type4) Four line (lit≤ tt) long in
+    let e53 = too_long 56 (reading_of Type5) Five line (lit≤ tt) long in
+    let e54 = too_long 76 (reading_of Type6) Six line (lit≤ tt) long in
+    let e55 = too_long 74 (reading_of Type7) Seven line (lit≤ tt) long in
+    let e56 = too_long 36 (reading_of Type8) Eight line (lit≤ tt) long in
+    let e73 = too_long 127 (reading_of TypeI) I line (lit≤ tt) long in
+    let e80 = too_long 45 (reading_of TypeP) P line (lit≤ tt) long in
     cc
 
 err_cond : (b : Bool) (x y : Result Record LineFault) → IsErr x → IsErr y → IsErr (cond b x y)

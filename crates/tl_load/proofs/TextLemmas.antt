@@ -12,16 +12,8 @@ use Rattle.tl_layout.specs.Laws.RecordLaws.{spelling_is_line}
 use Rattle.tl_layout.specs.declared.fault.FieldFault.{FieldFault}
 use Rattle.tl_layout.specs.declared.record_type.Record.{Record}
 use Rattle.tl_layout.specs.declared.record_type.Record.TheVariants.{One, Two, Four, Five, Six, Seven, Eight, I, P}
-use Rattle.tl_layout.specs.Type1.{type_1_reading}
-use Rattle.tl_layout.specs.Type2.{type_2_reading}
-use Rattle.tl_layout.specs.Type4.{type_4_reading}
-use Rattle.tl_layout.specs.Type5.{type_5_reading}
-use Rattle.tl_layout.specs.Type6.{type_6_reading}
-use Rattle.tl_layout.specs.Type7.{type_7_reading}
-use Rattle.tl_layout.specs.Type8.{type_8_reading}
-use Rattle.tl_layout.specs.TypeI.{type_i_reading}
-use Rattle.tl_layout.specs.TypeP.{type_p_reading}
-use Rattle.tl_layout.specs.Laws.TypeLaws.{type_1_laws, type_2_laws, type_4_laws, type_5_laws, type_6_laws, type_7_laws, type_8_laws, type_i_laws, type_p_laws}
+use Rattle.tl_layout.specs.RecordTypes.{Type1, Type2, Type4, Type5, Type6, Type7, Type8, TypeI, TypeP, reading_of}
+use Rattle.tl_layout.specs.Laws.TypeLaws.{layout_laws}
 use Rattle.tl_load.specs.declared.fault.LineFault.{LineFault}
 use Rattle.tl_load.specs.declared.fault.LineFault.TheVariants as line_faults
 use Rattle.tl_load.specs.Lines.{IsWithoutLineFeed, without_return, lines}
@@ -56,23 +48,23 @@ judged_full_line rtype len reading line r is e =
 judged_spelling : (r : Record) → FitsRecord r → judged (spelling_of r) ≡ Ok r
 unfolding judged_by type_of len_of spelling_of FitsRecord
 judged_spelling (One r) f = let is = spelling_is_line (One r) f in by_first 49 _ is.begins
-    ∙ ap (as_record One) (judged_full_line 49 228 type_1_reading _ r is (type_1_laws.reads_spelling r f))
+    ∙ ap (as_record One) (judged_full_line 49 228 (reading_of Type1) _ r is ((layout_laws Type1).reads_spelling r f))
 judged_spelling (Two r) f = let is = spelling_is_line (Two r) f in by_first 50 _ is.begins
-    ∙ ap (as_record Two) (judged_full_line 50 208 type_2_reading _ r is (type_2_laws.reads_spelling r f))
+    ∙ ap (as_record Two) (judged_full_line 50 208 (reading_of Type2) _ r is ((layout_laws Type2).reads_spelling r f))
 judged_spelling (Four r) f = let is = spelling_is_line (Four r) f in by_first 52 _ is.begins
-    ∙ ap (as_record Four) (judged_full_line 52 58 type_4_reading _ r is (type_4_laws.reads_spelling r f))
+    ∙ ap (as_record Four) (judged_full_line 52 58 (reading_of Type4) _ r is ((layout_laws Type4).reads_spelling r f))
 judged_spelling (Five r) f = let is = spelling_is_line (Five r) f in by_first 53 _ is.begins
-    ∙ ap (as_record Five) (judged_full_line 53 56 type_5_reading _ r is (type_5_laws.reads_spelling r f))
+    ∙ ap (as_record Five) (judged_full_line 53 56 (reading_of Type5) _ r is ((layout_laws Type5).reads_spelling r f))
 judged_spelling (Six r) f = let is = spelling_is_line (Six r) f in by_first 54 _ is.begins
-    ∙ ap (as_record Six) (judged_full_line 54 76 type_6_reading _ r is (type_6_laws.reads_spelling r f))
+    ∙ ap (as_record Six) (judged_full_line 54 76 (reading_of Type6) _ r is ((layout_laws Type6).reads_spelling r f))
 judged_spelling (Seven r) f = let is = spelling_is_line (Seven r) f in by_first 55 _ is.begins
-    ∙ ap (as_record Seven) (judged_full_line 55 74 type_7_reading _ r is (type_7_laws.reads_spelling r f))
+    ∙ ap (as_record Seven) (judged_full_line 55 74 (reading_of Type7) _ r is ((layout_laws Type7).reads_spelling r f))
 judged_spelling (Eight r) f = let is = spelling_is_line (Eight r) f in by_first 56 _ is.begins
-    ∙ ap (as_record Eight) (judged_full_line 56 36 type_8_reading _ r is (type_8_laws.reads_spelling r f))
+    ∙ ap (as_record Eight) (judged_full_line 56 36 (reading_of Type8) _ r is ((layout_laws Type8).reads_spelling r f))
 judged_spelling (I r) f = let is = spelling_is_line (I r) f in by_first 73 _ is.begins
-    ∙ ap (as_record I) (judged_full_line 73 127 type_i_reading _ r is (type_i_laws.reads_spelling r f))
+    ∙ ap (as_record I) (judged_full_line 73 127 (reading_of TypeI) _ r is ((layout_laws TypeI).reads_spelling r f))
 judged_spelling (P r) f = let is = spelling_is_line (P r) f in by_first 80 _ is.begins
-    ∙ ap (as_record P) (judged_full_line 80 45 type_p_reading _ r is (type_p_laws.reads_spelling r f))
+    ∙ ap (as_record P) (judged_full_line 80 45 (reading_of TypeP) _ r is ((layout_laws TypeP).reads_spelling r f))
 
 -- ---- its bytes
 

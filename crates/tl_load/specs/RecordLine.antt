@@ -7,15 +7,7 @@ use Rattle.tl_layout.specs.RecordTables.{len_1, len_2, len_4, len_5, len_6, len_
 use Rattle.tl_layout.specs.RecordTables.{table_1, table_2, table_4, table_5, table_6, table_7, table_8, table_i, table_p}
 use Rattle.tl_layout.specs.declared.record_type.Record.{Record}
 use Rattle.tl_layout.specs.declared.record_type.Record.TheVariants.{One, Two, Four, Five, Six, Seven, Eight, I, P}
-use Rattle.tl_layout.specs.Type1.{SpellsType1}
-use Rattle.tl_layout.specs.Type2.{SpellsType2}
-use Rattle.tl_layout.specs.Type4.{SpellsType4}
-use Rattle.tl_layout.specs.Type5.{SpellsType5}
-use Rattle.tl_layout.specs.Type6.{SpellsType6}
-use Rattle.tl_layout.specs.Type7.{SpellsType7}
-use Rattle.tl_layout.specs.Type8.{SpellsType8}
-use Rattle.tl_layout.specs.TypeI.{SpellsTypeI}
-use Rattle.tl_layout.specs.TypeP.{SpellsTypeP}
+use Rattle.tl_layout.specs.RecordTypes.{Type1, Type2, Type4, Type5, Type6, Type7, Type8, TypeI, TypeP, SpellsFields}
 use Rattle.tl_load.specs.LineOf.{IsLineOf, IsFaultIn}
 use Rattle.tl_load.specs.declared.fault.LineFault.{LineFault}
 use Rattle.tl_load.specs.declared.fault.LineFault.TheVariants as line_faults
@@ -23,15 +15,15 @@ use Rattle.tl_load.specs.declared.fault.LineFault.TheVariants as line_faults
 -- the line has this record: its first byte is the record's type, and it isn't longer than the layout; padded with blanks to
 -- that length, all its bytes are allowed, and each column spells the record's field
 unfoldable pub HasRecord : List ℕ → Record → Type 0
-HasRecord line (One r) = IsLineOf rtype_1 len_1 SpellsType1 line r
-HasRecord line (Two r) = IsLineOf rtype_2 len_2 SpellsType2 line r
-HasRecord line (Four r) = IsLineOf rtype_4 len_4 SpellsType4 line r
-HasRecord line (Five r) = IsLineOf rtype_5 len_5 SpellsType5 line r
-HasRecord line (Six r) = IsLineOf rtype_6 len_6 SpellsType6 line r
-HasRecord line (Seven r) = IsLineOf rtype_7 len_7 SpellsType7 line r
-HasRecord line (Eight r) = IsLineOf rtype_8 len_8 SpellsType8 line r
-HasRecord line (I r) = IsLineOf rtype_i len_i SpellsTypeI line r
-HasRecord line (P r) = IsLineOf rtype_p len_p SpellsTypeP line r
+HasRecord line (One r) = IsLineOf rtype_1 len_1 (SpellsFields Type1) line r
+HasRecord line (Two r) = IsLineOf rtype_2 len_2 (SpellsFields Type2) line r
+HasRecord line (Four r) = IsLineOf rtype_4 len_4 (SpellsFields Type4) line r
+HasRecord line (Five r) = IsLineOf rtype_5 len_5 (SpellsFields Type5) line r
+HasRecord line (Six r) = IsLineOf rtype_6 len_6 (SpellsFields Type6) line r
+HasRecord line (Seven r) = IsLineOf rtype_7 len_7 (SpellsFields Type7) line r
+HasRecord line (Eight r) = IsLineOf rtype_8 len_8 (SpellsFields Type8) line r
+HasRecord line (I r) = IsLineOf rtype_i len_i (SpellsFields TypeI) line r
+HasRecord line (P r) = IsLineOf rtype_p len_p (SpellsFields TypeP) line r
 
 -- the record types of this project
 abbrev pub record_types : List ℕ

@@ -5,19 +5,10 @@ use Rattle.tl_county.proofs.Common.{FitsLandmark, FitsNameBody, FitsPolygon, Fit
 use Rattle.tl_county.proofs.Common.{Type1, Type2, Type4, Type5, Type6, Type7, Type8, TypeI, TypeP, as_type, record_of}
 use Rattle.tl_layout.specs.Numbers.{IsNumberOrNone}
 use Rattle.tl_layout.specs.RecordText.{FitsRecord}
-use Rattle.tl_layout.specs.RecordTypes.{FieldsOf}
+use Rattle.tl_layout.specs.RecordTypes.{FieldsOf, FitsFields}
 use Rattle.tl_layout.specs.Laws.RecordTypeLaws.{record_selected}
-use Rattle.tl_layout.specs.Type1.{FitsType1}
 use Rattle.tl_layout.specs.Type1Groups.{FitsBody1}
 use Rattle.tl_layout.specs.Laws.Type1Laws.{type_1_fits}
-use Rattle.tl_layout.specs.Type2.{FitsType2}
-use Rattle.tl_layout.specs.Type4.{FitsType4}
-use Rattle.tl_layout.specs.Type5.{FitsType5}
-use Rattle.tl_layout.specs.Type6.{FitsType6}
-use Rattle.tl_layout.specs.Type7.{FitsType7}
-use Rattle.tl_layout.specs.Type8.{FitsType8}
-use Rattle.tl_layout.specs.TypeI.{FitsTypeI}
-use Rattle.tl_layout.specs.TypeP.{FitsTypeP}
 use Rattle.tl_layout.specs.declared.type_i.BodyI.{BodyI}
 use Rattle.tl_county.specs.Limits.{FitsLinkContent}
 
@@ -84,7 +75,7 @@ Fit TypeP = FitP
 
 -- fields that fit their columns fit as named here
 named : (t : RecordType) (r : FieldsOf t) → FitsRecord (record_of t r) → Fit t r
-unfolding FitsRecord FitsType1 FitsType2 FitsType4 FitsType5 FitsType6 FitsType7 FitsType8 FitsTypeI FitsTypeP
+unfolding FitsRecord FitsFields
 named Type1 r h = record {
   tlid = h.0;
   body = record {
@@ -185,7 +176,7 @@ named TypeP r h = record { polyid = h.1.1.0; body = (h.0, (h.1.0, ((omega arith,
 
 -- fields that fit as named here fit their columns
 pub columns : (t : RecordType) (r : FieldsOf t) → Fit t r → FitsRecord (record_of t r)
-unfolding FitsRecord FitsType1 FitsType2 FitsType4 FitsType5 FitsType6 FitsType7 FitsType8 FitsTypeI FitsTypeP
+unfolding FitsRecord FitsFields
 columns Type1 r f = type_1_fits r f.tlid f.body f.start f.end
 columns Type2 r f = (f.tlid, (f.rtsq, ((f.len, f.points), tt)))
 columns Type4 r f = (f.tlid, (f.rtsq, ((f.len, f.feats), tt)))
@@ -232,19 +223,19 @@ selected_fit t r fields e h = named t fields (subst FitsRecord (record_selected 
 
 -- the CENIDs of content that fits
 pub left_cenid_fits : (body : BodyI) (left right : List ℕ) → FitsLinkContent body left right → IsText 5 left
-unfolding FitsTypeI
+unfolding FitsFields
 left_cenid_fits body left right h = h.1.1.1.1.0
 
 pub right_cenid_fits : (body : BodyI) (left right : List ℕ) → FitsLinkContent body left right → IsText 5 right
-unfolding FitsTypeI
+unfolding FitsFields
 right_cenid_fits body left right h = h.1.1.1.1.1.1.0
 
 pub polygon_cenid_fits : (cenid : List ℕ) (body : BodyP) → FitsPolygon cenid body → IsText 5 cenid
-unfolding FitsTypeP
+unfolding FitsFields
 polygon_cenid_fits cenid body h = h.1.0
 
 -- content of type I fits with its sides exchanged
 pub link_content_turned : (body : BodyI) (left right : List ℕ) → FitsLinkContent body left right → FitsLinkContent body right left
-unfolding FitsTypeI
+unfolding FitsFields
 link_content_turned body left right h =
     (h.0, (h.1.0, (h.1.1.0, (h.1.1.1.0, (h.1.1.1.1.1.1.0, (tt, (h.1.1.1.1.0, (tt, h.1.1.1.1.1.1.1.1))))))))

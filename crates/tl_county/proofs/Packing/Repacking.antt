@@ -2,7 +2,7 @@
 use Rattle.std.proofs.Common.{◌≡◌, ◌⊎◌, ◌<◌, ℕ, ◌==◌, List, [], ◌∷◌, ◌++◌, map, flat_map, filter, filter_map, Bool, true, false}
 use Rattle.std.proofs.Common.{cond, Option, Some, None, option_map, Ordering, Less, Equal, Greater, is_eq, is_gt, sym, refl, ap}
 use Rattle.std.proofs.Common.{ap₂, ◌∙◌, inl, inr, nat_cmp, IsTrue, suc, nat_lt, not, ◌&&◌, ◌||◌, length}
-use Rattle.tl_county.proofs.Common.{AllByRecursion, ChainTwice, Eight, Fields1, Fields2, Fields4, Fields5, Fields6, Fields7, FieldsI}
+use Rattle.tl_county.proofs.Common.{AllByRecursion, ChainTwice, as_type, Eight, Fields1, Fields2, Fields4, Fields5, Fields6, Fields7, FieldsI}
 use Rattle.tl_county.proofs.Common.{FieldsP, Five, IsLinked, LandUnknown, LinkFault, LinkMissing, LinkTwice, LinkedType, Memory, NameTwice}
 use Rattle.tl_county.proofs.Common.{NameUnknown, NoChain, One, P, PolygonTwice, PolygonUnknown, Record, SequenceBroken, SequencedType}
 use Rattle.tl_county.proofs.Common.{Seven, Typed, all-in_order, all_known, all_map, by_type, chain_of, chains_of, cons_option, county_of}
@@ -14,9 +14,9 @@ use Rattle.tl_county.proofs.Common.{shape_points, side_keys, six_rtsq, six_tlid,
 use Rattle.std.proofs.lemmas.Bool.{cases_order}
 use Rattle.std.specs.Ordering.{ordering_reverse}
 use Rattle.tl_layout.specs.declared.record_type.Record.TheVariants.{Two, Four, Six, I}
+use Rattle.tl_layout.specs.RecordTypes as record_types
 use Rattle.tl_county.specs.declared.fault.LinkedType.TheVariants.{Two as Type2, Four as Type4, Six as Type6, I as TypeI}
 use Rattle.tl_county.specs.declared.fault.SequencedType.TheVariants as sequenced
-use Rattle.tl_layout.specs.ByType.{as_type_2, as_type_4, as_type_6}
 use Rattle.tl_county.specs.Repacked.{Sequence, resequenced, KeepsSequence}
 use Rattle.ordered_lists.proofs.Lists.Elements.{all_both, all_unmap}
 use Rattle.tl_county.proofs.Sameness.SameChains.{chains_alike}
@@ -196,17 +196,17 @@ module _ (q : Sequence) (xs : List Record) (up : KeepsSequence q xs) where
   keeps_rest (Four r ∷ rs) = keeps_rest rs
   keeps_rest (Six r ∷ rs) = keeps_rest rs
 
-  news_two : (r : Record) → as_type_2 (resequenced q r) ≡ option_map new_two (as_type_2 r)
+  news_two : (r : Record) → as_type record_types.Type2 (resequenced q r) ≡ option_map new_two (as_type record_types.Type2 r)
   unfolding new_two
   news_two (Two r) = refl
   news_two _ = refl
 
-  news_four : (r : Record) → as_type_4 (resequenced q r) ≡ option_map new_four (as_type_4 r)
+  news_four : (r : Record) → as_type record_types.Type4 (resequenced q r) ≡ option_map new_four (as_type record_types.Type4 r)
   unfolding new_four
   news_four (Four r) = refl
   news_four _ = refl
 
-  news_six : (r : Record) → as_type_6 (resequenced q r) ≡ option_map new_six (as_type_6 r)
+  news_six : (r : Record) → as_type record_types.Type6 (resequenced q r) ≡ option_map new_six (as_type record_types.Type6 r)
   unfolding new_six
   news_six (Six r) = refl
   news_six _ = refl
@@ -215,19 +215,19 @@ module _ (q : Sequence) (xs : List Record) (up : KeepsSequence q xs) where
   unfolding new_two new_four new_six
   resequenced-repacked = record {
     points = λ n. ap (λ rs. flat_map (λ (r : Fields2). r.points) (in_order (on two_rtsq nat_cmp) (of_number two_tlid n rs)))
-        (select-changed as_type_2 (resequenced q) new_two news_two xs)
+        (select-changed (as_type record_types.Type2) (resequenced q) new_two news_two xs)
         ∙ ap (flat_map (λ (r : Fields2). r.points))
         (sequence_kept two_tlid two_rtsq new_two (q sequenced.Two) (λ r. refl) (λ r. refl) n (of_type_2 xs) (up sequenced.Two n))
         ∙ flat_map-kept (λ (r : Fields2). r.points) new_two (λ r. refl)
         (in_order (on two_rtsq nat_cmp) (of_number two_tlid n (of_type_2 xs)));
     names = λ n. ap (λ rs. flat_map (λ (r : Fields4). r.feats) (in_order (on four_rtsq nat_cmp) (of_number four_tlid n rs)))
-        (select-changed as_type_4 (resequenced q) new_four news_four xs)
+        (select-changed (as_type record_types.Type4) (resequenced q) new_four news_four xs)
         ∙ ap (flat_map (λ (r : Fields4). r.feats))
         (sequence_kept four_tlid four_rtsq new_four (q sequenced.Four) (λ r. refl) (λ r. refl) n (of_type_4 xs) (up sequenced.Four n))
         ∙ flat_map-kept (λ (r : Fields4). r.feats) new_four (λ r. refl)
         (in_order (on four_rtsq nat_cmp) (of_number four_tlid n (of_type_4 xs)));
     ranges = λ n. ap (λ rs. map (λ (r : Fields6). r.ranges) (in_order (on six_rtsq nat_cmp) (of_number six_tlid n rs)))
-        (select-changed as_type_6 (resequenced q) new_six news_six xs)
+        (select-changed (as_type record_types.Type6) (resequenced q) new_six news_six xs)
         ∙ ap (map (λ (r : Fields6). r.ranges)) (sequence_kept six_tlid six_rtsq new_six (q sequenced.Six) (λ r. refl) (λ r. refl) n
         (of_type_6 xs) (up sequenced.Six n))
         ∙ map-map (λ (r : Fields6). r.ranges) new_six (in_order (on six_rtsq nat_cmp) (of_number six_tlid n (of_type_6 xs)));
@@ -247,15 +247,15 @@ module _ (q : Sequence) (xs : List Record) (up : KeepsSequence q xs) where
 
   two_is : of_type_2 ys ≡ map new_two (of_type_2 xs)
   unfolding ys
-  two_is = select-changed as_type_2 (resequenced q) new_two news_two xs
+  two_is = select-changed (as_type record_types.Type2) (resequenced q) new_two news_two xs
 
   four_is : of_type_4 ys ≡ map new_four (of_type_4 xs)
   unfolding ys
-  four_is = select-changed as_type_4 (resequenced q) new_four news_four xs
+  four_is = select-changed (as_type record_types.Type4) (resequenced q) new_four news_four xs
 
   six_is : of_type_6 ys ≡ map new_six (of_type_6 xs)
   unfolding ys
-  six_is = select-changed as_type_6 (resequenced q) new_six news_six xs
+  six_is = select-changed (as_type record_types.Type6) (resequenced q) new_six news_six xs
 
   linked_same : (t : LinkedType) → linked_tlids t ys ≡ linked_tlids t xs
   unfolding new_two new_four new_six ys

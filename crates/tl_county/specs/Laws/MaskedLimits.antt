@@ -8,8 +8,7 @@ use Rattle.tl_layout.specs.Laws.ByteLaws.{blanks_are_text}
 use Rattle.tl_layout.specs.Masked.{masked_body_1, masked_body_7, masked_body_i}
 use Rattle.tl_layout.specs.Numbers.{IsNumber}
 use Rattle.tl_layout.specs.Type1Groups.{FitsBody1}
-use Rattle.tl_layout.specs.Type7.{FitsType7}
-use Rattle.tl_layout.specs.TypeI.{FitsTypeI}
+use Rattle.tl_layout.specs.RecordTypes.{FitsFields}
 use Rattle.tl_layout.specs.declared.mask.Mask.{Mask}
 use Rattle.tl_layout.specs.declared.type1.fields.Body1Fields.{Body1Fields}
 use Rattle.tl_layout.specs.declared.type7.Body7.{Body7}
@@ -49,13 +48,13 @@ module _ (mask : Mask) where
 
   -- FILE, LAND, SOURCE, and the fields after it
   body_7_fits : (body : Body7) → FitsLandmark body → FitsLandmark (masked_body_7 mask body)
-  unfolding FitsType7
+  unfolding FitsFields
   body_7_fits body f = (f.0, (f.1.0, (hidden_fits mask.sources 1 body.source f.1.1.0, f.1.1.1)))
 
   -- FILE, TLID, the nodes, the sides, and then SOURCE, FTSEG, RS_I1, RS_I2, RS_I3
   body_i_fits : (body : BodyI) (left right : List ℕ) → FitsLinkContent body left right
       → FitsLinkContent (masked_body_i mask body) left right
-  unfolding FitsTypeI
+  unfolding FitsFields
   body_i_fits body left right f =
       let fields = f.1.1.1.1.1.1.1.1 in
       let source = hidden_fits mask.sources 10 body.source fields.0 in

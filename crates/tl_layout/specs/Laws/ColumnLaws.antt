@@ -23,22 +23,15 @@ part_of_text len text t at width within =
       allowed = All-take (λ b. IsTrue (is_allowed b)) width (drop at text) (All-drop (λ b. IsTrue (is_allowed b)) at text t.allowed);
     }
 
--- the columns of a line are text of their width
-pub columns_text : (first last len : ℕ) (line : List ℕ) → IsText len line → 1 ≤ first → first ≤ last + 1 → last ≤ len
-    → IsText (last + 1 - first) (columns first last line)
-columns_text first last len line t f l m =
-    let same : last - (first - 1) ≡ last + 1 - first = omega arith in
+-- the columns of a text are text of their width
+pub columns_of_text : (len : ℕ) (line : List ℕ) → IsText len line → (first last width : ℕ) → 1 ≤ first → last ≤ len
+    → last + 1 ≡ first + width → IsText width (columns first last line)
+columns_of_text len line t first last width f l w =
+    let same : last - (first - 1) ≡ width = omega arith in
     subst (λ (width : ℕ). IsText width (columns first last line)) same
     (part_of_text len line t (first - 1) (last - (first - 1)) (omega arith))
 
 -- columns of allowed bytes are text of their width
 pub columns_of_width : (first last width : ℕ) (line : List ℕ) → AreAllowed line → 1 ≤ first → last ≤ length line → last + 1 ≡ first + width
     → IsText width (columns first last line)
-columns_of_width first last width line a f l w =
-    let same : last + 1 - first ≡ width = omega arith in
-    rw same at (columns_text first last (length line) line (record { len = refl; allowed = a }) f (omega arith) l)
-
--- the columns of a text are text of their width
-pub columns_of_text : (len : ℕ) (line : List ℕ) → IsText len line → (first last width : ℕ) → 1 ≤ first → last ≤ len
-    → last + 1 ≡ first + width → IsText width (columns first last line)
-columns_of_text len line t first last width f l w = columns_of_width first last width line t.allowed f (let e = t.len in omega arith) w
+columns_of_width first last width line a = columns_of_text (length line) line (record { len = refl; allowed = a }) first last width

@@ -3,7 +3,7 @@ use Rattle.std.proofs.Common.{◌≡◌, ℕ, zero, suc, ◌+◌, ◌-◌, ◌*�
 use Rattle.std.proofs.Common.{false, cond, nat_eq, nat_le, Option, Some, None, refl, sym, ap, ◌∙◌, subst, arith, IsTrue, ℤ, pos}
 use Rattle.std.proofs.Common.{negsuc, unsigned_abs}
 use Rattle.std.specs.List.{list_all}
-use Rattle.std.proofs.lemmas.Bool.{and_parts, and_from, eqb-true, ne_eqb, leb-true, le-leb}
+use Rattle.std.proofs.lemmas.Bool.{and_parts, and_from, cond_both, eqb-true, ne_eqb, leb-true, le-leb}
 use Rattle.std.proofs.lemmas.List.{append-nil, length_push}
 use Rattle.std.proofs.lemmas.List.Elements.{All-push, All-nil, All-cons}
 use Rattle.tl_layout.specs.Bytes.{IsText, AreAllowed, is_allowed}
@@ -13,8 +13,9 @@ use Rattle.tl_layout.specs.Laws.NumberLaws.{number_after_found, number_after_onl
 use Rattle.tl_layout.specs.Laws.NumberLaws.{drop_blanks-blanks}
 use Rattle.tl_layout.specs.Laws.NumberTextLaws.{value_after-push, digits_push, last_is_digit, tenth_below, digit_allowed}
 use Rattle.tl_layout.specs.CoordinateField.{negated, IsSigned, unsigned, plus, minus, IsCoordinateField, IsBlankField}
-use Rattle.tl_layout.specs.CoordinateReading.{within, magnitude_of, plus_of, minus_of, signed_of, coordinate_of}
+use Rattle.tl_layout.specs.CoordinateReading.{within, magnitude_of, made_of, plus_of, minus_of, signed_of, coordinate_of}
 use Rattle.tl_layout.specs.FieldTexts.{digits_text, sign_of, coordinate_text}
+use Rattle.tl_layout.specs.declared.coordinate.Coordinate.{Coordinate}
 use Rattle.tl_layout.specs.declared.coordinate.Coordinate.TheVariants.{Blank, Value}
 
 -- one or more digits within the limit, followed only by blanks
@@ -28,37 +29,29 @@ pub record IsMagnitude (limit : ℕ) (bytes : List ℕ) (n : ℕ) : Type 0 where
   pub value : n ≡ value_after 0 (first ∷ digits)
   pub within_limit : n ≤ limit
 
-cond_within : (limit v n : ℕ) (b : Bool) → nat_le v limit ≡ b → cond b (Some v) None ≡ Some n → (v ≡ n) × (n ≤ limit)
-cond_within limit v n true e h = let same : v ≡ n = (cc) in (same, let below : v ≤ limit = leb-true v limit e in omega arith)
-cond_within limit v n false e h = (cc)
-
 within_found : (limit n : ℕ) (read : Option ℕ) → within limit read ≡ Some n → (read ≡ Some n) × (n ≤ limit)
 within_found limit n None h = (cc)
-within_found limit n (Some v) h = let r = cond_within limit v n (nat_le v limit) refl h in (ap Some r.0, r.1)
+within_found limit n (Some v) h =
+    cond_both (nat_le v limit) (Some v) None (λ o. o ≡ Some n → (Some v ≡ Some n) × (n ≤ limit))
+    (λ e h. let same : v ≡ n = (cc) in (h, let below : v ≤ limit = leb-true v limit e in omega arith)) (λ e h. (cc)) h
 
-magnitude_with : (limit byte : ℕ) (bytes : List ℕ) (n : ℕ) (b : Bool) → is_digit byte ≡ b
-    → cond b (within limit (number_after 0 (byte ∷ bytes))) None ≡ Some n → IsMagnitude limit (byte ∷ bytes) n
-unfolding number_after
-magnitude_with limit byte bytes n true e h =
-    let w = within_found limit n (number_after 0 (byte ∷ bytes)) h in
+pub magnitude_found : (limit : ℕ) (bytes : List ℕ) (n : ℕ) → magnitude_of limit bytes ≡ Some n → IsMagnitude limit bytes n
+unfolding magnitude_of number_after
+magnitude_found limit [] n h = (cc)
+magnitude_found limit (byte ∷ bytes) n h =
+    cond_both (is_digit byte) (within limit (number_after 0 (byte ∷ bytes))) None (λ o. o ≡ Some n → IsMagnitude limit (byte ∷ bytes) n)
+    (λ e h. let w = within_found limit n (number_after 0 (byte ∷ bytes)) h in
     let r = number_after_found (10 * 0 + (byte - 48)) bytes n (rw e at w.0) in
     record {
       first = byte;
       digits = r.digits;
       after = r.after;
       spelled = ap (λ (l : List ℕ). byte ∷ l) r.spelled;
-      all_digits =
-          and_from _ _ e r.all_digits;
+      all_digits = and_from _ _ e r.all_digits;
       blanks_after = r.blanks_after;
       value = r.value_is;
       within_limit = w.1;
-    }
-magnitude_with limit byte bytes n false e h = (cc)
-
-pub magnitude_found : (limit : ℕ) (bytes : List ℕ) (n : ℕ) → magnitude_of limit bytes ≡ Some n → IsMagnitude limit bytes n
-unfolding magnitude_of
-magnitude_found limit [] n h = (cc)
-magnitude_found limit (byte ∷ bytes) n h = magnitude_with limit byte bytes n (is_digit byte) refl h
+    }) (λ e h. (cc)) h
 
 pub magnitude_only : (limit : ℕ) (first : ℕ) (digits after : List ℕ) → list_all is_digit (first ∷ digits) ≡ true
     → list_all is_blank after ≡ true → value_after 0 (first ∷ digits) ≤ limit
@@ -87,46 +80,32 @@ with_sign limit field sign bytes n value e m s =
       within = (let P : ℕ → Type 0 = λ v. v ≤ limit in subst P m.value m.within_limit);
     }
 
-plus_found : (limit : ℕ) (field sign bytes : List ℕ) (value : ℤ) (read : Option ℕ) → magnitude_of limit bytes ≡ read
-    → drop_blanks field ≡ sign ++ bytes → ((n : ℕ) → IsSigned sign n (pos n)) → plus_of read ≡ Value value
+made_found : (limit : ℕ) (field sign bytes : List ℕ) (value : ℤ) (make : ℕ → ℤ) (read : Option ℕ) → magnitude_of limit bytes ≡ read
+    → drop_blanks field ≡ sign ++ bytes → ((n : ℕ) → IsSigned sign n (make n)) → made_of make read ≡ Value value
     → IsCoordinateField limit field value
-plus_found limit field sign bytes value None r e s h = (cc)
-plus_found limit field sign bytes value (Some n) r e s h =
-    let same : pos n ≡ value = (cc) in
-    let P : ℤ → Type 0 = λ v. IsCoordinateField limit field v in
-    subst P same (with_sign limit field sign bytes n (pos n) e (magnitude_found limit bytes n r) (s n))
+made_found limit field sign bytes value make None r e s h = (cc)
+made_found limit field sign bytes value make (Some n) r e s h =
+    let same : make n ≡ value = (cc) in
+    subst (IsCoordinateField limit field) same (with_sign limit field sign bytes n (make n) e (magnitude_found limit bytes n r) (s n))
 
-minus_found : (limit : ℕ) (field bytes : List ℕ) (value : ℤ) (read : Option ℕ) → magnitude_of limit bytes ≡ read
-    → drop_blanks field ≡ (45 ∷ []) ++ bytes → minus_of read ≡ Value value → IsCoordinateField limit field value
-minus_found limit field bytes value None r e h = (cc)
-minus_found limit field bytes value (Some n) r e h =
-    let same : negated n ≡ value = (cc) in
-    let P : ℤ → Type 0 = λ v. IsCoordinateField limit field v in
-    subst P same (with_sign limit field (45 ∷ []) bytes n (negated n) e (magnitude_found limit bytes n r) (minus n))
-
-second_found : (limit : ℕ) (field : List ℕ) (byte : ℕ) (bytes : List ℕ) (value : ℤ) (b : Bool) → nat_eq byte 45 ≡ b
-    → drop_blanks field ≡ byte ∷ bytes
-    → cond b (minus_of (magnitude_of limit bytes)) (plus_of (magnitude_of limit (byte ∷ bytes))) ≡ Value value
-    → IsCoordinateField limit field value
-second_found limit field byte bytes value true e d h =
-    minus_found limit field bytes value (magnitude_of limit bytes) refl (d ∙ ap (λ b. b ∷ bytes) (eqb-true byte 45 e)) h
-second_found limit field byte bytes value false e d h =
-    plus_found limit field [] (byte ∷ bytes) value (magnitude_of limit (byte ∷ bytes)) refl d unsigned h
-
-first_found : (limit : ℕ) (field : List ℕ) (byte : ℕ) (bytes : List ℕ) (value : ℤ) (b : Bool) → nat_eq byte 43 ≡ b
-    → drop_blanks field ≡ byte ∷ bytes
-    → cond b (plus_of (magnitude_of limit bytes))
-    (cond (nat_eq byte 45) (minus_of (magnitude_of limit bytes)) (plus_of (magnitude_of limit (byte ∷ bytes)))) ≡ Value value
-    → IsCoordinateField limit field value
-first_found limit field byte bytes value true e d h =
-    plus_found limit field (43 ∷ []) bytes value (magnitude_of limit bytes) refl (d ∙ ap (λ b. b ∷ bytes) (eqb-true byte 43 e)) plus h
-first_found limit field byte bytes value false e d h = second_found limit field byte bytes value (nat_eq byte 45) refl d h
+-- what is made of bytes has any property that it has with a plus, with a minus and with no sign
+signed_cases : (limit byte : ℕ) (bytes : List ℕ) (P : Coordinate → Type 0) → (byte ≡ 43 → P (plus_of (magnitude_of limit bytes)))
+    → (byte ≡ 45 → P (minus_of (magnitude_of limit bytes))) → P (plus_of (magnitude_of limit (byte ∷ bytes)))
+    → P (signed_of limit (byte ∷ bytes))
+unfolding signed_of
+signed_cases limit byte bytes P with_plus with_minus with_none =
+    cond_both (nat_eq byte 43) _ _ P (λ e. with_plus (eqb-true byte 43 e))
+    (λ _. cond_both (nat_eq byte 45) _ _ P (λ e. with_minus (eqb-true byte 45 e)) (λ _. with_none))
 
 signed_found : (limit : ℕ) (field rest : List ℕ) (value : ℤ) → drop_blanks field ≡ rest → signed_of limit rest ≡ Value value
     → IsCoordinateField limit field value
 unfolding signed_of
 signed_found limit field [] value d h = (cc)
-signed_found limit field (byte ∷ bytes) value d h = first_found limit field byte bytes value (nat_eq byte 43) refl d h
+signed_found limit field (byte ∷ bytes) value d h =
+    signed_cases limit byte bytes (λ c. c ≡ Value value → IsCoordinateField limit field value)
+    (λ e. made_found limit field (43 ∷ []) bytes value pos (magnitude_of limit bytes) refl (d ∙ ap (λ b. b ∷ bytes) e) plus)
+    (λ e. made_found limit field (45 ∷ []) bytes value negated (magnitude_of limit bytes) refl (d ∙ ap (λ b. b ∷ bytes) e) minus)
+    (made_found limit field [] (byte ∷ bytes) value pos (magnitude_of limit (byte ∷ bytes)) refl d unsigned) h
 
 -- if a value is read, the field spells it
 pub coordinate_found : (limit : ℕ) (field : List ℕ) (value : ℤ) → coordinate_of limit field ≡ Value value
@@ -134,21 +113,9 @@ pub coordinate_found : (limit : ℕ) (field : List ℕ) (value : ℤ) → coordi
 unfolding coordinate_of
 coordinate_found limit field value h = signed_found limit field (drop_blanks field) value refl h
 
-plus_not_blank : (read : Option ℕ) → plus_of read ≡ Blank → ⊥
-plus_not_blank None h = (cc)
-plus_not_blank (Some n) h = (cc)
-
-minus_not_blank : (read : Option ℕ) → minus_of read ≡ Blank → ⊥
-minus_not_blank None h = (cc)
-minus_not_blank (Some n) h = (cc)
-
-third_not_blank : (b : Bool) (x y : Option ℕ) → cond b (minus_of x) (plus_of y) ≡ Blank → ⊥
-third_not_blank true x y h = minus_not_blank x h
-third_not_blank false x y h = plus_not_blank y h
-
-second_not_blank : (b c : Bool) (x y z : Option ℕ) → cond b (plus_of x) (cond c (minus_of y) (plus_of z)) ≡ Blank → ⊥
-second_not_blank true c x y z h = plus_not_blank x h
-second_not_blank false c x y z h = third_not_blank c y z h
+made_not_blank : (make : ℕ → ℤ) (read : Option ℕ) → made_of make read ≡ Blank → ⊥
+made_not_blank make None h = (cc)
+made_not_blank make (Some n) h = (cc)
 
 blank_from_rest : (limit : ℕ) (field rest : List ℕ) → drop_blanks field ≡ rest → signed_of limit rest ≡ Blank
     → list_all is_blank field ≡ true
@@ -157,8 +124,8 @@ blank_from_rest limit field [] d h =
     let b = splits_blanks field in
     ap (list_all is_blank) (b.spelled ∙ ap (λ (l : List ℕ). b.before ++ l) d ∙ append-nil b.before) ∙ b.blanks_before
 blank_from_rest limit field (byte ∷ bytes) d h =
-    absurd (second_not_blank (nat_eq byte 43) (nat_eq byte 45) (magnitude_of limit bytes) (magnitude_of limit bytes)
-    (magnitude_of limit (byte ∷ bytes)) h)
+    absurd (signed_cases limit byte bytes (λ c. c ≡ Blank → ⊥) (λ _. made_not_blank pos (magnitude_of limit bytes))
+    (λ _. made_not_blank negated (magnitude_of limit bytes)) (made_not_blank pos (magnitude_of limit (byte ∷ bytes))) h)
 
 -- only a blank field is read as blank
 pub blank_found : (limit : ℕ) (field : List ℕ) → coordinate_of limit field ≡ Blank → IsBlankField field

@@ -2,7 +2,7 @@
 -- values.
 use Rattle.std.proofs.Common.{◌≡◌, ℕ, zero, suc, ◌+◌, ◌-◌, ◌^◌, ◌<◌, ◌≤◌, List, length, drop, Bool, true, false, cond, nat_eq}
 use Rattle.std.proofs.Common.{Option, Some, None, unwrap_or, IfSome, Result, Ok, Err, refl, sym, ap, ◌∙◌, subst, arith, inl, inr}
-use Rattle.std.proofs.Common.{lit<, ℤ, pos, negsuc, unsigned_abs}
+use Rattle.std.proofs.Common.{lit<, ℤ, pos, negsuc, unsigned_abs, rules}
 use Rattle.std.proofs.lemmas.List.{length-drop, length-take-le}
 use Rattle.std.proofs.lemmas.Bool.{eqb-true, eqb-false, ne_eqb}
 use Rattle.std.proofs.Math.Nat.{one-le-pow}
@@ -204,13 +204,7 @@ point_at_only column line point h = reads_on _ _ (Some point) _ (point_or_none_a
 
 -- a spelled point is on the map
 pub point_on_map : (long lat : List ℕ) (point : Coordinates) → SpellsPoint long lat point → IsOnMap point
-point_on_map long lat point h =
-    record {
-      long = coordinate_within MOST_LONGITUDE long point.long h.long_spelled;
-      lat =
-          coordinate_within MOST_LATITUDE lat point.lat h.lat_spelled;
-      somewhere = h.somewhere;
-    }
+point_on_map long lat point h = search (rules, coordinate_within)
 
 -- fields that hold the canonical texts of a point spell it
 pub point_again : (point : Coordinates) (long lat : List ℕ) → long ≡ coordinate_text 9 point.long → lat ≡ coordinate_text 8 point.lat

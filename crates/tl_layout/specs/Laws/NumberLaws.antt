@@ -2,7 +2,7 @@
 use Rattle.std.proofs.Common.{◌≡◌, ℕ, ◌+◌, ◌-◌, ◌*◌, ◌≤◌, List, [], ◌∷◌, ◌++◌, Bool, true, false, cond, Option, Some, None, refl}
 use Rattle.std.proofs.Common.{sym, ap, ◌∙◌, arith, zero, suc, unwrap_or}
 use Rattle.std.specs.List.{list_all}
-use Rattle.std.proofs.lemmas.Bool.{and_parts, and_from, eqb-true, ne_eqb, leb-true}
+use Rattle.std.proofs.lemmas.Bool.{and_parts, and_from, cond_both, eqb-true, ne_eqb, leb-true}
 use Rattle.std.proofs.lemmas.List.{append-nil}
 use Rattle.tl_layout.specs.NumberField.{is_blank, is_digit, value_after, IsNumberField}
 use Rattle.tl_layout.specs.NumberReading.{drop_blanks, number_after, number_of}
@@ -38,25 +38,19 @@ rest_with n byte bytes value e r =
       value_is = r.value_is;
     }
 
-no_digits : (n : ℕ) (bytes : List ℕ) (value : ℕ) (b : Bool) → list_all is_blank bytes ≡ b → cond b (Some n) None ≡ Some value
-    → IsNumberRest n bytes value
-no_digits n bytes value true e h =
-    record { digits = []; after = bytes; spelled = refl; all_digits = refl; blanks_after = e; value_is = (cc) }
-no_digits n bytes value false e h = (cc)
-
-one_digit : (n byte : ℕ) (bytes : List ℕ) (value : ℕ) (b : Bool) (read : Option ℕ) → is_digit byte ≡ b
-    → (read ≡ Some value → IsNumberRest (10 * n + (byte - 48)) bytes value)
-    → cond b read (cond (list_all is_blank (byte ∷ bytes)) (Some n) None) ≡ Some value → IsNumberRest n (byte ∷ bytes) value
-one_digit n byte bytes value true read e more h = rest_with n byte bytes value e (more h)
-one_digit n byte bytes value false read e more h = no_digits n (byte ∷ bytes) value (list_all is_blank (byte ∷ bytes)) refl h
+no_digits : (n : ℕ) (bytes : List ℕ) (value : ℕ) → cond (list_all is_blank bytes) (Some n) None ≡ Some value → IsNumberRest n bytes value
+no_digits n bytes value =
+    cond_both (list_all is_blank bytes) (Some n) None (λ o. o ≡ Some value → IsNumberRest n bytes value)
+    (λ e h. record { digits = []; after = bytes; spelled = refl; all_digits = refl; blanks_after = e; value_is = (cc) }) (λ e h. (cc))
 
 pub number_after_found : (n : ℕ) (bytes : List ℕ) (value : ℕ) → number_after n bytes ≡ Some value → IsNumberRest n bytes value
 unfolding number_after
 number_after_found n [] value h =
     record { digits = []; after = []; spelled = refl; all_digits = refl; blanks_after = refl; value_is = (cc) }
 number_after_found n (byte ∷ bytes) value h =
-    one_digit n byte bytes value (is_digit byte) (number_after (10 * n + (byte - 48)) bytes) refl
-    (λ e. number_after_found (10 * n + (byte - 48)) bytes value e) h
+    cond_both (is_digit byte) _ _ (λ o. o ≡ Some value → IsNumberRest n (byte ∷ bytes) value)
+    (λ e h. rest_with n byte bytes value e (number_after_found (10 * n + (byte - 48)) bytes value h))
+    (λ e. no_digits n (byte ∷ bytes) value) h
 
 no_more : (n : ℕ) (after : List ℕ) → list_all is_blank after ≡ true → number_after n after ≡ Some n
 unfolding number_after

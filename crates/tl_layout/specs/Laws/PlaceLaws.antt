@@ -20,35 +20,56 @@ use Rattle.tl_layout.specs.FieldFaults.{gap}
 use Rattle.tl_layout.specs.declared.fault.FieldFault.{FieldFault}
 use Rattle.tl_layout.specs.declared.coordinate.TheConstants.{MOST_LONGITUDE, MOST_LATITUDE}
 
--- what places that were read hold: nothing, if an unused place came before them
-abbrev Found : {A : Type 0} → (ℕ → Option A → Type 0) → ℕ → Bool → ℕ → ℕ → List A → Type 0
-Found Spells width after_unused count column xs = (after_unused ≡ true → xs ≡ []) × SpellsPlaces Spells width count column xs
+-- two texts side by side
+pub pair_of_texts : (m n : ℕ) (a b : List ℕ) → IsText m a → IsText n b → IsText (m + n) (a ++ b)
+unfolding AreAllowed
+pair_of_texts m n a b s t =
+    let l = s.len in
+    let k = t.len in
+    record { len = length-append a b ∙ omega arith; allowed = All-append (λ b. IsTrue (is_allowed b)) a b s.allowed t.allowed }
 
-used_found : {A : Type 0} (Spells : ℕ → Option A → Type 0) (width count column : ℕ) (x : A) (xs : List A) (after_unused : Bool)
-    (rest : Result (List A) FieldFault) → Spells column (Some x)
-    → ((ys : List A) → rest ≡ Ok ys → Found Spells width false count (column + width) ys)
-    → cond after_unused (Err (gap column)) (and_then rest (λ ys. Ok (x ∷ ys))) ≡ Ok xs
-    → Found Spells width after_unused (suc count) column xs
-used_found Spells width count column x xs true rest s more h = (cc)
-used_found Spells width count column x xs false rest s more h =
-    let r = reads rest (λ ys. Ok (x ∷ ys)) xs h in
-    let P : List _ → Type 0 = λ zs. Found Spells width false (suc count) column zs in
-    subst P (ok_value (x ∷ r.value) xs r.gave) ((λ e. (cc)), (s, (more r.value r.was).1))
+-- ---- reading
 
-place_found : {A : Type 0} (Spells : ℕ → Option A → Type 0) (width count column : ℕ) (place : Option A) (xs : List A) (after_unused : Bool)
-    (unused used : Result (List A) FieldFault) → Spells column place
-    → ((ys : List A) → unused ≡ Ok ys → Found Spells width true count (column + width) ys)
-    → ((ys : List A) → used ≡ Ok ys → Found Spells width false count (column + width) ys)
-    → at_place place unused (λ x. cond after_unused (Err (gap column)) (and_then used (λ ys. Ok (x ∷ ys)))) ≡ Ok xs
-    → Found Spells width after_unused (suc count) column xs
-place_found Spells width count column None xs after_unused unused used s none some h =
-    let r = none xs h in
-    let empty : xs ≡ [] = r.0 refl in
-    let P : List _ → Type 0 = λ zs. SpellsPlaces Spells width (suc count) column zs in
-    let Q : List _ → Type 0 = λ zs. SpellsPlaces Spells width count (column + width) zs in
-    ((λ _. empty), subst P (sym empty) (s, subst Q empty r.1))
-place_found Spells width count column (Some x) xs after_unused unused used s none some h =
-    used_found Spells width count column x xs after_unused used s some h
+module _ {A : Type 0} (Spells : ℕ → Option A → Type 0) (width : ℕ) where
+  -- what places that were read hold: nothing, if an unused place came before them
+  abbrev Found : Bool → ℕ → ℕ → List A → Type 0
+  Found after_unused count column xs = (after_unused ≡ true → xs ≡ []) × SpellsPlaces Spells width count column xs
+
+  used_found : (count column : ℕ) (x : A) (xs : List A) (after_unused : Bool) (rest : Result (List A) FieldFault) → Spells column (Some x)
+      → ((ys : List A) → rest ≡ Ok ys → Found false count (column + width) ys)
+      → cond after_unused (Err (gap column)) (and_then rest (λ ys. Ok (x ∷ ys))) ≡ Ok xs → Found after_unused (suc count) column xs
+  used_found count column x xs true rest s more h = (cc)
+  used_found count column x xs false rest s more h =
+      let r = reads rest (λ ys. Ok (x ∷ ys)) xs h in
+      subst (Found false (suc count) column) (ok_value (x ∷ r.value) xs r.gave) ((λ e. (cc)), (s, (more r.value r.was).1))
+
+  place_found : (count column : ℕ) (place : Option A) (xs : List A) (after_unused : Bool) (unused used : Result (List A) FieldFault)
+      → Spells column place → ((ys : List A) → unused ≡ Ok ys → Found true count (column + width) ys)
+      → ((ys : List A) → used ≡ Ok ys → Found false count (column + width) ys)
+      → at_place place unused (λ x. cond after_unused (Err (gap column)) (and_then used (λ ys. Ok (x ∷ ys)))) ≡ Ok xs
+      → Found after_unused (suc count) column xs
+  place_found count column None xs after_unused unused used s none some h =
+      let r = none xs h in
+      let empty : xs ≡ [] = r.0 refl in (
+        (λ _. empty),
+        subst (SpellsPlaces Spells width (suc count) column) (sym empty) (s, subst (SpellsPlaces Spells width count (column + width)) empty r.1),
+      )
+  place_found count column (Some x) xs after_unused unused used s none some h = used_found count column x xs after_unused used s some h
+
+  -- the places spell at most as many items as there are places
+  pub places_len : (count column : ℕ) (xs : List A) → SpellsPlaces Spells width count column xs → length xs ≤ count
+  places_len zero column [] s = omega arith
+  places_len zero column (x ∷ xs) s = absurd s
+  places_len (suc count) column [] s = omega arith
+  places_len (suc count) column (x ∷ xs) s = let l = places_len count (column + width) xs s.1 in omega arith
+
+  -- each item has any property that its place guarantees
+  pub places_each : (P : A → Type 0) → ((column : ℕ) (x : A) → Spells column (Some x) → P x) → (count column : ℕ) (xs : List A)
+      → SpellsPlaces Spells width count column xs → AllByRecursion P xs
+  places_each P each zero column [] s = tt
+  places_each P each zero column (x ∷ xs) s = absurd s
+  places_each P each (suc count) column [] s = tt
+  places_each P each (suc count) column (x ∷ xs) s = (each column x s.0, places_each P each count (column + width) xs s.1)
 
 -- if a list is read, the places spell it
 pub places_found : {A : Type 0} (reading : ℕ → Result (Option A) FieldFault) (Spells : ℕ → Option A → Type 0)
@@ -57,9 +78,7 @@ pub places_found : {A : Type 0} (reading : ℕ → Result (Option A) FieldFault)
     → (after_unused ≡ true → xs ≡ []) × SpellsPlaces Spells width count column xs
 unfolding places_reading
 places_found reading Spells found width after_unused zero column xs h =
-    let empty : [] ≡ xs = ok_value [] xs h in
-    let P : List _ → Type 0 = λ zs. SpellsPlaces Spells width zero column zs in
-    ((λ _. sym empty), subst P empty tt)
+    let empty : [] ≡ xs = ok_value [] xs h in ((λ _. sym empty), subst (SpellsPlaces Spells width zero column) empty tt)
 places_found reading Spells found width after_unused (suc count) column xs h =
     let r = reads (reading column) _ xs h in
     place_found Spells width count column r.value xs after_unused _ _ (found column r.value r.was)
@@ -82,87 +101,65 @@ places_only reading Spells only width false (suc count) column (x ∷ xs) e s =
     reads_on (reading column) _ (Some x) _ (only column (Some x) s.0)
     (reads_on _ _ xs _ (places_only reading Spells only width false count (column + width) xs (λ h. (cc)) s.1) refl)
 
--- the places spell at most as many items as there are places
-pub places_len : {A : Type 0} (Spells : ℕ → Option A → Type 0) (width count column : ℕ) (xs : List A)
-    → SpellsPlaces Spells width count column xs → length xs ≤ count
-places_len Spells width zero column [] s = omega arith
-places_len Spells width zero column (x ∷ xs) s = absurd s
-places_len Spells width (suc count) column [] s = omega arith
-places_len Spells width (suc count) column (x ∷ xs) s = let l = places_len Spells width count (column + width) xs s.1 in omega arith
-
--- each item has any property that its place guarantees
-pub places_each : {A : Type 0} (Spells : ℕ → Option A → Type 0) (P : A → Type 0) → ((column : ℕ) (x : A) → Spells column (Some x) → P x)
-    → (width count column : ℕ) (xs : List A) → SpellsPlaces Spells width count column xs → AllByRecursion P xs
-places_each Spells P each width zero column [] s = tt
-places_each Spells P each width zero column (x ∷ xs) s = absurd s
-places_each Spells P each width (suc count) column [] s = tt
-places_each Spells P each width (suc count) column (x ∷ xs) s =
-    (each column x s.0, places_each Spells P each width count (column + width) xs s.1)
-
--- the texts of places are together a text of their total width
-pub places_text_is_text : {A : Type 0} (text : Option A → List ℕ) (width : ℕ) → ((place : Option A) → IsText width (text place))
-    → (count : ℕ) (xs : List A) → length xs ≤ count → IsText (count * width) (places_text text count xs)
-unfolding places_text AreAllowed
-places_text_is_text text width fits zero xs l = record { len = omega arith; allowed = All-nil (λ b. IsTrue (is_allowed b)) }
-places_text_is_text text width fits (suc count) [] l =
-    let rest = places_text_is_text text width fits count [] (omega arith) in
-    let first = fits None in
-    let first_len = first.len in
-    let rest_len = rest.len in
-    let e = length-append (text None) (places_text text count []) in
-    record {
-      len = grind arith;
-      allowed =
-          All-append (λ b. IsTrue (is_allowed b)) (text None) (places_text text count []) first.allowed rest.allowed;
-    }
-places_text_is_text text width fits (suc count) (x ∷ xs) l =
-    let rest = places_text_is_text text width fits count xs (omega arith) in
-    let first = fits (Some x) in
-    let first_len = first.len in
-    let rest_len = rest.len in
-    let e = length-append (text (Some x)) (places_text text count xs) in
-    record {
-      len = grind arith;
-      allowed =
-          All-append (λ b. IsTrue (is_allowed b)) (text (Some x)) (places_text text count xs) first.allowed rest.allowed;
-    }
+-- ---- the canonical text
 
 -- a place's text spells the place anywhere in a line
 abbrev pub IsSpelledAnywhere : {A : Type 0} → (List ℕ → ℕ → Option A → Type 0) → (Option A → List ℕ) → (A → Type 0) → Type 0
 IsSpelledAnywhere {A} Spells text Good = (before : List ℕ) (place : Option A) (after : List ℕ) → IfSome place Good
     → Spells (before ++ (text place ++ after)) (length before + 1) place
 
--- the canonical text of places spells them anywhere in a line
-pub places_again : {A : Type 0} (Spells : List ℕ → ℕ → Option A → Type 0) (text : Option A → List ℕ) (Good : A → Type 0) (width : ℕ)
-    → ((place : Option A) → IsText width (text place)) → IsSpelledAnywhere Spells text Good
-    → (before after : List ℕ) (count column : ℕ) (xs : List A) (line : List ℕ) → column ≡ length before + 1
-    → line ≡ before ++ (places_text text count xs ++ after) → length xs ≤ count → AllByRecursion Good xs
-    → SpellsPlaces (Spells line) width count column xs
-unfolding places_text
-places_again Spells text Good width fits again before after zero column [] line c e l g = tt
-places_again Spells text Good width fits again before after zero column (x ∷ xs) line c e l g = absurd (omega arith)
-places_again Spells text Good width fits again before after (suc count) column [] line c e l g =
-    let rest = places_text text count [] ++ after in
-    let whole = e ∙ ap (λ (t : List ℕ). before ++ t) (append_assoc (text None) (places_text text count []) after) in
-    let P : List ℕ → Type 0 = λ text. Spells text column None in
-    let Q : ℕ → Type 0 = λ c. Spells (before ++ (text None ++ rest)) c None in
-    let len = length-append before (text None) in
-    let wide = (fits None).len in (
-      subst P (sym whole) (subst Q (sym c) (again before None rest tt)),
-      places_again Spells text Good width fits again (before ++ text None) after count (column + width) [] line (omega arith) (whole
-          ∙ sym (append_assoc before (text None) rest)) (omega arith) tt,
-    )
-places_again Spells text Good width fits again before after (suc count) column (x ∷ xs) line c e l g =
-    let rest = places_text text count xs ++ after in
-    let whole = e ∙ ap (λ (t : List ℕ). before ++ t) (append_assoc (text (Some x)) (places_text text count xs) after) in
-    let P : List ℕ → Type 0 = λ text. Spells text column (Some x) in
-    let Q : ℕ → Type 0 = λ c. Spells (before ++ (text (Some x) ++ rest)) c (Some x) in
-    let len = length-append before (text (Some x)) in
-    let wide = (fits (Some x)).len in (
-      subst P (sym whole) (subst Q (sym c) (again before (Some x) rest g.0)),
-      places_again Spells text Good width fits again (before ++ text (Some x)) after count (column + width) xs line (omega arith) (whole
-          ∙ sym (append_assoc before (text (Some x)) rest)) (omega arith) g.1,
-    )
+module _ {A : Type 0} (text : Option A → List ℕ) (width : ℕ) (fits : (place : Option A) → IsText width (text place)) where
+  -- the texts of places are together a text of their total width
+  pub places_text_is_text : (count : ℕ) (xs : List A) → length xs ≤ count → IsText (count * width) (places_text text count xs)
+  unfolding places_text AreAllowed
+  places_text_is_text zero xs l = record { len = omega arith; allowed = All-nil (λ b. IsTrue (is_allowed b)) }
+  places_text_is_text (suc count) xs l = go xs (places_text_is_text count) l
+    where
+      wider : (place : Option A) (rest : List ℕ) → IsText (count * width) rest → IsText (suc count * width) (text place ++ rest)
+      wider place rest t = let sum : width + count * width ≡ suc count * width = grind arith in
+          subst (λ (w : ℕ). IsText w (text place ++ rest)) sum (pair_of_texts width (count * width) (text place) rest (fits place) t)
+
+      go : (xs : List A) → ((ys : List A) → length ys ≤ count → IsText (count * width) (places_text text count ys)) → length xs ≤ suc count
+          → IsText (suc count * width) (places_text text (suc count) xs)
+      go [] fewer l = wider None _ (fewer [] (omega arith))
+      go (x ∷ xs) fewer l = wider (Some x) _ (fewer xs (omega arith))
+
+  module _ (Spells : List ℕ → ℕ → Option A → Type 0) (Good : A → Type 0) (again : IsSpelledAnywhere Spells text Good) where
+    -- the text of a place spells it, and is followed by the texts of the next places
+    record IsFirstPlace (before after : List ℕ) (column : ℕ) (place : Option A) (rest line : List ℕ) : Type 0 where
+      spelled : Spells line column place
+      next : column + width ≡ length (before ++ text place) + 1
+      later : line ≡ (before ++ text place) ++ (rest ++ after)
+
+    first_place : (before after : List ℕ) (column : ℕ) (place : Option A) (rest line : List ℕ) → column ≡ length before + 1
+        → line ≡ before ++ ((text place ++ rest) ++ after) → IfSome place Good → IsFirstPlace before after column place rest line
+    first_place before after column place rest line c e g =
+        let whole = e ∙ ap (λ (t : List ℕ). before ++ t) (append_assoc (text place) rest after) in
+        let len = length-append before (text place) in
+        let wide = (fits place).len in
+        record {
+          spelled = rw (whole, c) (again before place (rest ++ after) g);
+          next = omega arith;
+          later = whole ∙ sym (append_assoc before (text place) (rest ++ after));
+        }
+
+    -- the canonical text of places spells them anywhere in a line
+    pub places_again : (before after : List ℕ) (count column : ℕ) (xs : List A) (line : List ℕ) → column ≡ length before + 1
+        → line ≡ before ++ (places_text text count xs ++ after) → length xs ≤ count → AllByRecursion Good xs
+        → SpellsPlaces (Spells line) width count column xs
+    unfolding places_text
+    places_again before after zero column [] line c e l g = tt
+    places_again before after zero column (x ∷ xs) line c e l g = absurd (omega arith)
+    places_again before after (suc count) column [] line c e l g =
+        let first = first_place before after column None (places_text text count []) line c e tt in (
+          first.spelled,
+          places_again (before ++ text None) after count (column + width) [] line first.next first.later (omega arith) tt,
+        )
+    places_again before after (suc count) column (x ∷ xs) line c e l g =
+        let first = first_place before after column (Some x) (places_text text count xs) line c e g.0 in (
+          first.spelled,
+          places_again (before ++ text (Some x)) after count (column + width) xs line first.next first.later (omega arith) g.1,
+        )
 
 -- columns hold the text that follows as many bytes as there are columns before
 pub columns_behind : (before text after : List ℕ) (first last : ℕ) → first ≡ length before + 1 → last ≡ length before + length text
@@ -185,13 +182,6 @@ two_parts before long lat after l m =
       ap (columns (length before + 1 + 10) (length before + 1 + 18)) (left ∙ right)
           ∙ columns_behind (before ++ long) lat after (length before + 1 + 10) (length before + 1 + 18) (omega arith) (omega arith),
     )
-
-pub pair_of_texts : (m n : ℕ) (a b : List ℕ) → IsText m a → IsText n b → IsText (m + n) (a ++ b)
-unfolding AreAllowed
-pair_of_texts m n a b s t =
-    let l = s.len in
-    let k = t.len in
-    record { len = length-append a b ∙ omega arith; allowed = All-append (λ b. IsTrue (is_allowed b)) a b s.allowed t.allowed }
 
 number_good : (place : Option ℕ) → IfSome place (IsNumber 8) → IsNumberOrNone 8 place
 number_good None g = tt

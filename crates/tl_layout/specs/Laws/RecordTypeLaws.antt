@@ -3,23 +3,17 @@ use Rattle.std.proofs.Common.{◌≡◌, ◌==◌, ◌⊎◌, Bool, true, false,
 use Rattle.std.proofs.lemmas.Bool.{eq-eqb}
 use Rattle.tl_layout.specs.RecordText.{type_of, FitsRecord, spelling_of}
 use Rattle.tl_layout.specs.RecordTypes.{RecordType, Type1, Type2, Type4, Type5, Type6, Type7, Type8, TypeI, TypeP, FieldsOf, byte_of}
-use Rattle.tl_layout.specs.RecordTypes.{line_length, table_of, SpellsFields, reading_of, record_of, as_type}
-use Rattle.tl_layout.specs.Laws.TypeLaws.{AreLaws, type_1_laws, type_2_laws, type_4_laws, type_5_laws, type_6_laws, type_7_laws, type_8_laws}
-use Rattle.tl_layout.specs.Laws.TypeLaws.{type_i_laws, type_p_laws}
+use Rattle.tl_layout.specs.RecordTypes.{FitsFields, fields_spelling, record_of, own_type, as_type}
 use Rattle.tl_layout.specs.declared.record_type.Record.{Record}
-use Rattle.tl_layout.specs.declared.record_type.Record.TheVariants.{One, Two, Four, Five, Six, Seven, Eight, I, P}
+use Rattle.tl_layout.specs.declared.record_type.Record.TheVariants.{One}
 
 -- a record is the record of its type with its fields
 pub typed : (r : Record) → (t : RecordType) × (fields : FieldsOf t) × (r ≡ record_of t fields)
-typed (One r) = (Type1, r, refl)
-typed (Two r) = (Type2, r, refl)
-typed (Four r) = (Type4, r, refl)
-typed (Five r) = (Type5, r, refl)
-typed (Six r) = (Type6, r, refl)
-typed (Seven r) = (Type7, r, refl)
-typed (Eight r) = (Type8, r, refl)
-typed (I r) = (TypeI, r, refl)
-typed (P r) = (TypeP, r, refl)
+typed r = ((own_type r).0, (own_type r).1, is r)
+  where
+    is : (r : Record) → r ≡ record_of (own_type r).0 (own_type r).1
+    is (One r) = refl
+    is _ = refl
 
 -- all records have a property that the records of each type have
 pub every_record : (Holds : Record → Type 0) → ((t : RecordType) (fields : FieldsOf t) → Holds (record_of t fields))
@@ -31,6 +25,18 @@ pub type_of_record : (t : RecordType) (fields : FieldsOf t) → type_of (record_
 unfolding type_of
 type_of_record Type1 fields = refl
 type_of_record _ fields = refl
+
+-- the canonical spelling of a record of a type is that of its fields
+pub spelling_of_record : (t : RecordType) (fields : FieldsOf t) → spelling_of (record_of t fields) ≡ fields_spelling t fields
+unfolding spelling_of
+spelling_of_record Type1 fields = refl
+spelling_of_record _ fields = refl
+
+-- a record of a type fits if its fields do
+pub fitting_record : (t : RecordType) (fields : FieldsOf t) → FitsFields t fields → FitsRecord (record_of t fields)
+unfolding FitsRecord
+fitting_record Type1 fields f = f
+fitting_record _ fields f = f
 
 -- records of a type are the same only if their fields are
 pub record_exact : (t : RecordType) (fields others : FieldsOf t) → record_of t fields ≡ record_of t others → fields ≡ others
@@ -94,17 +100,3 @@ selected_by_byte t = every_record (λ r. (type_of r == byte_of t) ≡ is_selecte
     (every_type t (λ u. (fields : FieldsOf u) → (type_of (record_of u fields) == byte_of t) ≡ is_selected (as_type t (record_of u fields)))
     (λ fields. eq-eqb (type_of (record_of t fields)) (byte_of t) (type_of_record t fields) ∙ sym (ap is_selected (own_selected t fields)))
     (λ u apart fields. ap (λ b. b == byte_of t) (type_of_record u fields) ∙ apart.0 ∙ sym (ap is_selected (apart.1 fields))))
-
--- the laws of the layout of each type
-pub layout_laws : (t : RecordType) → AreLaws (byte_of t) (line_length t) (table_of t) (λ r. FitsRecord (record_of t r)) (SpellsFields t)
-    (reading_of t) (λ r. spelling_of (record_of t r))
-unfolding FitsRecord spelling_of
-layout_laws Type1 = type_1_laws
-layout_laws Type2 = type_2_laws
-layout_laws Type4 = type_4_laws
-layout_laws Type5 = type_5_laws
-layout_laws Type6 = type_6_laws
-layout_laws Type7 = type_7_laws
-layout_laws Type8 = type_8_laws
-layout_laws TypeI = type_i_laws
-layout_laws TypeP = type_p_laws

@@ -7,39 +7,39 @@ use Rattle.tl_layout.specs.Laws.FieldLaws.{reads_on, number_or_none_at_found, nu
 use Rattle.tl_layout.specs.Laws.FieldLaws.{point_or_none_at_only}
 use Rattle.tl_layout.specs.ColumnTable.{Kind, Number, NumberOrNone, Pair, PairOrNone, NumberPlaces, PointPlaces, Opaque, Filler, Row}
 use Rattle.tl_layout.specs.FieldFaults.{IsNumberOrNoneFault, IsPairOrNoneFault, IsValueFault, IsWellFormed, IsFieldFault, IsLeftmostFault}
-use Rattle.tl_layout.specs.TableReading.{Makes, rows_reading}
-use Rattle.tl_layout.specs.Laws.ValueLaws.{value_reading, reading_goes_on, value_found, value_only, fails, fails_first}
+use Rattle.tl_layout.specs.TableReading.{Makes, value_reading, rows_reading}
+use Rattle.tl_layout.specs.Laws.ValueLaws.{value_found, value_only, fails, fails_first}
 use Rattle.tl_layout.specs.Laws.ValueLaws.{nothing_spelled, number_reported, number_or_none_reported, point_reported, point_or_none_reported, one_reported}
 use Rattle.tl_layout.specs.Laws.PlaceFaultLaws.{places_fault_found, places_fault_only}
 use Rattle.tl_layout.specs.declared.fault.FieldFault.{FieldFault}
+
+-- the faults of a number or none, and of a point or none, as fields of their own or places
+number_or_none_fault_found : (line : List ℕ) (first last : ℕ) (fault : FieldFault) → number_or_none_at first last line ≡ Err fault
+    → IsNumberOrNoneFault line first last fault
+number_or_none_fault_found line first last fault h =
+    record { none_spelled = nothing_spelled line first last NumberOrNone fault h; reported = number_or_none_reported first last line fault h }
+
+pair_or_none_fault_found : (line : List ℕ) (first : ℕ) (fault : FieldFault) → point_or_none_at first line ≡ Err fault
+    → IsPairOrNoneFault line first fault
+pair_or_none_fault_found line first fault h =
+    record { none_spelled = nothing_spelled line first 0 PairOrNone fault h; reported = point_or_none_reported line first fault h }
 
 -- if reading fails, the field is at fault
 pub value_fault_found : (line : List ℕ) (first last : ℕ) (kind : Kind) (fault : FieldFault) → value_reading line first last kind ≡ Err fault
     → IsValueFault line first last kind fault
 value_fault_found line first last Number fault h =
     record { none_spelled = nothing_spelled line first last Number fault h; reported = number_reported first last line fault h }
-value_fault_found line first last NumberOrNone fault h =
-    record { none_spelled = nothing_spelled line first last NumberOrNone fault h; reported = number_or_none_reported first last line fault h }
+value_fault_found line first last NumberOrNone fault h = number_or_none_fault_found line first last fault h
 value_fault_found line first last Pair fault h =
     record { none_spelled = nothing_spelled line first last Pair fault h; reported = point_reported line first fault h }
-value_fault_found line first last PairOrNone fault h =
-    record { none_spelled = nothing_spelled line first last PairOrNone fault h; reported = point_or_none_reported line first fault h }
+value_fault_found line first last PairOrNone fault h = pair_or_none_fault_found line first fault h
 value_fault_found line first last NumberPlaces fault h =
     places_fault_found (λ column. number_or_none_at column (column + 7) line) (SpellsNumberPlace line)
-    (λ column. IsNumberOrNoneFault line column (column + 7)) (λ column place. number_or_none_at_found column (column + 7) line place)
-    (λ column f e. record {
-      none_spelled = nothing_spelled line column (column + 7) NumberOrNone f e;
-      reported =
-          number_or_none_reported column (column + 7) line f e;
-    }) 8 5 first fault h
+    (λ column. IsNumberOrNoneFault line column (column + 7)) (λ column. number_or_none_at_found column (column + 7) line)
+    (λ column. number_or_none_fault_found line column (column + 7)) 8 5 first fault h
 value_fault_found line first last PointPlaces fault h =
     places_fault_found (λ column. point_or_none_at column line) (SpellsPointPlace line) (IsPairOrNoneFault line)
-    (λ column place. point_or_none_at_found column line place)
-    (λ column f e. record {
-      none_spelled = nothing_spelled line column (column + 18) PairOrNone f e;
-      reported =
-          point_or_none_reported line column f e;
-    }) 19 10 first fault h
+    (λ column. point_or_none_at_found column line) (pair_or_none_fault_found line) 19 10 first fault h
 value_fault_found line first last Opaque fault h = (cc)
 value_fault_found line first last Filler fault h = (cc)
 
@@ -53,31 +53,36 @@ fails_reported {A} Spells Reported read found reported one fault none t = go rea
     go (Ok value) e = absurd (none value (found value e))
     go (Err f) e = e ∙ ap (λ (f : FieldFault). Err f) (one f fault (reported f e) t)
 
+number_or_none_fault_only : (line : List ℕ) (first last : ℕ) (fault : FieldFault) → IsNumberOrNoneFault line first last fault
+    → number_or_none_at first last line ≡ Err fault
+number_or_none_fault_only line first last fault h =
+    fails_reported _ _ (number_or_none_at first last line) (value_found line first last NumberOrNone) (number_or_none_reported first last line)
+    (λ f g a b. a ∙ sym b) fault h.none_spelled h.reported
+
+pair_or_none_fault_only : (line : List ℕ) (first : ℕ) (fault : FieldFault) → IsPairOrNoneFault line first fault
+    → point_or_none_at first line ≡ Err fault
+pair_or_none_fault_only line first fault h =
+    fails_reported _ _ (point_or_none_at first line) (value_found line first 0 PairOrNone) (point_or_none_reported line first)
+    (one_reported line first) fault h.none_spelled h.reported
+
 -- if the field is at fault, reading fails with its fault
 pub value_fault_only : (line : List ℕ) (first last : ℕ) (kind : Kind) (fault : FieldFault) → IsValueFault line first last kind fault
     → value_reading line first last kind ≡ Err fault
 value_fault_only line first last Number fault h =
     fails_reported _ _ (number_at first last line) (value_found line first last Number) (number_reported first last line) (λ f g a b. a
     ∙ sym b) fault h.none_spelled h.reported
-value_fault_only line first last NumberOrNone fault h =
-    fails_reported _ _ (number_or_none_at first last line) (value_found line first last NumberOrNone) (number_or_none_reported first last line)
-    (λ f g a b. a ∙ sym b) fault h.none_spelled h.reported
+value_fault_only line first last NumberOrNone fault h = number_or_none_fault_only line first last fault h
 value_fault_only line first last Pair fault h =
     fails_reported _ _ (point_at first line) (value_found line first last Pair) (point_reported line first)
     (one_reported line first) fault h.none_spelled h.reported
-value_fault_only line first last PairOrNone fault h =
-    fails_reported _ _ (point_or_none_at first line) (value_found line first last PairOrNone) (point_or_none_reported line first)
-    (one_reported line first) fault h.none_spelled h.reported
+value_fault_only line first last PairOrNone fault h = pair_or_none_fault_only line first fault h
 value_fault_only line first last NumberPlaces fault h =
     places_fault_only (λ column. number_or_none_at column (column + 7) line) (SpellsNumberPlace line)
-    (λ column. IsNumberOrNoneFault line column (column + 7)) (λ column place. number_or_none_at_only column (column + 7) line place)
-    (λ column f e. fails_reported _ _ (number_or_none_at column (column + 7) line) (value_found line column (column + 7) NumberOrNone)
-    (number_or_none_reported column (column + 7) line) (λ f g a b. a ∙ sym b) f e.none_spelled e.reported) 8 5 first fault h
+    (λ column. IsNumberOrNoneFault line column (column + 7)) (λ column. number_or_none_at_only column (column + 7) line)
+    (λ column. number_or_none_fault_only line column (column + 7)) 8 5 first fault h
 value_fault_only line first last PointPlaces fault h =
     places_fault_only (λ column. point_or_none_at column line) (SpellsPointPlace line) (IsPairOrNoneFault line)
-    (λ column place. point_or_none_at_only column line place)
-    (λ column f e. fails_reported _ _ (point_or_none_at column line) (value_found line column (column + 18) PairOrNone)
-    (point_or_none_reported line column) (one_reported line column) f e.none_spelled e.reported) 19 10 first fault h
+    (λ column. point_or_none_at_only column line) (pair_or_none_fault_only line) 19 10 first fault h
 value_fault_only line first last Opaque fault h = absurd h
 value_fault_only line first last Filler fault h = absurd h
 
@@ -86,8 +91,7 @@ pub leftmost_found : {R A : Type 0} (rows : List (Row R)) (make : Makes rows A) 
     → rows_reading rows make line ≡ Err fault → IsLeftmostFault rows line fault
 leftmost_found [] make line fault h = absurd (cc)
 leftmost_found {R} {A} (row ∷ rows) make line fault h =
-    elim (fails (value_reading line row.first row.last row.kind) _ fault
-    (sym (reading_goes_on line row.first row.last row.kind (λ value. rows_reading rows (make value) line)) ∙ h)) [
+    elim (fails (value_reading line row.first row.last row.kind) _ fault h) [
       | inl e ↦ record {
         before = [];
         row = row;
@@ -114,10 +118,9 @@ fails_at : {R A : Type 0} (before : List (Row R)) (row : Row R) (after : List (R
     (line : List ℕ) (fault : FieldFault) → AllByRecursion (IsWellFormed line) before → IsFieldFault line row fault
     → rows_reading (before ++ row ∷ after) make line ≡ Err fault
 fails_at [] row after make line fault w f =
-    reading_goes_on line row.first row.last row.kind _ ∙ fails_first _ _ fault (value_fault_only line row.first row.last row.kind fault f)
+    fails_first _ _ fault (value_fault_only line row.first row.last row.kind fault f)
 fails_at (first ∷ before) row after make line fault w f =
-    reading_goes_on line first.first first.last first.kind _
-    ∙ reads_on _ _ w.0.0 _ (value_only line first.first first.last first.kind w.0.0 w.0.1)
+    reads_on _ _ w.0.0 _ (value_only line first.first first.last first.kind w.0.0 w.0.1)
     (fails_at before row after (make w.0.0) line fault w.1 f)
 
 -- reading a line fails with the leftmost fault

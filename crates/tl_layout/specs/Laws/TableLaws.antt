@@ -1,6 +1,6 @@
 -- The laws of a record type, derived from its column table.
-use Rattle.std.proofs.Common.{◌≡◌, ℕ, ◌+◌, ◌-◌, ◌≤◌, List, [], ◌∷◌, ◌++◌, length, true, Some, Ok, refl, sym, ap, ◌∙◌, subst}
-use Rattle.std.proofs.Common.{arith, codes, unwrap_or, append_assoc, ◌&&◌, IsTrue, nat_eq}
+use Rattle.std.proofs.Common.{◌≡◌, ℕ, ◌+◌, ◌-◌, ◌≤◌, List, [], ◌∷◌, ◌++◌, length, true, Option, Some, IfSome, Ok, refl, sym, ap, ◌∙◌, subst}
+use Rattle.std.proofs.Common.{suc, arith, codes, unwrap_or, append_assoc, ◌&&◌, IsTrue, nat_eq}
 use Rattle.std.proofs.lemmas.Bool.{and_parts, eqb-true, leb-true}
 use Rattle.std.proofs.lemmas.List.{length-append}
 use Rattle.std.proofs.lemmas.List.Elements.{All-append, All-nil, All-cons}
@@ -9,12 +9,12 @@ use Rattle.tl_layout.specs.Laws.ByteLaws.{blanks_are_text, text_2006}
 use Rattle.tl_layout.specs.Columns.{joined}
 use Rattle.tl_layout.specs.Laws.ColumnLaws.{joined-before, columns_of_text}
 use Rattle.tl_layout.specs.Numbers.{IsNumber}
-use Rattle.tl_layout.specs.Coordinates.{IsOnMap}
+use Rattle.tl_layout.specs.Coordinates.{Coordinates, IsOnMap}
 use Rattle.tl_layout.specs.Laws.NumberTextLaws.{number_text_is_text}
 use Rattle.tl_layout.specs.FieldMeaning.{SpellsNumberPlace, SpellsPointPlace}
 use Rattle.tl_layout.specs.FieldTexts.{long_text, lat_text, number_place_text, point_place_text, value_texts, rows_texts, rows_spelling}
 use Rattle.tl_layout.specs.Laws.FieldLaws.{reads, reads_on, ok_value, number_fits, number_or_none_fits, number_again}
-use Rattle.tl_layout.specs.Laws.FieldLaws.{number_or_none_again, point_on_map, point_or_none_on_map, point_or_none_again, point_again}
+use Rattle.tl_layout.specs.Laws.FieldLaws.{number_or_none_again, point_on_map, point_or_none_on_map, point_or_none_again}
 use Rattle.tl_layout.specs.Laws.FieldLaws.{long_text_is_text, lat_text_is_text}
 use Rattle.tl_layout.specs.Laws.PlaceLaws.{places_len, places_each, number_place_fits, places_text_is_text, places_again}
 use Rattle.tl_layout.specs.Laws.PlaceLaws.{number_place_again, number_place_is_text, point_place_again, point_place_is_text}
@@ -22,8 +22,8 @@ use Rattle.tl_layout.specs.Laws.PlaceLaws.{columns_behind, two_parts, pair_of_te
 use Rattle.tl_layout.specs.ColumnTable.{Kind, Number, NumberOrNone, Pair, PairOrNone, NumberPlaces, PointPlaces, Opaque, Filler}
 use Rattle.tl_layout.specs.ColumnTable.{ValueOf, Row, width_of, SpellsValue, SpellsField, SpellsRows, FitsValue, FitsRows}
 use Rattle.tl_layout.specs.ColumnTable.{is_suited, is_laid_out}
-use Rattle.tl_layout.specs.TableReading.{Makes, rows_reading}
-use Rattle.tl_layout.specs.Laws.ValueLaws.{value_reading, reading_goes_on, value_found, value_only}
+use Rattle.tl_layout.specs.TableReading.{Makes, value_reading, rows_reading}
+use Rattle.tl_layout.specs.Laws.ValueLaws.{value_found, value_only}
 use Rattle.tl_layout.specs.CoordinateReading.{within}
 
 -- ---- the values of a record
@@ -66,8 +66,7 @@ rows_found : {R A : Type 0} (rows : List (Row R)) (make : Makes rows A) (line : 
     → rows_reading rows make line ≡ Ok answer → WasRead rows make line answer
 rows_found [] make line answer h = record { values = tt; spelled = tt; gave = ok_value make answer h }
 rows_found (row ∷ rows) make line answer h =
-    let first = reads (value_reading line row.first row.last row.kind) _ answer
-    (sym (reading_goes_on line row.first row.last row.kind (λ value. rows_reading rows (make value) line)) ∙ h) in
+    let first = reads (value_reading line row.first row.last row.kind) _ answer h in
     let later = rows_found rows (make first.value) line answer first.gave in
     record {
       values = (first.value, later.values);
@@ -80,8 +79,7 @@ rows_only : {R A : Type 0} (rows : List (Row R)) (make : Makes rows A) (line : L
     → rows_reading rows make line ≡ Ok (made rows make values)
 rows_only [] make line values s = refl
 rows_only (row ∷ rows) make line values s =
-    reading_goes_on line row.first row.last row.kind (λ value. rows_reading rows (make value) line)
-    ∙ reads_on _ _ values.0 _ (value_only line row.first row.last row.kind values.0 s.0) (rows_only rows (make values.0) line values.1 s.1)
+    reads_on _ _ values.0 _ (value_only line row.first row.last row.kind values.0 s.0) (rows_only rows (make values.0) line values.1 s.1)
 
 spelled_rows : {R : Type 0} (rows : List (Row R)) (line : List ℕ) (r : R) → AreSpelled line rows (values_of rows r) → SpellsRows rows line r
 spelled_rows [] line r s = tt
@@ -144,11 +142,11 @@ value_fits len line t first last PairOrNone from within suited point s =
     point_or_none_on_map (columns first (first + 9) line) (columns (first + 10) (first + 18) line) point s
 value_fits len line t first last NumberPlaces from within suited numbers s = (
   places_len (SpellsNumberPlace line) 8 5 first numbers s,
-  places_each (SpellsNumberPlace line) (IsNumber 8) (number_place_fits line) 8 5 first numbers s,
+  places_each (SpellsNumberPlace line) 8 (IsNumber 8) (number_place_fits line) 5 first numbers s,
 )
 value_fits len line t first last PointPlaces from within suited points s = (
   places_len (SpellsPointPlace line) 19 10 first points s,
-  places_each (SpellsPointPlace line) IsOnMap (λ column point. point_on_map _ _ point) 19 10 first points s,
+  places_each (SpellsPointPlace line) 19 IsOnMap (λ column point. point_on_map _ _ point) 10 first points s,
 )
 value_fits len line t first last Opaque from within suited text s =
     let o = ordered first last Opaque suited in
@@ -169,36 +167,38 @@ rows_fit len line t (row ∷ rows) next from h r s =
 
 -- ---- the canonical texts
 
-long_and_lat : (a b : List ℕ) → IsText 10 a → IsText 9 b → IsText 19 (a ++ b)
-long_and_lat a b s t = pair_of_texts 10 9 a b s t
+-- a longitude and a latitude, or blanks, side by side
+pair_text : (point : Option Coordinates) → IsText 19 (long_text point ++ lat_text point)
+pair_text point = pair_of_texts 10 9 _ _ (long_text_is_text point) (lat_text_is_text point)
+
+-- a text fills columns that are as many
+fills : (first last more : ℕ) (text : List ℕ) → nat_eq last (first + more) ≡ true → IsText (suc more) text → IsText (last + 1 - first) text
+fills first last more text suited t =
+    let e = eqb-true last (first + more) suited in
+    let wide : suc more ≡ last + 1 - first = omega arith in
+    subst (λ (w : ℕ). IsText w text) wide t
 
 -- the canonical texts of a value fill its columns
 value_text : (first last : ℕ) (kind : Kind) → is_suited first last kind ≡ true → (value : ValueOf kind)
     → FitsValue (last + 1 - first) kind value → IsText (last + 1 - first) (joined [] (value_texts (last + 1 - first) kind value))
 value_text first last Number suited n f = number_text_is_text (last + 1 - first) n
 value_text first last NumberOrNone suited n f = number_text_is_text (last + 1 - first) (unwrap_or n 0)
-value_text first last Pair suited point f =
-    let e = eqb-true last (first + 18) suited in
-    let wide : 19 ≡ last + 1 - first = omega arith in
-    subst (λ (w : ℕ). IsText w (joined [] (value_texts w Pair point))) wide
-    (long_and_lat _ _ (long_text_is_text (Some point)) (lat_text_is_text (Some point)))
-value_text first last PairOrNone suited point f =
-    let e = eqb-true last (first + 18) suited in
-    let wide : 19 ≡ last + 1 - first = omega arith in
-    subst (λ (w : ℕ). IsText w (joined [] (value_texts w PairOrNone point))) wide
-    (long_and_lat _ _ (long_text_is_text point) (lat_text_is_text point))
+value_text first last Pair suited point f = fills first last 18 _ suited (pair_text (Some point))
+value_text first last PairOrNone suited point f = fills first last 18 _ suited (pair_text point)
 value_text first last NumberPlaces suited numbers f =
-    let e = eqb-true last (first + 39) suited in
-    let wide : 40 ≡ last + 1 - first = omega arith in
-    subst (λ (w : ℕ). IsText w (joined [] (value_texts w NumberPlaces numbers))) wide
-    (places_text_is_text number_place_text 8 number_place_is_text 5 numbers f.0)
+    fills first last 39 _ suited (places_text_is_text number_place_text 8 number_place_is_text 5 numbers f.0)
 value_text first last PointPlaces suited points f =
-    let e = eqb-true last (first + 189) suited in
-    let wide : 190 ≡ last + 1 - first = omega arith in
-    subst (λ (w : ℕ). IsText w (joined [] (value_texts w PointPlaces points))) wide
-    (places_text_is_text point_place_text 19 point_place_is_text 10 points f.0)
+    fills first last 189 _ suited (places_text_is_text point_place_text 19 point_place_is_text 10 points f.0)
 value_text first last Opaque suited text f = f
 value_text first last Filler suited value f = blanks_are_text (last + 1 - first)
+
+-- columns that hold the canonical texts of a point or none spell it
+pair_again : (before after : List ℕ) (first : ℕ) → first ≡ length before + 1 → (point : Option Coordinates) → IfSome point IsOnMap
+    → SpellsValue (before ++ ((long_text point ++ lat_text point) ++ after)) first 0 PairOrNone point
+pair_again before after first at point f =
+    let line = before ++ ((long_text point ++ lat_text point) ++ after) in
+    let parts = two_parts before (long_text point) (lat_text point) after (long_text_is_text point).len (lat_text_is_text point).len in
+    subst (λ (c : ℕ). SpellsValue line c 0 PairOrNone point) (sym at) (point_or_none_again point _ _ parts.0 parts.1 f)
 
 -- columns that hold the canonical texts of a value spell it
 value_again : (before after : List ℕ) (first last : ℕ) (kind : Kind) → first ≡ length before + 1 → is_suited first last kind ≡ true
@@ -212,20 +212,13 @@ value_again before after first last NumberOrNone at suited n f =
     let o = ordered first last NumberOrNone suited in
     let l = (number_text_is_text (last + 1 - first) (unwrap_or n 0)).len in
     number_or_none_again (last + 1 - first) n _ (columns_behind before _ after first last at (omega arith)) f
-value_again before after first last Pair at suited point f =
-    let line = before ++ ((long_text (Some point) ++ lat_text (Some point)) ++ after) in
-    let parts = two_parts before (long_text (Some point)) (lat_text (Some point)) after (long_text_is_text (Some point)).len
-    (lat_text_is_text (Some point)).len in
-    subst (λ (c : ℕ). SpellsValue line c last Pair point) (sym at) (point_again point _ _ parts.0 parts.1 f)
-value_again before after first last PairOrNone at suited point f =
-    let line = before ++ ((long_text point ++ lat_text point) ++ after) in
-    let parts = two_parts before (long_text point) (lat_text point) after (long_text_is_text point).len (lat_text_is_text point).len in
-    subst (λ (c : ℕ). SpellsValue line c last PairOrNone point) (sym at) (point_or_none_again point _ _ parts.0 parts.1 f)
+value_again before after first last Pair at suited point f = pair_again before after first at (Some point) f
+value_again before after first last PairOrNone at suited point f = pair_again before after first at point f
 value_again before after first last NumberPlaces at suited numbers f =
-    places_again SpellsNumberPlace number_place_text
-    (IsNumber 8) 8 number_place_is_text number_place_again before after 5 first numbers _ at refl f.0 f.1
+    places_again number_place_text 8 number_place_is_text SpellsNumberPlace (IsNumber 8) number_place_again before after
+    5 first numbers _ at refl f.0 f.1
 value_again before after first last PointPlaces at suited points f =
-    places_again SpellsPointPlace point_place_text IsOnMap 19 point_place_is_text point_place_again before after
+    places_again point_place_text 19 point_place_is_text SpellsPointPlace IsOnMap point_place_again before after
     10 first points _ at refl f.0 f.1
 value_again before after first last Opaque at suited text f =
     let o = ordered first last Opaque suited in

@@ -16,11 +16,12 @@ use Rattle.tl_layout.specs.Laws.PieceLaws.{pieces_join, pieces_of_part}
 use Rattle.tl_layout.specs.Pieces.{pieces_from}
 use Rattle.tl_layout.specs.Laws.PlaceLaws.{columns_behind, pair_of_texts}
 use Rattle.tl_layout.specs.RecordTables.{rtype_1}
-use Rattle.tl_layout.specs.Type1.{FitsType1, type_1_reading, type_1_short_reading, type_1_spelling}
+use Rattle.tl_layout.specs.RecordTypes.{Type1, FitsFields, fields_spelling, make_of, reading_of}
+use Rattle.tl_layout.specs.Type1.{type_1_short_reading}
 use Rattle.tl_layout.specs.Type1Columns.{body_1_of, body_1_text}
 use Rattle.tl_layout.specs.Type1Groups.{FitsBody1, body_1_at, body_1_texts, entities_at, point_texts}
 use Rattle.tl_layout.specs.Laws.Type1Laws.{type_1_fits, type_1_reading_is_short}
-use Rattle.tl_layout.specs.Laws.TypeLaws.{type_1_laws}
+use Rattle.tl_layout.specs.Laws.TypeLaws.{layout_laws}
 use Rattle.tl_layout.specs.declared.type1.fields.Body1Fields.{Body1Fields}
 
 -- the widths of the fields, from column 16 to column 190
@@ -29,42 +30,16 @@ widths =
     1 ∷ 1 ∷ 2 ∷ 30 ∷ 4 ∷ 2 ∷ 3 ∷ 11 ∷ 11 ∷ 11 ∷ 11 ∷ 1 ∷ 1 ∷ 1 ∷ 1 ∷ 5 ∷ 5 ∷ 5 ∷ 5 ∷ 1 ∷ 1 ∷ 1 ∷ 1
     ∷ 2 ∷ 2 ∷ 3 ∷ 3 ∷ 5 ∷ 5 ∷ 5 ∷ 5 ∷ 5 ∷ 5 ∷ 6 ∷ 6 ∷ 4 ∷ 4 ∷ []
 
+abbrev somewhere : Coordinates
+somewhere = record { long = pos 1; lat = pos 1 }
+
 -- the content made from these texts
 abbrev content : List (List ℕ) → Body1Fields
 content texts =
     let text : ℕ → List ℕ = λ at. get_or texts at [] in
-    record {
-      side1 = text 0;
-      source = text 1;
-      name = record { fedirp = text 2; fename = text 3; fetype = text 4; fedirs = text 5 };
-      cfcc = text 6;
-      ranges = record {
-        fraddl = text 7;
-        toaddl = text 8;
-        fraddr = text 9;
-        toaddr = text 10;
-        friaddl = text 11;
-        toiaddl = text 12;
-        friaddr = text 13;
-        toiaddr = text 14;
-        zip = record { left = text 15; right = text 16 };
-      };
-      native_areas = record {
-        aianhhfp = record { left = text 17; right = text 18 };
-        aihhtli = record { left = text 19; right = text 20 };
-      };
-      census1 = text 21;
-      census2 = text 22;
-      entities = record {
-        state = record { left = text 23; right = text 24 };
-        county = record { left = text 25; right = text 26 };
-        cousub = record { left = text 27; right = text 28 };
-        submcd = record { left = text 29; right = text 30 };
-        place = record { left = text 31; right = text 32 };
-        tract = record { left = text 33; right = text 34 };
-        block = record { left = text 35; right = text 36 };
-      };
-    }
+    (make_of Type1 1 (text 0) (text 1) (text 2) (text 3) (text 4) (text 5) (text 6) (text 7) (text 8) (text 9) (text 10) (text 11) (text 12)
+    (text 13) (text 14) (text 15) (text 16) (text 17) (text 18) (text 19) (text 20) (text 21) (text 22) (text 23) (text 24) (text 25)
+    (text 26) (text 27) (text 28) (text 29) (text 30) (text 31) (text 32) (text 33) (text 34) (text 35) (text 36) somewhere somewhere).body
 
 -- the fields in a line are its pieces from column 16 on
 are_pieces : (line : List ℕ) → body_1_texts (body_1_at line) ≡ pieces_from 15 widths line
@@ -147,20 +122,17 @@ content_fits text t =
 -- ---- the columns of fields that fit
 
 -- some record with this content
-abbrev somewhere : Coordinates
-somewhere = record { long = pos 1; lat = pos 1 }
-
 abbrev sample : Body1Fields → Fields1
 sample body = record { tlid = 1; body = body; start = somewhere; end = somewhere }
 
 is_on_map : IsOnMap somewhere
 is_on_map = record { long = lit≤ tt; lat = lit≤ tt; somewhere = lit≤ tt }
 
-sample_fits : (body : Body1Fields) → FitsBody1 body → FitsType1 (sample body)
+sample_fits : (body : Body1Fields) → FitsBody1 body → FitsFields Type1 (sample body)
 sample_fits body f = type_1_fits (sample body) (lit≤ tt, lit≤ tt) f is_on_map is_on_map
 
 -- the record that a line is read as has the content of its columns
-content_read : (line : List ℕ) (r : Fields1) → type_1_reading line ≡ Ok r → body_1_at line ≡ r.body
+content_read : (line : List ℕ) (r : Fields1) → reading_of Type1 line ≡ Ok r → body_1_at line ≡ r.body
 unfolding type_1_short_reading
 content_read line r h =
     let tlid = reads (number_at 6 15 line) _ r (sym (type_1_reading_is_short line) ∙ h) in
@@ -182,15 +154,15 @@ spelled_before r = (rtype_1 ∷ codes "2006") ++ number_text 10 r.tlid
 abbrev spelled_behind : Fields1 → List ℕ
 spelled_behind r = joined [] (point_texts r.start) ++ joined [] (point_texts r.end)
 
-spelled_parts : (r : Fields1) → type_1_spelling r ≡ spelled_before r ++ (body_1_text r.body ++ spelled_behind r)
-unfolding type_1_spelling
+spelled_parts : (r : Fields1) → fields_spelling Type1 r ≡ spelled_before r ++ (body_1_text r.body ++ spelled_behind r)
+unfolding fields_spelling
 spelled_parts r = three_groups (spelled_before r) (body_1_texts r.body) (point_texts r.start) (point_texts r.end)
 
 point_is_text : (point : Coordinates) → IsText 19 (joined [] (point_texts point))
 point_is_text point = pair_of_texts 10 9 _ _ (coordinate_text_is_text 9 point.long) (coordinate_text_is_text 8 point.lat)
 
 -- a record's content is in columns 16 to 190 of its spelling
-spelled_content : (r : Fields1) → length (type_1_spelling r) ≡ 228 → columns 16 190 (type_1_spelling r) ≡ body_1_text r.body
+spelled_content : (r : Fields1) → length (fields_spelling Type1 r) ≡ 228 → columns 16 190 (fields_spelling Type1 r) ≡ body_1_text r.body
 spelled_content r l =
     let head = length-append (rtype_1 ∷ codes "2006") (number_text 10 r.tlid) in
     let number = (number_text_is_text 10 r.tlid).len in
@@ -211,13 +183,13 @@ record IsContentText (body : Body1Fields) : Type 0 where
 content_text : (body : Body1Fields) → FitsBody1 body → IsContentText body
 content_text body f =
     let fits = sample_fits body f in
-    let line = type_1_spelling (sample body) in
-    let is_line = type_1_laws.spelling_is_line (sample body) fits in
+    let line = fields_spelling Type1 (sample body) in
+    let is_line = (layout_laws Type1).spelling_is_line (sample body) fits in
     let stands = spelled_content (sample body) is_line.text.len in
     record {
       is_text = subst (IsText 175) stands (columns_of_text 228 line is_line.text 16 190 175 (omega arith) (omega arith) (omega arith));
       again = ap body_1_of (sym stands)
-          ∙ (content_of_line line ∙ content_read line (sample body) (type_1_laws.reads_spelling (sample body) fits));
+          ∙ (content_of_line line ∙ content_read line (sample body) ((layout_laws Type1).reads_spelling (sample body) fits));
     }
 
 -- fields that fit are written as text

@@ -12,4 +12,4 @@ use Rattle.tl_layout.specs.Laws.ValueLaws.{value_found}
 pub feats_in_range : (line : List ℕ) (feats : List ℕ)
     → places_reading (λ column. number_or_none_at column (column + 7) line) 8 false 5 19 ≡ Ok feats → AllByRecursion (IsNumber 8) feats
 feats_in_range line feats was =
-    places_each (SpellsNumberPlace line) (IsNumber 8) (number_place_fits line) 8 5 19 feats (value_found line 19 58 NumberPlaces feats was)
+    places_each (SpellsNumberPlace line) 8 (IsNumber 8) (number_place_fits line) 5 19 feats (value_found line 19 58 NumberPlaces feats was)

@@ -1,13 +1,13 @@
 -- For each kind of field: its columns are read as the value that they spell, and if they spell none, as the reported fault.
 use Rattle.std.proofs.Common.{◌≡◌, ℕ, zero, suc, ◌+◌, List, false, Option, Some, None, Result, Ok, Err, refl, sym, ap, ◌∙◌, subst}
-use Rattle.std.proofs.Common.{◌⊎◌, inl, inr, pos}
+use Rattle.std.proofs.Common.{◌⊎◌, inl, inr, pos, rules}
 use Rattle.tl_layout.specs.Bytes.{columns}
 use Rattle.tl_layout.specs.NumberReading.{number_of}
 use Rattle.tl_layout.specs.CoordinateReading.{coordinate_of}
 use Rattle.tl_layout.specs.Laws.CoordinateLaws.{coordinate_found, coordinate_only, blank_found, blank_only}
 use Rattle.tl_layout.specs.Coordinates.{Coordinates}
 use Rattle.tl_layout.specs.FieldReading.{and_then, demanded_number, possible_number, number_at, number_or_none_at, pair_of}
-use Rattle.tl_layout.specs.FieldReading.{point_or_none_at, demanded_point, point_at, places_reading}
+use Rattle.tl_layout.specs.FieldReading.{point_or_none_at, demanded_point, point_at}
 use Rattle.tl_layout.specs.FieldMeaning.{SpellsPointOrNone, SpellsNumberPlace, SpellsPointPlace}
 use Rattle.tl_layout.specs.FieldFaults.{bad_number, bad_point, IsMalformed, HasMalformedLongitude, HasMalformedLatitude, IsReportedOfPair}
 use Rattle.tl_layout.specs.Laws.FieldLaws.{ok_value, number_at_found, number_at_only, number_or_none_at_found, number_or_none_at_only}
@@ -15,36 +15,13 @@ use Rattle.tl_layout.specs.Laws.FieldLaws.{point_or_none_at_found, point_or_none
 use Rattle.tl_layout.specs.Laws.PlaceLaws.{places_found, places_only}
 use Rattle.tl_layout.specs.ColumnTable.{Kind, Number, NumberOrNone, Pair, PairOrNone, NumberPlaces, PointPlaces, Opaque, Filler}
 use Rattle.tl_layout.specs.ColumnTable.{ValueOf, SpellsValue}
-use Rattle.tl_layout.specs.TableReading.{reading_on}
+use Rattle.tl_layout.specs.TableReading.{value_reading}
 use Rattle.tl_layout.specs.declared.coordinate.Coordinate.{Coordinate}
 use Rattle.tl_layout.specs.declared.coordinate.Coordinate.TheVariants.{Malformed, Blank, Value}
 use Rattle.tl_layout.specs.declared.fault.FieldFault.{FieldFault}
 use Rattle.tl_layout.specs.declared.coordinate.TheConstants.{MOST_LONGITUDE, MOST_LATITUDE}
 
 -- ---- reading
-
--- how the columns of a field are read
-abbrev pub value_reading : List ℕ → ℕ → ℕ → (kind : Kind) → Result (ValueOf kind) FieldFault
-value_reading line first last Number = number_at first last line
-value_reading line first last NumberOrNone = number_or_none_at first last line
-value_reading line first last Pair = point_at first line
-value_reading line first last PairOrNone = point_or_none_at first line
-value_reading line first last NumberPlaces = places_reading (λ column. number_or_none_at column (column + 7) line) 8 false 5 first
-value_reading line first last PointPlaces = places_reading (λ column. point_or_none_at column line) 19 false 10 first
-value_reading line first last Opaque = Ok (columns first last line)
-value_reading line first last Filler = Ok tt
-
-pub reading_goes_on : {A : Type 0} (line : List ℕ) (first last : ℕ) (kind : Kind) (more : ValueOf kind → Result A FieldFault)
-    → reading_on line first last kind more ≡ and_then (value_reading line first last kind) more
-unfolding and_then
-reading_goes_on line first last Number more = refl
-reading_goes_on line first last NumberOrNone more = refl
-reading_goes_on line first last Pair more = refl
-reading_goes_on line first last PairOrNone more = refl
-reading_goes_on line first last NumberPlaces more = refl
-reading_goes_on line first last PointPlaces more = refl
-reading_goes_on line first last Opaque more = refl
-reading_goes_on line first last Filler more = refl
 
 -- if a value is read, the columns spell it
 pub value_found : (line : List ℕ) (first last : ℕ) (kind : Kind) (value : ValueOf kind) → value_reading line first last kind ≡ Ok value
@@ -146,18 +123,15 @@ malformed_or_not limit field = go (coordinate_of limit field) refl
     go (Value v) e = inr (value_not_malformed limit field v e)
 
 long_reported : (line : List ℕ) (first : ℕ) → HasMalformedLongitude line first → IsReportedOfPair line first (bad_point first)
-long_reported line first m =
-    record { kind = refl; longitude = λ _. refl; latitude = λ not_long _. absurd (not_long m); pair = λ not_long _. absurd (not_long m) }
+long_reported line first m = search rules
 
 lat_reported : (line : List ℕ) (first : ℕ) → ¬ HasMalformedLongitude line first → HasMalformedLatitude line first
     → IsReportedOfPair line first (bad_point (first + 10))
-lat_reported line first not_long m =
-    record { kind = refl; longitude = λ l. absurd (not_long l); latitude = λ _ _. refl; pair = λ _ not_lat. absurd (not_lat m) }
+lat_reported line first not_long m = search rules
 
 both_reported : (line : List ℕ) (first : ℕ) → ¬ HasMalformedLongitude line first → ¬ HasMalformedLatitude line first
     → IsReportedOfPair line first (bad_point first)
-both_reported line first not_long not_lat =
-    record { kind = refl; longitude = λ l. absurd (not_long l); latitude = λ _ m. absurd (not_lat m); pair = λ _ _. refl }
+both_reported line first not_long not_lat = search rules
 
 -- two equal `Err` results have the same fault
 pub err_value : {A : Type 0} (x y : FieldFault) → ◌≡◌ {A = Result A FieldFault} (Err x) (Err y) → x ≡ y

@@ -93,6 +93,7 @@ impl Body1 {
     }
 
     /// The content in columns 16 to 190 of a line.
+    #[tactic(auto, using(crate::specs::Laws::Type1ColumnLaws::content_of_line))]
     pub(crate) fn at(line: &[u8]) -> Body1
         requires allowed { AreAllowed line.now }
         requires within { 190 ≤ length line.now }
@@ -112,6 +113,7 @@ impl Body1 {
     }
 
     /// Proves that each field fits its columns, which its type guarantees. Does nothing at run time.
+    #[tactic(auto, using(crate::specs::Laws::Type1ColumnLaws::content_fits))]
     pub(crate) fn show_fit(&self)
         ensures { FitsBody1 self.now }
     {

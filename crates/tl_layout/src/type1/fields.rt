@@ -3,6 +3,7 @@
 ghost use Rattle.std.specs.Prelude.{◌≡◌, ◌≤◌, length, take};
 ghost use Rattle.tl_layout.specs.Bytes.{AreAllowed};
 ghost use Rattle.tl_layout.specs.Columns.{joined};
+ghost use Rattle.tl_layout.specs.Type1Groups.{FitsEntities, entities_at, entities_texts, FitsBody1, body_1_at, body_1_texts};
 
 use crate::field::text_at;
 use crate::name::FeatureName;
@@ -81,8 +82,6 @@ pub struct Body1Fields {
 }
 
 impl GeographicEntities {
-    ghost use Rattle.tl_layout.specs.Type1Groups.{FitsEntities, entities_at, entities_texts};
-
     /// The geographic entities in columns 131 to 190 of a line.
     fn at(line: &[u8]) -> GeographicEntities
         requires allowed { AreAllowed line.now }
@@ -129,8 +128,6 @@ impl GeographicEntities {
 }
 
 impl Body1Fields {
-    ghost use Rattle.tl_layout.specs.Type1Groups.{FitsBody1, body_1_at, body_1_texts};
-
     /// The fields in columns 16 to 190 of a line.
     pub(crate) fn at(line: &[u8]) -> Body1Fields
         requires allowed { AreAllowed line.now }

@@ -7,7 +7,7 @@ use Rattle.std.specs.Prelude.{codes}
 use Rattle.tl_layout.specs.FieldTexts.{number_text}
 use Rattle.tl_layout.specs.Laws.NumberTextLaws.{length-number_text}
 use Rattle.tl_layout.specs.RecordText.{spelling_of}
-use Rattle.tl_layout.specs.TypeI.{type_i_spelling}
+use Rattle.tl_layout.specs.RecordTypes.{fields_spelling}
 use Rattle.tl_layout.specs.declared.type_i.BodyI.{BodyI}
 use Rattle.tl_number.proofs.Texts.RecordTexts.{cmp-append, then_equal}
 use Rattle.tl_number.proofs.Ties.NumberTexts.{node_order}
@@ -39,7 +39,7 @@ abbrev nodes_text : FieldsI → List ℕ
 nodes_text r = (head r.tlid r.body ++ number_text 10 (unwrap_or r.start_node 0)) ++ number_text 10 (unwrap_or r.end_node 0)
 
 spelled : (r : FieldsI) → spelling_of (I r) ≡ joined (nodes_text r) (tail r.body r.left r.right)
-unfolding spelling_of type_i_spelling
+unfolding spelling_of fields_spelling
 spelled r = refl
 
 -- a chain with other nodes

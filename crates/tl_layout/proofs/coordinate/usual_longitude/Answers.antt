@@ -1,6 +1,5 @@
-use Rattle.std.proofs.Common.{get_or, ◌∷◌, arith}
+use Rattle.tl_layout.proofs.Common.{arith, chunk, get_or, ◌∷◌}
 use Rattle.tl_layout.proofs.CoordinateSteps.{found_is, two_and_eight}
-use lib.Lanes.{chunk}
 use Rattle.tl_layout.proofs.coordinate.usual_longitude.Goals as goal
 use Rattle.tl_layout.specs.declared.coordinate.TheConstants.{MOST_LONGITUDE}
 

@@ -1,5 +1,4 @@
-use Rattle.std.proofs.Common.{◌≡◌, ◌<◌, ◌^◌, drop}
-use Rattle.tl_layout.specs.NumberReading.{number_after}
+use Rattle.tl_layout.proofs.Common.{drop, number_after, ◌<◌, ◌^◌, ◌≡◌}
 use Rattle.tl_layout.proofs.number.digits.Given as goal
 
 abbrev pub invariant-loop-i : goal.invariant-loop-i

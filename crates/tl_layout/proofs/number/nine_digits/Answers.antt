@@ -1,6 +1,5 @@
-use Rattle.std.proofs.Common.{◌≡◌, ◌+◌, ◌-◌, ◌*◌, ◌≤◌, ℕ, ◌∙◌, ap, Some, arith, true}
-use Rattle.std.proofs.lemmas.Bool.{and_from, le-leb}
-use Rattle.tl_layout.specs.NumberField.{is_digit}
+use Rattle.tl_layout.proofs.Common.{Some, ap, arith, is_digit, le-leb, true, ℕ, ◌*◌, ◌+◌, ◌-◌, ◌∙◌, ◌≡◌, ◌≤◌}
+use Rattle.std.proofs.lemmas.Bool.{and_from}
 use Rattle.tl_layout.specs.NumberReading.{number_after}
 use Rattle.tl_layout.proofs.number.nine_digits.Goals as goal
 

@@ -1,5 +1,4 @@
-use Rattle.std.proofs.Common.{◌≡◌, ◌≤◌, length}
-use Rattle.tl_layout.specs.NumberReading.{drop_blanks}
+use Rattle.tl_layout.proofs.Common.{drop_blanks, length, ◌≡◌, ◌≤◌}
 use Rattle.tl_layout.proofs.number.trim_start.Given as goal
 
 abbrev pub invariant-loop-rest : goal.invariant-loop-rest

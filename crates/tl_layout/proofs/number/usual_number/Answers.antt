@@ -1,9 +1,8 @@
-use Rattle.std.proofs.Common.{◌≡◌, ℕ, ◌∷◌, get_or, Option, IfSome, ◌∙◌, ap, sym, subst, Some, false, refl}
+use Rattle.tl_layout.proofs.Common.{IfSome, Option, Some, ap, chunk, drop_blanks, false, get_or, is_blank, number_after, refl, subst, sym}
+use Rattle.tl_layout.proofs.Common.{ℕ, ◌∙◌, ◌∷◌, ◌≡◌}
 use Rattle.std.proofs.lemmas.Bool.{ne_eqb}
-use Rattle.tl_layout.specs.NumberField.{is_blank}
-use Rattle.tl_layout.specs.NumberReading.{drop_blanks, number_after, number_of}
+use Rattle.tl_layout.specs.NumberReading.{number_of}
 use Rattle.tl_layout.proofs.CoordinateSteps.{two_and_eight}
-use lib.Lanes.{chunk}
 use Rattle.tl_layout.proofs.number.usual_number.Goals as goal
 
 pub returns-then-field-eq32-2 : goal.returns-then-field-eq32-2

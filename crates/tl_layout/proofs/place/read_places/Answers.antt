@@ -1,8 +1,8 @@
 -- Each place was read as the reading of all places requires.
-use Rattle.std.proofs.Common.{◌≡◌, ◌≤◌, ◌+◌, ◌*◌, ◌-◌, ℕ, suc, length, Bool, true, false, Ok, Err, sym, ◌∙◌, ap, subst, refl, arith}
+use Rattle.std.proofs.Common.{◌≡◌, ◌≤◌, ◌+◌, ◌*◌, ◌-◌, ℕ, suc, length, false, Ok, Err, sym, ◌∙◌, ap, refl, arith}
 use Rattle.std.proofs.lemmas.List.{length_push}
 use Rattle.tl_layout.specs.FieldReading.{places_reading}
-use Rattle.tl_layout.proofs.PlaceSteps.{with_front, after_none, after_some, at_gap, at_fault, at_end, at_start, next_column, column_within}
+use Rattle.tl_layout.proofs.PlaceSteps.{after_none, after_some, at_gap, at_fault, at_end, at_start, next_column, column_within}
 use Rattle.tl_layout.proofs.place.read_places.Goals as goal
 use Rattle.tl_layout.proofs.place.read_places.Goals.{in-None, in-Some+else-unused}
 
@@ -32,8 +32,8 @@ pub returns-in-Err : goal.returns-in-Err
 returns-in-Err g c =
     let left = c.COUNT-count.result - 1 - c.loop-place._place in
     rw (← c.COUNT-count.ensures, ← c.WIDTH-width.ensures)
-    (at_fault (g.P.Places.reading c.args.line.now) c.WIDTH-width.result left c.loop-place.column c.loop-place.unused
-    (g.P.Places.items c.loop-place.items) c.in-Err.fault _ (c.loop-place.invariant.left (suc left) (omega arith)) (sym c.in-Err.ensures))
+    (at_fault (g.P.Places.reading c.args.line.now) c.WIDTH-width.result c.loop-place.column (g.P.Places.items c.loop-place.items) _
+    left c.loop-place.unused c.in-Err.fault (c.loop-place.invariant.left (suc left) (omega arith)) (sym c.in-Err.ensures))
 
 pub gap-requires : goal.gap-requires
 gap-requires g c =
@@ -47,14 +47,9 @@ gap-requires g c =
 pub returns-then-unused : goal.returns-then-unused
 returns-then-unused g c =
     let left = c.COUNT-count.result - 1 - c.loop-place._place in
-    let reading = g.P.Places.reading c.args.line.now in
-    let Left : Bool → Type 0 =
-    λ unused. with_front (g.P.Places.items c.loop-place.items)
-    (places_reading reading c.WIDTH-width.result unused (suc left) c.loop-place.column)
-    ≡ places_reading reading c.WIDTH-width.result false c.COUNT-count.result 19 in
-    let so_far : Left true = subst Left c.if-unused.true (c.loop-place.invariant.left (suc left) (omega arith)) in
     rw (← c.COUNT-count.ensures, ← c.WIDTH-width.ensures)
-    (at_gap reading c.WIDTH-width.result left c.loop-place.column (g.P.Places.items c.loop-place.items) c.in-Some.item _ so_far
+    (at_gap (g.P.Places.reading c.args.line.now) c.WIDTH-width.result c.loop-place.column (g.P.Places.items c.loop-place.items) _
+    left c.in-Some.item c.loop-place.unused c.if-unused.true (c.loop-place.invariant.left (suc left) (omega arith))
     (sym c.read.ensures ∙ (c.in-Ok.is ∙ ap Ok c.in-Some.is)) ∙ ap Err (sym c.gap.ensures))
 
 pub overflow_add-column : goal.overflow_add-column
@@ -81,7 +76,7 @@ loop-place-preserved g c =
         behind = behind;
         columns = columns;
         left = λ n h.
-            rw (w.items-is, w.unused-is) (after_none reading width n column (column + width) c.loop-place.unused items _
+            rw (w.items-is, w.unused-is) (after_none reading width column items _ n (column + width) c.loop-place.unused
             (c.loop-place.invariant.left (suc n) (omega arith)) (sym c.read.ensures ∙ (c.in-Ok.is ∙ ap Ok w.in-None.is)) refl);
       }
       | in-Some+else-unused w ↦ record {
@@ -90,18 +85,14 @@ loop-place-preserved g c =
         behind = behind;
         columns = columns;
         left = λ n h.
-            let Left : Bool → Type 0 =
-            λ unused. with_front items (places_reading reading width unused (suc n) column)
-            ≡ places_reading reading width false c.COUNT-count.result 19 in
-            let so_far : Left false = subst Left w.if-unused.false (c.loop-place.invariant.left (suc n) (omega arith)) in
             rw (w.items-is, w.unused-is, w.add.ensures, w.if-unused.false)
-            (after_some reading width n column (column + width) items w.in-Some.item _ so_far
-            (sym c.read.ensures ∙ (c.in-Ok.is ∙ ap Ok w.in-Some.is)) refl);
+            (after_some reading width column items _ n (column + width) w.in-Some.item c.loop-place.unused w.if-unused.false
+            (c.loop-place.invariant.left (suc n) (omega arith)) (sym c.read.ensures ∙ (c.in-Ok.is ∙ ap Ok w.in-Some.is)) refl);
       }
     ]
 
 pub returns : goal.returns
 returns g c =
     rw (← c.COUNT-count.ensures, ← c.WIDTH-width.ensures)
-    (at_end (g.P.Places.reading c.args.line.now) c.WIDTH-width.result c.loop-place.column c.loop-place.unused
-    (g.P.Places.items c.loop-place.items) _ (c.loop-place.invariant.left 0 (omega arith)))
+    (at_end (g.P.Places.reading c.args.line.now) c.WIDTH-width.result c.loop-place.column (g.P.Places.items c.loop-place.items) _
+    c.loop-place.unused (c.loop-place.invariant.left 0 (omega arith)))

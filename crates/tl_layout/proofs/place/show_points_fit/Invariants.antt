@@ -1,5 +1,4 @@
-use Rattle.std.proofs.Common.{◌<◌, ℕ, IfSome, slice_get}
-use Rattle.tl_layout.specs.Coordinates.{IsOnMap}
+use Rattle.tl_layout.proofs.Common.{IfSome, IsOnMap, slice_get, ℕ, ◌<◌}
 use Rattle.tl_layout.proofs.place.show_points_fit.Given as goal
 
 abbrev pub invariant-loop-point : goal.invariant-loop-point

@@ -1,8 +1,7 @@
 -- The places were written one after another.
-use Rattle.std.proofs.Common.{◌≡◌, ◌+◌, ◌*◌, ◌-◌, ◌++◌, ℕ, suc, slice_get, unwrap_or, take, ap, ◌∙◌, subst, arith}
-use Rattle.tl_layout.specs.FieldTexts.{number_text}
-use Rattle.tl_layout.specs.FieldTexts.{number_place_text}
-use Rattle.tl_layout.specs.FieldTexts.{places_text}
+use Rattle.tl_layout.proofs.Common.{ap, arith, number_place_text, number_text, places_text, slice_get, subst, suc, take, ℕ, ◌*◌, ◌++◌, ◌+◌}
+use Rattle.tl_layout.proofs.Common.{◌-◌, ◌∙◌, ◌≡◌}
+use Rattle.std.proofs.Common.{unwrap_or}
 use Rattle.tl_layout.proofs.PlaceWrites.{place_written, all_written, at_columns}
 use Rattle.tl_layout.proofs.place.write_feats.Goals as goal
 

@@ -1,6 +1,4 @@
-use Rattle.std.proofs.Common.{◌≡◌, ◌+◌, ◌*◌, ◌++◌, ℕ, take, drop}
-use Rattle.tl_layout.specs.FieldTexts.{number_place_text}
-use Rattle.tl_layout.specs.FieldTexts.{places_text}
+use Rattle.tl_layout.proofs.Common.{drop, number_place_text, places_text, take, ℕ, ◌*◌, ◌++◌, ◌+◌, ◌≡◌}
 use Rattle.tl_layout.proofs.place.write_feats.Given as goal
 
 abbrev pub invariant-loop-place : goal.invariant-loop-place

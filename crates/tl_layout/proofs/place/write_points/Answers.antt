@@ -1,8 +1,7 @@
 -- The places were written one after another.
-use Rattle.std.proofs.Common.{◌≡◌, ◌+◌, ◌*◌, ◌-◌, ◌++◌, ℕ, suc, Option, IfSome, slice_get, take, ap, subst, arith, below_more}
-use Rattle.tl_layout.specs.Coordinates.{IsOnMap}
-use Rattle.tl_layout.specs.FieldTexts.{point_place_text}
-use Rattle.tl_layout.specs.FieldTexts.{places_text}
+use Rattle.tl_layout.proofs.Common.{IfSome, IsOnMap, Option, ap, arith, places_text, point_place_text, slice_get, subst, suc, take, ℕ, ◌*◌}
+use Rattle.tl_layout.proofs.Common.{◌++◌, ◌+◌, ◌-◌, ◌≡◌}
+use Rattle.std.proofs.Common.{below_more}
 use Rattle.tl_layout.proofs.PlaceWrites.{place_written, all_written, at_columns, each_from_places}
 use Rattle.tl_layout.proofs.place.write_points.Goals as goal
 

@@ -1,7 +1,4 @@
-use Rattle.std.proofs.Common.{◌≡◌, ◌+◌, ◌*◌, ◌++◌, ◌<◌, ℕ, IfSome, slice_get, take, drop}
-use Rattle.tl_layout.specs.Coordinates.{IsOnMap}
-use Rattle.tl_layout.specs.FieldTexts.{point_place_text}
-use Rattle.tl_layout.specs.FieldTexts.{places_text}
+use Rattle.tl_layout.proofs.Common.{IfSome, IsOnMap, drop, places_text, point_place_text, slice_get, take, ℕ, ◌*◌, ◌++◌, ◌+◌, ◌<◌, ◌≡◌}
 use Rattle.tl_layout.proofs.place.write_points.Given as goal
 
 abbrev pub invariant-loop-place : goal.invariant-loop-place

@@ -1,6 +1,5 @@
 -- The turned content was written after fifteen blanks, and those columns are kept.
-use Rattle.std.proofs.Common.{arith, ap, sym, subst, ◌∙◌}
-use Rattle.tl_layout.proofs.Writes.{whole}
+use Rattle.tl_layout.proofs.Common.{ap, arith, body_1_texts, subst, sym, whole, ◌∙◌}
 use Rattle.tl_layout.proofs.turn.Body1Turn.turn.Goals as goal
 use Rattle.tl_layout.specs.Laws.ByteLaws.{blanks_are_text}
 use Rattle.tl_layout.specs.Bytes.{AreAllowed, blanks}
@@ -9,7 +8,7 @@ use Rattle.tl_layout.specs.Laws.PlaceLaws.{pair_of_texts}
 use Rattle.tl_layout.specs.Turned.{turned_body}
 use Rattle.tl_layout.specs.Laws.TurnedFits.{body_turned_fits}
 use Rattle.tl_layout.specs.Laws.Type1ColumnLaws.{columns_are_text, fields_again}
-use Rattle.tl_layout.specs.Type1Groups.{body_1_at, body_1_texts}
+use Rattle.tl_layout.specs.Type1Groups.{body_1_at}
 
 pub at-requires-clause-allowed : goal.at-requires-clause-allowed
 at-requires-clause-allowed c =

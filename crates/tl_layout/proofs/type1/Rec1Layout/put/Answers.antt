@@ -1,14 +1,13 @@
 -- The content was written after the number, and the points after both.
-use Rattle.std.proofs.Common.{ap, ◌∙◌}
-use Rattle.tl_layout.proofs.Writes.{group_behind}
+use Rattle.tl_layout.proofs.Common.{ap, body_1_texts, group_behind, ◌∙◌}
 use Rattle.tl_layout.specs.Columns.{joined}
-use Rattle.tl_layout.specs.Type1.{type_1_spelling}
-use Rattle.tl_layout.specs.Type1Groups.{body_1_texts, point_texts}
+use Rattle.tl_layout.specs.RecordTypes.{Type1, fields_spelling}
+use Rattle.tl_layout.specs.Type1Groups.{point_texts}
 use Rattle.tl_layout.proofs.type1.Rec1Layout.put.Goals as goal
 
 pub returns-clause-spelling : goal.returns-clause-spelling
-unfolding type_1_spelling
+unfolding fields_spelling
 returns-clause-spelling c =
     let r = c.self.inside in
     let body = group_behind (body_1_texts r.body) c.put.ensures c.put_number.ensures in
-    c.put_points.ensures ∙ (ap (λ before. joined (joined before (point_texts r.start)) (point_texts r.end)) body ∙ ap type_1_spelling c.self.view_is)
+    c.put_points.ensures ∙ (ap (λ before. joined (joined before (point_texts r.start)) (point_texts r.end)) body ∙ ap (fields_spelling Type1) c.self.view_is)

@@ -1,31 +1,11 @@
 -- The columns were written one after another, following the record type and the version.
-use Rattle.std.proofs.Common.{arith, refl, ap, ◌∙◌, subst}
-use Rattle.std.proofs.Common.{List, length, ◌≤◌}
-use Rattle.std.specs.List.{AllByRecursion}
-use Rattle.tl_layout.specs.Coordinates.{Coordinates, IsOnMap}
-use Rattle.tl_layout.proofs.Writes.{◌▸◌, behind, whole}
-use Rattle.tl_layout.specs.FieldTexts.{number_text}
-use Rattle.tl_layout.specs.FieldTexts.{point_place_text}
-use Rattle.tl_layout.specs.FieldTexts.{places_text}
-use Rattle.tl_layout.specs.Type2.{FitsType2, type_2_spelling}
+use Rattle.tl_layout.proofs.Common.{ap, arith, behind, number_text, places_text, point_place_text, refl, whole, ◌∙◌, ◌▸◌}
+use Rattle.tl_layout.specs.RecordTypes.{Type2, fields_spelling}
 use Rattle.tl_layout.proofs.type2.Rec2Layout.put.Goals as goal
 
 pub returns-clause-spelling : goal.returns-clause-spelling
-unfolding type_2_spelling
+unfolding fields_spelling
 returns-clause-spelling c =
     let rtsq = c.write_head.ensures ▸ (c.write_number.ensures, refl) ▸ (c.write_number-2.ensures, ap (number_text 3) c.from.ensures) in
     let points = behind c.write_points.ensures.written rtsq (ap (places_text point_place_text 10) c.as_slice.ensures.value) in
-    whole 208 c.write_points.new.out _ (omega arith) points ∙ ap type_2_spelling c.self.view_is
-
-pub returns-clause-fits : goal.returns-clause-fits
-unfolding FitsType2
-returns-clause-fits c =
-    let len : length c.self.inside.points.items ≤ 10 =
-    subst (λ (points : List Coordinates). length points ≤ 10) c.as_slice.ensures.value c.as_slice.ensures.fits in
-    subst FitsType2 c.self.view_is (
-      c.self.invariant.0,
-      (
-        c.self.invariant.1,
-        ((len, subst (AllByRecursion IsOnMap) c.as_slice.ensures.value c.write_points.ensures.on_map), tt),
-      ),
-    )
+    whole 208 c.write_points.new.out _ (omega arith) points ∙ ap (fields_spelling Type2) c.self.view_is

@@ -1,15 +1,11 @@
 -- The columns were written one after another, following the record type and the version.
-use Rattle.std.proofs.Common.{arith, refl, ap, ◌∙◌}
-use Rattle.tl_layout.proofs.Writes.{◌▸◌, behind, whole}
-use Rattle.tl_layout.specs.FieldTexts.{number_text}
-use Rattle.tl_layout.specs.FieldTexts.{number_place_text}
-use Rattle.tl_layout.specs.FieldTexts.{places_text}
-use Rattle.tl_layout.specs.Type4.{type_4_spelling}
+use Rattle.tl_layout.proofs.Common.{ap, arith, behind, number_place_text, number_text, places_text, refl, whole, ◌∙◌, ◌▸◌}
+use Rattle.tl_layout.specs.RecordTypes.{Type4, fields_spelling}
 use Rattle.tl_layout.proofs.type4.Rec4Layout.put.Goals as goal
 
 pub returns-clause-spelling : goal.returns-clause-spelling
-unfolding type_4_spelling
+unfolding fields_spelling
 returns-clause-spelling c =
     let rtsq = c.write_head.ensures ▸ (c.write_number.ensures, refl) ▸ (c.write_number-2.ensures, ap (number_text 3) c.from.ensures) in
     let feats = behind c.write_feats.ensures rtsq (ap (places_text number_place_text 5) c.as_slice.ensures.value) in
-    whole 58 c.write_feats.new.out _ (omega arith) feats ∙ ap type_4_spelling c.self.view_is
+    whole 58 c.write_feats.new.out _ (omega arith) feats ∙ ap (fields_spelling Type4) c.self.view_is

@@ -1,14 +1,12 @@
 -- The columns were written one after another, following the record type and the version.
-use Rattle.std.proofs.Common.{arith, refl, ap, ◌∙◌}
-use Rattle.tl_layout.proofs.Writes.{◌▸◌, group_behind, whole}
-use Rattle.tl_layout.specs.FieldTexts.{number_text}
+use Rattle.tl_layout.proofs.Common.{ap, arith, group_behind, number_text, refl, whole, ◌∙◌, ◌▸◌}
 use Rattle.tl_layout.specs.Names.{name_texts}
-use Rattle.tl_layout.specs.Type5.{type_5_spelling}
+use Rattle.tl_layout.specs.RecordTypes.{Type5, fields_spelling}
 use Rattle.tl_layout.proofs.type5.Rec5Layout.put.Goals as goal
 
 pub returns-clause-spelling : goal.returns-clause-spelling
-unfolding type_5_spelling
+unfolding fields_spelling
 returns-clause-spelling c =
     let feat = c.write_head.ensures ▸ (c.write_text.ensures, refl) ▸ (c.write_number.ensures, ap (number_text 8) c.from.ensures) in
     whole 56 c.put.new.out _ (omega arith) (group_behind (name_texts c.self.inside.body.name) c.put.ensures feat)
-    ∙ ap type_5_spelling c.self.view_is
+    ∙ ap (fields_spelling Type5) c.self.view_is

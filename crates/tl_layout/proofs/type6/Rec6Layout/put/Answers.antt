@@ -1,14 +1,12 @@
 -- The columns were written one after another, following the record type and the version.
-use Rattle.std.proofs.Common.{arith, refl, ap, ◌∙◌}
-use Rattle.tl_layout.proofs.Writes.{◌▸◌, group_behind, whole}
-use Rattle.tl_layout.specs.FieldTexts.{number_text}
+use Rattle.tl_layout.proofs.Common.{ap, arith, group_behind, number_text, refl, whole, ◌∙◌, ◌▸◌}
 use Rattle.tl_layout.specs.AddressRanges.{ranges_texts}
-use Rattle.tl_layout.specs.Type6.{type_6_spelling}
+use Rattle.tl_layout.specs.RecordTypes.{Type6, fields_spelling}
 use Rattle.tl_layout.proofs.type6.Rec6Layout.put.Goals as goal
 
 pub returns-clause-spelling : goal.returns-clause-spelling
-unfolding type_6_spelling
+unfolding fields_spelling
 returns-clause-spelling c =
     let rtsq = c.write_head.ensures ▸ (c.write_number.ensures, refl) ▸ (c.write_number-2.ensures, ap (number_text 3) c.from.ensures) in
     whole 76 c.put.new.out _ (omega arith) (group_behind (ranges_texts c.self.inside.ranges) c.put.ensures rtsq)
-    ∙ ap type_6_spelling c.self.view_is
+    ∙ ap (fields_spelling Type6) c.self.view_is

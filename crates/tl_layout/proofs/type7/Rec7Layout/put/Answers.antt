@@ -1,15 +1,14 @@
 -- The columns were written one after another, following the record type and the version.
-use Rattle.std.proofs.Common.{arith, refl, ap, ◌∙◌, [], ◌∷◌}
-use Rattle.tl_layout.proofs.Writes.{◌▸◌, group_behind, whole}
+use Rattle.tl_layout.proofs.Common.{[], ap, arith, group_behind, refl, whole, ◌∙◌, ◌∷◌, ◌▸◌}
 use Rattle.tl_layout.specs.FieldTexts.{long_text, lat_text}
-use Rattle.tl_layout.specs.Type7.{type_7_spelling}
+use Rattle.tl_layout.specs.RecordTypes.{Type7, fields_spelling}
 use Rattle.tl_layout.proofs.type7.Rec7Layout.put.Goals as goal
 
 pub returns-clause-spelling : goal.returns-clause-spelling
-unfolding type_7_spelling
+unfolding fields_spelling
 returns-clause-spelling c =
     let r = c.self.inside in
     let laname = c.write_head.ensures ▸ (c.write_text.ensures, refl) ▸ (c.write_number.ensures, refl)
     ▸ (c.write_text-2.ensures, refl) ▸ (c.write_text-3.ensures, refl) ▸ (c.write_text-4.ensures, refl) in
     let point = group_behind (long_text r.body.point ∷ lat_text r.body.point ∷ []) c.write_point_or_blanks.ensures laname in
-    whole 74 c.write_blanks.new.out _ (omega arith) (point ▸ (c.write_blanks.ensures, refl)) ∙ ap type_7_spelling c.self.view_is
+    whole 74 c.write_blanks.new.out _ (omega arith) (point ▸ (c.write_blanks.ensures, refl)) ∙ ap (fields_spelling Type7) c.self.view_is

@@ -1,12 +1,11 @@
 -- The columns were written one after another, following the record type and the version.
-use Rattle.std.proofs.Common.{arith, refl, ap, ◌∙◌, unwrap_or}
-use Rattle.tl_layout.proofs.Writes.{◌▸◌, behind, whole}
-use Rattle.tl_layout.specs.FieldTexts.{number_text}
-use Rattle.tl_layout.specs.TypeI.{type_i_spelling}
+use Rattle.tl_layout.proofs.Common.{ap, arith, behind, number_text, refl, whole, ◌∙◌, ◌▸◌}
+use Rattle.std.proofs.Common.{unwrap_or}
+use Rattle.tl_layout.specs.RecordTypes.{fields_spelling}
 use Rattle.tl_layout.proofs.type_i.RecI.put_fields.Goals as goal
 
 pub returns : goal.returns
-unfolding type_i_spelling
+unfolding fields_spelling
 returns c =
     let tlid = c.write_head.ensures ▸ (c.write_text.ensures, refl) ▸ (c.write_number.ensures, refl) in
     let start_node = behind c.write_number-2.ensures tlid (ap (number_text 10) c.unwrap_or.ensures) in

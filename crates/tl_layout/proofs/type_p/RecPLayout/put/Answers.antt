@@ -1,14 +1,13 @@
 -- The columns were written one after another, following the record type and the version.
-use Rattle.std.proofs.Common.{arith, refl, ap, ◌∙◌, [], ◌∷◌}
-use Rattle.tl_layout.proofs.Writes.{◌▸◌, group_behind, whole}
+use Rattle.tl_layout.proofs.Common.{[], ap, arith, group_behind, refl, whole, ◌∙◌, ◌∷◌, ◌▸◌}
 use Rattle.tl_layout.specs.FieldTexts.{long_text, lat_text}
-use Rattle.tl_layout.specs.TypeP.{type_p_spelling}
+use Rattle.tl_layout.specs.RecordTypes.{TypeP, fields_spelling}
 use Rattle.tl_layout.proofs.type_p.RecPLayout.put.Goals as goal
 
 pub returns-clause-spelling : goal.returns-clause-spelling
-unfolding type_p_spelling
+unfolding fields_spelling
 returns-clause-spelling c =
     let r = c.self.inside in
     let polyid = c.write_head.ensures ▸ (c.write_text.ensures, refl) ▸ (c.write_text-2.ensures, refl) ▸ (c.write_number.ensures, refl) in
     let point = group_behind (long_text r.body.point ∷ lat_text r.body.point ∷ []) c.write_point_or_blanks.ensures polyid in
-    whole 45 c.write_text-3.new.out _ (omega arith) (point ▸ (c.write_text-3.ensures, refl)) ∙ ap type_p_spelling c.self.view_is
+    whole 45 c.write_text-3.new.out _ (omega arith) (point ▸ (c.write_text-3.ensures, refl)) ∙ ap (fields_spelling TypeP) c.self.view_is

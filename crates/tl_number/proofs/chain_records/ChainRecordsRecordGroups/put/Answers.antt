@@ -4,7 +4,7 @@ use Rattle.tl_number.proofs.Common.{first_point, joined, last_point, length-map,
 use Rattle.tl_number.proofs.Lemmas.{chain_of_group, lone_of, part_of, tlid_of}
 use Rattle.tl_layout.specs.FieldTexts.{number_text}
 use Rattle.tl_layout.specs.RecordTables.{rtype_1}
-use Rattle.tl_layout.specs.Type1.{type_1_spelling}
+use Rattle.tl_layout.specs.RecordTypes.{Type1, fields_spelling}
 use Rattle.tl_layout.specs.Type1Groups.{body_1_texts, point_texts}
 use Rattle.tl_number.proofs.chain_records.ChainRecordsRecordGroups.put.Goals as goal
 
@@ -14,7 +14,7 @@ put_chain_body-requires-clause-place g c =
     subst (λ n. c.args.group < n) (length-map county.chains (λ entry. packed_one entry ∷ [])) c.requires.group
 
 pub returns : goal.returns
-unfolding type_1_spelling
+unfolding fields_spelling
 returns g c =
     let chart = c.args.self.now.chart.now in
     let there = chain_of_group (λ entry. packed_one entry ∷ []) (g.C.Chart.county chart) (g.met.C.Chart.is_county chart)
@@ -28,5 +28,5 @@ returns g c =
     ∙ ((λ i. joined (joined (body_is i) (point_texts (ends_are i).0)) (point_texts (ends_are i).1))
     ∙ ap (λ before. joined (joined (joined before (body_1_texts there.entry.1.body)) (point_texts (first_point there.entry.1.points)))
     (point_texts (last_point there.entry.1.points))) numbered))
-    ∙ sym (ap (option_map type_1_spelling) (lone_of packed_one (g.C.Chart.county chart) (g.met.C.Chart.is_county chart)
+    ∙ sym (ap (option_map (fields_spelling Type1)) (lone_of packed_one (g.C.Chart.county chart) (g.met.C.Chart.is_county chart)
     (g.met.C.Chart.within_limits chart) c.args.group c.requires.group c.args._place c.requires.place))

@@ -1,6 +1,5 @@
 -- The columns were written after fifteen blanks, and the fields are read from there.
-use Rattle.std.proofs.Common.{arith, ap, sym, subst, ◌∙◌}
-use Rattle.tl_layout.proofs.Writes.{whole}
+use Rattle.tl_layout.proofs.Common.{ap, arith, subst, sym, whole, ◌∙◌}
 use Rattle.tl_layout.proofs.type1.body.Body1.fields.Goals as goal
 use Rattle.tl_layout.specs.Laws.ByteLaws.{blanks_are_text}
 use Rattle.tl_layout.specs.Bytes.{AreAllowed}

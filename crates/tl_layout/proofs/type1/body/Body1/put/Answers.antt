@@ -1,8 +1,7 @@
 -- The columns were written after the contents so far.
-use Rattle.std.proofs.Common.{ap, take, ◌∙◌}
+use Rattle.tl_layout.proofs.Common.{ap, body_1_texts, take, ◌∙◌}
 use Rattle.tl_layout.specs.Columns.{joined}
 use Rattle.tl_layout.specs.Laws.Type1ColumnLaws.{content_behind}
-use Rattle.tl_layout.specs.Type1Groups.{body_1_texts}
 use Rattle.tl_layout.proofs.type1.body.Body1.put.Goals as goal
 
 pub returns : goal.returns

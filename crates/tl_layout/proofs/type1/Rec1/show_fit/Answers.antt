@@ -1,8 +1,0 @@
-use Rattle.std.proofs.Common.{subst}
-use Rattle.tl_layout.specs.Type1.{FitsType1}
-use Rattle.tl_layout.specs.Laws.Type1Laws.{type_1_fits}
-use Rattle.tl_layout.proofs.type1.Rec1.show_fit.Goals as goal
-
-pub returns : goal.returns
-returns c =
-    subst FitsType1 c.self.view_is (type_1_fits _ c.self.invariant c.show_fit.ensures c.show_fit-2.ensures c.show_fit-3.ensures)

@@ -1,8 +1,0 @@
-use Rattle.std.proofs.Common.{subst}
-use Rattle.tl_layout.specs.Type8.{FitsType8}
-use Rattle.tl_layout.proofs.type8.Rec8.show_fit.Goals as goal
-
-pub returns : goal.returns
-unfolding FitsType8
-returns c =
-    subst FitsType8 c.self.view_is (c.show_fit.ensures, (c.show_fit-2.ensures, (c.self.invariant.0, (c.self.invariant.1, (tt, tt)))))
