@@ -1,24 +1,24 @@
 -- By a column table: a line whose columns hold canonical texts is read as the record of their values, and is that record's
 -- canonical spelling, except for the version.
 use Rattle.std.proofs.Common.{◌≡◌, ℕ, zero, suc, ◌+◌, ◌-◌, ◌≤◌, List, [], ◌∷◌, ◌++◌, length, take, drop, true, Some, None, Option, refl, sym, ap}
-use Rattle.std.proofs.Common.{◌∙◌, subst, arith, append_assoc, codes, nat_eq, ◌&&◌, replicate, unwrap_or}
+use Rattle.std.proofs.Common.{◌∙◌, subst, arith, append_assoc, codes, replicate, unwrap_or}
 use Rattle.std.specs.List.{list_all}
-use Rattle.std.proofs.lemmas.Bool.{and_parts, eqb-true, leb-true}
+use Rattle.std.proofs.lemmas.Bool.{eqb-true}
 use Rattle.std.proofs.lemmas.List.{drop-drop, drop_all, take-append-drop}
 use Rattle.canonical_lines.proofs.NumberTexts.{only_blanks}
 use Rattle.canonical_lines.specs.SpeltLine.{with_version, IsSpeltLine}
 use Rattle.canonical_lines.specs.Texts.{IsNumberText, IsNumberOrNoneText, IsPointText, IsPointOrNoneText, IsPlacesText}
 use Rattle.tl_layout.specs.Bytes.{IsText, IsLine, columns}
 use Rattle.tl_layout.specs.ColumnTable.{Kind, Number, NumberOrNone, Pair, PairOrNone, NumberPlaces, PointPlaces, Opaque, Filler}
-use Rattle.tl_layout.specs.ColumnTable.{ValueOf, Row, width_of, SpellsValue, SpellsRows, FitsValue, FitsRows, is_suited, is_laid_out}
+use Rattle.tl_layout.specs.ColumnTable.{ValueOf, Row, width_of, SpellsValue, SpellsRows, FitsValue, FitsRows, is_laid_out}
 use Rattle.tl_layout.specs.Columns.{joined}
 use Rattle.tl_layout.specs.Coordinates.{Coordinates, IsOnMap}
 use Rattle.tl_layout.specs.FieldMeaning.{SpellsNumber, SpellsNumberOrNone, SpellsPoint, SpellsPointOrNone, SpellsPointPlace}
 use Rattle.tl_layout.specs.FieldMeaning.{SpellsNumberPlace, SpellsPlaces}
 use Rattle.tl_layout.specs.FieldTexts.{value_texts, rows_texts, rows_spelling, number_text, number_place_text, point_place_text}
 use Rattle.tl_layout.specs.Laws.ColumnLaws.{joined-before, columns_of_text}
-use Rattle.tl_layout.specs.Laws.TableLaws.{Values, values_of, made, table_spelling_is_line, table_reads_spelling}
-use Rattle.tl_layout.specs.Laws.TableLaws.{table_reads_spelled, table_spelled_is_read}
+use Rattle.tl_layout.specs.Laws.TableLaws.{Values, values_of, made, first_row, ordered, laid_out_within, joined-append, table_spelling_is_line}
+use Rattle.tl_layout.specs.Laws.TableLaws.{table_reads_spelling, table_reads_spelled, table_spelled_is_read}
 use Rattle.tl_layout.specs.Laws.TypeLaws.{is_table}
 use Rattle.tl_layout.specs.NumberField.{is_blank}
 use Rattle.tl_layout.specs.Numbers.{IsNumber, IsNumberOrNone}
@@ -58,44 +58,6 @@ abbrev AreCanonical : {R : Type 0} → List ℕ → List (Row R) → Type 0
 AreCanonical line [] = Unit {0}
 AreCanonical line (row ∷ rows) = HasCanonical line row.first row.last row.kind × AreCanonical line rows
 
--- ---- the columns of rows
-
--- the first row, and the rows after it
-record IsFirstRow {R : Type 0} (next : ℕ) (row : Row R) (rows : List (Row R)) (len : ℕ) : Type 0 where
-  first : row.first ≡ next
-  ordered : row.first ≤ row.last
-  later : is_laid_out (row.last + 1) rows len ≡ true
-
--- the first column is not behind the last one
-ordered : (first last : ℕ) (kind : Kind) → is_suited first last kind ≡ true → first ≤ last
-ordered first last Pair h = let e = eqb-true last (first + 18) h in omega arith
-ordered first last PairOrNone h = let e = eqb-true last (first + 18) h in omega arith
-ordered first last NumberPlaces h = let e = eqb-true last (first + 39) h in omega arith
-ordered first last PointPlaces h = let e = eqb-true last (first + 189) h in omega arith
-ordered first last kind h = leb-true first last h
-
--- a table is laid out as its first row and the rows after it are
-first_row : {R : Type 0} (next : ℕ) (row : Row R) (rows : List (Row R)) (len : ℕ) → is_laid_out next (row ∷ rows) len ≡ true
-    → IsFirstRow next row rows len
-first_row next row rows len h =
-    let parts = and_parts (nat_eq row.first next && is_suited row.first row.last row.kind) (is_laid_out (row.last + 1) rows len) h in
-    let front = and_parts (nat_eq row.first next) (is_suited row.first row.last row.kind) parts.0 in
-    record {
-      first = eqb-true row.first next front.0;
-      ordered = ordered row.first row.last row.kind front.1;
-      later = parts.1;
-    }
-
--- the next free column is in the line or directly after it
-laid_out_within : {R : Type 0} (rows : List (Row R)) (next len : ℕ) → is_laid_out next rows len ≡ true → next ≤ len + 1
-laid_out_within [] next len h = let e = eqb-true next (len + 1) h in omega arith
-laid_out_within (row ∷ rows) next len h =
-    let f = first_row next row rows len h in
-    let e = f.first in
-    let o = f.ordered in
-    let l = laid_out_within rows (row.last + 1) len f.later in
-    omega arith
-
 -- ---- the values
 
 -- the first field and the others
@@ -134,7 +96,7 @@ all_canonical len line t [] next from h a = tt
 all_canonical len line t (row ∷ rows) next from h a =
     let f = first_row next row rows len h in
     let e = f.first in
-    let o = f.ordered in
+    let o = ordered row.first row.last row.kind f.suited in
     let l = laid_out_within rows (row.last + 1) len f.later in
     let text = columns_of_text len line t row.first row.last (width_of row) (omega arith) (omega arith) (omega arith) in
     let tested = split row.kind (columns row.first row.last line) (AreTested line rows) a in
@@ -173,14 +135,6 @@ fit line (row ∷ rows) r h = (h.0, fit line rows r h.2)
 
 -- ---- the spelling
 
--- the texts of two lists, one list after the other
-joined-append : (a b : List (List ℕ)) → joined [] (a ++ b) ≡ joined [] a ++ joined [] b
-joined-append [] b = refl
-joined-append (text ∷ a) b =
-    joined-before text (a ++ b)
-    ∙ (ap (λ (l : List ℕ). text ++ l) (joined-append a b)
-    ∙ (sym (append_assoc text (joined [] a) (joined [] b)) ∙ ap (λ (l : List ℕ). l ++ joined [] b) (sym (joined-before text a))))
-
 -- what lies behind some columns is the columns from there on, and what lies behind those
 cut : (line : List ℕ) (first last : ℕ) → 1 ≤ first → first ≤ last → drop (first - 1) line ≡ columns first last line ++ drop last line
 cut line first last from o =
@@ -195,7 +149,7 @@ texts len line l [] next from h r s = let e = eqb-true next (len + 1) h in sym (
 texts len line l (row ∷ rows) next from h r s =
     let f = first_row next row rows len h in
     let e = f.first in
-    let o = f.ordered in
+    let o = ordered row.first row.last row.kind f.suited in
     let start : row.first - 1 ≡ next - 1 = omega arith in
     let back : row.last + 1 - 1 ≡ row.last = omega arith in
     let later = texts len line l rows (row.last + 1) (omega arith) f.later r s.2 ∙ ap (λ (n : ℕ). drop n line) back in
@@ -264,7 +218,7 @@ rows_alike line other a [] next len from h r s = tt
 rows_alike line other a (row ∷ rows) next len from h r s =
     let f = first_row next row rows len h in
     let e = f.first in
-    let o = f.ordered in (
+    let o = ordered row.first row.last row.kind f.suited in (
       value_alike line other a row.first row.last row.kind (omega arith) (row.value r) s.0,
       rows_alike line other a rows (row.last + 1) len (omega arith) f.later r s.1,
     )
