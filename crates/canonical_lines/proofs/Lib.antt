@@ -3,4 +3,3 @@ pub mod NumberTexts
 pub mod PointTexts
 pub mod Masks
 pub mod RowLaws
-pub mod TypeLines

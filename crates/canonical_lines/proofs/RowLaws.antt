@@ -1,110 +1,93 @@
 -- By a column table: a line whose columns hold canonical texts is read as the record of their values, and is that record's
 -- canonical spelling, except for the version.
 use Rattle.std.proofs.Common.{◌≡◌, ℕ, zero, suc, ◌+◌, ◌-◌, ◌≤◌, List, [], ◌∷◌, ◌++◌, length, take, drop, true, Some, None, Option, refl, sym, ap}
-use Rattle.std.proofs.Common.{◌∙◌, subst, arith, append_assoc, codes, nat_eq, ◌&&◌}
-use Rattle.std.proofs.lemmas.Bool.{and_parts, eqb-true, leb-true}
+use Rattle.std.proofs.Common.{◌∙◌, subst, arith, append_assoc, codes, replicate, unwrap_or}
+use Rattle.std.specs.List.{list_all}
+use Rattle.std.proofs.lemmas.Bool.{eqb-true}
 use Rattle.std.proofs.lemmas.List.{drop-drop, drop_all, take-append-drop}
+use Rattle.canonical_lines.proofs.NumberTexts.{only_blanks}
 use Rattle.canonical_lines.specs.SpeltLine.{with_version, IsSpeltLine}
+use Rattle.canonical_lines.specs.Texts.{IsNumberText, IsNumberOrNoneText, IsPointText, IsPointOrNoneText, IsPlacesText}
 use Rattle.tl_layout.specs.Bytes.{IsText, IsLine, columns}
 use Rattle.tl_layout.specs.ColumnTable.{Kind, Number, NumberOrNone, Pair, PairOrNone, NumberPlaces, PointPlaces, Opaque, Filler}
-use Rattle.tl_layout.specs.ColumnTable.{ValueOf, Row, width_of, SpellsValue, SpellsRows, FitsValue, FitsRows, is_suited, is_laid_out}
+use Rattle.tl_layout.specs.ColumnTable.{ValueOf, Row, width_of, SpellsValue, SpellsRows, FitsValue, FitsRows, is_laid_out}
 use Rattle.tl_layout.specs.Columns.{joined}
-use Rattle.tl_layout.specs.Coordinates.{Coordinates}
+use Rattle.tl_layout.specs.Coordinates.{Coordinates, IsOnMap}
 use Rattle.tl_layout.specs.FieldMeaning.{SpellsNumber, SpellsNumberOrNone, SpellsPoint, SpellsPointOrNone, SpellsPointPlace}
 use Rattle.tl_layout.specs.FieldMeaning.{SpellsNumberPlace, SpellsPlaces}
-use Rattle.tl_layout.specs.FieldTexts.{value_texts, rows_texts, rows_spelling}
+use Rattle.tl_layout.specs.FieldTexts.{value_texts, rows_texts, rows_spelling, number_text, number_place_text, point_place_text}
 use Rattle.tl_layout.specs.Laws.ColumnLaws.{joined-before, columns_of_text}
-use Rattle.tl_layout.specs.Laws.TableLaws.{Values, values_of, made, IsTable, table_spelling_is_line, table_reads_spelling}
-use Rattle.tl_layout.specs.Laws.TableLaws.{table_reads_spelled, table_spelled_is_read}
-use Rattle.tl_layout.specs.TableReading.{Makes, rows_reading}
+use Rattle.tl_layout.specs.Laws.TableLaws.{Values, values_of, made, first_row, ordered, laid_out_within, joined-append, table_spelling_is_line}
+use Rattle.tl_layout.specs.Laws.TableLaws.{table_reads_spelling, table_reads_spelled, table_spelled_is_read}
+use Rattle.tl_layout.specs.Laws.TypeLaws.{is_table}
+use Rattle.tl_layout.specs.NumberField.{is_blank}
+use Rattle.tl_layout.specs.Numbers.{IsNumber, IsNumberOrNone}
+use Rattle.tl_layout.specs.RecordTypes.{RecordType, byte_of, line_length, FieldsOf, table_of, make_of, reading_of, fields_spelling}
 
 -- ---- what is known of a line
 
+-- what a test finds of a field's columns; text is kept as it is and needs no test
+abbrev pub IsTested : Kind → List ℕ → Type 0
+IsTested Number = IsNumberText
+IsTested NumberOrNone = IsNumberOrNoneText
+IsTested Pair = IsPointText
+IsTested PairOrNone = IsPointOrNoneText
+IsTested NumberPlaces = IsPlacesText (IsNumber 8) number_place_text 5
+IsTested PointPlaces = IsPlacesText IsOnMap point_place_text 10
+IsTested Opaque = λ columns. Unit {0}
+IsTested Filler = λ columns. list_all is_blank columns ≡ true
+
+-- what a test finds of a field's columns, and something else
+abbrev And : Kind → List ℕ → Type 0 → Type 0
+And Opaque columns others = others
+And kind columns others = IsTested kind columns × others
+
+-- each field but texts was tested
+abbrev pub AreTested : {R : Type 0} → List ℕ → List (Row R) → Type 0
+AreTested line [] = Unit {0}
+AreTested line (row ∷ rows) = And row.kind (columns row.first row.last line) (AreTested line rows)
+
 -- the columns hold the canonical text of a value that fits them
-pub record HasCanonical (line : List ℕ) (first last : ℕ) (kind : Kind) : Type 0 where
+record HasCanonical (line : List ℕ) (first last : ℕ) (kind : Kind) : Type 0 where
   pub value : ValueOf kind
   pub fits : FitsValue (last + 1 - first) kind value
   pub text : columns first last line ≡ joined [] (value_texts (last + 1 - first) kind value)
-
--- the same for a field, but text that is kept as it is needs no test
-abbrev pub IsTested : List ℕ → ℕ → ℕ → Kind → Type 0
-IsTested line first last Opaque = Unit {0}
-IsTested line first last Number = HasCanonical line first last Number
-IsTested line first last NumberOrNone = HasCanonical line first last NumberOrNone
-IsTested line first last Pair = HasCanonical line first last Pair
-IsTested line first last PairOrNone = HasCanonical line first last PairOrNone
-IsTested line first last NumberPlaces = HasCanonical line first last NumberPlaces
-IsTested line first last PointPlaces = HasCanonical line first last PointPlaces
-IsTested line first last Filler = HasCanonical line first last Filler
-
--- each field was tested
-abbrev pub AreTested : {R : Type 0} → List ℕ → List (Row R) → Type 0
-AreTested line [] = Unit {0}
-AreTested line (row ∷ rows) = IsTested line row.first row.last row.kind × AreTested line rows
 
 -- each field has its canonical text
 abbrev AreCanonical : {R : Type 0} → List ℕ → List (Row R) → Type 0
 AreCanonical line [] = Unit {0}
 AreCanonical line (row ∷ rows) = HasCanonical line row.first row.last row.kind × AreCanonical line rows
 
--- ---- the columns of rows
-
--- the first row, and the rows after it
-record IsFirstRow {R : Type 0} (next : ℕ) (row : Row R) (rows : List (Row R)) (len : ℕ) : Type 0 where
-  first : row.first ≡ next
-  ordered : row.first ≤ row.last
-  later : is_laid_out (row.last + 1) rows len ≡ true
-
--- the first column is not behind the last one
-ordered : (first last : ℕ) (kind : Kind) → is_suited first last kind ≡ true → first ≤ last
-ordered first last Number h = leb-true first last h
-ordered first last NumberOrNone h = leb-true first last h
-ordered first last Pair h = let e = eqb-true last (first + 18) h in omega arith
-ordered first last PairOrNone h = let e = eqb-true last (first + 18) h in omega arith
-ordered first last NumberPlaces h = let e = eqb-true last (first + 39) h in omega arith
-ordered first last PointPlaces h = let e = eqb-true last (first + 189) h in omega arith
-ordered first last Opaque h = leb-true first last h
-ordered first last Filler h = leb-true first last h
-
--- a table is laid out as its first row and the rows after it are
-first_row : {R : Type 0} (next : ℕ) (row : Row R) (rows : List (Row R)) (len : ℕ) → is_laid_out next (row ∷ rows) len ≡ true
-    → IsFirstRow next row rows len
-first_row next row rows len h =
-    let parts = and_parts (nat_eq row.first next && is_suited row.first row.last row.kind) (is_laid_out (row.last + 1) rows len) h in
-    let front = and_parts (nat_eq row.first next) (is_suited row.first row.last row.kind) parts.0 in
-    record {
-      first = eqb-true row.first next front.0;
-      ordered = ordered row.first row.last row.kind front.1;
-      later = parts.1;
-    }
-
--- the next free column is in the line or directly after it
-laid_out_within : {R : Type 0} (rows : List (Row R)) (next len : ℕ) → is_laid_out next rows len ≡ true → next ≤ len + 1
-laid_out_within [] next len h = let e = eqb-true next (len + 1) h in omega arith
-laid_out_within (row ∷ rows) next len h =
-    let f = first_row next row rows len h in
-    let e = f.first in
-    let o = f.ordered in
-    let l = laid_out_within rows (row.last + 1) len f.later in
-    omega arith
-
 -- ---- the values
 
+-- the first field and the others
+split : (kind : Kind) (columns : List ℕ) (others : Type 0) → And kind columns others → IsTested kind columns × others
+split Opaque columns others h = (tt, h)
+split kind columns others h = h
+
 -- a tested field has its canonical text, and so has a text
-canonical : (len : ℕ) (line : List ℕ) → IsText len line → (first last : ℕ) (kind : Kind) → 1 ≤ first → first ≤ last → last ≤ len
-    → IsTested line first last kind → HasCanonical line first last kind
-canonical len line t first last Opaque from o within h = record {
-  value = columns first last line;
-  fits = columns_of_text len line t first last (last + 1 - first) from within (omega arith);
-  text = refl;
+canonical : (line : List ℕ) (first last : ℕ) (kind : Kind) → IsText (last + 1 - first) (columns first last line)
+    → IsTested kind (columns first last line) → HasCanonical line first last kind
+canonical line first last Number is t =
+    let P : ℕ → Type 0 = λ w. IsNumber w t.number in
+    record { value = t.number; fits = subst P is.len t.fits; text = t.text ∙ ap (λ (w : ℕ). number_text w t.number) is.len }
+canonical line first last NumberOrNone is t =
+    let P : ℕ → Type 0 = λ w. IsNumberOrNone w t.number in
+    record {
+      value = t.number;
+      fits = subst P is.len t.fits;
+      text = t.text ∙ ap (λ (w : ℕ). number_text w (unwrap_or t.number 0)) is.len;
+    }
+canonical line first last Pair is t = record { value = t.point; fits = t.on_map; text = t.text }
+canonical line first last PairOrNone is t = record { value = t.point; fits = t.on_map; text = t.text }
+canonical line first last NumberPlaces is t = record { value = t.items; fits = (t.few, t.fit); text = t.is }
+canonical line first last PointPlaces is t = record { value = t.items; fits = (t.few, t.fit); text = t.is }
+canonical line first last Opaque is t = record { value = columns first last line; fits = is; text = refl }
+canonical line first last Filler is t = record {
+  value = tt;
+  fits = tt;
+  text = only_blanks (columns first last line) t ∙ ap (λ (n : ℕ). replicate n 32) is.len;
 }
-canonical len line t first last Number from o within h = h
-canonical len line t first last NumberOrNone from o within h = h
-canonical len line t first last Pair from o within h = h
-canonical len line t first last PairOrNone from o within h = h
-canonical len line t first last NumberPlaces from o within h = h
-canonical len line t first last PointPlaces from o within h = h
-canonical len line t first last Filler from o within h = h
 
 -- if each field was tested, each has its canonical text
 all_canonical : {R : Type 0} (len : ℕ) (line : List ℕ) → IsText len line → (rows : List (Row R)) (next : ℕ) → 1 ≤ next
@@ -113,11 +96,11 @@ all_canonical len line t [] next from h a = tt
 all_canonical len line t (row ∷ rows) next from h a =
     let f = first_row next row rows len h in
     let e = f.first in
-    let o = f.ordered in
-    let l = laid_out_within rows (row.last + 1) len f.later in (
-      canonical len line t row.first row.last row.kind (omega arith) f.ordered (omega arith) a.0,
-      all_canonical len line t rows (row.last + 1) (omega arith) f.later a.1,
-    )
+    let o = ordered row.first row.last row.kind f.suited in
+    let l = laid_out_within rows (row.last + 1) len f.later in
+    let text = columns_of_text len line t row.first row.last (width_of row) (omega arith) (omega arith) (omega arith) in
+    let tested = split row.kind (columns row.first row.last line) (AreTested line rows) a in
+    (canonical line row.first row.last row.kind text tested.0, all_canonical len line t rows (row.last + 1) (omega arith) f.later tested.1)
 
 -- the values of the fields
 abbrev values : {R : Type 0} (line : List ℕ) (rows : List (Row R)) → AreCanonical line rows → Values rows
@@ -152,14 +135,6 @@ fit line (row ∷ rows) r h = (h.0, fit line rows r h.2)
 
 -- ---- the spelling
 
--- the texts of two lists, one list after the other
-joined-append : (a b : List (List ℕ)) → joined [] (a ++ b) ≡ joined [] a ++ joined [] b
-joined-append [] b = refl
-joined-append (text ∷ a) b =
-    joined-before text (a ++ b)
-    ∙ (ap (λ (l : List ℕ). text ++ l) (joined-append a b)
-    ∙ (sym (append_assoc text (joined [] a) (joined [] b)) ∙ ap (λ (l : List ℕ). l ++ joined [] b) (sym (joined-before text a))))
-
 -- what lies behind some columns is the columns from there on, and what lies behind those
 cut : (line : List ℕ) (first last : ℕ) → 1 ≤ first → first ≤ last → drop (first - 1) line ≡ columns first last line ++ drop last line
 cut line first last from o =
@@ -174,7 +149,7 @@ texts len line l [] next from h r s = let e = eqb-true next (len + 1) h in sym (
 texts len line l (row ∷ rows) next from h r s =
     let f = first_row next row rows len h in
     let e = f.first in
-    let o = f.ordered in
+    let o = ordered row.first row.last row.kind f.suited in
     let start : row.first - 1 ≡ next - 1 = omega arith in
     let back : row.last + 1 - 1 ≡ row.last = omega arith in
     let later = texts len line l rows (row.last + 1) (omega arith) f.later r s.2 ∙ ap (λ (n : ℕ). drop n line) back in
@@ -243,7 +218,7 @@ rows_alike line other a [] next len from h r s = tt
 rows_alike line other a (row ∷ rows) next len from h r s =
     let f = first_row next row rows len h in
     let e = f.first in
-    let o = f.ordered in (
+    let o = ordered row.first row.last row.kind f.suited in (
       value_alike line other a row.first row.last row.kind (omega arith) (row.value r) s.0,
       rows_alike line other a rows (row.last + 1) len (omega arith) f.later r s.1,
     )
@@ -262,11 +237,16 @@ alike line other e first last from =
 begins_with : (rtype : ℕ) (line : List ℕ) → columns 1 1 line ≡ rtype ∷ [] → with_version line ≡ (rtype ∷ codes "2006") ++ drop 5 line
 begins_with rtype line b = ap (λ (l : List ℕ). l ++ (codes "2006" ++ drop 5 line)) b
 
--- a full line whose fields all passed their tests is the canonical spelling of a record, except for the version
-pub tested_is_spelt : {R : Type 0} (rtype len : ℕ) (table : List (Row R)) (make : Makes table R) → IsTable rtype len table make
-    → (line : List ℕ) → IsLine rtype len line → AreTested line table
-    → (r : R) × IsSpeltLine (λ l. rows_reading table make l) (λ x. rows_spelling rtype table x) line r
-tested_is_spelt {R} rtype len table make is line l a =
+-- a full line of a type whose fields all passed their tests is the canonical spelling of a record, except for the version
+pub tested_is_spelt : (t : RecordType) (line : List ℕ) → IsLine (byte_of t) (line_length t) line → AreTested line (table_of t)
+    → (r : FieldsOf t) × IsSpeltLine (reading_of t) (fields_spelling t) line r
+unfolding reading_of fields_spelling
+tested_is_spelt t line l a =
+    let rtype = byte_of t in
+    let len = line_length t in
+    let table = table_of t in
+    let make = make_of t in
+    let is = is_table t in
     let each = all_canonical len line l.text table 6 (omega arith) is.laid_out a in
     let r = made table make (values line table each) in
     let held = holds line table each r (is.gives (values line table each)) in

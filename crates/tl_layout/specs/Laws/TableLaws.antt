@@ -93,30 +93,29 @@ spelled_values (row ∷ rows) line r s = (s.0, spelled_values rows line r s.1)
 -- ---- the columns of rows
 
 -- the first row, and the rows after it
-record IsFirstRow {R : Type 0} (next : ℕ) (row : Row R) (rows : List (Row R)) (len : ℕ) : Type 0 where
-  first : row.first ≡ next
-  suited : is_suited row.first row.last row.kind ≡ true
-  later : is_laid_out (row.last + 1) rows len ≡ true
+pub record IsFirstRow {R : Type 0} (next : ℕ) (row : Row R) (rows : List (Row R)) (len : ℕ) : Type 0 where
+  pub first : row.first ≡ next
+  pub suited : is_suited row.first row.last row.kind ≡ true
+  pub later : is_laid_out (row.last + 1) rows len ≡ true
 
-first_row : {R : Type 0} (next : ℕ) (row : Row R) (rows : List (Row R)) (len : ℕ) → is_laid_out next (row ∷ rows) len ≡ true
+-- a table is laid out as its first row and the rows after it are
+pub first_row : {R : Type 0} (next : ℕ) (row : Row R) (rows : List (Row R)) (len : ℕ) → is_laid_out next (row ∷ rows) len ≡ true
     → IsFirstRow next row rows len
 first_row next row rows len h =
     let parts = and_parts (nat_eq row.first next && is_suited row.first row.last row.kind) (is_laid_out (row.last + 1) rows len) h in
     let front = and_parts (nat_eq row.first next) (is_suited row.first row.last row.kind) parts.0 in
     record { first = eqb-true row.first next front.0; suited = front.1; later = parts.1 }
 
-ordered : (first last : ℕ) (kind : Kind) → is_suited first last kind ≡ true → first ≤ last
-ordered first last Number h = leb-true first last h
-ordered first last NumberOrNone h = leb-true first last h
+-- the first column is not behind the last one
+pub ordered : (first last : ℕ) (kind : Kind) → is_suited first last kind ≡ true → first ≤ last
 ordered first last Pair h = let e = eqb-true last (first + 18) h in omega arith
 ordered first last PairOrNone h = let e = eqb-true last (first + 18) h in omega arith
 ordered first last NumberPlaces h = let e = eqb-true last (first + 39) h in omega arith
 ordered first last PointPlaces h = let e = eqb-true last (first + 189) h in omega arith
-ordered first last Opaque h = leb-true first last h
-ordered first last Filler h = leb-true first last h
+ordered first last kind h = leb-true first last h
 
 -- the next free column is in the line or directly after it
-laid_out_within : {R : Type 0} (rows : List (Row R)) (next len : ℕ) → is_laid_out next rows len ≡ true → next ≤ len + 1
+pub laid_out_within : {R : Type 0} (rows : List (Row R)) (next len : ℕ) → is_laid_out next rows len ≡ true → next ≤ len + 1
 laid_out_within [] next len h = let e = eqb-true next (len + 1) h in omega arith
 laid_out_within (row ∷ rows) next len h =
     let f = first_row next row rows len h in
@@ -226,7 +225,8 @@ value_again before after first last Opaque at suited text f =
     columns_behind before text after first last at (omega arith)
 value_again before after first last Filler at suited value f = tt
 
-joined-append : (a b : List (List ℕ)) → joined [] (a ++ b) ≡ joined [] a ++ joined [] b
+-- the texts of two lists, one list after the other
+pub joined-append : (a b : List (List ℕ)) → joined [] (a ++ b) ≡ joined [] a ++ joined [] b
 joined-append [] b = refl
 joined-append (text ∷ a) b =
     joined-before text (a ++ b)

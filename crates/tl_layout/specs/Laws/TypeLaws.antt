@@ -33,7 +33,7 @@ laws_of rtype len table make is = record {
 }
 
 -- the tables of all types are laid out, and records are made of their rows' values
-is_table : (t : RecordType) → IsTable (byte_of t) (line_length t) (table_of t) (make_of t)
+pub is_table : (t : RecordType) → IsTable (byte_of t) (line_length t) (table_of t) (make_of t)
 is_table Type1 = record { allowed = refl; laid_out = refl; gives = λ values. refl; remade = λ r. refl }
 is_table _ = record { allowed = refl; laid_out = refl; gives = λ values. refl; remade = λ r. refl }
 

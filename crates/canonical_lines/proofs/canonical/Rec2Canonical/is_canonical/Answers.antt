@@ -1,8 +1,9 @@
 use Rattle.std.proofs.Common.{refl}
-use Rattle.canonical_lines.proofs.TypeLines.{line_2_is_spelt}
+use Rattle.canonical_lines.proofs.RowLaws.{tested_is_spelt}
+use Rattle.tl_layout.specs.RecordTypes.{Type2}
 use Rattle.canonical_lines.proofs.canonical.Rec2Canonical.is_canonical.Goals as goal
 
 pub returns-then-is_number : goal.returns-then-is_number
 returns-then-is_number c points =
-    line_2_is_spelt c.args.line.now c.requires (c.if-not-is_number.ensures refl) (c.is_number-2.ensures c.if-is_number.true)
-    (c.are_point_places.ensures points)
+    tested_is_spelt Type2 c.args.line.now c.requires
+    (c.if-not-is_number.ensures refl, (c.is_number-2.ensures c.if-is_number.true, (c.are_point_places.ensures points, tt)))

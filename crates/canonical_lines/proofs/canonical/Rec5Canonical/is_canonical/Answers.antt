@@ -1,5 +1,8 @@
-use Rattle.canonical_lines.proofs.TypeLines.{line_5_is_spelt}
+use Rattle.canonical_lines.proofs.RowLaws.{tested_is_spelt}
+use Rattle.tl_layout.specs.RecordTypes.{Type5}
 use Rattle.canonical_lines.proofs.canonical.Rec5Canonical.is_canonical.Goals as goal
 
 pub returns : goal.returns
-returns c feat = line_5_is_spelt c.args.line.now c.requires (c.is_number.ensures feat)
+returns c feat =
+    tested_is_spelt Type5 c.args.line.now c.requires
+    (c.is_number.ensures feat, tt)

@@ -1,8 +1,9 @@
 use Rattle.std.proofs.Common.{sym}
-use Rattle.canonical_lines.proofs.TypeLines.{line_8_is_spelt}
+use Rattle.canonical_lines.proofs.RowLaws.{tested_is_spelt}
+use Rattle.tl_layout.specs.RecordTypes.{Type8}
 use Rattle.canonical_lines.proofs.canonical.Rec8Canonical.is_canonical.Goals as goal
 
 pub returns-then-is_number : goal.returns-then-is_number
 returns-then-is_number c land =
-    line_8_is_spelt c.args.line.now c.requires (c.is_number.ensures c.if-is_number.true) (c.is_number-then-is_number.ensures land)
-    (sym c.if-not-is_blank.ensures)
+    tested_is_spelt Type8 c.args.line.now c.requires
+    (c.is_number.ensures c.if-is_number.true, (c.is_number-then-is_number.ensures land, (sym c.if-not-is_blank.ensures, tt)))
