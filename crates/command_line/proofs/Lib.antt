@@ -1,3 +1,4 @@
+pub mod Common
 pub mod PlannedSets
 pub mod MaskWords
 pub mod UsualWords

@@ -1,11 +1,7 @@
 -- Arguments with a flag that leaves fields out, for a job that has no such flag.
-use Rattle.std.proofs.Common.{◌≡◌, Bool, true, false, [], ◌∷◌, ◌++◌, refl}
-use Rattle.clap.specs.Words.{Text}
+use Rattle.command_line.proofs.Common.{◌≡◌, Bool, true, false, [], ◌∷◌, ◌++◌, refl, Text, AreUnderstood, word_of, Job, Respell, Check}
 use Rattle.clap.proofs.OnLiterals.{clap_on_literals}
-use Rattle.command_line.specs.Names.{AreUnderstood, TakesNoMask, reserved_words, source_words, stem_words}
-use Rattle.command_line.specs.Words.{word_of}
-use Rattle.command_line.specs.declared.plans.Job.{Job}
-use Rattle.command_line.specs.declared.plans.Job.TheVariants.{Respell, Check}
+use Rattle.command_line.specs.Names.{TakesNoMask, reserved_words, source_words, stem_words}
 use Rattle.command_line.proofs.UsualWords.Words.{each_mask}
 
 -- if the arguments of a job are valid, none of these flags is among them

@@ -1,23 +1,22 @@
 -- The results of clap's getters, by the values that clap found.
-use Rattle.std.proofs.Common.{◌≡◌, ◌∙◌, Bool, true, false, List, [], Option, Some, None, Result, Ok, Err}
-use Rattle.std.proofs.Common.{Bor, IfOk, ap, inl, inr, refl, sym, subst, codes, option_map}
+use Rattle.command_line.proofs.Common.{◌≡◌, ◌∙◌, Bool, true, false, List, [], Option, Some, None, Bor, ap, refl, sym, subst, codes}
+use Rattle.command_line.proofs.Common.{option_map, Row, found_of, subcommand_of, App, Text, first_of, one_of, rows_of, understood, Job}
+use Rattle.command_line.proofs.Common.{AreUnderstood, IsFlagGiven, IsPlanOf, word_of, Plan}
+use Rattle.std.proofs.Common.{Result, Ok, Err}
+use Rattle.std.proofs.Common.{IfOk, inl, inr}
 use Rattle.std.specs.Prelude.{Box, OnOk}
 use Rattle.std.specs.Box.{box_value}
-use Rattle.clap.specs.Words.{HasMatchesOf, Row, found_of, is_simple, subcommand_name_of, subcommand_of}
+use Rattle.clap.specs.Words.{HasMatchesOf, is_simple, subcommand_name_of}
 use Rattle.clap.specs.Simple.{subcommand_rows, subcommand_rows_of}
 use Rattle.clap.specs.declared.parser.matches.ArgMatches.{ArgMatches}
 use Rattle.clap.specs.declared.parser.matches.ArgMatches.TheViews.{out-ArgMatches, out-SubCommand}
 use Rattle.clap.specs.declared.parser.matches.SubCommand.{SubCommand}
-use Rattle.clap.specs.Words.{App, HasKind, Text, fault_of, first_of, is_simple_and_free, kind_of, one_of, rows_of, first_value, one_text}
+use Rattle.clap.specs.Words.{HasKind, fault_of, is_simple_and_free, kind_of, first_value, one_text}
 use Rattle.clap.specs.declared.error.Error.{Error}
 use Rattle.clap.specs.declared.error.kind.ErrorKind.TheVariants.{OutOfMemory}
 use Rattle.clap.specs.declared.parser.matches.Found.{Found}
 use Rattle.clap.proofs.WalkLemmas.{first_value-rows, one_text-rows}
-use Rattle.command_line.specs.Grammar.{understood}
-use Rattle.command_line.specs.declared.plans.Job.{Job}
-use Rattle.command_line.specs.Names.{AreUnderstood, IsFlagGiven, IsPlanOf, NamesItsSets}
-use Rattle.command_line.specs.Words.{word_of}
-use Rattle.command_line.specs.declared.plans.Plan.{Plan}
+use Rattle.command_line.specs.Names.{NamesItsSets}
 use Rattle.command_line.specs.declared.plans.PlanFault.{PlanFault}
 
 -- the value of an argument

@@ -1,19 +1,11 @@
 -- The canonical text of records that were read, and why there may be none.
-use Rattle.std.proofs.Common.{◌≡◌, ◌∙◌, ℕ, List, Result, Ok, Err, [], ◌∷◌, IfOk, IfErr, subst, sym}
-use Rattle.std.proofs.Common.{◌+◌, ◌++◌, ◌<◌, length, take}
-use Rattle.std.specs.Prelude.{MatchResult, if◌then◌else◌, is_ok}
-use Rattle.tl_write.specs.declared.fault.WriteFault.{WriteFault}
-use Rattle.tl_layout.specs.RecordText.{text_of}
-use Rattle.tl_layout.specs.declared.record_type.Record.{Record}
-use Rattle.tl_county.specs.County.{County, county_of}
-use Rattle.tl_county.specs.CountyRules.{IsCounty}
-use Rattle.tl_county.specs.Packing.{packed}
-use Rattle.tl_county.specs.Renumbering.{Renumbering, Carries}
-use Rattle.tl_county.proofs.Packing.PackedCounty.{packed_county}
-use Rattle.tl_number.specs.Sights.{IsSight}
-use Rattle.tigercanon.specs.Normalising.{GoesOut, IsOnlyTextThrough, StopsShort}
-use Rattle.tigercanon.specs.Sets.{CarriesSetThrough, IsAcceptedSet, IsCanonSetThrough, IsCanonicalTextThrough}
-use Rattle.tigercanon.specs.Sets.{IsOneCanonicalTextThrough}
+use Rattle.tigercanon.proofs.Common.{◌≡◌, ◌∙◌, ℕ, List, Result, Ok, Err, [], ◌∷◌, subst, sym, ◌+◌, ◌++◌, ◌<◌, length, take}
+use Rattle.tigercanon.proofs.Common.{MatchResult, if◌then◌else◌, is_ok, WriteFault, text_of, Record, County, county_of, IsCounty}
+use Rattle.tigercanon.proofs.Common.{packed, Renumbering, Carries, packed_county, IsSight, IsOnlyTextThrough, StopsShort}
+use Rattle.tigercanon.proofs.Common.{CarriesSetThrough, IsAcceptedSet, IsCanonSetThrough, IsCanonicalTextThrough}
+use Rattle.tigercanon.proofs.Common.{IsOneCanonicalTextThrough}
+use Rattle.std.proofs.Common.{IfOk, IfErr}
+use Rattle.tigercanon.specs.Normalising.{GoesOut}
 use Rattle.tigercanon.proofs.Sets.{one_text, only_text, text_accepted, text_itself}
 
 pub if_ok_by : {T E : Type 0} {P Q : T → Type 0} (r : Result T E) → ((x : T) → P x → Q x) → IfOk r P → IfOk r Q

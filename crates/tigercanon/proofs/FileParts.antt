@@ -1,13 +1,11 @@
 -- The bytes of a source that was read to its end, and the fault that is then recorded.
-use Rattle.std.proofs.Common.{◌≡◌, ◌≢◌, ℕ, ◌+◌, ◌%◌, ◌^◌, List, ◌++◌, Option, Some, None, Result, Ok, Err, append-nil, add_assoc, refl, sym}
-use Rattle.std.proofs.Common.{ap, subst, ◌∙◌}
+use Rattle.tigercanon.proofs.Common.{◌≡◌, ◌≢◌, ℕ, ◌+◌, ◌%◌, ◌^◌, List, ◌++◌, Option, Some, None, Result, Ok, Err, append-nil, refl}
+use Rattle.tigercanon.proofs.Common.{sym, ap, subst, ◌∙◌, IfSome, OnOk, Consumes, IsAtEnd, RoseBy, LoadFault, IsNotDevice}
+use Rattle.tigercanon.proofs.Common.{is_device_fault}
+use Rattle.std.proofs.Common.{add_assoc}
 use Rattle.std.proofs.Math.Nat.{mod-add-mod}
-use Rattle.std.specs.Prelude.{false, IfSome, IfErr, OnOk}
-use Rattle.std.specs.Io.KnownBytes.{Consumes, IsAtEnd}
-use Rattle.tl_load.specs.Sources.{RoseBy}
-use Rattle.tl_load.specs.declared.fault.LoadFault.{LoadFault}
+use Rattle.std.specs.Prelude.{false, IfErr}
 use Rattle.tl_load.specs.declared.fault.LoadFault.TheVariants as faults
-use Rattle.tl_load.specs.Loaded.{IsNotDevice, is_device_fault}
 
 -- bytes taken to the end are all bytes
 pub taken_all : (known left : Option (List ℕ)) (taken : List ℕ) → Consumes known left taken → IsAtEnd left

@@ -1,23 +1,15 @@
 -- The bytes read from sources over files are in the files.
-use Rattle.std.proofs.Common.{◌≡◌, ◌<◌, ◌⊎◌, ℕ, List, [], ◌∷◌, ◌++◌, map, Option, Some, None, inl, inr, refl, sym, ap, ◌∙◌, arith, subst}
-use Rattle.std.proofs.lemmas.List.{map-append}
+use Rattle.tigercanon.proofs.Common.{◌≡◌, ◌<◌, ◌⊎◌, ℕ, List, [], ◌∷◌, ◌++◌, map, Option, Some, None, inl, inr, refl, sym, ap, ◌∙◌}
+use Rattle.tigercanon.proofs.Common.{arith, subst, map-append, All, IfSome, MAX, Consumes, LoadFault, Fault, Load, Opened, bytes_of}
+use Rattle.tigercanon.proofs.Common.{IsRefusalOfRead, set_of_sources, AreRead, AreReadUpTo, record_limit, IsFirstFault, set_of_files}
+use Rattle.tigercanon.proofs.Common.{empty_fault, tiger}
 use Rattle.std.proofs.lemmas.List.Elements.{All-push}
-use Rattle.std.specs.Prelude.{All, IfSome, slice_index_or}
-use Rattle.std.below.core.specs.declared.int.u64.TheConstants.{MAX}
-use Rattle.std.specs.Io.KnownBytes.{Consumes}
-use Rattle.tl_load.specs.declared.fault.LoadFault.{LoadFault}
-use Rattle.tigercanon.specs.declared.fault.Fault.{Fault}
-use Rattle.tigercanon.specs.declared.fault.Fault.TheVariants.{Load}
-use Rattle.tigercanon.specs.declared.program.files.Opened.{Opened}
-use Rattle.tigercanon.specs.Files.{AreHeld, AreSourcesOf, bytes_of}
-use Rattle.tigercanon.specs.Devices.{IsRefusalOfRead, set_of_sources}
-use Rattle.tigercanon.specs.Reading.{AreRead, AreReadUpTo, IsFaultOfRead}
-use Rattle.tigercanon.specs.Respelling.{record_limit, IsFirstFault}
-use Rattle.tigercanon.specs.Running.{AreRefused, set_of_files}
+use Rattle.std.specs.Prelude.{slice_index_or}
+use Rattle.tigercanon.specs.Files.{AreHeld, AreSourcesOf}
+use Rattle.tigercanon.specs.Reading.{IsFaultOfRead}
+use Rattle.tigercanon.specs.Running.{AreRefused}
 use Rattle.tigercanon.proofs.FileParts.{taken_all}
 use Rattle.tigercanon.proofs.GivenSets.{IsKnownOf}
-use Rattle.tl_load.proofs.CutParts.{empty_fault}
-use Rattle.tl_load.specs.Choice.{tiger}
 
 -- one element more
 pub map_more : {A B C : Type 0} (f : A → C) (h : B → C) (xs zs : List A) (ys : List B) (x : A) (y : B) → zs ≡ xs ++ x ∷ []

@@ -1,16 +1,9 @@
 -- A statement about a set and its output holds for another set if every fact about the first is a fact about the second.
-use Rattle.std.proofs.Common.{◌⊎◌, inl, inr, ℕ, List, Option, Result, Ok, Err}
-use Rattle.tl_layout.specs.declared.mask.Mask.{Mask}
-use Rattle.command_line.specs.declared.plans.Job.{Job}
-use Rattle.command_line.specs.declared.plans.Job.TheVariants.{Compare}
-use Rattle.tigercanon.specs.declared.fault.Fault.{Fault}
-use Rattle.tigercanon.specs.declared.fault.Fault.TheVariants.{Load, Link, Profile, Write, Memory}
-use Rattle.tigercanon.specs.declared.program.ending.Ending.{Ending}
-use Rattle.tigercanon.specs.declared.program.ending.Ending.TheVariants.{Done, Different}
-use Rattle.tigercanon.specs.declared.program.ending.Stopped.{Stopped}
-use Rattle.tigercanon.specs.Faults.{IsOfNoLines}
-use Rattle.tigercanon.specs.Outcomes.{GivenOutput, GivenSet, HoldsAccepted, ReportsSet}
-use Rattle.tigercanon.specs.TwoSets.{Does, IsTextOf, LeavesStopped, OfTwoSets, ReportsFor}
+use Rattle.tigercanon.proofs.Common.{◌⊎◌, inl, inr, ℕ, List, Option, Result, Ok, Err, Mask, Job, Compare, Fault, Load, Link, Profile}
+use Rattle.tigercanon.proofs.Common.{Write, Memory, Ending, Done, Stopped, IsOfNoLines, GivenOutput, GivenSet, HoldsAccepted}
+use Rattle.tigercanon.proofs.Common.{ReportsSet, Does, IsTextOf, LeavesStopped, ReportsFor}
+use Rattle.tigercanon.specs.declared.program.ending.Ending.TheVariants.{Different}
+use Rattle.tigercanon.specs.TwoSets.{OfTwoSets}
 
 -- every fact about one set is a fact about the other
 pub record IsKnownOf (a b : GivenSet) : Type 0 where

@@ -1,16 +1,12 @@
 -- The final contents of a lent writer.
-use Rattle.std.proofs.Common.{◌≡◌, ◌+◌, ◌∙◌, inl, inr, ℕ, List, ◌∷◌, ◌++◌, Option, Some, None, Result, Ok, Err, length, take}
-use Rattle.std.proofs.Common.{refl, sym, ap, subst}
+use Rattle.tigercanon.proofs.Common.{◌≡◌, ◌+◌, ◌∙◌, inl, inr, ℕ, List, ◌∷◌, ◌++◌, Option, Some, None, Result, Ok, Err, length, take}
+use Rattle.tigercanon.proofs.Common.{refl, sym, ap, subst, OnOk, to_sink, StopsShort, Took, ReportsLine, to_writer, WriteFault}
 use Rattle.std.proofs.Math.Seq.{take-length}
-use Rattle.std.specs.Prelude.{IfErr, OnOk}
+use Rattle.std.specs.Prelude.{IfErr}
 use Rattle.std.specs.Io.KnownBytes.{Appends, Keeps}
-use Rattle.tigercanon.specs.Devices.{to_sink}
 use Rattle.tigercanon.specs.Lending.{HoldsUnderName}
-use Rattle.tigercanon.specs.Normalising.{StopsShort, Took}
-use Rattle.tigercanon.specs.Outcomes.{ReportsLine, ReportsLineTo}
-use Rattle.tigercanon.specs.Running.{to_writer}
+use Rattle.tigercanon.specs.Outcomes.{ReportsLineTo}
 use Rattle.tigercanon.proofs.GivenSets.{IsPrintedTo}
-use Rattle.tl_write.specs.declared.fault.WriteFault.{WriteFault}
 
 pub kept : (known : Option (List ℕ)) → Keeps known known
 kept None = tt

@@ -1,12 +1,6 @@
 -- Sets under a mask: the view of a set's county, and the mask that leaves nothing out.
-use Rattle.std.proofs.Common.{◌≡◌, ◌∙◌, ℕ, List, sym, ap, subst}
-use Rattle.tl_layout.specs.Masked.{no_mask}
-use Rattle.tl_layout.specs.declared.mask.Mask.{Mask}
-use Rattle.tl_county.specs.County.{County, county_of}
-use Rattle.tl_county.specs.MaskedCounty.{masked}
+use Rattle.tigercanon.proofs.Common.{◌≡◌, ◌∙◌, ℕ, List, sym, ap, subst, no_mask, Mask, County, county_of, masked, plain, IsAcceptable}
 use Rattle.tl_county.proofs.Masks.MaskedCounties.{masked_by_none}
-use Rattle.tl_number.specs.Sights.{plain}
-use Rattle.tigercanon.specs.Comparing.{IsAcceptable}
 use Rattle.tigercanon.specs.Sets.{IsSeenSet}
 
 -- a mask that leaves nothing out shows counties as they are

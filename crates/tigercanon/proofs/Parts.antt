@@ -1,13 +1,10 @@
 -- Slices of bytes as the parts of a set.
-use Rattle.std.proofs.Common.{◌≡◌, ℕ, suc, ◌<◌, ◌+◌, List, [], ◌∷◌, ◌++◌, length, take, drop, get_or, map, Bor, ap, sym, ◌∙◌}
-use Rattle.std.proofs.Common.{subst, append-nil, append_assoc}
+use Rattle.tigercanon.proofs.Common.{◌≡◌, ℕ, suc, ◌<◌, ◌+◌, List, [], ◌∷◌, ◌++◌, length, take, get_or, map, ap, sym, ◌∙◌, subst}
+use Rattle.tigercanon.proofs.Common.{append-nil, map-append, empty_fault, tiger, IsFaultHowever, LoadFault, record_limit, IsFirstFault}
+use Rattle.std.proofs.Common.{drop, Bor}
+use Rattle.std.proofs.Common.{append_assoc}
 use Rattle.std.proofs.Math.Seq.{drop-cons}
-use Rattle.std.proofs.lemmas.List.{take_more, take-append-drop, map-append}
-use Rattle.tl_load.proofs.CutParts.{empty_fault}
-use Rattle.tl_load.specs.Choice.{tiger}
-use Rattle.tl_load.specs.Loaded.{IsFaultHowever}
-use Rattle.tl_load.specs.declared.fault.LoadFault.{LoadFault}
-use Rattle.tigercanon.specs.Respelling.{record_limit, IsFirstFault}
+use Rattle.std.proofs.lemmas.List.{take_more, take-append-drop}
 
 abbrev pub parts_of : List (Bor (List ℕ)) → List (List ℕ)
 parts_of slices = map (λ p. p.now) slices

@@ -1,14 +1,11 @@
 -- Sources that were read one after another.
-use Rattle.std.proofs.Common.{◌≡◌, ℕ, zero, suc, ◌+◌, ◌<◌, ◌%◌, ◌^◌, List, [], ◌∷◌, ◌++◌, length, get_or, Option, Some, None}
-use Rattle.std.proofs.Common.{inl, inr, refl, sym, ap, ◌∙◌, subst, arith, add-zero}
+use Rattle.tigercanon.proofs.Common.{◌≡◌, ℕ, suc, ◌+◌, ◌<◌, ◌%◌, ◌^◌, List, [], ◌∷◌, ◌++◌, length, get_or, Option, Some, None, inl}
+use Rattle.tigercanon.proofs.Common.{inr, refl, sym, ap, ◌∙◌, subst, arith, Consumes, IsAtEnd, Record, LoadedInto, WasFedInto, Gave}
+use Rattle.tigercanon.proofs.Common.{AreRead, AreReadUpTo, IsUnread, NoneFailed, OneFailed, SomeUnread, record_limit}
+use Rattle.std.proofs.Common.{zero}
+use Rattle.std.proofs.Common.{add-zero}
 use Rattle.std.proofs.Math.ListN.{set}
 use Rattle.std.proofs.Math.Seq.{map-set_same}
-use Rattle.std.specs.Io.KnownBytes.{Consumes, IsAtEnd}
-use Rattle.tl_layout.specs.declared.record_type.Record.{Record}
-use Rattle.tl_load.specs.Keeping.{LoadedInto, WasFedInto}
-use Rattle.tl_load.specs.Sources.{Gave}
-use Rattle.tigercanon.specs.Reading.{AreRead, AreReadUpTo, IsUnread, NoneFailed, OneFailed, SomeUnread}
-use Rattle.tigercanon.specs.Respelling.{record_limit}
 
 module _ {R : Type 0} (remaining : R → Option (List ℕ)) (given : R → ℕ) where
   -- the first sources were read to their ends and returned these parts, and the others are unchanged

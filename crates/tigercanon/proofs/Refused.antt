@@ -1,26 +1,17 @@
 -- The exit status, and what it says about a job.
-use Rattle.std.proofs.Common.{◌≡◌, ◌≢◌, ◌⊎◌, ◌<◌, ◌≤◌, ◌∷◌, [], Contains, Result, Ok, Err, IfErr, inl, inr, refl, sym, subst, ◌∙◌, ℕ, List, Option}
-use Rattle.std.proofs.Common.{arith, lit<}
-use Rattle.std.specs.Prelude.{MatchResult, OnOk}
+use Rattle.tigercanon.proofs.Common.{◌≡◌, ◌≢◌, ◌⊎◌, ◌<◌, ◌≤◌, ◌∷◌, [], Result, Ok, Err, inl, inr, refl, sym, subst, ◌∙◌, ℕ, List}
+use Rattle.tigercanon.proofs.Common.{Option, arith, MatchResult, OnOk, Device, Mask, Job, Compare, Fault, Load, Link, Profile, Write}
+use Rattle.tigercanon.proofs.Common.{Memory, Ending, Done, Stopped, Opened, IsOfNoLines, GivenOutput, GivenSet, HoldsAccepted}
+use Rattle.tigercanon.proofs.Common.{ReportsSet, fault_line, IsOfMissing, Does, LeavesStopped, ReportsFor}
+use Rattle.std.proofs.Common.{Contains, IfErr}
+use Rattle.std.proofs.Common.{lit<}
 use Rattle.tl_county.specs.declared.fault.LinkFault.TheVariants.{Memory as LinkMemory}
-use Rattle.tl_load.specs.declared.fault.LoadFault.TheVariants.{Device}
 use Rattle.tl_load.specs.declared.fault.LoadFault.TheVariants.{Memory as LoadMemory}
 use Rattle.tl_profile.specs.declared.fault.ProfileFault.TheVariants.{Memory as ProfileMemory}
-use Rattle.tl_layout.specs.declared.mask.Mask.{Mask}
-use Rattle.command_line.specs.declared.plans.Job.{Job}
-use Rattle.command_line.specs.declared.plans.Job.TheVariants.{Compare}
-use Rattle.tigercanon.specs.declared.fault.Fault.{Fault}
-use Rattle.tigercanon.specs.declared.fault.Fault.TheVariants.{Load, Link, Profile, Write, Memory}
-use Rattle.tigercanon.specs.declared.program.ending.Ending.{Ending}
-use Rattle.tigercanon.specs.declared.program.ending.Ending.TheVariants.{Done, Different}
-use Rattle.tigercanon.specs.declared.program.ending.Stopped.{Stopped}
-use Rattle.tigercanon.specs.declared.program.files.Opened.{Opened}
-use Rattle.tigercanon.specs.Faults.{IsOfNoLines}
-use Rattle.tigercanon.specs.Outcomes.{GivenOutput, GivenSet, HoldsAccepted, ReportsSet}
-use Rattle.tigercanon.specs.Refusals.{fault_line}
-use Rattle.tigercanon.specs.Running.{IsOfMissing, ReportsMissing}
+use Rattle.tigercanon.specs.declared.program.ending.Ending.TheVariants.{Different}
+use Rattle.tigercanon.specs.Running.{ReportsMissing}
 use Rattle.tigercanon.specs.Statuses.{status_of, status_of_outcome}
-use Rattle.tigercanon.specs.TwoSets.{Does, IsDifferent, IsDone, IsPartOnly, IsReportedWhy, LeavesStopped, RefusesOne, ReportsFor}
+use Rattle.tigercanon.specs.TwoSets.{IsDifferent, IsDone, IsPartOnly, IsReportedWhy, RefusesOne}
 
 -- each fault has one of the statuses above 1
 status_above : (f : Fault) → (1 < status_of f) × Contains (0 ∷ 1 ∷ 3 ∷ 4 ∷ 5 ∷ []) (status_of f)

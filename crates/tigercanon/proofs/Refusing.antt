@@ -1,21 +1,13 @@
 -- A set is refused for the fault of its records.
-use Rattle.std.proofs.Common.{◌≢◌, ℕ, List, Option, subst}
-use Rattle.tl_layout.specs.declared.record_type.Record.{Record}
-use Rattle.tl_load.specs.Choice.{tiger}
+use Rattle.tigercanon.proofs.Common.{◌≢◌, ℕ, List, Option, subst, Record, tiger, SpellsWithin, Device, spelled_fit, accepted_within}
+use Rattle.tigercanon.proofs.Common.{Fault, Load, Link, Profile, Write, Memory, ReportsRefusal, ReportsRefusalOfRead, ReportsRead}
+use Rattle.tigercanon.proofs.Common.{AreRead, record_limit}
 use Rattle.tl_layout.specs.Tables.{HoldsByType}
 use Rattle.tl_layout.specs.declared.tables.Tables.{Tables}
-use Rattle.tl_load.specs.Outcome.{SpellsWithin}
-use Rattle.tl_load.specs.declared.fault.LoadFault.TheVariants.{Device}
-use Rattle.tl_load.proofs.RecordLines.{spelled_fit, accepted_within}
 use Rattle.tl_county.specs.Limits.{HoldsWithinLimits}
-use Rattle.tigercanon.specs.declared.fault.Fault.{Fault}
-use Rattle.tigercanon.specs.declared.fault.Fault.TheVariants.{Load, Link, Profile, Write, Memory}
 use Rattle.tl_county.specs.Packing.{Typed}
-use Rattle.tigercanon.specs.Faults.{RefusesRecords, ReportsRefusal, ReportsRefusalOfRead}
+use Rattle.tigercanon.specs.Faults.{RefusesRecords}
 use Rattle.tigercanon.specs.Linked.{AreLinkedAs, IsLinkedSet}
-use Rattle.tigercanon.specs.Normalising.{ReportsRead}
-use Rattle.tigercanon.specs.Reading.{AreRead}
-use Rattle.tigercanon.specs.Respelling.{record_limit}
 
 -- parts are refused for the fault of their records
 pub set_refused : (parts : List (List ℕ)) (records : List Record) → SpellsWithin tiger record_limit parts records → (f : Fault)

@@ -1,18 +1,13 @@
 -- Faults reported for parts that were read, as faults reported for parts and for two sets.
-use Rattle.std.proofs.Common.{◌≢◌, ℕ, List, Result, Err, IfErr, inl, inr, refl, ap}
-use Rattle.tl_layout.specs.declared.record_type.Record.{Record}
-use Rattle.tl_load.specs.Loaded.{IsNotDevice}
-use Rattle.tl_load.specs.declared.fault.LoadFault.{LoadFault}
+use Rattle.tigercanon.proofs.Common.{◌≢◌, ℕ, List, Result, Err, inl, inr, refl, ap, Record, IsNotDevice, LoadFault}
+use Rattle.tigercanon.proofs.Common.{ReportsRefusalOfOneRead, IsWantOfMemory, ReportsRefusal, ReportsRefusalOfRead, IsAcceptedSet}
+use Rattle.tigercanon.proofs.Common.{Fault, Load, Link, Profile, Write, Memory, CompareFault, In}
+use Rattle.std.proofs.Common.{IfErr}
 use Rattle.tl_load.specs.declared.fault.LoadFault.TheVariants as faults
 use Rattle.tl_county.specs.declared.fault.LinkFault.TheVariants.{Memory as LinkMemory}
 use Rattle.tl_profile.specs.declared.fault.ProfileFault.TheVariants.{Memory as ProfileMemory}
-use Rattle.tigercanon.specs.Comparing.{ReportsMemoryOfAccepted, ReportsRefusalOfOne, ReportsRefusalOfOneRead}
-use Rattle.tigercanon.specs.Faults.{IsWantOfMemory, ReportsRefusal, ReportsRefusalOfRead}
-use Rattle.tigercanon.specs.Sets.{IsAcceptedSet}
-use Rattle.tigercanon.specs.declared.fault.Fault.{Fault}
-use Rattle.tigercanon.specs.declared.fault.Fault.TheVariants.{Load, Link, Profile, Write, Memory}
-use Rattle.tigercanon.specs.declared.library.comparing.CompareFault.{CompareFault}
-use Rattle.tigercanon.specs.declared.library.comparing.CompareFault.TheVariants.{In, Memory as NoMemory}
+use Rattle.tigercanon.specs.Comparing.{ReportsMemoryOfAccepted, ReportsRefusalOfOne}
+use Rattle.tigercanon.specs.declared.library.comparing.CompareFault.TheVariants.{Memory as NoMemory}
 use Rattle.tigercanon.proofs.CanonicalTexts.{err_holds, if_err_by}
 use Rattle.tigercanon.proofs.Sets.{accepted_set_not_refused}
 use Rattle.tigercanon.proofs.Succeeding.{memory_alone}

@@ -1,15 +1,9 @@
 -- Sets with the same lines are accepted alike, refused alike except for a faulty line's part and line, and have one canonical text.
-use Rattle.std.proofs.Common.{◌≡◌, ℕ, List, refl, ap}
-use Rattle.tl_layout.specs.declared.record_type.Record.{Record}
-use Rattle.tl_load.specs.Choice.{tiger}
+use Rattle.tigercanon.proofs.Common.{◌≡◌, ℕ, List, refl, ap, Record, tiger, SpellsWithin, County, record_limit, IsAcceptedSet}
+use Rattle.tigercanon.proofs.Common.{IsSetRefusal, IsCanonicalTextThrough, Fault, Load, Link, Profile, Write, Memory}
 use Rattle.tl_load.specs.Lines.{HaveSameLines}
-use Rattle.tl_load.specs.Outcome.{SpellsWithin}
 use Rattle.tl_load.proofs.CutParts.{spells_as, fault_elsewhere}
-use Rattle.tl_county.specs.County.{County}
-use Rattle.tigercanon.specs.Respelling.{record_limit}
-use Rattle.tigercanon.specs.Sets.{IsAcceptedSet, IsSetRefusal, IsCanonicalTextThrough, refusal_without_place}
-use Rattle.tigercanon.specs.declared.fault.Fault.{Fault}
-use Rattle.tigercanon.specs.declared.fault.Fault.TheVariants.{Load, Link, Profile, Write, Memory}
+use Rattle.tigercanon.specs.Sets.{refusal_without_place}
 
 module _ (parts others : List (List ℕ)) (same : HaveSameLines parts others) where
   spelled_alike : (records : List Record) → SpellsWithin tiger record_limit parts records → SpellsWithin tiger record_limit others records

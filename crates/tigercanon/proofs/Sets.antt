@@ -1,32 +1,26 @@
 -- Each set is accepted or has one refusal; two sets have one canonical text exactly if their counties are the same.
-use Rattle.std.proofs.Common.{◌≡◌, ◌⊎◌, ℕ, List, [], ◌∷◌, refl, sym, ap, ◌∙◌, subst, inl, inr, lit≤}
-use Rattle.std.specs.Prelude.{All}
+use Rattle.tigercanon.proofs.Common.{◌≡◌, ◌⊎◌, ℕ, List, [], ◌∷◌, refl, sym, ap, ◌∙◌, subst, inl, inr, All, text_of, Record}
+use Rattle.tigercanon.proofs.Common.{SpellsWithin, LoadFault, tiger_is_sound, spelled_fit, accepted_within, County, county_of, AreSame}
+use Rattle.tigercanon.proofs.Common.{IsSight, plain, IsOnlyTextThrough, record_limit, IsAcceptedSet, IsSetRefusal}
+use Rattle.tigercanon.proofs.Common.{IsCanonicalTextThrough, Fault, Load, Link, Profile, Write, Memory, IsFirstBrokenClause}
+use Rattle.tigercanon.proofs.Common.{one_canonical_same}
+use Rattle.std.proofs.Common.{lit≤}
 use Rattle.std.specs.List.{AllByRecursion}
 use Rattle.std.proofs.lemmas.List.Elements.{All-from_recursion, recursion_from_All}
 use Rattle.tl_layout.specs.Limits.{IsWithinLimit}
-use Rattle.tl_layout.specs.RecordText.{FitsRecord, text_of}
-use Rattle.tl_layout.specs.declared.record_type.Record.{Record}
+use Rattle.tl_layout.specs.RecordText.{FitsRecord}
 use Rattle.tl_load.specs.Choice.{tiger}
-use Rattle.tl_load.specs.Outcome.{Spells, SpellsWithin, FaultAt, IsSpelled, IsFaulty}
-use Rattle.tl_load.specs.declared.fault.LoadFault.{LoadFault}
-use Rattle.tl_load.proofs.RecordLines.{tiger_is_sound, spelled_fit, accepted_within}
+use Rattle.tl_load.specs.Outcome.{Spells, FaultAt, IsSpelled, IsFaulty}
 use Rattle.tl_load.proofs.Reading.{one_verdict}
 use Rattle.tl_load.proofs.TextLemmas.{text_spells, text_spells_only}
-use Rattle.tl_county.specs.County.{County, county_of}
-use Rattle.tl_county.specs.Renumbering.{AreSame}
 use Rattle.tl_number.specs.Accepted.{IsAccepted, RecordsRefusal, Unlinked, OutOfProfile, IsRefusal}
-use Rattle.tl_number.specs.Sights.{IsSight, plain}
 use Rattle.tl_number.specs.Strict.{IsStrictThrough}
-use Rattle.tigercanon.specs.Normalising.{IsOnlyText, IsOnlyTextThrough}
-use Rattle.tigercanon.specs.Respelling.{record_limit}
-use Rattle.tigercanon.specs.Sets.{IsAcceptedSet, IsSetRefusal, IsCanonicalText, IsCanonicalTextThrough}
-use Rattle.tigercanon.specs.declared.fault.Fault.{Fault}
-use Rattle.tigercanon.specs.declared.fault.Fault.TheVariants.{Load, Link, Profile, Write, Memory}
+use Rattle.tigercanon.specs.Normalising.{IsOnlyText}
+use Rattle.tigercanon.specs.Sets.{IsCanonicalText}
 use Rattle.tl_county.specs.LinkRules.{IsLinked, IsFirstBrokenRule}
 use Rattle.tl_county.proofs.Rules.LinkFaults.{linked_has_none, one_first_rule}
-use Rattle.tl_profile.specs.Profile.{IsFirstBrokenClause}
 use Rattle.tl_profile.proofs.ProfileFaults.{profile_has_none, one_first_clause}
-use Rattle.tl_number.proofs.CanonicalLists.Accepted.{accepted_or_refused, one_canonical_same, same_canonical_text}
+use Rattle.tl_number.proofs.CanonicalLists.Accepted.{accepted_or_refused, same_canonical_text}
 use Rattle.tl_number.proofs.CanonicalLists.Accepted.{canonical_accepted, canonical_as_it_is, canonical_of_itself}
 use Rattle.tl_number.proofs.CanonicalLists.Ascending.{canonical_exists}
 use Rattle.tl_number.proofs.Arrangements.ArrangedNumbers.{canonical_within}

@@ -1,24 +1,14 @@
 -- What a job over sources and a sink did.
-use Rattle.std.proofs.Common.{◌≡◌, ◌+◌, inl, inr, ℕ, List, ◌∷◌, Option, None, Result, Ok, Err, refl, sym, ap, subst}
+use Rattle.tigercanon.proofs.Common.{◌≡◌, ◌+◌, inl, inr, ℕ, List, ◌∷◌, Option, None, Result, Ok, Err, refl, sym, ap, subst, WriteFault}
+use Rattle.tigercanon.proofs.Common.{Device, masked, Mask, Job, Compare, Respell, Fault, Load, Link, Profile, Write, Memory, Ending}
+use Rattle.tigercanon.proofs.Common.{Done, Stopped, IsRefusalOfRead, StopsReading, set_of_sources, to_sink, IsOfNoLines}
+use Rattle.tigercanon.proofs.Common.{ReportsRefusalOfRead, ReportsRead, GivenOutput, GivenSet, ReportsSet, AreRead, OneFailed}
+use Rattle.tigercanon.proofs.Common.{SomeUnread, IsSetRefusal, Does, IsTextOf, LeavesStopped, ReportsFor}
 use Rattle.std.specs.Prelude.{true, false}
-use Rattle.tl_write.specs.declared.fault.WriteFault.{WriteFault}
-use Rattle.tl_load.specs.declared.fault.LoadFault.TheVariants.{Device}
-use Rattle.tl_county.specs.MaskedCounty.{masked}
-use Rattle.tl_layout.specs.declared.mask.Mask.{Mask}
-use Rattle.command_line.specs.declared.plans.Job.{Job}
-use Rattle.command_line.specs.declared.plans.Job.TheVariants.{Compare, Normalise, Respell}
-use Rattle.tigercanon.specs.declared.fault.Fault.{Fault}
-use Rattle.tigercanon.specs.declared.fault.Fault.TheVariants.{Load, Link, Profile, Write, Memory}
-use Rattle.tigercanon.specs.declared.program.ending.Ending.{Ending}
-use Rattle.tigercanon.specs.declared.program.ending.Ending.TheVariants.{Done}
-use Rattle.tigercanon.specs.declared.program.ending.Stopped.{Stopped}
-use Rattle.tigercanon.specs.Devices.{IsRefusalOfRead, PrintsTo, StopsReading, set_of_sources, to_sink}
-use Rattle.tigercanon.specs.Faults.{IsOfNoLines, ReportsRefusalOfRead}
-use Rattle.tigercanon.specs.Normalising.{IsCutOffThrough, ReportsRead, is_of_sink}
-use Rattle.tigercanon.specs.Outcomes.{GivenOutput, GivenSet, Reports, ReportsSet}
-use Rattle.tigercanon.specs.Reading.{AreRead, OneFailed, SomeUnread}
-use Rattle.tigercanon.specs.Sets.{IsSetRefusal}
-use Rattle.tigercanon.specs.TwoSets.{Does, IsTextOf, LeavesStopped, ReportsFor}
+use Rattle.command_line.specs.declared.plans.Job.TheVariants.{Normalise}
+use Rattle.tigercanon.specs.Devices.{PrintsTo}
+use Rattle.tigercanon.specs.Normalising.{IsCutOffThrough, is_of_sink}
+use Rattle.tigercanon.specs.Outcomes.{Reports}
 
 -- a source that failed couldn't be read
 unread_of_failed : {R : Type 0} (failed reads : R → ℕ) (before after : List R) → OneFailed failed before after

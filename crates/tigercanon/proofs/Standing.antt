@@ -1,18 +1,12 @@
 -- The faults of a loader that was fed closed parts.
-use Rattle.std.proofs.Common.{◌≡◌, ℕ, ◌+◌, List, [], ◌∷◌, ◌++◌, Option, Some, None, refl, ap, ◌∙◌, subst}
-use Rattle.std.specs.Prelude.{MatchOption, if◌then◌else◌}
-use Rattle.tl_layout.specs.declared.record_type.Record.{Record}
-use Rattle.tl_load.specs.Choice.{tiger}
-use Rattle.tl_load.specs.Keeping.{AreKept, LoadedInto, WasFedInto, seen}
-use Rattle.tl_load.specs.Loaded.{HasLoaded, IsFaultHowever, IsOfLines, is_device_fault, with_line_feeds}
-use Rattle.tl_load.specs.Outcome.{SpellsWithin}
-use Rattle.tl_load.specs.declared.fault.LoadFault.{LoadFault}
+use Rattle.tigercanon.proofs.Common.{◌≡◌, ℕ, ◌+◌, List, [], ◌∷◌, ◌++◌, Option, Some, None, refl, ap, ◌∙◌, subst, if◌then◌else◌, Record}
+use Rattle.tigercanon.proofs.Common.{tiger, LoadedInto, WasFedInto, IsFaultHowever, IsOfLines, is_device_fault, SpellsWithin}
+use Rattle.tigercanon.proofs.Common.{LoadFault, accepted_no_fault, tiger_is_sound, empty_fault, record_limit, IsFirstFault}
+use Rattle.std.specs.Prelude.{MatchOption}
+use Rattle.tl_load.specs.Keeping.{AreKept, seen}
+use Rattle.tl_load.specs.Loaded.{HasLoaded, with_line_feeds}
 use Rattle.tl_load.specs.declared.fault.LoadFault.TheVariants as faults
-use Rattle.tl_load.proofs.Reading.{accepted_no_fault}
-use Rattle.tl_load.proofs.RecordLines.{tiger_is_sound}
 use Rattle.tigercanon.proofs.FileParts.{no_device_reported}
-use Rattle.tl_load.proofs.CutParts.{empty_fault}
-use Rattle.tigercanon.specs.Respelling.{record_limit, IsFirstFault}
 
 module _ {K : Type 0} (holds : K → List Record → Type 0) (l : LoadedInto K) where
   Comes : List (List ℕ) → List ℕ → Option LoadFault → Type 0

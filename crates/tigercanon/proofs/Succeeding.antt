@@ -1,17 +1,7 @@
 -- Parts that spell records can only be refused for lack of memory.
-use Rattle.std.proofs.Common.{ℕ, List}
-use Rattle.tl_layout.specs.declared.record_type.Record.{Record}
-use Rattle.tl_load.proofs.RecordLines.{tiger_is_sound}
-use Rattle.tl_load.proofs.Reading.{accepted_no_fault}
-use Rattle.tl_load.specs.Choice.{tiger}
-use Rattle.tl_load.specs.Loaded.{IsOfLines, IsNotDevice}
-use Rattle.tl_load.specs.Outcome.{SpellsWithin}
-use Rattle.tl_load.specs.declared.fault.LoadFault.{LoadFault}
-use Rattle.tl_load.specs.declared.fault.LoadFault.TheVariants.{Device}
+use Rattle.tigercanon.proofs.Common.{ℕ, List, Record, tiger_is_sound, accepted_no_fault, tiger, IsOfLines, IsNotDevice, SpellsWithin}
+use Rattle.tigercanon.proofs.Common.{LoadFault, Device, Load, record_limit, IsFirstFault, IsWantOfMemory}
 use Rattle.tl_load.specs.declared.fault.LoadFault.TheVariants.{Memory as LoadMemory}
-use Rattle.tigercanon.specs.declared.fault.Fault.TheVariants.{Load}
-use Rattle.tigercanon.specs.Respelling.{record_limit, IsFirstFault}
-use Rattle.tigercanon.specs.Faults.{IsWantOfMemory}
 
 pub memory_alone : (parts : List (List ℕ)) (records : List Record) (f : LoadFault) → SpellsWithin tiger record_limit parts records
     → (IsOfLines f → IsFirstFault parts f) → IsNotDevice f → IsWantOfMemory (Load f)

@@ -1,18 +1,11 @@
 -- A comparison of two sets from sources: its line, and the fault that is reported.
-use Rattle.std.proofs.Common.{◌≡◌, inl, inr, ℕ, List, Option, Some, refl, ap}
-use Rattle.command_line.specs.declared.plans.Job.TheVariants.{Compare}
-use Rattle.tigercanon.specs.declared.program.ending.Ending.TheVariants.{Done, Different}
-use Rattle.tigercanon.specs.declared.fault.Fault.{Fault}
-use Rattle.tl_county.specs.MaskedCounty.{masked}
-use Rattle.tl_layout.specs.declared.mask.Mask.{Mask}
-use Rattle.tigercanon.specs.Comparing.{AreDifferentThrough, AreOneMapThrough, ReportsRefusalOfOneRead}
-use Rattle.tigercanon.specs.Devices.{StopsReading}
+use Rattle.tigercanon.proofs.Common.{◌≡◌, inl, inr, ℕ, List, Option, Some, refl, ap, Compare, Done, Fault, masked, Mask}
+use Rattle.tigercanon.proofs.Common.{AreDifferentThrough, AreOneMapThrough, ReportsRefusalOfOneRead, StopsReading, CompareFault, In}
+use Rattle.tigercanon.proofs.Common.{GivenSet, IsSetRefusal, IsTextOf, line_of_ending}
+use Rattle.tigercanon.specs.declared.program.ending.Ending.TheVariants.{Different}
 use Rattle.tigercanon.specs.Stopping.{stopped_by}
-use Rattle.tigercanon.specs.declared.library.comparing.CompareFault.{CompareFault}
-use Rattle.tigercanon.specs.declared.library.comparing.CompareFault.TheVariants.{In, Memory as NoMemory}
-use Rattle.tigercanon.specs.Outcomes.{GivenSet}
-use Rattle.tigercanon.specs.Sets.{IsSetRefusal}
-use Rattle.tigercanon.specs.TwoSets.{IsTextOf, ReportsOne, line_of_ending}
+use Rattle.tigercanon.specs.declared.library.comparing.CompareFault.TheVariants.{Memory as NoMemory}
+use Rattle.tigercanon.specs.TwoSets.{ReportsOne}
 use Rattle.tigercanon.proofs.SourceSets.{no_lines_stopped, read_reported, reading_reported}
 
 module _ (first second : GivenSet) where

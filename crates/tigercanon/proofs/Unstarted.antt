@@ -1,17 +1,10 @@
 -- Why a job stopped before it read anything: a file was missing, or there was no memory for its sources.
-use Rattle.std.proofs.Common.{◌≡◌, ℕ, Bool, true, false, List, Option, inl, inr, refl, subst, sym}
-use Rattle.std.specs.Prelude.{if◌then◌else◌}
-use Rattle.tl_load.specs.declared.fault.LoadFault.TheVariants.{Device}
-use Rattle.command_line.specs.declared.plans.Job.{Job}
-use Rattle.command_line.specs.declared.plans.Job.TheVariants.{Compare}
-use Rattle.tigercanon.specs.declared.program.ending.Stopped.{Stopped}
-use Rattle.tigercanon.specs.declared.fault.Fault.TheVariants.{Load, Memory}
-use Rattle.tigercanon.specs.declared.program.files.Opened.{Opened}
+use Rattle.tigercanon.proofs.Common.{◌≡◌, ℕ, Bool, List, Option, inl, inr, refl, subst, sym, if◌then◌else◌, Device, Job, Compare}
+use Rattle.tigercanon.proofs.Common.{Stopped, Load, Memory, Opened, ReportsSet, IsOfMissing, set_of_files, ReportsFor}
+use Rattle.std.proofs.Common.{true, false}
 use Rattle.tigercanon.specs.Files.{IsMissing}
-use Rattle.tigercanon.specs.Outcomes.{ReportsSet}
-use Rattle.tigercanon.specs.Running.{IsOfMissing, NamesMissing, set_of_files}
+use Rattle.tigercanon.specs.Running.{NamesMissing}
 use Rattle.tigercanon.specs.Stopping.{set_of_job}
-use Rattle.tigercanon.specs.TwoSets.{ReportsFor}
 
 module _ {R : Type 0} (first second : List (Opened R)) where
   pub names_first : (job : Job) → IsMissing first → NamesMissing job first second (set_of_job job 1)

@@ -1,17 +1,9 @@
 -- Two sets that were put into canonical form.
-use Rattle.std.proofs.Common.{◌≡◌, ◌≢◌, ◌∙◌, ℕ, List, refl, sym, ap, subst}
-use Rattle.tl_layout.specs.RecordText.{text_of}
-use Rattle.tl_county.specs.County.{County, county_of}
-use Rattle.tl_county.specs.CountyRules.{IsCounty}
-use Rattle.tl_county.specs.Packing.{packed}
-use Rattle.tl_county.specs.Renumbering.{AreSame, Carries, Renumbering}
-use Rattle.tl_county.proofs.Packing.PackedCounty.{packed_county}
-use Rattle.tl_number.specs.Sights.{IsSight}
-use Rattle.tl_number.proofs.CanonicalLists.Accepted.{one_canonical_same}
-use Rattle.tigercanon.specs.Comparing.{AreDifferentThrough, AreOneMapThrough, IsAcceptable}
-use Rattle.tigercanon.specs.Findings.{Finding, IsFound, IsFoundOfCounties}
+use Rattle.tigercanon.proofs.Common.{◌≡◌, ◌≢◌, ◌∙◌, ℕ, List, refl, sym, ap, subst, text_of, County, county_of, IsCounty, packed}
+use Rattle.tigercanon.proofs.Common.{AreSame, Carries, Renumbering, packed_county, IsSight, one_canonical_same, AreDifferentThrough}
+use Rattle.tigercanon.proofs.Common.{AreOneMapThrough, IsAcceptable, IsFound, CarriesSetThrough, IsCanonSetThrough}
+use Rattle.tigercanon.specs.Findings.{Finding, IsFoundOfCounties}
 use Rattle.tigercanon.specs.Findings.Finding.{Carried, NoMemory, OneMap, TwoMaps}
-use Rattle.tigercanon.specs.Sets.{CarriesSetThrough, IsCanonSetThrough}
 use Rattle.tigercanon.proofs.CanonicalTexts.{text_of_set}
 use Rattle.tigercanon.proofs.Sets.{one_text_one_list, same_one_text}
 

@@ -1,8 +1,6 @@
 -- The usual arguments of compare are parsed as intended.
-use Rattle.std.proofs.Common.{Bool, true, false, refl}
-use Rattle.clap.specs.Words.{Text}
+use Rattle.command_line.proofs.Common.{Bool, true, false, refl, Text, Compare}
 use Rattle.clap.proofs.OnLiterals.{clap_on_literals}
-use Rattle.command_line.specs.declared.plans.Job.TheVariants.{Compare}
 use Rattle.command_line.proofs.UsualWords.Words.{AreRead, IsNoFlag, each_mask}
 
 compare_of_files_is_read : (sources reserved : Bool) (first second : Text) → IsNoFlag first → IsNoFlag second

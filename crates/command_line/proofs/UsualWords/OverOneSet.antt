@@ -1,8 +1,6 @@
 -- The usual arguments of the jobs over one set are parsed as intended.
-use Rattle.std.proofs.Common.{Bool, true, false, refl}
-use Rattle.clap.specs.Words.{Text}
+use Rattle.command_line.proofs.Common.{Bool, true, false, refl, Text, Respell, Normalise, Check, Fingerprint}
 use Rattle.clap.proofs.OnLiterals.{clap_on_literals}
-use Rattle.command_line.specs.declared.plans.Job.TheVariants.{Respell, Normalise, Check, Fingerprint}
 use Rattle.command_line.proofs.UsualWords.Words.{AreRead, IsNoFlag, each_mask}
 
 pub respell_is_read : (is_stem sources reserved : Bool) (first second : Text) → IsNoFlag first → IsNoFlag second

@@ -1,16 +1,11 @@
 -- The usual command lines are valid, and their plans are the ones that they describe.
-use Rattle.std.proofs.Common.{◌≡◌, ◌∙◌, Bool, true, false, List, [], Option, Some, None}
-use Rattle.std.proofs.Common.{arith, refl, ap, sym, subst, codes, map, string_bytes}
+use Rattle.command_line.proofs.Common.{◌≡◌, ◌∙◌, Bool, true, false, List, [], Option, Some, None, refl, ap, sym, subst, codes, map}
+use Rattle.command_line.proofs.Common.{string_bytes, Row, Text, first_of, one_of, subcommand_of, understood, IsFlagGiven, IsPlanOf}
+use Rattle.command_line.proofs.Common.{usual_words, word_of, Job, Respell, Normalise, Check, Fingerprint, Compare, Plan, Mask}
+use Rattle.std.proofs.Common.{arith}
 use Rattle.std.specs.Prelude.{slice_index, unwrap_or}
-use Rattle.clap.specs.Words.{Row, Text, first_of, one_of, subcommand_of}
-use Rattle.command_line.specs.Grammar.{understood}
 use Rattle.command_line.specs.Names.{AreSecondOf, AreUsualWordsPlanned, HasFilesOf}
-use Rattle.command_line.specs.Names.{IsFlagGiven, IsMaskGiven, IsPlanOf, MayLeaveOut, second_files, usual_words}
-use Rattle.command_line.specs.Words.{word_of}
-use Rattle.command_line.specs.declared.plans.Job.{Job}
-use Rattle.command_line.specs.declared.plans.Job.TheVariants.{Respell, Normalise, Check, Fingerprint, Compare}
-use Rattle.command_line.specs.declared.plans.Plan.{Plan}
-use Rattle.tl_layout.specs.declared.mask.Mask.{Mask}
+use Rattle.command_line.specs.Names.{IsMaskGiven, MayLeaveOut, second_files}
 use Rattle.command_line.proofs.UsualWords.Words.{AreRead, IsNoFlag, Read, flag, mask_flag, no_flag, read, second_of}
 use Rattle.command_line.proofs.UsualWords.OverOneSet.{check_is_read, fingerprint_is_read, normalise_is_read, respell_is_read}
 use Rattle.command_line.proofs.UsualWords.Comparing.{compare_is_read}

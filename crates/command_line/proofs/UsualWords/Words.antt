@@ -1,15 +1,12 @@
 -- The parsed form of a usual command line.
-use Rattle.std.proofs.Common.{◌≡◌, ◌==◌, Bool, true, false, [], ◌∷◌, List, Option, Some, None}
-use Rattle.std.proofs.Common.{refl, codes, option_map, ne_eqb}
+use Rattle.command_line.proofs.Common.{◌≡◌, Bool, true, false, [], ◌∷◌, List, Option, Some, None, refl, codes, option_map, Row, Text}
+use Rattle.command_line.proofs.Common.{first_of, one_of, subcommand_of, understood, AreUnderstood, usual_words, word_of, Job, Respell}
+use Rattle.command_line.proofs.Common.{Check, Compare, Mask}
+use Rattle.std.proofs.Common.{◌==◌}
+use Rattle.std.proofs.Common.{ne_eqb}
 use Rattle.std.specs.Str.{bytes_eq}
 use Rattle.clap.specs.Lexer.{long_of, short_of}
-use Rattle.clap.specs.Words.{Row, Text, first_of, one_of, subcommand_of}
-use Rattle.command_line.specs.Grammar.{understood}
-use Rattle.command_line.specs.Names.{AreUnderstood, IsPlain, usual_words}
-use Rattle.command_line.specs.Words.{word_of}
-use Rattle.command_line.specs.declared.plans.Job.{Job}
-use Rattle.command_line.specs.declared.plans.Job.TheVariants.{Respell, Check, Compare}
-use Rattle.tl_layout.specs.declared.mask.Mask.{Mask}
+use Rattle.command_line.specs.Names.{IsPlain}
 
 -- a text that isn't a flag, as clap tests it
 pub record IsNoFlag (text : Text) : Type 0 where

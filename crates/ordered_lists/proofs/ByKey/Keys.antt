@@ -1,18 +1,15 @@
 -- Keys under an order that distinguishes any two: how often they occur in a list, and their images by pairs.
-use Rattle.std.proofs.Common.{◌≡◌, ◌⊎◌, ◌<◌, ◌≤◌, ◌+◌, ℕ, zero, suc, nat_lt, length-append, ◌||◌, List, [], ◌∷◌, ◌++◌, Bool, true}
-use Rattle.std.proofs.Common.{false, cond, map, filter, length, Ordering, Less, Equal, Greater, is_eq, is_gt, sym, refl, ap, ◌∙◌}
-use Rattle.std.proofs.Common.{subst, inl, inr, arith, IsPermutation, nat_cmp}
-use Rattle.std.proofs.lemmas.Bool.{false≢true, lt-ltb, false_from_ne_true}
-use Rattle.std.proofs.lemmas.Cmp.{tied_itself, nat_cmp_total}
-use Rattle.std.specs.Ordering.{ordering_reverse}
+use Rattle.ordered_lists.proofs.Common.{◌≡◌, ◌⊎◌, ◌<◌, ◌≤◌, ◌+◌, ℕ, zero, suc, nat_lt, length-append, List, [], ◌∷◌, ◌++◌, Bool, true}
+use Rattle.ordered_lists.proofs.Common.{false, cond, map, filter, length, Ordering, Less, Equal, Greater, is_eq, is_gt, sym, refl, ap}
+use Rattle.ordered_lists.proofs.Common.{◌∙◌, subst, inl, inr, arith, IsPermutation, false≢true, lt-ltb, tied_itself, nat_cmp_total}
+use Rattle.ordered_lists.proofs.Common.{ordering_reverse, length-filter, sum_by-IsPermutation, IsTotalOrder, AllByRecursion, times}
+use Rattle.ordered_lists.proofs.Common.{stands_in, has_repeat}
+use Rattle.std.proofs.Common.{◌||◌}
+use Rattle.std.proofs.Common.{nat_cmp}
+use Rattle.std.proofs.lemmas.Bool.{false_from_ne_true}
 use Rattle.std.proofs.lemmas.Map.Lookups.{exact_unsigned}
-use Rattle.std.proofs.lemmas.List.Sums.{length-filter}
 use Rattle.std.proofs.lemmas.List.Elements.{filter-append}
-use Rattle.std.proofs.lemmas.List.Sorted.{sum_by-IsPermutation}
-use Rattle.std.specs.Cmp.{IsTotalOrder}
-use Rattle.std.specs.List.{AllByRecursion}
 use Rattle.std.specs.List.Sorted.{IsStrictlySortedBy}
-use Rattle.ordered_lists.specs.Orders.{times, stands_in, has_repeat}
 use Rattle.ordered_lists.specs.Pairs.{image, swapped, composed, is_named, to_itself}
 
 -- an order in which keys that compare as equal are equal

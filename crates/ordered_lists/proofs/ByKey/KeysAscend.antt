@@ -1,12 +1,7 @@
 -- If each key of a list is below the next, the list is in order, and no key occurs twice.
-use Rattle.std.proofs.Common.{◌≡◌, ◌<◌, ◌+◌, ℕ, suc, List, [], ◌∷◌, length, map, get_or, Bool, true, false, Ordering, Less, Equal}
-use Rattle.std.proofs.Common.{Greater, is_eq, is_gt, sym, refl, ◌∙◌, subst, arith}
-use Rattle.std.proofs.lemmas.Bool.{false≢true}
-use Rattle.std.proofs.lemmas.Cmp.{on_total}
-use Rattle.std.specs.List.{IsAllAdjacentAnswer}
-use Rattle.std.specs.Ordering.{on, is_lt, ordering_reverse}
-use Rattle.ordered_lists.specs.Keyed.{is_repeated}
-use Rattle.ordered_lists.specs.Orders.{IsInOrder}
+use Rattle.ordered_lists.proofs.Common.{◌≡◌, ◌<◌, ◌+◌, ℕ, suc, List, [], ◌∷◌, length, map, get_or, Bool, true, false, Ordering, Less}
+use Rattle.ordered_lists.proofs.Common.{Equal, Greater, is_eq, is_gt, sym, refl, ◌∙◌, subst, arith, false≢true, on_total}
+use Rattle.ordered_lists.proofs.Common.{IsAllAdjacentAnswer, on, is_lt, ordering_reverse, is_repeated, IsInOrder}
 use Rattle.ordered_lists.proofs.Lists.InOrder.{in_order-map}
 use Rattle.ordered_lists.proofs.ByKey.Keys.{IsKeyOrder}
 use Rattle.ordered_lists.proofs.ByKey.KeyedLists.{in_order-from_sorted, lt_reversed, repeated-later, repeated-none, repeated-one}

@@ -1,13 +1,8 @@
 -- Keys read one after the other, none greater than the next.
-use Rattle.std.proofs.Common.{◌≡◌, ◌<◌, ◌+◌, ℕ, suc, List, [], ◌∷◌, ◌++◌, length, map, take, get_or, false, Ordering, is_gt, sym}
-use Rattle.std.proofs.Common.{ap, ◌∙◌, arith}
+use Rattle.ordered_lists.proofs.Common.{◌≡◌, ◌<◌, ◌+◌, ℕ, suc, List, [], ◌∷◌, ◌++◌, length, map, take, get_or, false, Ordering, is_gt}
+use Rattle.ordered_lists.proofs.Common.{sym, ap, ◌∙◌, arith, upto, tied_itself, IsTotalOrder, AllByRecursion, on, IsInOrder}
 use Rattle.std.proofs.Math.Seq.{take-suc}
-use Rattle.std.proofs.lemmas.Cmp.{upto, tied_itself}
 use Rattle.std.proofs.lemmas.List.{map-append}
-use Rattle.std.specs.Cmp.{IsTotalOrder}
-use Rattle.std.specs.List.{AllByRecursion}
-use Rattle.std.specs.Ordering.{on}
-use Rattle.ordered_lists.specs.Orders.{IsInOrder}
 
 -- keys in order whose last one is `last`, and then a key that is at least `last`
 module _ {K : Type 0} {cmp : K → K → Ordering} (o : IsTotalOrder cmp) (last key : K) (e : is_gt (cmp last key) ≡ false) where

@@ -1,11 +1,10 @@
 -- Marks by number: no marks yet, and one number more.
-use Rattle.std.proofs.Common.{◌≡◌, ◌≢◌, ◌⊎◌, ◌<◌, ◌≤◌, ◌++◌, ◌∷◌, [], ℕ, Bool, true, false, List, length, set, get_or, slice_get}
-use Rattle.std.proofs.Common.{nat_lt, Some, is_eq, nat_cmp, sym, ap, ◌∙◌, subst, inl, inr, arith}
-use Rattle.std.proofs.lemmas.Bool.{false≢true, lt-ltb}
-use Rattle.std.proofs.lemmas.List.{get_or-set_other, get_or-set_same, length-set}
+use Rattle.ordered_lists.proofs.Common.{◌≡◌, ◌⊎◌, ◌<◌, ◌≤◌, ◌++◌, ◌∷◌, [], ℕ, Bool, true, false, List, length, set, get_or, slice_get}
+use Rattle.ordered_lists.proofs.Common.{nat_lt, Some, is_eq, sym, ap, ◌∙◌, subst, inl, inr, arith, false≢true, lt-ltb}
+use Rattle.ordered_lists.proofs.Common.{get_or-set_other, get_or-set_same, length-set, AreMarksOf, times, stands_in}
+use Rattle.std.proofs.Common.{◌≢◌}
+use Rattle.std.proofs.Common.{nat_cmp}
 use Rattle.std.proofs.lemmas.Option.{slice_get-get_or}
-use Rattle.ordered_lists.specs.Marks.{AreMarksOf}
-use Rattle.ordered_lists.specs.Orders.{times, stands_in}
 use Rattle.ordered_lists.proofs.ByKey.Keys.{differ, known-here, known-right, nat_keys, same-itself, same_or_not, times-append}
 use Rattle.ordered_lists.proofs.ByKey.Keys.{times-no}
 

@@ -1,10 +1,9 @@
 -- Elements by their numbers: how many have a number, and lists that ascend strictly.
-use Rattle.std.proofs.Common.{◌≡◌, ◌≤◌, suc, List, [], ◌∷◌, map, filter, length, Bool, true, false, cond, Ordering, Less, Equal}
-use Rattle.std.proofs.Common.{Greater, is_eq, is_gt, sym, refl, ap, ◌∙◌, inl, inr, arith}
+use Rattle.ordered_lists.proofs.Common.{◌≡◌, ◌≤◌, suc, List, [], ◌∷◌, map, filter, length, Bool, true, false, cond, Ordering, Less}
+use Rattle.ordered_lists.proofs.Common.{Equal, Greater, is_eq, is_gt, sym, refl, ap, ◌∙◌, inl, inr, arith, AllByRecursion, times}
+use Rattle.ordered_lists.proofs.Common.{IsInOrder, put_in_order, in_order, distinct, stands_in}
 use Rattle.std.proofs.lemmas.Bool.{true≢false}
-use Rattle.std.specs.List.{AllByRecursion}
 use Rattle.std.specs.List.Sorted.{IsStrictlySortedBy}
-use Rattle.ordered_lists.specs.Orders.{times, IsInOrder, put_in_order, in_order, distinct, stands_in}
 use Rattle.ordered_lists.proofs.Lists.Distinct.{count-put, apart-distinct}
 use Rattle.ordered_lists.proofs.Lists.Among.{Among, all_among}
 use Rattle.ordered_lists.proofs.Lists.InOrder.{put-in_order}

@@ -1,13 +1,12 @@
 -- Lists that are read place by place, and tests that decide a property.
-use Rattle.std.proofs.Common.{◌≡◌, ◌<◌, ◌≤◌, ◌+◌, ℕ, zero, suc, List, [], ◌∷◌, length, take, Bool, true, false, Ordering}
-use Rattle.std.proofs.Common.{IfSome, slice_get, refl, sym, ap, ◌∙◌, subst, add-one, zero-add, arith, IsPermutation}
-use Rattle.std.proofs.lemmas.Bool.{false≢true}
+use Rattle.ordered_lists.proofs.Common.{◌≡◌, ◌<◌, ◌≤◌, ◌+◌, ℕ, zero, suc, List, [], ◌∷◌, length, take, Bool, true, false, Ordering}
+use Rattle.ordered_lists.proofs.Common.{IfSome, slice_get, refl, sym, ap, ◌∙◌, subst, arith, IsPermutation, false≢true}
+use Rattle.ordered_lists.proofs.Common.{IsPermutation-sym, IsPermutation-trans, AllByRecursion, AllWithin, IsInOrder, in_order}
+use Rattle.std.proofs.Common.{add-one, zero-add}
 use Rattle.std.proofs.lemmas.List.{take_all}
-use Rattle.std.proofs.lemmas.List.Sorted.{IsPermutation-sym, IsPermutation-trans}
 use Rattle.std.proofs.lemmas.List.FromFn.{length-range_with_len, get_or-range_with_len}
 use Rattle.std.specs.Bool.{Decides, MatchBool}
-use Rattle.std.specs.List.{AllByRecursion, AllWithin, HoldsAt, range_with_len}
-use Rattle.ordered_lists.specs.Orders.{IsInOrder, in_order}
+use Rattle.std.specs.List.{HoldsAt, range_with_len}
 use Rattle.ordered_lists.proofs.Lists.InOrder.{in_order-in_order, in_order-permutation}
 use Rattle.ordered_lists.proofs.Lists.Permutations.{in_order-is_permutation}
 use Rattle.ordered_lists.proofs.ByKey.Keys.{IsKeyOrder}

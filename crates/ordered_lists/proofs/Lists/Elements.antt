@@ -1,8 +1,7 @@
 -- Lists: properties of each element, and maps that agree.
-use Rattle.std.proofs.Common.{◌≡◌, List, [], ◌∷◌, ◌++◌, Bool, true, false, cond, map, filter, flat_map, filter_map, refl, ap, suc, arith}
-use Rattle.std.proofs.Common.{Option, Some, None}
+use Rattle.ordered_lists.proofs.Common.{◌≡◌, List, [], ◌∷◌, ◌++◌, Bool, true, false, cond, map, filter, flat_map, filter_map, refl, ap}
+use Rattle.ordered_lists.proofs.Common.{suc, arith, Option, Some, None, AllByRecursion, cons_option}
 use Rattle.std.specs.Prelude.{All}
-use Rattle.std.specs.List.{AllByRecursion, cons_option}
 
 pub map_itself : {X : Type 0} (f : X → X) → ((x : X) → f x ≡ x) → (xs : List X) → map f xs ≡ xs
 map_itself f h [] = refl

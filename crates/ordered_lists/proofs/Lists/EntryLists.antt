@@ -1,11 +1,10 @@
 -- Entries as lists of keys and of values.
-use Rattle.std.proofs.Common.{◌≡◌, ◌⊎◌, ℕ, zero, suc, nat_lt, List, [], ◌∷◌, map, length, true, false, cond, Ordering, Less}
-use Rattle.std.proofs.Common.{is_eq, is_gt, sym, refl, ap, ◌∙◌, subst, inl, inr, arith, Some, None, slice_get}
-use Rattle.std.proofs.lemmas.Bool.{false≢true, lt-ltb}
-use Rattle.std.specs.List.{AllByRecursion, zip}
+use Rattle.ordered_lists.proofs.Common.{◌≡◌, ◌⊎◌, ℕ, zero, suc, nat_lt, List, [], ◌∷◌, map, length, true, false, cond, Ordering, Less}
+use Rattle.ordered_lists.proofs.Common.{is_eq, is_gt, sym, refl, ap, ◌∙◌, subst, inl, inr, arith, Some, None, slice_get, false≢true}
+use Rattle.ordered_lists.proofs.Common.{lt-ltb, AllByRecursion, entry_keys, entry_values, value_under, times, stands_in, IsInOrder}
+use Rattle.std.specs.List.{zip}
 use Rattle.std.specs.List.Sorted.{IsStrictlySortedBy}
-use Rattle.ordered_lists.specs.Entries.{entry_keys, entry_values, map_values, value_under}
-use Rattle.ordered_lists.specs.Orders.{times, stands_in, IsInOrder}
+use Rattle.ordered_lists.specs.Entries.{map_values}
 use Rattle.ordered_lists.proofs.ByKey.Keys.{IsKeyOrder, times-yes, times-no, same_or_not, same-itself}
 use Rattle.ordered_lists.proofs.Lists.Elements.{all_weaker}
 

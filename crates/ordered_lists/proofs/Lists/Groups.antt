@@ -1,10 +1,9 @@
 -- The elements of one key in a list that is in order.
-use Rattle.std.proofs.Common.{◌≡◌, ◌⊎◌, ℕ, List, [], ◌∷◌, ◌++◌, filter, Bool, true, false, cond, Ordering, Less, Equal, Greater}
-use Rattle.std.proofs.Common.{is_eq, is_gt, sym, refl, ap, ◌∙◌, subst, inl, inr, nat_cmp, append_assoc}
-use Rattle.std.proofs.lemmas.Bool.{false≢true}
-use Rattle.std.specs.List.{AllByRecursion}
+use Rattle.ordered_lists.proofs.Common.{◌≡◌, ◌⊎◌, ℕ, List, [], ◌∷◌, ◌++◌, filter, Bool, true, false, cond, Ordering, Less, Equal}
+use Rattle.ordered_lists.proofs.Common.{Greater, is_eq, is_gt, sym, refl, ap, ◌∙◌, subst, inl, inr, false≢true, AllByRecursion}
+use Rattle.ordered_lists.proofs.Common.{ordering_reverse}
+use Rattle.std.proofs.Common.{nat_cmp, append_assoc}
 use Rattle.std.specs.List.Sorted.{IsStrictlySortedBy}
-use Rattle.std.specs.Ordering.{ordering_reverse}
 use Rattle.ordered_lists.proofs.Lists.Counted.{filter-agree}
 use Rattle.ordered_lists.proofs.ByKey.Keys.{IsKeyOrder, same_or_not}
 

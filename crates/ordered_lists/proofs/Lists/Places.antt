@@ -1,10 +1,9 @@
 -- Places: the elements up to a place, and the element at the place of a key, or past the end.
-use Rattle.std.proofs.Common.{◌≡◌, ◌+◌, ◌++◌, ℕ, zero, suc, List, [], ◌∷◌, length, take, Option, Some, None, IfSome}
-use Rattle.std.proofs.Common.{is_some, slice_get, unwrap_or, Ordering, refl, sym, ap, ◌∙◌, arith}
+use Rattle.ordered_lists.proofs.Common.{◌≡◌, ◌+◌, ◌++◌, ℕ, zero, suc, List, [], ◌∷◌, length, take, Option, Some, None, IfSome, is_some}
+use Rattle.ordered_lists.proofs.Common.{slice_get, Ordering, refl, sym, ap, ◌∙◌, arith, IsStrictlySortedBy, entry_keys, entry_values}
+use Rattle.ordered_lists.proofs.Common.{value_under, stands_in}
+use Rattle.std.proofs.Common.{unwrap_or}
 use Rattle.std.proofs.lemmas.Option.{slice_get_past}
-use Rattle.std.specs.List.Sorted.{IsStrictlySortedBy}
-use Rattle.ordered_lists.specs.Entries.{entry_keys, entry_values, value_under}
-use Rattle.ordered_lists.specs.Orders.{stands_in}
 use Rattle.ordered_lists.proofs.Lists.EntryLists.{none-under, value-at_place}
 use Rattle.ordered_lists.proofs.ByKey.Keys.{IsKeyOrder}
 

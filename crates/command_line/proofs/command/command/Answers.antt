@@ -1,7 +1,4 @@
-use Rattle.std.proofs.Common.{◌≡◌, ◌∙◌, ap, ap₂, codes}
-use Rattle.std.proofs.lemmas.Result.{IfOk-weaker}
-use Rattle.clap.specs.Words.{App, with_subcommand}
-use Rattle.command_line.specs.Grammar.{over_one_set, with_mask}
+use Rattle.command_line.proofs.Common.{◌≡◌, ◌∙◌, ap, ap₂, codes, IfOk-weaker, App, with_subcommand, over_one_set, with_mask}
 use Rattle.command_line.proofs.command.command.Goals as goal
 
 -- the top of an app

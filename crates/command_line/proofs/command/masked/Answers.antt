@@ -1,6 +1,5 @@
-use Rattle.std.proofs.Common.{◌∙◌, ap, ap₂}
-use Rattle.std.proofs.lemmas.Result.{IfOk-weaker}
-use Rattle.clap.specs.Words.{app_of, with_rule}
+use Rattle.command_line.proofs.Common.{◌∙◌, ap, ap₂, IfOk-weaker, app_of}
+use Rattle.clap.specs.Words.{with_rule}
 use Rattle.command_line.proofs.command.masked.Goals as goal
 
 pub returns-clause-app : goal.returns-clause-app

@@ -1,6 +1,4 @@
-use Rattle.std.proofs.Common.{◌∙◌, ap}
-use Rattle.std.proofs.lemmas.Result.{IfOk-weaker}
-use Rattle.clap.specs.Words.{App, app_of, with_subcommand}
+use Rattle.command_line.proofs.Common.{◌∙◌, ap, IfOk-weaker, App, app_of, with_subcommand}
 use Rattle.command_line.proofs.command.with_job.Goals as goal
 
 pub returns : goal.returns

@@ -1,7 +1,4 @@
-use Rattle.std.proofs.Common.{◌∙◌, ap, codes}
-use Rattle.std.proofs.lemmas.Result.{IfOk-weaker}
-use Rattle.clap.specs.Words.{with_subcommand}
-use Rattle.command_line.specs.Grammar.{over_one_set, with_mask}
+use Rattle.command_line.proofs.Common.{◌∙◌, ap, codes, IfOk-weaker, with_subcommand, over_one_set, with_mask}
 use Rattle.command_line.proofs.command.with_texts.Goals as goal
 
 pub returns : goal.returns

@@ -1,7 +1,4 @@
-use Rattle.std.proofs.Common.{map, string_bytes, subst}
-use Rattle.clap.specs.Words.{app_of, found_of, rows_of, subcommand_of}
-use Rattle.command_line.specs.Grammar.{understood}
-use Rattle.command_line.specs.Names.{IsPlanOf}
+use Rattle.command_line.proofs.Common.{map, string_bytes, subst, app_of, found_of, rows_of, subcommand_of, understood, IsPlanOf}
 use Rattle.command_line.proofs.PlannedSets.{memory_alone, met_of, no_job, one_job, planned_of, read_well}
 use Rattle.command_line.proofs.planning.plan.Goals as goal
 

@@ -1,5 +1,4 @@
-use Rattle.std.proofs.Common.{codes}
-use Rattle.clap.specs.Words.{found_of}
+use Rattle.command_line.proofs.Common.{codes, found_of}
 use Rattle.command_line.proofs.PlannedSets.{flag_given}
 use Rattle.command_line.proofs.planning.plan_of.Goals as goal
 

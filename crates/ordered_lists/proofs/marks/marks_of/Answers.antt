@@ -1,6 +1,4 @@
-use Rattle.std.proofs.Common.{◌≡◌, ◌∷◌, [], ◌+◌, ◌++◌, take, get_or, sym, subst, arith}
-use Rattle.std.proofs.lemmas.Grind.{common_steps}
-use Rattle.ordered_lists.specs.Marks.{AreMarksOf}
+use Rattle.ordered_lists.proofs.Common.{◌≡◌, ◌∷◌, [], ◌+◌, ◌++◌, take, get_or, sym, subst, arith, common_steps, AreMarksOf}
 use Rattle.ordered_lists.proofs.ByKey.Marks.{marked_more, marked_without}
 use Rattle.ordered_lists.proofs.marks.marks_of.Goals as goal
 use Rattle.ordered_lists.proofs.marks.marks_of.Goals.{then-place-len, else-place-len}

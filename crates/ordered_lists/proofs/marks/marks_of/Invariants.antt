@@ -1,5 +1,4 @@
-use Rattle.std.proofs.Common.{take}
-use Rattle.ordered_lists.specs.Marks.{AreMarksOf}
+use Rattle.ordered_lists.proofs.Common.{take, AreMarksOf}
 use Rattle.ordered_lists.proofs.marks.marks_of.Given as goal
 
 abbrev pub invariant-loop-number : goal.invariant-loop-number

@@ -1,5 +1,4 @@
-use Rattle.tl_number.specs.Sights.{plain}
-use Rattle.tl_number.proofs.CanonicalLists.Accepted.{plain_sight}
+use Rattle.tigercanon.proofs.Common.{plain, plain_sight}
 use Rattle.tigercanon.proofs.Sets.{text_accepted, text_itself}
 use Rattle.tigercanon.proofs.laws.a_canonical_text_is_its_own.Goals as goal
 

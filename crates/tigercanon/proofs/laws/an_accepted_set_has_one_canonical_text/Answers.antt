@@ -1,5 +1,4 @@
-use Rattle.tl_number.specs.Sights.{plain}
-use Rattle.tl_number.proofs.CanonicalLists.Accepted.{plain_sight}
+use Rattle.tigercanon.proofs.Common.{plain, plain_sight}
 use Rattle.tigercanon.proofs.Sets.{canonical_text, one_text}
 use Rattle.tigercanon.proofs.laws.an_accepted_set_has_one_canonical_text.Goals as goal
 

@@ -1,5 +1,4 @@
-use Rattle.tl_number.specs.Sights.{plain}
-use Rattle.tl_number.proofs.CanonicalLists.Accepted.{plain_sight}
+use Rattle.tigercanon.proofs.Common.{plain, plain_sight}
 use Rattle.tigercanon.proofs.Sets.{same_one_text, one_text_same}
 use Rattle.tigercanon.proofs.laws.one_canonical_text_exactly_for_one_map.Goals as goal
 

@@ -1,6 +1,4 @@
-use Rattle.tl_county.specs.MaskedCounty.{masked}
-use Rattle.tl_number.proofs.Masks.MaskedSights.{masked_sight}
-use Rattle.tigercanon.specs.Sets.{IsCanonicalTextThrough}
+use Rattle.tigercanon.proofs.Common.{masked, masked_sight, IsCanonicalTextThrough}
 use Rattle.tigercanon.proofs.Masking.{as_it_is, under_none}
 use Rattle.tigercanon.proofs.Sets.{canonical_text, one_text, one_text_same, same_one_text, text_as_it_is, text_itself}
 use Rattle.tigercanon.proofs.laws.one_canonical_text_under_each_mask.Goals as goal

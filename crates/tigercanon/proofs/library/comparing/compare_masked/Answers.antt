@@ -1,12 +1,6 @@
-use Rattle.std.proofs.Common.{◌≡◌, ◌∙◌, Ok, ap, refl, subst}
-use Rattle.std.proofs.lemmas.Result.{err_from_is_err_and}
-use Rattle.tl_county.specs.MaskedCounty.{masked}
-use Rattle.tl_load.specs.declared.fault.LoadFault.TheVariants.{Device}
-use Rattle.tigercanon.specs.Comparing.{ReportsRefusalOfOneRead}
-use Rattle.tigercanon.specs.Findings.{IsFound, finding_of}
-use Rattle.tigercanon.specs.LentParts.{bytes_of_parts}
-use Rattle.tigercanon.specs.declared.fault.Fault.TheVariants.{Load}
-use Rattle.tigercanon.specs.declared.library.comparing.CompareFault.TheVariants.{In}
+use Rattle.tigercanon.proofs.Common.{◌≡◌, ◌∙◌, Ok, ap, refl, subst, err_from_is_err_and, masked, Device, ReportsRefusalOfOneRead}
+use Rattle.tigercanon.proofs.Common.{IsFound, bytes_of_parts, Load, In}
+use Rattle.tigercanon.specs.Findings.{finding_of}
 use Rattle.tigercanon.specs.declared.library.comparing.Verdict.TheVariants.{Same, Different}
 use Rattle.tigercanon.proofs.Reported.{one_no_device, one_refused, one_succeeds}
 use Rattle.tigercanon.proofs.library.comparing.compare_masked.Goals as goal

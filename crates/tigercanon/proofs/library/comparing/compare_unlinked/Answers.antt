@@ -1,5 +1,4 @@
-use Rattle.std.proofs.Common.{inl, inr, refl}
-use Rattle.std.proofs.lemmas.Result.{err_from_is_err_and}
+use Rattle.tigercanon.proofs.Common.{inl, inr, refl, err_from_is_err_and}
 use Rattle.tigercanon.proofs.CanonicalTexts.{err_holds, if_err_by, if_ok_by, match_err, match_ok, ok_holds}
 use Rattle.tigercanon.proofs.library.comparing.compare_unlinked.Goals as goal
 

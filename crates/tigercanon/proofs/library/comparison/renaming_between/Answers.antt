@@ -1,6 +1,4 @@
-use Rattle.std.proofs.Common.{◌≡◌, sym, subst}
-use Rattle.std.proofs.lemmas.Result.{IfOk-weaker}
-use Rattle.tl_county.specs.Renumbering.{Carries}
+use Rattle.tigercanon.proofs.Common.{◌≡◌, sym, subst, IfOk-weaker, Carries}
 use Rattle.tl_number.specs.ViewFacts.{arranged_by}
 use Rattle.tigercanon.proofs.Verdicts.{one_county}
 use Rattle.tigercanon.proofs.library.comparison.renaming_between.Goals as goal

@@ -1,10 +1,7 @@
-use Rattle.std.proofs.Common.{◌∙◌, rules, subst, sym}
-use Rattle.std.proofs.lemmas.Result.{err_from_is_err_and}
-use Rattle.tl_county.specs.County.{County}
+use Rattle.tigercanon.proofs.Common.{◌∙◌, rules, subst, sym, err_from_is_err_and, County, IsFirstBrokenClause}
 use Rattle.tl_county.specs.CountyRules.{is_without_chain}
 use Rattle.ordered_lists.specs.Keyed.{IsLeastPassing}
 use Rattle.tl_county.specs.PolygonKeys.{key_cmp}
-use Rattle.tl_profile.specs.Profile.{IsFirstBrokenClause}
 use Rattle.tigercanon.proofs.library.linked.admitted_county.Goals as goal
 
 pub admit_linked-requires : goal.admit_linked-requires

@@ -1,13 +1,9 @@
-use Rattle.std.proofs.Common.{◌∙◌, ap, subst, sym}
-use Rattle.tl_county.specs.MaskedCounty.{masked}
-use Rattle.tl_county.specs.County.{County}
-use Rattle.tl_county.specs.Packing.{packed}
+use Rattle.tigercanon.proofs.Common.{◌∙◌, ap, subst, sym, masked, County, packed, masked_sight}
 use Rattle.tl_number.specs.Accepted.{IsCanonicalThrough}
 use Rattle.tl_number.specs.Arrangement.{arranged}
 use Rattle.tl_number.specs.Tidy.{IsLeastChoice}
 use Rattle.tl_number.specs.Views.{arrangement_in}
 use Rattle.tl_number.proofs.CanonicalLists.Ascending.{choice_is_canonical}
-use Rattle.tl_number.proofs.Masks.MaskedSights.{masked_sight}
 use Rattle.tigercanon.proofs.library.making.make_seen.Goals as goal
 
 pub returns-clause-made : goal.returns-clause-made

@@ -1,6 +1,4 @@
-use Rattle.tigercanon.specs.LentParts.{bytes_of_parts}
-use Rattle.tigercanon.specs.Normalising.{IsOnlyTextThrough}
-use Rattle.tigercanon.specs.Sets.{IsOneCanonicalTextThrough}
+use Rattle.tigercanon.proofs.Common.{bytes_of_parts, IsOnlyTextThrough, IsOneCanonicalTextThrough}
 use Rattle.tigercanon.proofs.CanonicalTexts.{if_ok_by}
 use Rattle.tigercanon.proofs.Masking.{as_it_is, under_none}
 use Rattle.tigercanon.proofs.Sets.{only_as_it_is}

@@ -1,8 +1,4 @@
-use Rattle.std.proofs.Common.{◌≡◌, ◌<◌, length, subst, take}
-use Rattle.std.proofs.lemmas.Result.{err_from_is_err_and}
-use Rattle.tl_county.specs.MaskedCounty.{masked}
-use Rattle.tl_number.proofs.Masks.MaskedSights.{masked_sight}
-use Rattle.tigercanon.specs.Normalising.{Took}
+use Rattle.tigercanon.proofs.Common.{◌≡◌, ◌<◌, length, subst, take, err_from_is_err_and, masked, masked_sight, Took}
 use Rattle.tigercanon.proofs.CanonicalTexts.{match_err, match_ok}
 use Rattle.tigercanon.proofs.Refusing.{read_refused}
 use Rattle.tigercanon.proofs.Sets.{only_text}

@@ -1,5 +1,4 @@
-use Rattle.tigercanon.specs.LentParts.{bytes_of_parts}
-use Rattle.tigercanon.specs.Normalising.{IsOnlyTextThrough}
+use Rattle.tigercanon.proofs.Common.{bytes_of_parts, IsOnlyTextThrough}
 use Rattle.tigercanon.proofs.CanonicalTexts.{if_ok_by}
 use Rattle.tigercanon.proofs.Masking.{as_it_is}
 use Rattle.tigercanon.proofs.Sets.{only_as_it_is}

@@ -1,7 +1,4 @@
-use Rattle.std.proofs.Common.{refl}
-use Rattle.std.proofs.lemmas.Result.{err_from_is_err_and}
-use Rattle.tl_county.specs.MaskedCounty.{masked}
-use Rattle.tl_number.proofs.Masks.MaskedSights.{masked_sight}
+use Rattle.tigercanon.proofs.Common.{refl, err_from_is_err_and, masked, masked_sight}
 use Rattle.tigercanon.proofs.CanonicalTexts.{ok_holds}
 use Rattle.tigercanon.proofs.Sets.{only_text}
 use Rattle.tigercanon.proofs.Reported.{accepted_wants_memory}

@@ -1,8 +1,5 @@
-use Rattle.std.proofs.Common.{◌+◌, ◌∙◌, ap, [], subst}
+use Rattle.tigercanon.proofs.Common.{◌+◌, ◌∙◌, ap, [], subst, IsOfLines, WasFedInto, record_limit, IsFirstFault}
 use Rattle.tl_layout.proofs.Exits.{exit_with}
-use Rattle.tl_load.specs.Loaded.{IsOfLines}
-use Rattle.tl_load.specs.Keeping.{WasFedInto}
-use Rattle.tigercanon.specs.Respelling.{record_limit, IsFirstFault}
 use Rattle.tigercanon.proofs.Parts.{parts_of, parts_so_far, fault_of_all, fault_of_closed}
 use Rattle.tigercanon.proofs.library.reading.load.Goals as goal
 

@@ -1,6 +1,4 @@
-use Rattle.std.proofs.Common.{◌≡◌, map, take, [], None}
-use Rattle.tl_load.specs.Keeping.{WasFedInto}
-use Rattle.tigercanon.specs.Respelling.{record_limit}
+use Rattle.tigercanon.proofs.Common.{◌≡◌, map, take, [], None, WasFedInto, record_limit}
 use Rattle.tigercanon.proofs.library.reading.load.Given as goal
 
 -- the loader was fed the parts so far, each is closed, and no fault is recorded

@@ -1,9 +1,6 @@
-use Rattle.std.proofs.Common.{◌≡◌, ◌+◌, ◌∙◌, ◌<◌, ℕ, [], ◌∷◌, ◌++◌, Err, inl, inr, refl, sym, ap, arith, subst}
-use Rattle.std.proofs.lemmas.List.{length-append}
-use Rattle.std.proofs.lemmas.Result.{err_from_is_err_and}
-use Rattle.std.below.core.specs.declared.int.u64.TheConstants.{MAX}
+use Rattle.tigercanon.proofs.Common.{◌≡◌, ◌+◌, ◌∙◌, ◌<◌, ℕ, [], ◌∷◌, ◌++◌, Err, inl, inr, refl, sym, ap, arith, subst, length-append}
+use Rattle.tigercanon.proofs.Common.{err_from_is_err_and, MAX, record_limit}
 use Rattle.tl_load.specs.declared.fault.LoadFault.TheVariants as faults
-use Rattle.tigercanon.specs.Respelling.{record_limit}
 use Rattle.tigercanon.proofs.CanonicalTexts.{if_ok_by, if_err_by}
 use Rattle.tigercanon.proofs.ReadParts.{all_read, nothing_more, none_more, one_failed, one_more_at, untouched_at, up_to_at}
 use Rattle.tigercanon.proofs.Standing.{counted_device, counted_none, none_standing, standing_fault}

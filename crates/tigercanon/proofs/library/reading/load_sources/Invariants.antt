@@ -1,6 +1,5 @@
-use Rattle.std.proofs.Common.{◌≡◌, None}
+use Rattle.tigercanon.proofs.Common.{◌≡◌, None, NoneFailed}
 use Rattle.tigercanon.proofs.ReadParts.{HasRead}
-use Rattle.tigercanon.specs.Reading.{NoneFailed}
 use Rattle.tigercanon.proofs.library.reading.load_sources.Given as goal
 
 -- the sources so far were read to their ends, none has failed, and the loader was fed their bytes

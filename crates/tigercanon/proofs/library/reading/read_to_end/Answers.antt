@@ -1,8 +1,6 @@
-use Rattle.std.proofs.Common.{◌≡◌, ◌∙◌, ◌%◌, ◌^◌, ℕ, [], ◌++◌, take, length, refl, sym, ap, subst, arith}
+use Rattle.tigercanon.proofs.Common.{◌≡◌, ◌∙◌, ◌%◌, ◌^◌, ℕ, [], ◌++◌, take, length, refl, sym, ap, subst, arith, RoseBy, record_limit}
 use Rattle.std.proofs.lemmas.List.{length-take}
-use Rattle.tl_load.specs.Sources.{RoseBy}
 use Rattle.tl_load.proofs.ReadSteps.{gave_more, gave_none}
-use Rattle.tigercanon.specs.Respelling.{record_limit}
 use Rattle.tigercanon.proofs.FileParts.{rose_again, still_no_device}
 use Rattle.tigercanon.proofs.library.reading.read_to_end.Goals as goal
 

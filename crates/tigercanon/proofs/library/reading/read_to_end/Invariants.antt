@@ -1,9 +1,4 @@
-use Rattle.std.proofs.Common.{◌≡◌, List, ℕ, []}
-use Rattle.std.specs.Prelude.{IfSome}
-use Rattle.tl_load.specs.Keeping.{WasFedInto}
-use Rattle.tl_load.specs.Loaded.{IsNotDevice}
-use Rattle.tl_load.specs.Sources.{Gave, RoseBy}
-use Rattle.tigercanon.specs.Respelling.{record_limit}
+use Rattle.tigercanon.proofs.Common.{◌≡◌, List, ℕ, [], IfSome, WasFedInto, IsNotDevice, Gave, RoseBy, record_limit}
 use Rattle.tigercanon.proofs.library.reading.read_to_end.Given as goal
 
 -- the loader was fed the bytes of this many reads of the source, and the source hasn't failed

@@ -1,9 +1,5 @@
-use Rattle.std.proofs.Common.{◌+◌, ◌∙◌, ◌<◌, ℕ, [], ◌∷◌, ◌++◌, inl, refl, sym, ap, arith, subst}
-use Rattle.std.proofs.lemmas.List.{length-append}
-use Rattle.std.proofs.lemmas.Result.{err_from_is_err_and}
-use Rattle.std.below.core.specs.declared.int.u64.TheConstants.{MAX}
-use Rattle.tigercanon.specs.declared.fault.Fault.TheVariants.{Load}
-use Rattle.tigercanon.specs.Reading.{IsUnread}
+use Rattle.tigercanon.proofs.Common.{◌+◌, ◌∙◌, ◌<◌, ℕ, [], ◌∷◌, ◌++◌, inl, refl, sym, ap, arith, subst, length-append}
+use Rattle.tigercanon.proofs.Common.{err_from_is_err_and, MAX, Load, IsUnread}
 use Rattle.tigercanon.proofs.FileParts.{none_device}
 use Rattle.tigercanon.proofs.ReadParts.{all_read, none_more, one_more_at, unread_at, untouched_at}
 use Rattle.tigercanon.proofs.library.reading.read_to_ends.Goals as goal

@@ -1,8 +1,5 @@
-use Rattle.std.proofs.Common.{◌≤◌}
-use Rattle.std.specs.Prelude.{IfSome}
-use Rattle.tl_load.specs.Loaded.{IsNotDevice}
+use Rattle.tigercanon.proofs.Common.{◌≤◌, IfSome, IsNotDevice, NoneFailed}
 use Rattle.tigercanon.proofs.ReadParts.{HasRead}
-use Rattle.tigercanon.specs.Reading.{NoneFailed}
 use Rattle.tigercanon.proofs.library.reading.read_to_ends.Given as goal
 
 -- the sources so far were read to their ends, none has failed, and the loader was fed their bytes

@@ -1,6 +1,5 @@
-use Rattle.std.proofs.Common.{◌≡◌, map, ap}
+use Rattle.tigercanon.proofs.Common.{◌≡◌, map, ap, bytes_of}
 use Rattle.tigercanon.proofs.FileSources.{all_more, all_none, map_more}
-use Rattle.tigercanon.specs.Files.{bytes_of}
 use Rattle.tigercanon.proofs.program.files.open_files.Goals as goal
 
 pub loop-file-init : goal.loop-file-init

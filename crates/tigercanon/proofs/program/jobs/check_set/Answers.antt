@@ -1,9 +1,5 @@
-use Rattle.std.proofs.Common.{None, refl}
-use Rattle.std.proofs.lemmas.Result.{err_from_is_err_and}
-use Rattle.tl_layout.specs.Masked.{no_mask}
+use Rattle.tigercanon.proofs.Common.{None, refl, err_from_is_err_and, no_mask, Done, set_of_sources, to_sink}
 use Rattle.command_line.specs.declared.plans.Job.TheVariants.{Check}
-use Rattle.tigercanon.specs.declared.program.ending.Ending.TheVariants.{Done}
-use Rattle.tigercanon.specs.Devices.{set_of_sources, to_sink}
 use Rattle.tigercanon.proofs.SourceSets.{left_untouched, read_reported, reading_reported, refused_of_read, text_printed}
 use Rattle.tigercanon.proofs.program.jobs.check_set.Goals as goal
 

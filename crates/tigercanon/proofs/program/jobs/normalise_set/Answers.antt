@@ -1,7 +1,4 @@
-use Rattle.std.proofs.Common.{◌∙◌, ◌+◌, Bool, Err, ap}
-use Rattle.std.specs.Prelude.{if◌then◌else◌}
-use Rattle.std.proofs.lemmas.Result.{err_from_is_err_and}
-use Rattle.tigercanon.specs.Devices.{set_of_sources}
+use Rattle.tigercanon.proofs.Common.{◌∙◌, ◌+◌, Bool, Err, ap, if◌then◌else◌, err_from_is_err_and, set_of_sources}
 use Rattle.tigercanon.proofs.SourceSets.{normalised_leave}
 use Rattle.tigercanon.proofs.program.jobs.normalise_set.Goals as goal
 

@@ -1,9 +1,4 @@
-use Rattle.std.proofs.Common.{None, refl}
-use Rattle.std.proofs.lemmas.Result.{err_from_is_err_and}
-use Rattle.tl_layout.specs.Masked.{no_mask}
-use Rattle.command_line.specs.declared.plans.Job.TheVariants.{Respell}
-use Rattle.tigercanon.specs.declared.program.ending.Ending.TheVariants.{Done}
-use Rattle.tigercanon.specs.Devices.{set_of_sources, to_sink}
+use Rattle.tigercanon.proofs.Common.{None, refl, err_from_is_err_and, no_mask, Respell, Done, set_of_sources, to_sink}
 use Rattle.tigercanon.proofs.SourceSets.{left_untouched, text_printed}
 use Rattle.tigercanon.proofs.program.jobs.respell_set.Goals as goal
 

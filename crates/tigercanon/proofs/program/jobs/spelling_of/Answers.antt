@@ -1,5 +1,4 @@
-use Rattle.std.proofs.lemmas.Result.{err_from_is_err_and}
-use Rattle.tigercanon.specs.Devices.{set_of_sources}
+use Rattle.tigercanon.proofs.Common.{err_from_is_err_and, set_of_sources}
 use Rattle.tigercanon.proofs.SourceSets.{reading_reported}
 use Rattle.tigercanon.proofs.program.jobs.spelling_of.Goals as goal
 

@@ -1,5 +1,4 @@
-use Rattle.std.specs.Prelude.{is_ok}
-use Rattle.std.proofs.lemmas.Result.{err_from_is_err_and}
+use Rattle.tigercanon.proofs.Common.{is_ok, err_from_is_err_and}
 use Rattle.tigercanon.proofs.CanonicalTexts.{if_err_by, if_ok_by, ok_holds}
 use Rattle.tigercanon.proofs.Unstarted.{memory_is_reported, missing_is_reported}
 use Rattle.tigercanon.proofs.program.running.open_sets.Goals as goal

@@ -1,5 +1,4 @@
-use Rattle.std.proofs.Common.{◌∙◌, rules}
-use Rattle.tigercanon.specs.Refusals.{fault_line}
+use Rattle.tigercanon.proofs.Common.{◌∙◌, rules, fault_line}
 use Rattle.tigercanon.proofs.Leaving.{line_to_writer}
 use Rattle.tigercanon.proofs.program.running.report_outcome.Goals as goal
 

@@ -1,6 +1,4 @@
-use Rattle.std.proofs.Common.{◌∙◌, arith, sym}
-use Rattle.tigercanon.specs.Outcomes.{ReportsLine}
-use Rattle.tigercanon.specs.Running.{set_of_files}
+use Rattle.tigercanon.proofs.Common.{◌∙◌, arith, sym, ReportsLine, set_of_files}
 use Rattle.tigercanon.proofs.Refused.{different, done, kept, missing_reported, refused, some, status_is_one, why}
 use Rattle.tigercanon.proofs.program.running.run.Goals as goal
 

@@ -1,7 +1,4 @@
-use Rattle.std.proofs.Common.{◌∙◌, rules}
-use Rattle.std.proofs.lemmas.Result.{err_from_is_err_and}
-use Rattle.tigercanon.specs.Files.{bytes_of}
-use Rattle.tigercanon.specs.Running.{set_of_files, to_writer}
+use Rattle.tigercanon.proofs.Common.{◌∙◌, rules, err_from_is_err_and, bytes_of, set_of_files, to_writer}
 use Rattle.tigercanon.proofs.FileSources.{below_most, known_of_files}
 use Rattle.tigercanon.proofs.GivenSets.{does_of}
 use Rattle.tigercanon.proofs.Leaving.{kept, printed_to_writer}

@@ -1,8 +1,4 @@
-use Rattle.std.proofs.Common.{refl}
-use Rattle.std.proofs.lemmas.Result.{err_from_is_err_and}
-use Rattle.command_line.specs.declared.plans.Job.TheVariants.{Compare}
-use Rattle.tigercanon.specs.Devices.{set_of_sources, to_sink}
-use Rattle.tigercanon.specs.TwoSets.{line_of_ending}
+use Rattle.tigercanon.proofs.Common.{refl, err_from_is_err_and, Compare, set_of_sources, to_sink, line_of_ending}
 use Rattle.tigercanon.proofs.SourceSets.{left_untouched, text_printed}
 use Rattle.tigercanon.proofs.program.two_sets.compare_sets.Goals as goal
 

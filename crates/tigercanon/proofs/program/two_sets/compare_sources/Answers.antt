@@ -1,6 +1,4 @@
-use Rattle.std.proofs.Common.{refl}
-use Rattle.std.proofs.lemmas.Result.{err_from_is_err_and}
-use Rattle.tigercanon.specs.Devices.{set_of_sources}
+use Rattle.tigercanon.proofs.Common.{refl, err_from_is_err_and, set_of_sources}
 use Rattle.tigercanon.proofs.CanonicalTexts.{err_holds, ok_holds}
 use Rattle.tigercanon.proofs.SourceSets.{refused_of_read}
 use Rattle.tigercanon.proofs.TwoSets.{line_different, line_same, one_reported, unread_first, unread_second}

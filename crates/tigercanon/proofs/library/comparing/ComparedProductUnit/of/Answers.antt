@@ -1,5 +1,4 @@
-use Rattle.tl_county.specs.MaskedCounty.{masked}
-use Rattle.tl_number.proofs.Masks.MaskedSights.{masked_sight}
+use Rattle.tigercanon.proofs.Common.{masked, masked_sight}
 use Rattle.tigercanon.proofs.Verdicts.{found_of_sets}
 use Rattle.tigercanon.proofs.library.comparing.ComparedProductUnit.of.Goals as goal
 

@@ -1,6 +1,4 @@
-use Rattle.std.proofs.Common.{refl}
-use Rattle.tl_county.specs.MaskedCounty.{masked}
-use Rattle.tl_number.proofs.Masks.MaskedSights.{masked_sight}
+use Rattle.tigercanon.proofs.Common.{refl, masked, masked_sight}
 use Rattle.tigercanon.proofs.CanonicalTexts.{only_of_set, text_of_set}
 use Rattle.tigercanon.proofs.library.products.HashProductUnit.of.Goals as goal
 

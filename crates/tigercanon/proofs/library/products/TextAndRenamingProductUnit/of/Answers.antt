@@ -1,5 +1,4 @@
-use Rattle.tl_county.specs.MaskedCounty.{masked}
-use Rattle.tl_number.proofs.Masks.MaskedSights.{masked_sight}
+use Rattle.tigercanon.proofs.Common.{masked, masked_sight}
 use Rattle.tigercanon.proofs.CanonicalTexts.{carried_of_set, text_of_set}
 use Rattle.tigercanon.proofs.library.products.TextAndRenamingProductUnit.of.Goals as goal
 

@@ -1,6 +1,4 @@
-use Rattle.std.proofs.Common.{refl}
-use Rattle.tl_county.specs.MaskedCounty.{masked}
-use Rattle.tl_number.proofs.Masks.MaskedSights.{masked_sight}
+use Rattle.tigercanon.proofs.Common.{refl, masked, masked_sight}
 use Rattle.tigercanon.proofs.CanonicalTexts.{goes_out, text_of_set}
 use Rattle.tigercanon.proofs.library.products.WrittenProduct.of.Goals as goal
 

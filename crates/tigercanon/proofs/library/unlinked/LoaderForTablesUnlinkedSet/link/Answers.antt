@@ -1,5 +1,4 @@
-use Rattle.std.proofs.Common.{[]}
-use Rattle.tigercanon.specs.Respelling.{record_limit}
+use Rattle.tigercanon.proofs.Common.{[], record_limit}
 use Rattle.tigercanon.proofs.CanonicalTexts.{if_err_by, if_ok_by}
 use Rattle.tigercanon.proofs.Refusing.{no_device_refused, set_refused, within_limits}
 use Rattle.tigercanon.proofs.library.unlinked.LoaderForTablesUnlinkedSet.link.Goals as goal
