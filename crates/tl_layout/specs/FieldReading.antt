@@ -20,11 +20,10 @@ infixl 10 ◌>>=◌
 abbrev pub ◌>>=◌ : {A B : Type 0} → Result A FieldFault → (A → Result B FieldFault) → Result B FieldFault
 x >>= more = and_then x more
 
--- a number that is required
-abbrev pub demanded_number : ℕ → Option ℕ → Result ℕ FieldFault
-demanded_number column None = Err (bad_number column)
-demanded_number column (Some zero) = Err (bad_number column)
-demanded_number column (Some (suc n)) = Ok (suc n)
+-- a value that is required: if there is none, this is the fault
+abbrev pub demanded : {A : Type 0} → FieldFault → Option A → Result A FieldFault
+demanded fault None = Err fault
+demanded fault (Some x) = Ok x
 
 -- a number or none
 abbrev pub possible_number : ℕ → Option ℕ → Result (Option ℕ) FieldFault
@@ -32,13 +31,13 @@ possible_number column None = Err (bad_number column)
 possible_number column (Some zero) = Ok None
 possible_number column (Some (suc n)) = Ok (Some (suc n))
 
--- how these columns of a line are read if they must have a number
-unfoldable pub number_at : ℕ → ℕ → List ℕ → Result ℕ FieldFault
-number_at first last line = demanded_number first (number_of (columns first last line))
-
 -- how these columns of a line are read if they may have no number
 unfoldable pub number_or_none_at : ℕ → ℕ → List ℕ → Result (Option ℕ) FieldFault
 number_or_none_at first last line = possible_number first (number_of (columns first last line))
+
+-- how these columns of a line are read if they must have a number
+unfoldable pub number_at : ℕ → ℕ → List ℕ → Result ℕ FieldFault
+number_at first last line = number_or_none_at first last line >>= demanded (bad_number first)
 
 -- the point with these coordinates, or none if both are 0
 unfoldable pub point_or_none : ℤ → ℤ → Option Coordinates
@@ -61,13 +60,9 @@ point_or_none_at column line =
     pair_of column (coordinate_of MOST_LONGITUDE (columns column (column + 9) line))
     (coordinate_of MOST_LATITUDE (columns (column + 10) (column + 18) line))
 
-abbrev pub demanded_point : ℕ → Option Coordinates → Result Coordinates FieldFault
-demanded_point column None = Err (bad_point column)
-demanded_point column (Some point) = Ok point
-
 -- how the pair that begins at this column is read if it must be a point
 unfoldable pub point_at : ℕ → List ℕ → Result Coordinates FieldFault
-point_at column line = point_or_none_at column line >>= demanded_point column
+point_at column line = point_or_none_at column line >>= demanded (bad_point column)
 
 -- A function of the code returned the result of the reading, converted by view.
 abbrev pub Gives : {X Y : Type 0} → (X → Y) → Result X FieldFault → Result Y FieldFault → Type 0

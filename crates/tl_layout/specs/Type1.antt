@@ -1,4 +1,4 @@
--- Record type 1, 228 bytes: a chain with its two end points.
+-- Record type 1: how its lines are read in three steps.
 use Rattle.std.specs.Prelude.{ℕ, List, Result, Ok}
 use Rattle.tl_layout.specs.Fields.{Fields1}
 use Rattle.tl_layout.specs.FieldReading.{◌>>=◌, number_at, point_at}

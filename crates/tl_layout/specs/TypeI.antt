@@ -1,4 +1,4 @@
--- Record type I, 127 bytes: the nodes of a chain and the polygons on its sides.
+-- Record type I: the canonical spelling, and the content in the columns of a line.
 use Rattle.std.specs.Prelude.{ℕ, List}
 use Rattle.tl_layout.specs.Bytes.{columns}
 use Rattle.tl_layout.specs.Fields.{FieldsI}

@@ -31,7 +31,7 @@ pub fn text_at<const N: usize>(line: &[u8], first: usize, last: usize) -> Text<N
 ///
 /// `BadNumber` at column `first`.
 #[inline(always)]
-#[tactic(auto, unfolding(crate::specs::FieldReading::number_at))]
+#[tactic(auto, unfolding(crate::specs::FieldReading::number_at, crate::specs::FieldReading::number_or_none_at, crate::specs::FieldReading::and_then))]
 pub fn read_number(line: &[u8], first: usize, last: usize) -> Result<u64, FieldFault>
     requires from_one { 1 ≤ first }
     requires ordered { first ≤ last }

@@ -1,6 +1,6 @@
 -- A coordinate's field is read as the value that it spells, and the canonical text is among the spellings.
-use Rattle.std.proofs.Common.{◌≡◌, ℕ, zero, suc, ◌+◌, ◌-◌, ◌*◌, ◌/◌, ◌%◌, ◌^◌, ◌<◌, ◌≤◌, List, [], ◌∷◌, ◌++◌, length, Bool, true}
-use Rattle.std.proofs.Common.{false, cond, nat_eq, nat_le, Option, Some, None, refl, sym, ap, ◌∙◌, subst, arith, IsTrue, ℤ, pos}
+use Rattle.std.proofs.Common.{◌≡◌, ℕ, zero, suc, ◌+◌, ◌-◌, ◌*◌, ◌/◌, ◌%◌, ◌^◌, ◌<◌, ◌≤◌, List, [], ◌∷◌, ◌++◌, length, true}
+use Rattle.std.proofs.Common.{nat_eq, nat_le, Option, Some, None, refl, sym, ap, ◌∙◌, subst, arith, IsTrue, ℤ, pos}
 use Rattle.std.proofs.Common.{negsuc, unsigned_abs}
 use Rattle.std.specs.List.{list_all}
 use Rattle.std.proofs.lemmas.Bool.{and_parts, and_from, cond_both, eqb-true, ne_eqb, leb-true, le-leb}

@@ -20,8 +20,9 @@ use Rattle.tl_layout.specs.CoordinateField.{IsCoordinateField}
 use Rattle.tl_layout.specs.CoordinateReading.{coordinate_of}
 use Rattle.tl_layout.specs.Laws.CoordinateLaws.{coordinate_found, coordinate_only, coordinate_within, blank_found, blank_only}
 use Rattle.tl_layout.specs.Laws.CoordinateLaws.{coordinate_text_spells, coordinate_text_is_text}
-use Rattle.tl_layout.specs.FieldReading.{and_then, demanded_number, possible_number, number_at, number_or_none_at, point_or_none}
-use Rattle.tl_layout.specs.FieldReading.{pair_of, point_or_none_at, demanded_point, point_at}
+use Rattle.tl_layout.specs.FieldReading.{and_then, demanded, possible_number, number_at, number_or_none_at, point_or_none}
+use Rattle.tl_layout.specs.FieldReading.{pair_of, point_or_none_at, point_at}
+use Rattle.tl_layout.specs.FieldFaults.{bad_number, bad_point}
 use Rattle.tl_layout.specs.FieldMeaning.{SpellsNumber, SpellsNumberOrNone, SpellsPoint, SpellsPointOrNone}
 use Rattle.tl_layout.specs.declared.coordinate.Coordinate.{Coordinate}
 use Rattle.tl_layout.specs.declared.coordinate.Coordinate.TheVariants.{Malformed, Blank, Value}
@@ -46,26 +47,13 @@ pub reads_on : {A B : Type 0} (first : Result A FieldFault) (more : A → Result
 unfolding and_then
 reads_on first more value answer was gave = rw was gave
 
-demanded_found : (column n : ℕ) (field : List ℕ) (read : Option ℕ) → number_of field ≡ read → demanded_number column read ≡ Ok n
-    → SpellsNumber field n
-demanded_found column n field None r h = (cc)
-demanded_found column n field (Some zero) r h = (cc)
-demanded_found column n field (Some (suc m)) r h =
-    let same : suc m ≡ n = (cc) in
-    let P : ℕ → Type 0 = SpellsNumber field in
-    subst P same (number_found field (suc m) r, omega arith)
-
-pub number_at_found : (first last : ℕ) (line : List ℕ) (n : ℕ) → number_at first last line ≡ Ok n → SpellsNumber (columns first last line) n
-unfolding number_at
-number_at_found first last line n h = demanded_found first n (columns first last line) (number_of (columns first last line)) refl h
-
-demanded_only : (column n : ℕ) → 0 < n → demanded_number column (Some n) ≡ Ok n
-demanded_only column zero h = absurd (omega arith)
-demanded_only column (suc n) h = refl
-
-pub number_at_only : (first last : ℕ) (line : List ℕ) (n : ℕ) → SpellsNumber (columns first last line) n → number_at first last line ≡ Ok n
-unfolding number_at
-number_at_only first last line n h = ap (demanded_number first) (number_only (columns first last line) n h.0) ∙ demanded_only first n h.1
+-- a value that is required was read
+demanded_found : {A : Type 0} (first : Result (Option A) FieldFault) (fault : FieldFault) (x : A) → and_then first (demanded fault) ≡ Ok x
+    → first ≡ Ok (Some x)
+unfolding and_then
+demanded_found (Ok None) fault x h = (cc)
+demanded_found (Ok (Some y)) fault x h = let same : y ≡ x = (cc) in ap (λ z. Ok (Some z)) same
+demanded_found (Err f) fault x h = (cc)
 
 possible_found : (column : ℕ) (n : Option ℕ) (field : List ℕ) (read : Option ℕ) → number_of field ≡ read
     → possible_number column read ≡ Ok n → SpellsNumberOrNone field n
@@ -94,6 +82,15 @@ unfolding number_or_none_at
 number_or_none_at_only first last line None h = ap (possible_number first) (number_only (columns first last line) 0 h)
 number_or_none_at_only first last line (Some n) h = ap (possible_number first) (number_only (columns first last line) n h.0)
     ∙ possible_only first n h.1
+
+pub number_at_found : (first last : ℕ) (line : List ℕ) (n : ℕ) → number_at first last line ≡ Ok n → SpellsNumber (columns first last line) n
+unfolding number_at
+number_at_found first last line n h =
+    number_or_none_at_found first last line (Some n) (demanded_found (number_or_none_at first last line) (bad_number first) n h)
+
+pub number_at_only : (first last : ℕ) (line : List ℕ) (n : ℕ) → SpellsNumber (columns first last line) n → number_at first last line ≡ Ok n
+unfolding number_at
+number_at_only first last line n h = reads_on _ _ (Some n) _ (number_or_none_at_only first last line (Some n) h) refl
 
 -- a number spelled in that many columns has at most that many digits
 pub number_fits : (width n : ℕ) (field : List ℕ) → length field ≡ width → SpellsNumber field n → IsNumber width n
@@ -183,19 +180,11 @@ pub point_or_none_at_only : (column : ℕ) (line : List ℕ) (point : Option Coo
 unfolding point_or_none_at
 point_or_none_at_only column line point h = pair_only column _ _ point h
 
-demanded_point_found : (column : ℕ) (read : Option Coordinates) (point : Coordinates) → demanded_point column read ≡ Ok point
-    → read ≡ Some point
-demanded_point_found column None point h = (cc)
-demanded_point_found column (Some p) point h = (cc)
-
 pub point_at_found : (column : ℕ) (line : List ℕ) (point : Coordinates) → point_at column line ≡ Ok point
     → SpellsPoint (columns column (column + 9) line) (columns (column + 10) (column + 18) line) point
 unfolding point_at
 point_at_found column line point h =
-    let r = reads (point_or_none_at column line) (demanded_point column) point h in
-    let same = demanded_point_found column r.value point r.gave in
-    let P : Option Coordinates → Type 0 = SpellsPointOrNone (columns column (column + 9) line) (columns (column + 10) (column + 18) line) in
-    subst P same (point_or_none_at_found column line r.value r.was)
+    point_or_none_at_found column line (Some point) (demanded_found (point_or_none_at column line) (bad_point column) point h)
 
 pub point_at_only : (column : ℕ) (line : List ℕ) (point : Coordinates)
     → SpellsPoint (columns column (column + 9) line) (columns (column + 10) (column + 18) line) point → point_at column line ≡ Ok point

@@ -280,42 +280,39 @@ spelling_is : {R : Type 0} (rtype : ℕ) (table : List (Row R)) (r : R)
     → rows_spelling rtype table r ≡ (rtype ∷ codes "2006") ++ joined [] (rows_texts table r)
 spelling_is rtype table r = joined-before (rtype ∷ codes "2006") (rows_texts table r)
 
--- the canonical spelling is a full line
-pub table_spelling_is_line : {R : Type 0} (rtype len : ℕ) (table : List (Row R)) (make : Makes table R) → IsTable rtype len table make
-    → (r : R) → FitsRows table r → IsLine rtype len (rows_spelling rtype table r)
-unfolding AreAllowed
-table_spelling_is_line rtype len table make is r f =
-    let later = rows_text table 6 len is.laid_out r f in
-    let rest = later.0 in
-    let head = All-cons (λ b. IsTrue (is_allowed b)) rtype (codes "2006") is.allowed text_2006.allowed in
-    let line : IsLine rtype len ((rtype ∷ codes "2006") ++ joined [] (rows_texts table r)) = record {
-      begins = refl;
-      text = record {
-        len = omega arith;
-        allowed =
-            All-append (λ b. IsTrue (is_allowed b)) (rtype ∷ codes "2006") (joined [] (rows_texts table r)) head later.1;
-      };
-    } in
-    subst (IsLine rtype len) (sym (spelling_is rtype table r)) line
+module _ {R : Type 0} (rtype len : ℕ) (table : List (Row R)) (make : Makes table R) (is : IsTable rtype len table make) where
+  -- the canonical spelling is a full line
+  pub table_spelling_is_line : (r : R) → FitsRows table r → IsLine rtype len (rows_spelling rtype table r)
+  unfolding AreAllowed
+  table_spelling_is_line r f =
+      let later = rows_text table 6 len is.laid_out r f in
+      let rest = later.0 in
+      let head = All-cons (λ b. IsTrue (is_allowed b)) rtype (codes "2006") is.allowed text_2006.allowed in
+      let line : IsLine rtype len ((rtype ∷ codes "2006") ++ joined [] (rows_texts table r)) = record {
+        begins = refl;
+        text = record {
+          len = omega arith;
+          allowed = All-append (λ b. IsTrue (is_allowed b)) (rtype ∷ codes "2006") (joined [] (rows_texts table r)) head later.1;
+        };
+      } in
+      subst (IsLine rtype len) (sym (spelling_is rtype table r)) line
 
--- if a record is read, the line spells it, and it fits
-pub table_reads_spelled : {R : Type 0} (rtype len : ℕ) (table : List (Row R)) (make : Makes table R) → IsTable rtype len table make
-    → (line : List ℕ) (r : R) → IsLine rtype len line → rows_reading table make line ≡ Ok r → FitsRows table r × SpellsRows table line r
-table_reads_spelled {R} rtype len table make is line r l h =
-    let read = rows_found table make line r h in
-    let values = sym (is.gives read.values) ∙ ap (values_of table) read.gave in
-    let spelled = spelled_rows table line r (subst (AreSpelled line table) values read.spelled) in
-    (rows_fit len line l.text table 6 (omega arith) is.laid_out r spelled, spelled)
+  -- if a record is read, the line spells it, and it fits
+  pub table_reads_spelled : (line : List ℕ) (r : R) → IsLine rtype len line → rows_reading table make line ≡ Ok r
+      → FitsRows table r × SpellsRows table line r
+  table_reads_spelled line r l h =
+      let read = rows_found table make line r h in
+      let values = sym (is.gives read.values) ∙ ap (values_of table) read.gave in
+      let spelled = spelled_rows table line r (subst (AreSpelled line table) values read.spelled) in
+      (rows_fit len line l.text table 6 (omega arith) is.laid_out r spelled, spelled)
 
--- if the line spells a record, that record is read
-pub table_spelled_is_read : {R : Type 0} (rtype len : ℕ) (table : List (Row R)) (make : Makes table R) → IsTable rtype len table make
-    → (line : List ℕ) (r : R) → IsLine rtype len line → SpellsRows table line r → rows_reading table make line ≡ Ok r
-table_spelled_is_read {R} rtype len table make is line r l s = rows_only table make line (values_of table r) (spelled_values table line r s)
-    ∙ ap (λ (x : R). Ok x) (is.remade r)
+  -- if the line spells a record, that record is read
+  pub table_spelled_is_read : (line : List ℕ) (r : R) → IsLine rtype len line → SpellsRows table line r → rows_reading table make line ≡ Ok r
+  table_spelled_is_read line r l s =
+      rows_only table make line (values_of table r) (spelled_values table line r s) ∙ ap (λ (x : R). Ok x) (is.remade r)
 
--- reading the canonical spelling yields the record
-pub table_reads_spelling : {R : Type 0} (rtype len : ℕ) (table : List (Row R)) (make : Makes table R) → IsTable rtype len table make
-    → (r : R) → FitsRows table r → rows_reading table make (rows_spelling rtype table r) ≡ Ok r
-table_reads_spelling rtype len table make is r f =
-    table_spelled_is_read rtype len table make is (rows_spelling rtype table r) r (table_spelling_is_line rtype len table make is r f)
-    (rows_again table len (rtype ∷ codes "2006") (rows_spelling rtype table r) is.laid_out r (spelling_is rtype table r) f)
+  -- reading the canonical spelling yields the record
+  pub table_reads_spelling : (r : R) → FitsRows table r → rows_reading table make (rows_spelling rtype table r) ≡ Ok r
+  table_reads_spelling r f =
+      table_spelled_is_read (rows_spelling rtype table r) r (table_spelling_is_line r f)
+      (rows_again table len (rtype ∷ codes "2006") (rows_spelling rtype table r) is.laid_out r (spelling_is rtype table r) f)

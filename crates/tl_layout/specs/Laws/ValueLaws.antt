@@ -6,8 +6,8 @@ use Rattle.tl_layout.specs.NumberReading.{number_of}
 use Rattle.tl_layout.specs.CoordinateReading.{coordinate_of}
 use Rattle.tl_layout.specs.Laws.CoordinateLaws.{coordinate_found, coordinate_only, blank_found, blank_only}
 use Rattle.tl_layout.specs.Coordinates.{Coordinates}
-use Rattle.tl_layout.specs.FieldReading.{and_then, demanded_number, possible_number, number_at, number_or_none_at, pair_of}
-use Rattle.tl_layout.specs.FieldReading.{point_or_none_at, demanded_point, point_at}
+use Rattle.tl_layout.specs.FieldReading.{and_then, demanded, possible_number, number_at, number_or_none_at, pair_of}
+use Rattle.tl_layout.specs.FieldReading.{point_or_none_at, point_at}
 use Rattle.tl_layout.specs.FieldMeaning.{SpellsPointOrNone, SpellsNumberPlace, SpellsPointPlace}
 use Rattle.tl_layout.specs.FieldFaults.{bad_number, bad_point, IsMalformed, HasMalformedLongitude, HasMalformedLatitude, IsReportedOfPair}
 use Rattle.tl_layout.specs.Laws.FieldLaws.{ok_value, number_at_found, number_at_only, number_or_none_at_found, number_or_none_at_only}
@@ -80,14 +80,13 @@ pub nothing_spelled : (line : List ℕ) (first last : ℕ) (kind : Kind) (fault 
     → (value : ValueOf kind) → SpellsValue line first last kind value → ⊥
 nothing_spelled line first last kind fault h value s = not_both _ value fault (value_only line first last kind value s) h
 
-demanded_reported : (column : ℕ) (read : Option ℕ) (fault : FieldFault) → demanded_number column read ≡ Err fault → fault ≡ bad_number column
-demanded_reported column None fault h = (cc)
-demanded_reported column (Some zero) fault h = (cc)
-demanded_reported column (Some (suc n)) fault h = absurd (cc)
-
-pub number_reported : (first last : ℕ) (line : List ℕ) (fault : FieldFault) → number_at first last line ≡ Err fault → fault ≡ bad_number first
-unfolding number_at
-number_reported first last line fault h = demanded_reported first (number_of (columns first last line)) fault h
+-- a value that is required fails as it is read, or there is none
+demanded_fails : {A : Type 0} (first : Result (Option A) FieldFault) (missing fault : FieldFault)
+    → and_then first (demanded missing) ≡ Err fault → (first ≡ Err fault) ⊎ ((first ≡ Ok None) × (fault ≡ missing))
+unfolding and_then
+demanded_fails (Ok None) missing fault h = inr (refl, (cc))
+demanded_fails (Ok (Some x)) missing fault h = absurd (cc)
+demanded_fails (Err f) missing fault h = let same : f ≡ fault = (cc) in inl (ap (λ (f : FieldFault). Err f) same)
 
 possible_reported : (column : ℕ) (read : Option ℕ) (fault : FieldFault) → possible_number column read ≡ Err fault → fault ≡ bad_number column
 possible_reported column None fault h = (cc)
@@ -98,6 +97,14 @@ pub number_or_none_reported : (first last : ℕ) (line : List ℕ) (fault : Fiel
     → fault ≡ bad_number first
 unfolding number_or_none_at
 number_or_none_reported first last line fault h = possible_reported first (number_of (columns first last line)) fault h
+
+pub number_reported : (first last : ℕ) (line : List ℕ) (fault : FieldFault) → number_at first last line ≡ Err fault → fault ≡ bad_number first
+unfolding number_at
+number_reported first last line fault h =
+    elim (demanded_fails (number_or_none_at first last line) (bad_number first) fault h) [
+      | inl e ↦ number_or_none_reported first last line fault e
+      | inr none ↦ none.1
+    ]
 
 -- ---- pairs
 
@@ -166,22 +173,16 @@ halves_well_formed long lat None (inl h) = ((λ m. m.not_blank h.0), (λ m. m.no
 halves_well_formed long lat None (inr h) = ((λ m. m.no_value (pos 0) h.0), (λ m. m.no_value (pos 0) h.1))
 halves_well_formed long lat (Some point) h = ((λ m. m.no_value point.long h.long_spelled), (λ m. m.no_value point.lat h.lat_spelled))
 
-none_reported : (line : List ℕ) (first : ℕ) (fault : FieldFault) (read : Option Coordinates) → point_or_none_at first line ≡ Ok read
-    → demanded_point first read ≡ Err fault → IsReportedOfPair line first fault
-none_reported line first fault None was h =
-    let well = halves_well_formed _ _ None (point_or_none_at_found first line None was) in
-    subst (IsReportedOfPair line first) (err_value _ fault h) (both_reported line first well.0 well.1)
-none_reported line first fault (Some point) was h = absurd (cc)
-
 pub point_reported : (line : List ℕ) (first : ℕ) (fault : FieldFault) → point_at first line ≡ Err fault → IsReportedOfPair line first fault
 unfolding point_at
-point_reported line first fault h = go (fails (point_or_none_at first line) (demanded_point first) fault h)
-  where
-    go : (point_or_none_at first line ≡ Err fault)
-        ⊎ ((read : Option Coordinates) × (point_or_none_at first line ≡ Ok read) × (demanded_point first read ≡ Err fault))
-        → IsReportedOfPair line first fault
-    go (inl e) = point_or_none_reported line first fault e
-    go (inr r) = none_reported line first fault r.0 r.1 r.2
+point_reported line first fault h =
+    elim (demanded_fails (point_or_none_at first line) (bad_point first) fault h) [
+      | inl e ↦ point_or_none_reported line first fault e
+      | inr none ↦ (
+          let well = halves_well_formed _ _ None (point_or_none_at_found first line None none.0) in
+          subst (IsReportedOfPair line first) (sym none.1) (both_reported line first well.0 well.1)
+          )
+    ]
 
 -- two faults with the same kind and the same column are the same
 same_fault : (f g : FieldFault) → f.kind ≡ g.kind → f.column ≡ g.column → f ≡ g
