@@ -33,16 +33,7 @@ fn ascend(numbers: &[u64]) -> bool
     requires { IsInOrder nat_cmp numbers.now }
     ensures { Decides result (has_repeat nat_cmp numbers.now ≡ false) }
 {
-    let mut rest = numbers;
-    while let Some((first, later)) = rest.split_first() {
-        if let Some((second, _)) = later.split_first() {
-            if *first == *second {
-                return false;
-            }
-        }
-        rest = later;
-    }
-    true
+    numbers.is_sorted_by(|number, next| number < next)
 }
 
 impl<'a> SortedNumbers<'a> {
