@@ -1,4 +1,5 @@
 -- Linked records that fit, and aren't too many of any type, have a county within its limits.
+use Rattle.std.proofs.Common.{rules}
 use Rattle.std.proofs.Common.{◌≡◌, ◌⊎◌, ◌+◌, ◌*◌, ◌-◌, ◌<◌, ◌≤◌, ◌==◌, ℕ, List, [], ◌∷◌, ◌++◌, map, flat_map, filter}
 use Rattle.std.proofs.Common.{filter_map, length, length-append, Bool, true, false, cond, Option, Some, None, IfSome, is_eq}
 use Rattle.std.proofs.Common.{Ordering, sym, refl, ap, ◌∙◌, subst, inl, inr, arith, nat_cmp}
@@ -42,16 +43,13 @@ flat_map-one f (x ∷ xs) = ap (λ ys. f x ∷ ys) (flat_map-one f xs)
 -- a property of each content is a property of the contents joined in the order of their RTSQs
 all_joined_in_order : {X Y : Type 0} (Q : Y → Type 0) (content : X → List Y) (by : X → X → Ordering) (test : X → Bool) (xs : List X)
     → AllByRecursion (λ x. AllByRecursion Q (content x)) xs → AllByRecursion Q (flat_map content (in_order by (filter test xs)))
-all_joined_in_order Q content by test xs a =
-    all_joined Q content (in_order by (filter test xs))
-    (all-in_order (λ x. AllByRecursion Q (content x)) by (filter test xs) (all_filter (λ x. AllByRecursion Q (content x)) test xs a))
+all_joined_in_order Q content by test xs a = search (rules, all_joined, all-in_order, all_filter)
 
 -- contents of at most `width` elements each have at most `width` times as many elements together
 length-joined : {X Y : Type 0} (width : ℕ) (content : X → List Y) (xs : List X) → AllByRecursion (λ x. length (content x) ≤ width) xs
     → length (flat_map content xs) ≤ width * length xs
 length-joined width content [] a = omega arith
-length-joined width content (x ∷ xs) a =
-    omega (arith, length-append (content x) (flat_map content xs), a.0, length-joined width content xs a.1)
+length-joined width content (x ∷ xs) a = search (rules, length-append, length-joined width content xs a.1)
 
 inner_back : (points : List Coordinates) (e : Coordinates) → without_last (points ++ (e ∷ [])) ≡ points
 inner_back [] e = refl
@@ -121,21 +119,10 @@ module _ (records : List Record) (linked : IsLinked records) (fits : AllByRecurs
       (all_weaker Fit6 (λ r. FitsRanges r.ranges) (λ r f. f.ranges) (of_type_6 records) (fit Type6))))
 
   chain_fits : (r : Fields1) (link : FieldsI) → Fit1 r → FitI link → FitsChain (chain_of records r link)
-  chain_fits r link f l = record {
-    body = f.body;
-    points = (f.start, all_append IsOnMap (shape_points records r.tlid) (r.end ∷ []) (shape_points_fit r.tlid) (f.end, tt));
-    ranges = ranges_fit r.tlid;
-    link = l.content;
-  }
+  chain_fits r link f l = search (rules, all_append, shape_points_fit, ranges_fit)
 
   numbers_fit : (r : Fields1) (link : FieldsI) → FitI link → FitsNumbers (chain_of records r link)
-  numbers_fit r link l = record {
-    feats = names_fit r.tlid;
-    start_node = l.start_node;
-    end_node = l.end_node;
-    left = l.left_polyid;
-    right = l.right_polyid;
-  }
+  numbers_fit r link l = search (rules, names_fit)
 
   -- each polygon's key fits
   keys_fit : (key : PolygonKey) → Known key_cmp (flat_map side_keys (of_type_i records) ++ map p_key (of_type_p records)) key
@@ -265,12 +252,7 @@ module _ (records : List Record) (linked : IsLinked records) (fits : AllByRecurs
   held : {X Y : Type 0} (width : ℕ) (tlid rtsq : X → ℕ) (content : X → List Y) (n : ℕ) (xs : List X)
       → AllByRecursion (λ x. length (content x) ≤ width) xs
       → length (flat_map content (in_order (on rtsq nat_cmp) (of_number tlid n xs))) ≤ width * length (of_number tlid n xs)
-  held width tlid rtsq content n xs a =
-      subst (λ k. length (flat_map content (in_order (on rtsq nat_cmp) (of_number tlid n xs))) ≤ width * k)
-      (length-in_order (on rtsq nat_cmp) (of_number tlid n xs))
-      (length-joined width content (in_order (on rtsq nat_cmp) (of_number tlid n xs))
-      (all-in_order (λ x. length (content x) ≤ width) (on rtsq nat_cmp) (of_number tlid n xs)
-      (all_filter (λ x. length (content x) ≤ width) (λ x. tlid x == n) xs a)))
+  held width tlid rtsq content n xs a = search (rules, length-in_order, length-joined, all-in_order, all_filter)
 
   points_held : (n : ℕ) → length (shape_points records n) ≤ 10 * length (of_number two_tlid n (of_type_2 records))
   points_held n = held 10 two_tlid two_rtsq (λ (r : Fields2). r.points) n (of_type_2 records)
@@ -281,13 +263,11 @@ module _ (records : List Record) (linked : IsLinked records) (fits : AllByRecurs
       (all_weaker Fit4 (λ r. length r.feats ≤ 5) (λ r f. f.len) (of_type_4 records) (fit Type4))
 
   ranges_held : (n : ℕ) → length (further_ranges records n) ≡ length (of_number six_tlid n (of_type_6 records))
-  ranges_held n = length-map (in_order (on six_rtsq nat_cmp) (of_number six_tlid n (of_type_6 records))) (λ (r : Fields6). r.ranges)
-      ∙ length-in_order (on six_rtsq nat_cmp) (of_number six_tlid n (of_type_6 records))
+  ranges_held n = search (rules, length-map, length-in_order)
 
   inner_held : (r : Fields1) → length (inner_points (r.start ∷ (shape_points records r.tlid ++ (r.end ∷ [])))) ≤ 10 * length
       (of_number two_tlid r.tlid (of_type_2 records))
-  inner_held r = subst (λ points. length points ≤ 10 * length (of_number two_tlid r.tlid (of_type_2 records)))
-      (sym (inner_back (shape_points records r.tlid) r.end)) (points_held r.tlid)
+  inner_held r = search (rules, inner_back, points_held)
 
   lists : AllByRecursion (λ entry. ListsFit entry.1) (chains_of records)
   lists = all_chains (λ entry. ListsFit entry.1) (λ r link f l. record {
@@ -317,11 +297,7 @@ module _ (records : List Record) (linked : IsLinked records) (fits : AllByRecurs
   -- a list cut into pieces with RTSQs needs at most as many records as hold it
   few_in_pieces : {X Y : Type 0} (width count : ℕ) (make : ℕ × List X → Y) (xs : List X) → length xs ≤ width * count
       → length (map make (numbered_from 1 (in_pieces width xs))) ≤ count
-  few_in_pieces width count make xs h =
-      let few : length (in_pieces width xs) ≤ count = few_pieces width count (length xs) xs h in
-      let same : length (map make (numbered_from 1 (in_pieces width xs))) ≡ length (in_pieces width xs) =
-      length-map (numbered_from 1 (in_pieces width xs)) make ∙ length-numbered_from 1 (in_pieces width xs) in
-      omega arith
+  few_in_pieces width count make xs h = search (rules, few_pieces, length-map, length-numbered_from)
 
   chain_count : length (chains_of records) ≡ length (of_type_1 records)
   chain_count = sym (length-map (chains_of records) (λ (entry : ℕ × Chain). entry.0)) ∙ ap length (tlids-county records linked)
@@ -348,15 +324,7 @@ module _ (records : List Record) (linked : IsLinked records) (fits : AllByRecurs
   few_bodies : (found : List PolygonKey) → length (filter_map packed_p (map (λ key. (key, polygon_body records key)) found)) ≤ length
       (flat_map (λ key. filter (λ r. is_eq (key_cmp key (p_key r))) (of_type_p records)) found)
   few_bodies [] = omega arith
-  few_bodies (key ∷ found) =
-      let own : List FieldsP = filter (λ r. is_eq (key_cmp key (p_key r))) (of_type_p records) in
-      let others : List FieldsP = flat_map (λ key. filter (λ r. is_eq (key_cmp key (p_key r))) (of_type_p records)) found in
-      let few : length (cons_option (packed_body key (first (map (λ (r : FieldsP). r.body) own)))
-      (filter_map packed_p (map (λ key. (key, polygon_body records key)) found))) ≤ length
-      (map (λ (r : FieldsP). r.body) own) + length others =
-      few_packed key (map (λ (r : FieldsP). r.body) own) (filter_map packed_p (map (λ key. (key, polygon_body records key)) found))
-      (length others) (few_bodies found) in
-      omega (arith, few, length-map own (λ (r : FieldsP). r.body), length-append own others)
+  few_bodies (key ∷ found) = search (rules, few_packed, length-map, length-append, few_bodies found)
 
   few_ps : length (filter_map packed_p (county_of records).polygons) ≤ length (of_type_p records)
   few_ps =
@@ -427,11 +395,4 @@ module _ (records : List Record) (linked : IsLinked records) (fits : AllByRecurs
   }
 
   pub county-within_limits : (limit : ℕ) → IsWithinLimit limit records → IsWithinLimits limit (county_of records)
-  county-within_limits limit h =
-      record {
-        contents = contents;
-        numbers = numbers;
-        lists = lists;
-        counts =
-            packed_within limit (county_of records) (county_counts (λ _. limit) (by_type_within limit records h));
-      }
+  county-within_limits limit h = search (rules, contents, numbers, lists, packed_within, county_counts, by_type_within)

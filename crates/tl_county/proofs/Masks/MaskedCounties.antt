@@ -1,5 +1,6 @@
 -- Counties under a mask: a mask that leaves nothing out changes nothing, masking twice is masking once, and a county that a mask
 -- doesn't change is carried onto one that it doesn't change.
+use Rattle.std.proofs.Common.{rules}
 use Rattle.std.proofs.Common.{◌≡◌, ℕ, List, [], ◌∷◌, map, Bool, true, false, cond, refl, ap, ◌∙◌}
 use Rattle.tl_county.proofs.Common.{AllByRecursion, Body7, Carries, Chain, County, IsPermutation-sym, Renumbering, all-in_order, all_among}
 use Rattle.tl_county.proofs.Common.{all_everywhere, all_map, all_weaker, among-permutation, carried_chain, carried_landmark, each_from}
@@ -14,13 +15,7 @@ use Rattle.ordered_lists.proofs.Lists.InOrder.{in_order-in_order}
 
 -- a mask that leaves nothing out changes nothing
 pub masked_by_none : (county : County) → masked no_mask county ≡ county
-masked_by_none county = λ i. record {
-  chains = map_itself (λ (entry : ℕ × Chain). (entry.0, masked_chain no_mask entry.1)) (λ entry. refl) county.chains i;
-  names = county.names;
-  polygons = county.polygons;
-  landmarks = map_itself (λ (entry : ℕ × List Body7). (entry.0, masked_bodies no_mask entry.1)) (λ entry. refl) county.landmarks i;
-  links = county.links;
-}
+masked_by_none county = search (rules, map_itself)
 
 pub no_mask_is_plain : masked no_mask ≡ (λ county. county)
 no_mask_is_plain = λ i county. masked_by_none county i
@@ -39,17 +34,7 @@ map_fixed f (x ∷ xs) e =
 
 module _ (mask : Mask) where
   chain_twice : (c : Chain) → masked_chain mask (masked_chain mask c) ≡ masked_chain mask c
-  chain_twice c = λ i. record {
-    body = masked_twice_1 mask c.body i;
-    points = c.points;
-    feats = c.feats;
-    ranges = c.ranges;
-    topology = masked_twice_i mask c.topology i;
-    start_node = c.start_node;
-    end_node = c.end_node;
-    left = c.left;
-    right = c.right;
-  }
+  chain_twice c = search (rules, masked_twice_1, masked_twice_i)
 
   -- contents that were masked and sorted don't change again
   hidden_twice : (hidden : Bool) (bodies : List Body7) → let once = cond hidden

@@ -1,4 +1,5 @@
 -- The county of the packing of a county is that county.
+use Rattle.std.proofs.Common.{rules}
 use Rattle.std.proofs.Common.{◌≡◌, ◌⊎◌, ◌≤◌, ℕ, zero, suc, List, [], ◌∷◌, ◌++◌, map, flat_map}
 use Rattle.std.proofs.Common.{filter_map, length, take, drop, Option, Some, None, IsTrue, sym}
 use Rattle.std.proofs.Common.{refl, ap, ◌∙◌, subst, inl, inr, arith, nat_cmp, map-id, take-append-drop}
@@ -118,11 +119,7 @@ module _ (c : County) (is : IsCounty c) where
       ∙ group_of i_tlid (λ (d : ℕ × Chain). packed_i d ∷ []) (λ d. (refl, tt)) c.chains (tlids_apart c is) e m
 
   chain_back : (e : ℕ × Chain) → Among e c.chains → chain_of (packed c) (packed_one e) (packed_i e) ≡ e.1
-  chain_back e m =
-      let two : 2 ≤ length e.1.points = all_among (λ d. 2 ≤ length d.1.points) e c.chains is.whole.points m in
-      let points : first_point e.1.points ∷ (shape_points (packed c) e.0 ++ (last_point e.1.points ∷ [])) ≡ e.1.points =
-      ap (λ ps. first_point e.1.points ∷ (ps ++ (last_point e.1.points ∷ []))) (inner e m) ∙ ends_and_inner e.1.points two in
-      λ i. record e.1 { points = points i; feats = names_back e m i; ranges = ranges_back e m i }
+  chain_back e m = search (rules, all_among, inner, ends_and_inner, names_back, ranges_back)
 
   chains_back : chains_of (packed c) ≡ c.chains
   chains_back =
@@ -157,21 +154,7 @@ module _ (c : County) (is : IsCounty c) where
 
   record_entry : (r : FieldsP) → Among r (of_type_p (packed c))
       → (d : PolygonKey × Option BodyP) × Among d c.polygons × ((p_key r ≡ d.0) × (Some r.body ≡ d.1))
-  record_entry r m =
-      let listed : Among r (filter_map packed_p c.polygons) =
-      from_in_order (on p_polyid nat_cmp) (filter_map packed_p c.polygons) r (subst (Among r) (polygons_packed c is) m) in
-      let d = in_filter_map packed_p r c.polygons listed in
-      (d.0, d.1, stated d.0.0 d.0.1 d.2)
-    where
-      some_same : (x y : FieldsP) → Some x ≡ Some y → x ≡ y
-      some_same x y e = cc
-
-      stated : (key : PolygonKey) (o : Option BodyP) → packed_body key o ≡ Some r → (p_key r ≡ key) × (Some r.body ≡ o)
-      stated key None e = cc
-      stated key (Some body) e =
-          let same : record { cenid = key.0; polyid = key.1; body = body } ≡ r =
-          some_same (record { cenid = key.0; polyid = key.1; body = body }) r e in
-          (ap p_key (sym same), ap (λ (x : FieldsP). Some x.body) (sym same))
+  record_entry r m = search (rules, from_in_order, polygons_packed, in_filter_map)
 
   from_keys : (k : PolygonKey) → Known key_cmp keys k → is_entry k
   from_keys k l = go (known-append key_keys k (flat_map side_keys (of_type_i (packed c))) (map p_key (of_type_p (packed c))) l)

@@ -1,4 +1,5 @@
 -- The packing of a county is linked.
+use Rattle.std.proofs.Common.{rules}
 use Rattle.std.proofs.Common.{◌≡◌, ◌&&◌, ℕ, nat_lt, List, ◌++◌, map, flat_map}
 use Rattle.std.proofs.Common.{Bool, true, false, not, IsTrue}
 use Rattle.std.proofs.Common.{sym, refl, ap, ◌∙◌, subst, nat_cmp}
@@ -27,26 +28,13 @@ module _ (c : County) (is : IsCounty c) where
 
   pub packed_linked : IsLinked (packed c)
   packed_linked (ChainTwice tlid) = once (chain_tlids (packed c)) (tlids c) (chain_numbers c is) (tlids_apart c is) tlid
-  packed_linked (NoChain rtype tlid) =
-      implied (stands_in nat_cmp tlid (linked_tlids rtype (packed c))) (stands_in nat_cmp tlid (chain_tlids (packed c)))
-      (λ t. let known : Known nat_cmp (tlids c) tlid =
-      known_all nat_keys (Known nat_cmp (tlids c)) (linked_tlids rtype (packed c)) ((all_linked c is) rtype) tlid
-      (ltb-true 0 (times nat_cmp tlid (linked_tlids rtype (packed c))) t) in
-      ap (stands_in nat_cmp tlid) (chain_numbers c is) ∙ lt-ltb 0 (times nat_cmp tlid (tlids c)) known)
+  packed_linked (NoChain rtype tlid) = search (rules, implied, known_all, nat_keys, all_linked, ltb-true, chain_numbers, lt-ltb)
   packed_linked (SequenceBroken rtype tlid) = (sequence c is) rtype tlid
-  packed_linked (LinkMissing tlid) =
-      implied (stands_in nat_cmp tlid (chain_tlids (packed c))) (stands_in nat_cmp tlid (map i_tlid (of_type_i (packed c))))
-      (λ t. ap (stands_in nat_cmp tlid) ((link_numbers c is) ∙ sym (chain_numbers c is)) ∙ t)
+  packed_linked (LinkMissing tlid) = search (rules, implied, link_numbers, chain_numbers)
   packed_linked (LinkTwice tlid) = once (map i_tlid (of_type_i (packed c))) (tlids c) (link_numbers c is) (tlids_apart c is) tlid
-  packed_linked (NameTwice feat) =
-      once (map five_feat (of_type_5 (packed c))) (feats c) (name_numbers c is) (apart_from_sorted nat_keys (feats c) is.ascending.names) feat
-  packed_linked (NameUnknown tlid feat) =
-      implied (stands_in nat_cmp feat (named_feats tlid (packed c))) (stands_in nat_cmp feat (map five_feat (of_type_5 (packed c))))
-      (λ t. ap (stands_in nat_cmp feat) (name_numbers c is)
-      ∙ known_all nat_keys (λ n. IsTrue (stands_in nat_cmp n (feats c))) (named_feats tlid (packed c)) ((named c is) tlid) feat
-      (ltb-true 0 (times nat_cmp feat (named_feats tlid (packed c))) t))
-  packed_linked (PolygonTwice cenid polyid) =
-      le-ltb 1 (times key_cmp (cenid, polyid) (map p_key (of_type_p (packed c)))) ((few_polygons c is) (cenid, polyid))
+  packed_linked (NameTwice feat) = search (rules, once, name_numbers, apart_from_sorted, nat_keys)
+  packed_linked (NameUnknown tlid feat) = search (rules, implied, name_numbers, known_all, nat_keys, named, ltb-true)
+  packed_linked (PolygonTwice cenid polyid) = search (rules, le-ltb, few_polygons)
   packed_linked (LandUnknown land) =
       implied (stands_in nat_cmp land (map eight_land (of_type_8 (packed c))))
       (stands_in nat_cmp land (map seven_land (of_type_7 (packed c))))

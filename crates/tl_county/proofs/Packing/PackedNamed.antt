@@ -1,4 +1,6 @@
 -- The FEATs, LANDs and polygons that the records of a packed county name are in the county.
+use Rattle.std.proofs.Common.{rules}
+use Rattle.tl_county.proofs.Common.{common_steps}
 use Rattle.std.proofs.Common.{◌≡◌, ◌⊎◌, ◌<◌, ◌≤◌, ◌+◌, ◌||◌, ℕ, List, [], ◌∷◌, ◌++◌, map, flat_map}
 use Rattle.std.proofs.Common.{filter_map, length, true, false, Option, Some, None, IsTrue, is_some}
 use Rattle.std.proofs.Common.{is_eq, sym, refl, ap, ◌∙◌, subst, inl, inr, arith, nat_cmp}
@@ -15,39 +17,11 @@ use Rattle.ordered_lists.proofs.Lists.Members.{to_filter_map}
 use Rattle.ordered_lists.proofs.ByKey.Numbers.{times-in_order}
 use Rattle.tl_county.proofs.Packing.PackedNumbers.{four_own, fours, links_of_chains, polygons_packed, sevens, tlids_apart}
 
--- the keys of polygons with content
-key_packed : (key : PolygonKey) (o : Option BodyP) (r : FieldsP) → packed_body key o ≡ Some r → p_key r ≡ key
-key_packed key None r e = cc
-key_packed key (Some body) r e = let same : record { cenid = key.0; polyid = key.1; body = body } ≡ r =
-    some_same (record { cenid = key.0; polyid = key.1; body = body }) r e in ap p_key (sym same)
-  where
-    some_same : (x y : FieldsP) → Some x ≡ Some y → x ≡ y
-    some_same x y e = cc
-
+-- a polygon has at most as many records as entries
 few_packed_keys : (k : PolygonKey) (es : List (PolygonKey × Option BodyP))
     → times key_cmp k (map p_key (filter_map packed_p es)) ≤ times key_cmp k (map (λ (e : PolygonKey × Option BodyP). e.0) es)
 few_packed_keys k [] = omega arith
-few_packed_keys k (e ∷ es) = go e.1 (few_packed_keys k es) (same_or_not key_keys k e.0)
-  where
-    go : (o : Option BodyP) → times key_cmp k (map p_key (filter_map packed_p es)) ≤ times key_cmp k
-        (map (λ (d : PolygonKey × Option BodyP). d.0) es) → (k ≡ e.0) ⊎ (is_eq (key_cmp k e.0) ≡ false)
-        → times key_cmp k (map p_key (cons_option (packed_body e.0 o) (filter_map packed_p es))) ≤ times key_cmp k
-        (e.0 ∷ map (λ (d : PolygonKey × Option BodyP). d.0) es)
-    go None ih same = omega (arith, ih, times-cons key_keys k e.0 (map (λ (d : PolygonKey × Option BodyP). d.0) es))
-    go (Some body) ih (inl same) =
-        omega (
-          arith,
-          ih,
-          times-yes key_keys k e.0 (map p_key (filter_map packed_p es)) same,
-          times-yes key_keys k e.0 (map (λ (d : PolygonKey × Option BodyP). d.0) es) same,
-        )
-    go (Some body) ih (inr ne) =
-        omega (
-          arith,
-          ih,
-          times-no key_keys k e.0 (map p_key (filter_map packed_p es)) ne,
-          times-no key_keys k e.0 (map (λ (d : PolygonKey × Option BodyP). d.0) es) ne,
-        )
+few_packed_keys k (e ∷ es) = grind (arith, common_steps, same_or_not, key_keys, times-cons, times-yes, times-no, few_packed_keys k es)
 
 module _ (c : County) (is : IsCounty c) where
   -- a test of names, of polygons and of landmarks
@@ -85,9 +59,7 @@ module _ (c : County) (is : IsCounty c) where
           (among-map seven_land r (flat_map packed_sevens c.landmarks) (among-pieces packed_sevens e r c.landmarks m there))
 
   pub land_stands : (land : ℕ) → Known nat_cmp (lands c) land → Known nat_cmp (map seven_land (of_type_7 (packed c))) land
-  land_stands land k =
-      let e = among-unmap (λ (d : ℕ × List Body7). d.0) land c.landmarks (known_is_among nat_keys land (lands c) k) in
-      subst (Known nat_cmp (map seven_land (of_type_7 (packed c)))) (sym e.2) (landmark_stands e.0 e.1)
+  land_stands land k = search (rules, among-unmap, known_is_among, nat_keys, landmark_stands)
 
   pub sides_along : flat_map side_keys (of_type_i (packed c)) ≡ polygons_along c.chains
   sides_along = ap (flat_map side_keys) (links_of_chains c is) ∙ joined c.chains
@@ -125,12 +97,4 @@ module _ (c : County) (is : IsCounty c) where
           (subst (λ ks. Known key_cmp ks d.0) (sym sides_along) (ltb-true 0 (times key_cmp d.0 (polygons_along c.chains)) side))
 
   pub few_polygons : IsApart key_cmp (map p_key (of_type_p (packed c)))
-  few_polygons k =
-      let ordered : times key_cmp k (map p_key (in_order (on p_polyid nat_cmp) (filter_map packed_p c.polygons))) ≡ times key_cmp k
-      (map p_key (filter_map packed_p c.polygons)) =
-      times-in_order key_cmp p_key (on p_polyid nat_cmp) (filter_map packed_p c.polygons) k in
-      let few : times key_cmp k (map p_key (filter_map packed_p c.polygons)) ≤ times key_cmp k (polygon_keys c) =
-      few_packed_keys k c.polygons in
-      let one : times key_cmp k (polygon_keys c) ≤ 1 = apart_from_sorted key_keys (polygon_keys c) is.ascending.polygons k in
-      subst (λ xs. times key_cmp k (map p_key xs) ≤ 1) (sym (polygons_packed c is))
-      (let t : times key_cmp k (map p_key (in_order (on p_polyid nat_cmp) (filter_map packed_p c.polygons))) ≤ 1 = omega arith in t)
+  few_polygons k = search (rules, times-in_order, few_packed_keys, apart_from_sorted, key_keys, polygons_packed)

@@ -1,4 +1,5 @@
 -- The parts that linking builds from tables in order are the county of their records.
+use Rattle.std.proofs.Common.{rules}
 use Rattle.std.proofs.Common.{◌≡◌, ◌⊎◌, ◌==◌, ℕ, suc, List, [], ◌∷◌, ◌++◌, map, flat_map, length, Bool, true, false, cond, Less}
 use Rattle.std.proofs.Common.{is_eq, inl, inr, sym, refl, ap, ◌∙◌, subst, arith, nat_cmp, IsPermutation, Option, Some, None}
 use Rattle.std.proofs.Common.{unwrap_or, option_map, slice_get, zero}
@@ -97,17 +98,7 @@ module _ (t : Typed) (order : AreInOrder t) where
 
 -- tables hold the records of a list; the list's order has no meaning
 pub held : (tables : Tables) (records : List Record) → HoldsByType tables records → by_type records ≡ typed_of tables
-held tables records h = λ i. record {
-  of_type_1 = sym h.type_1 i;
-  of_type_2 = sym h.type_2 i;
-  of_type_4 = sym h.type_4 i;
-  of_type_5 = sym h.type_5 i;
-  of_type_6 = sym h.type_6 i;
-  of_type_7 = sym h.type_7 i;
-  of_type_8 = sym h.type_8 i;
-  of_type_i = sym h.type_i i;
-  of_type_p = sym h.type_p i;
-}
+held tables records h = search rules
 
 module _ (records : List Record) (t u : Typed) (holds : by_type records ≡ t) (permuted : ArePermuted t u) where
   moved : IsPermutation records (type_after_type u)
@@ -142,16 +133,12 @@ module _ (land : ℕ) where
   -- if all links, or none, have the number
   all_of : (links : List Fields8) → AllByRecursion (λ link. link.land ≡ land) links → of_number eight_land land links ≡ links
   all_of [] a = refl
-  all_of (link ∷ links) a =
-      ap (λ b. cond b (link ∷ of_number eight_land land links) (of_number eight_land land links)) (eq-eqb link.land land a.0)
-      ∙ ap (λ l. link ∷ l) (all_of links a.1)
+  all_of (link ∷ links) a = search (rules, eq-eqb, all_of links a.1)
 
   none_of : (other : ℕ) → (other ≡ land → ⊥) → (links : List Fields8) → AllByRecursion (λ link. link.land ≡ other) links
       → of_number eight_land land links ≡ []
   none_of other ne [] a = refl
-  none_of other ne (link ∷ links) a =
-      ap (λ b. cond b (link ∷ of_number eight_land land links) (of_number eight_land land links))
-      (ne_eqb link.land land (λ e. ne (sym a.0 ∙ e))) ∙ none_of other ne links a.1
+  none_of other ne (link ∷ links) a = search (rules, ne_eqb, none_of other ne links a.1)
 
   none_later : (landmarks : List (ℕ × LandmarkParts)) → LinksUnderLands landmarks
       → AllByRecursion (λ n. nat_cmp land n ≡ Less) (entry_keys landmarks)
@@ -204,14 +191,7 @@ pub bodies-under : (land : ℕ) (landmarks : List (ℕ × LandmarkParts))
     → option_map (λ (l : LandmarkParts). l.bodies) (value_under nat_cmp land landmarks) ≡ value_under nat_cmp land
     (map landmark_entry landmarks)
 bodies-under land [] = refl
-bodies-under land (entry ∷ landmarks) = go (is_eq (nat_cmp land entry.0)) (bodies-under land landmarks)
-  where
-    go : (b : Bool) → option_map (λ (l : LandmarkParts). l.bodies) (value_under nat_cmp land landmarks) ≡ value_under nat_cmp land
-        (map landmark_entry landmarks)
-        → option_map (λ (l : LandmarkParts). l.bodies) (cond b (Some entry.1) (value_under nat_cmp land landmarks)) ≡ cond b
-        (Some entry.1.bodies) (value_under nat_cmp land (map landmark_entry landmarks))
-    go true ih = refl
-    go false ih = ih
+bodies-under land (entry ∷ landmarks) = search (rules, bodies-under land landmarks)
 
 pub lands-kept : (landmarks : List (ℕ × LandmarkParts)) → entry_keys landmarks ≡ entry_keys (map landmark_entry landmarks)
 lands-kept landmarks = sym (map-map (λ e. e.0) landmark_entry landmarks)

@@ -1,4 +1,5 @@
 -- The lists gathered for linking: keys without repetition, landmarks in order, and tables that hold the records of a list.
+use Rattle.std.proofs.Common.{rules}
 use Rattle.std.proofs.Common.{◌≡◌, ◌⊎◌, nat_lt, List, [], ◌∷◌, Bool, true, false, cond, Ordering}
 use Rattle.std.proofs.Common.{Less, Equal, Greater, is_eq, is_gt, sym, refl, ap, ◌∙◌, subst, inl, inr, arith, nat_cmp, Option}
 use Rattle.std.proofs.Common.{Some, None, IsPermutation}
@@ -50,17 +51,11 @@ module _ {K : Type 0} {cmp : K → K → Ordering} (o : IsKeyOrder cmp) where
   dedup-distinct [] h = refl
   dedup-distinct (k ∷ ks) h = dedup_from-distinct k ks h
 
-  pub distinct-permuted : (xs ys : List K) → IsPermutation xs ys → distinct cmp ys ≡ distinct cmp xs
-  distinct-permuted xs ys p = distinct_same o ys xs (λ k. ap (nat_lt 0) (times-permutation o k xs ys p))
-
 -- in order by another order with the same results
 pub in_order-alike : {X : Type 0} (by other : X → X → Ordering) → ((x y : X) → by x y ≡ other x y) → (xs : List X) → IsInOrder by xs
     → IsInOrder other xs
 in_order-alike by other e [] h = tt
-in_order-alike by other e (x ∷ xs) h = (
-  all_weaker (λ y. is_gt (by x y) ≡ false) (λ y. is_gt (other x y) ≡ false) (λ y f. ap is_gt (sym (e x y)) ∙ f) xs h.0,
-  in_order-alike by other e xs h.1,
-)
+in_order-alike by other e (x ∷ xs) h = search (rules, all_weaker, in_order-alike by other e xs h.1)
 
 -- landmarks by their fields, with any order of optional points that puts no point first
 module _ (by : Option Coordinates → Option Coordinates → Ordering) (none : by None None ≡ Equal) (first : (p : Coordinates)

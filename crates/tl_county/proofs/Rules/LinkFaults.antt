@@ -1,4 +1,6 @@
 -- Either a list of records is linked, or exactly one rule is the first that is broken.
+use Rattle.std.proofs.Common.{rules}
+use Rattle.tl_county.proofs.Common.{common_steps}
 use Rattle.std.proofs.Common.{◌≡◌, ◌⊎◌, ◌<◌, ℕ, zero, suc, nat_lt, ◌==◌, List, [], ◌∷◌, ◌++◌, map, flat_map, Bool, true, false}
 use Rattle.std.proofs.Common.{cond, not, ◌&&◌, is_eq, sym, refl, ap, ◌∙◌, subst, inl, inr, nat_cmp, arith}
 use Rattle.tl_county.proofs.Common.{Among, ChainTwice, Fields4, Four, I, Known, LandUnknown, LinkFault, LinkMissing, LinkTwice, LinkedType}
@@ -99,11 +101,7 @@ none_of_number f n (x ∷ xs) e = go (same_or_not nat_keys n (f x)) (none_of_num
 
 repeat_known : {X : Type 0} (f g : X → ℕ) (n : ℕ) (xs : List X) → has_repeat nat_cmp (map g (of_number f n xs)) ≡ true
     → Known nat_cmp (map f xs) n
-repeat_known f g n xs h = go (times nat_cmp n (map f xs)) refl
-  where
-    go : (m : ℕ) → times nat_cmp n (map f xs) ≡ m → Known nat_cmp (map f xs) n
-    go zero e = absurd (false≢true (sym (ap (λ ys. has_repeat nat_cmp (map g ys)) (none_of_number f n xs e)) ∙ h))
-    go (suc m) e = omega (arith, e)
+repeat_known f g n xs h = search (rules, false≢true, none_of_number)
 
 name_among : (x y : ℕ) (rs : List Fields4) → Known nat_cmp (flat_map (λ r. r.feats) (of_number four_tlid x rs)) y
     → Among (NameUnknown x y) (name_faults rs)
@@ -129,38 +127,23 @@ name_among x y (r ∷ rs) h = go (r.tlid == x) refl h (name_among x y rs)
 
 type_among_no_chain : (t : SequencedType) (tlid : ℕ) (records : List Record) → Known nat_cmp (linked_tlids (linked_type t) records) tlid
     → Among (NoChain (linked_type t) tlid) (type_faults t records)
-type_among_no_chain t tlid records h =
-    among_left (NoChain (linked_type t) tlid) (map (NoChain (linked_type t)) (linked_tlids (linked_type t) records))
-    (map (SequenceBroken t) (linked_tlids (linked_type t) records))
-    (known_among nat_keys (NoChain (linked_type t)) tlid (linked_tlids (linked_type t) records) h)
+type_among_no_chain t tlid records h = search (rules, among_left, known_among, nat_keys)
 
 type_among_sequence : (t : SequencedType) (tlid : ℕ) (records : List Record) → Known nat_cmp (linked_tlids (linked_type t) records) tlid
     → Among (SequenceBroken t tlid) (type_faults t records)
-type_among_sequence t tlid records h =
-    among_right (SequenceBroken t tlid) (map (NoChain (linked_type t)) (linked_tlids (linked_type t) records))
-    (map (SequenceBroken t) (linked_tlids (linked_type t) records))
-    (known_among nat_keys (SequenceBroken t) tlid (linked_tlids (linked_type t) records) h)
+type_among_sequence t tlid records h = search (rules, among_right, known_among, nat_keys)
 
 among_types : (t : SequencedType) (f : LinkFault) (records : List Record) → Among f (type_faults t records) → Among f
     (faults_11_to_15 records)
-among_types sequenced.Two f records h =
-    among_right f (map ChainTwice (chain_tlids records)) _ (among_left f (type_faults sequenced.Two records) _ h)
-among_types sequenced.Four f records h =
-    among_right f (map ChainTwice (chain_tlids records)) _
-    (among_right f (type_faults sequenced.Two records) _ (among_left f (type_faults sequenced.Four records) _ h))
-among_types sequenced.Six f records h =
-    among_right f (map ChainTwice (chain_tlids records)) _
-    (among_right f (type_faults sequenced.Two records) _
-    (among_right f (type_faults sequenced.Four records) _ (among_left f (type_faults sequenced.Six records) _ h)))
+among_types sequenced.Two f records h = search (rules, among_right, among_left)
+among_types sequenced.Four f records h = search (rules, among_right, among_left)
+among_types sequenced.Six f records h = search (rules, among_right, among_left)
 
 -- a fault listed after those of types 2, 4 and 6 is in the whole list
 after_types : (f : LinkFault) (records : List Record)
     → Among f (map (NoChain I) (linked_tlids I records)
     ++ (map LinkMissing (chain_tlids records) ++ map LinkTwice (map i_tlid (of_type_i records)))) → Among f (faults_11_to_15 records)
-after_types f records h =
-    among_right f (map ChainTwice (chain_tlids records)) _
-    (among_right f (type_faults sequenced.Two records) _
-    (among_right f (type_faults sequenced.Four records) _ (among_right f (type_faults sequenced.Six records) _ h)))
+after_types f records h = search (rules, among_right)
 
 no_chain_among : (t : LinkedType) (tlid : ℕ) (records : List Record) → Known nat_cmp (linked_tlids t records) tlid
     → Among (NoChain t tlid) (faults_11_to_15 records)
@@ -202,17 +185,9 @@ skip_types : (records : List Record) (f : LinkFault)
 skip_types records f h = after_types f records (among_right f (map (NoChain I) (linked_tlids I records)) _ h)
 
 pub broken_among : (records : List Record) (f : LinkFault) → is_rule_broken records f ≡ true → Among f (all_faults records)
-broken_among records (ChainTwice tlid) e =
-    first_half records (ChainTwice tlid)
-    (among_left (ChainTwice tlid) (map ChainTwice (chain_tlids records)) _
-    (known_among nat_keys ChainTwice tlid (chain_tlids records) (some_above (times nat_cmp tlid (chain_tlids records)) e)))
-broken_among records (NoChain t tlid) e =
-    first_half records (NoChain t tlid)
-    (no_chain_among t tlid records
-    (some (times nat_cmp tlid (linked_tlids t records)) (not (stands_in nat_cmp tlid (chain_tlids records))) e))
-broken_among records (SequenceBroken t tlid) e =
-    first_half records (SequenceBroken t tlid)
-    (among_types t (SequenceBroken t tlid) records (type_among_sequence t tlid records (sequence_among t tlid records e)))
+broken_among records (ChainTwice tlid) e = grind (arith, common_steps, first_half, among_left, known_among, nat_keys, some_above)
+broken_among records (NoChain t tlid) e = search (rules, first_half, no_chain_among, some)
+broken_among records (SequenceBroken t tlid) e = search (rules, first_half, among_types, type_among_sequence, sequence_among)
 broken_among records (LinkMissing tlid) e =
     first_half records (LinkMissing tlid)
     (skip_types records (LinkMissing tlid)
@@ -230,19 +205,8 @@ broken_among records (NameTwice feat) e =
     (among_left (NameTwice feat) (map NameTwice (map five_feat (of_type_5 records))) _
     (known_among nat_keys NameTwice feat (map five_feat (of_type_5 records))
     (some_above (times nat_cmp feat (map five_feat (of_type_5 records))) e)))
-broken_among records (NameUnknown tlid feat) e =
-    second_half records (NameUnknown tlid feat)
-    (among_right (NameUnknown tlid feat) (map NameTwice (map five_feat (of_type_5 records))) _
-    (among_left (NameUnknown tlid feat) (name_faults (of_type_4 records)) _
-    (name_among tlid feat (of_type_4 records)
-    (some (times nat_cmp feat (named_feats tlid records)) (not (stands_in nat_cmp feat (map five_feat (of_type_5 records)))) e))))
-broken_among records (PolygonTwice cenid polyid) e =
-    second_half records (PolygonTwice cenid polyid)
-    (among_right (PolygonTwice cenid polyid) (map NameTwice (map five_feat (of_type_5 records))) _
-    (among_right (PolygonTwice cenid polyid) (name_faults (of_type_4 records)) _
-    (among_left (PolygonTwice cenid polyid) (map (λ k. PolygonTwice k.0 k.1) (map p_key (of_type_p records))) _
-    (known_among key_keys (λ k. PolygonTwice k.0 k.1) (cenid, polyid) (map p_key (of_type_p records))
-    (some_above (times key_cmp (cenid, polyid) (map p_key (of_type_p records))) e)))))
+broken_among records (NameUnknown tlid feat) e = search (rules, second_half, among_right, among_left, name_among, some)
+broken_among records (PolygonTwice cenid polyid) e = search (rules, second_half, among_right, among_left, known_among, key_keys, some_above)
 broken_among records (LandUnknown land) e =
     second_half records (LandUnknown land)
     (among_right (LandUnknown land) (map NameTwice (map five_feat (of_type_5 records))) _
@@ -251,14 +215,7 @@ broken_among records (LandUnknown land) e =
     (among_left (LandUnknown land) (map LandUnknown (map eight_land (of_type_8 records))) _
     (known_among nat_keys LandUnknown land (map eight_land (of_type_8 records))
     (some (times nat_cmp land (map eight_land (of_type_8 records))) _ e))))))
-broken_among records (PolygonUnknown cenid polyid) e =
-    second_half records (PolygonUnknown cenid polyid)
-    (among_right (PolygonUnknown cenid polyid) (map NameTwice (map five_feat (of_type_5 records))) _
-    (among_right (PolygonUnknown cenid polyid) (name_faults (of_type_4 records)) _
-    (among_right (PolygonUnknown cenid polyid) (map (λ k. PolygonTwice k.0 k.1) (map p_key (of_type_p records))) _
-    (among_right (PolygonUnknown cenid polyid) (map LandUnknown (map eight_land (of_type_8 records))) _
-    (known_among key_keys (λ k. PolygonUnknown k.0 k.1) (cenid, polyid) (map link_key (of_type_8 records))
-    (some (times key_cmp (cenid, polyid) (map link_key (of_type_8 records))) _ e))))))
+broken_among records (PolygonUnknown cenid polyid) e = search (rules, second_half, among_right, known_among, key_keys, some)
 broken_among records Memory e = absurd (false≢true e)
 
 pub linked_or_first : (records : List Record) → IsLinked records ⊎ ((fault : LinkFault) × IsFirstBrokenRule records fault)
@@ -277,5 +234,4 @@ linked_computed records e = none_computed (is_rule_broken records) link_fault_pl
 
 pub first_rule_computed : (records : List Record) (fault : LinkFault)
     → least_there (is_rule_broken records) link_fault_place fault (all_faults records) ≡ true → IsFirstBrokenRule records fault
-first_rule_computed records fault e = first_computed (is_rule_broken records) link_fault_place (all_faults records) (broken_among records)
-    fault e
+first_rule_computed records fault e = search (rules, first_computed, broken_among)

@@ -1,4 +1,5 @@
 -- The county of a linked list of records: its numbers ascend, and each number that it names exists.
+use Rattle.std.proofs.Common.{rules}
 use Rattle.std.proofs.Common.{◌≡◌, ◌⊎◌, ◌<◌, ◌≤◌, ◌+◌, ◌==◌, ◌||◌, ℕ, nat_lt, length, length-append, filter, cond, is_eq, is_some}
 use Rattle.std.proofs.Common.{inl, inr, Option, List, [], ◌∷◌, ◌++◌, map, flat_map, Bool, true, false, not, ◌&&◌, IsTrue, sym}
 use Rattle.std.proofs.Common.{refl, ap, ◌∙◌, subst, arith, nat_cmp, map-id}
@@ -67,12 +68,7 @@ module _ (records : List Record) (linked : IsLinked records) where
       → map (λ (c : ℕ × Chain). c.0)
       (flat_map (λ r. map (λ link. (r.tlid, chain_of records r link)) (of_number i_tlid r.tlid (of_type_i records))) rs) ≡ map one_tlid rs
   tlids_of [] h = refl
-  tlids_of (r ∷ rs) h =
-      let one = the_link r.tlid h.0 in
-      let rest : List (ℕ × Chain) =
-      flat_map (λ q. map (λ link. (q.tlid, chain_of records q link)) (of_number i_tlid q.tlid (of_type_i records))) rs in
-      ap (λ ls. map (λ (c : ℕ × Chain). c.0) (map (λ link. (r.tlid, chain_of records r link)) ls ++ rest)) one.1
-      ∙ ap (λ ns. r.tlid ∷ ns) (tlids_of rs h.1)
+  tlids_of (r ∷ rs) h = search (rules, the_link, tlids_of rs h.1)
 
   ones_known : AllByRecursion (λ r. Known nat_cmp (chain_tlids records) r.tlid) (in_order (on one_tlid nat_cmp) (of_type_1 records))
   ones_known = all-in_order (λ r. Known nat_cmp (chain_tlids records) r.tlid) (on one_tlid nat_cmp) (of_type_1 records)
@@ -84,10 +80,8 @@ module _ (records : List Record) (linked : IsLinked records) where
 
   strict_numbers : {X : Type 0} (f : X → ℕ) (xs : List X) → ((n : ℕ) → times nat_cmp n (map f xs) ≤ 1)
       → IsStrictlySortedBy nat_cmp (map f (in_order (on f nat_cmp) xs))
-  strict_numbers f xs few = strict_from_order nat_keys (map f (in_order (on f nat_cmp) xs))
-      (in_order-map nat_cmp f (in_order (on f nat_cmp) xs) (in_order-in_order (on_total f nat_cmp_total) xs))
-      (λ n. let t : times nat_cmp n (map f (in_order (on f nat_cmp) xs)) ≡ times nat_cmp n (map f xs) =
-      times-in_order nat_cmp f (on f nat_cmp) xs n in let u : times nat_cmp n (map f xs) ≤ 1 = few n in omega arith)
+  strict_numbers f xs few =
+      search (rules, strict_from_order, nat_keys, in_order-map, in_order-in_order, on_total, nat_cmp_total, times-in_order)
 
   pub feats-county : feats (county_of records) ≡ map five_feat (in_order (on five_feat nat_cmp) (of_type_5 records))
   feats-county = map-map (λ (d : ℕ × _). d.0) (λ (r : Fields5). (r.feat, r.body)) (in_order (on five_feat nat_cmp) (of_type_5 records))
@@ -121,13 +115,10 @@ module _ (records : List Record) (linked : IsLinked records) where
       ∙ t
 
   key_stands : (k : PolygonKey) → Known key_cmp all_keys k → IsTrue (stands_in key_cmp k (polygon_keys (county_of records)))
-  key_stands k l = ap (stands_in key_cmp k) keys-county
-      ∙ lt-ltb 0 (times key_cmp k (distinct key_cmp all_keys)) (known-distinct key_keys all_keys k l)
+  key_stands k l = search (rules, keys-county, lt-ltb, known-distinct, key_keys)
 
   side_stands : (link : FieldsI) → Among link (of_type_i records) → AllKeysStandIn (polygon_keys (county_of records)) (side_keys link)
-  side_stands link m = each_from (λ k. IsTrue (stands_in key_cmp k (polygon_keys (county_of records)))) (side_keys link)
-      (λ k n. key_stands k (known-left key_keys k (flat_map side_keys (of_type_i records)) (map p_key (of_type_p records))
-      (among_known key_keys k (flat_map side_keys (of_type_i records)) (among-pieces side_keys link k (of_type_i records) m n))))
+  side_stands link m = search (rules, each_from, key_stands, known-left, key_keys, among_known, among-pieces)
 
   -- a property of the chain of each pair of records is a property of each chain of the county
   pub chains_all : (P : ℕ × Chain → Type 0) → ((r : Fields1) (link : FieldsI) → Among r (of_type_1 records) → Among link (of_type_i records)
@@ -220,8 +211,7 @@ module _ (records : List Record) (linked : IsLinked records) where
       omega arith
 
   some_points : (r : Fields1) → 2 ≤ length (r.start ∷ (shape_points records r.tlid ++ (r.end ∷ [])))
-  some_points r = let appended : length (shape_points records r.tlid ++ (r.end ∷ [])) ≡ length (shape_points records r.tlid) + 1 =
-      length-append (shape_points records r.tlid) (r.end ∷ []) in omega arith
+  some_points r = search (rules, length-append)
 
   county_whole : IsWhole (county_of records)
   county_whole = record {

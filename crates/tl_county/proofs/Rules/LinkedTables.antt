@@ -1,4 +1,5 @@
 -- The county of linked records in the order of their numbers is the one built by walking their tables.
+use Rattle.std.proofs.Common.{rules}
 use Rattle.std.proofs.Common.{◌≡◌, ◌⊎◌, ◌<◌, ◌==◌, ℕ, List, [], ◌∷◌, ◌++◌, map, flat_map, filter, Bool, true}
 use Rattle.std.proofs.Common.{false, not, cond, Ordering, Less, Equal, is_eq, is_gt, sym, refl, ap, ◌∙◌, subst, inl, inr}
 use Rattle.std.proofs.Common.{arith, nat_cmp}
@@ -45,9 +46,7 @@ group_order {X} number next n (x ∷ xs) a h = (each xs a.1 h.0, group_order num
 
 pub group_in_order : {X : Type 0} (number : X → ℕ) (next : X → X → Ordering) (n : ℕ) (xs : List X)
     → IsInOrder (λ x y. ordering_then (nat_cmp (number x) (number y)) (next x y)) xs → IsInOrder next (of_number number n xs)
-group_in_order number next n xs h =
-    group_order number next n (of_number number n xs) (of_number-all number n xs)
-    (in_order-filter (λ x y. ordering_then (nat_cmp (number x) (number y)) (next x y)) (λ x. number x == n) xs h)
+group_in_order number next n xs h = search (rules, group_order, of_number-all, in_order-filter)
 
 -- records in the order of their numbers are the groups of those numbers, one after the other
 pub groups-join : {X : Type 0} (number : X → ℕ) (ks : List ℕ) (xs : List X) → IsStrictlySortedBy nat_cmp ks
@@ -116,27 +115,12 @@ module _ (records : List Record) (order : AreInOrder (by_type records)) (linked 
   chain-groups : (r : Fields1) (link : FieldsI) → chain_of records r link ≡ chain_with r link
       (of_number two_tlid r.tlid (of_type_2 records)) (of_number four_tlid r.tlid (of_type_4 records))
       (of_number six_tlid r.tlid (of_type_6 records))
-  chain-groups r link = λ i. chain_with r link
-      (in_order-itself (on two_rtsq nat_cmp) (of_number two_tlid r.tlid (of_type_2 records))
-      (group_in_order two_tlid (on two_rtsq nat_cmp) r.tlid (of_type_2 records) order.type_2) i)
-      (in_order-itself (on four_rtsq nat_cmp) (of_number four_tlid r.tlid (of_type_4 records))
-      (group_in_order four_tlid (on four_rtsq nat_cmp) r.tlid (of_type_4 records) order.type_4) i)
-      (in_order-itself (on six_rtsq nat_cmp) (of_number six_tlid r.tlid (of_type_6 records))
-      (group_in_order six_tlid (on six_rtsq nat_cmp) r.tlid (of_type_6 records) order.type_6) i)
+  chain-groups r link = search (rules, in_order-itself, group_in_order)
 
   -- the one type I record of a chain
   only_link : (n : ℕ) (l : FieldsI) → Known nat_cmp (chain_tlids records) n → Among l (of_type_i records) → l.tlid ≡ n
       → of_number i_tlid n (of_type_i records) ≡ l ∷ []
-  only_link n l known m e =
-      let one : (link : FieldsI) × (of_number i_tlid n (of_type_i records) ≡ link ∷ []) = the_link records linked n known in
-      let there : Among l (of_number i_tlid n (of_type_i records)) =
-      to_filter (λ x. i_tlid x == n) l (of_type_i records) m (eq-eqb l.tlid n e) in
-      go one.0 one.1 (subst (Among l) one.1 there)
-    where
-      go : (link : FieldsI) → of_number i_tlid n (of_type_i records) ≡ link ∷ [] → (l ≡ link) ⊎ ⊥
-          → of_number i_tlid n (of_type_i records) ≡ l ∷ []
-      go link f (inl same) = f ∙ ap (λ x. x ∷ []) (sym same)
-      go link f (inr h) = absurd h
+  only_link n l known m e = search (rules, the_link, to_filter, eq-eqb)
 
   chains_at : (rs : List Fields1) (ls : List FieldsI) → map one_tlid rs ≡ map i_tlid ls
       → AllByRecursion (λ r. Known nat_cmp (chain_tlids records) r.tlid) rs → AllByRecursion (λ l. Among l (of_type_i records)) ls
@@ -168,9 +152,7 @@ module _ (records : List Record) (order : AreInOrder (by_type records)) (linked 
 
   bodies-kept : (land : ℕ) → in_order landmark_body_cmp (map (λ (r : Fields7). r.body) (of_number seven_land land (of_type_7 records)))
       ≡ map (λ (r : Fields7). r.body) (of_number seven_land land (of_type_7 records))
-  bodies-kept land = in_order-itself landmark_body_cmp (map (λ (r : Fields7). r.body) (of_number seven_land land (of_type_7 records)))
-      (in_order-map landmark_body_cmp (λ (r : Fields7). r.body) (of_number seven_land land (of_type_7 records))
-      (group_in_order seven_land (λ a b. landmark_body_cmp a.body b.body) land (of_type_7 records) order.type_7))
+  bodies-kept land = search (rules, in_order-itself, in_order-map, group_in_order)
 
   landmarks-kept : (ks : List ℕ) → map (λ land. (
     land,

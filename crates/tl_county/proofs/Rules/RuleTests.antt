@@ -1,4 +1,5 @@
 -- The rules for records that fit together, each as its search finds it.
+use Rattle.std.proofs.Common.{rules}
 use Rattle.std.proofs.Common.{◌≡◌, ◌⊎◌, ◌<◌, ◌≤◌, ◌+◌, ◌==◌, ◌&&◌, not, ℕ, suc, nat_lt, List, [], ◌∷◌, ◌++◌, map, flat_map}
 use Rattle.std.proofs.Common.{Bool, true, false, cond, Ordering, Less, Equal, Greater, is_eq, is_gt, sym, refl}
 use Rattle.std.proofs.Common.{ap, ◌∙◌, subst, inl, inr, arith, nat_cmp, Option, Some, None, zero-add, IsPermutation}
@@ -48,11 +49,7 @@ first_order Greater b e = e
 pub in_order-first : {X : Type 0} (first next : X → X → Ordering) (xs : List X) → IsInOrder (λ x y. ordering_then (first x y) (next x y)) xs
     → IsInOrder first xs
 in_order-first first next [] h = tt
-in_order-first first next (x ∷ xs) h = (
-  all_weaker (λ y. is_gt (ordering_then (first x y) (next x y)) ≡ false) (λ y. is_gt (first x y) ≡ false)
-      (λ y e. first_order (first x y) (next x y) e) xs h.0,
-  in_order-first first next xs h.1,
-)
+in_order-first first next (x ∷ xs) h = search (rules, all_weaker, first_order, in_order-first first next xs h.1)
 
 pub sequence_keys : IsKeyOrder sequence_cmp
 sequence_keys = pair_keys nat_keys nat_keys
@@ -62,41 +59,11 @@ module _ {X : Type 0} (f g : X → ℕ) where
   pub times-pair : (n m : ℕ) (xs : List X) → times sequence_cmp (n, m) (map (λ x. (f x, g x)) xs) ≡ times nat_cmp m
       (map g (of_number f n xs))
   times-pair n m [] = refl
-  times-pair n m (x ∷ xs) = go (same_or_not nat_keys n (f x)) (times-pair n m xs)
-    where
-      other : is_eq (nat_cmp n (f x)) ≡ false → is_eq (sequence_cmp (n, m) (f x, g x)) ≡ false
-      other ne = at (nat_cmp n (f x)) ne
-        where
-          at : (a : Ordering) → is_eq a ≡ false → is_eq (ordering_then a (nat_cmp m (g x))) ≡ false
-          at Less e = refl
-          at Equal e = absurd (false≢true (sym e))
-          at Greater e = refl
-
-      go : (n ≡ f x) ⊎ (is_eq (nat_cmp n (f x)) ≡ false)
-          → times sequence_cmp (n, m) (map (λ y. (f y, g y)) xs) ≡ times nat_cmp m (map g (of_number f n xs))
-          → times sequence_cmp (n, m) (map (λ y. (f y, g y)) (x ∷ xs)) ≡ times nat_cmp m (map g (of_number f n (x ∷ xs)))
-      go (inr ne) ih =
-          times-no sequence_keys (n, m) (f x, g x) (map (λ y. (f y, g y)) xs) (other ne) ∙ ih
-          ∙ ap (λ b. times nat_cmp m (map g (cond b (x ∷ of_number f n xs) (of_number f n xs))))
-          (sym (ne_eqb (f x) n (λ e. false≢true (sym ne ∙ subst (λ k. is_eq (nat_cmp n k) ≡ true) (sym e) (same-itself nat_keys n)))))
-      go (inl e) ih = here (same_or_not nat_keys m (g x))
-          ∙ ap (λ b. times nat_cmp m (map g (cond b (x ∷ of_number f n xs) (of_number f n xs)))) (sym (eq-eqb (f x) n (sym e)))
-        where
-          here : (m ≡ g x) ⊎ (is_eq (nat_cmp m (g x)) ≡ false)
-              → times sequence_cmp (n, m) (map (λ y. (f y, g y)) (x ∷ xs)) ≡ times nat_cmp m (g x ∷ map g (of_number f n xs))
-          here (inl h) = times-yes sequence_keys (n, m) (f x, g x) (map (λ y. (f y, g y)) xs) (λ i. (e i, h i)) ∙ ap suc ih
-              ∙ sym (times-yes nat_keys m (g x) (map g (of_number f n xs)) h)
-          here (inr ne) = times-no sequence_keys (n, m) (f x, g x) (map (λ y. (f y, g y)) xs)
-              (subst (λ k. is_eq (ordering_then (nat_cmp n k) (nat_cmp m (g x))) ≡ false) e
-              (ap (λ a. is_eq (ordering_then a (nat_cmp m (g x)))) (tied_itself nat_cmp_total n) ∙ ne)) ∙ ih
-              ∙ sym (times-no nat_keys m (g x) (map g (of_number f n xs)) ne)
+  times-pair n m (x ∷ xs) =
+      grind (arith, common_steps, same_or_not, nat_keys, false≢true, times-no, sequence_keys, ne_eqb, same-itself, eq-eqb, times-yes, tied_itself, nat_cmp_total, times-pair n m xs)
 
   repeat_from : (m : ℕ) (ks : List ℕ) → 1 < times nat_cmp m ks → has_repeat nat_cmp ks ≡ true
-  repeat_from m ks h = go (has_repeat nat_cmp ks) refl
-    where
-      go : (b : Bool) → has_repeat nat_cmp ks ≡ b → b ≡ true
-      go true e = refl
-      go false e = absurd (let few : times nat_cmp m ks ≤ 1 = apart_from_no_repeat nat_keys ks e m in omega arith)
+  repeat_from m ks h = search (rules, apart_from_no_repeat, nat_keys)
 
   repeated_in : (ks : List ℕ) → has_repeat nat_cmp ks ≡ true → (m : ℕ) × (1 < times nat_cmp m ks)
   repeated_in [] e = absurd (false≢true e)
@@ -198,34 +165,17 @@ unnamed-first first later feats h none = (
 pub unnamed-found : (uses : List (ℕ × ℕ)) (feats : List ℕ) → IsInOrder sequence_cmp uses
     → IsLeastPassing sequence_cmp (is_unnamed uses feats) (find (λ pair. not (stands_in nat_cmp pair.1 feats)) uses)
 unnamed-found [] feats h = λ pair. refl
-unnamed-found (first ∷ later) feats h = go (stands_in nat_cmp first.1 feats) refl (unnamed-found later feats h.1)
-  where
-    found : Option (ℕ × ℕ)
-    found = find (λ pair. not (stands_in nat_cmp pair.1 feats)) later
-
-    go : (b : Bool) → stands_in nat_cmp first.1 feats ≡ b → IsLeastPassing sequence_cmp (is_unnamed later feats) found
-        → IsLeastPassing sequence_cmp (is_unnamed (first ∷ later) feats) (cond (not b) (Some first) found)
-    go false e ih = unnamed-first first later feats h e
-    go true e ih = least-same sequence_cmp (is_unnamed later feats) (is_unnamed (first ∷ later) feats)
-        (λ pair. grind (arith, common_steps)) found ih
+unnamed-found (first ∷ later) feats h = search (rules, unnamed-first, least-same, common_steps, unnamed-found later feats h.1)
 
 -- the uses and the names may be in another order
 pub unnamed-reordered : (uses others : List (ℕ × ℕ)) (feats : List ℕ) → IsPermutation uses others → (pair : ℕ × ℕ)
     → is_unnamed others feats pair ≡ is_unnamed uses feats pair
-unnamed-reordered uses others feats p pair =
-    ap (λ n. nat_lt 0 n && not (stands_in nat_cmp pair.1 feats)) (times-permutation sequence_keys pair uses others p)
+unnamed-reordered uses others feats p pair = search (rules, times-permutation, sequence_keys)
 
 -- keys in another order, and known keys once each
 pub unknown-distinct : (keys others known : List PolygonKey) → IsPermutation keys others → (key : PolygonKey)
     → is_unknown key_cmp others (distinct key_cmp known) key ≡ is_unknown key_cmp keys known key
-unknown-distinct keys others known p key = (λ i. nat_lt 0 (times-permutation key_keys key keys others p i) && not (once i))
-  where
-    flag : (b : Bool) → nat_lt 0 (bit b) ≡ b
-    flag true = refl
-    flag false = refl
-
-    once : stands_in key_cmp key (distinct key_cmp known) ≡ stands_in key_cmp key known
-    once = ap (nat_lt 0) (times-distinct key_keys key known) ∙ flag (stands_in key_cmp key known)
+unknown-distinct keys others known p key = search (rules, times-permutation, key_keys, bit, times-distinct)
 
 module _ (records : List Record) (t : Typed) (e : by_type records ≡ t) where
   -- a rule whose faults have one number as their key
@@ -256,26 +206,6 @@ module _ (records : List Record) (t : Typed) (e : by_type records ≡ t) where
     order = λ k j h. ap is_gt (order k j) ∙ keyed (bytes_cmp k.0 j.0) (nat_cmp k.1 j.1) h;
   }
 
-  pub rule_11 : IsRule nat_cmp (is_repeated nat_cmp (map one_tlid t.of_type_1)) records 0 ChainTwice
-  rule_11 = numbered 0 ChainTwice (λ u. is_repeated nat_cmp (map one_tlid u.of_type_1))
-      (λ k. refl) (λ k. refl) (λ p. refl) (λ k j. refl)
-
-  pub rule_12_two : IsRule nat_cmp (is_unknown nat_cmp (map two_tlid t.of_type_2) (map one_tlid t.of_type_1)) records 1 (NoChain Two)
-  rule_12_two = numbered 1 (NoChain Two) (λ u. is_unknown nat_cmp (map two_tlid u.of_type_2) (map one_tlid u.of_type_1))
-      (λ k. refl) (λ k. refl) (λ p. refl) (λ k j. refl)
-
-  pub rule_12_four : IsRule nat_cmp (is_unknown nat_cmp (map four_tlid t.of_type_4) (map one_tlid t.of_type_1)) records 2 (NoChain Four)
-  rule_12_four = numbered 2 (NoChain Four) (λ u. is_unknown nat_cmp (map four_tlid u.of_type_4) (map one_tlid u.of_type_1))
-      (λ k. refl) (λ k. refl) (λ p. refl) (λ k j. refl)
-
-  pub rule_12_six : IsRule nat_cmp (is_unknown nat_cmp (map six_tlid t.of_type_6) (map one_tlid t.of_type_1)) records 3 (NoChain Six)
-  rule_12_six = numbered 3 (NoChain Six) (λ u. is_unknown nat_cmp (map six_tlid u.of_type_6) (map one_tlid u.of_type_1))
-      (λ k. refl) (λ k. refl) (λ p. refl) (λ k j. refl)
-
-  pub rule_12_i : IsRule nat_cmp (is_unknown nat_cmp (map i_tlid t.of_type_i) (map one_tlid t.of_type_1)) records 4 (NoChain I)
-  rule_12_i = numbered 4 (NoChain I) (λ u. is_unknown nat_cmp (map i_tlid u.of_type_i) (map one_tlid u.of_type_1))
-      (λ k. refl) (λ k. refl) (λ p. refl) (λ k j. refl)
-
   pub rule_13_two : IsRule nat_cmp (λ k. has_repeat nat_cmp (map two_rtsq (of_number two_tlid k t.of_type_2))) records 5
       (SequenceBroken sequenced.Two)
   rule_13_two = numbered 5 (SequenceBroken sequenced.Two) (λ u k. has_repeat nat_cmp (map two_rtsq (of_number two_tlid k u.of_type_2)))
@@ -290,13 +220,6 @@ module _ (records : List Record) (t : Typed) (e : by_type records ≡ t) where
       (SequenceBroken sequenced.Six)
   rule_13_six = numbered 7 (SequenceBroken sequenced.Six) (λ u k. has_repeat nat_cmp (map six_rtsq (of_number six_tlid k u.of_type_6)))
       (λ k. refl) (λ k. refl) (λ p. refl) (λ k j. refl)
-
-  pub rule_14 : IsRule nat_cmp (is_unknown nat_cmp (map one_tlid t.of_type_1) (map i_tlid t.of_type_i)) records 8 LinkMissing
-  rule_14 = numbered 8 LinkMissing (λ u. is_unknown nat_cmp (map one_tlid u.of_type_1) (map i_tlid u.of_type_i))
-      (λ k. refl) (λ k. refl) (λ p. refl) (λ k j. refl)
-
-  pub rule_15 : IsRule nat_cmp (is_repeated nat_cmp (map i_tlid t.of_type_i)) records 9 LinkTwice
-  rule_15 = numbered 9 LinkTwice (λ u. is_repeated nat_cmp (map i_tlid u.of_type_i)) (λ k. refl) (λ k. refl) (λ p. refl) (λ k j. refl)
 
   pub rule_16 : IsRule nat_cmp (is_repeated nat_cmp (map five_feat t.of_type_5)) records 10 NameTwice
   rule_16 = numbered 10 NameTwice (λ u. is_repeated nat_cmp (map five_feat u.of_type_5))

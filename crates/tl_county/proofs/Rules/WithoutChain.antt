@@ -1,4 +1,5 @@
 -- Polygons with a type P record that are on no side: in the tables of linked records, and in their county.
+use Rattle.std.proofs.Common.{rules}
 use Rattle.std.proofs.Common.{◌≡◌, ◌⊎◌, ℕ, suc, nat_lt, List, [], ◌∷◌, ◌++◌, length, filter, map, flat_map, Bool, true, false}
 use Rattle.std.proofs.Common.{cond, not, ◌&&◌, ◌||◌, Option, is_eq, is_some, refl, sym, ap, ap₂, ◌∙◌, arith, Ordering}
 use Rattle.std.proofs.Common.{None, Some, inl, inr, map-id}
@@ -56,22 +57,12 @@ module _ {K : Type 0} {cmp : K → K → Ordering} (o : IsKeyOrder cmp) where
   -- if all added keys are known already, they add nothing
   pub distinct-all_known : (known more : List K) → ((k : K) → is_unknown cmp more known k ≡ false)
       → distinct cmp known ≡ distinct cmp (known ++ more)
-  distinct-all_known known more h = distinct_same o known (known ++ more)
-      (λ k. stands_alike o known (known ++ more) k (known-left o k known more) (back k))
-    where
-      back : (k : K) → Known cmp (known ++ more) k → Known cmp known k
-      back k l = go (known-append o k known more l)
-        where
-          go : Known cmp known k ⊎ Known cmp more k → Known cmp known k
-          go (inl m) = m
-          go (inr m) = ltb-true 0 (times cmp k known)
-              (needed (stands_in cmp k more) (stands_in cmp k known) (h k) (lt-ltb 0 (times cmp k more) m))
+  distinct-all_known known more h = search (rules, distinct_same, stands_alike, known-left, known-append, ltb-true, needed, lt-ltb)
 
   -- a key that is unknown among the keys in order is unknown among the keys
   pub unknown-distinct : (asked known ordered : List K) → ordered ≡ distinct cmp known → (k : K)
       → is_unknown cmp asked (map (λ j. j) ordered) k ≡ is_unknown cmp asked known k
-  unknown-distinct asked known ordered e k = ap (λ b. stands_in cmp k asked && not b)
-      (ap (stands_in cmp k) (map-id ordered ∙ e) ∙ stands_in-distinct o k known)
+  unknown-distinct asked known ordered e k = search (rules, map-id, stands_in-distinct)
 
 module _ (records : List Record) (linked : IsLinked records) where
   abbrev on_sides : List PolygonKey

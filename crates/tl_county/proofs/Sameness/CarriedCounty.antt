@@ -1,4 +1,5 @@
 -- A renaming that carries takes a closed county to a closed one, and a whole one to a whole one.
+use Rattle.std.proofs.Common.{rules}
 use Rattle.std.proofs.Common.{◌≡◌, ◌⊎◌, ◌≤◌, ◌||◌, ℕ, List, map, length, Bool, true, false}
 use Rattle.std.proofs.Common.{Option, IsTrue, is_some, option_to_list, Ordering, sym, refl, subst, inl, inr, arith}
 use Rattle.std.proofs.Common.{nat_cmp}
@@ -39,9 +40,7 @@ points-turned true c = length-reverse c.points
 -- the image of a known number is known in the other county
 pub paired_known : {K : Type 0} {cmp : K → K → Ordering} (o : IsKeyOrder cmp) (pairs : List (K × K)) (olds news : List K)
     → ArePaired pairs olds news → (k : K) → Known cmp olds k → Known cmp news (image cmp pairs k)
-paired_known {K} {cmp} o pairs olds news h k l =
-    known-permutation_to o (image cmp pairs k) (rights pairs) news h.right
-    (image-known o pairs k (known-permutation o k (lefts pairs) olds h.left l))
+paired_known {K} {cmp} o pairs olds news h k l = search (rules, known-permutation_to, image-known, known-permutation)
 
 module _ (r : Renumbering) (a b : County) (h : Carries r a b) where
   -- each part of the county carried onto is the image of one
@@ -59,22 +58,14 @@ module _ (r : Renumbering) (a b : County) (h : Carries r a b) where
       (among-permutation l b.links (map (carried_link r) a.links) (IsPermutation-sym (map (carried_link r) a.links) b.links h.links) m)
 
   new_name : (n : ℕ) → IsTrue (stands_in nat_cmp n (feats a)) → IsTrue (stands_in nat_cmp (image nat_cmp r.names n) (feats b))
-  new_name n t = lt-ltb 0 (times nat_cmp (image nat_cmp r.names n) (feats b))
-      (paired_known nat_keys r.names (feats a) (feats b) h.numbers.names n (ltb-true 0 (times nat_cmp n (feats a)) t))
+  new_name n t = search (rules, lt-ltb, paired_known, nat_keys, ltb-true)
 
   new_key : (k : PolygonKey) → IsTrue (stands_in key_cmp k (polygon_keys a))
       → IsTrue (stands_in key_cmp (image key_cmp r.polygons k) (polygon_keys b))
-  new_key k t = lt-ltb 0 (times key_cmp (image key_cmp r.polygons k) (polygon_keys b))
-      (paired_known key_keys r.polygons (polygon_keys a) (polygon_keys b) h.numbers.polygons k
-      (ltb-true 0 (times key_cmp k (polygon_keys a)) t))
+  new_key k t = search (rules, lt-ltb, paired_known, key_keys, ltb-true)
 
   names_stand : IsClosed a → (d : ℕ × Chain) → Among d a.chains → AllStandIn (feats b) (carried_chain r d).1.feats
-  names_stand closed d m = each_from (λ n. IsTrue (stands_in nat_cmp n (feats b))) (carried_chain r d).1.feats
-      (λ n k. let o = among-unmap (image nat_cmp r.names) n (turned_if (turns r d.0) d.1).feats k in
-      let old : Among o.0 d.1.feats = subst (Among o.0) (feats-turned (turns r d.0) d.1) o.1 in
-      let stands : AllStandIn (feats a) d.1.feats = all_among (λ e. AllStandIn (feats a) e.1.feats) d a.chains closed.names m in
-      subst (λ i. IsTrue (stands_in nat_cmp i (feats b))) (sym o.2)
-      (new_name o.0 (all_among (λ i. IsTrue (stands_in nat_cmp i (feats a))) o.0 d.1.feats stands old)))
+  names_stand closed d m = search (rules, each_from, among-unmap, feats-turned, all_among, new_name)
 
   sides_stand : IsClosed a → (d : ℕ × Chain) → Among d a.chains → AllKeysStandIn (polygon_keys b) (chain_polygons (carried_chain r d).1)
   sides_stand closed d m = each_from (λ k. IsTrue (stands_in key_cmp k (polygon_keys b))) (chain_polygons (carried_chain r d).1)
@@ -121,14 +112,7 @@ module _ (r : Renumbering) (a b : County) (h : Carries r a b) where
 
   polygon_whole : (k : PolygonKey) (body : Option BodyP) → IsTrue (is_some body || stands_in key_cmp k (polygons_along a.chains))
       → IsTrue (is_some body || stands_in key_cmp (image key_cmp r.polygons k) (polygons_along b.chains))
-  polygon_whole k body t = go (or_cases (is_some body) (stands_in key_cmp k (polygons_along a.chains)) t)
-    where
-      go : (is_some body ≡ true) ⊎ (stands_in key_cmp k (polygons_along a.chains) ≡ true)
-          → IsTrue (is_some body || stands_in key_cmp (image key_cmp r.polygons k) (polygons_along b.chains))
-      go (inl e) = or_left (is_some body) (stands_in key_cmp (image key_cmp r.polygons k) (polygons_along b.chains)) e
-      go (inr e) = or_right (is_some body) (stands_in key_cmp (image key_cmp r.polygons k) (polygons_along b.chains))
-          (lt-ltb 0 (times key_cmp (image key_cmp r.polygons k) (polygons_along b.chains))
-          (carried_side k (ltb-true 0 (times key_cmp k (polygons_along a.chains)) e)))
+  polygon_whole k body t = search (rules, or_cases, or_left, or_right, lt-ltb, carried_side, ltb-true)
 
   pub carried_whole : IsWhole a → IsWhole b
   carried_whole whole = record {

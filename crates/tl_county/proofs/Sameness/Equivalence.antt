@@ -1,4 +1,5 @@
 -- Sameness is an equivalence: the identity carries, and so do inverses and compositions of renamings that carry.
+use Rattle.std.proofs.Common.{rules}
 use Rattle.std.proofs.Common.{◌≡◌, ◌⊎◌, ℕ, nat_lt, List, [], ◌∷◌, Bool, true, false, map, filter, Ordering, IsTrue, is_eq, sym}
 use Rattle.std.proofs.Common.{refl, ap, ◌∙◌, subst, inl, inr, IsPermutation, nat_cmp, Option, Some, None, option_map}
 use Rattle.std.proofs.Common.{option_to_list, map-id}
@@ -28,9 +29,6 @@ use Rattle.ordered_lists.proofs.ByKey.Keys.{images-lefts, followed, joined-follo
 use Rattle.ordered_lists.proofs.Lists.Distinct.{apart-distinct}
 
 -- renaming and turning a chain commute
-pub renumbered-turned : (r : Renumbering) (c : Chain) → renumbered r (turned c) ≡ turned (renumbered r c)
-renumbered-turned r c = refl
-
 pub renumbered-turned_if : (r : Renumbering) (b : Bool) (c : Chain) → renumbered r (turned_if b c) ≡ turned_if b (renumbered r c)
 renumbered-turned_if r true c = refl
 renumbered-turned_if r false c = refl
@@ -55,13 +53,7 @@ option_map-itself None = refl
 option_map-itself (Some n) = refl
 
 pub renumbered-nothing : (c : Chain) → renumbered nothing c ≡ c
-renumbered-nothing c = λ i. record c {
-  feats = map-id c.feats i;
-  start_node = option_map-itself c.start_node i;
-  end_node = option_map-itself c.end_node i;
-  left = renumbered-nothing_side c.left.cenid c.left.polyid i;
-  right = renumbered-nothing_side c.right.cenid c.right.polyid i;
-}
+renumbered-nothing c = search (rules, map-id, option_map-itself, renumbered-nothing_side)
 
 -- r and then q act as p on the numbers of the county a
 pub record Follows (q r p : Renumbering) (a : County) : Type 0 where
@@ -222,10 +214,7 @@ forth f g h xs ys zs e m n =
 
 -- reflexive: the identity carries a county onto itself
 pub paired_itself : {K : Type 0} {cmp : K → K → Ordering} → IsKeyOrder cmp → (ks : List K) → ArePaired (to_itself ks) ks ks
-paired_itself o ks = record {
-  left = subst (λ l. IsPermutation l ks) (sym (lefts-to_itself o ks)) (IsPermutation-refl ks);
-  right = subst (λ l. IsPermutation l ks) (sym (rights-to_itself o ks)) (IsPermutation-refl ks);
-}
+paired_itself o ks = search (rules, lefts-to_itself, rights-to_itself)
 
 cenids-itself : (ks : List PolygonKey) → AllByRecursion (λ p. p.0.0 ≡ p.1.0) (to_itself ks)
 cenids-itself [] = tt
@@ -300,10 +289,7 @@ identity_carries a =
 -- symmetric: the inverse carries back
 pub paired_back : {K : Type 0} {cmp : K → K → Ordering} → IsKeyOrder cmp → (ps : List (K × K)) (olds news : List K) → ArePaired ps olds news
     → ArePaired (swapped ps) news olds
-paired_back o ps olds news h = record {
-  left = subst (λ l. IsPermutation l news) (sym (lefts-swapped o ps)) h.right;
-  right = subst (λ l. IsPermutation l olds) (sym (rights-swapped o ps)) h.left;
-}
+paired_back o ps olds news h = search (rules, lefts-swapped, rights-swapped)
 
 cenids_back : (ps : List (PolygonKey × PolygonKey)) → AllByRecursion (λ p. p.0.0 ≡ p.1.0) ps
     → AllByRecursion (λ p. p.0.0 ≡ p.1.0) (swapped ps)
@@ -313,8 +299,7 @@ cenids_back (p ∷ ps) h = (sym h.0, cenids_back ps h.1)
 -- if pairs name all old and all new numbers, images go there and back
 pub there_and_back : {K : Type 0} {cmp : K → K → Ordering} (o : IsKeyOrder cmp) (ps : List (K × K)) (olds news : List K)
     → ArePaired ps olds news → IsApart cmp news → (k : K) → Known cmp olds k → image cmp (swapped ps) (image cmp ps k) ≡ k
-there_and_back o ps olds news h a k l =
-    image-back o ps k (apart-permutation o (rights ps) news h.right a) (known-permutation o k (lefts ps) olds h.left l)
+there_and_back o ps olds news h a k l = search (rules, image-back, apart-permutation, known-permutation)
 
 exactly_one-both : (b : Bool) → exactly_one b b ≡ false
 exactly_one-both true = refl
@@ -412,19 +397,12 @@ pub images_on : {K : Type 0} {cmp : K → K → Ordering} (o : IsKeyOrder cmp) (
     → ArePaired ps olds mids → ArePaired qs mids news → (k : K) → Known cmp olds k
     → image cmp qs (image cmp ps k) ≡ image cmp (composed cmp ps qs) k
 images_on {K} {cmp} o ps qs olds mids news g h k l =
-    let next : (j : K) → Known cmp (rights ps) j → Known cmp (lefts qs) j =
-    λ j m. known-permutation o j (lefts qs) mids h.left (known-permutation_to o j (rights ps) mids g.right m) in
-    sym (ap (λ es. image cmp es k) (joined-followed o ps qs next)
-    ∙ image-followed o ps qs k (known-permutation o k (lefts ps) olds g.left l))
+    search (rules, known-permutation, known-permutation_to, joined-followed, image-followed)
 
 pub image-keeps : (qs : List (PolygonKey × PolygonKey)) → AllByRecursion (λ p. p.0.0 ≡ p.1.0) qs → (k : PolygonKey)
     → (image key_cmp qs k).0 ≡ k.0
 image-keeps [] h k = refl
-image-keeps (q ∷ qs) h k = go (same_or_not key_keys k q.0) (image-keeps qs h.1 k)
-  where
-    go : (k ≡ q.0) ⊎ (is_eq (key_cmp k q.0) ≡ false) → (image key_cmp qs k).0 ≡ k.0 → (image key_cmp (q ∷ qs) k).0 ≡ k.0
-    go (inl e) ih = ap (λ j. j.0) (image-yes key_keys q qs k e) ∙ sym h.0 ∙ ap (λ j. j.0) (sym e)
-    go (inr ne) ih = ap (λ j. j.0) (image-no key_keys q qs k ne) ∙ ih
+image-keeps (q ∷ qs) h k = search (rules, same_or_not, key_keys, image-yes, image-no, image-keeps qs h.1 k)
 
 cenids_on : (ps qs : List (PolygonKey × PolygonKey)) → AllByRecursion (λ p. p.0.0 ≡ p.1.0) ps → AllByRecursion (λ p. p.0.0 ≡ p.1.0) qs
     → AllByRecursion (λ p. p.0.0 ≡ p.1.0) (followed key_keys ps qs)

@@ -1,4 +1,5 @@
 -- The county depends neither on the order of the records, nor on the packing of types 2 and 4, nor on the choice of RTSQs.
+use Rattle.std.proofs.Common.{rules}
 use Rattle.std.proofs.Common.{◌≡◌, ◌≤◌, ℕ, nat_lt, ◌==◌, List, [], ◌∷◌, ◌++◌, map, flat_map, filter, length, false}
 use Rattle.std.proofs.Common.{is_eq, sym, ap, ◌∙◌, arith, nat_cmp, IsPermutation}
 use Rattle.tl_county.proofs.Common.{ChainTwice, Fields1, Fields2, Fields4, Fields5, Fields6, Fields7, FieldsI, FieldsP, IsLinked, LinkTwice}
@@ -32,9 +33,7 @@ module _ (xs ys : List Record) (p : IsPermutation xs ys) (linked : IsLinked xs) 
   in_sequence : {X : Type 0} (f g : X → ℕ) (n : ℕ) (us vs : List X) → SameElements us vs
       → has_repeat nat_cmp (map g (of_number f n us)) ≡ false
       → in_order (on g nat_cmp) (of_number f n us) ≡ in_order (on g nat_cmp) (of_number f n vs)
-  in_sequence f g n us vs s e =
-      numbered_same g (of_number f n us) (of_number f n vs) (same-filter (λ x. f x == n) us vs s)
-      (apart_from_no_repeat nat_keys (map g (of_number f n us)) e)
+  in_sequence f g n us vs s e = search (rules, numbered_same, same-filter, apart_from_no_repeat, nat_keys)
 
   chain_same : (r : Fields1) (link : FieldsI) → chain_of xs r link ≡ chain_of ys r link
   chain_same r link = λ i. record (chain_of xs r link) {
