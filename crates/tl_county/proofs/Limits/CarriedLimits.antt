@@ -80,8 +80,7 @@ same_count pack carried xs ys e p =
   where
     carried_sum : (zs : List _) → sum_by (λ x. length (pack x)) (map carried zs) ≡ sum_by (λ x. length (pack x)) zs
     carried_sum [] = refl
-    carried_sum (z ∷ zs) = sum_by-cons (λ x. length (pack x)) (carried z) (map carried zs) ∙ ap₂ (λ m n. m + n) (e z) (carried_sum zs)
-        ∙ sym (sum_by-cons (λ x. length (pack x)) z zs)
+    carried_sum (z ∷ zs) = grind (arith, common_steps, sum_by-cons)
 
 same_length : {X : Type 0} (carried : X → X) (xs ys : List X) → IsPermutation (map carried xs) ys → length ys ≡ length xs
 same_length carried xs ys p = length_permutation (map carried xs) ys p ∙ length-map xs carried
@@ -138,8 +137,7 @@ module _ (r : Renumbering) (a b : County) (h : Carries r a b) where
         let f : FitsLink o.0 = all_among FitsLink o.0 a.links fits.links o.1 in
         subst FitsLink (sym o.2) (record {
           file = f.file;
-          cenid =
-              subst (IsText 5) (sym (image-keeps r.polygons h.numbers.cenids (link_key o.0))) f.cenid;
+          cenid = search (rules, image-keeps);
         }));
   }
     where
@@ -188,8 +186,7 @@ module _ (r : Renumbering) (a b : County) (h : Carries r a b) where
           → sum_by (λ (e : PolygonKey × Option BodyP). weight e.1) (map (carried_polygon r) es) ≡ sum_by
           (λ (e : PolygonKey × Option BodyP). weight e.1) es
       carried_sum [] = refl
-      carried_sum (e ∷ es) = sum_by-cons (λ (d : PolygonKey × Option BodyP). weight d.1) (carried_polygon r e) (map (carried_polygon r) es)
-          ∙ ap (λ n. weight e.1 + n) (carried_sum es) ∙ sym (sum_by-cons (λ (d : PolygonKey × Option BodyP). weight d.1) e es)
+      carried_sum (e ∷ es) = grind (arith, common_steps, sum_by-cons)
 
   -- as many records of each type
   pub carried_many : HasAsMany (packed_by_type a) (packed_by_type b)
@@ -205,8 +202,7 @@ module _ (r : Renumbering) (a b : County) (h : Carries r a b) where
         of_type_7 = sym (same_count packed_sevens (carried_landmark r) a.landmarks b.landmarks sevens_carried h.landmarks);
         of_type_8 = sym (same_length (carried_link r) a.links b.links h.links);
         of_type_i = length-map a.chains packed_i ∙ chains ∙ sym (length-map b.chains packed_i);
-        of_type_p = length-in_order (on p_polyid nat_cmp) (filter_map packed_p a.polygons) ∙ sym polygons_carried
-            ∙ sym (length-in_order (on p_polyid nat_cmp) (filter_map packed_p b.polygons));
+        of_type_p = search (rules, length-in_order, polygons_carried);
       }
 
   pub carried_counts : (limits : ℕ → ℕ) → HasWithin limits (packed_by_type a) → HasWithin limits (packed_by_type b)

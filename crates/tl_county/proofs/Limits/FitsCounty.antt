@@ -186,17 +186,9 @@ module _ (records : List Record) (linked : IsLinked records) (fits : AllByRecurs
         (in_order (on five_feat nat_cmp) (of_type_5 records))
         (all-in_order (λ r. FitsNameBody r.body) (on five_feat nat_cmp) (of_type_5 records)
         (all_weaker Fit5 (λ r. FitsNameBody r.body) (λ r f. f.body) (of_type_5 records) (fit Type5)));
-    cenids = all_map (λ (entry : PolygonKey × Option BodyP). IsText 5 entry.0.0) (λ key. (key, polygon_body records key))
-        (distinct key_cmp keys)
-        (all_weaker (λ key. IsText 5 key.0 × IsNumber 10 key.1) (λ key. IsText 5 key.0) (λ key f. f.0)
-        (distinct key_cmp keys) all_keys_fit);
-    polygons = all_map (λ (entry : PolygonKey × Option BodyP). IfSome entry.1 (FitsPolygon entry.0.0))
-        (λ key. (key, polygon_body records key)) (distinct key_cmp keys)
-        (all_everywhere (λ key. IfSome (polygon_body records key) (FitsPolygon key.0)) polygon_body_fits (distinct key_cmp keys));
-    landmarks = all_map (λ (entry : ℕ × List Body7). AllByRecursion FitsLandmark entry.1) landmark_at
-        (distinct nat_cmp (map seven_land (of_type_7 records)))
-        (all_everywhere (λ land. AllByRecursion FitsLandmark (landmark_at land).1) bodies_fit
-        (distinct nat_cmp (map seven_land (of_type_7 records))));
+    cenids = search (rules, all_map, all_weaker, all_keys_fit);
+    polygons = search (rules, all_map, all_everywhere, polygon_body_fits);
+    landmarks = search (rules, all_map, all_everywhere, bodies_fit);
     links = all-in_order FitsLink link_cmp (of_type_8 records)
         (all_weaker Fit8 FitsLink (λ link f. record { file = f.file; cenid = f.cenid }) (of_type_8 records) (fit Type8));
   }
@@ -209,13 +201,8 @@ module _ (records : List Record) (linked : IsLinked records) (fits : AllByRecurs
         (in_order (on five_feat nat_cmp) (of_type_5 records))
         (all-in_order (λ r. IsNumber 8 r.feat) (on five_feat nat_cmp) (of_type_5 records)
         (all_weaker Fit5 (λ r. IsNumber 8 r.feat) (λ r f. f.feat) (of_type_5 records) (fit Type5)));
-    polygons = all_map (λ (entry : PolygonKey × Option BodyP). IsNumber 10 entry.0.1) (λ key. (key, polygon_body records key))
-        (distinct key_cmp keys)
-        (all_weaker (λ key. IsText 5 key.0 × IsNumber 10 key.1) (λ key. IsNumber 10 key.1) (λ key f. f.1)
-        (distinct key_cmp keys) all_keys_fit);
-    landmarks = all_map (λ (entry : ℕ × List Body7). IsNumber 10 entry.0) landmark_at
-        (distinct nat_cmp (map seven_land (of_type_7 records)))
-        (all_known nat_keys (IsNumber 10) (distinct nat_cmp (map seven_land (of_type_7 records))) land_fits);
+    polygons = search (rules, all_map, all_weaker, all_keys_fit);
+    landmarks = search (rules, all_map, all_known, nat_keys, land_fits);
     link_polygons = all-in_order (λ link. IsNumber 10 link.polyid) link_cmp (of_type_8 records)
         (all_weaker Fit8 (λ link. IsNumber 10 link.polyid) (λ link f. f.polyid) (of_type_8 records) (fit Type8));
     link_lands = all-in_order (λ link. IsNumber 10 link.land) link_cmp (of_type_8 records)
@@ -227,12 +214,8 @@ module _ (records : List Record) (linked : IsLinked records) (fits : AllByRecurs
       → has_repeat nat_cmp (map rtsq (of_number tlid n xs)) ≡ false → length (of_number tlid n xs) ≤ greatest_rtsq
   few_records {X} tlid rtsq n xs a e =
       let bounds : AllByRecursion (λ k. (1 ≤ k) × (k < 1000)) (map rtsq (of_number tlid n xs)) =
-      all_map (λ k. (1 ≤ k) × (k < 1000)) rtsq (of_number tlid n xs)
-      (all_filter (λ x. (1 ≤ rtsq x) × (rtsq x < 1000)) (λ x. tlid x == n) xs
-      (all_weaker (λ x. IsNumber 3 (rtsq x)) (λ x. (1 ≤ rtsq x) × (rtsq x < 1000))
-      (λ x h. ((let low : 0 < rtsq x = h.0 in omega arith), h.1)) xs a)) in
-      let few : length (map rtsq (of_number tlid n xs)) ≤ 1000 - 1 =
-      few_numbers 1 1000 (map rtsq (of_number tlid n xs)) (apart_from_no_repeat nat_keys (map rtsq (of_number tlid n xs)) e) bounds in
+      search (rules, all_map, all_filter, all_weaker) in
+      let few : length (map rtsq (of_number tlid n xs)) ≤ 1000 - 1 = search (rules, few_numbers, apart_from_no_repeat, nat_keys) in
       let mapped : length (map rtsq (of_number tlid n xs)) ≡ length (of_number tlid n xs) = length-map (of_number tlid n xs) rtsq in
       omega arith
 
@@ -271,11 +254,10 @@ module _ (records : List Record) (linked : IsLinked records) (fits : AllByRecurs
 
   lists : AllByRecursion (λ entry. ListsFit entry.1) (chains_of records)
   lists = all_chains (λ entry. ListsFit entry.1) (λ r link f l. record {
-    points = (let held : length (inner_points (r.start ∷ (shape_points records r.tlid ++ (r.end ∷ [])))) ≤ 10 * length
-        (of_number two_tlid r.tlid (of_type_2 records)) = inner_held r in
-        let few : length (of_number two_tlid r.tlid (of_type_2 records)) ≤ 999 = few_twos r.tlid in omega arith);
+    points = search (rules, held, inner_held, few_twos);
     feats = (let held : length (further_names records r.tlid) ≤ 5 * length (of_number four_tlid r.tlid (of_type_4 records)) =
-        feats_held r.tlid in let few : length (of_number four_tlid r.tlid (of_type_4 records)) ≤ 999 = few_fours r.tlid in omega arith);
+        search (rules, feats_held) in let few : length (of_number four_tlid r.tlid (of_type_4 records)) ≤ 999 = few_fours r.tlid in
+        omega arith);
     ranges = subst (λ n. n ≤ greatest_rtsq) (sym (ranges_held r.tlid)) (few_sixes r.tlid);
   })
 
@@ -290,8 +272,7 @@ module _ (records : List Record) (linked : IsLinked records) (fits : AllByRecurs
       (hits_once tlid (tlids (county_of records))
       (apart_from_sorted nat_keys (tlids (county_of records)) (county-is_county records linked).ascending.chains) x)) xs in
       let one_by_one : length (flat_map pack (chains_of records)) ≤ length
-      (flat_map (λ (entry : ℕ × Chain). of_number tlid entry.0 xs) (chains_of records)) =
-      shorter_pieces pack (λ (entry : ℕ × Chain). of_number tlid entry.0 xs) (chains_of records) a in
+      (flat_map (λ (entry : ℕ × Chain). of_number tlid entry.0 xs) (chains_of records)) = search (rules, shorter_pieces) in
       omega arith
 
   -- a list cut into pieces with RTSQs needs at most as many records as hold it
@@ -307,18 +288,12 @@ module _ (records : List Record) (linked : IsLinked records) (fits : AllByRecurs
   few_sevens =
       let lands : List ℕ = distinct nat_cmp (map seven_land (of_type_7 records)) in
       let groups : length (flat_map (λ land. of_number seven_land land (of_type_7 records)) lands) ≤ length (of_type_7 records) =
-      few_in_groups (λ land r. seven_land r == land) lands
-      (hits_once seven_land lands (apart-distinct nat_keys (map seven_land (of_type_7 records)))) (of_type_7 records) in
+      search (rules, few_in_groups, hits_once, apart-distinct, nat_keys) in
       let packs : flat_map packed_sevens (map landmark_at lands) ≡ flat_map (λ land. packed_sevens (landmark_at land)) lands =
-      flat_map-map packed_sevens landmark_at lands in
+      search (rules, flat_map-map) in
       let one_by_one : length (flat_map (λ land. packed_sevens (landmark_at land)) lands) ≤ length
       (flat_map (λ land. of_number seven_land land (of_type_7 records)) lands) =
-      shorter_pieces (λ land. packed_sevens (landmark_at land)) (λ land. of_number seven_land land (of_type_7 records)) lands
-      (all_everywhere (λ land. length (packed_sevens (landmark_at land)) ≤ length (of_number seven_land land (of_type_7 records)))
-      (λ land. let same : length (packed_sevens (landmark_at land)) ≡ length (of_number seven_land land (of_type_7 records)) =
-      length-map (landmark_at land).1 (λ body. record { land = land; body = body })
-      ∙ length-in_order landmark_body_cmp (map (λ (r : Fields7). r.body) (of_number seven_land land (of_type_7 records)))
-      ∙ length-map (of_number seven_land land (of_type_7 records)) (λ (r : Fields7). r.body) in omega arith) lands) in
+      search (rules, shorter_pieces, all_everywhere, length-map, length-in_order) in
       omega (arith, groups, one_by_one, ap length packs)
 
   few_bodies : (found : List PolygonKey) → length (filter_map packed_p (map (λ key. (key, polygon_body records key)) found)) ≤ length
@@ -330,8 +305,7 @@ module _ (records : List Record) (linked : IsLinked records) (fits : AllByRecurs
   few_ps =
       let found : List PolygonKey = distinct key_cmp keys in
       let groups : length (flat_map (λ key. filter (λ r. is_eq (key_cmp key (p_key r))) (of_type_p records)) found) ≤ length
-      (of_type_p records) =
-      few_in_groups (λ key r. is_eq (key_cmp key (p_key r))) found (once found (apart-distinct key_keys keys)) (of_type_p records) in
+      (of_type_p records) = search (rules, few_in_groups, once, apart-distinct, key_keys) in
       let packs : length (filter_map packed_p (map (λ key. (key, polygon_body records key)) found)) ≤ length
       (flat_map (λ key. filter (λ r. is_eq (key_cmp key (p_key r))) (of_type_p records)) found) = few_bodies found in
       omega arith
@@ -346,7 +320,7 @@ module _ (records : List Record) (linked : IsLinked records) (fits : AllByRecurs
   pub county_counts : (limits : ℕ → ℕ) → HasWithin limits (by_type records) → HasWithin limits (packed_by_type (county_of records))
   county_counts limits h = record {
     of_type_1 = (let same : length (map packed_one (chains_of records)) ≡ length (of_type_1 records) =
-        length-map (chains_of records) packed_one ∙ chain_count in let few : length (of_type_1 records) ≤ limits 49 = h.of_type_1 in
+        search (rules, length-map, chain_count) in let few : length (of_type_1 records) ≤ limits 49 = h.of_type_1 in
         omega arith);
     of_type_2 = (let few : length (of_type_2 records) ≤ limits 50 = h.of_type_2 in
         let own : length (flat_map packed_twos (chains_of records)) ≤ length (of_type_2 records) =
@@ -364,34 +338,29 @@ module _ (records : List Record) (linked : IsLinked records) (fits : AllByRecurs
         omega arith);
     of_type_5 = (let few : length (of_type_5 records) ≤ limits 53 = h.of_type_5 in
         let same : length (map packed_five (county_of records).names) ≡ length (of_type_5 records) =
-        length-map (county_of records).names packed_five
-        ∙ length-map (in_order (on five_feat nat_cmp) (of_type_5 records)) (λ (r : Fields5). (r.feat, r.body))
-        ∙ length-in_order (on five_feat nat_cmp) (of_type_5 records) in omega arith);
+        search (rules, length-map, length-in_order) in omega arith);
     of_type_6 = (let few : length (of_type_6 records) ≤ limits 54 = h.of_type_6 in
         let own : length (flat_map packed_sixes (chains_of records)) ≤ length (of_type_6 records) =
         few_of_chains six_tlid packed_sixes (of_type_6 records)
         (all_chains (λ entry. length (packed_sixes entry) ≤ length (of_number six_tlid entry.0 (of_type_6 records)))
         (λ r link f l. let same : length (packed_sixes (r.tlid, chain_of records r link)) ≡ length
-        (of_number six_tlid r.tlid (of_type_6 records)) =
-        length-map (numbered_from 1 (further_ranges records r.tlid))
-        (λ (piece : ℕ × Ranges). record { tlid = r.tlid; rtsq = piece.0; ranges = piece.1 })
-        ∙ length-numbered_from 1 (further_ranges records r.tlid) ∙ ranges_held r.tlid in omega arith)) in omega arith);
+        (of_number six_tlid r.tlid (of_type_6 records)) = search (rules, length-map, length-numbered_from, ranges_held) in omega arith)) in
+        omega arith);
     of_type_7 = (let few : length (of_type_7 records) ≤ limits 55 = h.of_type_7 in
         let own : length (flat_map packed_sevens (county_of records).landmarks) ≤ length (of_type_7 records) = few_sevens in omega arith);
     of_type_8 = (let few : length (of_type_8 records) ≤ limits 56 = h.of_type_8 in
-        let same : length (in_order link_cmp (of_type_8 records)) ≡ length (of_type_8 records) =
-        length-in_order link_cmp (of_type_8 records) in omega arith);
+        let same : length (in_order link_cmp (of_type_8 records)) ≡ length (of_type_8 records) = search (rules, length-in_order) in
+        omega arith);
     of_type_i = (let few : length (of_type_i records) ≤ limits 73 = h.of_type_i in
         let own : length (flat_map (λ entry. packed_i entry ∷ []) (chains_of records)) ≤ length (of_type_i records) =
         few_of_chains i_tlid (λ entry. packed_i entry ∷ []) (of_type_i records)
         linked_once in
         let same : length (flat_map (λ entry. packed_i entry ∷ []) (chains_of records)) ≡ length (map packed_i (chains_of records)) =
-        ap length (flat_map-one packed_i (chains_of records)) in omega arith);
+        search (rules, flat_map-one) in omega arith);
     of_type_p = (let few : length (of_type_p records) ≤ limits 80 = h.of_type_p in
         let own : length (filter_map packed_p (county_of records).polygons) ≤ length (of_type_p records) = few_ps in
         let same : length (in_order (on p_polyid nat_cmp) (filter_map packed_p (county_of records).polygons)) ≡ length
-        (filter_map packed_p (county_of records).polygons) =
-        length-in_order (on p_polyid nat_cmp) (filter_map packed_p (county_of records).polygons) in omega arith);
+        (filter_map packed_p (county_of records).polygons) = search (rules, length-in_order) in omega arith);
   }
 
   pub county-within_limits : (limit : ℕ) → IsWithinLimit limit records → IsWithinLimits limit (county_of records)

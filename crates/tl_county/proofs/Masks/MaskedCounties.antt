@@ -92,8 +92,7 @@ module _ (mask : Mask) where
         (IsPermutation-sym (map (carried_chain r) a.chains) b.chains h.chains) m))
       where
         carried : (e : ℕ × Chain) → mask_chain e ≡ e → mask_chain (carried_chain r e) ≡ carried_chain r e
-        carried e same = ap (λ c. ((carried_chain r e).0, c))
-            (chain_carried r (turns r e.0) e.1 ∙ ap (λ c. renumbered r (turned_if (turns r e.0) c)) (ap (λ d. d.1) same))
+        carried e same = search (rules, chain_carried)
 
     own_landmarks : AllByRecursion (λ entry. mask_landmark entry ≡ entry) b.landmarks
     own_landmarks = each_from (λ entry. mask_landmark entry ≡ entry) b.landmarks (λ entry m.

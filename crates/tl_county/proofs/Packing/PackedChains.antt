@@ -1,4 +1,5 @@
 -- The records of a chain in a packed county: each belongs to a chain of the county, and no RTSQ occurs twice.
+use Rattle.std.proofs.Common.{rules}
 use Rattle.std.proofs.Common.{◌≡◌, ℕ, List, map, flat_map}
 use Rattle.std.proofs.Common.{false}
 use Rattle.std.proofs.Common.{sym, refl, ap, ◌∙◌, subst, nat_cmp}
@@ -36,8 +37,7 @@ module _ (c : County) (is : IsCounty c) where
       → has_repeat nat_cmp (map rtsq (map make (numbered_from 1 ys))) ≡ false
   no_repeat {X} {Y} rtsq make stated ys =
       let numbers : map rtsq (map make (numbered_from 1 ys)) ≡ map (λ (piece : ℕ × Y). piece.0) (numbered_from 1 ys) =
-      map-map rtsq make (numbered_from 1 ys)
-      ∙ map_agree_everywhere (λ piece. rtsq (make piece)) (λ (piece : ℕ × Y). piece.0) stated (numbered_from 1 ys) in
+      search (rules, map-map, map_agree_everywhere) in
       ap (has_repeat nat_cmp) numbers ∙ has_repeat-apart nat_keys (map (λ (piece : ℕ × Y). piece.0) (numbered_from 1 ys))
       (apart_from_sorted nat_keys (map (λ (piece : ℕ × Y). piece.0) (numbered_from 1 ys)) (numbered_strict 1 ys))
 

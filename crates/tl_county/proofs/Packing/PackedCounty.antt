@@ -126,9 +126,7 @@ module _ (c : County) (is : IsCounty c) where
       let entries : Fields1 → List (ℕ × Chain) =
       λ r. map (λ link. (r.tlid, chain_of (packed c) r link)) (of_number i_tlid r.tlid (of_type_i (packed c))) in
       let ordered : in_order (on one_tlid nat_cmp) (map packed_one c.chains) ≡ map packed_one c.chains =
-      in_order-itself (on one_tlid nat_cmp) (map packed_one c.chains)
-      (in_order-from_strict one_tlid (map packed_one c.chains)
-      (subst (IsStrictlySortedBy nat_cmp) (sym (map-map one_tlid packed_one c.chains)) is.ascending.chains)) in
+      search (rules, in_order-itself, in_order-from_strict, map-map) in
       ap (λ rs. flat_map entries (in_order (on one_tlid nat_cmp) rs)) (ones c is)
       ∙ ap (flat_map entries) ordered
       ∙ flat_map-map entries packed_one c.chains
@@ -163,8 +161,7 @@ module _ (c : County) (is : IsCounty c) where
       go (inl side) =
           let along : Known key_cmp (polygons_along c.chains) k = subst (λ ks. Known key_cmp ks k) (sides_along c is) side in
           let all : AllByRecursion (λ j. IsTrue (stands_in key_cmp j (polygon_keys c))) (polygons_along c.chains) =
-          all_joined (λ j. IsTrue (stands_in key_cmp j (polygon_keys c)))
-          (λ (e : ℕ × Chain). chain_polygons e.1) c.chains is.closed.sides in
+          search (rules, all_joined) in
           known_is_among key_keys k (polygon_keys c)
           (ltb-true 0 (times key_cmp k (polygon_keys c))
           (known_all key_keys (λ j. IsTrue (stands_in key_cmp j (polygon_keys c))) (polygons_along c.chains) all k along))
@@ -187,15 +184,13 @@ module _ (c : County) (is : IsCounty c) where
       go (Some body) same f found =
           let r : FieldsP = record { cenid = e.0.0; polyid = e.0.1; body = body } in
           let listed : Among r (filter_map packed_p c.polygons) = to_filter_map packed_p e r c.polygons m (ap (packed_body e.0) same) in
-          let there : Among r (of_type_p (packed c)) =
-          subst (Among r) (sym (polygons_packed c is)) (to_in_order (on p_polyid nat_cmp) (filter_map packed_p c.polygons) r listed) in
+          let there : Among r (of_type_p (packed c)) = search (rules, polygons_packed, to_in_order) in
           sym found ∙ body_found r (of_type_p (packed c)) (few_polygons c is) there ∙ sym same
       go None same None found = sym same
       go None same (Some body) found =
           let r = first_body e.0 body (of_type_p (packed c)) found in
           let d = record_entry r.0 r.1 in
-          let one : e ≡ d.0 = one_entry key_keys c.polygons (apart_from_sorted key_keys (polygon_keys c) is.ascending.polygons) e d.0 m d.1
-          (r.2 ∙ d.2.0) in
+          let one : e ≡ d.0 = search (rules, one_entry, key_keys, apart_from_sorted) in
           absurd (none_some (sym same ∙ ap (λ (x : PolygonKey × Option BodyP). x.1) one ∙ sym d.2.1))
         where
           none_some : {B : Type 0} {b : B} → None ≡ Some b → ⊥

@@ -37,8 +37,7 @@ module _ {V X : Type 0} (key : X → ℕ) (pack : ℕ × V → List X) (own : (e
           → (times nat_cmp n (map (λ (d : ℕ × V). d.0) es) ≡ 0 → of_number key n (flat_map pack es) ≡ [])
           → of_number key n (pack e ++ flat_map pack es) ≡ []
       go (inl same) ih = absurd (omega (arith, h, times-yes nat_keys n e.0 (map (λ (d : ℕ × V). d.0) es) same))
-      go (inr ne) ih = filter-append (λ x. key x == n) (pack e) (flat_map pack es)
-          ∙ ap₂ (λ xs ys. xs ++ ys) (other_group n e ne) (ih (sym (times-no nat_keys n e.0 (map (λ (d : ℕ × V). d.0) es) ne) ∙ h))
+      go (inr ne) ih = search (rules, filter-append, other_group, times-no, nat_keys)
 
   first_group : (n : ℕ) (e : ℕ × V) (es : List (ℕ × V)) → n ≡ e.0 → IsApart nat_cmp (map (λ (d : ℕ × V). d.0) (e ∷ es))
       → of_number key n (pack e ++ flat_map pack es) ≡ pack e

@@ -38,9 +38,7 @@ module _ (c : County) (is : IsCounty c) where
   packed_linked (LandUnknown land) =
       implied (stands_in nat_cmp land (map eight_land (of_type_8 (packed c))))
       (stands_in nat_cmp land (map seven_land (of_type_7 (packed c))))
-      (λ t. let known : Known nat_cmp (map eight_land c.links) land =
-      subst (λ xs. Known nat_cmp (map eight_land xs) land) (eights c is)
-      (ltb-true 0 (times nat_cmp land (map eight_land (of_type_8 (packed c)))) t) in
+      (λ t. let known : Known nat_cmp (map eight_land c.links) land = search (rules, eights, ltb-true) in
       let listed : IsTrue (stands_in nat_cmp land (lands c)) =
       known_all nat_keys (λ n. IsTrue (stands_in nat_cmp n (lands c))) (map eight_land c.links)
       (all_map (λ n. IsTrue (stands_in nat_cmp n (lands c))) eight_land c.links is.closed.link_lands) land known in
@@ -49,9 +47,7 @@ module _ (c : County) (is : IsCounty c) where
   packed_linked (PolygonUnknown cenid polyid) =
       implied (stands_in key_cmp (cenid, polyid) (map link_key (of_type_8 (packed c))))
       (stands_in key_cmp (cenid, polyid) (flat_map side_keys (of_type_i (packed c)) ++ map p_key (of_type_p (packed c))))
-      (λ t. let known : Known key_cmp (map link_key c.links) (cenid, polyid) =
-      subst (λ xs. Known key_cmp (map link_key xs) (cenid, polyid)) (eights c is)
-      (ltb-true 0 (times key_cmp (cenid, polyid) (map link_key (of_type_8 (packed c)))) t) in
+      (λ t. let known : Known key_cmp (map link_key c.links) (cenid, polyid) = search (rules, eights, ltb-true) in
       let listed : IsTrue (stands_in key_cmp (cenid, polyid) (polygon_keys c)) =
       known_all key_keys (λ k. IsTrue (stands_in key_cmp k (polygon_keys c))) (map link_key c.links)
       (all_map (λ k. IsTrue (stands_in key_cmp k (polygon_keys c))) link_key c.links is.closed.link_polygons) (cenid, polyid) known in

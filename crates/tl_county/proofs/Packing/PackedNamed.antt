@@ -53,8 +53,7 @@ module _ (c : County) (is : IsCounty c) where
       at [] same some = absurd (let t : length e.1 ≡ 0 = ap length same in omega (arith, t, some))
       at (body ∷ bodies) same some =
           let r : Fields7 = record { land = e.0; body = body } in
-          let there : Among r (packed_sevens e) =
-          subst (λ (bs : List Body7). Among r (map (λ b. record { land = e.0; body = b }) bs)) (sym same) (inl refl) in
+          let there : Among r (packed_sevens e) = search rules in
           among_known nat_keys e.0 (map seven_land (flat_map packed_sevens c.landmarks))
           (among-map seven_land r (flat_map packed_sevens c.landmarks) (among-pieces packed_sevens e r c.landmarks m there))
 
@@ -73,8 +72,7 @@ module _ (c : County) (is : IsCounty c) where
       → Known key_cmp (flat_map side_keys (of_type_i (packed c)) ++ map p_key (of_type_p (packed c))) key
   key_stands key k =
       let e = among-unmap (λ (d : PolygonKey × Option BodyP). d.0) key c.polygons (known_is_among key_keys key (polygon_keys c) k) in
-      let whole : (is_some e.0.1 || stands_in key_cmp e.0.0 (polygons_along c.chains)) ≡ true =
-      all_among (λ d. IsTrue (is_some d.1 || stands_in key_cmp d.0 (polygons_along c.chains))) e.0 c.polygons is.whole.polygons e.1 in
+      let whole : (is_some e.0.1 || stands_in key_cmp e.0.0 (polygons_along c.chains)) ≡ true = search (rules, all_among) in
       subst (Known key_cmp (flat_map side_keys (of_type_i (packed c)) ++ map p_key (of_type_p (packed c)))) (sym e.2)
       (go e.0 e.1 (or_cases (is_some e.0.1) (stands_in key_cmp e.0.0 (polygons_along c.chains)) whole))
     where
@@ -84,17 +82,14 @@ module _ (c : County) (is : IsCounty c) where
       with_body d m (Some body) same some =
           let r : FieldsP = record { cenid = d.0.0; polyid = d.0.1; body = body } in
           let listed : Among r (filter_map packed_p c.polygons) = to_filter_map packed_p d r c.polygons m (ap (packed_body d.0) same) in
-          let ordered : Among r (of_type_p (packed c)) =
-          subst (Among r) (sym (polygons_packed c is)) (to_in_order (on p_polyid nat_cmp) (filter_map packed_p c.polygons) r listed) in
+          let ordered : Among r (of_type_p (packed c)) = search (rules, polygons_packed, to_in_order) in
           among_known key_keys d.0 (map p_key (of_type_p (packed c))) (among-map p_key r (of_type_p (packed c)) ordered)
 
       go : (d : PolygonKey × Option BodyP) → Among d c.polygons
           → (is_some d.1 ≡ true) ⊎ (stands_in key_cmp d.0 (polygons_along c.chains) ≡ true)
           → Known key_cmp (flat_map side_keys (of_type_i (packed c)) ++ map p_key (of_type_p (packed c))) d.0
-      go d m (inl some) = known-right key_keys d.0 (flat_map side_keys (of_type_i (packed c))) (map p_key (of_type_p (packed c)))
-          (with_body d m d.1 refl some)
-      go d m (inr side) = known-left key_keys d.0 (flat_map side_keys (of_type_i (packed c))) (map p_key (of_type_p (packed c)))
-          (subst (λ ks. Known key_cmp ks d.0) (sym sides_along) (ltb-true 0 (times key_cmp d.0 (polygons_along c.chains)) side))
+      go d m (inl some) = search (rules, known-right, key_keys, with_body)
+      go d m (inr side) = search (rules, known-left, key_keys, sides_along, ltb-true)
 
   pub few_polygons : IsApart key_cmp (map p_key (of_type_p (packed c)))
   few_polygons k = search (rules, times-in_order, few_packed_keys, apart_from_sorted, key_keys, polygons_packed)

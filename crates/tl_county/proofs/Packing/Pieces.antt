@@ -1,4 +1,5 @@
 -- Lists cut into pieces, and elements numbered from a number on.
+use Rattle.std.proofs.Common.{rules}
 use Rattle.std.proofs.Common.{◌≡◌, ◌+◌, ◌*◌, ◌<◌, ◌≤◌, ℕ, zero, suc, List, [], ◌∷◌, map, length, drop, refl, ap, ◌∙◌, arith}
 use Rattle.tl_county.proofs.Common.{AllByRecursion, all_weaker, numbered_from, pieces}
 use Rattle.std.proofs.lemmas.List.{length-drop, length-take}
@@ -12,7 +13,7 @@ few_pieces n c (suc most) [] h = omega arith
 few_pieces n zero (suc most) (x ∷ xs) h = absurd (omega arith)
 few_pieces n (suc c) (suc most) (x ∷ xs) h =
     let rest : length (pieces n most (drop n (x ∷ xs))) ≤ c =
-    few_pieces n c most (drop n (x ∷ xs)) (omega (arith, length-drop n (x ∷ xs), h)) in
+    search (rules, length-drop, few_pieces n c most (drop n (x ∷ xs)) (omega (arith, length-drop n (x ∷ xs), h))) in
     omega arith
 
 pub short_pieces : {X : Type 0} (n most : ℕ) (xs : List X) → AllByRecursion (λ piece. length piece ≤ n) (pieces n most xs)

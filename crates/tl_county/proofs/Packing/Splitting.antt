@@ -99,11 +99,7 @@ module _ {X Y : Type 0} (tlid rtsq : X → ℕ) (held : X → List Y) where
       where
         here : (xs : List X) → AllByRecursion IsFree xs
             → has_repeat nat_cmp (map rtsq (whole ∷ xs)) ≡ has_repeat nat_cmp (map rtsq (first ∷ second ∷ xs))
-        here xs free =
-            ap (λ r. stands_in nat_cmp r (map rtsq xs) || has_repeat nat_cmp (map rtsq xs)) (sym cut.kept)
-            ∙ ap₂ (λ a b. a || (b || has_repeat nat_cmp (map rtsq xs)))
-            (sym (ap (nat_lt 0) (times-no nat_keys (rtsq first) (rtsq second) (map rtsq xs)
-            (differs (rtsq first) (rtsq second) (inl cut.later))))) (sym (absent xs free))
+        here xs free = search (rules, times-no, nat_keys, differs, absent)
 
   -- a record that holds nothing
   module _ (empty : X) (is_empty : held empty ≡ []) where

@@ -160,8 +160,7 @@ module _ (land : ℕ) where
     where
       split : of_number eight_land land (entry.1.links ++ flat_map (λ (e : ℕ × LandmarkParts). e.1.links) landmarks)
           ≡ of_number eight_land land entry.1.links ++ of_number eight_land land (flat_map (λ (e : ℕ × LandmarkParts). e.1.links) landmarks)
-      split = filter-append (λ (link : Fields8). link.land == land) entry.1.links
-          (flat_map (λ (e : ℕ × LandmarkParts). e.1.links) landmarks)
+      split = search (rules, filter-append)
 
       go : (land ≡ entry.0) ⊎ (is_eq (nat_cmp land entry.0) ≡ false)
           → (unwrap_or (value_under nat_cmp land landmarks) none).links ≡ of_number eight_land land

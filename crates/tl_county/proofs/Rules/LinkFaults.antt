@@ -96,8 +96,7 @@ none_of_number f n (x ∷ xs) e = go (same_or_not nat_keys n (f x)) (none_of_num
     go : (n ≡ f x) ⊎ (is_eq (nat_cmp n (f x)) ≡ false) → (times nat_cmp n (map f xs) ≡ 0 → of_number f n xs ≡ [])
         → of_number f n (x ∷ xs) ≡ []
     go (inl h) ih = absurd (omega (arith, times-yes nat_keys n (f x) (map f xs) h, e))
-    go (inr ne) ih = ap (λ b. cond b (x ∷ of_number f n xs) (of_number f n xs))
-        (ne_eqb (f x) n (λ h. differ_apart nat_keys n (f x) ne (sym h))) ∙ ih (sym (times-no nat_keys n (f x) (map f xs) ne) ∙ e)
+    go (inr ne) ih = search (rules, ne_eqb, differ_apart, nat_keys, times-no)
 
 repeat_known : {X : Type 0} (f g : X → ℕ) (n : ℕ) (xs : List X) → has_repeat nat_cmp (map g (of_number f n xs)) ≡ true
     → Known nat_cmp (map f xs) n
@@ -109,8 +108,7 @@ name_among x y [] h = absurd (omega (arith, h))
 name_among x y (r ∷ rs) h = go (r.tlid == x) refl h (name_among x y rs)
   where
     here : r.tlid ≡ x → Known nat_cmp r.feats y → Among (NameUnknown x y) (map (NameUnknown r.tlid) r.feats)
-    here e k = subst (λ t. Among (NameUnknown t y) (map (NameUnknown r.tlid) r.feats)) e
-        (known_among nat_keys (NameUnknown r.tlid) y r.feats k)
+    here e k = search (rules, known_among, nat_keys)
 
     split : r.tlid ≡ x → Known nat_cmp r.feats y ⊎ Known nat_cmp (flat_map (λ q. q.feats) (of_number four_tlid x rs)) y
         → (Known nat_cmp (flat_map (λ q. q.feats) (of_number four_tlid x rs)) y → Among (NameUnknown x y) (name_faults rs))

@@ -104,10 +104,7 @@ module _ (records : List Record) (linked : IsLinked records) where
   name_stands : (n y : ℕ) → Among y (further_names records n) → IsTrue (stands_in nat_cmp y (feats (county_of records)))
   name_stands n y m =
       let r = among-unpieces (λ (q : Fields4). q.feats) y (in_order (on four_rtsq nat_cmp) (of_number four_tlid n (of_type_4 records))) m in
-      let named : Known nat_cmp (named_feats n records) y =
-      among_known nat_keys y (named_feats n records)
-      (among-pieces (λ (q : Fields4). q.feats) r.0 y (of_number four_tlid n (of_type_4 records))
-      (from_in_order (on four_rtsq nat_cmp) (of_number four_tlid n (of_type_4 records)) r.0 r.1) r.2) in
+      let named : Known nat_cmp (named_feats n records) y = search (rules, among_known, nat_keys, among-pieces, from_in_order) in
       let t : stands_in nat_cmp y (map five_feat (of_type_5 records)) ≡ true =
       needed (stands_in nat_cmp y (named_feats n records)) (stands_in nat_cmp y (map five_feat (of_type_5 records)))
       (linked (NameUnknown n y)) (lt-ltb 0 (times nat_cmp y (named_feats n records)) named) in
@@ -134,8 +131,7 @@ module _ (records : List Record) (linked : IsLinked records) where
 
   land_stands : (link : Fields8) → Among link (of_type_8 records) → IsTrue (stands_in nat_cmp link.land (lands (county_of records)))
   land_stands link m =
-      let named : Known nat_cmp (map eight_land (of_type_8 records)) link.land =
-      among_known nat_keys link.land (map eight_land (of_type_8 records)) (among-map eight_land link (of_type_8 records) m) in
+      let named : Known nat_cmp (map eight_land (of_type_8 records)) link.land = search (rules, among_known, nat_keys, among-map) in
       let t : stands_in nat_cmp link.land (map seven_land (of_type_7 records)) ≡ true =
       needed (stands_in nat_cmp link.land (map eight_land (of_type_8 records)))
       (stands_in nat_cmp link.land (map seven_land (of_type_7 records))) (linked (LandUnknown link.land))
@@ -148,8 +144,7 @@ module _ (records : List Record) (linked : IsLinked records) where
   link_key_stands : (link : Fields8) → Among link (of_type_8 records)
       → IsTrue (stands_in key_cmp (link_key link) (polygon_keys (county_of records)))
   link_key_stands link m =
-      let named : Known key_cmp (map link_key (of_type_8 records)) (link_key link) =
-      among_known key_keys (link_key link) (map link_key (of_type_8 records)) (among-map link_key link (of_type_8 records) m) in
+      let named : Known key_cmp (map link_key (of_type_8 records)) (link_key link) = search (rules, among_known, key_keys, among-map) in
       let t : stands_in key_cmp (link_key link) all_keys ≡ true =
       needed (stands_in key_cmp (link_key link) (map link_key (of_type_8 records))) (stands_in key_cmp (link_key link) all_keys)
       (linked (PolygonUnknown link.cenid link.polyid))
@@ -160,15 +155,13 @@ module _ (records : List Record) (linked : IsLinked records) where
   pub linked_chain : (link : FieldsI) → Among link (of_type_i records)
       → (r : Fields1) × Among (r.tlid, chain_of records r link) (chains_of records)
   linked_chain link m =
-      let named : Known nat_cmp (map i_tlid (of_type_i records)) link.tlid =
-      among_known nat_keys link.tlid (map i_tlid (of_type_i records)) (among-map i_tlid link (of_type_i records) m) in
+      let named : Known nat_cmp (map i_tlid (of_type_i records)) link.tlid = search (rules, among_known, nat_keys, among-map) in
       let t : stands_in nat_cmp link.tlid (chain_tlids records) ≡ true =
       needed (stands_in nat_cmp link.tlid (map i_tlid (of_type_i records))) (stands_in nat_cmp link.tlid (chain_tlids records))
       (linked (NoChain I link.tlid)) (lt-ltb 0 (times nat_cmp link.tlid (map i_tlid (of_type_i records))) named) in
       let r = among-unmap one_tlid link.tlid (of_type_1 records)
       (known_is_among nat_keys link.tlid (chain_tlids records) (ltb-true 0 (times nat_cmp link.tlid (chain_tlids records)) t)) in
-      let there : Among link (of_number i_tlid r.0.tlid (of_type_i records)) =
-      to_filter (λ l. i_tlid l == r.0.tlid) link (of_type_i records) m (eq-eqb link.tlid r.0.tlid r.2) in (
+      let there : Among link (of_number i_tlid r.0.tlid (of_type_i records)) = search (rules, to_filter, eq-eqb) in (
         r.0,
         among-pieces (λ (q : Fields1). map (λ l. (q.tlid, chain_of records q l)) (of_number i_tlid q.tlid (of_type_i records))) r.0
             (r.0.tlid, chain_of records r.0 link) (in_order (on one_tlid nat_cmp) (of_type_1 records))
@@ -188,26 +181,21 @@ module _ (records : List Record) (linked : IsLinked records) where
           let link = among-unpieces side_keys key (of_type_i records)
           (known_is_among key_keys key (flat_map side_keys (of_type_i records)) side) in
           let chain = linked_chain link.0 link.1 in
-          let along : Among key (polygons_along (chains_of records)) =
-          among-pieces (λ (entry : ℕ × Chain). chain_polygons entry.1) (chain.0.tlid, chain_of records chain.0 link.0) key
-          (chains_of records) chain.1 link.2 in
+          let along : Among key (polygons_along (chains_of records)) = search (rules, among-pieces) in
           or_right (is_some (polygon_body records key)) (stands_in key_cmp key (polygons_along (chains_of records)))
           (lt-ltb 0 (times key_cmp key (polygons_along (chains_of records)))
           (among_known key_keys key (polygons_along (chains_of records)) along))
-      go (inr body) = or_left (is_some (polygon_body records key)) (stands_in key_cmp key (polygons_along (chains_of records)))
-          (some_body key (of_type_p records) body)
+      go (inr body) = search (rules, or_left, some_body)
 
   some_content : (land : ℕ) → Known nat_cmp (distinct nat_cmp (map seven_land (of_type_7 records))) land
       → 1 ≤ length (in_order landmark_body_cmp (map (λ (r : Fields7). r.body) (of_number seven_land land (of_type_7 records))))
   some_content land k =
-      let known : 0 < times nat_cmp land (map seven_land (of_type_7 records)) =
-      known_from_distinct nat_keys (map seven_land (of_type_7 records)) land k in
+      let known : 0 < times nat_cmp land (map seven_land (of_type_7 records)) = search (rules, known_from_distinct, nat_keys) in
       let bodies : List Body7 = map (λ (r : Fields7). r.body) (of_number seven_land land (of_type_7 records)) in
       let put : length (in_order landmark_body_cmp bodies) ≡ length bodies = length-in_order landmark_body_cmp bodies in
-      let mapped : length bodies ≡ length (of_number seven_land land (of_type_7 records)) =
-      length-map (of_number seven_land land (of_type_7 records)) (λ (r : Fields7). r.body) in
+      let mapped : length bodies ≡ length (of_number seven_land land (of_type_7 records)) = search (rules, length-map) in
       let counted : times nat_cmp land (map seven_land (of_type_7 records)) ≡ length (of_number seven_land land (of_type_7 records)) =
-      times-of_number seven_land land (of_type_7 records) in
+      search (rules, times-of_number) in
       omega arith
 
   some_points : (r : Fields1) → 2 ≤ length (r.start ∷ (shape_points records r.tlid ++ (r.end ∷ [])))
@@ -216,17 +204,8 @@ module _ (records : List Record) (linked : IsLinked records) where
   county_whole : IsWhole (county_of records)
   county_whole = record {
     points = chains_all (λ entry. 2 ≤ length entry.1.points) (λ r link n m. some_points r);
-    bodies = all_map (λ (entry : ℕ × List Body7). 1 ≤ length entry.1)
-        (λ land. (land, in_order landmark_body_cmp (map (λ (r : Fields7). r.body) (of_number seven_land land (of_type_7 records)))))
-        (distinct nat_cmp (map seven_land (of_type_7 records)))
-        (all_known nat_keys (λ land. 1 ≤ length (in_order landmark_body_cmp
-        (map (λ (r : Fields7). r.body) (of_number seven_land land (of_type_7 records)))))
-        (distinct nat_cmp (map seven_land (of_type_7 records))) some_content);
-    polygons = all_map (λ (entry : PolygonKey × Option BodyP). IsTrue
-        (is_some entry.1 || stands_in key_cmp entry.0 (polygons_along (chains_of records)))) (λ key. (key, polygon_body records key))
-        (distinct key_cmp all_keys)
-        (all_known key_keys (λ key. IsTrue (is_some (polygon_body records key) || stands_in key_cmp key
-        (polygons_along (chains_of records)))) (distinct key_cmp all_keys) polygon_whole);
+    bodies = search (rules, all_map, all_known, nat_keys, some_content);
+    polygons = search (rules, all_map, all_known, key_keys, polygon_whole);
   }
 
   pub county-is_county : IsCounty (county_of records)
@@ -239,28 +218,8 @@ module _ (records : List Record) (linked : IsLinked records) where
           (λ n. ltb-false 1 (times nat_cmp n (map five_feat (of_type_5 records))) (linked (NameTwice n))));
       polygons = subst (IsStrictlySortedBy key_cmp) (sym keys-county) (distinct-strict key_keys all_keys);
       landmarks = subst (IsStrictlySortedBy nat_cmp) (sym lands-county) (distinct-strict nat_keys (map seven_land (of_type_7 records)));
-      bodies = all_map (λ entry. _) (λ land. (
-        land,
-        in_order landmark_body_cmp
-            (map (λ (r : Fields7). r.body) (of_number seven_land land (of_type_7 records))),
-      ))
-          (distinct nat_cmp (map seven_land (of_type_7 records)))
-          (all_everywhere (λ land. _) (λ land. in_order-in_order landmark_body_keys.total
-          (map (λ (r : Fields7). r.body) (of_number seven_land land (of_type_7 records))))
-          (distinct nat_cmp (map seven_land (of_type_7 records))));
+      bodies = search (rules, all_map, all_everywhere, in_order-in_order, landmark_body_keys);
       links = in_order-in_order link_keys.total (of_type_8 records);
     };
-    closed = record {
-      names = chains_all (λ entry. AllStandIn (feats (county_of records)) entry.1.feats)
-          (λ r link n m. each_from (λ n. IsTrue (stands_in nat_cmp n (feats (county_of records)))) (further_names records r.tlid)
-          (name_stands r.tlid));
-      sides = chains_all (λ entry. AllKeysStandIn (polygon_keys (county_of records)) (chain_polygons entry.1))
-          (λ r link n m. side_stands link m);
-      link_lands = all-in_order (λ link. IsTrue (stands_in nat_cmp link.land (lands (county_of records)))) link_cmp (of_type_8 records)
-          (each_from (λ link. IsTrue (stands_in nat_cmp link.land (lands (county_of records)))) (of_type_8 records) land_stands);
-      link_polygons = all-in_order (λ link. IsTrue (stands_in key_cmp (link_key link) (polygon_keys (county_of records)))) link_cmp
-          (of_type_8 records)
-          (each_from (λ link. IsTrue (stands_in key_cmp (link_key link) (polygon_keys (county_of records))))
-          (of_type_8 records) link_key_stands);
-    };
+    closed = search (rules, chains_all, each_from, name_stands, side_stands, all-in_order, land_stands, link_key_stands);
   }

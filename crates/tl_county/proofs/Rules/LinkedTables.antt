@@ -82,8 +82,7 @@ groups-join {X} number (k ∷ ks) xs strict h known =
             → AllByRecursion (λ x. Known nat_cmp ks (number x)) (later_than number k ys)
             → AllByRecursion (λ x. Known nat_cmp ks (number x)) (cond b (y ∷ later_than number k ys) (later_than number k ys))
         go false e m ih = ih
-        go true e (inl f) ih =
-            absurd (false≢true (sym (ap is_gt (subst (λ m. nat_cmp m k ≡ Equal) (sym f) (tied_itself nat_cmp_total k))) ∙ e))
+        go true e (inl f) ih = search (rules, false≢true, tied_itself, nat_cmp_total)
         go true e (inr m) ih = (m.0, ih)
 
 module _ (records : List Record) (order : AreInOrder (by_type records)) (linked : IsLinked records) where
@@ -105,7 +104,7 @@ module _ (records : List Record) (order : AreInOrder (by_type records)) (linked 
   side_by_side = strict-equal nat_cmp_total (λ n. n) (map one_tlid (of_type_1 records))
       (map i_tlid (of_type_i records)) tlids-strict links-strict
       (λ n m. known_is_among nat_keys n (map i_tlid (of_type_i records)) (let one : times nat_cmp n (map i_tlid (of_type_i records)) ≡ 1 =
-      one_link records linked n (among_known nat_keys n (chain_tlids records) m) in omega arith))
+      search (rules, one_link, among_known, nat_keys) in omega arith))
       (λ n m. known_is_among nat_keys n (chain_tlids records)
       (ltb-true 0 (times nat_cmp n (chain_tlids records))
       (needed (stands_in nat_cmp n (linked_tlids I records)) (stands_in nat_cmp n (chain_tlids records)) (linked (NoChain I n))

@@ -76,15 +76,14 @@ module _ {X : Type 0} (f g : X → ℕ) where
         (let some : 0 < times nat_cmp k ks = ltb-true 0 (times nat_cmp k ks) s in
             omega (arith, times-yes nat_keys k k ks refl)),
       )
-      go (inr r) ih = let found : (m : ℕ) × (1 < times nat_cmp m ks) = ih r in
-          (found.0, omega (arith, times-cons nat_keys found.0 k ks, found.1))
+      go (inr r) ih = search (rules, times-cons, nat_keys)
 
   -- the least pair that occurs twice has the least number under which something occurs twice
   pub least-repeat : (n m : ℕ) (xs : List X) → IsLeastPassing sequence_cmp (is_repeated sequence_cmp (map (λ x. (f x, g x)) xs))
       (Some (n, m)) → IsLeastPassing nat_cmp (λ k. has_repeat nat_cmp (map g (of_number f k xs))) (Some n)
   least-repeat n m xs h = (
-    repeat_from m (map g (of_number f n xs)) (let t : 1 < times sequence_cmp (n, m) (map (λ x. (f x, g x)) xs) =
-        ltb-true 1 (times sequence_cmp (n, m) (map (λ x. (f x, g x)) xs)) h.0 in omega (arith, times-pair n m xs)),
+    repeat_from m (map g (of_number f n xs)) (let t : 1 < times sequence_cmp (n, m) (map (λ x. (f x, g x)) xs) = search (rules, ltb-true) in
+        omega (arith, times-pair n m xs)),
     least,
   )
     where
@@ -119,12 +118,8 @@ times-uses n y (r ∷ rs) =
       where
         at : (y ≡ feat) ⊎ (is_eq (nat_cmp y feat) ≡ false) → times sequence_cmp (n, y) (map (λ w. (tlid, w)) feats) ≡ times nat_cmp y feats
             → times sequence_cmp (n, y) ((tlid, feat) ∷ map (λ w. (tlid, w)) feats) ≡ times nat_cmp y (feat ∷ feats)
-        at (inl h) ih = times-yes sequence_keys (n, y) (tlid, feat) (map (λ w. (tlid, w)) feats) (λ i. (e i, h i)) ∙ ap suc ih
-            ∙ sym (times-yes nat_keys y feat feats h)
-        at (inr ne) ih = times-no sequence_keys (n, y) (tlid, feat) (map (λ w. (tlid, w)) feats)
-            (subst (λ k. is_eq (ordering_then (nat_cmp n k) (nat_cmp y feat)) ≡ false) e
-            (ap (λ a. is_eq (ordering_then a (nat_cmp y feat))) (tied_itself nat_cmp_total n) ∙ ne)) ∙ ih
-            ∙ sym (times-no nat_keys y feat feats ne)
+        at (inl h) ih = search (rules, times-yes, sequence_keys, nat_keys)
+        at (inr ne) ih = search (rules, times-no, sequence_keys, tied_itself, nat_cmp_total, nat_keys)
 
     none : (tlid : ℕ) → is_eq (nat_cmp n tlid) ≡ false → (feats : List ℕ) → times sequence_cmp (n, y) (map (λ feat. (tlid, feat)) feats) ≡ 0
     none tlid ne [] = refl

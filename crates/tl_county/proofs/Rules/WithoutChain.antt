@@ -39,12 +39,7 @@ content_under {K} {V} {cmp} o content key (k ∷ keys) = go (is_eq (cmp key k)) 
 
     go : (b : Bool) → is_eq (cmp key k) ≡ b → rest ≡ (stands_in cmp key keys && is_some (content key))
         → ((b && is_some (content k)) || rest) ≡ (nat_lt 0 (length (cond b (k ∷ others) others)) && is_some (content key))
-    go true e ih =
-        let same : key ≡ k = same-true o key k e in
-        ap (λ c. is_some (content c) || rest) (sym same)
-        ∙ ap (λ r. is_some (content key) || r) ih
-        ∙ either (is_some (content key)) (stands_in cmp key keys)
-        ∙ ap (λ b. b && is_some (content key)) (sym (lt-ltb 0 (suc (length others)) (omega arith)))
+    go true e ih = search (rules, same-true, rest, either, lt-ltb, others)
     go false e ih = ih
 
 -- if the search for a passing key finds none, no key passes
@@ -89,8 +84,7 @@ module _ (records : List Record) (linked : IsLinked records) where
     where
       each : (r : Fields1) (link : FieldsI) → Among r (of_type_1 records) → Among link (of_type_i records)
           → AllByRecursion (Known key_cmp on_sides) (side_keys link)
-      each r link n m = each_from (Known key_cmp on_sides) (side_keys link)
-          (λ k l. among_known key_keys k on_sides (among-pieces side_keys link k (of_type_i records) m l))
+      each r link n m = search (rules, each_from, among_known, key_keys, among-pieces)
 
   -- a polygon is on a side in a type I record exactly if it is on a side of a chain
   same_sides : (key : PolygonKey) → stands_in key_cmp key on_sides ≡ stands_in key_cmp key along
@@ -100,8 +94,7 @@ module _ (records : List Record) (linked : IsLinked records) where
   same_body : (key : PolygonKey) → stands_in key_cmp key (map p_key (of_type_p records)) ≡ has_body (county_of records) key
   same_body key =
       let there : stands_in key_cmp key (map p_key (of_type_p records)) ≡ is_some (polygon_body records key) =
-      ap (nat_lt 0) (count-map (λ k. is_eq (key_cmp key k)) p_key (of_type_p records))
-      ∙ sym (first_there (λ (r : FieldsP). r.body) (filter (λ r. is_eq (key_cmp key (p_key r))) (of_type_p records))) in
+      search (rules, count-map, first_there) in
       sym
       (content_under key_keys (polygon_body records) key (distinct key_cmp (on_sides ++ map p_key (of_type_p records)))
       ∙ ap (λ b. b && is_some (polygon_body records key))
@@ -111,10 +104,7 @@ module _ (records : List Record) (linked : IsLinked records) where
     where
       within : (b : Bool) → stands_in key_cmp key (map p_key (of_type_p records)) ≡ b → (c : Bool) → b ≡ c
           → (stands_in key_cmp key (on_sides ++ map p_key (of_type_p records)) && c) ≡ c
-      within true e true d =
-          ap (λ a. a && true) (lt-ltb 0 (times key_cmp key (on_sides ++ map p_key (of_type_p records)))
-          (known-right key_keys key on_sides (map p_key (of_type_p records))
-          (ltb-true 0 (times key_cmp key (map p_key (of_type_p records))) e)))
+      within true e true d = search (rules, lt-ltb, known-right, key_keys, ltb-true)
       within b e false d = never (stands_in key_cmp key (on_sides ++ map p_key (of_type_p records)))
         where
           never : (a : Bool) → (a && false) ≡ false

@@ -72,8 +72,7 @@ module _ (r : Renumbering) (a b : County) (h : Carries r a b) where
       (λ k l. let o = among-unmap (image key_cmp r.polygons) k (chain_polygons (turned_if (turns r d.0) d.1))
       (subst (Among k) (chain_polygons-renumbered r (turned_if (turns r d.0) d.1)) l) in
       let old : Among o.0 (chain_polygons d.1) = polygons-unturned o.0 (turns r d.0) d.1 o.1 in
-      let stands : AllKeysStandIn (polygon_keys a) (chain_polygons d.1) =
-      all_among (λ e. AllKeysStandIn (polygon_keys a) (chain_polygons e.1)) d a.chains closed.sides m in
+      let stands : AllKeysStandIn (polygon_keys a) (chain_polygons d.1) = search (rules, all_among) in
       subst (λ j. IsTrue (stands_in key_cmp j (polygon_keys b))) (sym o.2)
       (new_key o.0 (all_among (λ j. IsTrue (stands_in key_cmp j (polygon_keys a))) o.0 (chain_polygons d.1) stands old)))
 
@@ -104,8 +103,7 @@ module _ (r : Renumbering) (a b : County) (h : Carries r a b) where
       let d = among-unpieces (λ (e : ℕ × Chain). chain_polygons e.1) k a.chains (known_is_among key_keys k (polygons_along a.chains) l) in
       let turned : Among k (chain_polygons (turned_if (turns r d.0.0) d.0.1)) = among-turned k (turns r d.0.0) d.0.1 d.2 in
       let new : Among (image key_cmp r.polygons k) (chain_polygons (carried_chain r d.0).1) =
-      subst (Among (image key_cmp r.polygons k)) (sym (chain_polygons-renumbered r (turned_if (turns r d.0.0) d.0.1)))
-      (among-map (image key_cmp r.polygons) k (chain_polygons (turned_if (turns r d.0.0) d.0.1)) turned) in
+      search (rules, chain_polygons-renumbered, among-map) in
       among_known key_keys (image key_cmp r.polygons k) (polygons_along b.chains)
       (among-pieces (λ (e : ℕ × Chain). chain_polygons e.1) (carried_chain r d.0) (image key_cmp r.polygons k) b.chains
       (new_chain d.0 d.1) new)
@@ -116,12 +114,7 @@ module _ (r : Renumbering) (a b : County) (h : Carries r a b) where
 
   pub carried_whole : IsWhole a → IsWhole b
   carried_whole whole = record {
-    points = each_from (λ e. 2 ≤ length e.1.points) b.chains
-        (λ e m. let o = old_chain e m in
-        let two : 2 ≤ length o.0.1.points = all_among (λ d. 2 ≤ length d.1.points) o.0 a.chains whole.points o.1 in
-        let same : length (turned_if (turns r o.0.0) o.0.1).points ≡ length o.0.1.points = points-turned (turns r o.0.0) o.0.1 in
-        subst (λ (c : ℕ × Chain). 2 ≤ length c.1.points) (sym o.2) (let t : 2 ≤ length (turned_if (turns r o.0.0) o.0.1).points =
-        omega arith in t));
+    points = search (rules, each_from, old_chain, all_among, points-turned);
     bodies = each_from (λ e. 1 ≤ length e.1) b.landmarks
         (λ e m. let o = among-unmap (carried_landmark r) e a.landmarks
         (among-permutation e b.landmarks (map (carried_landmark r) a.landmarks)

@@ -106,10 +106,9 @@ module _ (q r p : Renumbering) (a : County) (f : Follows q r p a) where
       let both : turned_if (turns q y) (turned_if (turns r x) c) ≡ turned_if (turns p x) c = turned_if-twice (turns r x) (turns q y) c
       ∙ ap (λ b. turned_if b c) (f.turned x h.tlid) in
       let one : renumbered q (turned_if (turns q y) (renumbered r (turned_if (turns r x) c))) ≡ turned_if (turns q y)
-      (renumbered q (renumbered r (turned_if (turns r x) c))) =
-      renumbered-turned_if q (turns q y) (renumbered r (turned_if (turns r x) c)) in
+      (renumbered q (renumbered r (turned_if (turns r x) c))) = search (rules, renumbered-turned_if) in
       let two : renumbered q (renumbered r (turned_if (turns r x) c)) ≡ turned_if (turns r x) (renumbered q (renumbered r c)) =
-      ap (renumbered q) (renumbered-turned_if r (turns r x) c) ∙ renumbered-turned_if q (turns r x) (renumbered r c) in
+      search (rules, renumbered-turned_if) in
       let all : renumbered q (turned_if (turns q y) (renumbered r (turned_if (turns r x) c))) ≡ renumbered p (turned_if (turns p x) c) =
       one ∙ ap (turned_if (turns q y)) two
       ∙ ap (λ d. turned_if (turns q y) (turned_if (turns r x) d)) (follow_chain x c h)
@@ -133,10 +132,8 @@ all_chains a [] t n s d = tt
 all_chains a (e ∷ es) t n s d = (
   record {
     tlid = t.0;
-    names = all_weaker (λ m. IsTrue (stands_in nat_cmp m (feats a))) (Known nat_cmp (feats a))
-        (λ m h. ltb-true 0 (times nat_cmp m (feats a)) h) e.1.feats n.0;
-    sides = all_weaker (λ k. IsTrue (stands_in key_cmp k (polygon_keys a))) (Known key_cmp (polygon_keys a))
-        (λ k h. ltb-true 0 (times key_cmp k (polygon_keys a)) h) (chain_polygons e.1) s.0;
+    names = search (rules, all_weaker, ltb-true);
+    sides = search (rules, all_weaker, ltb-true);
     nodes = d.0;
   },
   all_chains a es t.1 n.1 s.1 d.1,
@@ -159,8 +156,7 @@ all_links a [] g h = tt
 all_links a (l ∷ ls) g h = (
   record {
     land = ltb-true 0 (times nat_cmp l.land (lands a)) g.0;
-    polygon =
-        ltb-true 0 (times key_cmp (link_key l) (polygon_keys a)) h.0;
+    polygon = search (rules, ltb-true);
   },
   all_links a ls g.1 h.1,
 )
@@ -178,9 +174,7 @@ pub record PartsFollow (q r p : Renumbering) (a : County) : Type 0 where
 
 pub parts_follow : (q r p : Renumbering) (a : County) → IsClosed a → Follows q r p a → PartsFollow q r p a
 parts_follow q r p a closed f = record {
-  chains = map-map (carried_chain q) (carried_chain r) a.chains
-      ∙ map_agree_all (λ e. carried_chain q (carried_chain r e)) (carried_chain p) (IsChainOf a) (follow_entry q r p a f) a.chains
-      (chains_are a closed);
+  chains = search (rules, map-map, map_agree_all, follow_entry, chains_are);
   names = map-map (carried_name q) (carried_name r) a.names
       ∙ map_agree_all (λ e. carried_name q (carried_name r e)) (carried_name p) (λ e. Known nat_cmp (feats a) e.0)
       (λ e h i. (f.names e.0 h i, e.1)) a.names (keys_known nat_keys a.names);
@@ -328,11 +322,9 @@ module _ (r : Renumbering) (a b : County) (ca : IsCounty a) (cb : IsCounty b) (h
 
   pub inverse_follows : Follows (inverse r) r nothing a
   inverse_follows = record {
-    chains = there_and_back nat_keys r.chains (tlids a) (tlids b) h.numbers.chains
-        (apart_from_sorted nat_keys (tlids b) cb.ascending.chains);
+    chains = search (rules, there_and_back, nat_keys, apart_from_sorted);
     names = there_and_back nat_keys r.names (feats a) (feats b) h.numbers.names (apart_from_sorted nat_keys (feats b) cb.ascending.names);
-    polygons = there_and_back key_keys r.polygons (polygon_keys a) (polygon_keys b) h.numbers.polygons
-        (apart_from_sorted key_keys (polygon_keys b) cb.ascending.polygons);
+    polygons = search (rules, there_and_back, key_keys, apart_from_sorted);
     lands = there_and_back nat_keys r.lands (lands a) (lands b) h.numbers.lands
         (apart_from_sorted nat_keys (lands b) cb.ascending.landmarks);
     nodes = there_and_back nat_keys r.nodes (nodes a) (nodes b) h.numbers.nodes (apart-distinct nat_keys (nodes_along b.chains));
@@ -378,8 +370,7 @@ module _ (r : Renumbering) (a b : County) (ca : IsCounty a) (cb : IsCounty b) (h
 pub paired_on : {K : Type 0} {cmp : K → K → Ordering} (o : IsKeyOrder cmp) (ps qs : List (K × K)) (olds mids news : List K)
     → IsApart cmp mids → ArePaired ps olds mids → ArePaired qs mids news → ArePaired (composed cmp ps qs) olds news
 paired_on {K} {cmp} o ps qs olds mids news a g h =
-    let next : (k : K) → Known cmp (rights ps) k → Known cmp (lefts qs) k =
-    λ k l. known-permutation o k (lefts qs) mids h.left (known-permutation_to o k (rights ps) mids g.right l) in
+    let next : (k : K) → Known cmp (rights ps) k → Known cmp (lefts qs) k = search (rules, known-permutation, known-permutation_to) in
     let e : composed cmp ps qs ≡ followed o ps qs = joined-followed o ps qs next in
     let middle : IsPermutation (rights ps) (lefts qs) =
     IsPermutation-trans (rights ps) mids (lefts qs) g.right (IsPermutation-sym (lefts qs) mids h.left) in
@@ -432,8 +423,7 @@ module _ (r q : Renumbering) (a b c : County) (ca : IsCounty a) (cb : IsCounty b
   then_follows = record {
     chains = images_on nat_keys r.chains q.chains (tlids a) (tlids b) (tlids c) h.numbers.chains k.numbers.chains;
     names = images_on nat_keys r.names q.names (feats a) (feats b) (feats c) h.numbers.names k.numbers.names;
-    polygons = images_on key_keys r.polygons q.polygons (polygon_keys a) (polygon_keys b)
-        (polygon_keys c) h.numbers.polygons k.numbers.polygons;
+    polygons = search (rules, images_on, key_keys);
     lands = images_on nat_keys r.lands q.lands (lands a) (lands b) (lands c) h.numbers.lands k.numbers.lands;
     nodes = images_on nat_keys r.nodes q.nodes (nodes a) (nodes b) (nodes c) h.numbers.nodes k.numbers.nodes;
     turned = turned_on;
@@ -448,12 +438,9 @@ module _ (r q : Renumbering) (a b c : County) (ca : IsCounty a) (cb : IsCounty b
       let f : PartsFollow q r (then r q) a = parts_follow q r (then r q) a ca.closed then_follows in
       record {
         numbers = record {
-          chains = paired_on nat_keys r.chains q.chains (tlids a) (tlids b) (tlids c)
-              (apart_from_sorted nat_keys (tlids b) cb.ascending.chains) h.numbers.chains k.numbers.chains;
-          names = paired_on nat_keys r.names q.names (feats a) (feats b) (feats c)
-              (apart_from_sorted nat_keys (feats b) cb.ascending.names) h.numbers.names k.numbers.names;
-          polygons = paired_on key_keys r.polygons q.polygons (polygon_keys a) (polygon_keys b) (polygon_keys c)
-              (apart_from_sorted key_keys (polygon_keys b) cb.ascending.polygons) h.numbers.polygons k.numbers.polygons;
+          chains = search (rules, paired_on, nat_keys, apart_from_sorted);
+          names = search (rules, paired_on, nat_keys, apart_from_sorted);
+          polygons = search (rules, paired_on, key_keys, apart_from_sorted);
           lands = paired_on nat_keys r.lands q.lands (lands a) (lands b) (lands c)
               (apart_from_sorted nat_keys (lands b) cb.ascending.landmarks) h.numbers.lands k.numbers.lands;
           nodes = paired_on nat_keys r.nodes q.nodes (nodes a) (nodes b) (nodes c)
@@ -473,10 +460,8 @@ module _ (r q : Renumbering) (a b c : County) (ca : IsCounty a) (cb : IsCounty b
         };
         chains = forth (carried_chain r) (carried_chain q) (carried_chain (then r q)) a.chains b.chains c.chains f.chains h.chains k.chains;
         names = forth (carried_name r) (carried_name q) (carried_name (then r q)) a.names b.names c.names f.names h.names k.names;
-        polygons = forth (carried_polygon r) (carried_polygon q)
-            (carried_polygon (then r q)) a.polygons b.polygons c.polygons f.polygons h.polygons k.polygons;
-        landmarks = forth (carried_landmark r) (carried_landmark q)
-            (carried_landmark (then r q)) a.landmarks b.landmarks c.landmarks f.landmarks h.landmarks k.landmarks;
+        polygons = search (rules, forth);
+        landmarks = search (rules, forth);
         links = forth (carried_link r) (carried_link q) (carried_link (then r q)) a.links b.links c.links f.links h.links k.links;
       }
 

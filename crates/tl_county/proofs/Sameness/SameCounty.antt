@@ -48,8 +48,7 @@ module _ (xs ys : List Record) (p : IsPermutation xs ys) (linked : IsLinked xs) 
 
   links_same : (n : ℕ) → of_number i_tlid n (of_type_i xs) ≡ of_number i_tlid n (of_type_i ys)
   links_same n = few_same (of_number i_tlid n (of_type_i xs)) (of_number i_tlid n (of_type_i ys))
-      (let t : times nat_cmp n (map i_tlid (of_type_i xs)) ≡ length (of_number i_tlid n (of_type_i xs)) =
-      times-of_number i_tlid n (of_type_i xs) in
+      (let t : times nat_cmp n (map i_tlid (of_type_i xs)) ≡ length (of_number i_tlid n (of_type_i xs)) = search (rules, times-of_number) in
       let u : times nat_cmp n (map i_tlid (of_type_i xs)) ≤ 1 =
       ltb-false 1 (times nat_cmp n (map i_tlid (of_type_i xs))) (linked (LinkTwice n)) in omega arith)
       (same-filter (λ l. l.tlid == n) (of_type_i xs) (of_type_i ys) (same TypeI))
@@ -62,7 +61,7 @@ module _ (xs ys : List Record) (p : IsPermutation xs ys) (linked : IsLinked xs) 
   body_same k = ap (λ qs. first (map (λ (q : FieldsP). q.body) qs))
       (few_same (filter (λ q. is_eq (key_cmp k (p_key q))) (of_type_p xs)) (filter (λ q. is_eq (key_cmp k (p_key q))) (of_type_p ys))
       (let t : times key_cmp k (map p_key (of_type_p xs)) ≡ length (filter (λ q. is_eq (key_cmp k (p_key q))) (of_type_p xs)) =
-      count-map (λ j. is_eq (key_cmp k j)) p_key (of_type_p xs) in
+      search (rules, count-map) in
       let u : times key_cmp k (map p_key (of_type_p xs)) ≤ 1 =
       ltb-false 1 (times key_cmp k (map p_key (of_type_p xs))) (linked (PolygonTwice k.0 k.1)) in omega arith)
       (same-filter (λ q. is_eq (key_cmp k (p_key q))) (of_type_p xs) (of_type_p ys) (same TypeP)))
