@@ -51,21 +51,6 @@ nodes-chains_along twos fours sixes (r ∷ rs) (l ∷ ls) e = let rest : map one
     ap (λ n. link_nodes l ++ n) (nodes-chains_along twos fours sixes rs ls rest)
 
 module _ (t : Typed) (order : AreInOrder t) where
-  pub twos-in_order : IsInOrder (on two_tlid nat_cmp) t.of_type_2
-  twos-in_order = in_order-first (on two_tlid nat_cmp) (on two_rtsq nat_cmp) t.of_type_2 order.type_2
-
-  pub fours-in_order : IsInOrder (on four_tlid nat_cmp) t.of_type_4
-  fours-in_order = in_order-first (on four_tlid nat_cmp) (on four_rtsq nat_cmp) t.of_type_4 order.type_4
-
-  pub sixes-in_order : IsInOrder (on six_tlid nat_cmp) t.of_type_6
-  sixes-in_order = in_order-first (on six_tlid nat_cmp) (on six_rtsq nat_cmp) t.of_type_6 order.type_6
-
-  pub sevens-in_order : IsInOrder (on seven_land nat_cmp) t.of_type_7
-  sevens-in_order = in_order-first (on seven_land nat_cmp) (λ a b. landmark_body_cmp a.body b.body) t.of_type_7 order.type_7
-
-  pub eights-in_order : IsInOrder (on eight_land nat_cmp) t.of_type_8
-  eights-in_order = in_order-first (on eight_land nat_cmp) (on link_part link_part_cmp) t.of_type_8 order.type_8
-
   module _ (linked : IsLinked (type_after_type t)) where
     ordered : AreInOrder (by_type (type_after_type t))
     ordered = subst AreInOrder (sym (by_type_of t)) order

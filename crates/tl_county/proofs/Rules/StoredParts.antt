@@ -2,6 +2,7 @@
 use Rattle.std.proofs.Common.{◌≡◌, ℕ, zero, suc, List, [], ◌∷◌, map, flat_map, refl, sym, ap, ◌∙◌, subst, slice_get, Option, Some, IfSome, option_map, unwrap_or, nat_cmp}
 use Rattle.tl_county.proofs.Common.{Body5, Fields5, LandmarkParts, LinksUnderLands, Typed, county_along, eight_land, entries-equal}
 use Rattle.tl_county.proofs.Common.{entry_keys, entry_values, five_feat, keys-map_values, landmark_entry, map-map, map_values}
+use Rattle.tl_county.proofs.Common.{distinct-in_order, nat_keys}
 use Rattle.tl_county.proofs.Common.{map_values-id, of_number, value_under, values-map_values}
 use Rattle.std.specs.List.Sorted.{IsStrictlySortedBy}
 use Rattle.tl_county.proofs.Rules.BuiltTables.{bodies-under, lands-kept, links-under}
@@ -54,3 +55,6 @@ module _ (land : ℕ) (kept : List (ℕ × LandmarkParts)) {found : Option Landm
   links-found strict under = ap (λ o. (unwrap_or o without).links) as_kept
       ∙ links-under land (map_values (λ l. l) kept)
       (subst (IsStrictlySortedBy nat_cmp) (sym (lands-kept (map_values (λ l. l) kept))) strict) under
+
+-- what the calls of a stored county need
+pub ruleset stored_parts = (keys-kept, lands-kept-in, value-at-kept, found-in, map_values-id, distinct-in_order, nat_keys)

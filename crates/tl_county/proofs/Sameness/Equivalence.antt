@@ -474,3 +474,6 @@ same-symmetric a b ca cb s = record { by = inverse s.by; carries = inverse_carri
 
 pub same-transitive : (a b c : County) → IsCounty a → IsCounty b → AreSame a b → AreSame b c → AreSame a c
 same-transitive a b c ca cb s t = record { by = then s.by t.by; carries = then_carries s.by t.by a b c ca cb s.carries t.carries }
+
+-- the three laws, for the function that states them
+pub ruleset laws_of_sameness = (same-reflexive, same-symmetric, same-transitive)
