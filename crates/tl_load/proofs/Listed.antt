@@ -1,4 +1,5 @@
 -- A loader of a list of records is a loader over a collector that holds that list.
+use Rattle.std.proofs.Common.{rules}
 use Rattle.std.proofs.Common.{◌≡◌, ℕ, List, Option, Some, None, Result, Ok, Err, refl, sym, subst}
 use Rattle.std.proofs.Common.{Vec, Global}
 use Rattle.std.specs.Prelude.{MatchOption, IfOk, IfSome, IfErr, OnOk}
@@ -23,24 +24,11 @@ IsListed l = l.fault ≡ None → AreCounted l.counts l.kept.items
 
 pub into_of : (limit : ℕ) (l : LoadedInto Records) (closed : List (List ℕ)) (open_part : List ℕ) → IsListed l
     → WasFed limit (listed l) closed open_part → WasFedInto holds_list limit l closed open_part
-into_of limit l closed open_part counted w = record { limit_is = w.limit_is; comes = go l.fault refl w.comes }
-  where
-    go : (o : Option LoadFault) → l.fault ≡ o → MatchOption o (HasLoaded limit (listed l) closed open_part) (λ f. IsOfLines f
-        → IsFaultHowever limit closed open_part f)
-        → MatchOption o ((records : List Record) × AreKept holds_list l records × HasLoaded limit (seen l records) closed open_part)
-        (λ f. IsOfLines f → IsFaultHowever limit closed open_part f)
-    go None e h = (l.kept.items, record { held = refl; counted = counted e }, h)
-    go (Some f) e h = h
+into_of limit l closed open_part counted w = search rules
 
 pub of_into : (limit : ℕ) (l : LoadedInto Records) (closed : List (List ℕ)) (open_part : List ℕ)
     → WasFedInto holds_list limit l closed open_part → WasFed limit (listed l) closed open_part
-of_into limit l closed open_part w = record { limit_is = w.limit_is; comes = go l.fault w.comes }
-  where
-    go : (o : Option LoadFault) → MatchOption o ((records : List Record) × AreKept holds_list l records
-        × HasLoaded limit (seen l records) closed open_part) (λ f. IsOfLines f → IsFaultHowever limit closed open_part f)
-        → MatchOption o (HasLoaded limit (listed l) closed open_part) (λ f. IsOfLines f → IsFaultHowever limit closed open_part f)
-    go None h = subst (λ (rs : List Record). HasLoaded limit (seen l rs) closed open_part) (sym h.1.held) h.2
-    go (Some f) h = h
+of_into limit l closed open_part w = search rules
 
 some_of : (l : LoadedInto Records) → AreCounted l.counts l.kept.items → HasSome holds_list l
 some_of l counted = (l.kept.items, record { held = refl; counted = counted })
@@ -53,11 +41,7 @@ pub listed_after : {T : Type 0} (before after : LoadedInto Records) (result : Re
     → (HasSome holds_list before → OnOk result (HasSome holds_list after)) → IfErr result (λ f. after.fault ≡ Some f)
     → ((f : LoadFault) → before.fault ≡ Some f → result ≡ Err f) → IsListed after
 listed_after before after (Err f) was kept reported stood none = absurd cc
-listed_after {T} before after (Ok x) was kept reported stood none = go before.fault refl
-  where
-    go : (o : Option LoadFault) → before.fault ≡ o → AreCounted after.counts after.kept.items
-    go None e = counted_of after (kept (some_of before (was e)))
-    go (Some f) e = let never = stood f e in absurd cc
+listed_after {T} before after (Ok x) was kept reported stood none = search (rules, counted_of, some_of)
 
 pub at_fault : {A : Type 0} (P : A → Type 0) (o : Option A) (x : A) → o ≡ Some x → IfSome o P → P x
 at_fault P None x e h = absurd cc

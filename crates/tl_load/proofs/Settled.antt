@@ -1,4 +1,5 @@
 -- A line of more than 228 bytes is rejected, whatever follows these bytes.
+use Rattle.std.proofs.Common.{rules}
 use Rattle.std.proofs.Common.{◌≡◌, ℕ, ◌<◌, ◌≤◌, Bool, true, false, cond, List, [], ◌∷◌, ◌++◌, length, Result, Err, refl, sym, ap}
 use Rattle.std.proofs.Common.{◌∙◌, arith, eqb, lit≤}
 use Rattle.std.specs.Result.{IsErr}
@@ -25,9 +26,7 @@ use Rattle.tl_layout.specs.declared.layout.TheConstants.{LONGEST_LINE}
 too_long : {R : Type 0} (len : ℕ) (reading : List ℕ → Result R FieldFault) (wrap : R → Record) (line : List ℕ) → len ≤ LONGEST_LINE
     → LONGEST_LINE < length line → as_record wrap (judged_as len reading line) ≡ Err line_faults.LineTooLong
 unfolding judged_as
-too_long len reading wrap line low long =
-    ap (λ (b : Bool). as_record wrap (cond b (Err line_faults.LineTooLong) (judged_full reading (filled len line))))
-    (lt-ltb len (length line) (omega arith))
+too_long len reading wrap line low long = search (rules, lt-ltb)
 
 -- the fault of a line of more than 228 bytes, by its first byte and these types
 abbrev long_among : List ℕ → ℕ → Result Record LineFault
@@ -43,17 +42,7 @@ long_fault rtype = long_among types rtype
 
 long_by : (rtype : ℕ) (line : List ℕ) → LONGEST_LINE < length line → judged_by rtype line ≡ long_fault rtype
 unfolding judged_by long_fault
-long_by rtype line long =
-    let e49 = too_long LONGEST_LINE type_1_reading One line (lit≤ tt) long in
-    let e50 = too_long 208 type_2_reading Two line (lit≤ tt) long in
-    let e52 = too_long 58 type_4_reading Four line (lit≤ tt) long in
-    let e53 = too_long 56 type_5_reading Five line (lit≤ tt) long in
-    let e54 = too_long 76 type_6_reading Six line (lit≤ tt) long in
-    let e55 = too_long 74 type_7_reading Seven line (lit≤ tt) long in
-    let e56 = too_long 36 type_8_reading Eight line (lit≤ tt) long in
-    let e73 = too_long 127 type_i_reading I line (lit≤ tt) long in
-    let e80 = too_long 45 type_p_reading P line (lit≤ tt) long in
-    cc
+long_by rtype line long = search (rules, too_long)
 
 err_cond : (b : Bool) (x y : Result Record LineFault) → IsErr x → IsErr y → IsErr (cond b x y)
 err_cond true x y p q = p
@@ -78,5 +67,4 @@ judged_long (b ∷ line) long = is_err_along _ _ (long_by b (b ∷ line) long) (
 pub judged_settles : (line more : List ℕ) → LONGEST_LINE < length line → judged (line ++ more) ≡ judged line
 unfolding judged
 judged_settles [] more long = absurd (omega arith)
-judged_settles (b ∷ line) more long = long_by b (b ∷ line ++ more) (omega (arith, length-append (b ∷ line) more))
-    ∙ sym (long_by b (b ∷ line) long)
+judged_settles (b ∷ line) more long = search (rules, long_by, length-append)

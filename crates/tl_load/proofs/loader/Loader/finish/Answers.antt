@@ -28,6 +28,3 @@ returns-clause-fits c limit closed open_part w =
 pub returns-clause-only : goal.returns-clause-only
 returns-clause-only c limit closed open_part records w a =
     c.finish.ensures.only limit closed open_part records (fed c limit closed open_part w) a
-
-pub returns-clause-fault : goal.returns-clause-fault
-returns-clause-fault c limit closed open_part w = c.finish.ensures.fault limit closed open_part (fed c limit closed open_part w)

@@ -11,11 +11,6 @@ fed : (g : given.Over) (c : goal.After-read_part g) (limit : ℕ) (closed : List
     → WasFed limit c.args.self.now closed open_part → WasFedInto holds_list limit c.self.inside.inner closed open_part
 fed g c limit closed open_part w = into_of limit c.self.inside.inner closed open_part c.self.invariant (rw (← c.self.view_is) at w)
 
-pub invariant_of-self : goal.invariant_of-self
-invariant_of-self g c =
-    listed_after c.self.inside.inner c.read_part.new.self c.read_part.result c.self.invariant c.read_part.ensures.kept
-    c.read_part.ensures.reported (λ f e. (at_fault _ c.self.inside.inner.fault f e c.read_part.ensures.stood).0)
-
 read : (limit : ℕ) (l : LoadedInto Records) (at_end : Type 0) (closed : List (List ℕ)) (part : List ℕ) (r : Result (Unit {0}) LoadFault)
     → MatchResult r (λ _. at_end × WasFedInto holds_list limit l (closed ++ part ∷ []) [])
     (λ _. (at_end × WasFedInto holds_list limit l (closed ++ part ∷ []) []) ⊎ WasFedInto holds_list limit l closed part)
@@ -34,15 +29,3 @@ returns-clause-fed g c =
       λ limit closed open_part w. read limit c.read_part.new.self _ closed (open_part ++ r.0) c.read_part.result
           (r.3 limit closed open_part (fed g c limit closed open_part w)),
     )
-
-pub returns-clause-stops : goal.returns-clause-stops
-returns-clause-stops g c none =
-    let s = c.read_part.ensures.stops (ap (λ (l : Loaded). l.fault) c.self.view_is ∙ none) in
-    record {
-      last = s.last;
-      taken = s.taken;
-      gave = s.gave;
-      one_read = s.one_read;
-      should =
-          λ limit closed open_part w. s.should limit closed open_part (fed g c limit closed open_part w);
-    }

@@ -41,12 +41,3 @@ returns-in-None-clause-stops g c none =
       should = λ limit closed open_part w. well_after {T =
           Unit {0}} g.K.Collector.holds tt limit c.args.self.now s.should.after s.taken closed open_part none s.should.takes s.should.short w;
     }
-
-pub returns-in-None-clause-kept : goal.returns-in-None-clause-kept
-returns-in-None-clause-kept g c some =
-    let r = c.read_to_end-outcome.ensures.reads in
-    rw (c.latch.ensures.same, c.latch.ensures.stands)
-    (some_after g.K.Collector.holds
-    (ReadsPart r.0 (IsAtEnd
-    (g.R.Source.remaining c.read_to_end-outcome.new.source))) c.args.self.now c.read_to_end-outcome.new.self c.read_to_end-outcome.result
-    r.3 some)

@@ -27,20 +27,6 @@ loop-count-init g c =
       failures = refl;
     }
 
-pub returns-in-Err-clause-reads : goal.returns-in-Err-clause-reads
-returns-in-Err-clause-reads g c =
-    let r = c.loop-count.invariant.reads in (
-      r.0,
-      gave_kept _ _ _ _ _ _ r.1 c.in-Err.ensures.bytes c.in-Err.ensures.given,
-      omega (arith, r.2, c.loop-count.invariant.most),
-      λ records kept. (records, tt, λ is. absurd is),
-    )
-
-pub returns-in-Err-clause-stops : goal.returns-in-Err-clause-stops
-returns-in-Err-clause-stops g c =
-    let i = c.loop-count.invariant in
-    stopped g.R.Source.remaining g.R.Source.given g.R.Source.reads g.K.Collector.holds _ _ _ _ _ _ i.reads.1 i.reads.3 i.short c.in-Err.ensures.reads
-
 pub returns-then-count-eq0-clause-reads : goal.returns-then-count-eq0-clause-reads
 returns-then-count-eq0-clause-reads g c =
     let r = c.loop-count.invariant.reads in
@@ -64,11 +50,6 @@ returns-then-count-eq0-clause-reads g c =
                 (seen c.close_part.new.self u.0) r.0 _ c.close_part.result t.2 u.2 at_end,
           ),
     )
-
-pub returns-then-count-eq0-clause-stops : goal.returns-then-count-eq0-clause-stops
-returns-then-count-eq0-clause-stops g c =
-    let i = c.loop-count.invariant in
-    stopped g.R.Source.remaining g.R.Source.given g.R.Source.reads g.K.Collector.holds _ _ _ _ _ _ i.reads.1 i.reads.3 i.short c.in-Ok.ensures.reads
 
 pub loop-count-preserved : goal.loop-count-preserved
 loop-count-preserved g c =
@@ -121,8 +102,3 @@ returns-in_err-take_piece-clause-reads g c =
                 (seen c.take_piece.new.self u.0) r.0 piece _ _ t.2 u.2,
           ),
     )
-
-pub returns-in_err-take_piece-clause-stops : goal.returns-in_err-take_piece-clause-stops
-returns-in_err-take_piece-clause-stops g c =
-    let i = c.loop-count.invariant in
-    stopped g.R.Source.remaining g.R.Source.given g.R.Source.reads g.K.Collector.holds _ _ _ _ _ _ i.reads.1 i.reads.3 i.short c.in-Ok.ensures.reads
