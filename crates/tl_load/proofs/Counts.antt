@@ -1,21 +1,16 @@
 -- The counts of records of each type.
-use Rattle.std.proofs.Common.{rules}
-use Rattle.std.proofs.lemmas.Grind.{common_steps}
-use Rattle.std.proofs.Common.{◌≡◌, ℕ, ◌+◌, ◌<◌, ◌≤◌, Bool, false, cond, List, [], ◌∷◌, ◌++◌, length, get_or, set, replicate}
-use Rattle.std.proofs.Common.{Ok, Err, refl, sym, ap, ◌∙◌, arith, lit<, eqb, inl, inr}
-use Rattle.std.proofs.lemmas.Bool.{cases_eq, eq-eqb, ne_eqb, le-leb, lt-leb}
-use Rattle.std.proofs.lemmas.List.{length-set, get_or-set_same, get_or-set_other, get_or-replicate, length-replicate}
-use Rattle.std.proofs.lemmas.List.Elements.{All-nil}
-use Rattle.tl_layout.specs.declared.record_type.Record.{Record}
-use Rattle.tl_layout.specs.declared.record_type.Record.TheVariants.{One, Two, Four, Five, Six, Seven, Eight, I, P}
+use Rattle.std.proofs.Common.{rules, ◌≡◌, ℕ, ◌+◌, ◌<◌, ◌≤◌, Bool, false, cond, List, [], ◌∷◌, ◌++◌, length, get_or, set, replicate, Ok, Err}
+use Rattle.std.proofs.Common.{refl, sym, ap, ◌∙◌, arith, lit<, eqb}
+use Rattle.tl_load.proofs.Common.{All-nil, AreCounted, Eight, Five, Four, I, One, P, Record, Seven, Six, Two, cases_eq, common_steps}
+use Rattle.tl_load.proofs.Common.{count_of, eq-eqb, is_line_feed, le-leb, length-replicate, lt-leb, ne_eqb}
+use Rattle.std.proofs.lemmas.List.{length-set, get_or-set_same, get_or-set_other, get_or-replicate}
 use Rattle.tl_layout.specs.RecordText.{type_of}
-use Rattle.tl_load.specs.declared.fault.LoadFault.TheVariants as faults
-use Rattle.tl_load.specs.Lines.{is_line_feed}
-use Rattle.tl_load.specs.Outcome.{count_of, with_record}
+use Rattle.tl_load.specs.Outcome.{with_record}
 use Rattle.tl_load.specs.Choice.{tiger}
-use Rattle.tl_load.specs.Keeping.{AreCounted, IsLoader, total}
+use Rattle.tl_load.specs.Keeping.{IsLoader, total}
 use Rattle.tl_load.proofs.Reading.{count_push}
 use Rattle.tl_layout.specs.declared.record_type.TheConstants.{MOST_RECORDS}
+use Rattle.tl_load.specs.declared.fault.LoadFault.TheVariants as faults
 
 tiger_rtype : (r : Record) → tiger.rtype r ≡ type_of r
 unfolding tiger

@@ -1,24 +1,16 @@
 -- Cutting a set into parts: an empty part has no lines, and the bytes after the end of a line keep their lines.
-use Rattle.std.proofs.Common.{arith}
-use Rattle.std.proofs.lemmas.Grind.{common_steps}
-use Rattle.std.proofs.Common.{rules}
-use Rattle.std.proofs.Common.{◌≡◌, ◌↔◌, ℕ, ◌+◌, Bool, true, false, List, [], ◌∷◌, ◌++◌, map, refl, sym, ap, subst, ◌∙◌}
+use Rattle.std.proofs.Common.{arith, rules, ◌≡◌, ◌↔◌, ℕ, ◌+◌, Bool, true, false, List, [], ◌∷◌, ◌++◌, map, refl, sym, ap, subst, ◌∙◌}
 use Rattle.std.proofs.Common.{append_assoc, eqb}
-use Rattle.std.proofs.lemmas.List.{map-append}
+use Rattle.tl_load.proofs.Common.{All-nil, AreLinesSpelled, FaultAt, FieldKind, IsFaultOf, IsWithoutLineFeed, Judge, LineFault, LoadFault}
+use Rattle.tl_load.proofs.Common.{PlacedLine, Spells, common_steps, eqb-true, field_fault_at, flat_map-append, is_line_feed, lines}
+use Rattle.tl_load.proofs.Common.{map-append, of_limit, of_line, placed_lines}
 use Rattle.std.specs.List.{flat_map}
-use Rattle.std.proofs.lemmas.Bool.{eqb-true}
-use Rattle.std.proofs.lemmas.Grind.{flat_map-append}
-use Rattle.std.proofs.lemmas.List.Elements.{All-append, All-nil, All-cons}
-use Rattle.tl_layout.specs.declared.fault.FieldKind.{FieldKind}
-use Rattle.tl_layout.specs.declared.fault.FieldKind.TheVariants as kinds
-use Rattle.tl_load.specs.Lines.{is_line_feed, IsWithoutLineFeed, without_return, lines, HaveSameLines}
-use Rattle.tl_load.specs.Places.{PlacedLine, numbered_lines, lines_from_part, placed_lines}
-use Rattle.tl_load.specs.Verdicts.{Judge, field_fault_at, fault_at, without_place}
-use Rattle.tl_load.specs.Outcome.{AreLinesSpelled, Spells, IsFaultOf, of_line, of_limit, FaultAt}
-use Rattle.tl_load.specs.declared.fault.LineFault.{LineFault}
-use Rattle.tl_load.specs.declared.fault.LineFault.TheVariants as line_faults
-use Rattle.tl_load.specs.declared.fault.LoadFault.{LoadFault}
+use Rattle.tl_load.specs.Lines.{HaveSameLines}
+use Rattle.tl_load.specs.Places.{numbered_lines, lines_from_part}
+use Rattle.tl_load.specs.Verdicts.{fault_at, without_place}
 use Rattle.tl_load.proofs.LineLemmas.{lines_line, lines_none}
+use Rattle.tl_layout.specs.declared.fault.FieldKind.TheVariants as kinds
+use Rattle.tl_load.specs.declared.fault.LineFault.TheVariants as line_faults
 
 -- ---- what lines spell doesn't depend on their places
 

@@ -1,20 +1,9 @@
 -- A line padded with blanks.
-use Rattle.std.proofs.Common.{rules}
-use Rattle.std.proofs.Common.{◌≡◌, ℕ, ◌+◌, ◌-◌, ◌≤◌, Bool, true, false, cond, List, [], ◌∷◌, ◌++◌, length, get_or, take}
-use Rattle.std.proofs.Common.{replicate, Option, Some, None, refl, ap, ◌∙◌, append-nil, arith, ltb}
-use Rattle.std.specs.Prelude.{not, position}
-use Rattle.std.proofs.lemmas.Bool.{ltb-false, not-false}
-use Rattle.std.proofs.lemmas.List.{length-append, length-replicate, take-replicate}
-use Rattle.std.proofs.lemmas.List.Sums.{fails_before_first}
-use Rattle.tl_layout.specs.Bytes.{is_allowed, AreAllowed, IsLine}
-use Rattle.tl_load.specs.LineOf.{filled, first_bad}
-use Rattle.tl_load.proofs.LineLemmas.{take_past}
-
-pub take_filled : (len most : ℕ) (line : List ℕ) → length line ≤ len → len ≤ most → take len (filled most line) ≡ filled len line
-take_filled len most line short low =
-    let n : len ≡ length line + (len - length line) = omega arith in
-    ap (λ (k : ℕ). take k (filled most line)) n ∙ take_past line (replicate (most - length line) 32) (len - length line)
-    ∙ ap (λ (l : List ℕ). line ++ l) (take-replicate (len - length line) (most - length line) 32 (omega arith))
+use Rattle.std.proofs.Common.{rules, ◌≡◌, ℕ, ◌-◌, ◌≤◌, false, cond, List, [], ◌∷◌, length, take, Option, Some, None, append-nil, ltb}
+use Rattle.tl_load.proofs.Common.{IsLine, fails_before_first, filled, is_allowed, length-append, length-replicate, ltb-false, not}
+use Rattle.tl_load.proofs.Common.{not-false}
+use Rattle.std.specs.Prelude.{position}
+use Rattle.tl_layout.specs.Bytes.{AreAllowed}
 
 pub filled_full : (len : ℕ) (line : List ℕ) → length line ≡ len → filled len line ≡ line
 filled_full len line e = search (rules, append-nil)

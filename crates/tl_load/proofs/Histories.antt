@@ -1,30 +1,24 @@
 -- What a loader was fed after each call.
-use Rattle.std.proofs.lemmas.Grind.{common_steps}
-use Rattle.std.proofs.Common.{rules}
-use Rattle.std.proofs.Common.{◌≡◌, ℕ, ◌+◌, ◌≤◌, false, List, [], ◌∷◌, ◌++◌, length, map, replicate, Option, Some, None}
-use Rattle.std.proofs.Common.{Result, Ok, Err, refl, sym, ap, subst, ◌∙◌, append_assoc, append-nil, arith, inl, inr, ◌⊎◌}
-use Rattle.std.specs.Prelude.{MatchOption, MatchResult, IfErr, OnOk, All}
-use Rattle.std.proofs.lemmas.Grind.{flat_map-append}
-use Rattle.std.proofs.lemmas.List.{length-append, length-map}
-use Rattle.std.proofs.lemmas.List.Elements.{All-append, All-nil}
-use Rattle.tl_layout.specs.declared.record_type.Record.{Record}
-use Rattle.tl_load.specs.declared.fault.LoadFault.{LoadFault}
-use Rattle.tl_load.specs.declared.fault.LoadFault.TheVariants as faults
-use Rattle.tl_load.specs.Lines.{is_line_feed, IsWithoutLineFeed, without_return, lines}
-use Rattle.tl_load.specs.Places.{PlacedLine, numbered_lines, lines_from_part, placed_lines}
-use Rattle.tl_load.specs.Outcome.{SpellsWithin, FaultAt, ◌then_with◌, outcome_after, outcome}
-use Rattle.tl_load.specs.Choice.{tiger}
-use Rattle.tl_load.specs.Loaded.{Loaded, IsOfLines, IsFaultHowever, with_line_feeds, HasLoaded, IsWellSoFar}
-use Rattle.tl_load.specs.Loaded.{IsWellAfter, all_parts}
-use Rattle.tl_load.specs.Keeping.{LoadedInto, seen, AreKept, AreCounted, WasFedInto, HasSome, IsSamePart, Lifts}
-use Rattle.tl_load.specs.Steps.{to_come, to_end, TakesLines, Takes, Ends, IsPartClosed, Closes, ReadsPart, with_fault}
+use Rattle.std.proofs.Common.{rules, ◌≡◌, ℕ, ◌+◌, ◌≤◌, List, [], ◌∷◌, ◌++◌, length, map, replicate, Option, Some, None, Result, Ok, Err}
+use Rattle.std.proofs.Common.{refl, sym, ap, subst, ◌∙◌, append_assoc, append-nil, arith, inl, inr, ◌⊎◌}
+use Rattle.tl_load.proofs.Common.{All, AreCounted, Closes, Ends, FaultAt, IsOfLines, IsSamePart, IsWellAfter, IsWithoutLineFeed, LINE_BYTES}
+use Rattle.tl_load.proofs.Common.{Lifts, LoadFault, Loaded, LoadedInto, MatchOption, MatchResult, OnOk, PlacedLine, ReadsPart, Record}
+use Rattle.tl_load.proofs.Common.{SpellsWithin, Takes, TakesLines, WasFedInto, all_parts, common_steps, flat_map-append, length-append}
+use Rattle.tl_load.proofs.Common.{length-map, lines, outcome, placed_lines, seen, tiger, to_end, with_line_feeds, without_return}
+use Rattle.tl_load.proofs.Common.{◌then_with◌}
+use Rattle.std.specs.Prelude.{IfErr}
+use Rattle.tl_load.specs.Places.{numbered_lines, lines_from_part}
+use Rattle.tl_load.specs.Outcome.{outcome_after}
+use Rattle.tl_load.specs.Loaded.{IsFaultHowever, HasLoaded, IsWellSoFar}
+use Rattle.tl_load.specs.Keeping.{AreKept}
+use Rattle.tl_load.specs.Steps.{to_come, IsPartClosed, with_fault}
 use Rattle.tl_load.proofs.RecordLines.{tiger_is_sound}
 use Rattle.tl_load.proofs.Reading.{outcome_after-append, accepts_from_outcome, outcome_from_accepts, fault_from_outcome}
 use Rattle.tl_load.proofs.LineLemmas.{lines_none}
 use Rattle.tl_load.proofs.Counts.{none_counted}
 use Rattle.tl_load.proofs.Runs.{lines_after, numbered_lines-append, parts-append}
 use Rattle.tl_load.proofs.Steps.{comes_at_end}
-use Rattle.tl_load.specs.declared.loader_for.TheConstants.{LINE_BYTES}
+use Rattle.tl_load.specs.declared.fault.LoadFault.TheVariants as faults
 
 pub at_none : {A : Type 0} (P : Type 0) (Q : A → Type 0) (o : Option A) → o ≡ None → MatchOption o P Q → P
 at_none P Q None e h = h
@@ -106,10 +100,6 @@ comes_of limit l closed open_part more later same h =
     ap (λ (b : List ℕ). outcome tiger limit (closed ++ b ∷ later)) (ap (λ (b : List ℕ). b ++ more) h.lines_are.bytes_are
     ∙ append_assoc (with_line_feeds h.ended) l.unfinished more)
     ∙ comes_after limit l closed open_part (l.unfinished ++ more) later same h
-
-none_follow : (n k : ℕ) → numbered_lines n k (lines []) ++ lines_from_part (n + 1) [] ≡ []
-unfolding numbered_lines lines_from_part
-none_follow n k = ap (λ (l : List (List ℕ)). numbered_lines n k l ++ []) lines_none
 
 -- further lines that end are loaded
 loaded_more : (limit : ℕ) (before after : Loaded) (closed : List (List ℕ)) (open_part bytes : List ℕ) → before.limit ≡ limit
@@ -273,13 +263,6 @@ pub fed_standing : {K : Type 0} (holds : K → List Record → Type 0) (limit : 
     → WasFedInto holds limit l closed (open_part ++ piece)
 fed_standing holds limit l piece f closed open_part e w = search (rules, from_some, append_assoc, stands_at)
 
--- a loader without a fault is well so far
-pub well_into : {K : Type 0} (holds : K → List Record → Type 0) (limit : ℕ) (l : LoadedInto K) (closed : List (List ℕ)) (open_part : List ℕ)
-    → l.fault ≡ None → length l.unfinished ≤ LINE_BYTES → WasFedInto holds limit l closed open_part → IsWellSoFar limit closed open_part
-well_into holds limit l closed open_part none short w =
-    let h = has_of holds limit l closed open_part none w in
-    well_of limit (seen l h.records) closed open_part h.loaded short
-
 pub well_after : {K T : Type 0} (holds : K → List Record → Type 0) (x : T) (limit : ℕ) (before after : LoadedInto K) (piece : List ℕ)
     (closed : List (List ℕ)) (open_part : List ℕ) → before.fault ≡ None → Lifts holds (Takes piece) before (Ok x) after
     → length after.unfinished ≤ LINE_BYTES
@@ -298,13 +281,6 @@ pub well_of_step : {K T : Type 0} (holds : K → List Record → Type 0) (before
 well_of_step holds before after piece (Ok x) none takes short =
     λ limit closed open_part w. well_after holds x limit before after piece closed open_part none takes short w
 well_of_step holds before after piece (Err f) none takes short = tt
-
--- if a list was kept, one is kept after a step that was `Ok`
-pub some_after : {K T : Type 0} (holds : K → List Record → Type 0) (Step : Loaded → Result T LoadFault → Loaded → Type 0)
-    (before after : LoadedInto K) (result : Result T LoadFault) → Lifts holds Step before result after → HasSome holds before
-    → OnOk result (HasSome holds (with_fault result after))
-some_after holds Step before after (Ok x) lifts h = let t = lifts h.0 h.1 in (t.0, t.1)
-some_after holds Step before after (Err f) lifts h = tt
 
 -- ---- closed parts
 

@@ -1,13 +1,14 @@
 -- Bytes that are tested in vector lanes.
-use Rattle.std.proofs.Common.{rules}
-use Rattle.std.proofs.Common.{◌≡◌, ℕ, ◌+◌, ◌-◌, ◌%◌, ◌<◌, ◌≤◌, ◌*◌, Bool, true, false, cond, List, [], ◌∷◌, length, get_or}
-use Rattle.std.proofs.Common.{map, refl, ap, subst, ◌∙◌, ◌^◌, arith, ltb, leb, inl, inr, w8}
-use Rattle.std.specs.Prelude.{◌&&◌, ◌||◌}
-use Rattle.std.proofs.lemmas.Bool.{ltb-true, ltb-false, lt-ltb, le-leb, cases_lt, cond_both}
-use Rattle.std.proofs.lemmas.List.{get_or_default, get_or-map, length-map}
-use Rattle.std.proofs.lemmas.Simd.{get_or-chunk, length-chunk, Each1-get_or, tops_compared}
-use lib.Lanes.{chunk, mask_l, Each1, sel_l, top, zip2}
-use Rattle.tl_layout.specs.Bytes.{is_allowed, AreAllowed}
+use Rattle.std.proofs.Common.{rules, ◌≡◌, ℕ, ◌+◌, ◌-◌, ◌%◌, ◌<◌, ◌≤◌, ◌*◌, Bool, true, false, cond, List, [], ◌∷◌, length, get_or, map}
+use Rattle.std.proofs.Common.{refl, subst, ◌∙◌, ◌^◌, arith, ltb, w8}
+use Rattle.tl_load.proofs.Common.{Each1, cases_lt, chunk, get_or_default, is_allowed, le-leb, length-chunk, length-map, lt-ltb, ltb-false}
+use Rattle.tl_load.proofs.Common.{ltb-true, mask_l, zip2}
+use Rattle.std.specs.Prelude.{◌||◌}
+use Rattle.std.proofs.lemmas.Bool.{cond_both}
+use Rattle.std.proofs.lemmas.List.{get_or-map}
+use Rattle.std.proofs.lemmas.Simd.{get_or-chunk, Each1-get_or, tops_compared}
+use lib.Lanes.{sel_l, top}
+use Rattle.tl_layout.specs.Bytes.{AreAllowed}
 
 or_true : (x : Bool) → (x || true) ≡ true
 or_true true = refl

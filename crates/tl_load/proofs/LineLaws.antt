@@ -1,17 +1,14 @@
 -- A line is judged as the record that it spells.
-use Rattle.std.proofs.Common.{rules}
-use Rattle.std.proofs.Common.{◌≡◌, ℕ, ◌+◌, ◌≤◌, Bool, true, false, cond, List, [], ◌∷◌, length, get_or, take, Result, Ok, Err}
-use Rattle.std.proofs.Common.{refl, ap, ◌∙◌, arith, ltb}
-use Rattle.std.specs.Prelude.{not}
-use Rattle.std.proofs.Common.{◌<◌, subst, ◌↔◌}
-use Rattle.std.proofs.lemmas.Bool.{ltb-true, ltb-false, lt-ltb, le-ltb, not_from_true, not-false, not-true}
-use Rattle.std.proofs.lemmas.List.Sums.{fails_before_first, passes_at_first, position_or_len_is}
-use Rattle.tl_layout.specs.Bytes.{is_allowed, AreAllowed, IsLine}
-use Rattle.tl_layout.specs.declared.fault.FieldFault.{FieldFault}
-use Rattle.tl_load.specs.declared.fault.LineFault.{LineFault}
-use Rattle.tl_load.specs.declared.fault.LineFault.TheVariants as line_faults
-use Rattle.tl_load.specs.LineOf.{filled, first_bad, IsLineOf, IsLeftmostBadByte, IsFaultIn, of_reading, judged_full, judged_as}
+use Rattle.std.proofs.Common.{rules, ◌≡◌, ℕ, ◌+◌, ◌≤◌, Bool, true, false, cond, List, [], ◌∷◌, length, get_or, take, Result, Ok, Err, refl}
+use Rattle.std.proofs.Common.{ap, ◌∙◌, arith, ltb, ◌<◌, ◌↔◌}
+use Rattle.tl_load.proofs.Common.{FieldFault, IsFaultIn, IsLine, IsLineOf, LineFault, fails_before_first, filled, is_allowed, le-ltb}
+use Rattle.tl_load.proofs.Common.{lt-ltb, ltb-false, ltb-true, not, not-false}
+use Rattle.std.proofs.lemmas.Bool.{not_from_true, not-true}
+use Rattle.std.proofs.lemmas.List.Sums.{passes_at_first, position_or_len_is}
+use Rattle.tl_layout.specs.Bytes.{AreAllowed}
+use Rattle.tl_load.specs.LineOf.{first_bad, IsLeftmostBadByte, of_reading, judged_full, judged_as}
 use Rattle.tl_load.proofs.Filling.{begins_filled, length_filled}
+use Rattle.tl_load.specs.declared.fault.LineFault.TheVariants as line_faults
 
 -- what a layout promises about its reading and the lines that spell its records
 pub record Reading {R : Type 0} (rtype len : ℕ) (reading : List ℕ → Result R FieldFault) (Spells : List ℕ → R → Type 0) : Type 0 where

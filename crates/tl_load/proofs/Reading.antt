@@ -1,17 +1,14 @@
 -- Processing the lines one after another yields the records that they spell, or the first fault.
-use Rattle.std.proofs.Common.{rules}
-use Rattle.std.proofs.Common.{◌≡◌, ℕ, ◌+◌, ◌<◌, ◌≤◌, Bool, true, false, cond, List, [], ◌∷◌, ◌++◌, map, Result, Ok, Err, refl}
-use Rattle.std.proofs.Common.{sym, ap, subst, ◌∙◌, append_assoc, append-nil, arith, inl, inr, eqb, leb, ◌⊎◌, ◌+◌}
-use Rattle.std.specs.Prelude.{MatchResult}
-use Rattle.std.proofs.lemmas.Bool.{leb-true, leb-false, le-leb, lt-leb, eq-eqb, cases_eq, ne_eqb}
+use Rattle.std.proofs.Common.{rules, ◌≡◌, ℕ, ◌+◌, ◌<◌, ◌≤◌, Bool, true, false, cond, List, [], ◌∷◌, ◌++◌, map, Result, Ok, Err, refl, sym}
+use Rattle.std.proofs.Common.{ap, subst, ◌∙◌, append_assoc, append-nil, arith, inl, inr, eqb, leb, ◌⊎◌, ◌+◌}
+use Rattle.tl_load.proofs.Common.{AreLinesSpelled, FaultAt, IsFaultOf, Judge, LineFault, LoadFault, MatchResult, PlacedLine, Spells}
+use Rattle.tl_load.proofs.Common.{SpellsWithin, after_verdict, cases_eq, count_of, eq-eqb, le-leb, lt-leb, ne_eqb, of_limit, of_line}
+use Rattle.tl_load.proofs.Common.{outcome, placed_lines, ◌then_with◌}
+use Rattle.std.proofs.lemmas.Bool.{leb-true, leb-false}
 use Rattle.std.proofs.lemmas.List.Sums.{sum_by-append}
-use Rattle.tl_load.specs.declared.fault.LineFault.{LineFault}
-use Rattle.tl_load.specs.declared.fault.LoadFault.{LoadFault}
+use Rattle.tl_load.specs.Verdicts.{fault_at}
+use Rattle.tl_load.specs.Outcome.{IsWithinLimitBy, IsSpelled, IsFaulty, next, outcome_after}
 use Rattle.tl_load.specs.declared.fault.LoadFault.TheVariants as faults
-use Rattle.tl_load.specs.Places.{PlacedLine, placed_lines}
-use Rattle.tl_load.specs.Verdicts.{Judge, fault_at}
-use Rattle.tl_load.specs.Outcome.{count_of, IsWithinLimitBy, AreLinesSpelled, Spells, SpellsWithin, IsFaultOf, of_line, of_limit, FaultAt}
-use Rattle.tl_load.specs.Outcome.{IsSpelled, IsFaulty, ◌then_with◌, after_verdict, next, outcome_after, outcome}
 
 -- ---- verdicts
 
@@ -178,12 +175,6 @@ below_before judge limit records r more h =
     let first = sum_by-append (λ s. cond (eqb (judge.rtype s) (judge.rtype r)) 1 0) (r ∷ []) more in
     let one : count_of judge (judge.rtype r) (r ∷ []) ≡ 0 + 1 = ap (λ (z : Bool). 0 + cond z 1 0) b in
     omega (arith, e, first, one, all)
-
-pub within_front : {R : Type 0} (judge : Judge R) (limit : ℕ) (a b : List R) → IsWithinLimitBy judge limit (a ++ b)
-    → IsWithinLimitBy judge limit a
-within_front judge limit a b h t =
-    let e = sum_by-append (λ s. cond (eqb (judge.rtype s) t) 1 0) a b in
-    let all = h t in omega (arith, e, all)
 
 -- ---- many lines
 

@@ -1,28 +1,23 @@
 -- A line is judged as the record that it has, and that record fits.
-use Rattle.std.proofs.Common.{rules}
-use Rattle.std.specs.Prelude.{All}
-use Rattle.std.proofs.lemmas.List.Elements.{All-nil, All-cons}
-use Rattle.tl_layout.specs.Limits.{IsWithinLimit}
-use Rattle.std.proofs.Common.{◌≡◌, ◌⊎◌, ℕ, Bool, true, false, cond, List, [], ◌∷◌, take, Result, Ok, Err, refl, sym, ap, ◌∙◌, eqb}
+use Rattle.std.proofs.Common.{rules, ◌≡◌, ◌⊎◌, ℕ, Bool, true, false, cond, List, [], ◌∷◌, take, Result, Ok, Err, refl, sym, ap, ◌∙◌, eqb}
 use Rattle.std.proofs.Common.{subst, inl, inr}
+use Rattle.tl_load.proofs.Common.{All, All-nil, AreLinesSpelled, FitsRecord, IsFaultIn, IsLineOf, LineFault, PlacedLine, Record, Spells}
+use Rattle.tl_load.proofs.Common.{SpellsWithin, as_record, eqb-true, ne_eqb, placed_lines, type_of}
+use Rattle.std.proofs.lemmas.List.Elements.{All-cons}
+use Rattle.tl_layout.specs.Limits.{IsWithinLimit}
 use Rattle.std.specs.List.{AllByRecursion}
-use Rattle.std.proofs.lemmas.Bool.{eqb-true, eqb-false, ne_eqb}
+use Rattle.std.proofs.lemmas.Bool.{eqb-false}
 use Rattle.tl_layout.specs.FieldFaults.{IsLeftmostFault}
-use Rattle.tl_layout.specs.RecordText.{type_of, FitsRecord}
 use Rattle.tl_layout.specs.RecordTypes.{RecordType, Type1, Type2, Type4, Type5, Type6, Type7, Type8, TypeI, TypeP, types, FieldsOf, byte_of}
 use Rattle.tl_layout.specs.RecordTypes.{line_length, table_of, SpellsFields, reading_of, record_of}
 use Rattle.tl_layout.specs.Laws.RecordTypeLaws.{every_record, type_of_record, record_exact, layout_laws}
-use Rattle.tl_layout.specs.declared.record_type.Record.{Record}
-use Rattle.tl_load.specs.declared.fault.LineFault.{LineFault}
-use Rattle.tl_load.specs.declared.fault.LineFault.TheVariants as line_faults
-use Rattle.tl_load.specs.LineOf.{IsLineOf, IsFaultIn, judged_as}
-use Rattle.tl_load.specs.Choice.{as_record, judged_by, judged, tiger}
-use Rattle.tl_load.specs.Places.{PlacedLine, placed_lines}
-use Rattle.tl_load.specs.Outcome.{AreLinesSpelled, Spells, SpellsWithin}
+use Rattle.tl_load.specs.LineOf.{judged_as}
+use Rattle.tl_load.specs.Choice.{judged_by, judged, tiger}
 use Rattle.tl_load.proofs.Reading.{IsSound}
-use Rattle.tl_load.specs.RecordLine.{HasRecord, record_types, BeginsWith, IsFaultOfLine, of_no_type, of_type_1, of_type_2}
-use Rattle.tl_load.specs.RecordLine.{of_type_4, of_type_5, of_type_6, of_type_7, of_type_8, of_type_i, of_type_p}
+use Rattle.tl_load.specs.RecordLine.{HasRecord, record_types, BeginsWith, IsFaultOfLine, of_no_type, of_type_1, of_type_2, of_type_4}
+use Rattle.tl_load.specs.RecordLine.{of_type_5, of_type_6, of_type_7, of_type_8, of_type_i, of_type_p}
 use Rattle.tl_load.proofs.LineLaws.{Reading, judged_is_line, line_is_judged, line_fits, judged_fault_found, judged_fault_only}
+use Rattle.tl_load.specs.declared.fault.LineFault.TheVariants as line_faults
 
 -- ---- the layouts
 

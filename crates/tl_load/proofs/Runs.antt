@@ -1,10 +1,7 @@
 -- Lines that have ended, and the consecutive numbers of lines and parts.
-use Rattle.std.proofs.Common.{rules}
-use Rattle.std.proofs.Common.{◌≡◌, ℕ, suc, ◌+◌, List, [], ◌∷◌, ◌++◌, length, map, refl, sym, ap, ◌∙◌, append_assoc, arith}
-use Rattle.std.specs.Prelude.{All}
-use Rattle.tl_load.specs.Lines.{IsWithoutLineFeed, without_return, lines}
-use Rattle.tl_load.specs.Places.{PlacedLine, numbered_lines, lines_from_part}
-use Rattle.tl_load.specs.Loaded.{with_line_feeds}
+use Rattle.std.proofs.Common.{rules, ◌≡◌, ℕ, suc, ◌+◌, List, [], ◌∷◌, ◌++◌, length, map, refl, ap, ◌∙◌, append_assoc, arith}
+use Rattle.tl_load.proofs.Common.{All, IsWithoutLineFeed, lines, with_line_feeds, without_return}
+use Rattle.tl_load.specs.Places.{numbered_lines, lines_from_part}
 use Rattle.tl_load.proofs.LineLemmas.{lines_line}
 
 pub first_of : {A : Type 0} (P : A → Type 0) (x : A) (xs : List A) → All P (x ∷ xs) → P x

@@ -1,27 +1,9 @@
 -- A line of more than 228 bytes is rejected, whatever follows these bytes.
-use Rattle.std.proofs.Common.{rules}
-use Rattle.std.proofs.Common.{◌≡◌, ℕ, ◌<◌, ◌≤◌, Bool, true, false, cond, List, [], ◌∷◌, ◌++◌, length, Result, Err, refl, sym, ap}
-use Rattle.std.proofs.Common.{◌∙◌, arith, eqb, lit≤}
-use Rattle.std.specs.Result.{IsErr}
-use Rattle.std.proofs.lemmas.Bool.{lt-ltb}
-use Rattle.std.proofs.lemmas.List.{length-append}
-use Rattle.tl_layout.specs.declared.fault.FieldFault.{FieldFault}
-use Rattle.tl_layout.specs.declared.record_type.Record.{Record}
-use Rattle.tl_layout.specs.declared.record_type.Record.TheVariants.{One, Two, Four, Five, Six, Seven, Eight, I, P}
-use Rattle.tl_layout.specs.Type1.{type_1_reading}
-use Rattle.tl_layout.specs.Type2.{type_2_reading}
-use Rattle.tl_layout.specs.Type4.{type_4_reading}
-use Rattle.tl_layout.specs.Type5.{type_5_reading}
-use Rattle.tl_layout.specs.Type6.{type_6_reading}
-use Rattle.tl_layout.specs.Type7.{type_7_reading}
-use Rattle.tl_layout.specs.Type8.{type_8_reading}
-use Rattle.tl_layout.specs.TypeI.{type_i_reading}
-use Rattle.tl_layout.specs.TypeP.{type_p_reading}
-use Rattle.tl_load.specs.declared.fault.LineFault.{LineFault}
+use Rattle.std.proofs.Common.{rules, ◌≡◌, ℕ, ◌<◌, ◌≤◌, Bool, true, false, cond, List, [], ◌∷◌, ◌++◌, length, Result, Err, refl, arith, eqb}
+use Rattle.tl_load.proofs.Common.{FieldFault, IsErr, LONGEST_LINE, LineFault, Record, as_record, length-append, lt-ltb}
+use Rattle.tl_load.specs.LineOf.{judged_as}
+use Rattle.tl_load.specs.Choice.{judged_by, judged}
 use Rattle.tl_load.specs.declared.fault.LineFault.TheVariants as line_faults
-use Rattle.tl_load.specs.LineOf.{judged_as, judged_full, filled}
-use Rattle.tl_load.specs.Choice.{as_record, judged_by, judged}
-use Rattle.tl_layout.specs.declared.layout.TheConstants.{LONGEST_LINE}
 
 too_long : {R : Type 0} (len : ℕ) (reading : List ℕ → Result R FieldFault) (wrap : R → Record) (line : List ℕ) → len ≤ LONGEST_LINE
     → LONGEST_LINE < length line → as_record wrap (judged_as len reading line) ≡ Err line_faults.LineTooLong

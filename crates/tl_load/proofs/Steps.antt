@@ -1,32 +1,23 @@
 -- The loader's steps, for a loader of a list of records.
-use Rattle.std.proofs.lemmas.Grind.{common_steps}
-use Rattle.std.proofs.Common.{rules}
-use Rattle.std.proofs.Common.{◌≡◌, ℕ, ◌+◌, ◌<◌, ◌≤◌, false, List, [], ◌∷◌, ◌++◌, length, map, Result, Ok, Err, refl, sym, ap}
-use Rattle.std.proofs.Common.{subst, ◌∙◌, append_assoc, append-nil, arith, inl, inr}
-use Rattle.std.specs.Prelude.{OnOk}
-use Rattle.std.specs.Result.{IsErr}
-use Rattle.std.proofs.lemmas.Grind.{flat_map-append}
-use Rattle.std.proofs.lemmas.List.{length-append, length-map, map-append}
-use Rattle.std.proofs.lemmas.List.Elements.{All-append, All-nil, All-cons}
-use Rattle.tl_layout.specs.declared.record_type.Record.{Record}
-use Rattle.tl_layout.specs.declared.fault.FieldKind.{FieldKind}
-use Rattle.tl_layout.specs.declared.fault.FieldKind.TheVariants as kinds
-use Rattle.tl_load.specs.declared.fault.LineFault.{LineFault}
-use Rattle.tl_load.specs.declared.fault.LineFault.TheVariants as line_faults
-use Rattle.tl_load.specs.declared.fault.LoadFault.{LoadFault}
-use Rattle.tl_load.specs.Lines.{is_line_feed, IsWithoutLineFeed, without_return, last_line, lines}
-use Rattle.tl_load.specs.Places.{PlacedLine, numbered_lines, lines_from_part}
-use Rattle.tl_load.specs.Verdicts.{fault_at, field_fault_at}
-use Rattle.tl_load.specs.Outcome.{◌then_with◌, after_verdict, next, outcome_after}
-use Rattle.tl_load.specs.Choice.{tiger, judged}
-use Rattle.tl_load.specs.Loaded.{Loaded, IsNotDevice, with_line_feeds}
-use Rattle.tl_load.specs.Steps.{to_come, to_end, TakesLines, Takes, LeavesRest, next_place, Judges, Ends}
-use Rattle.tl_load.specs.Steps.{Closes, ReadsPart}
+use Rattle.std.proofs.Common.{rules, ◌≡◌, ℕ, ◌+◌, ◌<◌, ◌≤◌, List, [], ◌∷◌, ◌++◌, length, map, Result, Ok, Err, refl, sym, ap, subst, ◌∙◌}
+use Rattle.std.proofs.Common.{append_assoc, append-nil, arith, inl, inr}
+use Rattle.tl_load.proofs.Common.{Closes, Ends, FieldKind, IsErr, IsWithoutLineFeed, LONGEST_LINE, LineFault, LoadFault, Loaded, OnOk}
+use Rattle.tl_load.proofs.Common.{PlacedLine, ReadsPart, Record, Takes, TakesLines, after_verdict, common_steps, field_fault_at}
+use Rattle.tl_load.proofs.Common.{flat_map-append, judged, length-append, length-map, lines, map-append, to_end, with_line_feeds}
+use Rattle.tl_load.proofs.Common.{without_return, ◌then_with◌}
+use Rattle.tl_load.specs.Lines.{last_line}
+use Rattle.tl_load.specs.Places.{numbered_lines, lines_from_part}
+use Rattle.tl_load.specs.Verdicts.{fault_at}
+use Rattle.tl_load.specs.Outcome.{next, outcome_after}
+use Rattle.tl_load.specs.Choice.{tiger}
+use Rattle.tl_load.specs.Loaded.{IsNotDevice}
+use Rattle.tl_load.specs.Steps.{to_come, LeavesRest, next_place, Judges}
 use Rattle.tl_load.proofs.Reading.{outcome_after-append}
 use Rattle.tl_load.proofs.LineLemmas.{lines_line, lines_rest, lines_none, first_line_of, without_return_front}
 use Rattle.tl_load.proofs.Runs.{lines_after, numbered_lines-append}
 use Rattle.tl_load.proofs.Settled.{judged_long, judged_settles}
-use Rattle.tl_layout.specs.declared.layout.TheConstants.{LONGEST_LINE}
+use Rattle.tl_layout.specs.declared.fault.FieldKind.TheVariants as kinds
+use Rattle.tl_load.specs.declared.fault.LineFault.TheVariants as line_faults
 
 -- ---- bytes that were taken
 

@@ -1,18 +1,13 @@
 -- The canonical text of records is loaded as these records.
-use Rattle.std.proofs.Common.{rules}
-use Rattle.std.proofs.Common.{◌≡◌, ℕ, suc, ◌+◌, ◌-◌, ◌<◌, ◌≤◌, Bool, true, false, cond, List, [], ◌∷◌, ◌++◌, length, get_or, take, map}
-use Rattle.std.proofs.Common.{Result, Ok, Err, refl, sym, ap, subst, ◌∙◌, append_assoc, append-nil, arith, eqb}
-use Rattle.std.specs.Prelude.{All}
+use Rattle.std.proofs.Common.{rules, ◌≡◌, ℕ, suc, ◌+◌, ◌-◌, ◌<◌, ◌≤◌, true, false, List, [], ◌∷◌, ◌++◌, length, get_or, take, map, Result}
+use Rattle.std.proofs.Common.{Ok, refl, ap, ◌∙◌, append_assoc, append-nil, arith, eqb}
+use Rattle.tl_load.proofs.Common.{All, Eight, FieldFault, Five, Four, I, IsLine, IsWithoutLineFeed, One, P, Record, Seven, Six, Spells, Two}
+use Rattle.tl_load.proofs.Common.{as_record, eqb-true, false_from_ne_true, flat_map-append, is_allowed, judged, le-ltb, length-drop, lines}
+use Rattle.tl_load.proofs.Common.{placed_lines, text_of}
 use Rattle.canonical_lines.specs.SpeltLine.{with_version}
-use Rattle.std.proofs.lemmas.Grind.{flat_map-append}
-use Rattle.std.proofs.lemmas.List.{length-drop}
-use Rattle.std.proofs.lemmas.Bool.{le-ltb, false_from_ne_true, eqb-true}
-use Rattle.tl_layout.specs.Bytes.{is_allowed, AreAllowed, IsLine}
-use Rattle.tl_layout.specs.RecordText.{type_of, len_of, spelling_of, FitsRecord, text_of}
+use Rattle.tl_layout.specs.Bytes.{AreAllowed}
+use Rattle.tl_layout.specs.RecordText.{type_of, len_of, spelling_of, FitsRecord}
 use Rattle.tl_layout.specs.Laws.RecordLaws.{spelling_is_line}
-use Rattle.tl_layout.specs.declared.fault.FieldFault.{FieldFault}
-use Rattle.tl_layout.specs.declared.record_type.Record.{Record}
-use Rattle.tl_layout.specs.declared.record_type.Record.TheVariants.{One, Two, Four, Five, Six, Seven, Eight, I, P}
 use Rattle.tl_layout.specs.Type1.{type_1_reading}
 use Rattle.tl_layout.specs.Type2.{type_2_reading}
 use Rattle.tl_layout.specs.Type4.{type_4_reading}
@@ -22,19 +17,18 @@ use Rattle.tl_layout.specs.Type7.{type_7_reading}
 use Rattle.tl_layout.specs.Type8.{type_8_reading}
 use Rattle.tl_layout.specs.TypeI.{type_i_reading}
 use Rattle.tl_layout.specs.TypeP.{type_p_reading}
-use Rattle.tl_layout.specs.Laws.TypeLaws.{type_1_laws, type_2_laws, type_4_laws, type_5_laws, type_6_laws, type_7_laws, type_8_laws, type_i_laws, type_p_laws}
-use Rattle.tl_load.specs.declared.fault.LineFault.{LineFault}
-use Rattle.tl_load.specs.declared.fault.LineFault.TheVariants as line_faults
-use Rattle.tl_load.specs.Lines.{IsWithoutLineFeed, without_return, lines}
-use Rattle.tl_load.specs.Places.{PlacedLine, numbered_lines, lines_from_part, placed_lines}
-use Rattle.tl_load.specs.Outcome.{Spells}
+use Rattle.tl_layout.specs.Laws.TypeLaws.{type_1_laws, type_2_laws, type_4_laws, type_5_laws, type_6_laws, type_7_laws, type_8_laws}
+use Rattle.tl_layout.specs.Laws.TypeLaws.{type_i_laws, type_p_laws}
+use Rattle.tl_load.specs.Lines.{without_return}
+use Rattle.tl_load.specs.Places.{numbered_lines, lines_from_part}
 use Rattle.tl_load.proofs.RecordLines.{by_first, tiger_is_sound}
-use Rattle.tl_load.specs.LineOf.{filled, first_bad, of_reading, judged_full, judged_as}
-use Rattle.tl_load.specs.Choice.{as_record, judged_by, judged, tiger}
+use Rattle.tl_load.specs.LineOf.{judged_full, judged_as}
+use Rattle.tl_load.specs.Choice.{judged_by, tiger}
 use Rattle.tl_load.proofs.LineLemmas.{lines_line, lines_none}
 use Rattle.tl_load.proofs.Filling.{filled_full}
 use Rattle.tl_load.proofs.LineLaws.{bad_none}
 use Rattle.tl_load.proofs.Reading.{AreJudged, judged_spelled, spelled_once}
+use Rattle.tl_load.specs.declared.fault.LineFault.TheVariants as line_faults
 
 -- ---- a canonical line
 

@@ -1,15 +1,13 @@
 -- Small facts for proofs about the loader.
-use Rattle.std.proofs.Common.{rules}
-use Rattle.std.proofs.Common.{◌≡◌, ℕ, ◌+◌, ◌-◌, ◌<◌, ◌≤◌, Bool, true, false, List, [], ◌∷◌, ◌++◌, length, get_or, take, drop, Result}
-use Rattle.std.proofs.Common.{Ok, Err, Option, Some, None, refl, sym, ap, subst, ◌∙◌, arith, eqb}
-use Rattle.std.specs.Prelude.{OnOk, IsOk, IsTrue}
-use Rattle.std.proofs.lemmas.Bool.{eqb-true, false_from_ne_true}
-use Rattle.std.proofs.lemmas.List.{take-append-drop, length-take, get_or-take, get_or_default, drop_more, take_all, take_rest}
+use Rattle.std.proofs.Common.{rules, ◌≡◌, ℕ, ◌+◌, ◌-◌, ◌<◌, ◌≤◌, true, false, List, [], ◌∷◌, ◌++◌, length, get_or, take, drop, Result, Ok}
+use Rattle.std.proofs.Common.{Err, refl, subst, arith, eqb}
+use Rattle.tl_load.proofs.Common.{IsWithoutLineFeed, Loaded, OnOk, Record, eqb-true, false_from_ne_true, get_or_default, is_allowed}
+use Rattle.tl_load.proofs.Common.{is_line_feed, length-take, take-append-drop}
+use Rattle.std.specs.Prelude.{IsOk, IsTrue}
+use Rattle.std.proofs.lemmas.List.{get_or-take, drop_more, take_all, take_rest}
 use Rattle.memchr.specs.Find.{Nowhere, Passes, is_byte}
-use Rattle.tl_layout.specs.Bytes.{is_allowed, AreAllowed}
-use Rattle.tl_layout.specs.declared.record_type.Record.{Record}
-use Rattle.tl_load.specs.Lines.{is_line_feed, IsWithoutLineFeed, IsLineEnd}
-use Rattle.tl_load.specs.Loaded.{Loaded}
+use Rattle.tl_layout.specs.Bytes.{AreAllowed}
+use Rattle.tl_load.specs.Lines.{IsLineEnd}
 use Rattle.tl_load.specs.declared.loader_for.LoaderFor.TheInside.{Inside}
 
 pub empty_is : (l : List ℕ) → eqb (length l) 0 ≡ true → l ≡ []
@@ -62,7 +60,3 @@ ends_clean bytes n lt feed allowed = search (rules, cut_at, clean_no_feed)
 -- the slice `&bytes[1..]`
 pub rest_of : (bytes : List ℕ) → take (length bytes - 1) (drop 1 bytes) ≡ drop 1 bytes
 rest_of bytes = take_rest bytes 1
-
-pub none_is : {A : Type 0} (o : Option A) → ((x : A) → o ≡ Some x → ⊥) → o ≡ None
-none_is None h = refl
-none_is (Some x) h = absurd (h x refl)

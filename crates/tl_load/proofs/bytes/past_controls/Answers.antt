@@ -1,7 +1,6 @@
-use Rattle.std.proofs.Common.{rules}
-use Rattle.std.proofs.Common.{◌≡◌, ◌+◌, ◌≤◌, ◌%◌, length, map, replicate, refl, subst, ◌∙◌}
-use Rattle.std.proofs.lemmas.Simd.{length-chunk, length-zip2, zip2_splat, zip2_of_maps}
-use lib.Lanes.{chunk, Each1, zip2}
+use Rattle.std.proofs.Common.{rules, ◌≡◌, ◌+◌, ◌≤◌, ◌%◌, length, map, replicate, subst}
+use Rattle.tl_load.proofs.Common.{Each1, chunk, length-chunk, length-zip2, zip2, zip2_splat}
+use Rattle.std.proofs.lemmas.Simd.{zip2_of_maps}
 use Rattle.tl_load.proofs.Lanes.{clean_at}
 use Rattle.tl_load.proofs.bytes.past_controls.Goals as goal
 

@@ -1,5 +1,4 @@
 use Rattle.std.proofs.Common.{rules}
-use Rattle.std.proofs.Common.{arith}
 use Rattle.tl_load.proofs.Views.{cut_at, no_feed, no_feed_below}
 use Rattle.tl_load.proofs.line.searched_line_end.Goals as goal
 

@@ -1,8 +1,6 @@
-use Rattle.std.proofs.Common.{rules}
-use Rattle.std.proofs.Common.{◌≡◌, ℕ, List, [], ◌∷◌, ◌++◌, Result, Ok, Err, sym, ap, ◌∙◌}
-use Rattle.std.specs.Prelude.{OnOk}
-use Rattle.tl_layout.specs.RecordText.{spelling_of, text_of}
-use Rattle.tl_layout.specs.declared.record_type.Record.{Record}
+use Rattle.std.proofs.Common.{rules, ◌≡◌, ℕ, List, [], ◌∷◌, ◌++◌, Result, Ok, Err}
+use Rattle.tl_load.proofs.Common.{OnOk, Record, text_of}
+use Rattle.tl_layout.specs.RecordText.{spelling_of}
 use Rattle.tl_load.proofs.TextLemmas.{text_of-snoc}
 use Rattle.tl_load.proofs.collector.CanonicalTextCollector.push_record.Goals as goal
 

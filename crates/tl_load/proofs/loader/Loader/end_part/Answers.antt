@@ -1,8 +1,6 @@
-use Rattle.std.proofs.Common.{rules}
-use Rattle.std.proofs.Common.{ℕ, List, [], ◌∷◌, ◌++◌}
-use Rattle.tl_load.specs.Loaded.{WasFed}
-use Rattle.tl_load.specs.Keeping.{WasFedInto}
-use Rattle.tl_load.proofs.Listed.{holds_list, into_of, of_into, listed_after, at_fault}
+use Rattle.std.proofs.Common.{rules, ℕ, List}
+use Rattle.tl_load.proofs.Common.{WasFed, WasFedInto}
+use Rattle.tl_load.proofs.Listed.{holds_list, into_of, of_into}
 use Rattle.tl_load.proofs.loader.Loader.end_part.Goals as goal
 
 fed : (c : goal.After-end_part) (limit : ℕ) (closed : List (List ℕ)) (open_part : List ℕ) → WasFed limit c.args.self.now closed open_part

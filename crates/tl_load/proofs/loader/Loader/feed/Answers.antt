@@ -1,11 +1,6 @@
-use Rattle.std.proofs.Common.{rules}
-use Rattle.std.proofs.Common.{ℕ, List, ◌++◌, Result, Ok, Err}
-use Rattle.tl_load.specs.Loaded.{WasFed}
-use Rattle.tl_load.specs.Keeping.{WasFedInto}
-use Rattle.tl_load.proofs.Listed.{holds_list, into_of, of_into, listed_after, at_fault}
-use Rattle.std.specs.Prelude.{OnOk}
-use Rattle.tl_load.specs.declared.fault.LoadFault.{LoadFault}
-use Rattle.tl_load.specs.Loaded.{IsWellAfter}
+use Rattle.std.proofs.Common.{rules, ℕ, List, Result, Ok, Err}
+use Rattle.tl_load.proofs.Common.{IsWellAfter, LoadFault, OnOk, WasFed, WasFedInto}
+use Rattle.tl_load.proofs.Listed.{holds_list, into_of, of_into}
 use Rattle.tl_load.proofs.loader.Loader.feed.Goals as goal
 
 fed : (c : goal.After-feed) (limit : ℕ) (closed : List (List ℕ)) (open_part : List ℕ) → WasFed limit c.args.self.now closed open_part

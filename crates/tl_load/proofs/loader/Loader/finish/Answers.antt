@@ -1,10 +1,5 @@
 use Rattle.std.proofs.Common.{ℕ, List}
-use Rattle.std.specs.Prelude.{All}
-use Rattle.tl_layout.specs.RecordText.{FitsRecord}
-use Rattle.tl_load.specs.Choice.{tiger}
-use Rattle.tl_load.specs.Outcome.{SpellsWithin}
-use Rattle.tl_load.specs.Loaded.{WasFed, all_parts}
-use Rattle.tl_load.specs.Keeping.{WasFedInto}
+use Rattle.tl_load.proofs.Common.{All, FitsRecord, SpellsWithin, WasFed, WasFedInto, all_parts, tiger}
 use Rattle.tl_load.proofs.RecordLines.{spelled_fit}
 use Rattle.tl_load.proofs.Listed.{holds_list, into_of, found_list, also}
 use Rattle.tl_load.proofs.loader.Loader.finish.Goals as goal

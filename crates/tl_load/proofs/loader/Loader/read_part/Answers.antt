@@ -1,9 +1,6 @@
-use Rattle.std.proofs.Common.{ℕ, List, [], ◌∷◌, ◌++◌, Result, Ok, Err, ap, ◌∙◌, ◌⊎◌, inl, inr}
-use Rattle.tl_load.specs.Loaded.{Loaded, WasFed}
-use Rattle.std.specs.Prelude.{MatchResult}
-use Rattle.tl_load.specs.declared.fault.LoadFault.{LoadFault}
-use Rattle.tl_load.specs.Keeping.{LoadedInto, WasFedInto}
-use Rattle.tl_load.proofs.Listed.{Records, holds_list, listed, into_of, of_into, listed_after, at_fault}
+use Rattle.std.proofs.Common.{ℕ, List, [], ◌∷◌, ◌++◌, Result, Ok, Err, ◌⊎◌, inl, inr}
+use Rattle.tl_load.proofs.Common.{LoadFault, LoadedInto, MatchResult, WasFed, WasFedInto}
+use Rattle.tl_load.proofs.Listed.{Records, holds_list, listed, into_of, of_into}
 use Rattle.tl_load.proofs.loader.Loader.read_part.Given as given
 use Rattle.tl_load.proofs.loader.Loader.read_part.Goals as goal
 

@@ -1,6 +1,4 @@
 use Rattle.std.proofs.Common.{rules}
-use Rattle.std.proofs.Common.{refl}
-use Rattle.tl_load.specs.Loaded.{Loaded}
 use Rattle.tl_load.proofs.Steps.{holds_more}
 use Rattle.tl_load.proofs.Views.{opened}
 use Rattle.tl_load.proofs.loader_for.LoaderFor.buffer_bytes.Goals as goal

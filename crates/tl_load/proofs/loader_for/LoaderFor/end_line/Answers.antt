@@ -1,16 +1,9 @@
-use Rattle.std.proofs.Common.{rules}
-use Rattle.std.proofs.Common.{◌≡◌, ◌≤◌, ◌+◌, ◌*◌, ℕ, Result, Ok, Err, List, [], ◌∷◌, ◌++◌, length, refl, sym, ap, subst, ◌∙◌, arith}
-use Rattle.std.specs.Prelude.{OnOk}
-use Rattle.std.proofs.lemmas.Result.{err_from_is_err_and}
-use Rattle.tl_layout.specs.Bytes.{AreAllowed}
-use Rattle.tl_load.specs.Lines.{IsWithoutLineFeed, without_return}
-use Rattle.tl_load.specs.declared.fault.LoadFault.{LoadFault}
-use Rattle.tl_load.specs.Keeping.{seen, total}
+use Rattle.std.proofs.Common.{rules, ◌≡◌, ◌≤◌, ◌+◌, ◌*◌, ℕ, Result, Ok, Err, [], ◌∷◌, arith}
+use Rattle.tl_load.proofs.Common.{LONGEST_LINE, LoadFault, OnOk, err_from_is_err_and, seen}
 use Rattle.tl_load.proofs.LineLemmas.{clean_without_return, without_return_length}
 use Rattle.tl_load.proofs.Steps.{ends_line, takes_then, fault_then}
 use Rattle.tl_load.proofs.Views.{empty_is}
 use Rattle.tl_load.proofs.loader_for.LoaderFor.end_line.Goals as goal
-use Rattle.tl_layout.specs.declared.layout.TheConstants.{LONGEST_LINE}
 
 -- a judged line has at most 230 bytes with its line ending, so that 230 for each of them is enough
 line_used : {T : Type 0} (r : Result T LoadFault) (line bytes was now open_was : ℕ) → OnOk r (line ≤ LONGEST_LINE) → OnOk r (now ≡ was + 1)

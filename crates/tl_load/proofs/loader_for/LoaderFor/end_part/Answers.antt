@@ -1,9 +1,6 @@
-use Rattle.std.proofs.Common.{rules}
-use Rattle.std.proofs.Common.{◌≡◌, ℕ, List, [], ◌∷◌, ◌++◌}
-use Rattle.std.specs.Prelude.{Some, None}
-use Rattle.tl_load.specs.Keeping.{WasFedInto}
-use Rattle.tl_load.proofs.Histories.{fed_closed, fed_closed_standing, reported_at, with_fault_reported, stands_at, some_after}
-use Rattle.tl_load.specs.Steps.{Closes}
+use Rattle.std.proofs.Common.{rules, ◌≡◌, ℕ, List, [], ◌∷◌, ◌++◌}
+use Rattle.tl_load.proofs.Common.{None, Some, WasFedInto}
+use Rattle.tl_load.proofs.Histories.{fed_closed, fed_closed_standing, reported_at, with_fault_reported, stands_at}
 use Rattle.tl_load.proofs.loader_for.LoaderFor.end_part.Given as given
 use Rattle.tl_load.proofs.loader_for.LoaderFor.end_part.Goals as goal
 

@@ -1,9 +1,6 @@
-use Rattle.std.proofs.Common.{rules}
-use Rattle.std.proofs.Common.{◌≡◌, ℕ, List, ◌++◌}
-use Rattle.std.specs.Prelude.{Some, None}
-use Rattle.tl_load.specs.Keeping.{WasFedInto}
-use Rattle.tl_load.specs.Steps.{Takes}
-use Rattle.tl_load.proofs.Histories.{fed_piece, fed_standing, stands_at, reported_at, with_fault_reported, well_of_step, some_after}
+use Rattle.std.proofs.Common.{rules, ◌≡◌, ℕ, List, ◌++◌}
+use Rattle.tl_load.proofs.Common.{None, Some, WasFedInto}
+use Rattle.tl_load.proofs.Histories.{fed_piece, fed_standing, stands_at, reported_at, with_fault_reported, well_of_step}
 use Rattle.tl_load.proofs.loader_for.LoaderFor.feed.Given as given
 use Rattle.tl_load.proofs.loader_for.LoaderFor.feed.Goals as goal
 

@@ -1,12 +1,5 @@
-use Rattle.std.proofs.Common.{rules}
-use Rattle.std.proofs.Common.{◌≡◌, ℕ, List, sym, subst}
-use Rattle.std.specs.Prelude.{Some, None}
-use Rattle.std.proofs.lemmas.Result.{err_from_is_err_and}
-use Rattle.tl_layout.specs.declared.record_type.Record.{Record}
-use Rattle.tl_load.specs.Choice.{tiger}
-use Rattle.tl_load.specs.Outcome.{FaultAt}
-use Rattle.tl_load.specs.Loaded.{IsOfLines, all_parts}
-use Rattle.tl_load.specs.Keeping.{LoadedInto, WasFedInto}
+use Rattle.std.proofs.Common.{rules, ◌≡◌, ℕ, List, sym, subst}
+use Rattle.tl_load.proofs.Common.{FaultAt, IsOfLines, LoadedInto, None, Record, WasFedInto, all_parts, err_from_is_err_and, tiger}
 use Rattle.tl_load.proofs.Histories.{finished, finished_fault, finished_standing}
 use Rattle.tl_load.proofs.Reading.{accepted_once, accepted_no_fault}
 use Rattle.tl_load.proofs.RecordLines.{tiger_is_sound}

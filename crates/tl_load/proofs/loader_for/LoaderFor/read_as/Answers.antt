@@ -1,10 +1,8 @@
 use Rattle.std.proofs.Common.{rules}
-use Rattle.std.proofs.Common.{◌≤◌, length, arith, sym}
 use Rattle.tl_load.proofs.LineLaws.{judged_short}
 use Rattle.tl_load.proofs.Steps.{place_not_device}
 use Rattle.tl_load.proofs.Views.{on_ok_by}
 use Rattle.tl_load.proofs.loader_for.LoaderFor.read_as.Goals as goal
-use Rattle.tl_layout.specs.declared.layout.TheConstants.{LONGEST_LINE}
 
 pub returns-in-Ok-clause-short : goal.returns-in-Ok-clause-short
 returns-in-Ok-clause-short g c = search (rules, judged_short, on_ok_by)

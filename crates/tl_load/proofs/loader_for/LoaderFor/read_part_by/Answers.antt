@@ -1,10 +1,8 @@
 use Rattle.std.proofs.Common.{◌≡◌, ℕ, List, [], sym, subst, append-nil, inr, arith}
-use Rattle.std.specs.Prelude.{None}
+use Rattle.tl_load.proofs.Common.{None, WasFedInto}
 use Rattle.std.specs.Io.KnownBytes.{IsAtEnd}
-use Rattle.tl_load.specs.Keeping.{WasFedInto}
 use Rattle.tl_load.proofs.ReadSteps.{gave_none}
-use Rattle.tl_load.specs.Steps.{ReadsPart}
-use Rattle.tl_load.proofs.Histories.{fed_read, well_after, some_after}
+use Rattle.tl_load.proofs.Histories.{fed_read, well_after}
 use Rattle.tl_load.proofs.loader_for.LoaderFor.read_part_by.Goals as goal
 
 pub returns-in-Some-clause-fed : goal.returns-in-Some-clause-fed

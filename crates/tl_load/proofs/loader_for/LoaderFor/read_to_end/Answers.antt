@@ -1,15 +1,10 @@
 use Rattle.std.proofs.Common.{◌≡◌, ℕ, ◌≤◌, ◌<◌, [], ◌++◌, length, take, refl, sym, ap, subst, ◌∙◌, arith}
-use Rattle.std.proofs.lemmas.Result.{err_from_is_err_and}
-use Rattle.std.proofs.lemmas.List.{length-append, length-take}
-use Rattle.std.specs.Io.KnownBytes.{Consumes}
-use Rattle.tl_load.specs.Sources.{RoseBy}
-use Rattle.tl_load.specs.Lines.{IsWithoutLineFeed}
-use Rattle.tl_load.specs.Keeping.{seen, bytes_used}
+use Rattle.tl_load.proofs.Common.{Consumes, IsWithoutLineFeed, LINE_BYTES, MOST_BYTES, RoseBy, bytes_used, err_from_is_err_and}
+use Rattle.tl_load.proofs.Common.{length-append, length-take, seen}
 use Rattle.tl_load.proofs.Counts.{most_records}
-use Rattle.tl_load.proofs.ReadSteps.{gave_none, gave_more, gave_same, gave_kept, stopped}
+use Rattle.tl_load.proofs.ReadSteps.{gave_none, gave_more, gave_same}
 use Rattle.tl_load.proofs.Steps.{takes_none, takes_both, reads_closed, reads_fault}
 use Rattle.tl_load.proofs.loader_for.LoaderFor.read_to_end.Goals as goal
-use Rattle.tl_load.specs.declared.loader_for.TheConstants.{LINE_BYTES, MOST_BYTES}
 
 pub loop-count-init : goal.loop-count-init
 loop-count-init g c =

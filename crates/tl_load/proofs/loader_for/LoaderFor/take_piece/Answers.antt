@@ -1,11 +1,6 @@
-use Rattle.std.proofs.Common.{rules}
-use Rattle.std.proofs.Common.{◌≡◌, ℕ, ◌+◌, ◌-◌, List, ◌∷◌, ◌++◌, length, take, drop, arith, refl, sym, ap, subst, ◌∙◌}
-use Rattle.std.specs.Prelude.{Option, Some, None, MatchOption}
-use Rattle.std.proofs.lemmas.Result.{err_from_is_err_and}
-use Rattle.std.proofs.lemmas.List.{length-append}
-use Rattle.tl_layout.specs.Bytes.{AreAllowed}
-use Rattle.tl_load.specs.Lines.{IsWithoutLineFeed}
-use Rattle.tl_load.specs.Keeping.{seen}
+use Rattle.std.proofs.Common.{rules, ◌≡◌, ℕ, ◌+◌, ◌-◌, List, ◌∷◌, ◌++◌, drop, refl, sym, ap, ◌∙◌}
+use Rattle.tl_load.proofs.Common.{MatchOption, None, Some, err_from_is_err_and, length-append, seen}
+use Rattle.std.specs.Prelude.{Option}
 use Rattle.tl_load.proofs.Steps.{leaves_all, leaves_after, leaves_fault, leaves_taken}
 use Rattle.tl_load.proofs.Views.{rest_of}
 use Rattle.tl_load.proofs.loader_for.LoaderFor.take_piece.Goals as goal

@@ -1,6 +1,6 @@
-use Rattle.std.proofs.Common.{rules}
-use Rattle.std.proofs.Common.{◌≡◌, ℕ, ◌≤◌, List, ◌++◌, length, take, drop, sym, ap, ◌∙◌, arith}
-use Rattle.std.proofs.lemmas.List.{take-append-drop, take_at, length-take, drop_all}
+use Rattle.std.proofs.Common.{rules, ◌≡◌, ℕ, ◌≤◌, List, ◌++◌, length, take, drop}
+use Rattle.tl_load.proofs.Common.{length-take, take-append-drop}
+use Rattle.std.proofs.lemmas.List.{take_at, drop_all}
 use Rattle.tl_load.proofs.source.SlowSourceSource.read.Goals as goal
 
 -- the bytes that were copied, and the rest
