@@ -1,9 +1,8 @@
 -- Marks by number, and uses whose FEATs all have names.
-use Rattle.std.proofs.Common.{rules}
-use Rattle.std.proofs.Common.{◌≡◌, ◌&&◌, not, ℕ, Bool, true, false, List, [], ◌∷◌, None, flat_map, nat_cmp, ap, refl}
+use Rattle.std.proofs.Common.{rules, ◌≡◌, ◌&&◌, not, ℕ, Bool, true, false, List, [], ◌∷◌, None, flat_map, nat_cmp, ap, refl}
 use Rattle.tl_county.proofs.Common.{AllByRecursion, Fields4, IsLeastPassing, all_joined, all_map, and_parts, is_unnamed, known_all}
 use Rattle.tl_county.proofs.Common.{list_all, ltb-true, sequence_cmp, stands_in, times, uses_of}
-use Rattle.tl_county.specs.Marks.{have_names, all_have_names}
+use Rattle.tl_county.specs.Marks.{all_have_names}
 use Rattle.tl_county.proofs.Rules.RuleTests.{sequence_keys}
 
 -- the FEAT of a use is one of the names

@@ -1,24 +1,21 @@
 -- A renaming that carries keeps a county's limits: its contents fit, its lists fit into their records, and it takes as many records
 -- of each type.
-use Rattle.std.proofs.Common.{rules}
-use Rattle.tl_county.proofs.Common.{common_steps}
-use Rattle.std.proofs.Common.{◌≡◌, ◌+◌, ◌-◌, ◌≤◌, ℕ, zero, suc, List, [], ◌∷◌, map, flat_map, filter_map}
-use Rattle.std.proofs.Common.{length, reverse, drop, sum_by, Bool, true, false, Option, Some, None, IfSome, sym, refl, ap, ap₂}
-use Rattle.std.proofs.Common.{◌∙◌, subst, arith, nat_cmp, IsPermutation, length-drop}
-use Rattle.tl_county.proofs.Common.{AllByRecursion, Among, Body5, Body7, BodyP, Carries, Chain, ContentsFit, Coordinates, County, FitsChain}
-use Rattle.tl_county.proofs.Common.{FitsLandmark, FitsLink, FitsNameBody, FitsPolygon, FitsRanges, IsOnMap, IsPermutation-sym, IsText}
+use Rattle.std.proofs.Common.{rules, ◌≡◌, ◌-◌, ◌≤◌, ℕ, zero, suc, List, [], ◌∷◌, map, flat_map, filter_map, length, reverse, drop, sum_by}
+use Rattle.std.proofs.Common.{Bool, true, false, Option, Some, None, IfSome, sym, refl, ap, ◌∙◌, subst, arith, nat_cmp, IsPermutation}
+use Rattle.std.proofs.Common.{length-drop}
+use Rattle.tl_county.proofs.Common.{common_steps, AllByRecursion, Among, Body5, Body7, BodyP, Carries, Chain, ContentsFit, Coordinates}
+use Rattle.tl_county.proofs.Common.{County, FitsChain, FitsLandmark, FitsLink, FitsNameBody, FitsPolygon, IsPermutation-sym, IsText}
 use Rattle.tl_county.proofs.Common.{ListsFit, PolygonKey, Renumbering, all_among, all_map, all_weaker, among-permutation, among-unmap}
-use Rattle.tl_county.proofs.Common.{carried_chain, carried_landmark, carried_link, carried_polygon, cons_option, each_from, image}
-use Rattle.tl_county.proofs.Common.{in_pieces, inner_points, length-in_order, length-map, link_key, numbered_from, on, p_polyid}
-use Rattle.tl_county.proofs.Common.{packed_body, packed_by_type, packed_five, packed_fours, packed_i, packed_one, packed_p, packed_sevens}
-use Rattle.tl_county.proofs.Common.{packed_sixes, packed_twos, pieces, renumbered, renumbered_polygon, turned_if, turns, without_last}
+use Rattle.tl_county.proofs.Common.{carried_chain, carried_landmark, carried_link, carried_polygon, each_from, image, in_pieces}
+use Rattle.tl_county.proofs.Common.{inner_points, length-in_order, length-map, packed_by_type, packed_five, packed_fours, packed_i}
+use Rattle.tl_county.proofs.Common.{packed_one, packed_p, packed_sevens, packed_sixes, packed_twos, pieces, renumbered, renumbered_polygon}
+use Rattle.tl_county.proofs.Common.{turned_if, turns, without_last}
 use Rattle.std.proofs.lemmas.List.{length-reverse}
 use Rattle.std.proofs.lemmas.List.Concat.{length-flat_map}
 use Rattle.std.proofs.lemmas.List.Sums.{sum_by-cons}
 use Rattle.std.proofs.lemmas.List.Sorted.{IsPermutation-reverse, length_permutation, sum_by-IsPermutation}
 use Rattle.tl_layout.specs.Turned.{turned_ranges}
 use Rattle.tl_layout.specs.Laws.TurnedFits.{body_turned_fits, ranges_turned_fit}
-use Rattle.tl_county.specs.Limits.{FitsLinkContent}
 use Rattle.tl_county.specs.Renumbering.{carried_name}
 use Rattle.tl_county.proofs.Packing.Pieces.{length-numbered_from}
 use Rattle.tl_county.proofs.Limits.FieldsFit.{link_content_turned}

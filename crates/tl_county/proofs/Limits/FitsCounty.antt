@@ -1,14 +1,13 @@
 -- Linked records that fit, and aren't too many of any type, have a county within its limits.
-use Rattle.std.proofs.Common.{rules}
-use Rattle.std.proofs.Common.{◌≡◌, ◌⊎◌, ◌+◌, ◌*◌, ◌-◌, ◌<◌, ◌≤◌, ◌==◌, ℕ, List, [], ◌∷◌, ◌++◌, map, flat_map, filter}
-use Rattle.std.proofs.Common.{filter_map, length, length-append, Bool, true, false, cond, Option, Some, None, IfSome, is_eq}
-use Rattle.std.proofs.Common.{Ordering, sym, refl, ap, ◌∙◌, subst, inl, inr, arith, nat_cmp}
+use Rattle.std.proofs.Common.{rules, ◌≡◌, ◌⊎◌, ◌+◌, ◌*◌, ◌-◌, ◌<◌, ◌≤◌, ◌==◌, ℕ, List, [], ◌∷◌, ◌++◌, map, flat_map, filter, filter_map}
+use Rattle.std.proofs.Common.{length, length-append, Bool, true, false, cond, Option, Some, None, IfSome, is_eq, Ordering, sym, refl, ap}
+use Rattle.std.proofs.Common.{◌∙◌, subst, inl, inr, arith, nat_cmp}
 use Rattle.tl_county.proofs.Common.{AllByRecursion, Body5, Body7, BodyP, Chain, ContentsFit, Coordinates, Fields1, Fields2, Fields4}
 use Rattle.tl_county.proofs.Common.{Fields5, Fields6, Fields7, FieldsI, FieldsP, FitsChain, FitsLandmark, FitsLink, FitsNameBody}
 use Rattle.tl_county.proofs.Common.{FitsPolygon, FitsRanges, IsApart, IsLinked, IsNumber, IsOnMap, IsText, IsWithinLimits, Known, ListsFit}
-use Rattle.tl_county.proofs.Common.{PolygonKey, Ranges, Record, RecordType, SequenceBroken, Type1, Type2, Type4, Type5, Type6, Type7, Type8}
-use Rattle.tl_county.proofs.Common.{TypeI, TypeP, all-in_order, all_among, all_append, all_everywhere, all_joined, all_known, all_map}
-use Rattle.tl_county.proofs.Common.{all_weaker, among-map, among_known, apart_from_no_repeat, apart_from_sorted, as_type, by_type, chain_of}
+use Rattle.tl_county.proofs.Common.{PolygonKey, Record, RecordType, SequenceBroken, Type1, Type2, Type4, Type5, Type6, Type7, Type8, TypeI}
+use Rattle.tl_county.proofs.Common.{TypeP, all-in_order, all_among, all_append, all_everywhere, all_joined, all_known, all_map, all_weaker}
+use Rattle.tl_county.proofs.Common.{among-map, among_known, apart_from_no_repeat, apart_from_sorted, as_type, by_type, chain_of}
 use Rattle.tl_county.proofs.Common.{chain_tlids, chains_of, cons_option, count-map, county_of, differ_apart, distinct, first, five_feat}
 use Rattle.tl_county.proofs.Common.{four_rtsq, four_tlid, further_names, further_ranges, has_repeat, i_tlid, in_order, in_pieces}
 use Rattle.tl_county.proofs.Common.{inner_points, key_cmp, key_keys, key_under, known_all, known_from_distinct, landmark_body_cmp}
@@ -20,21 +19,17 @@ use Rattle.tl_county.proofs.Common.{shape_points, side_keys, six_rtsq, six_tlid,
 use Rattle.tl_layout.specs.Limits.{IsWithinLimit}
 use Rattle.tl_layout.specs.Numbers.{IsNumberOrNone}
 use Rattle.tl_layout.specs.RecordText.{FitsRecord}
-use Rattle.tl_county.specs.Limits.{FitsNumbers}
-use Rattle.tl_county.specs.Limits.{NumbersFit, greatest_rtsq}
-use Rattle.tl_county.specs.declared.fault.SequencedType.TheVariants as sequenced
-use Rattle.ordered_lists.proofs.Lists.Counted.{few_in_groups, hits_once, filter-agree, shorter_pieces, few_numbers}
-use Rattle.tl_county.proofs.Packing.Pieces.{few_pieces}
-use Rattle.ordered_lists.proofs.Lists.Counted.{all_selected}
-use Rattle.tl_county.proofs.Packing.Pieces.{length-numbered_from}
+use Rattle.tl_county.specs.Limits.{FitsNumbers, NumbersFit, greatest_rtsq}
+use Rattle.ordered_lists.proofs.Lists.Counted.{few_in_groups, hits_once, filter-agree, shorter_pieces, few_numbers, all_selected}
+use Rattle.tl_county.proofs.Packing.Pieces.{few_pieces, length-numbered_from}
 use Rattle.tl_county.specs.Laws.TypeCounts.{HasWithin, by_type_within, packed_within}
 use Rattle.ordered_lists.proofs.Lists.Distinct.{apart-distinct}
-use Rattle.tl_county.proofs.Limits.FieldsFit.{Fit, Fit1, Fit2, Fit4, Fit5, Fit6, Fit7, Fit8, FitI, FitP, selected_fit}
-use Rattle.tl_county.proofs.Limits.FieldsFit.{left_cenid_fits, right_cenid_fits}
-use Rattle.tl_county.proofs.Limits.FieldsFit.{polygon_cenid_fits}
+use Rattle.tl_county.proofs.Limits.FieldsFit.{Fit, Fit1, Fit2, Fit4, Fit5, Fit6, Fit7, Fit8, FitI, FitP, selected_fit, left_cenid_fits}
+use Rattle.tl_county.proofs.Limits.FieldsFit.{right_cenid_fits, polygon_cenid_fits}
 use Rattle.ordered_lists.proofs.ByKey.Keys.{differ}
 use Rattle.tl_county.proofs.Rules.LinkedCounty.{chains_all, the_link, tlids-county, county-is_county}
 use Rattle.ordered_lists.proofs.Lists.Elements.{all_filter, flat_map-map}
+use Rattle.tl_county.specs.declared.fault.SequencedType.TheVariants as sequenced
 
 flat_map-one : {X Y : Type 0} (f : X → Y) (xs : List X) → flat_map (λ x. f x ∷ []) xs ≡ map f xs
 flat_map-one f [] = refl

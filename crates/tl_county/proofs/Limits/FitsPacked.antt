@@ -1,18 +1,15 @@
 -- A whole county whose contents and numbers fit, and whose chains' lists fit into their records, is packed into records that fit.
-use Rattle.std.proofs.Common.{rules}
-use Rattle.std.proofs.Common.{◌≡◌, ◌+◌, ◌*◌, ◌<◌, ◌≤◌, ℕ, List, [], ◌∷◌, map, flat_map, filter_map, length, Option, Some}
-use Rattle.std.proofs.Common.{None, IfSome, arith, nat_cmp, subst}
+use Rattle.std.proofs.Common.{rules, ◌≡◌, ◌+◌, ◌*◌, ◌<◌, ◌≤◌, ℕ, List, [], ◌∷◌, map, flat_map, filter_map, length, Option, Some, None}
+use Rattle.std.proofs.Common.{IfSome, arith, nat_cmp}
 use Rattle.tl_county.proofs.Common.{AllByRecursion, Body5, Body7, BodyP, Chain, ContentsFit, Coordinates, County, Fields8, FieldsP}
-use Rattle.tl_county.proofs.Common.{FitsChain, FitsLandmark, FitsLink, FitsNameBody, FitsPolygon, FitsRanges, IsNumber, IsOnMap, IsWhole}
-use Rattle.tl_county.proofs.Common.{ListsFit, PolygonKey, Ranges, Record, RecordType, Type1, Type2, Type4, Type5, Type6, Type7, Type8}
-use Rattle.tl_county.proofs.Common.{TypeI, TypeP, all-in_order, all_append, all_joined, all_map, all_weaker, in_order, in_pieces}
-use Rattle.tl_county.proofs.Common.{inner_points, numbered_from, on, p_polyid, packed, packed_body, packed_by_type, packed_five}
-use Rattle.tl_county.proofs.Common.{packed_fours, packed_i, packed_one, packed_p, packed_sevens, packed_sixes, packed_twos, record_of}
-use Rattle.tl_county.proofs.Common.{without_last}
+use Rattle.tl_county.proofs.Common.{FitsChain, FitsLandmark, FitsLink, FitsNameBody, FitsPolygon, IsNumber, IsOnMap, IsWhole, ListsFit}
+use Rattle.tl_county.proofs.Common.{PolygonKey, Record, RecordType, Type1, Type2, Type4, Type5, Type6, Type7, Type8, TypeI, TypeP}
+use Rattle.tl_county.proofs.Common.{all-in_order, all_append, all_joined, all_map, all_weaker, in_order, in_pieces, inner_points}
+use Rattle.tl_county.proofs.Common.{numbered_from, on, p_polyid, packed, packed_body, packed_by_type, packed_five, packed_fours, packed_i}
+use Rattle.tl_county.proofs.Common.{packed_one, packed_p, packed_sevens, packed_sixes, packed_twos, record_of, without_last}
 use Rattle.tl_layout.specs.RecordText.{FitsRecord}
 use Rattle.tl_layout.specs.RecordTypes.{ListsByType, listed_by_type, later_types}
-use Rattle.tl_county.specs.Limits.{FitsNumbers}
-use Rattle.tl_county.specs.Limits.{NumbersFit, greatest_rtsq}
+use Rattle.tl_county.specs.Limits.{FitsNumbers, NumbersFit, greatest_rtsq}
 use Rattle.tl_county.specs.Packing.{first_point, last_point}
 use Rattle.tl_county.proofs.Packing.Pieces.{few_pieces, short_pieces, all_in_pieces, all_numbered_from}
 use Rattle.ordered_lists.proofs.Lists.Counted.{all_selected}

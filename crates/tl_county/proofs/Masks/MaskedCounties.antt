@@ -1,11 +1,10 @@
 -- Counties under a mask: a mask that leaves nothing out changes nothing, masking twice is masking once, and a county that a mask
 -- doesn't change is carried onto one that it doesn't change.
-use Rattle.std.proofs.Common.{rules}
-use Rattle.std.proofs.Common.{◌≡◌, ℕ, List, [], ◌∷◌, map, Bool, true, false, cond, refl, ap, ◌∙◌}
+use Rattle.std.proofs.Common.{rules, ◌≡◌, ℕ, List, [], ◌∷◌, map, Bool, true, false, cond, refl, ap, ◌∙◌}
 use Rattle.tl_county.proofs.Common.{AllByRecursion, Body7, Carries, Chain, County, IsPermutation-sym, Renumbering, all-in_order, all_among}
 use Rattle.tl_county.proofs.Common.{all_everywhere, all_map, all_weaker, among-permutation, carried_chain, carried_landmark, each_from}
 use Rattle.tl_county.proofs.Common.{in_order, in_order-itself, landmark_body_cmp, landmark_body_keys, map_values, masked, masked_bodies}
-use Rattle.tl_county.proofs.Common.{masked_body_7, renumbered, turned_if, turns}
+use Rattle.tl_county.proofs.Common.{masked_body_7, renumbered, turned_if}
 use Rattle.tl_layout.specs.Masked.{no_mask}
 use Rattle.tl_layout.specs.Laws.MaskLaws.{masked_twice_1, masked_twice_7, masked_twice_i}
 use Rattle.tl_layout.specs.declared.mask.Mask.{Mask}

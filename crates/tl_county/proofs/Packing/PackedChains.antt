@@ -1,17 +1,15 @@
 -- The records of a chain in a packed county: each belongs to a chain of the county, and no RTSQ occurs twice.
-use Rattle.std.proofs.Common.{rules}
-use Rattle.std.proofs.Common.{◌≡◌, ℕ, List, map, flat_map}
-use Rattle.std.proofs.Common.{false}
-use Rattle.std.proofs.Common.{sym, refl, ap, ◌∙◌, subst, nat_cmp}
+use Rattle.std.proofs.Common.{rules, ◌≡◌, ℕ, List, map, flat_map, false, sym, refl, ap, ◌∙◌, subst, nat_cmp}
 use Rattle.tl_county.proofs.Common.{AllByRecursion, Chain, County, Four, I, IsCounty, Known, LinkedType, Ranges, SequencedType, Six, Two}
 use Rattle.tl_county.proofs.Common.{all_everywhere, all_joined, all_map, all_weaker, among_known, apart_from_sorted, each_from, four_rtsq}
 use Rattle.tl_county.proofs.Common.{four_tlid, has_repeat, has_repeat-apart, in_pieces, inner_points, linked_tlids, map-map}
 use Rattle.tl_county.proofs.Common.{map_agree_everywhere, nat_keys, numbered_from, of_number, packed, packed_fours, packed_sixes}
 use Rattle.tl_county.proofs.Common.{packed_twos, rtsqs, six_rtsq, six_tlid, tlids, two_rtsq, two_tlid}
-use Rattle.tl_county.specs.declared.fault.SequencedType.TheVariants as sequenced
 use Rattle.tl_county.proofs.Packing.PackedGroups.{group_holds}
 use Rattle.tl_county.proofs.Sameness.Equivalence.{keys_known}
-use Rattle.tl_county.proofs.Packing.PackedNumbers.{four_own, six_own, two_own, numbered_strict, fours, link_numbers, sixes, tlids_apart, twos}
+use Rattle.tl_county.proofs.Packing.PackedNumbers.{four_own, six_own, two_own, numbered_strict, fours, link_numbers, sixes, tlids_apart}
+use Rattle.tl_county.proofs.Packing.PackedNumbers.{twos}
+use Rattle.tl_county.specs.declared.fault.SequencedType.TheVariants as sequenced
 
 module _ (c : County) (is : IsCounty c) where
   linked_known : {X : Type 0} (tlid : X → ℕ) (pack : ℕ × Chain → List X) → ((e : ℕ × Chain) → AllByRecursion (λ x. tlid x ≡ e.0) (pack e))

@@ -1,11 +1,8 @@
 -- Records made entry by entry: the records with one number come from one entry, and they are in order.
-use Rattle.std.proofs.Common.{rules}
-use Rattle.tl_county.proofs.Common.{common_steps}
-use Rattle.std.proofs.Common.{◌≡◌, ◌⊎◌, ◌<◌, ◌≤◌, ◌==◌, ℕ, List, [], ◌∷◌, ◌++◌, map, flat_map}
-use Rattle.std.proofs.Common.{true, false, cond, Ordering, Less, is_eq, is_gt, sym, refl}
-use Rattle.std.proofs.Common.{ap, ap₂, ◌∙◌, subst, inl, inr, arith, nat_cmp, append-nil}
-use Rattle.tl_county.proofs.Common.{AllByRecursion, Among, IsApart, IsInOrder, all_append, all_weaker, among-map, among_known, apart_tail}
-use Rattle.tl_county.proofs.Common.{differ_apart, eq-eqb, filter_all, nat_cmp_total, nat_keys, ne_eqb, of_number, ordering_then}
+use Rattle.std.proofs.Common.{rules, ◌≡◌, ◌⊎◌, ◌<◌, ◌≤◌, ℕ, List, [], ◌∷◌, ◌++◌, map, flat_map, false, cond, Ordering, Less, is_eq, is_gt}
+use Rattle.std.proofs.Common.{sym, refl, ap, ap₂, ◌∙◌, subst, inl, inr, arith, nat_cmp, append-nil}
+use Rattle.tl_county.proofs.Common.{common_steps, AllByRecursion, Among, IsApart, IsInOrder, all_append, all_weaker, among-map, among_known}
+use Rattle.tl_county.proofs.Common.{apart_tail, differ_apart, eq-eqb, filter_all, nat_cmp_total, nat_keys, ne_eqb, of_number, ordering_then}
 use Rattle.tl_county.proofs.Common.{same_or_not, tied_itself, times, times-no, times-yes}
 use Rattle.std.proofs.lemmas.List.Elements.{filter-append}
 use Rattle.std.specs.List.Sorted.{IsStrictlySortedBy}

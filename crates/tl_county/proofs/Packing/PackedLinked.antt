@@ -1,14 +1,11 @@
 -- The packing of a county is linked.
-use Rattle.std.proofs.Common.{rules}
-use Rattle.std.proofs.Common.{◌≡◌, ◌&&◌, ℕ, nat_lt, List, ◌++◌, map, flat_map}
-use Rattle.std.proofs.Common.{Bool, true, false, not, IsTrue}
-use Rattle.std.proofs.Common.{sym, refl, ap, ◌∙◌, subst, nat_cmp}
+use Rattle.std.proofs.Common.{rules, ◌≡◌, ◌&&◌, ℕ, nat_lt, List, ◌++◌, map, flat_map, Bool, true, false, not, IsTrue, refl, ap, ◌∙◌}
+use Rattle.std.proofs.Common.{nat_cmp}
 use Rattle.tl_county.proofs.Common.{ChainTwice, County, IsApart, IsCounty, IsLinked, Known, LandUnknown, LinkMissing, LinkTwice, Memory}
 use Rattle.tl_county.proofs.Common.{NameTwice, NameUnknown, NoChain, PolygonTwice, PolygonUnknown, SequenceBroken, all_map}
-use Rattle.tl_county.proofs.Common.{apart_from_sorted, chain_tlids, eight_land, false≢true, feats, five_feat, i_tlid, key_cmp, key_keys}
-use Rattle.tl_county.proofs.Common.{known_all, lands, link_key, linked_tlids, lt-ltb, ltb-true, named_feats, nat_keys, of_type_5, of_type_7}
-use Rattle.tl_county.proofs.Common.{of_type_8, of_type_i, of_type_p, p_key, packed, polygon_keys, seven_land, side_keys, stands_in, times}
-use Rattle.tl_county.proofs.Common.{tlids}
+use Rattle.tl_county.proofs.Common.{apart_from_sorted, chain_tlids, eight_land, false≢true, i_tlid, key_cmp, key_keys, known_all, lands}
+use Rattle.tl_county.proofs.Common.{link_key, lt-ltb, ltb-true, nat_keys, of_type_7, of_type_8, of_type_i, of_type_p, p_key, packed}
+use Rattle.tl_county.proofs.Common.{polygon_keys, seven_land, side_keys, stands_in, times, tlids}
 use Rattle.std.proofs.lemmas.Bool.{le-ltb}
 use Rattle.tl_county.proofs.Packing.PackedNumbers.{chain_numbers, eights, link_numbers, name_numbers, tlids_apart}
 use Rattle.tl_county.proofs.Packing.PackedChains.{all_linked, sequence}

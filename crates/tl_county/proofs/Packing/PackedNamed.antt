@@ -1,16 +1,13 @@
 -- The FEATs, LANDs and polygons that the records of a packed county name are in the county.
-use Rattle.std.proofs.Common.{rules}
-use Rattle.tl_county.proofs.Common.{common_steps}
-use Rattle.std.proofs.Common.{◌≡◌, ◌⊎◌, ◌<◌, ◌≤◌, ◌+◌, ◌||◌, ℕ, List, [], ◌∷◌, ◌++◌, map, flat_map}
-use Rattle.std.proofs.Common.{filter_map, length, true, false, Option, Some, None, IsTrue, is_some}
-use Rattle.std.proofs.Common.{is_eq, sym, refl, ap, ◌∙◌, subst, inl, inr, arith, nat_cmp}
-use Rattle.tl_county.proofs.Common.{AllByRecursion, AllStandIn, Among, Body7, BodyP, Chain, County, Fields4, Fields7, FieldsP, IsApart}
-use Rattle.tl_county.proofs.Common.{IsCounty, Known, PolygonKey, all_among, all_joined, all_map, all_weaker, among-map, among-pieces}
-use Rattle.tl_county.proofs.Common.{among-unmap, among_known, apart_from_sorted, cons_option, false≢true, feats, four_tlid, in_order}
-use Rattle.tl_county.proofs.Common.{in_pieces, key_cmp, key_keys, known-left, known-right, known_is_among, lands, ltb-true, named_feats}
-use Rattle.tl_county.proofs.Common.{nat_keys, numbered_from, of_number, of_type_7, of_type_i, of_type_p, on, or_cases, p_key, p_polyid}
-use Rattle.tl_county.proofs.Common.{packed, packed_body, packed_fours, packed_i, packed_p, packed_sevens, polygon_keys, polygons_along}
-use Rattle.tl_county.proofs.Common.{same_or_not, seven_land, side_keys, stands_in, times, times-cons, times-no, times-yes, to_in_order}
+use Rattle.std.proofs.Common.{rules, ◌≡◌, ◌⊎◌, ◌<◌, ◌≤◌, ◌+◌, ◌||◌, ℕ, List, [], ◌∷◌, ◌++◌, map, flat_map, filter_map, length, true, Option}
+use Rattle.std.proofs.Common.{Some, None, IsTrue, is_some, sym, refl, ap, ◌∙◌, subst, inl, inr, arith, nat_cmp}
+use Rattle.tl_county.proofs.Common.{common_steps, AllByRecursion, AllStandIn, Among, Body7, BodyP, Chain, County, Fields4, Fields7, FieldsP}
+use Rattle.tl_county.proofs.Common.{IsApart, IsCounty, Known, PolygonKey, all_among, all_joined, all_map, all_weaker, among-map}
+use Rattle.tl_county.proofs.Common.{among-pieces, among-unmap, among_known, apart_from_sorted, false≢true, feats, four_tlid, in_pieces}
+use Rattle.tl_county.proofs.Common.{key_cmp, key_keys, known-left, known-right, known_is_among, lands, ltb-true, named_feats, nat_keys}
+use Rattle.tl_county.proofs.Common.{numbered_from, of_number, of_type_7, of_type_i, of_type_p, or_cases, p_key, packed, packed_body}
+use Rattle.tl_county.proofs.Common.{packed_fours, packed_i, packed_p, packed_sevens, polygon_keys, polygons_along, same_or_not, seven_land}
+use Rattle.tl_county.proofs.Common.{side_keys, stands_in, times, times-cons, times-no, times-yes, to_in_order}
 use Rattle.tl_county.proofs.Packing.Pieces.{all_in_pieces, all_numbered_from}
 use Rattle.tl_county.proofs.Packing.PackedGroups.{group_holds}
 use Rattle.ordered_lists.proofs.Lists.Members.{to_filter_map}

@@ -1,12 +1,11 @@
 -- The records of each type of a packed county, and their numbers.
-use Rattle.std.proofs.Common.{rules}
-use Rattle.std.proofs.Common.{◌≡◌, ◌<◌, ℕ, suc, List, [], ◌∷◌, map, flat_map, filter_map, Less, refl, ap, ◌∙◌, arith, nat_cmp}
-use Rattle.tl_county.proofs.Common.{AllByRecursion, Body7, Chain, County, IsApart, IsCounty, Ranges, Type1, Type2, Type4, Type5, Type6}
-use Rattle.tl_county.proofs.Common.{Type7, Type8, TypeI, TypeP, all_everywhere, all_map, apart_from_sorted, chain_tlids, feats, five_feat}
-use Rattle.tl_county.proofs.Common.{four_tlid, i_tlid, in_order, in_pieces, inner_points, map-map, nat_keys, numbered_from, of_type_1}
-use Rattle.tl_county.proofs.Common.{of_type_2, of_type_4, of_type_5, of_type_6, of_type_7, of_type_8, of_type_i, of_type_p, on, one_tlid}
-use Rattle.tl_county.proofs.Common.{p_polyid, packed, packed_by_type, packed_five, packed_fours, packed_i, packed_one, packed_p}
-use Rattle.tl_county.proofs.Common.{packed_sevens, packed_sixes, packed_twos, seven_land, six_tlid, tlids, two_tlid}
+use Rattle.std.proofs.Common.{rules, ◌≡◌, ◌<◌, ℕ, suc, List, [], ◌∷◌, map, flat_map, filter_map, Less, refl, ap, ◌∙◌, arith, nat_cmp}
+use Rattle.tl_county.proofs.Common.{AllByRecursion, Body7, Chain, County, IsApart, IsCounty, Type1, Type2, Type4, Type5, Type6, Type7}
+use Rattle.tl_county.proofs.Common.{Type8, TypeI, TypeP, all_everywhere, all_map, apart_from_sorted, chain_tlids, feats, five_feat}
+use Rattle.tl_county.proofs.Common.{four_tlid, i_tlid, in_order, map-map, nat_keys, numbered_from, of_type_1, of_type_2, of_type_4}
+use Rattle.tl_county.proofs.Common.{of_type_5, of_type_6, of_type_7, of_type_8, of_type_i, of_type_p, on, one_tlid, p_polyid, packed}
+use Rattle.tl_county.proofs.Common.{packed_by_type, packed_five, packed_fours, packed_i, packed_one, packed_p, packed_sevens, packed_sixes}
+use Rattle.tl_county.proofs.Common.{packed_twos, seven_land, six_tlid, tlids, two_tlid}
 use Rattle.std.specs.List.Sorted.{IsStrictlySortedBy}
 use Rattle.tl_county.specs.Laws.PackedTypes.{of_its_type}
 use Rattle.tl_county.proofs.Packing.Repacking.{less}

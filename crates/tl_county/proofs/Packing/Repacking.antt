@@ -1,28 +1,26 @@
 -- The county depends on the packing of types 2 and 4 and on RTSQs only through the contents in their order.
-use Rattle.std.proofs.Common.{rules, arith}
-use Rattle.tl_county.proofs.Common.{common_steps}
-use Rattle.std.proofs.Common.{◌≡◌, ◌⊎◌, ◌<◌, ℕ, ◌==◌, List, [], ◌∷◌, ◌++◌, map, flat_map, filter, filter_map, Bool, true, false}
-use Rattle.std.proofs.Common.{cond, Option, Some, None, option_map, Ordering, Less, Equal, Greater, is_eq, is_gt, sym, refl, ap}
-use Rattle.std.proofs.Common.{ap₂, ◌∙◌, inl, inr, nat_cmp, IsTrue, suc, nat_lt, not, ◌&&◌, ◌||◌, length}
-use Rattle.tl_county.proofs.Common.{AllByRecursion, ChainTwice, Eight, Fields1, Fields2, Fields4, Fields5, Fields6, Fields7, FieldsI}
-use Rattle.tl_county.proofs.Common.{FieldsP, Five, IsLinked, LandUnknown, LinkFault, LinkMissing, LinkTwice, LinkedType, Memory, NameTwice}
-use Rattle.tl_county.proofs.Common.{NameUnknown, NoChain, One, P, PolygonTwice, PolygonUnknown, Record, SequenceBroken, SequencedType}
-use Rattle.tl_county.proofs.Common.{Seven, Typed, all-in_order, all_known, all_map, by_type, chain_of, chains_of, cons_option, county_of}
-use Rattle.tl_county.proofs.Common.{distinct, eight_land, first, five_feat, four_rtsq, four_tlid, further_names, further_ranges, has_repeat}
-use Rattle.tl_county.proofs.Common.{i_tlid, in_order, is_rule_broken, key_cmp, landmark_body_cmp, link_cmp, link_key, linked_tlids, lt-ltb}
-use Rattle.tl_county.proofs.Common.{map-map, map_agree_all, map_agree_everywhere, named_feats, nat_cmp_total, nat_keys, of_number}
+use Rattle.std.proofs.Common.{rules, arith, ◌≡◌, ◌<◌, ℕ, ◌==◌, List, [], ◌∷◌, ◌++◌, map, flat_map, filter, filter_map, cond, Option, Some}
+use Rattle.std.proofs.Common.{None, option_map, Ordering, Less, Equal, Greater, is_eq, is_gt, sym, refl, ap, ap₂, ◌∙◌, nat_cmp, IsTrue}
+use Rattle.std.proofs.Common.{nat_lt, ◌||◌}
+use Rattle.tl_county.proofs.Common.{common_steps, AllByRecursion, ChainTwice, Eight, Fields1, Fields2, Fields4, Fields5, Fields6, Fields7}
+use Rattle.tl_county.proofs.Common.{FieldsI, FieldsP, Five, IsLinked, LandUnknown, LinkFault, LinkMissing, LinkTwice, LinkedType, Memory}
+use Rattle.tl_county.proofs.Common.{NameTwice, NameUnknown, NoChain, One, P, PolygonTwice, PolygonUnknown, Record, SequenceBroken}
+use Rattle.tl_county.proofs.Common.{SequencedType, Seven, Typed, all-in_order, all_known, all_map, by_type, chain_of, chains_of}
+use Rattle.tl_county.proofs.Common.{cons_option, county_of, distinct, first, five_feat, four_rtsq, four_tlid, further_names, further_ranges}
+use Rattle.tl_county.proofs.Common.{has_repeat, i_tlid, in_order, is_rule_broken, key_cmp, landmark_body_cmp, link_cmp, linked_tlids}
+use Rattle.tl_county.proofs.Common.{lt-ltb, map-map, map_agree_all, map_agree_everywhere, named_feats, nat_cmp_total, nat_keys, of_number}
 use Rattle.tl_county.proofs.Common.{of_type_2, of_type_4, of_type_6, on, one_tlid, p_key, polygons_of, put_in_order, rtsqs, seven_land}
 use Rattle.tl_county.proofs.Common.{shape_points, side_keys, six_rtsq, six_tlid, stands_in, tied_itself, times, two_rtsq, two_tlid}
 use Rattle.std.proofs.lemmas.Bool.{cases_order}
 use Rattle.std.specs.Ordering.{ordering_reverse}
 use Rattle.tl_layout.specs.declared.record_type.Record.TheVariants.{Two, Four, Six, I}
 use Rattle.tl_county.specs.declared.fault.LinkedType.TheVariants.{Two as Type2, Four as Type4, Six as Type6, I as TypeI}
-use Rattle.tl_county.specs.declared.fault.SequencedType.TheVariants as sequenced
 use Rattle.tl_layout.specs.ByType.{as_type_2, as_type_4, as_type_6}
 use Rattle.tl_county.specs.Repacked.{Sequence, resequenced, KeepsSequence}
 use Rattle.ordered_lists.proofs.Lists.Elements.{all_both, all_unmap}
 use Rattle.tl_county.proofs.Sameness.SameChains.{chains_alike}
 use Rattle.tl_county.proofs.Lists.OfNumber.{of_number-all}
+use Rattle.tl_county.specs.declared.fault.SequencedType.TheVariants as sequenced
 
 -- the records of the types that aren't ordered by RTSQ
 abbrev pub unsequenced : List Record → Typed

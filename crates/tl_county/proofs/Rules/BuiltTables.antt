@@ -1,15 +1,13 @@
 -- The parts that linking builds from tables in order are the county of their records.
-use Rattle.std.proofs.Common.{rules}
-use Rattle.std.proofs.Common.{◌≡◌, ◌⊎◌, ◌==◌, ℕ, suc, List, [], ◌∷◌, ◌++◌, map, flat_map, length, Bool, true, false, cond, Less}
-use Rattle.std.proofs.Common.{is_eq, inl, inr, sym, refl, ap, ◌∙◌, subst, arith, nat_cmp, IsPermutation, Option, Some, None}
-use Rattle.std.proofs.Common.{unwrap_or, option_map, slice_get, zero}
+use Rattle.std.proofs.Common.{rules, ◌≡◌, ◌⊎◌, ◌==◌, ℕ, suc, List, [], ◌∷◌, ◌++◌, map, flat_map, length, true, false, cond, Less, is_eq}
+use Rattle.std.proofs.Common.{inl, inr, sym, refl, ap, ◌∙◌, subst, arith, nat_cmp, IsPermutation, Option, Some, None, unwrap_or, option_map}
+use Rattle.std.proofs.Common.{slice_get, zero}
 use Rattle.tl_county.proofs.Common.{AllByRecursion, AreInOrder, Chain, Fields1, Fields2, Fields4, Fields6, Fields8, FieldsI, IsCounty}
-use Rattle.tl_county.proofs.Common.{IsFirstBrokenRule, IsInOrder, IsLinked, IsPermutation-trans, IsWithinLimits, LandmarkParts, LinkFault}
+use Rattle.tl_county.proofs.Common.{IsFirstBrokenRule, IsLinked, IsPermutation-trans, IsWithinLimits, LandmarkParts, LinkFault}
 use Rattle.tl_county.proofs.Common.{LinksUnderLands, Record, SameElements, Typed, by_type, by_type_of, chain_nodes, chains_along}
 use Rattle.tl_county.proofs.Common.{county_along, county_of, distinct, eight_land, entry_keys, entry_values, eq-eqb, false≢true, five_feat}
-use Rattle.tl_county.proofs.Common.{four_rtsq, four_tlid, i_tlid, landmark_body_cmp, landmark_entry, landmark_of, link_nodes, link_part}
-use Rattle.tl_county.proofs.Common.{link_part_cmp, links_with, map-map, most_records, nat_keys, ne_eqb, nodes, of_number, on, one_tlid}
-use Rattle.tl_county.proofs.Common.{same-itself, same_or_not, seven_land, six_rtsq, six_tlid, strict_head, strict_tail, two_rtsq, two_tlid}
+use Rattle.tl_county.proofs.Common.{i_tlid, landmark_entry, landmark_of, link_nodes, links_with, map-map, most_records, nat_keys, ne_eqb}
+use Rattle.tl_county.proofs.Common.{nodes, of_number, one_tlid, same-itself, same_or_not, seven_land, strict_head, strict_tail}
 use Rattle.tl_county.proofs.Common.{type_after_type, typed_of, value_under, values-zip}
 use Rattle.std.proofs.lemmas.List.{append-nil}
 use Rattle.std.proofs.lemmas.List.Elements.{filter-append}
@@ -20,8 +18,7 @@ use Rattle.tl_layout.specs.declared.tables.Tables.{Tables}
 use Rattle.tl_county.specs.Building.{landmarks_along}
 use Rattle.ordered_lists.proofs.Lists.EntryLists.{value-at_place}
 use Rattle.tl_county.proofs.Limits.FitsCounty.{county-within_limits}
-use Rattle.ordered_lists.proofs.Lists.Elements.{flat_map-map}
-use Rattle.ordered_lists.proofs.Lists.Elements.{all_places}
+use Rattle.ordered_lists.proofs.Lists.Elements.{flat_map-map, all_places}
 use Rattle.tl_county.proofs.Lists.OfNumber.{of_number-all}
 use Rattle.tl_layout.specs.RecordText.{FitsRecord}
 use Rattle.tl_county.specs.Limits.{HoldsWithinLimits}
@@ -29,7 +26,6 @@ use Rattle.tl_county.specs.OrderedTables.{ArePermuted}
 use Rattle.tl_county.proofs.Rules.LinkedCounty.{county-is_county}
 use Rattle.tl_county.proofs.Rules.LinkedTables.{tlids-strict, feats-strict, side_by_side, county-built}
 use Rattle.ordered_lists.proofs.Lists.Reordered.{from_permutation}
-use Rattle.tl_county.proofs.Rules.RuleTests.{in_order-first}
 use Rattle.tl_county.proofs.Sameness.SameCounty.{reordered-county}
 use Rattle.tl_county.proofs.Sameness.SameRules.{same-sym, same-linked, same-first}
 use Rattle.tl_county.proofs.Rules.TypedRecords.{grouped, permuted-after}

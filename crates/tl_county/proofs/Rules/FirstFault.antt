@@ -1,6 +1,5 @@
 -- If all faults are in a finite list, either there is none or exactly one is the first.
-use Rattle.std.proofs.Common.{rules}
-use Rattle.std.proofs.Common.{◌≡◌, ◌⊎◌, ℕ, List, [], ◌∷◌, Bool, true, false, not, ◌&&◌, ◌||◌, is_gt, sym, refl, ap, ◌∙◌, inl, inr}
+use Rattle.std.proofs.Common.{rules, ◌≡◌, ◌⊎◌, ℕ, List, [], ◌∷◌, Bool, true, false, not, ◌&&◌, ◌||◌, is_gt, sym, refl, ap, ◌∙◌, inl, inr}
 use Rattle.tl_county.proofs.Common.{AllByRecursion, Among, IsKeyOrder, all_among, and_parts, bytes_keys, false≢true, list_all, or_cases}
 use Rattle.tl_county.proofs.Common.{place_cmp}
 use Rattle.std.proofs.lemmas.Bool.{not-true}

@@ -1,29 +1,19 @@
 -- Either a list of records is linked, or exactly one rule is the first that is broken.
-use Rattle.std.proofs.Common.{rules}
-use Rattle.tl_county.proofs.Common.{common_steps}
-use Rattle.std.proofs.Common.{◌≡◌, ◌⊎◌, ◌<◌, ℕ, zero, suc, nat_lt, ◌==◌, List, [], ◌∷◌, ◌++◌, map, flat_map, Bool, true, false}
-use Rattle.std.proofs.Common.{cond, not, ◌&&◌, is_eq, sym, refl, ap, ◌∙◌, subst, inl, inr, nat_cmp, arith}
-use Rattle.tl_county.proofs.Common.{Among, ChainTwice, Fields4, Four, I, Known, LandUnknown, LinkFault, LinkMissing, LinkTwice, LinkedType}
-use Rattle.tl_county.proofs.Common.{Memory, NameTwice, NameUnknown, NoChain, PolygonTwice, PolygonUnknown, Record, SequenceBroken}
-use Rattle.tl_county.proofs.Common.{SequencedType, Six, Two, and_parts, differ_apart, eight_land, eqb-true, false≢true, five_feat}
-use Rattle.tl_county.proofs.Common.{four_rtsq, four_tlid, has_repeat, i_tlid, key_cmp, key_keys, known-append, link_key, ltb-true, nat_keys}
-use Rattle.tl_county.proofs.Common.{ne_eqb, of_number, of_type_2, of_type_4, of_type_5, of_type_6, of_type_8, of_type_i, of_type_p, p_key}
-use Rattle.tl_county.proofs.Common.{same_or_not, six_rtsq, six_tlid, stands_in, times, times-no, times-yes, two_rtsq, two_tlid}
-use Rattle.tl_county.specs.declared.fault.SequencedType.TheVariants as sequenced
+use Rattle.std.proofs.Common.{rules, ◌≡◌, ◌⊎◌, ◌<◌, ℕ, zero, suc, nat_lt, ◌==◌, List, [], ◌∷◌, ◌++◌, map, flat_map, Bool, true, false, cond}
+use Rattle.std.proofs.Common.{not, ◌&&◌, is_eq, refl, inl, inr, nat_cmp, arith}
+use Rattle.tl_county.proofs.Common.{common_steps, Among, ChainTwice, Fields4, Four, I, Known, LandUnknown, LinkFault, LinkMissing}
+use Rattle.tl_county.proofs.Common.{LinkTwice, LinkedType, Memory, NameTwice, NameUnknown, NoChain, PolygonTwice, PolygonUnknown, Record}
+use Rattle.tl_county.proofs.Common.{SequenceBroken, SequencedType, Six, Two, and_parts, differ_apart, eight_land, eqb-true, false≢true}
+use Rattle.tl_county.proofs.Common.{five_feat, four_rtsq, four_tlid, has_repeat, i_tlid, key_keys, known-append, link_key, ltb-true}
+use Rattle.tl_county.proofs.Common.{nat_keys, ne_eqb, of_number, of_type_2, of_type_4, of_type_5, of_type_6, of_type_8, of_type_i}
+use Rattle.tl_county.proofs.Common.{of_type_p, p_key, same_or_not, six_rtsq, six_tlid, stands_in, times, times-no, times-yes, two_rtsq}
+use Rattle.tl_county.proofs.Common.{two_tlid}
 use Rattle.tl_county.specs.LinkedTypes.{linked_type}
-use Rattle.tl_county.specs.LinkRules.{
-  chain_tlids,
-  linked_tlids,
-  rtsqs,
-  named_feats,
-  is_rule_broken,
-  link_fault_place,
-  IsLinked,
-  IsFirstBrokenRule,
-}
+use Rattle.tl_county.specs.LinkRules.{chain_tlids, linked_tlids, rtsqs, named_feats, is_rule_broken, link_fault_place, IsLinked}
+use Rattle.tl_county.specs.LinkRules.{IsFirstBrokenRule}
 use Rattle.ordered_lists.proofs.Lists.Among.{among_left, among_right, known_among}
-use Rattle.tl_county.proofs.Rules.FirstFault.{first_or_none, not_first, one_first}
-use Rattle.tl_county.proofs.Rules.FirstFault.{none_there, least_there, none_computed, first_computed}
+use Rattle.tl_county.proofs.Rules.FirstFault.{first_or_none, not_first, one_first, none_there, least_there, none_computed, first_computed}
+use Rattle.tl_county.specs.declared.fault.SequencedType.TheVariants as sequenced
 
 -- the fault at a place
 abbrev pub part : List (List ℕ) → ℕ → List ℕ

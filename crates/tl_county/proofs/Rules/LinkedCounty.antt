@@ -1,28 +1,26 @@
 -- The county of a linked list of records: its numbers ascend, and each number that it names exists.
-use Rattle.std.proofs.Common.{rules}
-use Rattle.std.proofs.Common.{◌≡◌, ◌⊎◌, ◌<◌, ◌≤◌, ◌+◌, ◌==◌, ◌||◌, ℕ, nat_lt, length, length-append, filter, cond, is_eq, is_some}
-use Rattle.std.proofs.Common.{inl, inr, Option, List, [], ◌∷◌, ◌++◌, map, flat_map, Bool, true, false, not, ◌&&◌, IsTrue, sym}
-use Rattle.std.proofs.Common.{refl, ap, ◌∙◌, subst, arith, nat_cmp, map-id}
-use Rattle.tl_county.proofs.Common.{AllByRecursion, AllKeysStandIn, AllStandIn, Among, Body7, BodyP, Chain, ChainTwice, Fields1, Fields4}
-use Rattle.tl_county.proofs.Common.{Fields5, Fields7, Fields8, FieldsI, FieldsP, I, IsApart, IsCounty, IsLinked, IsWhole, Known}
-use Rattle.tl_county.proofs.Common.{LandUnknown, LinkMissing, LinkTwice, NameTwice, NameUnknown, NoChain, PolygonKey, PolygonUnknown}
-use Rattle.tl_county.proofs.Common.{Record, all-in_order, all_everywhere, all_joined, all_known, all_map, all_weaker, among-map}
-use Rattle.tl_county.proofs.Common.{among-pieces, among-unmap, among_known, chain_of, chain_polygons, chain_tlids, chains_of, county_of}
-use Rattle.tl_county.proofs.Common.{distinct, distinct-strict, each_from, eight_land, eq-eqb, false≢true, feats, first, five_feat}
-use Rattle.tl_county.proofs.Common.{four_rtsq, four_tlid, further_names, i_tlid, in_order, in_order-map, key_cmp, key_keys, known-append}
-use Rattle.tl_county.proofs.Common.{known-distinct, known-left, known_from_distinct, known_is_among, landmark_body_cmp, landmark_body_keys}
-use Rattle.tl_county.proofs.Common.{lands, length-in_order, length-map, link_cmp, link_key, lt-ltb, ltb-false, ltb-true, map-map}
-use Rattle.tl_county.proofs.Common.{named_feats, nat_cmp_total, nat_keys, of_number, of_type_1, of_type_4, of_type_5, of_type_7, of_type_8}
-use Rattle.tl_county.proofs.Common.{of_type_i, of_type_p, on, on_total, one_tlid, p_key, polygon_body, polygon_keys, polygons_along}
-use Rattle.tl_county.proofs.Common.{seven_land, shape_points, side_keys, stands_in, times, times-no, tlids, to_in_order}
+use Rattle.std.proofs.Common.{rules, ◌≡◌, ◌⊎◌, ◌<◌, ◌≤◌, ◌+◌, ◌||◌, ℕ, nat_lt, length, length-append, filter, cond, is_eq, is_some, inl}
+use Rattle.std.proofs.Common.{inr, List, [], ◌∷◌, ◌++◌, map, flat_map, Bool, true, false, not, ◌&&◌, IsTrue, sym, refl, ap, ◌∙◌, subst}
+use Rattle.std.proofs.Common.{arith, nat_cmp, map-id}
+use Rattle.tl_county.proofs.Common.{AllByRecursion, AllKeysStandIn, Among, Body7, Chain, ChainTwice, Fields1, Fields4, Fields5, Fields7}
+use Rattle.tl_county.proofs.Common.{Fields8, FieldsI, FieldsP, I, IsApart, IsCounty, IsLinked, IsWhole, Known, LandUnknown, LinkMissing}
+use Rattle.tl_county.proofs.Common.{LinkTwice, NameTwice, NameUnknown, NoChain, PolygonKey, PolygonUnknown, Record, all-in_order}
+use Rattle.tl_county.proofs.Common.{all_everywhere, all_joined, all_known, all_map, all_weaker, among-map, among-pieces, among-unmap}
+use Rattle.tl_county.proofs.Common.{among_known, chain_of, chain_tlids, chains_of, county_of, distinct, distinct-strict, each_from}
+use Rattle.tl_county.proofs.Common.{eight_land, eq-eqb, false≢true, feats, first, five_feat, four_rtsq, four_tlid, further_names, i_tlid}
+use Rattle.tl_county.proofs.Common.{in_order, in_order-map, key_cmp, key_keys, known-append, known-distinct, known-left}
+use Rattle.tl_county.proofs.Common.{known_from_distinct, known_is_among, landmark_body_cmp, landmark_body_keys, lands, length-in_order}
+use Rattle.tl_county.proofs.Common.{length-map, link_key, lt-ltb, ltb-false, ltb-true, map-map, named_feats, nat_cmp_total, nat_keys}
+use Rattle.tl_county.proofs.Common.{of_number, of_type_1, of_type_4, of_type_5, of_type_7, of_type_8, of_type_i, of_type_p, on, on_total}
+use Rattle.tl_county.proofs.Common.{one_tlid, p_key, polygon_body, polygon_keys, polygons_along, seven_land, shape_points, side_keys}
+use Rattle.tl_county.proofs.Common.{stands_in, times, times-no, tlids, to_in_order}
 use Rattle.std.proofs.lemmas.Bool.{or_left, or_right}
 use Rattle.std.specs.List.Sorted.{IsStrictlySortedBy}
 use Rattle.tl_county.proofs.Sameness.Carried.{among-unpieces}
 use Rattle.ordered_lists.proofs.Lists.InOrder.{in_order-in_order}
 use Rattle.tl_county.specs.Laws.KeyOrders.{link_keys}
 use Rattle.ordered_lists.proofs.Lists.Reordered.{to_filter}
-use Rattle.ordered_lists.proofs.ByKey.Numbers.{only_one, times-in_order, from_in_order}
-use Rattle.ordered_lists.proofs.ByKey.Numbers.{strict_from_order}
+use Rattle.ordered_lists.proofs.ByKey.Numbers.{only_one, times-in_order, from_in_order, strict_from_order}
 use Rattle.tl_county.proofs.Lists.OfNumber.{times-of_number, of_number-among}
 
 -- if a test never holds without another, the other holds whenever it does

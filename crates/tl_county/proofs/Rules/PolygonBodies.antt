@@ -1,6 +1,5 @@
 -- A polygon has the content of its type P record.
-use Rattle.std.proofs.Common.{rules}
-use Rattle.std.proofs.Common.{◌≡◌, ◌⊎◌, ◌≤◌, suc, List, [], ◌∷◌, map, filter, Bool, true, false, cond, Some, is_eq, sym, refl, ap}
+use Rattle.std.proofs.Common.{rules, ◌≡◌, ◌⊎◌, ◌≤◌, suc, List, [], ◌∷◌, map, filter, Bool, true, false, cond, Some, is_eq, sym, refl, ap}
 use Rattle.std.proofs.Common.{◌∙◌, subst, inl, inr, arith}
 use Rattle.tl_county.proofs.Common.{Among, BodyP, FieldsP, IsApart, Known, PolygonKey, among-map, among_known, apart_tail, first, key_cmp}
 use Rattle.tl_county.proofs.Common.{key_keys, p_key, same-itself, same-true, same_or_not, times, times-yes}

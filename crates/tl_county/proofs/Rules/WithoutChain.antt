@@ -1,14 +1,11 @@
 -- Polygons with a type P record that are on no side: in the tables of linked records, and in their county.
-use Rattle.std.proofs.Common.{rules}
-use Rattle.std.proofs.Common.{◌≡◌, ◌⊎◌, ℕ, suc, nat_lt, List, [], ◌∷◌, ◌++◌, length, filter, map, flat_map, Bool, true, false}
-use Rattle.std.proofs.Common.{cond, not, ◌&&◌, ◌||◌, Option, is_eq, is_some, refl, sym, ap, ap₂, ◌∙◌, arith, Ordering}
-use Rattle.std.proofs.Common.{None, Some, inl, inr, map-id}
-use Rattle.tl_county.proofs.Common.{AllByRecursion, Among, Chain, Fields1, FieldsI, FieldsP, IsKeyOrder, IsLeastPassing, IsLinked, Known}
-use Rattle.tl_county.proofs.Common.{PolygonKey, Record, all_among, among-pieces, among_known, chain_of, chain_polygons, chains_of}
-use Rattle.tl_county.proofs.Common.{count-map, county_of, distinct, distinct_same, each_from, false≢true, first, is_unknown, key_cmp}
-use Rattle.tl_county.proofs.Common.{key_keys, known-append, known-left, known-right, known_is_among, list_any, lt-ltb, ltb-true, of_type_1}
-use Rattle.tl_county.proofs.Common.{of_type_i, of_type_p, p_key, polygon_body, polygons_along, same-true, side_keys, stands_alike}
-use Rattle.tl_county.proofs.Common.{stands_in, times}
+use Rattle.std.proofs.Common.{rules, ◌≡◌, ℕ, suc, nat_lt, List, [], ◌∷◌, ◌++◌, length, filter, map, flat_map, Bool, true, false, cond, not}
+use Rattle.std.proofs.Common.{◌&&◌, ◌||◌, Option, is_eq, is_some, refl, sym, ap, ap₂, ◌∙◌, arith, Ordering, None, Some, map-id}
+use Rattle.tl_county.proofs.Common.{AllByRecursion, Among, Chain, Fields1, FieldsI, IsKeyOrder, IsLeastPassing, IsLinked, Known, PolygonKey}
+use Rattle.tl_county.proofs.Common.{Record, all_among, among-pieces, among_known, chain_of, chain_polygons, chains_of, count-map, county_of}
+use Rattle.tl_county.proofs.Common.{distinct, distinct_same, each_from, false≢true, first, is_unknown, key_cmp, key_keys, known-append}
+use Rattle.tl_county.proofs.Common.{known-left, known-right, known_is_among, list_any, lt-ltb, ltb-true, of_type_1, of_type_i, of_type_p}
+use Rattle.tl_county.proofs.Common.{p_key, polygon_body, polygons_along, same-true, side_keys, stands_alike, stands_in}
 use Rattle.tl_county.specs.CountyRules.{has_body, is_without_chain}
 use Rattle.tl_county.proofs.Sameness.Carried.{among-unpieces}
 use Rattle.tl_county.proofs.ByKey.KeySets.{stands_in-distinct}

@@ -1,8 +1,6 @@
 -- A renaming that carries takes a closed county to a closed one, and a whole one to a whole one.
-use Rattle.std.proofs.Common.{rules}
-use Rattle.std.proofs.Common.{◌≡◌, ◌⊎◌, ◌≤◌, ◌||◌, ℕ, List, map, length, Bool, true, false}
-use Rattle.std.proofs.Common.{Option, IsTrue, is_some, option_to_list, Ordering, sym, refl, subst, inl, inr, arith}
-use Rattle.std.proofs.Common.{nat_cmp}
+use Rattle.std.proofs.Common.{rules, ◌≡◌, ◌≤◌, ◌||◌, ℕ, List, map, length, Bool, true, false, Option, IsTrue, is_some, option_to_list}
+use Rattle.std.proofs.Common.{Ordering, sym, refl, subst, nat_cmp}
 use Rattle.tl_county.proofs.Common.{AllKeysStandIn, AllStandIn, Among, Body7, BodyP, Carries, Chain, County, Fields8, IsKeyOrder}
 use Rattle.tl_county.proofs.Common.{IsPermutation-sym, IsWhole, Known, PolygonKey, Renumbering, all_among, among-map, among-permutation}
 use Rattle.tl_county.proofs.Common.{among-pieces, among-unmap, among_known, carried_chain, carried_landmark, carried_link, carried_polygon}
@@ -14,7 +12,7 @@ use Rattle.std.proofs.lemmas.List.{length-reverse}
 use Rattle.tl_county.specs.CountyRules.{IsClosed}
 use Rattle.ordered_lists.specs.Pairs.{ArePaired}
 use Rattle.tl_county.proofs.Sameness.Carried.{among-swapped, among-turned, among-unpieces, chain_polygons-renumbered}
-use Rattle.ordered_lists.proofs.ByKey.Keys.{lefts, rights, known-permutation, known-permutation_to, image-known}
+use Rattle.ordered_lists.proofs.ByKey.Keys.{known-permutation, known-permutation_to, image-known}
 
 -- a turn keeps the nodes and polygons of a chain, in both directions
 pub nodes-turned : (n : ℕ) (b : Bool) (c : Chain) → Among n (chain_nodes c) → Among n (chain_nodes (turned_if b c))

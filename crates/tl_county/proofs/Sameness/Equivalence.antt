@@ -1,8 +1,6 @@
 -- Sameness is an equivalence: the identity carries, and so do inverses and compositions of renamings that carry.
-use Rattle.std.proofs.Common.{rules}
-use Rattle.std.proofs.Common.{◌≡◌, ◌⊎◌, ℕ, nat_lt, List, [], ◌∷◌, Bool, true, false, map, filter, Ordering, IsTrue, is_eq, sym}
-use Rattle.std.proofs.Common.{refl, ap, ◌∙◌, subst, inl, inr, IsPermutation, nat_cmp, Option, Some, None, option_map}
-use Rattle.std.proofs.Common.{option_to_list, map-id}
+use Rattle.std.proofs.Common.{rules, ◌≡◌, ℕ, nat_lt, List, [], ◌∷◌, Bool, true, false, map, filter, Ordering, IsTrue, sym, refl, ap, ◌∙◌}
+use Rattle.std.proofs.Common.{subst, IsPermutation, nat_cmp, Option, Some, None, option_map, option_to_list, map-id}
 use Rattle.tl_county.proofs.Common.{AllByRecursion, AllKeysStandIn, AllStandIn, Carries, Chain, County, Fields8, IsApart, IsCounty}
 use Rattle.tl_county.proofs.Common.{IsKeyOrder, IsPermutation-refl, IsPermutation-sym, IsPermutation-trans, Known, PolygonKey, Renumbering}
 use Rattle.tl_county.proofs.Common.{all_known, all_map, all_weaker, apart_from_sorted, carried_chain, carried_landmark, carried_link}
@@ -12,17 +10,12 @@ use Rattle.tl_county.proofs.Common.{map_agree_all, nat_keys, nodes, polygon_keys
 use Rattle.tl_county.proofs.Common.{times, tlids, turned_if, turns}
 use Rattle.std.proofs.lemmas.List.Sorted.{IsPermutation-map}
 use Rattle.tl_county.specs.CountyRules.{IsClosed, nodes_along}
-use Rattle.tl_county.specs.Renumbering.{renumbered_side}
-use Rattle.tl_county.specs.Renumbering.{carried_name}
-use Rattle.ordered_lists.specs.Pairs.{ArePaired}
-use Rattle.tl_county.specs.Renumbering.{AreSame, identity, inverse, exactly_one, then}
-use Rattle.ordered_lists.specs.Pairs.{to_itself, swapped, is_named, composed}
+use Rattle.tl_county.specs.Renumbering.{renumbered_side, carried_name, AreSame, identity, inverse, exactly_one, then}
+use Rattle.ordered_lists.specs.Pairs.{ArePaired, to_itself, swapped, is_named, composed}
 use Rattle.tl_shape.specs.TurnLaws.{turned-turned}
 use Rattle.tl_shape.specs.Turned.{turned}
-use Rattle.ordered_lists.proofs.Lists.Elements.{map_itself, all_unmap, all_left, all_right}
-use Rattle.ordered_lists.proofs.Lists.Elements.{all_pieces, all_filter}
-use Rattle.ordered_lists.proofs.ByKey.Keys.{lefts, rights}
-use Rattle.ordered_lists.proofs.ByKey.Keys.{apart-permutation, known-permutation, known-permutation_to, image-known}
+use Rattle.ordered_lists.proofs.Lists.Elements.{map_itself, all_unmap, all_left, all_right, all_pieces, all_filter}
+use Rattle.ordered_lists.proofs.ByKey.Keys.{lefts, rights, apart-permutation, known-permutation, known-permutation_to, image-known}
 use Rattle.ordered_lists.proofs.ByKey.Keys.{times-images, has_repeat-images, apart-filter, stands_in-filter, image-back, image-yes}
 use Rattle.ordered_lists.proofs.ByKey.Keys.{image-no, rights-swapped, lefts-swapped, image-to_itself, lefts-to_itself, rights-to_itself}
 use Rattle.ordered_lists.proofs.ByKey.Keys.{images-lefts, followed, joined-followed, image-followed, lefts-followed, rights-followed}

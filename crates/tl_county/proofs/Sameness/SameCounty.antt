@@ -1,7 +1,6 @@
 -- The county depends neither on the order of the records, nor on the packing of types 2 and 4, nor on the choice of RTSQs.
-use Rattle.std.proofs.Common.{rules}
-use Rattle.std.proofs.Common.{◌≡◌, ◌≤◌, ℕ, nat_lt, ◌==◌, List, [], ◌∷◌, ◌++◌, map, flat_map, filter, length, false}
-use Rattle.std.proofs.Common.{is_eq, sym, ap, ◌∙◌, arith, nat_cmp, IsPermutation}
+use Rattle.std.proofs.Common.{rules, ◌≡◌, ◌≤◌, ℕ, nat_lt, ◌==◌, List, [], ◌∷◌, ◌++◌, map, flat_map, filter, length, false, is_eq, sym, ap}
+use Rattle.std.proofs.Common.{◌∙◌, arith, nat_cmp, IsPermutation}
 use Rattle.tl_county.proofs.Common.{ChainTwice, Fields1, Fields2, Fields4, Fields5, Fields6, Fields7, FieldsI, FieldsP, IsLinked, LinkTwice}
 use Rattle.tl_county.proofs.Common.{NameTwice, PolygonKey, PolygonTwice, Record, RecordType, SameElements, SequenceBroken, Type1, Type2}
 use Rattle.tl_county.proofs.Common.{Type4, Type5, Type6, Type7, Type8, TypeI, TypeP, apart_from_no_repeat, chain_of, chain_tlids, chains_of}
@@ -10,14 +9,13 @@ use Rattle.tl_county.proofs.Common.{i_tlid, in_order, key_cmp, key_keys, landmar
 use Rattle.tl_county.proofs.Common.{map_agree_everywhere, nat_keys, of_number, of_type, of_type_1, of_type_2, of_type_4, of_type_5}
 use Rattle.tl_county.proofs.Common.{of_type_6, of_type_7, of_type_8, of_type_i, of_type_p, on, one_tlid, p_key, polygon_body, polygons_of}
 use Rattle.tl_county.proofs.Common.{seven_land, side_keys, six_rtsq, six_tlid, times, two_rtsq, two_tlid}
-use Rattle.tl_county.specs.declared.fault.SequencedType.TheVariants as sequenced
 use Rattle.tl_county.specs.County.{landmarks_of}
 use Rattle.tl_county.proofs.Sameness.SameChains.{chains_alike}
 use Rattle.tl_county.proofs.Sameness.SameRules.{keys_alike, same_of_type, same_in_type, same-linked}
 use Rattle.tl_county.specs.Laws.KeyOrders.{link_keys}
 use Rattle.tl_county.proofs.Lists.OfNumber.{times-of_number}
-use Rattle.ordered_lists.proofs.Lists.Reordered.{from_permutation, same-filter, same-map, times-same}
-use Rattle.ordered_lists.proofs.Lists.Reordered.{few_same, numbered_same, ordered_same}
+use Rattle.ordered_lists.proofs.Lists.Reordered.{from_permutation, same-filter, same-map, times-same, few_same, numbered_same, ordered_same}
+use Rattle.tl_county.specs.declared.fault.SequencedType.TheVariants as sequenced
 
 module _ (xs ys : List Record) (p : IsPermutation xs ys) (linked : IsLinked xs) where
   s_all : SameElements xs ys

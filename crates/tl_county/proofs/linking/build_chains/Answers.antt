@@ -1,6 +1,6 @@
 use Rattle.std.proofs.Common.{◌≡◌, map, length, sym, ap, ◌∙◌, subst, nat_cmp}
-use Rattle.tl_county.proofs.Common.{IsInOrder, chains_along, entries-equal, four_tlid, keys-map_values, keys-zip, length-map, map_values}
-use Rattle.tl_county.proofs.Common.{on, one_tlid, six_tlid, two_tlid, typed_of, values-map_values, values-zip}
+use Rattle.tl_county.proofs.Common.{chains_along, entries-equal, keys-map_values, keys-zip, length-map, map_values}
+use Rattle.tl_county.proofs.Common.{one_tlid, typed_of, values-map_values, values-zip}
 use Rattle.std.specs.List.Sorted.{IsStrictlySortedBy}
 use Rattle.tl_county.proofs.Rules.BuiltTables.{tlids-ascend, beside, length-chains_along}
 use Rattle.tl_county.proofs.Rules.TlidsInOrder.{twos_in_order, fours_in_order, sixes_in_order}

@@ -1,9 +1,7 @@
-use Rattle.std.proofs.Common.{rules}
-use Rattle.std.proofs.Common.{◌≡◌, ℕ, List, map, map-id, sym, ap, ◌∙◌, subst, nat_cmp}
-use Rattle.tl_county.proofs.Common.{IsInOrder, distinct, distinct-strict, eight_land, entries-equal, keys-map_values, landmark_of, map-map}
-use Rattle.tl_county.proofs.Common.{map_values, nat_keys, on, seven_land, typed_of, values-map_values}
+use Rattle.std.proofs.Common.{rules, ◌≡◌, ℕ, List, map, map-id, sym, ap, ◌∙◌, nat_cmp}
+use Rattle.tl_county.proofs.Common.{distinct, distinct-strict, entries-equal, keys-map_values, landmark_of, map-map, map_values, nat_keys}
+use Rattle.tl_county.proofs.Common.{seven_land, values-map_values}
 use Rattle.tl_county.proofs.Rules.TlidsInOrder.{tables_in_order}
-use Rattle.std.specs.List.Sorted.{IsStrictlySortedBy}
 use Rattle.tl_county.proofs.linking.build_landmarks.Goals as goal
 
 pub lands_of-requires : goal.lands_of-requires

@@ -1,7 +1,5 @@
-use Rattle.std.proofs.Common.{rules}
-use Rattle.std.proofs.Common.{List, ◌++◌, map, flat_map, map-id, sym, ◌∙◌, subst}
-use Rattle.tl_county.proofs.Common.{PolygonKey, distinct, distinct-strict, entries-equal, key_cmp, key_keys, map-map, p_key}
-use Rattle.tl_county.proofs.Common.{polygon_body_of, side_keys}
+use Rattle.std.proofs.Common.{rules, ◌++◌, map, flat_map, map-id, sym, subst}
+use Rattle.tl_county.proofs.Common.{distinct-strict, entries-equal, key_cmp, key_keys, map-map, p_key, side_keys}
 use Rattle.std.specs.List.Sorted.{IsStrictlySortedBy}
 use Rattle.tl_county.proofs.linking.build_polygons.Goals as goal
 

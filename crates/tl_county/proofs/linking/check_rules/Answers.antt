@@ -1,5 +1,4 @@
-use Rattle.std.proofs.Common.{rules}
-use Rattle.std.proofs.Common.{ℕ, List, Result, Ok, Err, OnOk, IfErr, MatchResult, sym, subst, arith}
+use Rattle.std.proofs.Common.{rules, ℕ, List, Result, Ok, Err, OnOk, IfErr, MatchResult, sym, subst, arith}
 use Rattle.tl_county.proofs.Common.{IsFirstBrokenRule, IsLinked, LinkFault, Record, RulesHold}
 use Rattle.std.proofs.lemmas.Result.{err_from_is_err_and}
 use Rattle.tl_county.specs.RepeatedKeys.{AreLeastRepeated}

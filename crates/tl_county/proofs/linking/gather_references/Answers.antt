@@ -1,6 +1,5 @@
 use Rattle.std.proofs.Common.{rules}
-use Rattle.std.proofs.Common.{nat_cmp, sym, subst}
-use Rattle.tl_county.proofs.Common.{IsInOrder, five_feat, in_order-map}
+use Rattle.tl_county.proofs.Common.{in_order-map}
 use Rattle.tl_county.proofs.linking.gather_references.Goals as goal
 
 pub unnamed_use-requires : goal.unnamed_use-requires

@@ -1,4 +1,4 @@
-use Rattle.std.proofs.Common.{◌≡◌, true, rules, refl, sym, ap, ◌∙◌, Some}
+use Rattle.std.proofs.Common.{rules}
 use Rattle.ordered_lists.proofs.Lists.ByPlace.{same_next, same_seen}
 use Rattle.tl_county.proofs.listed.are_same.Goals as goal
 

@@ -1,5 +1,4 @@
-use Rattle.std.proofs.Common.{rules}
-use Rattle.std.proofs.Common.{◌∷◌, [], ◌++◌, take, ap, refl, sym, ◌∙◌, append_assoc}
+use Rattle.std.proofs.Common.{rules, append_assoc}
 use Rattle.ordered_lists.proofs.Lists.Places.{one_more_taken}
 use Rattle.ordered_lists.proofs.Lists.ByPlace.{taken_all}
 use Rattle.tl_county.proofs.listed.push_all.Goals as goal

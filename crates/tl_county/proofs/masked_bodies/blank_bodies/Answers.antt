@@ -1,6 +1,4 @@
 use Rattle.std.proofs.Common.{rules}
-use Rattle.std.proofs.Common.{arith, ap, sym, ◌∙◌}
-use Rattle.tl_county.proofs.Common.{masked_body_7}
 use Rattle.tl_shape.proofs.InPlace.{mapped_next, mapped_all}
 use Rattle.tl_county.proofs.masked_bodies.blank_bodies.Goals as goal
 

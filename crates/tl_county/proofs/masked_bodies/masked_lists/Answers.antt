@@ -1,7 +1,4 @@
 use Rattle.std.proofs.Common.{rules}
-use Rattle.std.proofs.Common.{◌∷◌, [], ◌++◌, take, ap, refl, sym, ◌∙◌, arith}
-use Rattle.tl_county.proofs.Common.{entry_values, masked, masked_bodies}
-use Rattle.tl_county.specs.ChartWords.{bodies_at}
 use Rattle.ordered_lists.proofs.Lists.Places.{one_more_taken}
 use Rattle.tl_county.proofs.Masks.MaskedReads.{masked_value_there, masked_values_count}
 use Rattle.ordered_lists.proofs.Lists.ByPlace.{taken_all}

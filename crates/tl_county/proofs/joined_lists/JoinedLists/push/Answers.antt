@@ -1,5 +1,4 @@
 use Rattle.std.proofs.Common.{rules}
-use Rattle.std.proofs.Common.{◌≡◌, length, arith}
 use Rattle.tl_county.proofs.Masks.JoinedPieces.{list_joined}
 use Rattle.tl_county.proofs.joined_lists.JoinedLists.push.Goals as goal
 

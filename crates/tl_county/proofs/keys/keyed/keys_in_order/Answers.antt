@@ -1,5 +1,4 @@
-use Rattle.std.proofs.Common.{rules}
-use Rattle.std.proofs.Common.{◌≡◌, [], ◌∷◌, ◌++◌, false, is_gt, map, sym, ap, ◌∙◌, subst}
+use Rattle.std.proofs.Common.{rules, ◌≡◌, [], ◌∷◌, ◌++◌, false, is_gt, sym, ◌∙◌, subst}
 use Rattle.tl_county.proofs.Common.{AllByRecursion, IsInOrder}
 use Rattle.std.proofs.lemmas.List.{take_all}
 use Rattle.ordered_lists.proofs.ByKey.KeysInOrder.{at_most-then, in_order-then, in_order-unmap, keys-then}

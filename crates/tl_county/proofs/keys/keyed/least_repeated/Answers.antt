@@ -1,5 +1,4 @@
-use Rattle.std.proofs.Common.{rules}
-use Rattle.std.proofs.Common.{◌≡◌, [], ◌∷◌, map, true, false, is_eq, ap, ◌∙◌, subst}
+use Rattle.std.proofs.Common.{rules, ◌≡◌, ◌∷◌, map, true, false, is_eq, ap, ◌∙◌, subst}
 use Rattle.tl_county.proofs.Common.{IsInOrder, IsKeyOrder, empty_list, is_repeated, on}
 use Rattle.ordered_lists.proofs.ByKey.KeyedLists.{decided-twice, left-once, left-one}
 use Rattle.tl_county.proofs.keys.keyed.least_repeated.Goals as goal

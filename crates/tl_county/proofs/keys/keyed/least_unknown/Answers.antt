@@ -1,6 +1,6 @@
-use Rattle.std.proofs.Common.{◌≡◌, Less, Equal, Greater, subst}
+use Rattle.std.proofs.Common.{◌≡◌, Less, Greater, subst}
 use Rattle.tl_county.proofs.Common.{IsInOrder, IsKeyOrder, empty_list, on}
-use Rattle.ordered_lists.proofs.ByKey.KeyedLists.{decided-last, decided-first, left-same, left-below}
+use Rattle.ordered_lists.proofs.ByKey.KeyedLists.{decided-last, decided-first, left-below}
 use Rattle.tl_county.proofs.keys.keyed.least_unknown.Goals as goal
 
 pub returns-in-None : goal.returns-in-None

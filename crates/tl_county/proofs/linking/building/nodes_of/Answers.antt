@@ -1,6 +1,5 @@
 use Rattle.std.proofs.Common.{rules}
-use Rattle.std.proofs.Common.{◌≡◌, ◌+◌, ◌++◌, flat_map, take, option_to_list, arith}
-use Rattle.tl_county.proofs.Common.{common_steps, link_nodes, nat_keys}
+use Rattle.tl_county.proofs.Common.{common_steps, nat_keys}
 use Rattle.tl_county.proofs.ByKey.KeySets.{distinct-two-more}
 use Rattle.tl_county.proofs.linking.building.nodes_of.Goals as goal
 

@@ -1,5 +1,5 @@
 use Rattle.std.proofs.Common.{[], ◌∷◌, ◌++◌, map, ap, ◌∙◌}
-use Rattle.tl_county.proofs.Common.{four_tlid, later_than, map-append, six_tlid, two_tlid}
+use Rattle.tl_county.proofs.Common.{map-append}
 use Rattle.tl_county.proofs.Lists.Groups.{chain-of_groups}
 use Rattle.tl_county.proofs.linking.building.push_chain.Goals as goal
 

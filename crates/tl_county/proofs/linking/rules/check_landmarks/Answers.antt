@@ -1,13 +1,12 @@
-use Rattle.std.proofs.Common.{rules}
-use Rattle.std.proofs.Common.{◌≡◌, ℕ, List, ◌++◌, map, flat_map, sym, ◌∙◌, subst, nat_cmp, Option, Some, None, arith, map-id}
+use Rattle.std.proofs.Common.{rules, ◌≡◌, ℕ, List, ◌++◌, map, flat_map, sym, ◌∙◌, subst, nat_cmp, Option, Some, None, arith, map-id}
 use Rattle.std.proofs.Common.{IsPermutation}
 use Rattle.tl_county.proofs.Common.{FieldsP, IsInOrder, IsLeastPassing, PolygonKey, Record, RulesHold, Typed, by_type, distinct}
-use Rattle.tl_county.proofs.Common.{distinct-in_order, eight_land, is_repeated, is_unknown, key_cmp, key_keys, landmark_body_cmp}
-use Rattle.tl_county.proofs.Common.{least-same, link_key, link_part, link_part_cmp, on, p_key, seven_land, side_keys, typed_of}
+use Rattle.tl_county.proofs.Common.{distinct-in_order, eight_land, is_repeated, is_unknown, key_cmp, key_keys, least-same, link_key, p_key}
+use Rattle.tl_county.proofs.Common.{seven_land, side_keys, typed_of}
 use Rattle.ordered_lists.proofs.ByKey.KeyedLists.{at_lists}
 use Rattle.tl_county.proofs.Rules.TlidsInOrder.{tables_in_order}
 use Rattle.tl_county.proofs.Rules.RuleOrders.{rule-holds, rule-broken, rules-join, first-after}
-use Rattle.tl_county.proofs.Rules.RuleTests.{in_order-first, unknown-distinct, rule_18, rule_19, rule_20}
+use Rattle.tl_county.proofs.Rules.RuleTests.{unknown-distinct, rule_18, rule_19, rule_20}
 use Rattle.tl_county.proofs.linking.rules.check_landmarks.Goals as goal
 
 -- the least polygon that occurs twice among the type P records, the least LAND that the other table lacks, or none

@@ -1,5 +1,4 @@
-use Rattle.std.proofs.Common.{rules}
-use Rattle.std.proofs.Common.{ℕ, List, map, refl, subst, Option, None, arith}
+use Rattle.std.proofs.Common.{rules, ℕ, List, map, refl, subst, Option, None, arith}
 use Rattle.tl_county.proofs.Common.{IsLeastPassing, Record, RulesHold, Typed, by_type, four_rtsq, four_tlid, is_repeated, sequence_cmp}
 use Rattle.tl_county.proofs.Common.{six_rtsq, six_tlid, two_rtsq, two_tlid}
 use Rattle.tl_county.specs.SequenceKeys.{two_sequence, four_sequence, six_sequence}

@@ -1,6 +1,5 @@
-use Rattle.std.proofs.Common.{rules}
-use Rattle.std.proofs.Common.{ap, sym, ◌∙◌, flat_map}
-use Rattle.tl_county.proofs.Common.{is_unnamed, least-same, sequence_cmp, uses_of}
+use Rattle.std.proofs.Common.{rules, sym, ◌∙◌}
+use Rattle.tl_county.proofs.Common.{least-same}
 use Rattle.tl_county.proofs.ByKey.MarkedNames.{none_unnamed}
 use Rattle.tl_county.proofs.Rules.RuleTests.{unnamed-reordered}
 use Rattle.tl_county.proofs.linking.rules.unnamed_use.Goals as goal

@@ -1,7 +1,4 @@
 use Rattle.std.proofs.Common.{rules}
-use Rattle.std.proofs.Common.{ap, ◌∙◌}
-use Rattle.tl_county.proofs.Common.{distinct, key_cmp}
-use Rattle.std.proofs.lemmas.Result.{IfOk-weaker}
 use Rattle.tl_county.proofs.ByKey.PolygonSets.{keys_themselves}
 use Rattle.tl_county.proofs.keys.key_set.KeySet+PolygonKey.in_order.Goals as goal
 

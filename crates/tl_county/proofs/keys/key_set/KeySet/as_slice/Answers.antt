@@ -1,6 +1,4 @@
 use Rattle.std.proofs.Common.{rules}
-use Rattle.std.proofs.Common.{◌≡◌, false, subst}
-use Rattle.tl_county.proofs.Common.{IsKeyOrder, has_repeat}
 use Rattle.tl_county.proofs.ByKey.KeySets.{no_repeat}
 use Rattle.tl_county.proofs.keys.key_set.KeySet.as_slice.Goals as goal
 

@@ -1,6 +1,4 @@
 use Rattle.std.proofs.Common.{rules}
-use Rattle.std.proofs.Common.{◌∷◌, ◌++◌, [], ap, ◌∙◌}
-use Rattle.tl_county.proofs.Common.{IsKeyOrder, distinct}
 use Rattle.tl_county.proofs.ByKey.KeySets.{inserted-distinct}
 use Rattle.tl_county.proofs.keys.key_set.KeySet.insert.Goals as goal
 
