@@ -21,14 +21,10 @@ module _ (c : County) (is : IsCounty c) where
       (pack e) (own e)) c.chains (keys_known nat_keys c.chains)))
 
   pub all_linked : (t : LinkedType) → AllByRecursion (Known nat_cmp (tlids c)) (linked_tlids t (packed c))
-  all_linked Two = subst (λ xs. AllByRecursion (Known nat_cmp (tlids c)) (map two_tlid xs)) (sym (twos c is))
-      (linked_known two_tlid packed_twos two_own)
-  all_linked Four = subst (λ xs. AllByRecursion (Known nat_cmp (tlids c)) (map four_tlid xs)) (sym (fours c is))
-      (linked_known four_tlid packed_fours four_own)
-  all_linked Six = subst (λ xs. AllByRecursion (Known nat_cmp (tlids c)) (map six_tlid xs)) (sym (sixes c is))
-      (linked_known six_tlid packed_sixes six_own)
-  all_linked I = subst (AllByRecursion (Known nat_cmp (tlids c))) (sym (link_numbers c is))
-      (each_from (Known nat_cmp (tlids c)) (tlids c) (λ n m. among_known nat_keys n (tlids c) m))
+  all_linked Two = search (rules, twos, linked_known, two_own)
+  all_linked Four = search (rules, fours, linked_known, four_own)
+  all_linked Six = search (rules, sixes, linked_known, six_own)
+  all_linked I = search (rules, link_numbers, each_from, among_known, nat_keys)
 
   -- records with the RTSQs 1, 2, 3, .. repeat none
   no_repeat : {X Y : Type 0} (rtsq : X → ℕ) (make : ℕ × Y → X) → ((piece : ℕ × Y) → rtsq (make piece) ≡ piece.0) → (ys : List Y)
