@@ -1,10 +1,8 @@
 -- The CENID that a look-up finds at a place.
-use Rattle.std.proofs.Common.{rules}
-use Rattle.std.proofs.Common.{◌≡◌, ◌<◌, ℕ, zero, suc, nat_eq, List, [], ◌∷◌, length, get_or, true, Option, Some, None}
-use Rattle.std.proofs.Common.{IfSome, is_some, slice_get, Ordering, refl, sym, ap, ◌∙◌, subst}
+use Rattle.std.proofs.Common.{rules, ◌≡◌, ◌<◌, ℕ, zero, suc, nat_eq, List, [], ◌∷◌, length, get_or, true, Option, Some, None, IfSome}
+use Rattle.std.proofs.Common.{is_some, slice_get, Ordering, sym, subst}
 use Rattle.tl_county.proofs.Common.{IsKeyOrder, Known, false≢true}
 use Rattle.std.proofs.lemmas.Option.{slice_get_read}
-use Rattle.std.specs.Cmp.Lexicographic.{same_text}
 use Rattle.std.specs.Option.{option_eq}
 use lib.Pointwise.{pointwise}
 use Rattle.ordered_lists.proofs.ByKey.Keys.{known-here, known-later}

@@ -1,7 +1,6 @@
 -- Two lists compared from a place on.
-use Rattle.std.proofs.Common.{rules}
-use Rattle.std.proofs.Common.{◌≡◌, ◌<◌, ◌≤◌, ◌+◌, ◌⊎◌, inl, inr, ℕ, zero, suc, List, [], ◌∷◌, length, drop, slice_get, Some, Ordering, Less, Equal, Greater}
-use Rattle.std.proofs.Common.{refl, sym, ap, ◌∙◌, add-one, arith, nat_cmp}
+use Rattle.std.proofs.Common.{rules, ◌≡◌, ◌<◌, ◌≤◌, ◌+◌, ◌⊎◌, inl, inr, ℕ, zero, suc, List, [], ◌∷◌, length, drop, slice_get, Some}
+use Rattle.std.proofs.Common.{Ordering, Less, Equal, Greater, refl, sym, ap, ◌∙◌, add-one, arith, nat_cmp}
 use Rattle.tl_county.proofs.Common.{ordering_then, slice_cmp}
 use Rattle.std.specs.Cmp.{nat_cmp_is}
 use Rattle.std.specs.Ordering.{MatchOrdering}

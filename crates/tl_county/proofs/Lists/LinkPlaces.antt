@@ -1,7 +1,6 @@
 -- The links of the landmark at a place, or past the end.
-use Rattle.std.proofs.Common.{rules}
-use Rattle.std.proofs.Common.{◌≡◌, ℕ, List, [], ◌∷◌, length, true, false, cond, IsTrue, Option, Some, None, IfSome, is_some}
-use Rattle.std.proofs.Common.{slice_get, unwrap_or, nat_cmp, refl, sym, ap, ◌∙◌, subst, arith}
+use Rattle.std.proofs.Common.{rules, ◌≡◌, ℕ, List, [], ◌∷◌, length, false, IsTrue, Option, Some, None, IfSome, is_some, slice_get}
+use Rattle.std.proofs.Common.{unwrap_or, nat_cmp, refl, ap}
 use Rattle.tl_county.proofs.Common.{AllByRecursion, Fields8, eight_land, false≢true, links_with, ne_eqb, of_number, stands_in}
 use Rattle.std.proofs.lemmas.Option.{slice_get_past}
 

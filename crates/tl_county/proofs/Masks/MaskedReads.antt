@@ -1,9 +1,8 @@
 -- The values that a chart reads of a county under a mask.
-use Rattle.std.proofs.Common.{rules}
-use Rattle.std.proofs.Common.{◌≡◌, ◌<◌, ℕ, List, [], map, length, Bool, true, false, cond, Option, Some, None, option_map}
-use Rattle.std.proofs.Common.{slice_get, unwrap_or, refl, sym, ap, ◌∙◌, arith}
-use Rattle.tl_county.proofs.Common.{Body7, Chain, County, entry_values, in_order, landmark_body_cmp, length-map, links_with, map_values}
-use Rattle.tl_county.proofs.Common.{masked, masked_bodies, masked_body_7, values-map_values}
+use Rattle.std.proofs.Common.{rules, ◌≡◌, ◌<◌, ℕ, List, [], length, false, Option, Some, None, option_map, slice_get, refl, sym, ap, ◌∙◌}
+use Rattle.std.proofs.Common.{arith}
+use Rattle.tl_county.proofs.Common.{Body7, Chain, County, entry_values, length-map, links_with, map_values, masked, masked_bodies}
+use Rattle.tl_county.proofs.Common.{values-map_values}
 use Rattle.std.proofs.lemmas.Option.{slice_get-map, slice_get-get_or, unwrap_or-slice_get}
 use Rattle.tl_layout.specs.Masked.{masked_body_1, masked_body_i}
 use Rattle.tl_layout.specs.declared.mask.Mask.{Mask}

@@ -1,18 +1,18 @@
 -- The county of the packing of a county is that county.
-use Rattle.std.proofs.Common.{rules, ◌≡◌, ◌⊎◌, ◌≤◌, ℕ, zero, suc, List, [], ◌∷◌, ◌++◌, map, flat_map, filter_map, length, take, drop}
-use Rattle.std.proofs.Common.{Option, Some, None, IsTrue, sym, refl, ap, ◌∙◌, subst, inl, inr, arith, nat_cmp, map-id, take-append-drop}
-use Rattle.std.proofs.Common.{length-drop}
-use Rattle.tl_county.proofs.Common.{AllByRecursion, Among, Body7, BodyP, Chain, Coordinates, County, Fields1, Fields2, Fields4, Fields5}
-use Rattle.tl_county.proofs.Common.{Fields6, Fields7, FieldsP, IsCounty, IsInOrder, Known, PolygonKey, Ranges, all_among, all_joined}
-use Rattle.tl_county.proofs.Common.{among-map, among-unmap, among_known, apart_from_sorted, chain_of, chains_of, county_of, distinct}
-use Rattle.tl_county.proofs.Common.{distinct-strict, each_from, five_feat, four_rtsq, four_tlid, further_names, further_ranges, i_tlid}
-use Rattle.tl_county.proofs.Common.{in_order, in_order-itself, in_pieces, inner_points, key_cmp, key_keys, known-append, known-distinct}
-use Rattle.tl_county.proofs.Common.{known_all, known_from_distinct, known_is_among, landmark_body_cmp, lands, link_cmp, ltb-true, map-map}
-use Rattle.tl_county.proofs.Common.{map_agree_all, map_agree_everywhere, nat_keys, numbered_from, of_number, of_type_7, of_type_i}
+use Rattle.tl_county.proofs.Common.{common_steps, AllByRecursion, Among, Body7, BodyP, Chain, Coordinates, County, Fields1, Fields2}
+use Rattle.tl_county.proofs.Common.{Fields4, Fields5, Fields6, Fields7, FieldsP, IsCounty, IsInOrder, Known, PolygonKey, Ranges, all_among}
+use Rattle.tl_county.proofs.Common.{all_joined, among-map, among-unmap, among_known, apart_from_sorted, chain_of, chains_of, county_of}
+use Rattle.tl_county.proofs.Common.{distinct, distinct-strict, each_from, five_feat, four_rtsq, four_tlid, further_names, further_ranges}
+use Rattle.tl_county.proofs.Common.{i_tlid, in_order, in_order-itself, in_pieces, inner_points, key_cmp, key_keys, known-append}
+use Rattle.tl_county.proofs.Common.{known-distinct, known_all, known_from_distinct, known_is_among, landmark_body_cmp, lands, ltb-true}
+use Rattle.tl_county.proofs.Common.{map-map, map_agree_all, map_agree_everywhere, nat_keys, numbered_from, of_number, of_type_7, of_type_i}
 use Rattle.tl_county.proofs.Common.{of_type_p, on, one_tlid, p_key, packed, packed_body, packed_five, packed_fours, packed_i, packed_one}
 use Rattle.tl_county.proofs.Common.{packed_p, packed_sevens, packed_sixes, packed_twos, pieces, polygon_body, polygon_keys, polygons_along}
 use Rattle.tl_county.proofs.Common.{polygons_of, seven_land, shape_points, side_keys, six_rtsq, six_tlid, stands_in, times, to_in_order}
 use Rattle.tl_county.proofs.Common.{two_rtsq, two_tlid, without_last}
+use Rattle.std.proofs.Common.{rules, ◌≡◌, ◌⊎◌, ◌≤◌, ℕ, zero, suc, List, [], ◌∷◌, ◌++◌, map, flat_map, filter_map, length, take, drop}
+use Rattle.std.proofs.Common.{Option, Some, None, IsTrue, sym, refl, ap, ◌∙◌, subst, inl, inr, arith, nat_cmp, map-id, take-append-drop}
+use Rattle.std.proofs.Common.{length-drop}
 use Rattle.std.proofs.lemmas.List.Concat.{flat_map_single}
 use Rattle.std.specs.List.Sorted.{IsStrictlySortedBy}
 use Rattle.tl_county.specs.County.{names_of, landmarks_of}
@@ -237,10 +237,4 @@ module _ (c : County) (is : IsCounty c) where
       ∙ map-id c.landmarks
 
   pub packed_county : county_of (packed c) ≡ c
-  packed_county = λ i. record {
-    chains = chains_back i;
-    names = names_are i;
-    polygons = polygons_back i;
-    landmarks = landmarks_back i;
-    links = (ap (in_order link_cmp) (eights c is) ∙ in_order-itself link_cmp c.links is.ascending.links) i;
-  }
+  packed_county = search (rules, common_steps, chains_back, names_are, polygons_back, landmarks_back, eights, in_order-itself)

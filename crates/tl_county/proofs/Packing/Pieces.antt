@@ -1,5 +1,5 @@
 -- Lists cut into pieces, and elements numbered from a number on.
-use Rattle.std.proofs.Common.{rules, ◌≡◌, ◌+◌, ◌*◌, ◌<◌, ◌≤◌, ℕ, zero, suc, List, [], ◌∷◌, map, length, drop, refl, ap, ◌∙◌, arith}
+use Rattle.std.proofs.Common.{rules, ◌≡◌, ◌+◌, ◌*◌, ◌<◌, ◌≤◌, ℕ, zero, suc, List, [], ◌∷◌, map, length, drop, refl, ap, arith}
 use Rattle.tl_county.proofs.Common.{AllByRecursion, all_weaker, numbered_from, pieces}
 use Rattle.std.proofs.lemmas.List.{length-drop, length-take}
 use Rattle.std.specs.List.{range_with_len}

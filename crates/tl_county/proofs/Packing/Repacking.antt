@@ -1,16 +1,14 @@
 -- The county depends on the packing of types 2 and 4 and on RTSQs only through the contents in their order.
-use Rattle.std.proofs.Common.{rules, arith, ◌≡◌, ◌<◌, ℕ, ◌==◌, List, [], ◌∷◌, ◌++◌, map, flat_map, filter, filter_map, cond, Option, Some}
-use Rattle.std.proofs.Common.{None, option_map, Ordering, Less, Equal, Greater, is_eq, is_gt, sym, refl, ap, ap₂, ◌∙◌, nat_cmp, IsTrue}
-use Rattle.std.proofs.Common.{nat_lt, ◌||◌}
-use Rattle.tl_county.proofs.Common.{common_steps, AllByRecursion, ChainTwice, Eight, Fields1, Fields2, Fields4, Fields5, Fields6, Fields7}
-use Rattle.tl_county.proofs.Common.{FieldsI, FieldsP, Five, IsLinked, LandUnknown, LinkFault, LinkMissing, LinkTwice, LinkedType, Memory}
-use Rattle.tl_county.proofs.Common.{NameTwice, NameUnknown, NoChain, One, P, PolygonTwice, PolygonUnknown, Record, SequenceBroken}
-use Rattle.tl_county.proofs.Common.{SequencedType, Seven, Typed, all-in_order, all_known, all_map, by_type, chain_of, chains_of}
-use Rattle.tl_county.proofs.Common.{cons_option, county_of, distinct, first, five_feat, four_rtsq, four_tlid, further_names, further_ranges}
-use Rattle.tl_county.proofs.Common.{has_repeat, i_tlid, in_order, is_rule_broken, key_cmp, landmark_body_cmp, link_cmp, linked_tlids}
-use Rattle.tl_county.proofs.Common.{lt-ltb, map-map, map_agree_all, map_agree_everywhere, named_feats, nat_cmp_total, nat_keys, of_number}
-use Rattle.tl_county.proofs.Common.{of_type_2, of_type_4, of_type_6, on, one_tlid, p_key, polygons_of, put_in_order, rtsqs, seven_land}
-use Rattle.tl_county.proofs.Common.{shape_points, side_keys, six_rtsq, six_tlid, stands_in, tied_itself, times, two_rtsq, two_tlid}
+use Rattle.std.proofs.Common.{rules, arith, ◌≡◌, ◌<◌, ℕ, ◌==◌, List, [], ◌∷◌, ◌++◌, map, flat_map, filter_map, cond, Option, Some, None}
+use Rattle.std.proofs.Common.{option_map, Ordering, Less, Equal, Greater, is_gt, sym, refl, ap, ap₂, ◌∙◌, nat_cmp, IsTrue, nat_lt, ◌||◌}
+use Rattle.tl_county.proofs.Common.{common_steps, AllByRecursion, ChainTwice, Eight, Fields1, Fields2, Fields4, Fields6, FieldsI, Five}
+use Rattle.tl_county.proofs.Common.{IsLinked, LandUnknown, LinkFault, LinkMissing, LinkTwice, LinkedType, Memory, NameTwice, NameUnknown}
+use Rattle.tl_county.proofs.Common.{NoChain, One, P, PolygonTwice, PolygonUnknown, Record, SequenceBroken, SequencedType, Seven, Typed}
+use Rattle.tl_county.proofs.Common.{all-in_order, all_known, all_map, by_type, chain_of, chains_of, cons_option, county_of, five_feat}
+use Rattle.tl_county.proofs.Common.{four_rtsq, four_tlid, further_names, further_ranges, has_repeat, i_tlid, in_order, is_rule_broken}
+use Rattle.tl_county.proofs.Common.{key_cmp, linked_tlids, lt-ltb, map-map, map_agree_all, map_agree_everywhere, named_feats, nat_cmp_total}
+use Rattle.tl_county.proofs.Common.{nat_keys, of_number, of_type_2, of_type_4, of_type_6, on, one_tlid, p_key, polygons_of, put_in_order}
+use Rattle.tl_county.proofs.Common.{rtsqs, shape_points, six_rtsq, six_tlid, stands_in, tied_itself, times, two_rtsq, two_tlid}
 use Rattle.std.proofs.lemmas.Bool.{cases_order}
 use Rattle.std.specs.Ordering.{ordering_reverse}
 use Rattle.tl_layout.specs.declared.record_type.Record.TheVariants.{Two, Four, Six, I}
@@ -35,28 +33,16 @@ pub record AreRepacked (xs ys : List Record) : Type 0 where
 
 module _ (xs ys : List Record) (s : AreRepacked xs ys) where
   chain_same : (r : Fields1) (link : FieldsI) → chain_of xs r link ≡ chain_of ys r link
-  chain_same r link = λ i. record (chain_of xs r link) {
-    points = r.start ∷ (s.points r.tlid i ++ (r.end ∷ []));
-    feats = s.names r.tlid i;
-    ranges = s.ranges r.tlid i;
-  }
+  chain_same r link = search rules
 
   chains_same : chains_of xs ≡ chains_of ys
   chains_same = chains_alike xs ys chain_same (λ n i. of_number i_tlid n (s.rest i).of_type_i) (λ i. in_order (on one_tlid nat_cmp) (s.rest i).of_type_1)
 
   polygons_same : polygons_of xs ≡ polygons_of ys
-  polygons_same = ap₂ (λ ls qs. map (λ k. (k, first (map (λ (q : FieldsP). q.body) (filter (λ q. is_eq (key_cmp k (p_key q))) qs))))
-      (distinct key_cmp (flat_map side_keys ls ++ map p_key qs))) (λ i. (s.rest i).of_type_i) (λ i. (s.rest i).of_type_p)
+  polygons_same = search rules
 
   pub repacked-county : county_of xs ≡ county_of ys
-  repacked-county = λ i. record {
-    chains = chains_same i;
-    names = map (λ (r : Fields5). (r.feat, r.body)) (in_order (on five_feat nat_cmp) (s.rest i).of_type_5);
-    polygons = polygons_same i;
-    landmarks = map (λ land. (land, in_order landmark_body_cmp (map (λ (r : Fields7). r.body) (of_number seven_land land (s.rest i).of_type_7))))
-        (distinct nat_cmp (map seven_land (s.rest i).of_type_7));
-    links = in_order link_cmp (s.rest i).of_type_8;
-  }
+  repacked-county = search (rules, chains_alike)
 
 -- lists changed element by element
 select-changed : {X Y : Type 0} (h : X → Option Y) (g : X → X) (f : Y → Y) → ((x : X) → h (g x) ≡ option_map f (h x)) → (xs : List X)

@@ -130,12 +130,7 @@ module _ (others : List Record) (whole first second : Fields2)
   two-broken fault = refl
 
   two-repacked : AreRepacked (Two whole ∷ others) (Two first ∷ Two second ∷ others)
-  two-repacked = record {
-    points = sequenced-cut two_tlid two_rtsq (λ (r : Fields2). r.points) (of_type_2 others) whole first second cut;
-    names = λ n. refl;
-    ranges = λ n. refl;
-    rest = refl;
-  }
+  two-repacked = search (rules, common_steps, sequenced-cut)
 
 -- a record of type 4 cut into two, at the head of a list
 module _ (others : List Record) (whole first second : Fields4)
@@ -147,12 +142,7 @@ module _ (others : List Record) (whole first second : Fields4)
   four-broken fault = refl
 
   four-repacked : AreRepacked (Four whole ∷ others) (Four first ∷ Four second ∷ others)
-  four-repacked = record {
-    points = λ n. refl;
-    names = sequenced-cut four_tlid four_rtsq (λ (r : Fields4). r.feats) (of_type_4 others) whole first second cut;
-    ranges = λ n. refl;
-    rest = refl;
-  }
+  four-repacked = search (rules, common_steps, sequenced-cut)
 
 -- the head of a list cut into two
 record IsAlike (xs ys : List Record) : Type 0 where

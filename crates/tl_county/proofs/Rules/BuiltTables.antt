@@ -1,14 +1,14 @@
 -- The parts that linking builds from tables in order are the county of their records.
-use Rattle.std.proofs.Common.{rules, ◌≡◌, ◌⊎◌, ◌==◌, ℕ, suc, List, [], ◌∷◌, ◌++◌, map, flat_map, length, true, false, cond, Less, is_eq}
-use Rattle.std.proofs.Common.{inl, inr, sym, refl, ap, ◌∙◌, subst, arith, nat_cmp, IsPermutation, Option, Some, None, unwrap_or, option_map}
-use Rattle.std.proofs.Common.{slice_get, zero}
-use Rattle.tl_county.proofs.Common.{AllByRecursion, AreInOrder, Chain, Fields1, Fields2, Fields4, Fields6, Fields8, FieldsI, IsCounty}
-use Rattle.tl_county.proofs.Common.{IsFirstBrokenRule, IsLinked, IsPermutation-trans, IsWithinLimits, LandmarkParts, LinkFault}
+use Rattle.tl_county.proofs.Common.{common_steps, AllByRecursion, AreInOrder, Chain, Fields1, Fields2, Fields4, Fields6, Fields8, FieldsI}
+use Rattle.tl_county.proofs.Common.{IsCounty, IsFirstBrokenRule, IsLinked, IsPermutation-trans, IsWithinLimits, LandmarkParts, LinkFault}
 use Rattle.tl_county.proofs.Common.{LinksUnderLands, Record, SameElements, Typed, by_type, by_type_of, chain_nodes, chains_along}
 use Rattle.tl_county.proofs.Common.{county_along, county_of, distinct, eight_land, entry_keys, entry_values, eq-eqb, false≢true, five_feat}
 use Rattle.tl_county.proofs.Common.{i_tlid, landmark_entry, landmark_of, link_nodes, links_with, map-map, most_records, nat_keys, ne_eqb}
 use Rattle.tl_county.proofs.Common.{nodes, of_number, one_tlid, same-itself, same_or_not, seven_land, strict_head, strict_tail}
 use Rattle.tl_county.proofs.Common.{type_after_type, typed_of, value_under, values-zip}
+use Rattle.std.proofs.Common.{rules, ◌≡◌, ◌⊎◌, ◌==◌, ℕ, suc, List, [], ◌∷◌, ◌++◌, map, flat_map, length, true, false, cond, Less, is_eq}
+use Rattle.std.proofs.Common.{inl, inr, sym, refl, ap, ◌∙◌, subst, arith, nat_cmp, IsPermutation, Option, Some, None, unwrap_or, option_map}
+use Rattle.std.proofs.Common.{slice_get, zero}
 use Rattle.std.proofs.lemmas.List.{append-nil}
 use Rattle.std.proofs.lemmas.List.Elements.{filter-append}
 use Rattle.std.specs.List.{zip}
@@ -52,16 +52,13 @@ module _ (t : Typed) (order : AreInOrder t) where
     ordered = subst AreInOrder (sym (by_type_of t)) order
 
     pub tlids-ascend : IsStrictlySortedBy nat_cmp (map one_tlid t.of_type_1)
-    tlids-ascend = subst (λ (u : Typed). IsStrictlySortedBy nat_cmp (map one_tlid u.of_type_1)) (by_type_of t)
-        (tlids-strict (type_after_type t) ordered linked)
+    tlids-ascend = search (rules, common_steps, by_type_of, tlids-strict, ordered)
 
     pub feats-ascend : IsStrictlySortedBy nat_cmp (map five_feat t.of_type_5)
-    feats-ascend = subst (λ (u : Typed). IsStrictlySortedBy nat_cmp (map five_feat u.of_type_5)) (by_type_of t)
-        (feats-strict (type_after_type t) ordered linked)
+    feats-ascend = search (rules, common_steps, by_type_of, feats-strict, ordered)
 
     pub beside : map one_tlid t.of_type_1 ≡ map i_tlid t.of_type_i
-    beside = subst (λ (u : Typed). map one_tlid u.of_type_1 ≡ map i_tlid u.of_type_i) (by_type_of t)
-        (side_by_side (type_after_type t) ordered linked)
+    beside = search (rules, common_steps, by_type_of, side_by_side, ordered)
 
     pub nodes-built : nodes (county_along t) ≡ distinct nat_cmp (flat_map link_nodes t.of_type_i)
     nodes-built =

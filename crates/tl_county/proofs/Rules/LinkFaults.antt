@@ -9,8 +9,7 @@ use Rattle.tl_county.proofs.Common.{nat_keys, ne_eqb, of_number, of_type_2, of_t
 use Rattle.tl_county.proofs.Common.{of_type_p, p_key, same_or_not, six_rtsq, six_tlid, stands_in, times, times-no, times-yes, two_rtsq}
 use Rattle.tl_county.proofs.Common.{two_tlid}
 use Rattle.tl_county.specs.LinkedTypes.{linked_type}
-use Rattle.tl_county.specs.LinkRules.{chain_tlids, linked_tlids, rtsqs, named_feats, is_rule_broken, link_fault_place, IsLinked}
-use Rattle.tl_county.specs.LinkRules.{IsFirstBrokenRule}
+use Rattle.tl_county.specs.LinkRules.{chain_tlids, linked_tlids, rtsqs, is_rule_broken, link_fault_place, IsLinked, IsFirstBrokenRule}
 use Rattle.ordered_lists.proofs.Lists.Among.{among_left, among_right, known_among}
 use Rattle.tl_county.proofs.Rules.FirstFault.{first_or_none, not_first, one_first, none_there, least_there, none_computed, first_computed}
 use Rattle.tl_county.specs.declared.fault.SequencedType.TheVariants as sequenced
@@ -113,10 +112,6 @@ name_among x y (r ∷ rs) h = go (r.tlid == x) refl h (name_among x y rs)
     go true e k ih = split (eqb-true r.tlid x e) (known-append nat_keys y r.feats (flat_map (λ q. q.feats) (of_number four_tlid x rs)) k) ih
     go false e k ih = among_right (NameUnknown x y) (map (NameUnknown r.tlid) r.feats) (name_faults rs) (ih k)
 
-type_among_no_chain : (t : SequencedType) (tlid : ℕ) (records : List Record) → Known nat_cmp (linked_tlids (linked_type t) records) tlid
-    → Among (NoChain (linked_type t) tlid) (type_faults t records)
-type_among_no_chain t tlid records h = search (rules, among_left, known_among, nat_keys)
-
 type_among_sequence : (t : SequencedType) (tlid : ℕ) (records : List Record) → Known nat_cmp (linked_tlids (linked_type t) records) tlid
     → Among (SequenceBroken t tlid) (type_faults t records)
 type_among_sequence t tlid records h = search (rules, among_right, known_among, nat_keys)
@@ -135,16 +130,10 @@ after_types f records h = search (rules, among_right)
 
 no_chain_among : (t : LinkedType) (tlid : ℕ) (records : List Record) → Known nat_cmp (linked_tlids t records) tlid
     → Among (NoChain t tlid) (faults_11_to_15 records)
-no_chain_among Two tlid records h =
-    among_types sequenced.Two (NoChain Two tlid) records (type_among_no_chain sequenced.Two tlid records h)
-no_chain_among Four tlid records h =
-    among_types sequenced.Four (NoChain Four tlid) records (type_among_no_chain sequenced.Four tlid records h)
-no_chain_among Six tlid records h =
-    among_types sequenced.Six (NoChain Six tlid) records (type_among_no_chain sequenced.Six tlid records h)
-no_chain_among I tlid records h =
-    after_types (NoChain I tlid) records
-    (among_left (NoChain I tlid) (map (NoChain I) (linked_tlids I records)) _
-    (known_among nat_keys (NoChain I) tlid (linked_tlids I records) h))
+no_chain_among Two tlid records h = search (rules, among_right, among_left, known_among, nat_keys)
+no_chain_among Four tlid records h = search (rules, among_right, among_left, known_among, nat_keys)
+no_chain_among Six tlid records h = search (rules, among_right, among_left, known_among, nat_keys)
+no_chain_among I tlid records h = search (rules, among_left, known_among, nat_keys, among_right)
 
 some_above : (n : ℕ) → nat_lt 1 n ≡ true → 0 < n
 some_above n e = omega (arith, ltb-true 1 n e)

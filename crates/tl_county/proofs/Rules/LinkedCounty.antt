@@ -1,19 +1,19 @@
 -- The county of a linked list of records: its numbers ascend, and each number that it names exists.
+use Rattle.tl_county.proofs.Common.{common_steps, AllByRecursion, AllKeysStandIn, Among, Body7, Chain, ChainTwice, Fields1, Fields4}
+use Rattle.tl_county.proofs.Common.{Fields5, Fields7, Fields8, FieldsI, FieldsP, I, IsApart, IsCounty, IsLinked, IsWhole, Known}
+use Rattle.tl_county.proofs.Common.{LandUnknown, LinkMissing, LinkTwice, NameTwice, NameUnknown, NoChain, PolygonKey, PolygonUnknown}
+use Rattle.tl_county.proofs.Common.{Record, all-in_order, all_everywhere, all_joined, all_known, all_map, all_weaker, among-map}
+use Rattle.tl_county.proofs.Common.{among-pieces, among-unmap, among_known, chain_of, chain_tlids, chains_of, county_of, distinct}
+use Rattle.tl_county.proofs.Common.{distinct-strict, each_from, eight_land, eq-eqb, false≢true, feats, first, five_feat, four_rtsq}
+use Rattle.tl_county.proofs.Common.{four_tlid, further_names, i_tlid, in_order, in_order-map, key_cmp, key_keys, known-append}
+use Rattle.tl_county.proofs.Common.{known-distinct, known-left, known_from_distinct, known_is_among, landmark_body_cmp, landmark_body_keys}
+use Rattle.tl_county.proofs.Common.{lands, length-in_order, length-map, link_key, lt-ltb, ltb-false, ltb-true, map-map, named_feats}
+use Rattle.tl_county.proofs.Common.{nat_cmp_total, nat_keys, of_number, of_type_1, of_type_4, of_type_5, of_type_7, of_type_8, of_type_i}
+use Rattle.tl_county.proofs.Common.{of_type_p, on, on_total, one_tlid, p_key, polygon_body, polygon_keys, polygons_along, seven_land}
+use Rattle.tl_county.proofs.Common.{shape_points, side_keys, stands_in, times, times-no, tlids, to_in_order}
 use Rattle.std.proofs.Common.{rules, ◌≡◌, ◌⊎◌, ◌<◌, ◌≤◌, ◌+◌, ◌||◌, ℕ, nat_lt, length, length-append, filter, cond, is_eq, is_some, inl}
 use Rattle.std.proofs.Common.{inr, List, [], ◌∷◌, ◌++◌, map, flat_map, Bool, true, false, not, ◌&&◌, IsTrue, sym, refl, ap, ◌∙◌, subst}
 use Rattle.std.proofs.Common.{arith, nat_cmp, map-id}
-use Rattle.tl_county.proofs.Common.{AllByRecursion, AllKeysStandIn, Among, Body7, Chain, ChainTwice, Fields1, Fields4, Fields5, Fields7}
-use Rattle.tl_county.proofs.Common.{Fields8, FieldsI, FieldsP, I, IsApart, IsCounty, IsLinked, IsWhole, Known, LandUnknown, LinkMissing}
-use Rattle.tl_county.proofs.Common.{LinkTwice, NameTwice, NameUnknown, NoChain, PolygonKey, PolygonUnknown, Record, all-in_order}
-use Rattle.tl_county.proofs.Common.{all_everywhere, all_joined, all_known, all_map, all_weaker, among-map, among-pieces, among-unmap}
-use Rattle.tl_county.proofs.Common.{among_known, chain_of, chain_tlids, chains_of, county_of, distinct, distinct-strict, each_from}
-use Rattle.tl_county.proofs.Common.{eight_land, eq-eqb, false≢true, feats, first, five_feat, four_rtsq, four_tlid, further_names, i_tlid}
-use Rattle.tl_county.proofs.Common.{in_order, in_order-map, key_cmp, key_keys, known-append, known-distinct, known-left}
-use Rattle.tl_county.proofs.Common.{known_from_distinct, known_is_among, landmark_body_cmp, landmark_body_keys, lands, length-in_order}
-use Rattle.tl_county.proofs.Common.{length-map, link_key, lt-ltb, ltb-false, ltb-true, map-map, named_feats, nat_cmp_total, nat_keys}
-use Rattle.tl_county.proofs.Common.{of_number, of_type_1, of_type_4, of_type_5, of_type_7, of_type_8, of_type_i, of_type_p, on, on_total}
-use Rattle.tl_county.proofs.Common.{one_tlid, p_key, polygon_body, polygon_keys, polygons_along, seven_land, shape_points, side_keys}
-use Rattle.tl_county.proofs.Common.{stands_in, times, times-no, tlids, to_in_order}
 use Rattle.std.proofs.lemmas.Bool.{or_left, or_right}
 use Rattle.std.specs.List.Sorted.{IsStrictlySortedBy}
 use Rattle.tl_county.proofs.Sameness.Carried.{among-unpieces}
@@ -69,9 +69,7 @@ module _ (records : List Record) (linked : IsLinked records) where
   tlids_of (r ∷ rs) h = search (rules, the_link, tlids_of rs h.1)
 
   ones_known : AllByRecursion (λ r. Known nat_cmp (chain_tlids records) r.tlid) (in_order (on one_tlid nat_cmp) (of_type_1 records))
-  ones_known = all-in_order (λ r. Known nat_cmp (chain_tlids records) r.tlid) (on one_tlid nat_cmp) (of_type_1 records)
-      (each_from (λ r. Known nat_cmp (chain_tlids records) r.tlid) (of_type_1 records)
-      (λ r m. among_known nat_keys r.tlid (chain_tlids records) (among-map one_tlid r (of_type_1 records) m)))
+  ones_known = search (rules, common_steps, all-in_order, each_from, among_known, nat_keys, among-map)
 
   pub tlids-county : tlids (county_of records) ≡ map one_tlid (in_order (on one_tlid nat_cmp) (of_type_1 records))
   tlids-county = tlids_of (in_order (on one_tlid nat_cmp) (of_type_1 records)) ones_known
@@ -88,15 +86,10 @@ module _ (records : List Record) (linked : IsLinked records) where
   all_keys = flat_map side_keys (of_type_i records) ++ map p_key (of_type_p records)
 
   pub keys-county : polygon_keys (county_of records) ≡ distinct key_cmp all_keys
-  keys-county = map-map (λ (d : PolygonKey × _). d.0) (λ key. (key, polygon_body records key)) (distinct key_cmp all_keys)
-      ∙ map-id (distinct key_cmp all_keys)
+  keys-county = search (rules, common_steps, map-map, map-id)
 
   pub lands-county : lands (county_of records) ≡ distinct nat_cmp (map seven_land (of_type_7 records))
-  lands-county = map-map (λ (d : ℕ × _). d.0) (λ land. (
-    land,
-    in_order landmark_body_cmp (map (λ (r : Fields7). r.body) (of_number seven_land land (of_type_7 records))),
-  ))
-      (distinct nat_cmp (map seven_land (of_type_7 records))) ∙ map-id (distinct nat_cmp (map seven_land (of_type_7 records)))
+  lands-county = search (rules, common_steps, map-map, map-id)
 
   -- each name of a chain has a type 5 record
   name_stands : (n y : ℕ) → Among y (further_names records n) → IsTrue (stands_in nat_cmp y (feats (county_of records)))
@@ -200,11 +193,7 @@ module _ (records : List Record) (linked : IsLinked records) where
   some_points r = search (rules, length-append)
 
   county_whole : IsWhole (county_of records)
-  county_whole = record {
-    points = chains_all (λ entry. 2 ≤ length entry.1.points) (λ r link n m. some_points r);
-    bodies = search (rules, all_map, all_known, nat_keys, some_content);
-    polygons = search (rules, all_map, all_known, key_keys, polygon_whole);
-  }
+  county_whole = search (rules, common_steps, chains_all, some_points, all_map, all_known, nat_keys, some_content, key_keys, polygon_whole)
 
   pub county-is_county : IsCounty (county_of records)
   county-is_county = record {

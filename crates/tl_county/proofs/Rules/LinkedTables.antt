@@ -1,4 +1,5 @@
 -- The county of linked records in the order of their numbers is the one built by walking their tables.
+use Rattle.tl_county.proofs.Common.{common_steps}
 use Rattle.std.proofs.Common.{rules, ◌≡◌, ◌⊎◌, ◌<◌, ℕ, List, [], ◌∷◌, ◌++◌, map, flat_map, filter, Bool, true, false, not, cond, Ordering}
 use Rattle.std.proofs.Common.{Less, Equal, is_eq, is_gt, sym, refl, ap, ◌∙◌, subst, inl, inr, arith, nat_cmp}
 use Rattle.tl_county.proofs.Common.{AllByRecursion, Among, AreInOrder, Fields1, Fields5, Fields7, Fields8, FieldsI, I, IsInOrder, IsLinked}
@@ -84,8 +85,7 @@ groups-join {X} number (k ∷ ks) xs strict h known =
 
 module _ (records : List Record) (order : AreInOrder (by_type records)) (linked : IsLinked records) where
   pub tlids-strict : IsStrictlySortedBy nat_cmp (map one_tlid (of_type_1 records))
-  tlids-strict = strict_from_order nat_keys (map one_tlid (of_type_1 records))
-      (in_order-map nat_cmp one_tlid (of_type_1 records) order.type_1) (apart_chains records linked)
+  tlids-strict = search (rules, common_steps, strict_from_order, nat_keys, in_order-map, apart_chains)
 
   links-strict : IsStrictlySortedBy nat_cmp (map i_tlid (of_type_i records))
   links-strict = strict_from_order nat_keys (map i_tlid (of_type_i records)) (in_order-map nat_cmp i_tlid (of_type_i records) order.type_i)

@@ -1,10 +1,9 @@
 -- Entries with stored values, and the entries that they represent.
-use Rattle.std.proofs.Common.{rules}
-use Rattle.std.proofs.Common.{◌≡◌, ℕ, zero, suc, List, [], ◌∷◌, map, flat_map, refl, sym, ap, ◌∙◌, subst, slice_get, Option, Some, IfSome, option_map, unwrap_or, nat_cmp}
+use Rattle.std.proofs.Common.{rules, ◌≡◌, ℕ, zero, suc, List, [], ◌∷◌, map, flat_map, refl, sym, ap, ◌∙◌, slice_get, Option, Some, IfSome}
+use Rattle.std.proofs.Common.{option_map, unwrap_or, nat_cmp}
 use Rattle.tl_county.proofs.Common.{Body5, Fields5, LandmarkParts, LinksUnderLands, Typed, county_along, eight_land, entries-equal}
 use Rattle.tl_county.proofs.Common.{entry_keys, entry_values, five_feat, keys-map_values, landmark_entry, map-map, map_values}
-use Rattle.tl_county.proofs.Common.{distinct-in_order, nat_keys}
-use Rattle.tl_county.proofs.Common.{map_values-id, of_number, value_under, values-map_values}
+use Rattle.tl_county.proofs.Common.{distinct-in_order, nat_keys, map_values-id, of_number, value_under, values-map_values}
 use Rattle.std.specs.List.Sorted.{IsStrictlySortedBy}
 use Rattle.tl_county.proofs.Rules.BuiltTables.{bodies-under, lands-kept, links-under}
 

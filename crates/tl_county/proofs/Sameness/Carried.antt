@@ -1,7 +1,6 @@
 -- The numbers of a carried chain are the images of its numbers.
-use Rattle.std.proofs.Common.{rules}
-use Rattle.std.proofs.Common.{◌≡◌, ◌⊎◌, ℕ, List, [], ◌∷◌, ◌++◌, map, flat_map, Bool, true, false, Option, Some, None, option_map}
-use Rattle.std.proofs.Common.{option_to_list, sym, refl, ap₂, ◌∙◌, inl, inr, nat_cmp}
+use Rattle.std.proofs.Common.{rules, ◌≡◌, ◌⊎◌, ℕ, List, [], ◌∷◌, ◌++◌, map, flat_map, Bool, true, false, Option, Some, None, option_map}
+use Rattle.std.proofs.Common.{option_to_list, refl, inl, inr, nat_cmp}
 use Rattle.tl_county.proofs.Common.{Among, Chain, PolygonKey, Renumbering, chain_nodes, chain_polygons, image, key_cmp, key_on, key_under}
 use Rattle.tl_county.proofs.Common.{map-append, renumbered, renumbered_polygon, turned_if}
 use Rattle.ordered_lists.proofs.Lists.Among.{among_left, among_right}

@@ -2,7 +2,7 @@
 use Rattle.std.proofs.Common.{rules, ◌≡◌, ℕ, nat_lt, List, [], ◌∷◌, Bool, true, false, map, filter, Ordering, IsTrue, sym, refl, ap, ◌∙◌}
 use Rattle.std.proofs.Common.{subst, IsPermutation, nat_cmp, Option, Some, None, option_map, option_to_list, map-id}
 use Rattle.tl_county.proofs.Common.{AllByRecursion, AllKeysStandIn, AllStandIn, Carries, Chain, County, Fields8, IsApart, IsCounty}
-use Rattle.tl_county.proofs.Common.{IsKeyOrder, IsPermutation-refl, IsPermutation-sym, IsPermutation-trans, Known, PolygonKey, Renumbering}
+use Rattle.tl_county.proofs.Common.{IsKeyOrder, IsPermutation-sym, IsPermutation-trans, Known, PolygonKey, Renumbering}
 use Rattle.tl_county.proofs.Common.{all_known, all_map, all_weaker, apart_from_sorted, carried_chain, carried_landmark, carried_link}
 use Rattle.tl_county.proofs.Common.{carried_polygon, chain_nodes, chain_polygons, feats, filter_all, has_repeat, has_repeat-apart, image}
 use Rattle.tl_county.proofs.Common.{key_cmp, key_keys, key_on, key_under, known-distinct, lands, link_key, lt-ltb, ltb-true, map-map}
@@ -74,8 +74,7 @@ module _ (q r p : Renumbering) (a : County) (f : Follows q r p a) where
   follow_polygon : (cenid : List ℕ) (polyid : Option ℕ) → AllByRecursion (Known key_cmp (polygon_keys a)) (key_under cenid polyid)
       → renumbered_side q (renumbered_polygon r cenid polyid) ≡ renumbered_polygon p cenid polyid
   follow_polygon cenid None h = refl
-  follow_polygon cenid (Some polyid) h =
-      λ i. record { cenid = (f.polygons (cenid, polyid) h.0 i).0; polyid = Some (f.polygons (cenid, polyid) h.0 i).1 }
+  follow_polygon cenid (Some polyid) h = search rules
 
   pub follow_chain : (x : ℕ) (c : Chain) → IsChainOf a (x, c) → renumbered q (renumbered r c) ≡ renumbered p c
   follow_chain x c h = λ i. record c {
@@ -122,15 +121,7 @@ all_chains : (a : County) (es : List (ℕ × Chain)) → AllByRecursion (λ e. K
     → AllByRecursion (λ e. AllKeysStandIn (polygon_keys a) (chain_polygons e.1)) es
     → AllByRecursion (λ e. AllByRecursion (Known nat_cmp (nodes a)) (chain_nodes e.1)) es → AllByRecursion (IsChainOf a) es
 all_chains a [] t n s d = tt
-all_chains a (e ∷ es) t n s d = (
-  record {
-    tlid = t.0;
-    names = search (rules, all_weaker, ltb-true);
-    sides = search (rules, all_weaker, ltb-true);
-    nodes = d.0;
-  },
-  all_chains a es t.1 n.1 s.1 d.1,
-)
+all_chains a (e ∷ es) t n s d = search (rules, all_weaker, ltb-true, all_chains a es t.1 n.1 s.1 d.1)
 
 -- the chains of a county have its numbers
 pub chains_are : (a : County) → IsClosed a → AllByRecursion (IsChainOf a) a.chains
@@ -146,13 +137,7 @@ pub record IsLinkOf (a : County) (link : Fields8) : Type 0 where
 all_links : (a : County) (ls : List Fields8) → AllByRecursion (λ l. IsTrue (stands_in nat_cmp l.land (lands a))) ls
     → AllByRecursion (λ l. IsTrue (stands_in key_cmp (link_key l) (polygon_keys a))) ls → AllByRecursion (IsLinkOf a) ls
 all_links a [] g h = tt
-all_links a (l ∷ ls) g h = (
-  record {
-    land = ltb-true 0 (times nat_cmp l.land (lands a)) g.0;
-    polygon = search (rules, ltb-true);
-  },
-  all_links a ls g.1 h.1,
-)
+all_links a (l ∷ ls) g h = search (rules, ltb-true, all_links a ls g.1 h.1)
 
 pub links_are : (a : County) → IsClosed a → AllByRecursion (IsLinkOf a) a.links
 links_are a h = all_links a a.links h.link_lands h.link_polygons
@@ -199,10 +184,6 @@ forth : {X : Type 0} (f g h : X → X) (xs ys zs : List X) → map g (map f xs) 
 forth f g h xs ys zs e m n =
     IsPermutation-trans (map h xs) (map g ys) zs (subst (λ ws. IsPermutation ws (map g ys)) e (IsPermutation-map g (map f xs) ys m)) n
 
--- reflexive: the identity carries a county onto itself
-pub paired_itself : {K : Type 0} {cmp : K → K → Ordering} → IsKeyOrder cmp → (ks : List K) → ArePaired (to_itself ks) ks ks
-paired_itself o ks = search (rules, lefts-to_itself, rights-to_itself)
-
 cenids-itself : (ks : List PolygonKey) → AllByRecursion (λ p. p.0.0 ≡ p.1.0) (to_itself ks)
 cenids-itself [] = tt
 cenids-itself (k ∷ ks) = (refl, cenids-itself ks)
@@ -216,62 +197,8 @@ pub record IsStill (r : Renumbering) : Type 0 where
   pub nodes : (n : ℕ) → image nat_cmp r.nodes n ≡ n
   pub turned : (n : ℕ) → turns r n ≡ false
 
-still_node : (r : Renumbering) → IsStill r → (o : Option ℕ) → option_map (image nat_cmp r.nodes) o ≡ o
-still_node r h None = refl
-still_node r h (Some n) = ap Some (h.nodes n)
-
-still_side : (r : Renumbering) → IsStill r → (cenid : List ℕ) (polyid : Option ℕ)
-    → renumbered_polygon r cenid polyid ≡ record { cenid = cenid; polyid = polyid }
-still_side r h cenid None = refl
-still_side r h cenid (Some polyid) =
-    λ i. record { cenid = (h.polygons (cenid, polyid) i).0; polyid = Some (h.polygons (cenid, polyid) i).1 }
-
-pub still_chain : (r : Renumbering) → IsStill r → (c : Chain) → renumbered r c ≡ c
-still_chain r h c = λ i. record c {
-  feats = map_itself (image nat_cmp r.names) h.names c.feats i;
-  start_node = still_node r h c.start_node i;
-  end_node = still_node r h c.end_node i;
-  left = still_side r h c.left.cenid c.left.polyid i;
-  right = still_side r h c.right.cenid c.right.polyid i;
-}
-
-pub still_entry : (r : Renumbering) → IsStill r → (e : ℕ × Chain) → carried_chain r e ≡ e
-still_entry r h e = λ i. (h.chains e.0 i, (ap (λ b. renumbered r (turned_if b e.1)) (h.turned e.0) ∙ still_chain r h e.1) i)
-
-identity-still : (a : County) → IsStill (identity a)
-identity-still a = record {
-  chains = image-to_itself nat_keys (tlids a);
-  names = image-to_itself nat_keys (feats a);
-  polygons = image-to_itself key_keys (polygon_keys a);
-  lands = image-to_itself nat_keys (lands a);
-  nodes = image-to_itself nat_keys (nodes a);
-  turned = λ n. refl;
-}
-
-same_list : {X : Type 0} (f : X → X) (xs : List X) → ((x : X) → f x ≡ x) → IsPermutation (map f xs) xs
-same_list f xs h = subst (λ ys. IsPermutation ys xs) (sym (map_itself f h xs)) (IsPermutation-refl xs)
-
 pub identity_carries : (a : County) → Carries (identity a) a a
-identity_carries a =
-    let s : IsStill (identity a) = identity-still a in
-    record {
-      numbers = record {
-        chains = paired_itself nat_keys (tlids a);
-        names = paired_itself nat_keys (feats a);
-        polygons = paired_itself key_keys (polygon_keys a);
-        lands = paired_itself nat_keys (lands a);
-        nodes = paired_itself nat_keys (nodes a);
-        cenids = cenids-itself (polygon_keys a);
-        turned_known = tt;
-        turned_once = refl;
-      };
-      chains = same_list (carried_chain (identity a)) a.chains (still_entry (identity a) s);
-      names = same_list (carried_name (identity a)) a.names (λ e i. (s.names e.0 i, e.1));
-      polygons = same_list (carried_polygon (identity a)) a.polygons (λ e i. (s.polygons e.0 i, e.1));
-      landmarks = same_list (carried_landmark (identity a)) a.landmarks (λ e i. (s.lands e.0 i, e.1));
-      links = same_list (carried_link (identity a)) a.links
-          (λ l i. record l { cenid = (s.polygons (link_key l) i).0; polyid = (s.polygons (link_key l) i).1; land = s.lands l.land i });
-    }
+identity_carries a = search (rules, nat_keys, key_keys, cenids-itself, image-to_itself, lefts-to_itself, rights-to_itself, map_itself)
 
 -- symmetric: the inverse carries back
 pub paired_back : {K : Type 0} {cmp : K → K → Ordering} → IsKeyOrder cmp → (ps : List (K × K)) (olds news : List K) → ArePaired ps olds news
@@ -294,18 +221,13 @@ exactly_one-both false = refl
 
 module _ (r : Renumbering) (a b : County) (ca : IsCounty a) (cb : IsCounty b) (h : Carries r a b) where
   named_turned : AllByRecursion (Known nat_cmp (lefts r.chains)) r.turned
-  named_turned = all_weaker (λ t. IsTrue (stands_in nat_cmp t (tlids a))) (Known nat_cmp (lefts r.chains))
-      (λ t k. known-permutation nat_keys t (lefts r.chains) (tlids a) h.numbers.chains.left
-      (ltb-true 0 (times nat_cmp t (tlids a)) k)) r.turned h.numbers.turned_known
+  named_turned = search (rules, all_weaker, known-permutation, nat_keys, ltb-true)
 
   apart_chains : IsApart nat_cmp (rights r.chains)
-  apart_chains = apart-permutation nat_keys (rights r.chains) (tlids b) h.numbers.chains.right
-      (apart_from_sorted nat_keys (tlids b) cb.ascending.chains)
+  apart_chains = search (rules, apart-permutation, nat_keys, apart_from_sorted)
 
   all_named : filter (is_named nat_cmp r.chains) r.turned ≡ r.turned
-  all_named = filter_all (is_named nat_cmp r.chains) r.turned
-      (all_weaker (Known nat_cmp (lefts r.chains)) (λ t. is_named nat_cmp r.chains t ≡ true)
-      (λ t k. lt-ltb 0 (times nat_cmp t (lefts r.chains)) k) r.turned named_turned)
+  all_named = search (rules, filter_all, all_weaker, lt-ltb, known-permutation, nat_keys, ltb-true)
 
   turned_back : (n : ℕ) → Known nat_cmp (tlids a) n → turns (inverse r) (image nat_cmp r.chains n) ≡ turns r n
   turned_back n k =
@@ -398,8 +320,7 @@ module _ (r q : Renumbering) (a b c : County) (ca : IsCounty a) (cb : IsCounty b
   g_turned t = exactly_one (turns r t) (turns q (image nat_cmp r.chains t))
 
   next_named : (n : ℕ) → Known nat_cmp (rights r.chains) n → Known nat_cmp (lefts q.chains) n
-  next_named n l = known-permutation nat_keys n (lefts q.chains) (tlids b) k.numbers.chains.left
-      (known-permutation_to nat_keys n (rights r.chains) (tlids b) h.numbers.chains.right l)
+  next_named n l = search (rules, known-permutation, nat_keys, known-permutation_to)
 
   turned_of_then : (then r q).turned ≡ filter g_turned (lefts r.chains)
   unfolding g_turned
@@ -423,8 +344,7 @@ module _ (r q : Renumbering) (a b c : County) (ca : IsCounty a) (cb : IsCounty b
   }
 
   key_named : (n : PolygonKey) → Known key_cmp (rights r.polygons) n → Known key_cmp (lefts q.polygons) n
-  key_named n l = known-permutation key_keys n (lefts q.polygons) (polygon_keys b) k.numbers.polygons.left
-      (known-permutation_to key_keys n (rights r.polygons) (polygon_keys b) h.numbers.polygons.right l)
+  key_named n l = search (rules, known-permutation, key_keys, known-permutation_to)
 
   pub then_carries : Carries (then r q) a c
   then_carries =

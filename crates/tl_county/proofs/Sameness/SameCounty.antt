@@ -1,14 +1,14 @@
 -- The county depends neither on the order of the records, nor on the packing of types 2 and 4, nor on the choice of RTSQs.
+use Rattle.tl_county.proofs.Common.{common_steps, ChainTwice, Fields1, Fields2, Fields4, Fields5, Fields6, Fields7, FieldsI, FieldsP}
+use Rattle.tl_county.proofs.Common.{IsLinked, LinkTwice, NameTwice, PolygonKey, PolygonTwice, Record, RecordType, SameElements}
+use Rattle.tl_county.proofs.Common.{SequenceBroken, Type1, Type2, Type4, Type5, Type6, Type7, Type8, TypeI, TypeP, apart_from_no_repeat}
+use Rattle.tl_county.proofs.Common.{chain_of, chain_tlids, chains_of, count-map, county_of, distinct, distinct_same, first, five_feat}
+use Rattle.tl_county.proofs.Common.{four_rtsq, four_tlid, has_repeat, i_tlid, in_order, key_cmp, key_keys, landmark_body_cmp}
+use Rattle.tl_county.proofs.Common.{landmark_body_keys, ltb-false, map_agree_everywhere, nat_keys, of_number, of_type, of_type_1, of_type_2}
+use Rattle.tl_county.proofs.Common.{of_type_4, of_type_5, of_type_6, of_type_7, of_type_8, of_type_i, of_type_p, on, one_tlid, p_key}
+use Rattle.tl_county.proofs.Common.{polygon_body, polygons_of, seven_land, six_rtsq, six_tlid, times, two_rtsq, two_tlid}
 use Rattle.std.proofs.Common.{rules, ◌≡◌, ◌≤◌, ℕ, nat_lt, ◌==◌, List, [], ◌∷◌, ◌++◌, map, flat_map, filter, length, false, is_eq, sym, ap}
 use Rattle.std.proofs.Common.{◌∙◌, arith, nat_cmp, IsPermutation}
-use Rattle.tl_county.proofs.Common.{ChainTwice, Fields1, Fields2, Fields4, Fields5, Fields6, Fields7, FieldsI, FieldsP, IsLinked, LinkTwice}
-use Rattle.tl_county.proofs.Common.{NameTwice, PolygonKey, PolygonTwice, Record, RecordType, SameElements, SequenceBroken, Type1, Type2}
-use Rattle.tl_county.proofs.Common.{Type4, Type5, Type6, Type7, Type8, TypeI, TypeP, apart_from_no_repeat, chain_of, chain_tlids, chains_of}
-use Rattle.tl_county.proofs.Common.{count-map, county_of, distinct, distinct_same, first, five_feat, four_rtsq, four_tlid, has_repeat}
-use Rattle.tl_county.proofs.Common.{i_tlid, in_order, key_cmp, key_keys, landmark_body_cmp, landmark_body_keys, ltb-false}
-use Rattle.tl_county.proofs.Common.{map_agree_everywhere, nat_keys, of_number, of_type, of_type_1, of_type_2, of_type_4, of_type_5}
-use Rattle.tl_county.proofs.Common.{of_type_6, of_type_7, of_type_8, of_type_i, of_type_p, on, one_tlid, p_key, polygon_body, polygons_of}
-use Rattle.tl_county.proofs.Common.{seven_land, side_keys, six_rtsq, six_tlid, times, two_rtsq, two_tlid}
 use Rattle.tl_county.specs.County.{landmarks_of}
 use Rattle.tl_county.proofs.Sameness.SameChains.{chains_alike}
 use Rattle.tl_county.proofs.Sameness.SameRules.{keys_alike, same_of_type, same_in_type, same-linked}
@@ -65,11 +65,7 @@ module _ (xs ys : List Record) (p : IsPermutation xs ys) (linked : IsLinked xs) 
       (same-filter (λ q. is_eq (key_cmp k (p_key q))) (of_type_p xs) (of_type_p ys) (same TypeP)))
 
   polygons_same : polygons_of xs ≡ polygons_of ys
-  polygons_same =
-      map_agree_everywhere (λ k. (k, polygon_body xs k)) (λ k. (k, polygon_body ys k)) (λ k i. (k, body_same k i))
-      (distinct key_cmp (flat_map side_keys (of_type_i xs) ++ map p_key (of_type_p xs)))
-      ∙ ap (map (λ k. (k, polygon_body ys k))) (distinct_same key_keys (flat_map side_keys (of_type_i xs) ++ map p_key (of_type_p xs))
-      (flat_map side_keys (of_type_i ys) ++ map p_key (of_type_p ys)) (keys_alike xs ys s_all))
+  polygons_same = search (rules, common_steps, map_agree_everywhere, body_same, distinct_same, key_keys, keys_alike, s_all)
 
   landmarks_same : landmarks_of xs ≡ landmarks_of ys
   landmarks_same =

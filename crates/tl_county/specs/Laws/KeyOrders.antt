@@ -10,7 +10,6 @@ use Rattle.tl_county.specs.PolygonKeys.{PolygonKey, key_cmp}
 use Rattle.tl_shape.specs.PointOrder.{point_cmp, points_cmp}
 use Rattle.tl_layout.specs.Fields.{Fields8}
 use Rattle.tl_layout.specs.declared.name.FeatureName.{FeatureName}
-use Rattle.tl_layout.specs.declared.type5.Body5.{Body5}
 use Rattle.tl_layout.specs.declared.type7.Body7.{Body7}
 use Rattle.tl_county.specs.BodyOrder.{bytes_cmp, feature_name_cmp, name_body_cmp, landmark_body_cmp, LinkPart, link_part}
 use Rattle.tl_county.specs.BodyOrder.{link_part_cmp, link_cmp}

@@ -6,21 +6,18 @@
 --   proofs/MaskedReads        the values that a chart reads: chain_at_masked, body_masked, bodies_masked and so on
 --   proofs/MaskedCounties     masked_by_none, no_mask_is_plain, masked_twice, carried_masked
 use Rattle.std.proofs.Common.{rules}
-use Rattle.std.proofs.Common.{◌≡◌, ◌≤◌, ◌||◌, ℕ, List, map, length, Bool, true, false, cond, IsTrue, is_some, refl, sym, ap, ◌∙◌, subst}
-use Rattle.std.proofs.Common.{nat_cmp}
+use Rattle.std.proofs.Common.{◌≡◌, ℕ, List, map, length, Bool, true, false, cond, refl, ◌∙◌}
 use Rattle.std.proofs.lemmas.List.{length-map}
 use Rattle.std.specs.List.{AllByRecursion}
-use Rattle.std.specs.List.Sorted.{IsStrictlySortedBy}
 use Rattle.tl_layout.specs.Masked.{masked_body_7}
 use Rattle.tl_layout.specs.declared.mask.Mask.{Mask}
 use Rattle.tl_layout.specs.declared.type7.Body7.{Body7}
 use Rattle.tl_shape.specs.Chain.{Chain}
 use Rattle.tl_county.specs.BodyOrder.{landmark_body_cmp}
 use Rattle.tl_county.specs.County.{County}
-use Rattle.tl_county.specs.CountyRules.{tlids, feats, polygon_keys, lands, nodes, chain_nodes, chain_polygons, polygons_along}
-use Rattle.tl_county.specs.CountyRules.{AllStandIn, AllKeysStandIn, IsCounty}
-use Rattle.ordered_lists.specs.Orders.{IsInOrder, in_order, distinct, stands_in}
-use Rattle.tl_county.specs.PolygonKeys.{key_cmp}
+use Rattle.tl_county.specs.CountyRules.{tlids, lands, nodes, polygons_along}
+use Rattle.tl_county.specs.CountyRules.{IsCounty}
+use Rattle.ordered_lists.specs.Orders.{IsInOrder, in_order}
 use Rattle.tl_county.specs.MaskedCounty.{masked_chain, masked_bodies, masked}
 use Rattle.tl_county.specs.Laws.KeyOrders.{landmark_body_keys}
 use Rattle.ordered_lists.proofs.Lists.Elements.{flat_map-map}

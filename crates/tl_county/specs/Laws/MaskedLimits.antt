@@ -1,7 +1,7 @@
 -- Under a mask a county is within the same limits: blanks fit wherever a text does, and there are as many records of each type.
 use Rattle.std.proofs.Common.{rules}
-use Rattle.std.proofs.Common.{◌≡◌, ◌+◌, ◌≤◌, ℕ, List, [], ◌∷◌, map, flat_map, length, Bool, true, false, cond}
-use Rattle.std.proofs.Common.{refl, sym, ap₂, ◌∙◌, subst, length-append}
+use Rattle.std.proofs.Common.{◌≡◌, ◌≤◌, ℕ, List, [], ◌∷◌, map, flat_map, length, Bool, true, false, cond}
+use Rattle.std.proofs.Common.{refl, sym, ◌∙◌, subst, length-append}
 use Rattle.std.proofs.lemmas.List.{length-map}
 use Rattle.std.specs.List.{AllByRecursion}
 use Rattle.tl_layout.specs.Bytes.{IsText, blanks_if}
