@@ -188,15 +188,7 @@ cenids-itself : (ks : List PolygonKey) → AllByRecursion (λ p. p.0.0 ≡ p.1.0
 cenids-itself [] = tt
 cenids-itself (k ∷ ks) = (refl, cenids-itself ks)
 
--- each image is the number itself
-pub record IsStill (r : Renumbering) : Type 0 where
-  pub chains : (n : ℕ) → image nat_cmp r.chains n ≡ n
-  pub names : (n : ℕ) → image nat_cmp r.names n ≡ n
-  pub polygons : (k : PolygonKey) → image key_cmp r.polygons k ≡ k
-  pub lands : (n : ℕ) → image nat_cmp r.lands n ≡ n
-  pub nodes : (n : ℕ) → image nat_cmp r.nodes n ≡ n
-  pub turned : (n : ℕ) → turns r n ≡ false
-
+-- reflexive: the identity carries a county onto itself
 pub identity_carries : (a : County) → Carries (identity a) a a
 identity_carries a = search (rules, nat_keys, key_keys, cenids-itself, image-to_itself, lefts-to_itself, rights-to_itself, map_itself)
 
