@@ -1,11 +1,9 @@
 -- The links of landmarks, collected landmark by landmark and compared by their fields.
 use Rattle.tl_cert.proofs.Common.{◌≡◌, ℕ, zero, suc, List, [], ◌∷◌, ◌++◌, map, flat_map, take, Bool, slice_get, refl, sym, ap, ◌∙◌}
 use Rattle.tl_cert.proofs.Common.{subst, append_assoc, append-nil, IsPermutation, nat_cmp, IsPermutation-sym, IsPermutation-trans}
-use Rattle.tl_cert.proofs.Common.{IsPermutation-map, Decides, of_number, Fields8, County, eight_land, IsCounty, lands, times}
-use Rattle.tl_cert.proofs.Common.{stands_in, Known, nat_keys, apart_from_sorted, all_weaker, map-map, LinkFields, link_fields}
-use Rattle.tl_cert.proofs.Common.{decides_same}
-use Rattle.std.proofs.Common.{◌+◌, IsTrue}
-use Rattle.std.proofs.Common.{add-one}
+use Rattle.tl_cert.proofs.Common.{IsPermutation-map, Decides, of_number, Fields8, County, eight_land, IsCounty, lands, times, stands_in}
+use Rattle.tl_cert.proofs.Common.{Known, nat_keys, apart_from_sorted, all_weaker, map-map, LinkFields, link_fields, decides_same}
+use Rattle.std.proofs.Common.{◌+◌, IsTrue, add-one}
 use Rattle.std.proofs.lemmas.Bool.{ltb-true}
 use Rattle.tl_county.specs.ChartWords.{links_with}
 use Rattle.ordered_lists.proofs.Lists.Elements.{map_itself}

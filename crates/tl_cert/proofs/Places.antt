@@ -1,11 +1,9 @@
 -- The numbers and the entries of a county, decided place by place.
-use Rattle.tl_cert.proofs.Common.{◌≡◌, ℕ, zero, suc, List, [], ◌∷◌, Bool, true, false, Ordering, is_eq, Option, Some, slice_get}
-use Rattle.tl_cert.proofs.Common.{refl, sym, ap, ◌∙◌, subst, arith, IsPermutation, nat_cmp, length, IsPermutation-sym}
-use Rattle.tl_cert.proofs.Common.{IsPermutation-trans, Decides, slice_cmp, IsInOrder, times, stands_in, has_repeat, entry_keys}
-use Rattle.tl_cert.proofs.Common.{decides_over, IsKeyOrder, nat_keys, same-itself, apart-permutation}
-use Rattle.tl_cert.proofs.Common.{apart_from_sorted}
-use Rattle.std.proofs.Common.{IfSome}
-use Rattle.std.proofs.Common.{is_gt, ◌<◌, ◌+◌, get_or, ltb, Less}
+use Rattle.tl_cert.proofs.Common.{◌≡◌, ℕ, zero, suc, List, [], ◌∷◌, Bool, true, false, Ordering, is_eq, Option, Some, slice_get, refl}
+use Rattle.tl_cert.proofs.Common.{sym, ap, ◌∙◌, subst, arith, IsPermutation, nat_cmp, length, IsPermutation-sym, IsPermutation-trans}
+use Rattle.tl_cert.proofs.Common.{Decides, slice_cmp, IsInOrder, times, stands_in, has_repeat, entry_keys, decides_over, IsKeyOrder}
+use Rattle.tl_cert.proofs.Common.{nat_keys, same-itself, apart-permutation, apart_from_sorted}
+use Rattle.std.proofs.Common.{IfSome, is_gt, ◌<◌, ◌+◌, get_or, ltb, Less}
 use Rattle.std.proofs.lemmas.Bool.{false≢true, true≢false, lt-ltb, ltb-true, ltb-false, or_left, or_right}
 use Rattle.std.proofs.lemmas.Cmp.{nat_cmp_total}
 use Rattle.std.proofs.lemmas.Map.Keys.{sorted_from_all_adjacent}

@@ -2,8 +2,7 @@
 use Rattle.tl_cert.proofs.Common.{◌≡◌, nat_lt, suc, List, [], ◌∷◌, map, filter, filter_map, length, Bool, true, false, cond, Ordering}
 use Rattle.tl_cert.proofs.Common.{is_eq, Option, Some, None, unwrap_or, option_map, refl, ap, ◌∙◌, arith, value_under, image, is_named}
 use Rattle.tl_cert.proofs.Common.{composed, IsKeyOrder, lefts, named_images, pair_on}
-use Rattle.std.proofs.Common.{is_some}
-use Rattle.std.proofs.Common.{Less, Equal, Greater}
+use Rattle.std.proofs.Common.{is_some, Less, Equal, Greater}
 use Rattle.std.proofs.lemmas.Bool.{lt-ltb}
 use Rattle.std.specs.List.{cons_option}
 use Rattle.std.specs.Ordering.{ordering_reverse}

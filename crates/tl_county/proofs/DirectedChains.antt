@@ -1,6 +1,5 @@
 -- The lists of a chain that may be turned.
-use Rattle.std.proofs.Common.{◌≡◌, Bool, true, false, Option, Some, None, option_map, map, reverse, cond}
-use Rattle.std.proofs.Common.{refl}
+use Rattle.std.proofs.Common.{◌≡◌, Bool, true, false, Option, Some, None, option_map, map, reverse, cond, refl}
 use Rattle.tl_county.proofs.Common.{Chain, turned_if}
 use Rattle.tl_layout.specs.Turned.{turned_ranges}
 use Rattle.tl_county.specs.ChartWords.{points_of, feats_of, ranges_of}

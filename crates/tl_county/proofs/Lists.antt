@@ -2,3 +2,4 @@ pub mod OfNumber
 pub mod LinkPlaces
 pub mod Groups
 pub mod Compared
+pub mod TableEntries

@@ -15,6 +15,7 @@ ghost use Rattle.tl_layout.specs.Limits.{IsWithinLimit};
 ghost use Rattle.tl_layout.specs.RecordText.{FitsRecord};
 
 /// `AreSame` is an equivalence of counties.
+#[tactic(auto, using(crate::proofs::Sameness::Equivalence::laws_of_sameness))]
 pub fn sameness_is_an_equivalence()
     ensures reflexive { (a : County) → AreSame a a }
     ensures symmetric { (a b : County) → IsCounty a → IsCounty b → AreSame a b → AreSame b a }

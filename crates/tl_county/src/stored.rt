@@ -59,6 +59,7 @@ pub type CountyIn<'a> = StoredCounty<ChainIn<'a>, NameIn<'a>, LandmarkIn<'a>>;
 /// names are read in place, in tables that outlive it; only lists that were joined are in an arena. Read it as a [`Chart`].
 pub type CountyOver<'a> = StoredCounty<ChainOver<'a>, NameIn<'a>, LandmarkIn<'a>>;
 
+#[tactic(auto, using(crate::proofs::Rules::StoredParts::stored_parts))]
 impl<C: StoredChain, N: StoredName, L: StoredLandmark> StoredCounty<C, N, L> {
     /// The content of a polygon's record of type P, or none if the county doesn't have the polygon or it has no such record.
     pub fn polygon_body(&self, key: PolygonKey) -> Option<BodyP>
@@ -133,6 +134,7 @@ impl<C: StoredChain, N: StoredName, L: StoredLandmark> StoredCounty<C, N, L> {
     }
 }
 
+#[tactic(auto, using(crate::proofs::Rules::StoredParts::stored_parts))]
 impl County {
     /// The chain with this TLID, or none if no chain has it.
     pub fn chain(&self, tlid: u64) -> Option<&Chain>
@@ -170,6 +172,7 @@ impl County {
     }
 }
 
+#[tactic(auto, using(crate::proofs::Rules::StoredParts::stored_parts))]
 impl<'a> CountyIn<'a> {
     /// The chain with this TLID, or none if no chain has it.
     pub fn chain(&self, tlid: u64) -> Option<&ChainIn<'a>>

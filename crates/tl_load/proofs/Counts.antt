@@ -1,19 +1,16 @@
 -- The counts of records of each type.
-use Rattle.std.proofs.Common.{◌≡◌, ℕ, ◌+◌, ◌<◌, ◌≤◌, Bool, false, cond, List, [], ◌∷◌, ◌++◌, length, get_or, set, replicate}
-use Rattle.std.proofs.Common.{Ok, Err, refl, sym, ap, ◌∙◌, arith, lit<, eqb, inl, inr}
-use Rattle.std.proofs.lemmas.Bool.{cases_eq, eq-eqb, ne_eqb, le-leb, lt-leb}
-use Rattle.std.proofs.lemmas.List.{length-set, get_or-set_same, get_or-set_other, get_or-replicate, length-replicate}
-use Rattle.std.proofs.lemmas.List.Elements.{All-nil}
-use Rattle.tl_layout.specs.declared.record_type.Record.{Record}
-use Rattle.tl_layout.specs.declared.record_type.Record.TheVariants.{One, Two, Four, Five, Six, Seven, Eight, I, P}
+use Rattle.std.proofs.Common.{rules, ◌≡◌, ℕ, ◌+◌, ◌<◌, ◌≤◌, Bool, false, cond, List, [], ◌∷◌, ◌++◌, length, get_or, set, replicate, Ok, Err}
+use Rattle.std.proofs.Common.{refl, sym, ap, ◌∙◌, arith, lit<, eqb}
+use Rattle.tl_load.proofs.Common.{All-nil, AreCounted, Eight, Five, Four, I, One, P, Record, Seven, Six, Two, cases_eq, common_steps}
+use Rattle.tl_load.proofs.Common.{count_of, eq-eqb, is_line_feed, le-leb, length-replicate, lt-leb, ne_eqb}
+use Rattle.std.proofs.lemmas.List.{length-set, get_or-set_same, get_or-set_other, get_or-replicate}
 use Rattle.tl_layout.specs.RecordText.{type_of}
-use Rattle.tl_load.specs.declared.fault.LoadFault.TheVariants as faults
-use Rattle.tl_load.specs.Lines.{is_line_feed}
-use Rattle.tl_load.specs.Outcome.{count_of, with_record}
+use Rattle.tl_load.specs.Outcome.{with_record}
 use Rattle.tl_load.specs.Choice.{tiger}
-use Rattle.tl_load.specs.Keeping.{AreCounted, IsLoader, total}
+use Rattle.tl_load.specs.Keeping.{IsLoader, total}
 use Rattle.tl_load.proofs.Reading.{count_push}
 use Rattle.tl_layout.specs.declared.record_type.TheConstants.{MOST_RECORDS}
+use Rattle.tl_load.specs.declared.fault.LoadFault.TheVariants as faults
 
 tiger_rtype : (r : Record) → tiger.rtype r ≡ type_of r
 unfolding tiger
@@ -35,8 +32,7 @@ type_low (P x) = lit< tt
 
 type_count : (counts : List ℕ) (records : List Record) (added : Record) (rtype : ℕ) → AreCounted counts records → type_of added ≡ rtype
     → count_of tiger (tiger.rtype added) records ≡ get_or counts rtype 0
-type_count counts records added rtype counted is = ap (λ (t : ℕ). count_of tiger t records) (tiger_rtype added)
-    ∙ sym (counted (type_of added) (type_low added)) ∙ ap (λ (t : ℕ). get_or counts t 0) is
+type_count counts records added rtype counted is = search (rules, tiger_rtype, type_low)
 
 pub adds_full : (counts : List ℕ) (records : List Record) (limit : ℕ) (added : Record) (rtype : ℕ) → AreCounted counts records
     → type_of added ≡ rtype → limit ≤ get_or counts rtype 0 → with_record tiger limit records added ≡ Err (faults.TooManyRecords rtype)
@@ -55,29 +51,11 @@ adds_below counts records limit added rtype counted is below =
 
 one_up : (counts : List ℕ) (t u : ℕ) → t < length counts
     → get_or (set counts t (get_or counts t 0 + 1)) u 0 ≡ get_or counts u 0 + cond (eqb t u) 1 0
-one_up counts t u low = elim (cases_eq t u) [
-  | inl same ↦
-      let b : ◌≡◌ {A = ℕ} (cond (eqb t u) 1 0) 1 = ap (λ (z : Bool). cond z 1 0) (eq-eqb t u same) in
-      let here : get_or (set counts t (get_or counts t 0 + 1)) u 0 ≡ get_or counts t 0 + 1 =
-      ap (λ (k : ℕ). get_or (set counts t (get_or counts t 0 + 1)) k 0) (sym same)
-      ∙ get_or-set_same counts t (get_or counts t 0 + 1) 0 low in
-      let was : get_or counts t 0 ≡ get_or counts u 0 = ap (λ (k : ℕ). get_or counts k 0) same in
-      omega (arith, b, here, was)
-  | inr other ↦
-      let b : ◌≡◌ {A = ℕ} (cond (eqb t u) 1 0) 0 = ap (λ (z : Bool). cond z 1 0) (ne_eqb t u other) in
-      let here = get_or-set_other counts t u (get_or counts t 0 + 1) 0 (λ e. other (sym e)) in
-      omega (arith, b, here)
-]
+one_up counts t u low = search (rules, cases_eq, eq-eqb, get_or-set_same, ne_eqb, get_or-set_other)
 
 pub counted_more : (counts : List ℕ) (records : List Record) (added : Record) (rtype : ℕ) → length counts ≡ 128 → AreCounted counts records
     → type_of added ≡ rtype → AreCounted (set counts rtype (get_or counts rtype 0 + 1)) (records ++ added ∷ [])
-counted_more counts records added rtype len counted is t low =
-    let here = one_up counts rtype t (omega (arith, len, type_low added, is)) in
-    let was = counted t low in
-    let e = count_push tiger records added t in
-    let same : ◌≡◌ {A = ℕ} (cond (eqb (tiger.rtype added) t) 1 0) (cond (eqb rtype t) 1 0) =
-    ap (λ (k : ℕ). cond {A = ℕ} (eqb k t) 1 0) (tiger_rtype added ∙ is) in
-    omega (arith, here, was, e, same)
+counted_more counts records added rtype len counted is t low = grind (arith, common_steps, one_up, type_low, count_push, tiger_rtype)
 
 -- 1 if this is one of the nine types, and 0 otherwise
 abbrev pub of_nine : ℕ → ℕ
@@ -85,20 +63,7 @@ of_nine t = cond (eqb t 49) 1 0 + cond (eqb t 50) 1 0 + cond (eqb t 52) 1 0 + co
     (eqb t 55) 1 0 + cond (eqb t 56) 1 0 + cond (eqb t 73) 1 0 + cond (eqb t 80) 1 0
 
 all_nine : (counts : List ℕ) (t : ℕ) → t < length counts → of_nine t ≡ 1 → total (set counts t (get_or counts t 0 + 1)) ≡ total counts + 1
-all_nine counts t low one =
-    omega (
-      arith,
-      one,
-      one_up counts t 49 low,
-      one_up counts t 50 low,
-      one_up counts t 52 low,
-      one_up counts t 53 low,
-      one_up counts t 54 low,
-      one_up counts t 55 low,
-      one_up counts t 56 low,
-      one_up counts t 73 low,
-      one_up counts t 80 low,
-    )
+all_nine counts t low one = search (rules, one_up)
 
 -- counting one more record raises the total by one, since its type is one of the nine
 total_more : (counts : List ℕ) (added : Record) → length counts ≡ 128
@@ -123,17 +88,7 @@ pub loader_with : (counts : List ℕ) (unfinished : List ℕ) (parts judged limi
     → IsLoader (set counts rtype (get_or counts rtype 0 + 1)) unfinished parts (judged + 1) limit
 loader_with counts unfinished parts judged limit added rtype l is below = record {
   counts_len = omega (arith, length-set counts rtype (get_or counts rtype 0 + 1), l.counts_len);
-  within = λ t low. elim (cases_eq rtype t) [
-    | inl same ↦
-        let here : get_or (set counts rtype (get_or counts rtype 0 + 1)) t 0 ≡ get_or counts rtype 0 + 1 =
-        ap (λ (k : ℕ). get_or (set counts rtype (get_or counts rtype 0 + 1)) k 0) (sym same)
-        ∙ get_or-set_same counts rtype (get_or counts rtype 0 + 1) 0 (omega (arith, l.counts_len, type_low added, is)) in
-        omega (arith, here)
-    | inr other ↦
-        let here = get_or-set_other counts rtype t (get_or counts rtype 0 + 1) 0 (λ e. other (sym e)) in
-        let was = l.within t low in
-        omega (arith, here, was)
-  ];
+  within = search (rules, cases_eq, get_or-set_same, type_low, get_or-set_other);
   judged_low = omega (arith, l.judged_low, total_up counts added rtype l.counts_len is);
   limit_low = l.limit_low;
   no_feed = l.no_feed;
@@ -164,17 +119,4 @@ empty_loader limit low = record {
 
 pub most_records : (counts : List ℕ) (unfinished : List ℕ) (parts judged limit : ℕ) → IsLoader counts unfinished parts judged limit
     → total counts ≤ 90000000
-most_records counts unfinished parts judged limit l =
-    omega (
-      arith,
-      l.limit_low,
-      l.within 49 (lit< tt),
-      l.within 50 (lit< tt),
-      l.within 52 (lit< tt),
-      l.within 53 (lit< tt),
-      l.within 54 (lit< tt),
-      l.within 55 (lit< tt),
-      l.within 56 (lit< tt),
-      l.within 73 (lit< tt),
-      l.within 80 (lit< tt),
-    )
+most_records counts unfinished parts judged limit l = search rules

@@ -1,21 +1,16 @@
 -- Cutting a set into parts: an empty part has no lines, and the bytes after the end of a line keep their lines.
-use Rattle.std.proofs.Common.{◌≡◌, ◌↔◌, ℕ, ◌+◌, Bool, true, false, List, [], ◌∷◌, ◌++◌, map, refl, sym, ap, subst, ◌∙◌}
+use Rattle.std.proofs.Common.{arith, rules, ◌≡◌, ◌↔◌, ℕ, ◌+◌, Bool, true, false, List, [], ◌∷◌, ◌++◌, map, refl, sym, ap, subst, ◌∙◌}
 use Rattle.std.proofs.Common.{append_assoc, eqb}
-use Rattle.std.proofs.lemmas.List.{map-append}
+use Rattle.tl_load.proofs.Common.{All-nil, AreLinesSpelled, FaultAt, FieldKind, IsFaultOf, IsWithoutLineFeed, Judge, LineFault, LoadFault}
+use Rattle.tl_load.proofs.Common.{PlacedLine, Spells, common_steps, eqb-true, field_fault_at, flat_map-append, is_line_feed, lines}
+use Rattle.tl_load.proofs.Common.{map-append, of_limit, of_line, placed_lines}
 use Rattle.std.specs.List.{flat_map}
-use Rattle.std.proofs.lemmas.Bool.{eqb-true}
-use Rattle.std.proofs.lemmas.Grind.{flat_map-append}
-use Rattle.std.proofs.lemmas.List.Elements.{All-append, All-nil, All-cons}
-use Rattle.tl_layout.specs.declared.fault.FieldKind.{FieldKind}
-use Rattle.tl_layout.specs.declared.fault.FieldKind.TheVariants as kinds
-use Rattle.tl_load.specs.Lines.{is_line_feed, IsWithoutLineFeed, without_return, lines, HaveSameLines}
-use Rattle.tl_load.specs.Places.{PlacedLine, numbered_lines, lines_from_part, placed_lines}
-use Rattle.tl_load.specs.Verdicts.{Judge, field_fault_at, fault_at, without_place}
-use Rattle.tl_load.specs.Outcome.{AreLinesSpelled, Spells, IsFaultOf, of_line, of_limit, FaultAt}
-use Rattle.tl_load.specs.declared.fault.LineFault.{LineFault}
-use Rattle.tl_load.specs.declared.fault.LineFault.TheVariants as line_faults
-use Rattle.tl_load.specs.declared.fault.LoadFault.{LoadFault}
+use Rattle.tl_load.specs.Lines.{HaveSameLines}
+use Rattle.tl_load.specs.Places.{numbered_lines, lines_from_part}
+use Rattle.tl_load.specs.Verdicts.{fault_at, without_place}
 use Rattle.tl_load.proofs.LineLemmas.{lines_line, lines_none}
+use Rattle.tl_layout.specs.declared.fault.FieldKind.TheVariants as kinds
+use Rattle.tl_load.specs.declared.fault.LineFault.TheVariants as line_faults
 
 -- ---- what lines spell doesn't depend on their places
 
@@ -31,10 +26,7 @@ bytes_of_part part line (l ∷ ls) = ap (λ (rest : List (List ℕ)). l ∷ rest
 bytes_of_parts : (n : ℕ) (parts : List (List ℕ)) → bytes_of (lines_from_part n parts) ≡ flat_map lines parts
 unfolding lines_from_part
 bytes_of_parts n [] = refl
-bytes_of_parts n (part ∷ parts) =
-    map-append (λ (l : PlacedLine). l.bytes) (numbered_lines n 1 (lines part)) (lines_from_part (n + 1) parts)
-    ∙ ap (λ (ls : List (List ℕ)). ls ++ bytes_of (lines_from_part (n + 1) parts)) (bytes_of_part n 1 (lines part))
-    ∙ ap (λ (ls : List (List ℕ)). lines part ++ ls) (bytes_of_parts (n + 1) parts)
+bytes_of_parts n (part ∷ parts) = search (rules, map-append, bytes_of_part, bytes_of_parts (n + 1) parts)
 
 spelled_as : {R : Type 0} (judge : Judge R) (xs ys : List PlacedLine) (records : List R) → bytes_of xs ≡ bytes_of ys
     → AreLinesSpelled judge xs records → AreLinesSpelled judge ys records
@@ -53,13 +45,11 @@ same_bytes parts others same = bytes_of_parts 1 parts ∙ same ∙ sym (bytes_of
 -- parts with the same lines spell the same
 pub spells_as : {R : Type 0} (judge : Judge R) (parts others : List (List ℕ)) (records : List R) → HaveSameLines parts others
     → Spells judge parts records → Spells judge others records
-spells_as judge parts others records same =
-    spelled_as judge (placed_lines parts) (placed_lines others) records (same_bytes parts others same)
+spells_as judge parts others records same = search (rules, spelled_as, same_bytes)
 
 pub spells_alike : {R : Type 0} (judge : Judge R) (parts others : List (List ℕ)) (records : List R) → HaveSameLines parts others
     → (Spells judge parts records ↔ Spells judge others records)
-spells_alike judge parts others records same =
-    (spells_as judge parts others records same, spells_as judge others parts records (sym same))
+spells_alike judge parts others records same = search (rules, spells_as)
 
 -- ---- the first fault doesn't depend on places either, except for its own place
 
@@ -140,33 +130,20 @@ fault_elsewhere judge limit parts others fault same at =
 -- ---- cutting after the end of a line
 
 lines_of_cut : (a text rest : List ℕ) → IsWithoutLineFeed a → lines (a ++ (text ++ 10 ∷ rest)) ≡ lines (a ++ (text ++ 10 ∷ [])) ++ lines rest
-lines_of_cut a [] rest h =
-    lines_line a rest h
-    ∙ ap (λ (ls : List (List ℕ)). ls ++ lines rest)
-    (sym (lines_line a [] h ∙ ap (λ (ls : List (List ℕ)). without_return a ∷ ls) lines_none))
+lines_of_cut a [] rest h = search (rules, lines_line, rest, lines_none)
 lines_of_cut a (c ∷ text) rest h =
     go (eqb c 10) refl (lines_of_cut [] text rest (All-nil (λ b. is_line_feed b ≡ false))) (λ n. lines_of_cut (a ++ c ∷ []) text rest (longer n))
   where
     longer : is_line_feed c ≡ false → IsWithoutLineFeed (a ++ c ∷ [])
-    longer n = All-append (λ b. is_line_feed b ≡ false) a (c ∷ []) h
-        (All-cons (λ b. is_line_feed b ≡ false) c [] n (All-nil (λ b. is_line_feed b ≡ false)))
+    longer n = grind (arith, common_steps)
 
     -- either the line ends here, or it continues with this byte
     go : (t : Bool) → eqb c 10 ≡ t → lines (text ++ 10 ∷ rest) ≡ lines (text ++ 10 ∷ []) ++ lines rest
         → (is_line_feed c ≡ false
         → lines ((a ++ c ∷ []) ++ (text ++ 10 ∷ rest)) ≡ lines ((a ++ c ∷ []) ++ (text ++ 10 ∷ [])) ++ lines rest)
         → lines (a ++ (c ∷ text ++ 10 ∷ rest)) ≡ lines (a ++ (c ∷ text ++ 10 ∷ [])) ++ lines rest
-    go true e shorter _ =
-        let is : c ≡ 10 = eqb-true c 10 e in
-        ap (λ (k : ℕ). lines (a ++ k ∷ (text ++ 10 ∷ rest))) is
-        ∙ lines_line a (text ++ 10 ∷ rest) h
-        ∙ ap (λ (ls : List (List ℕ)). without_return a ∷ ls) shorter
-        ∙ ap (λ (ls : List (List ℕ)). ls ++ lines rest)
-        (sym (ap (λ (k : ℕ). lines (a ++ k ∷ (text ++ 10 ∷ []))) is ∙ lines_line a (text ++ 10 ∷ []) h))
-    go false e _ longer_line =
-        ap lines (sym (append_assoc a (c ∷ []) (text ++ 10 ∷ rest)))
-        ∙ longer_line e
-        ∙ ap (λ (bytes : List ℕ). lines bytes ++ lines rest) (append_assoc a (c ∷ []) (text ++ 10 ∷ []))
+    go true e shorter _ = search (rules, eqb-true, rest, lines_line)
+    go false e _ longer_line = search (rules, append_assoc, rest)
 
 pub cut_lines : (before later : List (List ℕ)) (text rest : List ℕ)
     → HaveSameLines (before ++ (text ++ 10 ∷ rest) ∷ later) (before ++ (text ++ 10 ∷ []) ∷ rest ∷ later)
@@ -179,29 +156,22 @@ cut_lines before later text rest =
 
 pub cut_spells : {R : Type 0} (judge : Judge R) (before later : List (List ℕ)) (text rest : List ℕ) (records : List R)
     → (Spells judge (before ++ (text ++ 10 ∷ rest) ∷ later) records ↔ Spells judge (before ++ (text ++ 10 ∷ []) ∷ rest ∷ later) records)
-cut_spells judge before later text rest records =
-    spells_alike judge (before ++ (text ++ 10 ∷ rest) ∷ later) (before ++ (text ++ 10 ∷ []) ∷ rest ∷ later) records
-    (cut_lines before later text rest)
+cut_spells judge before later text rest records = search (rules, spells_alike, rest, cut_lines)
 
 -- ---- empty parts
 
 pub empty_lines : (before later : List (List ℕ)) → HaveSameLines (before ++ [] ∷ later) (before ++ later)
-empty_lines before later =
-    flat_map-append lines before ([] ∷ later)
-    ∙ ap (λ (ls : List (List ℕ)). flat_map lines before ++ (ls ++ flat_map lines later)) lines_none
-    ∙ sym (flat_map-append lines before later)
+empty_lines before later = search (rules, flat_map-append, lines_none)
 
 pub empty_spells : {R : Type 0} (judge : Judge R) (before later : List (List ℕ)) (records : List R)
     → (Spells judge (before ++ [] ∷ later) records ↔ Spells judge (before ++ later) records)
-empty_spells judge before later records =
-    spells_alike judge (before ++ [] ∷ later) (before ++ later) records (empty_lines before later)
+empty_spells judge before later records = search (rules, spells_alike, empty_lines)
 
 -- an empty part at the end doesn't change the place of any line
 lines_with_empty_part : (n : ℕ) (parts : List (List ℕ)) → lines_from_part n (parts ++ [] ∷ []) ≡ lines_from_part n parts
 unfolding lines_from_part numbered_lines
 lines_with_empty_part n [] = ap (λ (ls : List (List ℕ)). numbered_lines n 1 ls ++ []) lines_none
-lines_with_empty_part n (part ∷ parts) =
-    ap (λ (ls : List PlacedLine). numbered_lines n 1 (lines part) ++ ls) (lines_with_empty_part (n + 1) parts)
+lines_with_empty_part n (part ∷ parts) = search (rules, lines_with_empty_part (n + 1) parts)
 
 fault_as : {R : Type 0} (judge : Judge R) (limit : ℕ) (parts others : List (List ℕ)) (fault : LoadFault)
     → placed_lines parts ≡ placed_lines others → FaultAt judge limit parts fault → FaultAt judge limit others fault
@@ -219,6 +189,4 @@ fault_as judge limit parts others fault same at = record {
 -- an empty part at the end doesn't change the fault
 pub empty_fault : {R : Type 0} (judge : Judge R) (limit : ℕ) (parts : List (List ℕ)) (fault : LoadFault)
     → (FaultAt judge limit (parts ++ [] ∷ []) fault ↔ FaultAt judge limit parts fault)
-empty_fault judge limit parts fault =
-    let same = lines_with_empty_part 1 parts in
-    (fault_as judge limit (parts ++ [] ∷ []) parts fault same, fault_as judge limit parts (parts ++ [] ∷ []) fault (sym same))
+empty_fault judge limit parts fault = search (rules, lines_with_empty_part, fault_as)

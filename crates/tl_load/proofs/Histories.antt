@@ -1,28 +1,24 @@
 -- What a loader was fed after each call.
-use Rattle.std.proofs.Common.{◌≡◌, ℕ, ◌+◌, ◌≤◌, false, List, [], ◌∷◌, ◌++◌, length, map, replicate, Option, Some, None}
-use Rattle.std.proofs.Common.{Result, Ok, Err, refl, sym, ap, subst, ◌∙◌, append_assoc, append-nil, arith, inl, inr, ◌⊎◌}
-use Rattle.std.specs.Prelude.{MatchOption, MatchResult, IfErr, OnOk, All}
-use Rattle.std.proofs.lemmas.Grind.{flat_map-append}
-use Rattle.std.proofs.lemmas.List.{length-append, length-map}
-use Rattle.std.proofs.lemmas.List.Elements.{All-append, All-nil}
-use Rattle.tl_layout.specs.declared.record_type.Record.{Record}
-use Rattle.tl_load.specs.declared.fault.LoadFault.{LoadFault}
-use Rattle.tl_load.specs.declared.fault.LoadFault.TheVariants as faults
-use Rattle.tl_load.specs.Lines.{is_line_feed, IsWithoutLineFeed, without_return, lines}
-use Rattle.tl_load.specs.Places.{PlacedLine, numbered_lines, lines_from_part, placed_lines}
-use Rattle.tl_load.specs.Outcome.{SpellsWithin, FaultAt, ◌then_with◌, outcome_after, outcome}
-use Rattle.tl_load.specs.Choice.{tiger}
-use Rattle.tl_load.specs.Loaded.{Loaded, IsOfLines, IsFaultHowever, with_line_feeds, HasLoaded, IsWellSoFar}
-use Rattle.tl_load.specs.Loaded.{IsWellAfter, all_parts}
-use Rattle.tl_load.specs.Keeping.{LoadedInto, seen, AreKept, AreCounted, WasFedInto, HasSome, IsSamePart, Lifts}
-use Rattle.tl_load.specs.Steps.{to_come, to_end, TakesLines, Takes, Ends, IsPartClosed, Closes, ReadsPart, with_fault}
+use Rattle.std.proofs.Common.{rules, ◌≡◌, ℕ, ◌+◌, ◌≤◌, List, [], ◌∷◌, ◌++◌, length, map, replicate, Option, Some, None, Result, Ok, Err}
+use Rattle.std.proofs.Common.{refl, sym, ap, subst, ◌∙◌, append_assoc, append-nil, arith, inl, inr, ◌⊎◌}
+use Rattle.tl_load.proofs.Common.{All, AreCounted, Closes, Ends, FaultAt, IsOfLines, IsSamePart, IsWellAfter, IsWithoutLineFeed, LINE_BYTES}
+use Rattle.tl_load.proofs.Common.{Lifts, LoadFault, Loaded, LoadedInto, MatchOption, MatchResult, OnOk, PlacedLine, ReadsPart, Record}
+use Rattle.tl_load.proofs.Common.{SpellsWithin, Takes, TakesLines, WasFedInto, all_parts, common_steps, flat_map-append, length-append}
+use Rattle.tl_load.proofs.Common.{length-map, lines, outcome, placed_lines, seen, tiger, to_end, with_line_feeds, without_return}
+use Rattle.tl_load.proofs.Common.{◌then_with◌}
+use Rattle.std.specs.Prelude.{IfErr}
+use Rattle.tl_load.specs.Places.{numbered_lines, lines_from_part}
+use Rattle.tl_load.specs.Outcome.{outcome_after}
+use Rattle.tl_load.specs.Loaded.{IsFaultHowever, HasLoaded, IsWellSoFar}
+use Rattle.tl_load.specs.Keeping.{AreKept}
+use Rattle.tl_load.specs.Steps.{to_come, IsPartClosed, with_fault}
 use Rattle.tl_load.proofs.RecordLines.{tiger_is_sound}
 use Rattle.tl_load.proofs.Reading.{outcome_after-append, accepts_from_outcome, outcome_from_accepts, fault_from_outcome}
 use Rattle.tl_load.proofs.LineLemmas.{lines_none}
 use Rattle.tl_load.proofs.Counts.{none_counted}
 use Rattle.tl_load.proofs.Runs.{lines_after, numbered_lines-append, parts-append}
 use Rattle.tl_load.proofs.Steps.{comes_at_end}
-use Rattle.tl_load.specs.declared.loader_for.TheConstants.{LINE_BYTES}
+use Rattle.tl_load.specs.declared.fault.LoadFault.TheVariants as faults
 
 pub at_none : {A : Type 0} (P : Type 0) (Q : A → Type 0) (o : Option A) → o ≡ None → MatchOption o P Q → P
 at_none P Q None e h = h
@@ -61,9 +57,7 @@ ended_then closed ended rest later apart =
     ap lines (sym (append-nil (with_line_feeds ended))) ∙ lines_after ended [] apart
     ∙ ap (λ (l : List (List ℕ)). map without_return ended ++ l) lines_none ∙ append-nil (map without_return ended) in
     let before : placed_lines (closed ++ with_line_feeds ended ∷ []) ≡ lines_from_part 1 closed ++ first =
-    parts-append 1 closed (with_line_feeds ended ∷ [])
-    ∙ ap (λ (l : List PlacedLine). lines_from_part 1 closed ++ l) (append-nil (numbered_lines n 1 (lines (with_line_feeds ended)))
-    ∙ ap (numbered_lines n 1) alone) in
+    search (rules, parts-append, append-nil) in
     parts-append 1 closed ((with_line_feeds ended ++ rest) ∷ later)
     ∙ ap (λ (l : List (List ℕ)). lines_from_part 1 closed ++ (numbered_lines n 1 l ++ lines_from_part (n + 1) later))
     (lines_after ended rest apart)
@@ -107,24 +101,13 @@ comes_of limit l closed open_part more later same h =
     ∙ append_assoc (with_line_feeds h.ended) l.unfinished more)
     ∙ comes_after limit l closed open_part (l.unfinished ++ more) later same h
 
-none_follow : (n k : ℕ) → numbered_lines n k (lines []) ++ lines_from_part (n + 1) [] ≡ []
-unfolding numbered_lines lines_from_part
-none_follow n k = ap (λ (l : List (List ℕ)). numbered_lines n k l ++ []) lines_none
-
 -- further lines that end are loaded
 loaded_more : (limit : ℕ) (before after : Loaded) (closed : List (List ℕ)) (open_part bytes : List ℕ) → before.limit ≡ limit
     → HasLoaded limit before closed open_part → TakesLines before bytes after → HasLoaded limit after closed (open_part ++ bytes)
 unfolding lines_from_part
 loaded_more limit before after closed open_part bytes same h t = record {
   ended = h.ended ++ t.ended;
-  lines_are = record {
-    bytes_are = ap (λ (l : List ℕ). l ++ bytes) h.lines_are.bytes_are ∙ append_assoc (with_line_feeds h.ended) before.unfinished bytes
-        ∙ ap (λ (l : List ℕ). with_line_feeds h.ended ++ l) t.lines_are.bytes_are
-        ∙ sym (append_assoc (with_line_feeds h.ended) (with_line_feeds t.ended) after.unfinished)
-        ∙ ap (λ (l : List ℕ). l ++ after.unfinished) (sym joined);
-    each_ended = All-append IsWithoutLineFeed h.ended t.ended h.lines_are.each_ended t.lines_are.each_ended;
-    not_ended = t.lines_are.not_ended;
-  };
+  lines_are = grind (arith, common_steps, append_assoc, joined);
   parts_are = t.parts_are ∙ h.parts_are;
   judged_are = omega (arith, h.judged_are, t.judged_are, length-append h.ended t.ended);
   accepts = accepts_from_outcome tiger tiger_is_sound limit _ after.records
@@ -151,12 +134,7 @@ loaded_closed : (limit : ℕ) (before after : Loaded) (closed : List (List ℕ))
 unfolding lines_from_part numbered_lines
 loaded_closed limit before after closed open_part same h c = record {
   ended = [];
-  lines_are = record {
-    bytes_are = sym c.none_kept;
-    each_ended = All-nil IsWithoutLineFeed;
-    not_ended =
-        subst IsWithoutLineFeed (sym c.none_kept) (All-nil (λ b. is_line_feed b ≡ false));
-  };
+  lines_are = search rules;
   parts_are = omega (arith, c.parts_are, h.parts_are, length-append closed (open_part ∷ []));
   judged_are = c.none_judged;
   accepts = accepts_from_outcome tiger tiger_is_sound limit _ after.records
@@ -173,9 +151,7 @@ loaded_closed limit before after closed open_part same h c = record {
 
     empty_last : (parts : List (List ℕ)) (part : List ℕ)
         → placed_lines ((parts ++ part ∷ []) ++ [] ∷ []) ≡ placed_lines (parts ++ part ∷ [])
-    empty_last parts part = parts-append 1 (parts ++ part ∷ []) ([] ∷ [])
-        ∙ ap (λ (l : List PlacedLine). placed_lines (parts ++ part ∷ []) ++ l) (no_lines (1 + length (parts ++ part ∷ [])))
-        ∙ append-nil (placed_lines (parts ++ part ∷ []))
+    empty_last parts part = search (rules, parts-append, no_lines, append-nil)
 
 pub well_of : (limit : ℕ) (l : Loaded) (closed : List (List ℕ)) (open_part : List ℕ) → HasLoaded limit l closed open_part
     → length l.unfinished ≤ LINE_BYTES → IsWellSoFar limit closed open_part
@@ -230,12 +206,7 @@ fed_nothing holds limit kept counts unfinished empty none open_is = record {
     record { held = empty; counted = subst (λ (l : List ℕ). AreCounted l []) (sym none) none_counted },
     record {
       ended = [];
-      lines_are = record {
-        bytes_are = sym open_is;
-        each_ended = All-nil IsWithoutLineFeed;
-        not_ended =
-            subst IsWithoutLineFeed (sym open_is) (All-nil (λ b. is_line_feed b ≡ false));
-      };
+      lines_are = search rules;
       parts_are = refl;
       judged_are = refl;
       accepts = accepts_from_outcome tiger tiger_is_sound limit ([] ∷ []) [] (ap (outcome_after tiger limit []) (no_lines 1));
@@ -290,19 +261,7 @@ fed_piece holds limit before mid piece (Err f) closed open_part none part takes 
 pub fed_standing : {K : Type 0} (holds : K → List Record → Type 0) (limit : ℕ) (l : LoadedInto K) (piece : List ℕ) (f : LoadFault)
     (closed : List (List ℕ)) (open_part : List ℕ) → l.fault ≡ Some f → WasFedInto holds limit l closed open_part
     → WasFedInto holds limit l closed (open_part ++ piece)
-fed_standing holds limit l piece f closed open_part e w = record {
-  limit_is = w.limit_is;
-  comes = from_some _ _ l.fault f e (λ is more later.
-      subst (λ (b : List ℕ). FaultAt tiger limit (closed ++ b ∷ later) f) (sym (append_assoc open_part piece more))
-      (stands_at holds limit l closed open_part f e w is (piece ++ more) later));
-}
-
--- a loader without a fault is well so far
-pub well_into : {K : Type 0} (holds : K → List Record → Type 0) (limit : ℕ) (l : LoadedInto K) (closed : List (List ℕ)) (open_part : List ℕ)
-    → l.fault ≡ None → length l.unfinished ≤ LINE_BYTES → WasFedInto holds limit l closed open_part → IsWellSoFar limit closed open_part
-well_into holds limit l closed open_part none short w =
-    let h = has_of holds limit l closed open_part none w in
-    well_of limit (seen l h.records) closed open_part h.loaded short
+fed_standing holds limit l piece f closed open_part e w = search (rules, from_some, append_assoc, stands_at)
 
 pub well_after : {K T : Type 0} (holds : K → List Record → Type 0) (x : T) (limit : ℕ) (before after : LoadedInto K) (piece : List ℕ)
     (closed : List (List ℕ)) (open_part : List ℕ) → before.fault ≡ None → Lifts holds (Takes piece) before (Ok x) after
@@ -322,13 +281,6 @@ pub well_of_step : {K T : Type 0} (holds : K → List Record → Type 0) (before
 well_of_step holds before after piece (Ok x) none takes short =
     λ limit closed open_part w. well_after holds x limit before after piece closed open_part none takes short w
 well_of_step holds before after piece (Err f) none takes short = tt
-
--- if a list was kept, one is kept after a step that was `Ok`
-pub some_after : {K T : Type 0} (holds : K → List Record → Type 0) (Step : Loaded → Result T LoadFault → Loaded → Type 0)
-    (before after : LoadedInto K) (result : Result T LoadFault) → Lifts holds Step before result after → HasSome holds before
-    → OnOk result (HasSome holds (with_fault result after))
-some_after holds Step before after (Ok x) lifts h = let t = lifts h.0 h.1 in (t.0, t.1)
-some_after holds Step before after (Err f) lifts h = tt
 
 -- ---- closed parts
 
@@ -374,9 +326,7 @@ fed_closed_standing holds limit l f closed open_part e w = record {
 -- an open part into which nothing was fed has no line
 pub placed_all : (closed : List (List ℕ)) (open_part : List ℕ)
     → placed_lines (all_parts closed open_part) ≡ placed_lines (closed ++ (open_part ++ []) ∷ [])
-placed_all closed [] =
-    sym (parts-append 1 closed ([] ∷ []) ∙ ap (λ (l : List PlacedLine). placed_lines closed ++ l) (no_lines (1 + length closed))
-    ∙ append-nil (placed_lines closed))
+placed_all closed [] = search (rules, parts-append, no_lines, append-nil)
 placed_all closed (b ∷ bytes) = ap (λ (l : List ℕ). placed_lines (closed ++ l ∷ [])) (sym (append-nil (b ∷ bytes)))
 
 fault_along : (limit : ℕ) (a b : List (List ℕ)) (f : LoadFault) → placed_lines a ≡ placed_lines b → FaultAt tiger limit b f
@@ -389,8 +339,7 @@ fault_along limit a b f e h =
       records = h.records;
       split = e ∙ h.split;
       well = h.well;
-      within =
-          h.within;
+      within = search rules;
       fault_is = h.fault_is;
     }
 

@@ -1,12 +1,14 @@
 -- Bytes that are tested in vector lanes.
-use Rattle.std.proofs.Common.{◌≡◌, ℕ, ◌+◌, ◌-◌, ◌%◌, ◌<◌, ◌≤◌, ◌*◌, Bool, true, false, cond, List, [], ◌∷◌, length, get_or}
-use Rattle.std.proofs.Common.{map, refl, ap, subst, ◌∙◌, ◌^◌, arith, ltb, leb, inl, inr, w8}
-use Rattle.std.specs.Prelude.{◌&&◌, ◌||◌}
-use Rattle.std.proofs.lemmas.Bool.{ltb-true, ltb-false, lt-ltb, le-leb, cases_lt, cond_both}
-use Rattle.std.proofs.lemmas.List.{get_or_default, get_or-map, length-map}
-use Rattle.std.proofs.lemmas.Simd.{get_or-chunk, length-chunk, Each1-get_or, tops_compared}
-use lib.Lanes.{chunk, mask_l, Each1, sel_l, top, zip2}
-use Rattle.tl_layout.specs.Bytes.{is_allowed, AreAllowed}
+use Rattle.std.proofs.Common.{rules, ◌≡◌, ℕ, ◌+◌, ◌-◌, ◌%◌, ◌<◌, ◌≤◌, ◌*◌, Bool, true, false, cond, List, [], ◌∷◌, length, get_or, map}
+use Rattle.std.proofs.Common.{refl, subst, ◌∙◌, ◌^◌, arith, ltb, w8}
+use Rattle.tl_load.proofs.Common.{Each1, cases_lt, chunk, get_or_default, is_allowed, le-leb, length-chunk, length-map, lt-ltb, ltb-false}
+use Rattle.tl_load.proofs.Common.{ltb-true, mask_l, zip2}
+use Rattle.std.specs.Prelude.{◌||◌}
+use Rattle.std.proofs.lemmas.Bool.{cond_both}
+use Rattle.std.proofs.lemmas.List.{get_or-map}
+use Rattle.std.proofs.lemmas.Simd.{get_or-chunk, Each1-get_or, tops_compared}
+use lib.Lanes.{sel_l, top}
+use Rattle.tl_layout.specs.Bytes.{AreAllowed}
 
 or_true : (x : Bool) → (x || true) ≡ true
 or_true true = refl
@@ -14,10 +16,7 @@ or_true false = refl
 
 -- printable ASCII is allowed
 allowed_ascii : (b : ℕ) → 32 ≤ b → b < 127 → is_allowed b ≡ true
-allowed_ascii b from below =
-    let printable : leb 32 b ≡ true = le-leb 32 b from in
-    let before : ltb b 127 ≡ true = lt-ltb b 127 below in
-    ap (λ (x : Bool). (x && ltb b 127) || (leb 160 b && ltb b 256)) printable ∙ ap (λ (x : Bool). x || (leb 160 b && ltb b 256)) before
+allowed_ascii b from below = search (rules, le-leb, lt-ltb)
 
 -- a byte minus 0x7F that is at least 0xA1 is printable ASCII
 allowed_from_delete : (b : ℕ) → b < 256 → 161 ≤ (b + (256 - 127)) % 256 → is_allowed b ≡ true
@@ -25,14 +24,7 @@ allowed_from_delete b byte from = allowed_ascii b (omega arith) (omega arith)
 
 -- a byte is allowed if twice its successor is at least 0x42
 allowed_past_controls : (b : ℕ) → b < 256 → 66 ≤ ((b + 1) % 256 + (b + 1) % 256) % 256 → is_allowed b ≡ true
-allowed_past_controls b byte from = elim (cases_lt b 127) [
-  | inl below ↦ allowed_ascii b (omega arith) below
-  | inr above ↦
-      let latin : leb 160 b ≡ true = le-leb 160 b (omega arith) in
-      let whole : ltb b 256 ≡ true = lt-ltb b 256 byte in
-      ap (λ (x : Bool). (leb 32 b && ltb b 127) || (x && ltb b 256)) latin ∙ ap (λ (x : Bool). (leb 32 b && ltb b 127) || x) whole
-      ∙ or_true (leb 32 b && ltb b 127)
-]
+allowed_past_controls b byte from = search (rules, cases_lt, allowed_ascii, le-leb, lt-ltb, or_true)
 
 -- a block of n bytes is allowed if each lane computed from a byte is at least low, provided that such bytes are allowed
 block_at : (n low : ℕ) (lane : ℕ → ℕ) → ((b : ℕ) → b < 256 → low ≤ lane b → is_allowed b ≡ true) → (bytes : List ℕ) (at : ℕ)
@@ -43,9 +35,7 @@ block_at n low lane allowed bytes at within each k from below byte =
     let long : length block ≡ n = length-chunk at n bytes within in
     let here : at + (k - at) ≡ k = omega arith in
     let mapped : length (map lane block) ≡ n = length-map block lane ∙ long in
-    let at_lane : get_or (map lane block) (k - at) 0 ≡ lane (get_or bytes k 0) =
-    get_or-map lane block (k - at) 0 0 (omega arith)
-    ∙ ap lane (get_or-chunk at n bytes (k - at) 0 (omega arith) ∙ ap (λ i. get_or bytes i 0) here) in
+    let at_lane : get_or (map lane block) (k - at) 0 ≡ lane (get_or bytes k 0) = search (rules, get_or-map, get_or-chunk) in
     allowed (get_or bytes k 0) byte
     (subst (λ x. low ≤ x) at_lane (Each1-get_or (λ x. low ≤ x) (map lane block) (k - at) 0 (omega arith) each))
 
@@ -61,10 +51,7 @@ clean_at = block_at 32 66 (λ b. ((b + 1) % 256 + (b + 1) % 256) % 256) allowed_
 
 -- the minimum of two lanes is at most either
 least_at_most : (a b : ℕ) → (cond (ltb a b) a b ≤ a) × (cond (ltb a b) a b ≤ b)
-least_at_most a b = (
-  cond_both (ltb a b) a b (λ x. x ≤ a) (λ e. omega arith) (λ e. omega (arith, ltb-false a b e)),
-  cond_both (ltb a b) a b (λ x. x ≤ b) (λ e. omega (arith, ltb-true a b e)) (λ e. omega arith),
-)
+least_at_most a b = search (rules, cond_both, ltb-false, ltb-true)
 
 -- if each lane's minimum is at least n, so are both lanes
 each_of_least : (n : ℕ) (xs ys : List ℕ) → length xs ≡ length ys → Each1 (λ x. n ≤ x) (sel_l (zip2 ltb xs ys) xs ys)
@@ -72,10 +59,7 @@ each_of_least : (n : ℕ) (xs ys : List ℕ) → length xs ≡ length ys → Eac
 each_of_least n [] [] long each = (tt, tt)
 each_of_least n [] (y ∷ ys) long each = absurd (omega arith)
 each_of_least n (x ∷ xs) [] long each = absurd (omega arith)
-each_of_least n (x ∷ xs) (y ∷ ys) long each =
-    let both = each_of_least n xs ys (omega arith) each.1 in
-    let least = least_at_most x y in
-    ((omega (arith, each.0, least.0), both.0), (omega (arith, each.0, least.1), both.1))
+each_of_least n (x ∷ xs) (y ∷ ys) long each = search (rules, least_at_most, each_of_least n xs ys (omega arith) each.1)
 
 -- the same for minima selected by the top bits of a comparison
 pub each_of_selected : (n : ℕ) (xs ys : List ℕ) → length xs ≡ length ys

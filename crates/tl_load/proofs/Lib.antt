@@ -14,3 +14,4 @@ pub mod TextLemmas
 pub mod RecordLines
 pub mod Lanes
 pub mod CutParts
+pub mod Common

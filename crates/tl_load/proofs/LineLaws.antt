@@ -1,16 +1,14 @@
 -- A line is judged as the record that it spells.
-use Rattle.std.proofs.Common.{◌≡◌, ℕ, ◌+◌, ◌≤◌, Bool, true, false, cond, List, [], ◌∷◌, length, get_or, take, Result, Ok, Err}
-use Rattle.std.proofs.Common.{refl, ap, ◌∙◌, arith, ltb}
-use Rattle.std.specs.Prelude.{not}
-use Rattle.std.proofs.Common.{◌<◌, subst, ◌↔◌}
-use Rattle.std.proofs.lemmas.Bool.{ltb-true, ltb-false, lt-ltb, le-ltb, not_from_true, not-false, not-true}
-use Rattle.std.proofs.lemmas.List.Sums.{fails_before_first, passes_at_first, position_or_len_is}
-use Rattle.tl_layout.specs.Bytes.{is_allowed, AreAllowed, IsLine}
-use Rattle.tl_layout.specs.declared.fault.FieldFault.{FieldFault}
-use Rattle.tl_load.specs.declared.fault.LineFault.{LineFault}
-use Rattle.tl_load.specs.declared.fault.LineFault.TheVariants as line_faults
-use Rattle.tl_load.specs.LineOf.{filled, first_bad, IsLineOf, IsLeftmostBadByte, IsFaultIn, of_reading, judged_full, judged_as}
+use Rattle.std.proofs.Common.{rules, ◌≡◌, ℕ, ◌+◌, ◌≤◌, Bool, true, false, cond, List, [], ◌∷◌, length, get_or, take, Result, Ok, Err, refl}
+use Rattle.std.proofs.Common.{ap, ◌∙◌, arith, ltb, ◌<◌, ◌↔◌}
+use Rattle.tl_load.proofs.Common.{FieldFault, IsFaultIn, IsLine, IsLineOf, LineFault, fails_before_first, filled, is_allowed, le-ltb}
+use Rattle.tl_load.proofs.Common.{lt-ltb, ltb-false, ltb-true, not, not-false}
+use Rattle.std.proofs.lemmas.Bool.{not_from_true, not-true}
+use Rattle.std.proofs.lemmas.List.Sums.{passes_at_first, position_or_len_is}
+use Rattle.tl_layout.specs.Bytes.{AreAllowed}
+use Rattle.tl_load.specs.LineOf.{first_bad, IsLeftmostBadByte, of_reading, judged_full, judged_as}
 use Rattle.tl_load.proofs.Filling.{begins_filled, length_filled}
+use Rattle.tl_load.specs.declared.fault.LineFault.TheVariants as line_faults
 
 -- what a layout promises about its reading and the lines that spell its records
 pub record Reading {R : Type 0} (rtype len : ℕ) (reading : List ℕ → Result R FieldFault) (Spells : List ℕ → R → Type 0) : Type 0 where
@@ -32,9 +30,7 @@ was_read (Err f) r e = absurd cc
 
 none_bad : (line : List ℕ) → ltb (first_bad line) (length line) ≡ false → AreAllowed line
 unfolding AreAllowed
-none_bad line e k d lt =
-    let le = ltb-false _ _ e in
-    not-false (is_allowed (get_or line k d)) (fails_before_first (λ b. not (is_allowed b)) line k d (omega arith))
+none_bad line e k d lt = search (rules, ltb-false, not-false, fails_before_first)
 
 pub bad_none : (line : List ℕ) → AreAllowed line → ltb (first_bad line) (length line) ≡ false
 unfolding AreAllowed
@@ -45,8 +41,7 @@ bad_none line h =
 
 full_line : (rtype len : ℕ) (line : List ℕ) → take 1 line ≡ rtype ∷ [] → length line ≤ len → AreAllowed (filled len line)
     → IsLine rtype len (filled len line)
-full_line rtype len line begins short allowed =
-    record { begins = begins_filled rtype len line begins; text = record { len = length_filled len line short; allowed = allowed } }
+full_line rtype len line begins short allowed = search (rules, begins_filled, length_filled)
 
 pub judged_is_line : {R : Type 0} (rtype len : ℕ) (reading : List ℕ → Result R FieldFault) (Spells : List ℕ → R → Type 0)
     → Reading rtype len reading Spells → (line : List ℕ) (r : R) → take 1 line ≡ rtype ∷ [] → judged_as len reading line ≡ Ok r
@@ -89,20 +84,10 @@ bad_is bytes lt = not-true (is_allowed (get_or bytes (first_bad bytes) 0)) (pass
 
 -- the first bad byte is the leftmost one
 bad_found : (bytes : List ℕ) → first_bad bytes < length bytes → IsLeftmostBadByte bytes (first_bad bytes + 1)
-bad_found bytes lt = record {
-  place = first_bad bytes;
-  within = lt;
-  bad = bad_is bytes lt;
-  allowed_before = λ before h. not-false (is_allowed (get_or bytes before 0))
-      (fails_before_first (λ b. not (is_allowed b)) bytes before 0 h);
-  reported = refl;
-}
+bad_found bytes lt = search (rules, bad_is, not-false, fails_before_first)
 
 bad_only : (bytes : List ℕ) (column : ℕ) (h : IsLeftmostBadByte bytes column) → first_bad bytes ≡ h.place
-bad_only bytes column h =
-    let within = h.within in
-    position_or_len_is (λ b. not (is_allowed b)) bytes h.place 0 (omega arith) (λ k lt. not_from_true _ (h.allowed_before k lt))
-    (λ lt. ap not h.bad)
+bad_only bytes column h = search (rules, position_or_len_is, not_from_true)
 
 line_err : {A : Type 0} (x y : LineFault) → ◌≡◌ {A = Result A LineFault} (Err x) (Err y) → x ≡ y
 line_err x y e = cc
@@ -111,30 +96,15 @@ read_fails : {R : Type 0} (len : ℕ) (IsFault : List ℕ → FieldFault → Typ
     (fault : LineFault) → length line ≤ len → AreAllowed (filled len line)
     → ((f : FieldFault) → read ≡ Err f → IsFault (filled len line) f) → of_reading read ≡ Err fault → IsFaultIn len IsFault line fault
 read_fails len IsFault line (Ok r) fault short allowed found e = absurd cc
-read_fails {R} len IsFault line (Err f) fault short allowed found e =
-    subst (IsFaultIn len IsFault line) (line_err {A = R} (line_faults.Field f) fault e) (short, allowed, found f refl)
+read_fails {R} len IsFault line (Err f) fault short allowed found e = search (rules, line_err, found)
 
 -- the fault that a line of a layout is judged to have is its fault
 pub judged_fault_found : {R : Type 0} (rtype len : ℕ) (reading : List ℕ → Result R FieldFault) (IsFault : List ℕ → FieldFault → Type 0)
     → ReportsFaults rtype len reading IsFault → (line : List ℕ) (fault : LineFault) → take 1 line ≡ rtype ∷ []
     → judged_as len reading line ≡ Err fault → IsFaultIn len IsFault line fault
 unfolding judged_as judged_full
-judged_fault_found {R} rtype len reading IsFault reports line fault begins = go (ltb len (length line)) refl
-  where
-    full : (b : Bool) → ltb (first_bad (filled len line)) (length (filled len line)) ≡ b → length line ≤ len
-        → cond b (Err (line_faults.BadByte (first_bad (filled len line) + 1))) (of_reading (reading (filled len line))) ≡ Err fault
-        → IsFaultIn len IsFault line fault
-    full true t short e =
-        subst (IsFaultIn len IsFault line) (line_err {A = R} _ fault e) (short, bad_found (filled len line) (ltb-true _ _ t))
-    full false t short e =
-        let allowed = none_bad (filled len line) t in
-        read_fails len IsFault line (reading (filled len line)) fault short allowed
-        (λ f failed. (reports (filled len line) f (full_line rtype len line begins short allowed)).0 failed) e
-
-    go : (b : Bool) → ltb len (length line) ≡ b → cond b (Err line_faults.LineTooLong) (judged_full reading (filled len line)) ≡ Err fault
-        → IsFaultIn len IsFault line fault
-    go true t e = subst (IsFaultIn len IsFault line) (line_err {A = R} _ fault e) (ltb-true _ _ t)
-    go false t e = full (ltb (first_bad (filled len line)) (length (filled len line))) refl (ltb-false _ _ t) e
+judged_fault_found {R} rtype len reading IsFault reports line fault begins =
+    search (rules, line_err, bad_found, ltb-true, none_bad, read_fails, full_line, ltb-false)
 
 -- a line of a layout is judged to have the fault that it has
 pub judged_fault_only : {R : Type 0} (rtype len : ℕ) (reading : List ℕ → Result R FieldFault) (IsFault : List ℕ → FieldFault → Type 0)
@@ -142,8 +112,7 @@ pub judged_fault_only : {R : Type 0} (rtype len : ℕ) (reading : List ℕ → R
     → IsFaultIn len IsFault line fault → judged_as len reading line ≡ Err fault
 unfolding judged_as judged_full
 judged_fault_only rtype len reading IsFault reports line line_faults.UnknownType begins h = absurd h
-judged_fault_only rtype len reading IsFault reports line line_faults.LineTooLong begins h =
-    ap (λ (b : Bool). cond b (Err line_faults.LineTooLong) (judged_full reading (filled len line))) (lt-ltb len (length line) h)
+judged_fault_only rtype len reading IsFault reports line line_faults.LineTooLong begins h = search (rules, lt-ltb)
 judged_fault_only rtype len reading IsFault reports line (line_faults.BadByte column) begins h =
     let place = bad_only (filled len line) column h.1 in
     let within = h.1.within in
@@ -153,16 +122,10 @@ judged_fault_only rtype len reading IsFault reports line (line_faults.BadByte co
     ∙ ap (λ (b : Bool). cond b (Err (line_faults.BadByte (first_bad (filled len line) + 1))) (of_reading (reading (filled len line))))
     (lt-ltb (first_bad (filled len line)) (length (filled len line)) (omega arith))
     ∙ ap (λ (c : ℕ). Err (line_faults.BadByte c)) same
-judged_fault_only rtype len reading IsFault reports line (line_faults.Field fault) begins h =
-    let read = (reports (filled len line) fault (full_line rtype len line begins h.0 h.1)).1 h.2 in
-    ap (λ (b : Bool). cond b (Err line_faults.LineTooLong) (judged_full reading (filled len line))) (le-ltb len (length line) h.0)
-    ∙ ap (λ (b : Bool). cond b (Err (line_faults.BadByte (first_bad (filled len line) + 1))) (of_reading (reading (filled len line))))
-    (bad_none (filled len line) h.1)
-    ∙ ap of_reading read
+judged_fault_only rtype len reading IsFault reports line (line_faults.Field fault) begins h = search (rules, full_line, le-ltb, bad_none)
 
 -- a line that has a record isn't longer than its layout
 pub judged_short : {R : Type 0} (len : ℕ) (reading : List ℕ → Result R FieldFault) (line : List ℕ) (r : R)
     → judged_as len reading line ≡ Ok r → length line ≤ len
 unfolding judged_as
-judged_short len reading line r e =
-    ltb-false _ _ (chosen (ltb len (length line)) line_faults.LineTooLong (judged_full reading (filled len line)) r e).0
+judged_short len reading line r e = search (rules, ltb-false, chosen)

@@ -1,14 +1,11 @@
 -- The lines of consecutive bytes.
-use Rattle.std.proofs.Common.{◌≡◌, ℕ, suc, ◌+◌, ◌-◌, ◌<◌, ◌≤◌, Bool, true, false, cond, List, [], ◌∷◌, ◌++◌, length, take, get_or}
+use Rattle.std.proofs.Common.{rules, ◌≡◌, ℕ, suc, ◌+◌, ◌-◌, ◌<◌, ◌≤◌, Bool, true, false, cond, List, [], ◌∷◌, ◌++◌, length, take, get_or}
 use Rattle.std.proofs.Common.{refl, sym, ap, ◌∙◌, append_assoc, append-nil, arith, eqb}
-use Rattle.std.specs.Prelude.{All, IsTrue}
+use Rattle.tl_load.proofs.Common.{IsWithoutLineFeed, common_steps, eqb-true, is_line_feed, length-append, length-take}
 use Rattle.std.specs.List.{slice_split}
 use Rattle.std.proofs.lemmas.List.Splits.{slice_split_at, slice_split_none, length-slice_split}
-use Rattle.std.proofs.lemmas.List.Elements.{All-append, All-nil, All-cons, All-take}
-use Rattle.std.proofs.lemmas.List.{length-append, length-take}
-use Rattle.std.proofs.lemmas.Bool.{eqb-true}
-use Rattle.tl_layout.specs.Bytes.{is_allowed, AreAllowed}
-use Rattle.tl_load.specs.Lines.{is_line_feed, IsWithoutLineFeed, without_return, last_line, lines_of_pieces, lines}
+use Rattle.tl_layout.specs.Bytes.{AreAllowed}
+use Rattle.tl_load.specs.Lines.{without_return, last_line, lines_of_pieces, lines}
 
 -- a nonempty list has a first piece
 cons_of : (pieces : List (List ℕ)) → 0 < length pieces → (first : List ℕ) × (rest : List (List ℕ)) × (pieces ≡ first ∷ rest)
@@ -61,25 +58,15 @@ without_return_front a c z = go (eqb (get_or (a ++ c ∷ z) (length (a ++ c ∷ 
 -- at most one byte is dropped
 pub without_return_length : (a : List ℕ) → length a ≤ length (without_return a) + 1
 unfolding without_return
-without_return_length a = go (eqb (get_or a (length a - 1) 0) 13)
-  where
-    go : (b : Bool) → length a ≤ length (cond b (take (length a - 1) a) a) + 1
-    go true = omega (arith, length-take (length a - 1) a)
-    go false = omega arith
+without_return_length a = search (rules, length-take)
 
 -- clean bytes stay clean
 pub clean_without_return : (a : List ℕ) → AreAllowed a → AreAllowed (without_return a)
 unfolding without_return AreAllowed
-clean_without_return a clean = go (eqb (get_or a (length a - 1) 0) 13)
-  where
-    go : (b : Bool) → All (λ x. IsTrue (is_allowed x)) (cond b (take (length a - 1) a) a)
-    go true = All-take (λ x. IsTrue (is_allowed x)) (length a - 1) a clean
-    go false = clean
+clean_without_return a clean = search rules
 
 without_feed_cons : (a : List ℕ) (c : ℕ) → IsWithoutLineFeed a → is_line_feed c ≡ false → IsWithoutLineFeed (a ++ c ∷ [])
-without_feed_cons a c h n =
-    All-append (λ b. is_line_feed b ≡ false) a (c ∷ []) h
-    (All-cons (λ b. is_line_feed b ≡ false) c [] n (All-nil (λ b. is_line_feed b ≡ false)))
+without_feed_cons a c h n = grind (arith, common_steps)
 
 -- whatever follows, the first line begins with these bytes
 pub record BeginsWith (a bytes : List ℕ) : Type 0 where
@@ -95,8 +82,7 @@ pub first_line : (b : ℕ) (a more : List ℕ) → IsWithoutLineFeed (b ∷ a) �
 first_line b a [] h = record {
   more = [];
   rest = [];
-  first = ap lines (append-nil (b ∷ a)) ∙ lines_rest (b ∷ a) h ∙ last_is b a
-      ∙ ap (λ (l : List ℕ). without_return l ∷ []) (sym (append-nil (b ∷ a)));
+  first = search (rules, append-nil, lines_rest, last_is);
 }
 first_line b a (c ∷ more) h = go (eqb c 10) refl (λ e. first_line b (a ++ c ∷ []) more (without_feed_cons (b ∷ a) c h e))
   where

@@ -1,12 +1,7 @@
 -- A loader of a list of records is a loader over a collector that holds that list.
-use Rattle.std.proofs.Common.{◌≡◌, ℕ, List, Option, Some, None, Result, Ok, Err, refl, sym, subst}
-use Rattle.std.proofs.Common.{Vec, Global}
-use Rattle.std.specs.Prelude.{MatchOption, IfOk, IfSome, IfErr, OnOk}
-use Rattle.tl_layout.specs.declared.record_type.Record.{Record}
-use Rattle.tl_load.specs.declared.fault.LoadFault.{LoadFault}
-use Rattle.tl_load.specs.Loaded.{Loaded, IsOfLines, IsFaultHowever, HasLoaded, WasFed}
-use Rattle.tl_load.specs.Keeping.{LoadedInto, seen, AreCounted, AreKept, WasFedInto, HasSome}
-use Rattle.tl_load.proofs.Histories.{has_of}
+use Rattle.std.proofs.Common.{rules, ◌≡◌, ℕ, List, Option, Some, None, Result, Ok, Err, sym, subst, Vec, Global}
+use Rattle.tl_load.proofs.Common.{AreCounted, LoadFault, Loaded, LoadedInto, Record, WasFed, WasFedInto, seen}
+use Rattle.std.specs.Prelude.{IfOk, IfSome}
 
 abbrev pub Records : Type 0
 Records = Vec Record Global
@@ -23,41 +18,11 @@ IsListed l = l.fault ≡ None → AreCounted l.counts l.kept.items
 
 pub into_of : (limit : ℕ) (l : LoadedInto Records) (closed : List (List ℕ)) (open_part : List ℕ) → IsListed l
     → WasFed limit (listed l) closed open_part → WasFedInto holds_list limit l closed open_part
-into_of limit l closed open_part counted w = record { limit_is = w.limit_is; comes = go l.fault refl w.comes }
-  where
-    go : (o : Option LoadFault) → l.fault ≡ o → MatchOption o (HasLoaded limit (listed l) closed open_part) (λ f. IsOfLines f
-        → IsFaultHowever limit closed open_part f)
-        → MatchOption o ((records : List Record) × AreKept holds_list l records × HasLoaded limit (seen l records) closed open_part)
-        (λ f. IsOfLines f → IsFaultHowever limit closed open_part f)
-    go None e h = (l.kept.items, record { held = refl; counted = counted e }, h)
-    go (Some f) e h = h
+into_of limit l closed open_part counted w = search rules
 
 pub of_into : (limit : ℕ) (l : LoadedInto Records) (closed : List (List ℕ)) (open_part : List ℕ)
     → WasFedInto holds_list limit l closed open_part → WasFed limit (listed l) closed open_part
-of_into limit l closed open_part w = record { limit_is = w.limit_is; comes = go l.fault w.comes }
-  where
-    go : (o : Option LoadFault) → MatchOption o ((records : List Record) × AreKept holds_list l records
-        × HasLoaded limit (seen l records) closed open_part) (λ f. IsOfLines f → IsFaultHowever limit closed open_part f)
-        → MatchOption o (HasLoaded limit (listed l) closed open_part) (λ f. IsOfLines f → IsFaultHowever limit closed open_part f)
-    go None h = subst (λ (rs : List Record). HasLoaded limit (seen l rs) closed open_part) (sym h.1.held) h.2
-    go (Some f) h = h
-
-some_of : (l : LoadedInto Records) → AreCounted l.counts l.kept.items → HasSome holds_list l
-some_of l counted = (l.kept.items, record { held = refl; counted = counted })
-
-counted_of : (l : LoadedInto Records) → HasSome holds_list l → AreCounted l.counts l.kept.items
-counted_of l h = subst (AreCounted l.counts) (sym h.1.held) h.1.counted
-
--- after a call the list is still counted
-pub listed_after : {T : Type 0} (before after : LoadedInto Records) (result : Result T LoadFault) → IsListed before
-    → (HasSome holds_list before → OnOk result (HasSome holds_list after)) → IfErr result (λ f. after.fault ≡ Some f)
-    → ((f : LoadFault) → before.fault ≡ Some f → result ≡ Err f) → IsListed after
-listed_after before after (Err f) was kept reported stood none = absurd cc
-listed_after {T} before after (Ok x) was kept reported stood none = go before.fault refl
-  where
-    go : (o : Option LoadFault) → before.fault ≡ o → AreCounted after.counts after.kept.items
-    go None e = counted_of after (kept (some_of before (was e)))
-    go (Some f) e = let never = stood f e in absurd cc
+of_into limit l closed open_part w = search rules
 
 pub at_fault : {A : Type 0} (P : A → Type 0) (o : Option A) (x : A) → o ≡ Some x → IfSome o P → P x
 at_fault P None x e h = absurd cc
@@ -74,7 +39,3 @@ pub also : (P Q : List Record → Type 0) (r : Result Records LoadFault) → ((r
     → IfOk r (λ kept. P kept.items) → IfOk r (λ kept. Q kept.items)
 also P Q (Ok kept) step h = step kept.items h
 also P Q (Err f) step h = tt
-
-pub listed_new : (limit : ℕ) (l : LoadedInto Records) (closed : List (List ℕ)) (open_part : List ℕ)
-    → WasFedInto holds_list limit l closed open_part → IsListed l
-listed_new limit l closed open_part w none = let h = has_of holds_list limit l closed open_part none w in counted_of l (h.records, h.kept)

@@ -1,14 +1,10 @@
 -- The bytes that a source returns, and its counts.
-use Rattle.std.proofs.Common.{ℕ, ◌+◌, ◌%◌, ◌^◌, ◌≤◌, Ok, List, [], ◌++◌, length, Option, Some, None, refl, sym, ap}
-use Rattle.std.proofs.Common.{subst, ◌∙◌, append_assoc, append-nil, add_assoc, arith}
-use Rattle.std.specs.Io.KnownBytes.{Consumes, Keeps}
+use Rattle.std.proofs.Common.{rules, ℕ, ◌+◌, ◌%◌, ◌^◌, ◌≤◌, Ok, List, [], ◌++◌, length, Option, Some, None, refl, sym, ap, subst, ◌∙◌}
+use Rattle.std.proofs.Common.{append_assoc, append-nil, arith}
+use Rattle.tl_load.proofs.Common.{Consumes, Gave, LINE_BYTES, Lifts, LoadedInto, Record, RoseBy, Takes, length-append}
 use Rattle.std.proofs.Math.Nat.{mod-add-mod}
-use Rattle.std.proofs.lemmas.List.{length-append}
-use Rattle.tl_layout.specs.declared.record_type.Record.{Record}
-use Rattle.tl_load.specs.Keeping.{LoadedInto, Lifts}
-use Rattle.tl_load.specs.Sources.{RoseBy, Gave, StopsThere}
-use Rattle.tl_load.specs.Steps.{Takes, TakesWell}
-use Rattle.tl_load.specs.declared.loader_for.TheConstants.{LINE_BYTES}
+use Rattle.tl_load.specs.Sources.{StopsThere}
+use Rattle.tl_load.specs.Steps.{TakesWell}
 
 consumes_nil : (a : Option (List ℕ)) → Consumes a a []
 consumes_nil None = tt
@@ -20,16 +16,8 @@ consumes_then (Some s) None c x y p q = absurd p
 consumes_then (Some s) (Some t) None x y p q = absurd q
 consumes_then (Some s) (Some t) (Some u) x y p q = p ∙ ap (λ (l : List ℕ). x ++ l) q ∙ sym (append_assoc x y u)
 
-consumes_kept : (a b c : Option (List ℕ)) (x : List ℕ) → Consumes a b x → Keeps b c → Consumes a c x
-consumes_kept None b c x p q = tt
-consumes_kept (Some s) None c x p q = absurd p
-consumes_kept (Some s) (Some t) None x p q = absurd q
-consumes_kept (Some s) (Some t) (Some u) x p q = p ∙ ap (λ (l : List ℕ). x ++ l) (sym q)
-
 rose_then : (a b c m n : ℕ) → RoseBy m a b → RoseBy n b c → RoseBy (m + n) a c
-rose_then a b c m n p q =
-    q ∙ sym (mod-add-mod b (2 ^ 64) n) ∙ ap (λ (k : ℕ). (k + n) % 2 ^ 64) p ∙ mod-add-mod (a + m) (2 ^ 64) n
-    ∙ ap (λ (k : ℕ). k % 2 ^ 64) (add_assoc a m n)
+rose_then a b c m n p q = search (rules, mod-add-mod)
 
 module _ {R : Type 0} (remaining : R → Option (List ℕ)) (given : R → ℕ) where
   pub gave_none : (s : R) → Gave remaining given s s []
@@ -37,33 +25,15 @@ module _ {R : Type 0} (remaining : R → Option (List ℕ)) (given : R → ℕ) 
 
   pub gave_more : (a b c : R) (taken bytes : List ℕ) → Gave remaining given a b taken → Consumes (remaining b) (remaining c) bytes
       → RoseBy (length bytes) (given b) (given c) → Gave remaining given a c (taken ++ bytes)
-  gave_more a b c taken bytes p q r = record {
-    bytes = consumes_then (remaining a) (remaining b) (remaining c) taken bytes p.bytes q;
-    counted = subst (λ (k : ℕ). RoseBy k (given a) (given c)) (sym (length-append taken bytes))
-        (rose_then (given a) (given b) (given c) (length taken) (length bytes) p.counted r);
-  }
+  gave_more a b c taken bytes p q r = search (rules, consumes_then, length-append, rose_then)
 
   pub gave_same : (a b c : R) (taken : List ℕ) → Gave remaining given a b taken → Consumes (remaining b) (remaining c) []
       → RoseBy 0 (given b) (given c) → Gave remaining given a c taken
   gave_same a b c taken p q r = subst (Gave remaining given a c) (append-nil taken) (gave_more a b c taken [] p q r)
-
-  pub gave_kept : (a b c : R) (taken : List ℕ) → Gave remaining given a b taken → Keeps (remaining b) (remaining c)
-      → RoseBy 0 (given b) (given c) → Gave remaining given a c taken
-  gave_kept a b c taken p q r = record {
-    bytes = consumes_kept (remaining a) (remaining b) (remaining c) taken p.bytes q;
-    counted = subst (λ (k : ℕ). RoseBy k (given a) (given c)) (omega arith)
-        (rose_then (given a) (given b) (given c) (length taken) 0 p.counted r);
-  }
 
 -- reading stops as it should if the loader took all bytes before the last read without a fault
 pub stopped : {R K : Type 0} (remaining : R → Option (List ℕ)) (given reads : R → ℕ) (holds : K → List Record → Type 0)
     (start now : LoadedInto K) (before last after : R) (taken : List ℕ) → Gave remaining given before last taken
     → Lifts {T = Unit {0}} holds (Takes taken) start (Ok tt) now → length now.unfinished ≤ LINE_BYTES → RoseBy 1 (reads last) (reads after)
     → StopsThere remaining given reads before after (TakesWell holds start)
-stopped remaining given reads holds start now before last after taken gave takes short one_read = record {
-  last = last;
-  taken = taken;
-  gave = gave;
-  one_read = one_read;
-  should = record { after = now; takes = takes; short = short };
-}
+stopped remaining given reads holds start now before last after taken gave takes short one_read = search rules

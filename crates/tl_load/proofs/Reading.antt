@@ -1,16 +1,14 @@
 -- Processing the lines one after another yields the records that they spell, or the first fault.
-use Rattle.std.proofs.Common.{◌≡◌, ℕ, ◌+◌, ◌<◌, ◌≤◌, Bool, true, false, cond, List, [], ◌∷◌, ◌++◌, map, Result, Ok, Err, refl}
-use Rattle.std.proofs.Common.{sym, ap, subst, ◌∙◌, append_assoc, append-nil, arith, inl, inr, eqb, leb, ◌⊎◌, ◌+◌}
-use Rattle.std.specs.Prelude.{MatchResult}
-use Rattle.std.proofs.lemmas.Bool.{leb-true, leb-false, le-leb, lt-leb, eq-eqb, cases_eq, ne_eqb}
+use Rattle.std.proofs.Common.{rules, ◌≡◌, ℕ, ◌+◌, ◌<◌, ◌≤◌, Bool, true, false, cond, List, [], ◌∷◌, ◌++◌, map, Result, Ok, Err, refl, sym}
+use Rattle.std.proofs.Common.{ap, subst, ◌∙◌, append_assoc, append-nil, arith, inl, inr, eqb, leb, ◌⊎◌, ◌+◌}
+use Rattle.tl_load.proofs.Common.{AreLinesSpelled, FaultAt, IsFaultOf, Judge, LineFault, LoadFault, MatchResult, PlacedLine, Spells}
+use Rattle.tl_load.proofs.Common.{SpellsWithin, after_verdict, cases_eq, count_of, eq-eqb, le-leb, lt-leb, ne_eqb, of_limit, of_line}
+use Rattle.tl_load.proofs.Common.{outcome, placed_lines, ◌then_with◌}
+use Rattle.std.proofs.lemmas.Bool.{leb-true, leb-false}
 use Rattle.std.proofs.lemmas.List.Sums.{sum_by-append}
-use Rattle.tl_load.specs.declared.fault.LineFault.{LineFault}
-use Rattle.tl_load.specs.declared.fault.LoadFault.{LoadFault}
+use Rattle.tl_load.specs.Verdicts.{fault_at}
+use Rattle.tl_load.specs.Outcome.{IsWithinLimitBy, IsSpelled, IsFaulty, next, outcome_after}
 use Rattle.tl_load.specs.declared.fault.LoadFault.TheVariants as faults
-use Rattle.tl_load.specs.Places.{PlacedLine, placed_lines}
-use Rattle.tl_load.specs.Verdicts.{Judge, fault_at}
-use Rattle.tl_load.specs.Outcome.{count_of, IsWithinLimitBy, AreLinesSpelled, Spells, SpellsWithin, IsFaultOf, of_line, of_limit, FaultAt}
-use Rattle.tl_load.specs.Outcome.{IsSpelled, IsFaulty, ◌then_with◌, after_verdict, next, outcome_after, outcome}
 
 -- ---- verdicts
 
@@ -127,23 +125,14 @@ next_ok judge limit records line more h = takes_by judge limit records line more
 pub next_from : {R : Type 0} (judge : Judge R) (limit : ℕ) (records : List R) (line : PlacedLine) (r : R) → judge.verdict line.bytes ≡ Ok r
     → count_of judge (judge.rtype r) records < limit → next judge limit records line ≡ Ok (records ++ r ∷ [])
 unfolding next
-next_from judge limit records line r e h =
-    ap (after_verdict judge limit records line) e
-    ∙ ap (λ (b : Bool). cond b (Err (faults.TooManyRecords (judge.rtype r))) (Ok (records ++ r ∷ [])))
-    (lt-leb limit (count_of judge (judge.rtype r) records) h)
+next_from judge limit records line r e h = search (rules, lt-leb)
 
 fault_by : {R : Type 0} (judge : Judge R) (limit : ℕ) (records : List R) (line : PlacedLine) (f : LoadFault) (v : Result R LineFault)
     → after_verdict judge limit records line v ≡ Err f
     → MatchResult v (λ r. (limit ≤ count_of judge (judge.rtype r) records) × (f ≡ faults.TooManyRecords (judge.rtype r)))
     (λ k. f ≡ fault_at line.part line.line k)
 fault_by judge limit records line f (Err k) h = cc
-fault_by {R} judge limit records line f (Ok r) h = go (leb limit (count_of judge (judge.rtype r) records)) refl h
-  where
-    go : (b : Bool) → leb limit (count_of judge (judge.rtype r) records) ≡ b
-        → cond b (Err (faults.TooManyRecords (judge.rtype r))) (Ok (records ++ r ∷ [])) ≡ Err f
-        → (limit ≤ count_of judge (judge.rtype r) records) × (f ≡ faults.TooManyRecords (judge.rtype r))
-    go true t k = (leb-true _ _ t, cc)
-    go false t k = absurd cc
+fault_by {R} judge limit records line f (Ok r) h = search (rules, leb-true)
 
 pub next_err : {R : Type 0} (judge : Judge R) (limit : ℕ) (records : List R) (line : PlacedLine) (f : LoadFault)
     → next judge limit records line ≡ Err f → IsVerdictOf judge limit records line f
@@ -155,10 +144,7 @@ by_fault : {R : Type 0} (judge : Judge R) (limit : ℕ) (records : List R) (line
     (λ k. f ≡ fault_at line.part line.line k)
     → after_verdict judge limit records line v ≡ Err f
 by_fault judge limit records line f (Err k) h = ap (λ (z : LoadFault). Err z) (sym h)
-by_fault judge limit records line f (Ok r) h =
-    ap (λ (b : Bool). cond b (Err (faults.TooManyRecords (judge.rtype r))) (Ok (records ++ r ∷ [])))
-    (le-leb limit (count_of judge (judge.rtype r) records) h.0)
-    ∙ ap (λ (z : LoadFault). Err z) (sym h.1)
+by_fault judge limit records line f (Ok r) h = search (rules, le-leb)
 
 pub next_faulty : {R : Type 0} (judge : Judge R) (limit : ℕ) (records : List R) (line : PlacedLine) (f : LoadFault)
     → IsVerdictOf judge limit records line f → next judge limit records line ≡ Err f
@@ -175,7 +161,7 @@ pub within_push : {R : Type 0} (judge : Judge R) (limit : ℕ) (records : List R
     → count_of judge (judge.rtype r) records < limit → IsWithinLimitBy judge limit (records ++ r ∷ [])
 within_push judge limit records r h below t = elim (cases_eq (judge.rtype r) t) [
   | inl same ↦ let e = count_push judge records r t in let b = eq-eqb (judge.rtype r) t same in let le : count_of judge t records < limit =
-      subst (λ (u : ℕ). count_of judge u records < limit) same below in rw (e, b) (omega arith)
+      search (rules, below) in rw (e, b) (omega arith)
   | inr other ↦ let e = count_push judge records r t in let b = ne_eqb (judge.rtype r) t other in let le = h t in rw (e, b) (omega arith)
 ]
 
@@ -189,12 +175,6 @@ below_before judge limit records r more h =
     let first = sum_by-append (λ s. cond (eqb (judge.rtype s) (judge.rtype r)) 1 0) (r ∷ []) more in
     let one : count_of judge (judge.rtype r) (r ∷ []) ≡ 0 + 1 = ap (λ (z : Bool). 0 + cond z 1 0) b in
     omega (arith, e, first, one, all)
-
-pub within_front : {R : Type 0} (judge : Judge R) (limit : ℕ) (a b : List R) → IsWithinLimitBy judge limit (a ++ b)
-    → IsWithinLimitBy judge limit a
-within_front judge limit a b h t =
-    let e = sum_by-append (λ s. cond (eqb (judge.rtype s) t) 1 0) a b in
-    let all = h t in omega (arith, e, all)
 
 -- ---- many lines
 
@@ -269,8 +249,7 @@ stops_err {R} judge limit records (x ∷ lines) fault h e =
         split = refl;
         well = refl;
         within = subst (IsWithinLimitBy judge limit) (sym (append-nil records)) h;
-        fault_is = subst (λ (rs : List R). IsVerdictOf judge limit rs x fault) (sym (append-nil records))
-            (next_err judge limit records x fault here);
+        fault_is = search (rules, append-nil, next_err);
       }
       | inr b ↦
           let t = next_ok judge limit records x b.0 b.1 in
@@ -360,8 +339,7 @@ never_both r x y p q = cc
 -- parts spell only one list
 pub spelled_once : {R : Type 0} (judge : Judge R) → IsSound judge → (parts : List (List ℕ)) (a b : List R) → Spells judge parts a
     → Spells judge parts b → a ≡ b
-spelled_once judge sound parts a b p q =
-    verdicts_same a b (sym (spelled_judged judge sound (placed_lines parts) a p) ∙ spelled_judged judge sound (placed_lines parts) b q)
+spelled_once judge sound parts a b p q = search (rules, verdicts_same, spelled_judged)
 
 -- parts either spell a list within the limit or have exactly one fault
 pub one_verdict : {R : Type 0} (judge : Judge R) → IsSound judge → (limit : ℕ) (parts : List (List ℕ))

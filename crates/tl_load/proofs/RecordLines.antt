@@ -1,27 +1,23 @@
 -- A line is judged as the record that it has, and that record fits.
-use Rattle.std.specs.Prelude.{All}
-use Rattle.std.proofs.lemmas.List.Elements.{All-nil, All-cons}
-use Rattle.tl_layout.specs.Limits.{IsWithinLimit}
-use Rattle.std.proofs.Common.{◌≡◌, ◌⊎◌, ℕ, Bool, true, false, cond, List, [], ◌∷◌, take, Result, Ok, Err, refl, sym, ap, ◌∙◌, eqb}
+use Rattle.std.proofs.Common.{rules, ◌≡◌, ◌⊎◌, ℕ, Bool, true, false, cond, List, [], ◌∷◌, take, Result, Ok, Err, refl, sym, ap, ◌∙◌, eqb}
 use Rattle.std.proofs.Common.{subst, inl, inr}
+use Rattle.tl_load.proofs.Common.{All, All-nil, AreLinesSpelled, FitsRecord, IsFaultIn, IsLineOf, LineFault, PlacedLine, Record, Spells}
+use Rattle.tl_load.proofs.Common.{SpellsWithin, as_record, eqb-true, ne_eqb, placed_lines, type_of}
+use Rattle.std.proofs.lemmas.List.Elements.{All-cons}
+use Rattle.tl_layout.specs.Limits.{IsWithinLimit}
 use Rattle.std.specs.List.{AllByRecursion}
-use Rattle.std.proofs.lemmas.Bool.{eqb-true, eqb-false, ne_eqb}
+use Rattle.std.proofs.lemmas.Bool.{eqb-false}
 use Rattle.tl_layout.specs.FieldFaults.{IsLeftmostFault}
-use Rattle.tl_layout.specs.RecordText.{type_of, FitsRecord}
-use Rattle.tl_layout.specs.RecordTypes.{RecordType, Type1, Type2, Type4, Type5, Type6, Type7, Type8, TypeI, TypeP, types, FieldsOf, byte_of}
-use Rattle.tl_layout.specs.RecordTypes.{line_length, table_of, FitsFields, SpellsFields, reading_of, record_of}
+use Rattle.tl_layout.specs.RecordTypes.{RecordType, Type1, Type2, Type4, Type5, Type6, Type7, Type8, TypeI, TypeP, types, FieldsOf}
+use Rattle.tl_layout.specs.RecordTypes.{byte_of, line_length, table_of, SpellsFields, reading_of, record_of, FitsFields}
 use Rattle.tl_layout.specs.Laws.RecordTypeLaws.{every_record, type_of_record, record_exact, fitting_record}
+use Rattle.tl_load.specs.LineOf.{judged_as}
+use Rattle.tl_load.specs.Choice.{judged_by, judged, tiger}
 use Rattle.tl_layout.specs.Laws.TypeLaws.{layout_laws}
-use Rattle.tl_layout.specs.declared.record_type.Record.{Record}
-use Rattle.tl_load.specs.declared.fault.LineFault.{LineFault}
 use Rattle.tl_load.specs.declared.fault.LineFault.TheVariants as line_faults
-use Rattle.tl_load.specs.LineOf.{IsLineOf, IsFaultIn, judged_as}
-use Rattle.tl_load.specs.Choice.{as_record, judged_by, judged, tiger}
-use Rattle.tl_load.specs.Places.{PlacedLine, placed_lines}
-use Rattle.tl_load.specs.Outcome.{AreLinesSpelled, Spells, SpellsWithin}
 use Rattle.tl_load.proofs.Reading.{IsSound}
-use Rattle.tl_load.specs.RecordLine.{HasRecord, record_types, BeginsWith, IsFaultOfLine, of_no_type, of_type_1, of_type_2}
-use Rattle.tl_load.specs.RecordLine.{of_type_4, of_type_5, of_type_6, of_type_7, of_type_8, of_type_i, of_type_p}
+use Rattle.tl_load.specs.RecordLine.{HasRecord, record_types, BeginsWith, IsFaultOfLine, of_no_type, of_type_1, of_type_2, of_type_4}
+use Rattle.tl_load.specs.RecordLine.{of_type_5, of_type_6, of_type_7, of_type_8, of_type_i, of_type_p}
 use Rattle.tl_load.proofs.LineLaws.{Reading, judged_is_line, line_is_judged, line_fits, judged_fault_found, judged_fault_only}
 
 -- ---- the layouts
@@ -32,10 +28,7 @@ judged_of t line = judged_as (line_length t) (reading_of t) line
 
 -- what a layout promises about its reading
 layout_reading : (t : RecordType) → Reading (byte_of t) (line_length t) (reading_of t) (SpellsFields t)
-layout_reading t = record {
-  found = λ l r is e. ((layout_laws t).reads_spelled l r is e).1;
-  only = λ l r is h. (layout_laws t).spelled_is_read l r is h;
-}
+layout_reading t = search (rules, layout_laws)
 
 -- a line with a record of a type is a line of that type
 line_of_type : (t : RecordType) (line : List ℕ) (fields : FieldsOf t)
@@ -87,15 +80,13 @@ typed_among (t ∷ ts) rtype line r e = go (eqb rtype (byte_of t)) refl (judged_
     go : (b : Bool) → eqb rtype (byte_of t) ≡ b → (v : Result (FieldsOf t) LineFault)
         → cond b (as_record (record_of t) v) (judged_among ts rtype line) ≡ Ok r
         → (judged_among ts rtype line ≡ Ok r → type_of r ≡ rtype) → type_of r ≡ rtype
-    go true is (Ok fields) h later = let same : record_of t fields ≡ r = cc in
-        ap type_of (sym same) ∙ type_of_record t fields ∙ sym (eqb-true rtype (byte_of t) is)
+    go true is (Ok fields) h later = search (rules, type_of_record, eqb-true)
     go true is (Err f) h later = absurd cc
     go false is v h later = later h
 
 unwrapped : (t : RecordType) (v : Result (FieldsOf t) LineFault) (fields : FieldsOf t)
     → as_record (record_of t) v ≡ Ok (record_of t fields) → v ≡ Ok fields
-unwrapped t (Ok others) fields e =
-    let same : record_of t others ≡ record_of t fields = cc in ap (λ (z : FieldsOf t). Ok z) (record_exact t others fields same)
+unwrapped t (Ok others) fields e = search (rules, record_exact)
 unwrapped t (Err f) fields e = absurd cc
 
 pub record_of_judged : (line : List ℕ) (r : Record) → judged line ≡ Ok r → HasRecord line r
@@ -190,9 +181,7 @@ fault_of_judged (b ∷ line) fault e = go (fault_among types b line fault (sym (
 unknown_among : (ts : List RecordType) (b : ℕ) (line : List ℕ) → IsOfNone ts (b ∷ line)
     → judged_among ts b (b ∷ line) ≡ Err line_faults.UnknownType
 unknown_among [] b line h = refl
-unknown_among (t ∷ ts) b line h =
-    ap (λ x. cond x (as_record (record_of t) (judged_of t (b ∷ line))) (judged_among ts b (b ∷ line))) (not_so b (byte_of t) line h.0)
-    ∙ unknown_among ts b line h.1
+unknown_among (t ∷ ts) b line h = search (rules, not_so, unknown_among ts b line h.1)
 
 unknown_judged : (line : List ℕ) → AllByRecursion (λ (rtype : ℕ). ¬ BeginsWith rtype line) record_types
     → judged line ≡ Err line_faults.UnknownType
@@ -223,13 +212,7 @@ judged_of_fault line fault (of_type_p begins h) = judged_of_type TypeP line faul
 -- the judge of TIGER/Line 2006 finds exactly the records and the faults of lines
 pub tiger_is_sound : IsSound tiger
 unfolding tiger
-tiger_is_sound = record {
-  has_found = record_of_judged;
-  has_only = judged_of_record;
-  fault_found = fault_of_judged;
-  fault_only =
-      judged_of_fault;
-}
+tiger_is_sound = search (rules, record_of_judged, judged_of_record, fault_of_judged, judged_of_fault)
 
 -- ---- spelled records fit
 

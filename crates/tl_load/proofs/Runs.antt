@@ -1,9 +1,7 @@
 -- Lines that have ended, and the consecutive numbers of lines and parts.
-use Rattle.std.proofs.Common.{◌≡◌, ℕ, suc, ◌+◌, List, [], ◌∷◌, ◌++◌, length, map, refl, sym, ap, ◌∙◌, append_assoc, arith}
-use Rattle.std.specs.Prelude.{All}
-use Rattle.tl_load.specs.Lines.{IsWithoutLineFeed, without_return, lines}
-use Rattle.tl_load.specs.Places.{PlacedLine, numbered_lines, lines_from_part}
-use Rattle.tl_load.specs.Loaded.{with_line_feeds}
+use Rattle.std.proofs.Common.{rules, ◌≡◌, ℕ, suc, ◌+◌, List, [], ◌∷◌, ◌++◌, length, map, refl, ap, ◌∙◌, append_assoc, arith}
+use Rattle.tl_load.proofs.Common.{All, IsWithoutLineFeed, lines, with_line_feeds, without_return}
+use Rattle.tl_load.specs.Places.{numbered_lines, lines_from_part}
 use Rattle.tl_load.proofs.LineLemmas.{lines_line}
 
 pub first_of : {A : Type 0} (P : A → Type 0) (x : A) (xs : List A) → All P (x ∷ xs) → P x
@@ -26,16 +24,9 @@ pub numbered_lines-append : (part n : ℕ) (a b : List (List ℕ)) → numbered_
     part (n + length a) b
 unfolding numbered_lines
 numbered_lines-append part n [] b = ap (λ (k : ℕ). numbered_lines part k b) (omega arith)
-numbered_lines-append part n (x ∷ a) b =
-    let place : n + 1 + length a ≡ n + length (x ∷ a) = omega arith in
-    ap (λ (ls : List PlacedLine). record { part = part; line = n; bytes = x } ∷ ls) (numbered_lines-append part (n + 1) a b
-    ∙ ap (λ (k : ℕ). numbered_lines part (n + 1) a ++ numbered_lines part k b) place)
+numbered_lines-append part n (x ∷ a) b = search (rules, numbered_lines-append part (n + 1) a b)
 
 pub parts-append : (n : ℕ) (a b : List (List ℕ)) → lines_from_part n (a ++ b) ≡ lines_from_part n a ++ lines_from_part (n + length a) b
 unfolding lines_from_part
 parts-append n [] b = ap (λ (k : ℕ). lines_from_part k b) (omega arith)
-parts-append n (x ∷ a) b =
-    let place : n + 1 + length a ≡ n + length (x ∷ a) = omega arith in
-    ap (λ (ls : List PlacedLine). numbered_lines n 1 (lines x) ++ ls) (parts-append (n + 1) a b
-    ∙ ap (λ (k : ℕ). lines_from_part (n + 1) a ++ lines_from_part k b) place)
-    ∙ sym (append_assoc (numbered_lines n 1 (lines x)) (lines_from_part (n + 1) a) (lines_from_part (n + length (x ∷ a)) b))
+parts-append n (x ∷ a) b = search (rules, append_assoc, parts-append (n + 1) a b)

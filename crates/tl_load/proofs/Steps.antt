@@ -1,30 +1,23 @@
 -- The loader's steps, for a loader of a list of records.
-use Rattle.std.proofs.Common.{◌≡◌, ℕ, ◌+◌, ◌<◌, ◌≤◌, false, List, [], ◌∷◌, ◌++◌, length, map, Result, Ok, Err, refl, sym, ap}
-use Rattle.std.proofs.Common.{subst, ◌∙◌, append_assoc, append-nil, arith, inl, inr}
-use Rattle.std.specs.Prelude.{OnOk}
-use Rattle.std.specs.Result.{IsErr}
-use Rattle.std.proofs.lemmas.Grind.{flat_map-append}
-use Rattle.std.proofs.lemmas.List.{length-append, length-map, map-append}
-use Rattle.std.proofs.lemmas.List.Elements.{All-append, All-nil, All-cons}
-use Rattle.tl_layout.specs.declared.record_type.Record.{Record}
-use Rattle.tl_layout.specs.declared.fault.FieldKind.{FieldKind}
-use Rattle.tl_layout.specs.declared.fault.FieldKind.TheVariants as kinds
-use Rattle.tl_load.specs.declared.fault.LineFault.{LineFault}
-use Rattle.tl_load.specs.declared.fault.LineFault.TheVariants as line_faults
-use Rattle.tl_load.specs.declared.fault.LoadFault.{LoadFault}
-use Rattle.tl_load.specs.Lines.{is_line_feed, IsWithoutLineFeed, without_return, last_line, lines}
-use Rattle.tl_load.specs.Places.{PlacedLine, numbered_lines, lines_from_part}
-use Rattle.tl_load.specs.Verdicts.{fault_at, field_fault_at}
-use Rattle.tl_load.specs.Outcome.{◌then_with◌, after_verdict, next, outcome_after}
-use Rattle.tl_load.specs.Choice.{tiger, judged}
-use Rattle.tl_load.specs.Loaded.{Loaded, IsNotDevice, with_line_feeds}
-use Rattle.tl_load.specs.Steps.{to_come, to_end, TakesLines, Takes, LeavesRest, next_place, Judges, Ends}
-use Rattle.tl_load.specs.Steps.{Closes, ReadsPart}
+use Rattle.std.proofs.Common.{rules, ◌≡◌, ℕ, ◌+◌, ◌<◌, ◌≤◌, List, [], ◌∷◌, ◌++◌, length, map, Result, Ok, Err, refl, sym, ap, subst, ◌∙◌}
+use Rattle.std.proofs.Common.{append_assoc, append-nil, arith, inl, inr}
+use Rattle.tl_load.proofs.Common.{Closes, Ends, FieldKind, IsErr, IsWithoutLineFeed, LONGEST_LINE, LineFault, LoadFault, Loaded, OnOk}
+use Rattle.tl_load.proofs.Common.{PlacedLine, ReadsPart, Record, Takes, TakesLines, after_verdict, common_steps, field_fault_at}
+use Rattle.tl_load.proofs.Common.{flat_map-append, judged, length-append, length-map, lines, map-append, to_end, with_line_feeds}
+use Rattle.tl_load.proofs.Common.{without_return, ◌then_with◌}
+use Rattle.tl_load.specs.Lines.{last_line}
+use Rattle.tl_load.specs.Places.{numbered_lines, lines_from_part}
+use Rattle.tl_load.specs.Verdicts.{fault_at}
+use Rattle.tl_load.specs.Outcome.{next, outcome_after}
+use Rattle.tl_load.specs.Choice.{tiger}
+use Rattle.tl_load.specs.Loaded.{IsNotDevice}
+use Rattle.tl_load.specs.Steps.{to_come, LeavesRest, next_place, Judges}
 use Rattle.tl_load.proofs.Reading.{outcome_after-append}
 use Rattle.tl_load.proofs.LineLemmas.{lines_line, lines_rest, lines_none, first_line_of, without_return_front}
 use Rattle.tl_load.proofs.Runs.{lines_after, numbered_lines-append}
 use Rattle.tl_load.proofs.Settled.{judged_long, judged_settles}
-use Rattle.tl_layout.specs.declared.layout.TheConstants.{LONGEST_LINE}
+use Rattle.tl_layout.specs.declared.fault.FieldKind.TheVariants as kinds
+use Rattle.tl_load.specs.declared.fault.LineFault.TheVariants as line_faults
 
 -- ---- bytes that were taken
 
@@ -37,12 +30,9 @@ takes_comes before after bytes more later t =
     let rest = lines (after.unfinished ++ more) in
     let there = numbered_lines (before.parts + 1) (before.judged + 1) (map without_return t.ended) in
     let split : before.unfinished ++ (bytes ++ more) ≡ with_line_feeds t.ended ++ (after.unfinished ++ more) =
-    sym (append_assoc before.unfinished bytes more) ∙ ap (λ (l : List ℕ). l ++ more) t.lines_are.bytes_are
-    ∙ append_assoc (with_line_feeds t.ended) after.unfinished more in
-    let cut : lines (before.unfinished ++ (bytes ++ more)) ≡ map without_return t.ended ++ rest = ap lines split
-    ∙ lines_after t.ended (after.unfinished ++ more) t.lines_are.each_ended in
-    let place : before.judged + 1 + length (map without_return t.ended) ≡ after.judged + 1 =
-    omega (arith, length-map t.ended without_return, t.judged_are) in
+    search (rules, append_assoc) in
+    let cut : lines (before.unfinished ++ (bytes ++ more)) ≡ map without_return t.ended ++ rest = search (rules, lines_after) in
+    let place : before.judged + 1 + length (map without_return t.ended) ≡ after.judged + 1 = search (rules, length-map) in
     let parts : before.parts ≡ after.parts = sym t.parts_are in
     let limit : before.limit ≡ after.limit = sym t.limit_is in
     ap (λ (ls : List (List ℕ)). outcome_after tiger before.limit before.records
@@ -63,14 +53,7 @@ takes_comes before after bytes more later t =
 
 pub takes_none : (l : Loaded) → IsWithoutLineFeed l.unfinished → TakesLines l [] l
 unfolding numbered_lines outcome_after
-takes_none l none = record {
-  ended = [];
-  lines_are = record { bytes_are = append-nil l.unfinished; each_ended = All-nil IsWithoutLineFeed; not_ended = none };
-  reads = refl;
-  judged_are = omega arith;
-  parts_are = refl;
-  limit_is = refl;
-}
+takes_none l none = search (rules, append-nil)
 
 -- further bytes of an unfinished line
 pub holds_more : (before after : Loaded) (bytes : List ℕ) → after.records ≡ before.records → after.parts ≡ before.parts
@@ -79,11 +62,7 @@ pub holds_more : (before after : Loaded) (bytes : List ℕ) → after.records �
 unfolding numbered_lines outcome_after
 holds_more before after bytes records parts judged limit unfinished none more = record {
   ended = [];
-  lines_are = record {
-    bytes_are = sym unfinished;
-    each_ended = All-nil IsWithoutLineFeed;
-    not_ended = subst IsWithoutLineFeed (sym unfinished) (All-append (λ b. is_line_feed b ≡ false) before.unfinished bytes none more);
-  };
+  lines_are = grind (arith, common_steps);
   reads = ap (λ (rs : List Record). Ok rs) (sym records);
   judged_are = omega (arith, judged);
   parts_are = parts;
@@ -98,15 +77,7 @@ takes_both before mid after a b p q =
     let place : before.judged + 1 + length first ≡ mid.judged + 1 = omega (arith, length-map p.ended without_return, p.judged_are) in
     record {
       ended = p.ended ++ q.ended;
-      lines_are = record {
-        bytes_are = sym (append_assoc before.unfinished a b) ∙ ap (λ (l : List ℕ). l ++ b) p.lines_are.bytes_are
-            ∙ append_assoc (with_line_feeds p.ended) mid.unfinished b
-            ∙ ap (λ (l : List ℕ). with_line_feeds p.ended ++ l) q.lines_are.bytes_are
-            ∙ sym (append_assoc (with_line_feeds p.ended) (with_line_feeds q.ended) after.unfinished)
-            ∙ ap (λ (l : List ℕ). l ++ after.unfinished) (sym (flat_map-append (λ (line : List ℕ). line ++ 10 ∷ []) p.ended q.ended));
-        each_ended = All-append IsWithoutLineFeed p.ended q.ended p.lines_are.each_ended q.lines_are.each_ended;
-        not_ended = q.lines_are.not_ended;
-      };
+      lines_are = grind (arith, common_steps, append_assoc, flat_map-append);
       reads = ap (λ (ls : List (List ℕ)). outcome_after tiger before.limit before.records
           (numbered_lines (before.parts + 1) (before.judged + 1) ls))
           (map-append without_return p.ended q.ended)
@@ -132,8 +103,7 @@ takes_then before mid after a b (Err f) p q = λ is more later. ap (λ (l : List
 
 pub fault_then : (T U : Type 0) (before mid after : Loaded) (a b : List ℕ) (f : LoadFault) → Takes {T = T} a before (Err f) mid
     → Takes {T = U} (a ++ b) before (Err f) after
-fault_then T U before mid after a b f p is more later = ap (λ (l : List ℕ). to_come before l later) (append_assoc a b more)
-    ∙ p is (b ++ more) later
+fault_then T U before mid after a b f p is more later = search (rules, append_assoc)
 
 -- ---- one line
 
@@ -187,12 +157,7 @@ ends_line before mid after bytes line (Ok x) same is none judges count empty par
     let whole = before.unfinished ++ bytes in
     record {
       ended = whole ∷ [];
-      lines_are = record {
-        bytes_are = sym (append_assoc before.unfinished bytes (10 ∷ [])) ∙ sym (append-nil (whole ++ 10 ∷ []))
-            ∙ sym (append-nil ((whole ++ 10 ∷ []) ++ [])) ∙ ap (λ (l : List ℕ). ((whole ++ 10 ∷ []) ++ []) ++ l) (sym empty);
-        each_ended = All-cons IsWithoutLineFeed whole [] none (All-nil IsWithoutLineFeed);
-        not_ended = subst IsWithoutLineFeed (sym empty) (All-nil (λ b. is_line_feed b ≡ false));
-      };
+      lines_are = search (rules, append_assoc, append-nil);
       reads = one_line before (without_return whole)
           ∙ ap (λ (l : List ℕ). after_verdict tiger before.limit before.records (next_place before l) (judged l) then_with λ records. Ok records)
           (sym is)
@@ -233,11 +198,8 @@ long_line before bytes line c z fault split long none e more later =
     let whole = u ++ bytes in
     let begins = first_line_of whole more (omega (arith, ap length split, length-append line (c ∷ z))) none in
     let front = without_return_front line c (z ++ begins.more) in
-    let regroup : whole ++ begins.more ≡ line ++ c ∷ (z ++ begins.more) = ap (λ (l : List ℕ). l ++ begins.more) split
-    ∙ append_assoc line (c ∷ z) begins.more in
-    let first : lines (u ++ (bytes ++ more)) ≡ (line ++ front.0) ∷ begins.rest =
-    ap lines (sym (append_assoc u bytes more)) ∙ begins.first ∙ ap (λ (l : List ℕ). without_return l ∷ begins.rest) regroup
-    ∙ ap (λ (l : List ℕ). l ∷ begins.rest) front.1 in
+    let regroup : whole ++ begins.more ≡ line ++ c ∷ (z ++ begins.more) = search (rules, append_assoc) in
+    let first : lines (u ++ (bytes ++ more)) ≡ (line ++ front.0) ∷ begins.rest = search (rules, append_assoc) in
     let settled : judged (line ++ front.0) ≡ Err fault = judged_settles line front.0 long ∙ e in
     ap (λ (l : List (List ℕ)). outcome_after tiger before.limit before.records
     (numbered_lines (before.parts + 1) (before.judged + 1) l ++ lines_from_part (before.parts + 1 + 1) later)) first
@@ -276,8 +238,7 @@ leaves_after before mid after bytes rest line left p split q = record {
 
 pub leaves_taken : {T : Type 0} (before mid after : Loaded) (bytes rest : List ℕ) (result : Result T LoadFault)
     → LeavesRest before bytes rest mid → Takes rest mid result after → Takes bytes before result after
-leaves_taken before mid after bytes rest (Ok x) p q =
-    subst (λ (l : List ℕ). TakesLines before l after) (sym p.bytes_are) (takes_both before mid after p.taken rest p.takes q)
+leaves_taken before mid after bytes rest (Ok x) p q = search (rules, takes_both)
 leaves_taken before mid after bytes rest (Err f) p q = λ is more later.
     ap (λ (l : List ℕ). to_come before l later) (ap (λ (l : List ℕ). l ++ more) p.bytes_are ∙ append_assoc p.taken rest more)
     ∙ takes_comes before mid p.taken (rest ++ more) later p.takes ∙ q is more later

@@ -1,27 +1,21 @@
 -- The canonical text of records is loaded as these records.
-use Rattle.std.proofs.Common.{◌≡◌, ℕ, suc, ◌+◌, ◌-◌, ◌<◌, ◌≤◌, Bool, true, false, cond, List, [], ◌∷◌, ◌++◌, length, get_or, take, map}
-use Rattle.std.proofs.Common.{Result, Ok, Err, refl, sym, ap, subst, ◌∙◌, append_assoc, append-nil, arith, eqb}
-use Rattle.std.specs.Prelude.{All}
+use Rattle.std.proofs.Common.{rules, ◌≡◌, ℕ, suc, ◌+◌, ◌-◌, ◌<◌, ◌≤◌, true, false, List, [], ◌∷◌, ◌++◌, length, get_or, take, map, Result}
+use Rattle.std.proofs.Common.{Ok, refl, ap, ◌∙◌, append_assoc, append-nil, arith, eqb}
+use Rattle.tl_load.proofs.Common.{All, Eight, FieldFault, Five, Four, I, IsLine, IsWithoutLineFeed, One, P, Record, Seven, Six, Spells, Two}
+use Rattle.tl_load.proofs.Common.{as_record, eqb-true, false_from_ne_true, flat_map-append, is_allowed, judged, le-ltb, length-drop, lines}
+use Rattle.tl_load.proofs.Common.{placed_lines, text_of}
 use Rattle.canonical_lines.specs.SpeltLine.{with_version}
-use Rattle.std.proofs.lemmas.Grind.{flat_map-append}
-use Rattle.std.proofs.lemmas.List.{length-drop}
-use Rattle.std.proofs.lemmas.Bool.{le-ltb, false_from_ne_true, eqb-true}
-use Rattle.tl_layout.specs.Bytes.{is_allowed, AreAllowed, IsLine}
-use Rattle.tl_layout.specs.RecordText.{type_of, len_of, spelling_of, FitsRecord, text_of}
+use Rattle.tl_layout.specs.Bytes.{AreAllowed}
+use Rattle.tl_layout.specs.RecordText.{type_of, len_of, spelling_of, FitsRecord}
 use Rattle.tl_layout.specs.Laws.RecordLaws.{spelling_is_line}
-use Rattle.tl_layout.specs.declared.fault.FieldFault.{FieldFault}
-use Rattle.tl_layout.specs.declared.record_type.Record.{Record}
-use Rattle.tl_layout.specs.declared.record_type.Record.TheVariants.{One, Two, Four, Five, Six, Seven, Eight, I, P}
+use Rattle.tl_load.specs.Lines.{without_return}
+use Rattle.tl_load.specs.Places.{numbered_lines, lines_from_part}
 use Rattle.tl_layout.specs.RecordTypes.{Type1, Type2, Type4, Type5, Type6, Type7, Type8, TypeI, TypeP, reading_of}
 use Rattle.tl_layout.specs.Laws.TypeLaws.{layout_laws}
-use Rattle.tl_load.specs.declared.fault.LineFault.{LineFault}
 use Rattle.tl_load.specs.declared.fault.LineFault.TheVariants as line_faults
-use Rattle.tl_load.specs.Lines.{IsWithoutLineFeed, without_return, lines}
-use Rattle.tl_load.specs.Places.{PlacedLine, numbered_lines, lines_from_part, placed_lines}
-use Rattle.tl_load.specs.Outcome.{Spells}
 use Rattle.tl_load.proofs.RecordLines.{by_first, tiger_is_sound}
-use Rattle.tl_load.specs.LineOf.{filled, first_bad, of_reading, judged_full, judged_as}
-use Rattle.tl_load.specs.Choice.{as_record, judged_by, judged, tiger}
+use Rattle.tl_load.specs.LineOf.{judged_full, judged_as}
+use Rattle.tl_load.specs.Choice.{judged_by, tiger}
 use Rattle.tl_load.proofs.LineLemmas.{lines_line, lines_none}
 use Rattle.tl_load.proofs.Filling.{filled_full}
 use Rattle.tl_load.proofs.LineLaws.{bad_none}
@@ -38,12 +32,7 @@ has_version (b ∷ bytes) h = omega (arith, h, length-drop 4 bytes)
 pub judged_full_line : {R : Type 0} (rtype len : ℕ) (reading : List ℕ → Result R FieldFault) (line : List ℕ) (r : R) → IsLine rtype len line
     → reading line ≡ Ok r → judged_as len reading line ≡ Ok r
 unfolding judged_as judged_full
-judged_full_line rtype len reading line r is e =
-    ap (λ (b : Bool). cond b (Err line_faults.LineTooLong) (judged_full reading (filled len line)))
-    (le-ltb len (length line) (omega (arith, is.text.len)))
-    ∙ ap (judged_full reading) (filled_full len line is.text.len)
-    ∙ ap (λ (b : Bool). cond b (Err (line_faults.BadByte (first_bad line + 1))) (of_reading (reading line))) (bad_none line is.text.allowed)
-    ∙ ap of_reading e
+judged_full_line rtype len reading line r is e = search (rules, le-ltb, filled_full, bad_none)
 
 judged_spelling : (r : Record) → FitsRecord r → judged (spelling_of r) ≡ Ok r
 unfolding judged_by type_of len_of spelling_of FitsRecord
@@ -70,9 +59,7 @@ judged_spelling (P r) f = let is = spelling_is_line (P r) f in by_first 80 _ is.
 
 -- a byte that isn't allowed doesn't occur in a line
 is_not : (c b : ℕ) → is_allowed c ≡ false → is_allowed b ≡ true → eqb b c ≡ false
-is_not c b bad good =
-    false_from_ne_true (eqb b c) (λ e. let same : b ≡ c = eqb-true b c e in let again : is_allowed c ≡ true =
-    subst (λ (x : ℕ). is_allowed x ≡ true) same good in absurd cc)
+is_not c b bad good = search (rules, false_from_ne_true, eqb-true)
 
 no_feed : (line : List ℕ) → AreAllowed line → IsWithoutLineFeed line
 unfolding AreAllowed
@@ -80,9 +67,7 @@ no_feed line h k d lt = is_not 10 (get_or line k d) refl (h k d lt)
 
 no_return : (line : List ℕ) → 0 < length line → AreAllowed line → without_return line ≡ line
 unfolding AreAllowed without_return
-no_return line some h =
-    ap (λ (b : Bool). cond b (take (length line - 1) line) line)
-    (is_not 13 (get_or line (length line - 1) 0) refl (h (length line - 1) 0 (omega arith)))
+no_return line some h = search (rules, is_not)
 
 some_begin : (rtype : ℕ) (line : List ℕ) → take 1 line ≡ rtype ∷ [] → 0 < length line
 some_begin rtype [] e = absurd cc
@@ -113,20 +98,14 @@ judged_lines : (part line : ℕ) (records : List Record) → AllFit records
 unfolding numbered_lines tiger
 judged_lines part line [] h = refl
 judged_lines part line (r ∷ records) h =
-    ap (λ (v : Result Record LineFault). v ∷ map (λ (l : PlacedLine). judged l.bytes)
-    (numbered_lines part (line + 1) (map spelling_of records)))
-    (judged_spelling r (first_fits r records h))
-    ∙ ap (λ (vs : List (Result Record LineFault)). Ok r ∷ vs) (judged_lines part (line + 1) records (rest_fit r records h))
+    search (rules, judged_spelling, first_fits, rest_fit, judged_lines part (line + 1) records (rest_fit r records h))
 
 one_part : (text : List ℕ) → placed_lines (text ∷ []) ≡ numbered_lines 1 1 (lines text)
 unfolding lines_from_part
 one_part text = append-nil (numbered_lines 1 1 (lines text))
 
 pub text_spells : (records : List Record) → AllFit records → Spells tiger (text_of records ∷ []) records
-text_spells records h =
-    let lines = sym (one_part (text_of records) ∙ ap (numbered_lines 1 1) (lines_of_text records h)) in
-    judged_spelled tiger tiger_is_sound _ records (subst (λ (ls : List PlacedLine). AreJudged tiger ls records) lines
-    (judged_lines 1 1 records h))
+text_spells records h = search (rules, one_part, lines_of_text, judged_spelled, tiger_is_sound, judged_lines)
 
 pub text_spells_only : (records others : List Record) → AllFit records → Spells tiger (text_of records ∷ []) others → others ≡ records
 text_spells_only records others h s = spelled_once tiger tiger_is_sound (text_of records ∷ []) others records s (text_spells records h)
@@ -134,5 +113,4 @@ text_spells_only records others h s = spelled_once tiger tiger_is_sound (text_of
 -- the text of records and one more record
 pub text_of-snoc : (records : List Record) (added : Record)
     → text_of (records ++ added ∷ []) ≡ text_of records ++ (spelling_of added ++ 10 ∷ [])
-text_of-snoc records added = flat_map-append (λ x. spelling_of x ++ 10 ∷ []) records (added ∷ [])
-    ∙ ap (λ (t : List ℕ). text_of records ++ t) (append-nil (spelling_of added ++ 10 ∷ []))
+text_of-snoc records added = search (rules, flat_map-append, append-nil)

@@ -1,14 +1,13 @@
 -- Small facts for proofs about the loader.
-use Rattle.std.proofs.Common.{◌≡◌, ℕ, ◌+◌, ◌-◌, ◌<◌, ◌≤◌, Bool, true, false, List, [], ◌∷◌, ◌++◌, length, get_or, take, drop, Result}
-use Rattle.std.proofs.Common.{Ok, Err, Option, Some, None, refl, sym, ap, subst, ◌∙◌, arith, eqb}
-use Rattle.std.specs.Prelude.{OnOk, IsOk, IsTrue}
-use Rattle.std.proofs.lemmas.Bool.{eqb-true, false_from_ne_true}
-use Rattle.std.proofs.lemmas.List.{take-append-drop, length-take, get_or-take, get_or_default, drop_more, take_all, take_rest}
+use Rattle.std.proofs.Common.{rules, ◌≡◌, ℕ, ◌+◌, ◌-◌, ◌<◌, ◌≤◌, true, false, List, [], ◌∷◌, ◌++◌, length, get_or, take, drop, Result, Ok}
+use Rattle.std.proofs.Common.{Err, refl, subst, arith, eqb}
+use Rattle.tl_load.proofs.Common.{IsWithoutLineFeed, Loaded, OnOk, Record, eqb-true, false_from_ne_true, get_or_default, is_allowed}
+use Rattle.tl_load.proofs.Common.{is_line_feed, length-take, take-append-drop}
+use Rattle.std.specs.Prelude.{IsOk, IsTrue}
+use Rattle.std.proofs.lemmas.List.{get_or-take, drop_more, take_all, take_rest}
 use Rattle.memchr.specs.Find.{Nowhere, Passes, is_byte}
-use Rattle.tl_layout.specs.Bytes.{is_allowed, AreAllowed}
-use Rattle.tl_layout.specs.declared.record_type.Record.{Record}
-use Rattle.tl_load.specs.Lines.{is_line_feed, IsWithoutLineFeed, IsLineEnd}
-use Rattle.tl_load.specs.Loaded.{Loaded}
+use Rattle.tl_layout.specs.Bytes.{AreAllowed}
+use Rattle.tl_load.specs.Lines.{IsLineEnd}
 use Rattle.tl_load.specs.declared.loader_for.LoaderFor.TheInside.{Inside}
 
 pub empty_is : (l : List ℕ) → eqb (length l) 0 ≡ true → l ≡ []
@@ -34,11 +33,7 @@ opened l records =
 
 -- if no position has an LF, no byte is an LF
 pub no_feed_below : (bytes : List ℕ) (n : ℕ) → n ≤ length bytes → Nowhere (Passes (is_byte 10) bytes) 0 n → IsWithoutLineFeed (take n bytes)
-no_feed_below bytes n le none k d lt =
-    let low : k < n = omega (arith, length-take n bytes, lt) in
-    let at = none k (omega arith) low in
-    let same : get_or (take n bytes) k d ≡ get_or bytes k 0 = get_or-take n bytes k d low ∙ get_or_default bytes k d 0 (omega arith) in
-    subst (λ (b : ℕ). is_line_feed b ≡ false) (sym same) (false_from_ne_true _ at)
+no_feed_below bytes n le none k d lt = search (rules, length-take, get_or-take, get_or_default, false_from_ne_true)
 
 pub no_feed : (bytes : List ℕ) → Nowhere (Passes (is_byte 10) bytes) 0 (length bytes) → IsWithoutLineFeed bytes
 no_feed bytes none = subst IsWithoutLineFeed (take_all (length bytes) bytes (omega arith))
@@ -47,19 +42,11 @@ no_feed bytes none = subst IsWithoutLineFeed (take_all (length bytes) bytes (ome
 -- the bytes before an LF, the LF, and the bytes after it
 pub cut_at : (bytes : List ℕ) (n : ℕ) → n < length bytes → eqb (get_or bytes n 0) 10 ≡ true
     → bytes ≡ take n bytes ++ 10 ∷ drop 1 (drop n bytes)
-cut_at bytes n lt h =
-    let e : drop n bytes ≡ get_or bytes n 0 ∷ drop (n + 1) bytes = drop_more bytes n 0 lt in
-    let rest : drop 1 (drop n bytes) ≡ drop (n + 1) bytes = ap (λ (l : List ℕ). drop 1 l) e in
-    sym (take-append-drop n bytes) ∙ ap (λ (l : List ℕ). take n bytes ++ l) (e ∙ ap (λ (b : ℕ). b ∷ drop (n + 1) bytes) (eqb-true _ _ h)
-    ∙ ap (λ (l : List ℕ). 10 ∷ l) (sym rest))
+cut_at bytes n lt h = search (rules, drop_more, take-append-drop, eqb-true)
 
 -- a byte that is allowed in a line isn't an LF
 not_feed : (b : ℕ) → IsTrue (is_allowed b) → is_line_feed b ≡ false
-not_feed b allowed = go (eqb b 10) refl
-  where
-    go : (t : Bool) → eqb b 10 ≡ t → t ≡ false
-    go false h = refl
-    go true h = let ten : IsTrue (is_allowed 10) = subst (λ (x : ℕ). IsTrue (is_allowed x)) (eqb-true _ _ h) allowed in absurd cc
+not_feed b allowed = search (rules, eqb-true)
 
 clean_no_feed : (bytes : List ℕ) → AreAllowed bytes → IsWithoutLineFeed bytes
 unfolding AreAllowed
@@ -68,17 +55,8 @@ clean_no_feed bytes allowed k d lt = not_feed (get_or bytes k d) (allowed k d lt
 -- an LF after clean bytes ends the first line
 pub ends_clean : (bytes : List ℕ) (n : ℕ) → n < length bytes → get_or bytes n 0 ≡ 10 → AreAllowed (take n bytes)
     → IsLineEnd bytes n true
-ends_clean bytes n lt feed allowed = record {
-  within = lt;
-  cut = cut_at bytes n lt (ap (λ (b : ℕ). eqb b 10) feed);
-  first = clean_no_feed (take n bytes) allowed;
-  clean = λ _. allowed;
-}
+ends_clean bytes n lt feed allowed = search (rules, cut_at, clean_no_feed)
 
 -- the slice `&bytes[1..]`
 pub rest_of : (bytes : List ℕ) → take (length bytes - 1) (drop 1 bytes) ≡ drop 1 bytes
 rest_of bytes = take_rest bytes 1
-
-pub none_is : {A : Type 0} (o : Option A) → ((x : A) → o ≡ Some x → ⊥) → o ≡ None
-none_is None h = refl
-none_is (Some x) h = absurd (h x refl)

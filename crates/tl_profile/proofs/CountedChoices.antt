@@ -1,8 +1,7 @@
 -- A pass over ordered keys, from the last to the first: the running product, and the places with a choice.
-use Rattle.tl_profile.proofs.Common.{◌≡◌, ◌⊎◌, ◌≤◌, ◌+◌, ◌*◌, ℕ, suc, List, [], ◌∷◌, ◌++◌, length, reverse, Bool, true, false}
-use Rattle.tl_profile.proofs.Common.{cond, Ordering, is_eq, refl, ap, ◌∙◌, inl, inr, arith, times, IsInOrder}
-use Rattle.tl_profile.proofs.Common.{IsKeyOrder, same-true, times-yes, times-no, is_first, is_settled, open_places, open_place_at}
-use Rattle.tl_profile.proofs.Common.{running, ways_at, OpenPlace}
+use Rattle.tl_profile.proofs.Common.{◌≡◌, ◌⊎◌, ◌≤◌, ◌+◌, ◌*◌, ℕ, suc, List, [], ◌∷◌, ◌++◌, length, reverse, Bool, true, false, cond}
+use Rattle.tl_profile.proofs.Common.{Ordering, is_eq, refl, ap, ◌∙◌, inl, inr, arith, times, IsInOrder, IsKeyOrder, same-true}
+use Rattle.tl_profile.proofs.Common.{times-yes, times-no, is_first, is_settled, open_places, open_place_at, running, ways_at, OpenPlace}
 use Rattle.std.proofs.lemmas.List.{reverse-append}
 use Rattle.ordered_lists.proofs.ByKey.Keys.{same_or_not}
 use Rattle.ordered_lists.proofs.ByKey.KeyedLists.{before_all, less_from}

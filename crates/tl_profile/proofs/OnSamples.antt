@@ -1,6 +1,6 @@
 -- The profile of the samples.
 use Rattle.tl_profile.proofs.Common.{List, [], ◌∷◌, Some, refl, IsInProfile, IsFirstBrokenClause, PolygonWithoutChain, TooSymmetric}
-use Rattle.std.proofs.Common.{flat_map}
+use Rattle.std.proofs.Common.{flat_map, codes}
 use Rattle.tl_layout.specs.declared.record_type.Record.{Record}
 use Rattle.tl_county.specs.County.{county_of}
 use Rattle.tl_county.proofs.Samples.Counties.{
@@ -17,7 +17,6 @@ use Rattle.tl_county.proofs.Samples.Counties.{
   link,
   no_side,
 }
-use Rattle.std.proofs.Common.{codes}
 use Rattle.tl_profile.proofs.ProfileFaults.{profile_computed, first_clause_computed}
 
 pub there_in_profile : IsInProfile (county_of there)

@@ -4,8 +4,7 @@ use Rattle.tl_profile.proofs.Common.{true, false, cond, not, ◌&&◌, Option, S
 use Rattle.tl_profile.proofs.Common.{append_assoc, arith, range_with_len, lt-ltb, BodyP, Chain, chain_at, has_body, County, IsCounty}
 use Rattle.tl_profile.proofs.Common.{chain_polygons, polygons_along, is_unknown, IsInOrder, distinct, stands_in, PolygonKey, key_cmp}
 use Rattle.tl_profile.proofs.Common.{key_keys, key_if_bodied, keys_on}
-use Rattle.std.proofs.Common.{◌||◌, None}
-use Rattle.std.proofs.Common.{append-nil, map-id}
+use Rattle.std.proofs.Common.{◌||◌, None, append-nil, map-id}
 use Rattle.std.specs.List.{list_any, filter_map, cons_option}
 use Rattle.std.specs.Ordering.{on}
 use Rattle.std.proofs.lemmas.Grind.{flat_map-append}

@@ -1,8 +1,8 @@
 -- Marks by number, and uses whose FEATs all have names.
-use Rattle.std.proofs.Common.{◌≡◌, ◌&&◌, not, ℕ, Bool, true, false, List, [], ◌∷◌, None, flat_map, nat_cmp, ap, refl}
+use Rattle.std.proofs.Common.{rules, ◌≡◌, ◌&&◌, not, ℕ, Bool, true, false, List, [], ◌∷◌, None, flat_map, nat_cmp, ap, refl}
 use Rattle.tl_county.proofs.Common.{AllByRecursion, Fields4, IsLeastPassing, all_joined, all_map, and_parts, is_unnamed, known_all}
 use Rattle.tl_county.proofs.Common.{list_all, ltb-true, sequence_cmp, stands_in, times, uses_of}
-use Rattle.tl_county.specs.Marks.{have_names, all_have_names}
+use Rattle.tl_county.specs.Marks.{all_have_names}
 use Rattle.tl_county.proofs.Rules.RuleTests.{sequence_keys}
 
 -- the FEAT of a use is one of the names
@@ -26,10 +26,7 @@ none_unnamed names records h pair = go (stands_in sequence_cmp pair uses) refl
     uses = flat_map uses_of records
 
     each : AllByRecursion (IsNamed names) uses
-    each = all_joined (IsNamed names) uses_of records
-        (passed (λ r. have_names names r.feats) (λ r. AllByRecursion (IsNamed names) (uses_of r))
-        (λ r a. all_map (IsNamed names) (λ feat. (r.tlid, feat)) r.feats
-        (passed (λ feat. stands_in nat_cmp feat names) (λ feat. stands_in nat_cmp feat names ≡ true) (λ feat e. e) r.feats a)) records h)
+    each = search (rules, all_joined, passed, all_map)
 
     go : (b : Bool) → stands_in sequence_cmp pair uses ≡ b → b && not (stands_in nat_cmp pair.1 names) ≡ false
     go false e = refl

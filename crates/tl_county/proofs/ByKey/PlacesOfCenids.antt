@@ -1,9 +1,8 @@
 -- The CENID that a look-up finds at a place.
-use Rattle.std.proofs.Common.{◌≡◌, ◌<◌, ℕ, zero, suc, nat_eq, List, [], ◌∷◌, length, get_or, true, Option, Some, None}
-use Rattle.std.proofs.Common.{IfSome, is_some, slice_get, Ordering, refl, sym, ap, ◌∙◌, subst}
+use Rattle.std.proofs.Common.{rules, ◌≡◌, ◌<◌, ℕ, zero, suc, nat_eq, List, [], ◌∷◌, length, get_or, true, Option, Some, None, IfSome}
+use Rattle.std.proofs.Common.{is_some, slice_get, Ordering, sym, subst}
 use Rattle.tl_county.proofs.Common.{IsKeyOrder, Known, false≢true}
 use Rattle.std.proofs.lemmas.Option.{slice_get_read}
-use Rattle.std.specs.Cmp.Lexicographic.{same_text}
 use Rattle.std.specs.Option.{option_eq}
 use lib.Pointwise.{pointwise}
 use Rattle.ordered_lists.proofs.ByKey.Keys.{known-here, known-later}
@@ -13,8 +12,7 @@ pub stands_at : {B : Type 0} (now : B → List ℕ) (xs : List (List ℕ)) (i : 
     → (is_some found ≡ true → i < length xs) → IfSome found (λ x. now x ≡ get_or xs i (now x))
     → option_eq (λ x y. pointwise nat_eq (now x) (now y)) found (Some wanted) ≡ true → slice_get xs i ≡ Some (now wanted)
 stands_at now xs i None wanted within at same = absurd (false≢true same)
-stands_at now xs i (Some x) wanted within at same =
-    slice_get_read xs (length xs) i (now x) refl (within refl) at ∙ ap Some (same_text (now x) (now wanted) (sym same))
+stands_at now xs i (Some x) wanted within at same = search (rules, slice_get_read)
 
 -- a key at a place of a list is in the list
 pub known_at : {K : Type 0} {cmp : K → K → Ordering} (o : IsKeyOrder cmp) (xs : List K) (i : ℕ) (k : K)

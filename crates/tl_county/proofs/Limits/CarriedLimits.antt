@@ -1,22 +1,21 @@
 -- A renaming that carries keeps a county's limits: its contents fit, its lists fit into their records, and it takes as many records
 -- of each type.
-use Rattle.std.proofs.Common.{◌≡◌, ◌+◌, ◌-◌, ◌≤◌, ℕ, zero, suc, List, [], ◌∷◌, map, flat_map, filter_map}
-use Rattle.std.proofs.Common.{length, reverse, drop, sum_by, Bool, true, false, Option, Some, None, IfSome, sym, refl, ap, ap₂}
-use Rattle.std.proofs.Common.{◌∙◌, subst, arith, nat_cmp, IsPermutation, length-drop}
-use Rattle.tl_county.proofs.Common.{AllByRecursion, Among, Body5, Body7, BodyP, Carries, Chain, ContentsFit, Coordinates, County, FitsChain}
-use Rattle.tl_county.proofs.Common.{FitsLandmark, FitsLink, FitsNameBody, FitsPolygon, FitsRanges, IsOnMap, IsPermutation-sym, IsText}
+use Rattle.std.proofs.Common.{rules, ◌≡◌, ◌-◌, ◌≤◌, ℕ, zero, suc, List, [], ◌∷◌, map, flat_map, filter_map, length, reverse, drop, sum_by}
+use Rattle.std.proofs.Common.{Bool, true, false, Option, Some, None, IfSome, sym, refl, ap, ◌∙◌, subst, arith, nat_cmp, IsPermutation}
+use Rattle.std.proofs.Common.{length-drop}
+use Rattle.tl_county.proofs.Common.{common_steps, AllByRecursion, Among, Body5, Body7, BodyP, Carries, Chain, ContentsFit, Coordinates}
+use Rattle.tl_county.proofs.Common.{County, FitsChain, FitsLandmark, FitsLink, FitsNameBody, FitsPolygon, IsPermutation-sym, IsText}
 use Rattle.tl_county.proofs.Common.{ListsFit, PolygonKey, Renumbering, all_among, all_map, all_weaker, among-permutation, among-unmap}
-use Rattle.tl_county.proofs.Common.{carried_chain, carried_landmark, carried_link, carried_polygon, cons_option, each_from, image}
-use Rattle.tl_county.proofs.Common.{in_pieces, inner_points, length-in_order, length-map, link_key, numbered_from, on, p_polyid}
-use Rattle.tl_county.proofs.Common.{packed_body, packed_by_type, packed_five, packed_fours, packed_i, packed_one, packed_p, packed_sevens}
-use Rattle.tl_county.proofs.Common.{packed_sixes, packed_twos, pieces, renumbered, renumbered_polygon, turned_if, turns, without_last}
+use Rattle.tl_county.proofs.Common.{carried_chain, carried_landmark, carried_link, carried_polygon, each_from, image, in_pieces}
+use Rattle.tl_county.proofs.Common.{inner_points, length-in_order, length-map, packed_by_type, packed_five, packed_fours, packed_i}
+use Rattle.tl_county.proofs.Common.{packed_one, packed_p, packed_sevens, packed_sixes, packed_twos, pieces, renumbered, renumbered_polygon}
+use Rattle.tl_county.proofs.Common.{turned_if, turns, without_last}
 use Rattle.std.proofs.lemmas.List.{length-reverse}
 use Rattle.std.proofs.lemmas.List.Concat.{length-flat_map}
 use Rattle.std.proofs.lemmas.List.Sums.{sum_by-cons}
 use Rattle.std.proofs.lemmas.List.Sorted.{IsPermutation-reverse, length_permutation, sum_by-IsPermutation}
 use Rattle.tl_layout.specs.Turned.{turned_ranges}
 use Rattle.tl_layout.specs.Laws.TurnedFits.{body_turned_fits, ranges_turned_fit}
-use Rattle.tl_county.specs.Limits.{FitsLinkContent}
 use Rattle.tl_county.specs.Renumbering.{carried_name}
 use Rattle.tl_county.proofs.Packing.Pieces.{length-numbered_from}
 use Rattle.tl_county.proofs.Limits.FieldsFit.{link_content_turned}
@@ -30,20 +29,13 @@ all_reversed Q xs a =
 
 chain_turned_fits : (b : Bool) (c : Chain) → FitsChain c → FitsChain (turned_if b c)
 chain_turned_fits false c f = f
-chain_turned_fits true c f = record {
-  body = body_turned_fits c.body f.body;
-  points = all_reversed IsOnMap c.points f.points;
-  ranges = all_map FitsRanges turned_ranges c.ranges
-      (all_weaker FitsRanges (λ entry. FitsRanges (turned_ranges entry)) ranges_turned_fit c.ranges f.ranges);
-  link = link_content_turned c.topology c.left.cenid c.right.cenid f.link;
-}
+chain_turned_fits true c f = search (rules, body_turned_fits, all_reversed, all_map, all_weaker, ranges_turned_fit, link_content_turned)
 
 -- the number of points between a chain's ends
 length-without_last : (points : List Coordinates) → length (without_last points) ≡ length points - 1
 length-without_last [] = refl
 length-without_last (p ∷ []) = refl
-length-without_last (p ∷ q ∷ points) = let rest : length (without_last (q ∷ points)) ≡ suc (length points) - 1 =
-    length-without_last (q ∷ points) in omega arith
+length-without_last (p ∷ q ∷ points) = search (rules, length-without_last (q ∷ points))
 
 pub length-inner : (points : List Coordinates) → length (inner_points points) ≡ length points - 2
 length-inner [] = refl
@@ -85,8 +77,7 @@ same_count pack carried xs ys e p =
   where
     carried_sum : (zs : List _) → sum_by (λ x. length (pack x)) (map carried zs) ≡ sum_by (λ x. length (pack x)) zs
     carried_sum [] = refl
-    carried_sum (z ∷ zs) = sum_by-cons (λ x. length (pack x)) (carried z) (map carried zs) ∙ ap₂ (λ m n. m + n) (e z) (carried_sum zs)
-        ∙ sym (sum_by-cons (λ x. length (pack x)) z zs)
+    carried_sum (z ∷ zs) = grind (arith, common_steps, sum_by-cons)
 
 same_length : {X : Type 0} (carried : X → X) (xs ys : List X) → IsPermutation (map carried xs) ys → length ys ≡ length xs
 same_length carried xs ys p = length_permutation (map carried xs) ys p ∙ length-map xs carried
@@ -98,14 +89,7 @@ weight (Some body) = 1
 
 length-packed_p : (es : List (PolygonKey × Option BodyP)) → length (filter_map packed_p es) ≡ sum_by (λ e. weight e.1) es
 length-packed_p [] = refl
-length-packed_p (e ∷ es) = go e.1 (length-packed_p es) ∙ sym (sum_by-cons (λ (d : PolygonKey × Option BodyP). weight d.1) e es)
-  where
-    go : (o : Option BodyP) → length (filter_map packed_p es) ≡ sum_by (λ d. weight d.1) es
-        → length (cons_option (packed_body e.0 o) (filter_map packed_p es)) ≡ weight o + sum_by (λ d. weight d.1) es
-    go None ih = ih ∙ (let t : sum_by (λ (d : PolygonKey × Option BodyP). weight d.1) es ≡ 0 + sum_by
-        (λ (d : PolygonKey × Option BodyP). weight d.1) es = omega arith in t)
-    go (Some body) ih = ap suc ih ∙ (let t : suc (sum_by (λ (d : PolygonKey × Option BodyP). weight d.1) es) ≡ 1 + sum_by
-        (λ (d : PolygonKey × Option BodyP). weight d.1) es = omega arith in t)
+length-packed_p (e ∷ es) = grind (arith, common_steps, sum_by-cons, length-packed_p es)
 
 module _ (r : Renumbering) (a b : County) (h : Carries r a b) where
   old_chain : (e : ℕ × Chain) → Among e b.chains → (d : ℕ × Chain) × Among d a.chains × (e ≡ carried_chain r d)
@@ -118,13 +102,7 @@ module _ (r : Renumbering) (a b : County) (h : Carries r a b) where
   side_cenid cenid (Some polyid) = image-keeps r.polygons h.numbers.cenids (cenid, polyid)
 
   chain_renumbered_fits : (c : Chain) → FitsChain c → FitsChain (renumbered r c)
-  chain_renumbered_fits c f = record {
-    body = f.body;
-    points = f.points;
-    ranges = f.ranges;
-    link = subst (λ left. FitsLinkContent c.topology left (renumbered r c).right.cenid) (sym (side_cenid c.left.cenid c.left.polyid))
-        (subst (FitsLinkContent c.topology c.left.cenid) (sym (side_cenid c.right.cenid c.right.polyid)) f.link);
-  }
+  chain_renumbered_fits c f = search (rules, side_cenid)
 
   pub carried_contents : ContentsFit a → ContentsFit b
   carried_contents fits = record {
@@ -156,8 +134,7 @@ module _ (r : Renumbering) (a b : County) (h : Carries r a b) where
         let f : FitsLink o.0 = all_among FitsLink o.0 a.links fits.links o.1 in
         subst FitsLink (sym o.2) (record {
           file = f.file;
-          cenid =
-              subst (IsText 5) (sym (image-keeps r.polygons h.numbers.cenids (link_key o.0))) f.cenid;
+          cenid = search (rules, image-keeps);
         }));
   }
     where
@@ -187,31 +164,16 @@ module _ (r : Renumbering) (a b : County) (h : Carries r a b) where
       }))
 
   twos_carried : (e : ℕ × Chain) → length (packed_twos (carried_chain r e)) ≡ length (packed_twos e)
-  twos_carried e =
-      let count : (d : ℕ × Chain) → length (packed_twos d) ≡ length (in_pieces 10 (inner_points d.1.points)) =
-      λ d. length-map (numbered_from 1 (in_pieces 10 (inner_points d.1.points)))
-      (λ piece. record { tlid = d.0; rtsq = piece.0; points = piece.1 })
-      ∙ length-numbered_from 1 (in_pieces 10 (inner_points d.1.points)) in
-      count (carried_chain r e) ∙ in_pieces_by_length 10 (inner_points (carried_chain r e).1.points) (inner_points e.1.points)
-      (inner_carried e) ∙ sym (count e)
+  twos_carried e = search (rules, length-map, length-numbered_from, in_pieces_by_length, inner_carried)
 
   fours_carried : (e : ℕ × Chain) → length (packed_fours (carried_chain r e)) ≡ length (packed_fours e)
-  fours_carried e =
-      let count : (d : ℕ × Chain) → length (packed_fours d) ≡ length (in_pieces 5 d.1.feats) =
-      λ d. length-map (numbered_from 1 (in_pieces 5 d.1.feats)) (λ piece. record { tlid = d.0; rtsq = piece.0; feats = piece.1 })
-      ∙ length-numbered_from 1 (in_pieces 5 d.1.feats) in
-      count (carried_chain r e) ∙ in_pieces_by_length 5 (carried_chain r e).1.feats e.1.feats (feats_carried e) ∙ sym (count e)
+  fours_carried e = search (rules, length-map, length-numbered_from, in_pieces_by_length, feats_carried)
 
   sixes_carried : (e : ℕ × Chain) → length (packed_sixes (carried_chain r e)) ≡ length (packed_sixes e)
-  sixes_carried e =
-      let count : (d : ℕ × Chain) → length (packed_sixes d) ≡ length d.1.ranges =
-      λ d. length-map (numbered_from 1 d.1.ranges) (λ piece. record { tlid = d.0; rtsq = piece.0; ranges = piece.1 })
-      ∙ length-numbered_from 1 d.1.ranges in
-      count (carried_chain r e) ∙ ranges_carried e ∙ sym (count e)
+  sixes_carried e = search (rules, length-map, length-numbered_from, ranges_carried)
 
   sevens_carried : (e : ℕ × List Body7) → length (packed_sevens (carried_landmark r e)) ≡ length (packed_sevens e)
-  sevens_carried e = length-map e.1 (λ body. record { land = (carried_landmark r e).0; body = body })
-      ∙ sym (length-map e.1 (λ body. record { land = e.0; body = body }))
+  sevens_carried e = search (rules, length-map)
 
   polygons_carried : length (filter_map packed_p b.polygons) ≡ length (filter_map packed_p a.polygons)
   polygons_carried = length-packed_p b.polygons ∙ sum_by-IsPermutation (λ (e : PolygonKey × Option BodyP). weight e.1)
@@ -221,8 +183,7 @@ module _ (r : Renumbering) (a b : County) (h : Carries r a b) where
           → sum_by (λ (e : PolygonKey × Option BodyP). weight e.1) (map (carried_polygon r) es) ≡ sum_by
           (λ (e : PolygonKey × Option BodyP). weight e.1) es
       carried_sum [] = refl
-      carried_sum (e ∷ es) = sum_by-cons (λ (d : PolygonKey × Option BodyP). weight d.1) (carried_polygon r e) (map (carried_polygon r) es)
-          ∙ ap (λ n. weight e.1 + n) (carried_sum es) ∙ sym (sum_by-cons (λ (d : PolygonKey × Option BodyP). weight d.1) e es)
+      carried_sum (e ∷ es) = grind (arith, common_steps, sum_by-cons)
 
   -- as many records of each type
   pub carried_many : HasAsMany (packed_by_type a) (packed_by_type b)
@@ -238,19 +199,8 @@ module _ (r : Renumbering) (a b : County) (h : Carries r a b) where
         of_type_7 = sym (same_count packed_sevens (carried_landmark r) a.landmarks b.landmarks sevens_carried h.landmarks);
         of_type_8 = sym (same_length (carried_link r) a.links b.links h.links);
         of_type_i = length-map a.chains packed_i ∙ chains ∙ sym (length-map b.chains packed_i);
-        of_type_p = length-in_order (on p_polyid nat_cmp) (filter_map packed_p a.polygons) ∙ sym polygons_carried
-            ∙ sym (length-in_order (on p_polyid nat_cmp) (filter_map packed_p b.polygons));
+        of_type_p = search (rules, length-in_order, polygons_carried);
       }
 
   pub carried_counts : (limits : ℕ → ℕ) → HasWithin limits (packed_by_type a) → HasWithin limits (packed_by_type b)
-  carried_counts limits few = record {
-    of_type_1 = subst (λ n. n ≤ limits 49) carried_many.of_type_1 few.of_type_1;
-    of_type_2 = subst (λ n. n ≤ limits 50) carried_many.of_type_2 few.of_type_2;
-    of_type_4 = subst (λ n. n ≤ limits 52) carried_many.of_type_4 few.of_type_4;
-    of_type_5 = subst (λ n. n ≤ limits 53) carried_many.of_type_5 few.of_type_5;
-    of_type_6 = subst (λ n. n ≤ limits 54) carried_many.of_type_6 few.of_type_6;
-    of_type_7 = subst (λ n. n ≤ limits 55) carried_many.of_type_7 few.of_type_7;
-    of_type_8 = subst (λ n. n ≤ limits 56) carried_many.of_type_8 few.of_type_8;
-    of_type_i = subst (λ n. n ≤ limits 73) carried_many.of_type_i few.of_type_i;
-    of_type_p = subst (λ n. n ≤ limits 80) carried_many.of_type_p few.of_type_p;
-  }
+  carried_counts limits few = search (rules, carried_many)

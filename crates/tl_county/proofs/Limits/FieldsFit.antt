@@ -1,5 +1,5 @@
 -- The fact that a record fits its columns, split by name: its numbers and its content.
-use Rattle.std.proofs.Common.{◌≡◌, ℕ, ◌≤◌, List, Some, length, subst, arith, lit<}
+use Rattle.std.proofs.Common.{◌≡◌, ℕ, ◌≤◌, List, Some, length, subst, arith, lit<, rules}
 use Rattle.tl_county.proofs.Common.{AllByRecursion, BodyP, Fields1, Fields2, Fields4, Fields5, Fields6, Fields7, Fields8, FieldsI, FieldsP}
 use Rattle.tl_county.proofs.Common.{FitsLandmark, FitsNameBody, FitsPolygon, FitsRanges, IsNumber, IsOnMap, IsText, Record, RecordType}
 use Rattle.tl_county.proofs.Common.{Type1, Type2, Type4, Type5, Type6, Type7, Type8, TypeI, TypeP, as_type, record_of}
@@ -76,146 +76,25 @@ Fit TypeP = FitP
 -- fields that fit their columns fit as named here
 named : (t : RecordType) (r : FieldsOf t) → FitsRecord (record_of t r) → Fit t r
 unfolding FitsRecord FitsFields
-named Type1 r h = record {
-  tlid = h.0;
-  body = record {
-    side1 = h.1.0;
-    source = h.1.1.0;
-    name = record { fedirp = h.1.1.1.0; fename = h.1.1.1.1.0; fetype = h.1.1.1.1.1.0; fedirs = h.1.1.1.1.1.1.0 };
-    cfcc = h.1.1.1.1.1.1.1.0;
-    ranges = record {
-      fraddl = h.1.1.1.1.1.1.1.1.0;
-      toaddl = h.1.1.1.1.1.1.1.1.1.0;
-      fraddr = h.1.1.1.1.1.1.1.1.1.1.0;
-      toaddr = h.1.1.1.1.1.1.1.1.1.1.1.0;
-      friaddl = h.1.1.1.1.1.1.1.1.1.1.1.1.0;
-      toiaddl = h.1.1.1.1.1.1.1.1.1.1.1.1.1.0;
-      friaddr = h.1.1.1.1.1.1.1.1.1.1.1.1.1.1.0;
-      toiaddr = h.1.1.1.1.1.1.1.1.1.1.1.1.1.1.1.0;
-      zip = record { left = h.1.1.1.1.1.1.1.1.1.1.1.1.1.1.1.1.0; right = h.1.1.1.1.1.1.1.1.1.1.1.1.1.1.1.1.1.0 };
-    };
-    native_areas = record {
-      aianhhfp =
-          record { left = h.1.1.1.1.1.1.1.1.1.1.1.1.1.1.1.1.1.1.0; right = h.1.1.1.1.1.1.1.1.1.1.1.1.1.1.1.1.1.1.1.0 };
-      aihhtli =
-          record { left = h.1.1.1.1.1.1.1.1.1.1.1.1.1.1.1.1.1.1.1.1.0; right = h.1.1.1.1.1.1.1.1.1.1.1.1.1.1.1.1.1.1.1.1.1.0 };
-    };
-    census1 = h.1.1.1.1.1.1.1.1.1.1.1.1.1.1.1.1.1.1.1.1.1.1.0;
-    census2 = h.1.1.1.1.1.1.1.1.1.1.1.1.1.1.1.1.1.1.1.1.1.1.1.0;
-    entities = record {
-      state = record {
-        left = h.1.1.1.1.1.1.1.1.1.1.1.1.1.1.1.1.1.1.1.1.1.1.1.1.0;
-        right =
-            h.1.1.1.1.1.1.1.1.1.1.1.1.1.1.1.1.1.1.1.1.1.1.1.1.1.0;
-      };
-      county = record {
-        left = h.1.1.1.1.1.1.1.1.1.1.1.1.1.1.1.1.1.1.1.1.1.1.1.1.1.1.0;
-        right =
-            h.1.1.1.1.1.1.1.1.1.1.1.1.1.1.1.1.1.1.1.1.1.1.1.1.1.1.1.0;
-      };
-      cousub = record {
-        left = h.1.1.1.1.1.1.1.1.1.1.1.1.1.1.1.1.1.1.1.1.1.1.1.1.1.1.1.1.0;
-        right =
-            h.1.1.1.1.1.1.1.1.1.1.1.1.1.1.1.1.1.1.1.1.1.1.1.1.1.1.1.1.1.0;
-      };
-      submcd = record {
-        left = h.1.1.1.1.1.1.1.1.1.1.1.1.1.1.1.1.1.1.1.1.1.1.1.1.1.1.1.1.1.1.0;
-        right =
-            h.1.1.1.1.1.1.1.1.1.1.1.1.1.1.1.1.1.1.1.1.1.1.1.1.1.1.1.1.1.1.1.0;
-      };
-      place = record {
-        left = h.1.1.1.1.1.1.1.1.1.1.1.1.1.1.1.1.1.1.1.1.1.1.1.1.1.1.1.1.1.1.1.1.0;
-        right =
-            h.1.1.1.1.1.1.1.1.1.1.1.1.1.1.1.1.1.1.1.1.1.1.1.1.1.1.1.1.1.1.1.1.1.0;
-      };
-      tract = record {
-        left = h.1.1.1.1.1.1.1.1.1.1.1.1.1.1.1.1.1.1.1.1.1.1.1.1.1.1.1.1.1.1.1.1.1.1.0;
-        right =
-            h.1.1.1.1.1.1.1.1.1.1.1.1.1.1.1.1.1.1.1.1.1.1.1.1.1.1.1.1.1.1.1.1.1.1.1.0;
-      };
-      block = record {
-        left = h.1.1.1.1.1.1.1.1.1.1.1.1.1.1.1.1.1.1.1.1.1.1.1.1.1.1.1.1.1.1.1.1.1.1.1.1.0;
-        right =
-            h.1.1.1.1.1.1.1.1.1.1.1.1.1.1.1.1.1.1.1.1.1.1.1.1.1.1.1.1.1.1.1.1.1.1.1.1.1.0;
-      };
-    };
-  };
-  start = h.1.1.1.1.1.1.1.1.1.1.1.1.1.1.1.1.1.1.1.1.1.1.1.1.1.1.1.1.1.1.1.1.1.1.1.1.1.1.0;
-  end = h.1.1.1.1.1.1.1.1.1.1.1.1.1.1.1.1.1.1.1.1.1.1.1.1.1.1.1.1.1.1.1.1.1.1.1.1.1.1.1.0;
-}
-named Type2 r h = record { tlid = h.0; rtsq = h.1.0; len = h.1.1.0.0; points = h.1.1.0.1 }
-named Type4 r h = record { tlid = h.0; rtsq = h.1.0; len = h.1.1.0.0; feats = h.1.1.0.1 }
 -- content that fits with the number 1 fits with any other number that fits
 named Type5 r h = record { feat = h.1.0; body = (h.0, ((omega arith, lit< tt), h.1.1)) }
-named Type6 r h = record {
-  tlid = h.0;
-  rtsq = h.1.0;
-  ranges = record {
-    fraddl = h.1.1.0;
-    toaddl = h.1.1.1.0;
-    fraddr = h.1.1.1.1.0;
-    toaddr = h.1.1.1.1.1.0;
-    friaddl = h.1.1.1.1.1.1.0;
-    toiaddl = h.1.1.1.1.1.1.1.0;
-    friaddr = h.1.1.1.1.1.1.1.1.0;
-    toiaddr = h.1.1.1.1.1.1.1.1.1.0;
-    zip = record { left = h.1.1.1.1.1.1.1.1.1.1.0; right = h.1.1.1.1.1.1.1.1.1.1.1.0 };
-  };
-}
 named Type7 r h = record { land = h.1.0; body = (h.0, ((omega arith, lit< tt), h.1.1)) }
-named Type8 r h = record { file = h.0; cenid = h.1.0; polyid = h.1.1.0; land = h.1.1.1.0 }
 named TypeI r h = record {
   tlid = h.1.0;
   start_node = h.1.1.0;
   end_node = h.1.1.1.0;
   left_polyid = h.1.1.1.1.1.0;
   right_polyid = h.1.1.1.1.1.1.1.0;
-  content = (h.0, ((omega arith, lit< tt), (tt, (tt, (h.1.1.1.1.0, (tt, (h.1.1.1.1.1.1.0, (tt, h.1.1.1.1.1.1.1.1))))))));
+  content = search rules;
 }
 named TypeP r h = record { polyid = h.1.1.0; body = (h.0, (h.1.0, ((omega arith, lit< tt), h.1.1.1))) }
+named _ r h = search rules
 
 -- fields that fit as named here fit their columns
 pub columns : (t : RecordType) (r : FieldsOf t) → Fit t r → FitsRecord (record_of t r)
 unfolding FitsRecord FitsFields
 columns Type1 r f = type_1_fits r f.tlid f.body f.start f.end
-columns Type2 r f = (f.tlid, (f.rtsq, ((f.len, f.points), tt)))
-columns Type4 r f = (f.tlid, (f.rtsq, ((f.len, f.feats), tt)))
-columns Type5 r f = (f.body.0, (f.feat, f.body.1.1))
-columns Type6 r f = (
-  f.tlid,
-  (
-    f.rtsq,
-    (
-      f.ranges.fraddl,
-      (
-        f.ranges.toaddl,
-        (
-          f.ranges.fraddr,
-          (
-            f.ranges.toaddr,
-            (f.ranges.friaddl, (f.ranges.toiaddl, (f.ranges.friaddr, (f.ranges.toiaddr, (f.ranges.zip.left, (f.ranges.zip.right, tt)))))),
-          ),
-        ),
-      ),
-    ),
-  ),
-)
-columns Type7 r f = (f.body.0, (f.land, f.body.1.1))
-columns Type8 r f = (f.file, (f.cenid, (f.polyid, (f.land, (tt, tt)))))
-columns TypeI r f = (
-  f.content.0,
-  (
-    f.tlid,
-    (
-      f.start_node,
-      (
-        f.end_node,
-        (f.content.1.1.1.1.0, (f.left_polyid, (f.content.1.1.1.1.1.1.0, (f.right_polyid, f.content.1.1.1.1.1.1.1.1)))),
-      ),
-    ),
-  ),
-)
-columns TypeP r f = (f.body.0, (f.body.1.0, (f.polyid, f.body.1.1.1)))
+columns _ r f = search rules
 
 -- the fields of a record that fits
 pub selected_fit : (t : RecordType) (r : Record) (fields : FieldsOf t) → as_type t r ≡ Some fields → FitsRecord r → Fit t fields
@@ -237,5 +116,4 @@ polygon_cenid_fits cenid body h = h.1.0
 -- content of type I fits with its sides exchanged
 pub link_content_turned : (body : BodyI) (left right : List ℕ) → FitsLinkContent body left right → FitsLinkContent body right left
 unfolding FitsFields
-link_content_turned body left right h =
-    (h.0, (h.1.0, (h.1.1.0, (h.1.1.1.0, (h.1.1.1.1.1.1.0, (tt, (h.1.1.1.1.0, (tt, h.1.1.1.1.1.1.1.1))))))))
+link_content_turned body left right h = search rules

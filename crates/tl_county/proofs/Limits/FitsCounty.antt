@@ -1,13 +1,13 @@
 -- Linked records that fit, and aren't too many of any type, have a county within its limits.
-use Rattle.std.proofs.Common.{◌≡◌, ◌⊎◌, ◌+◌, ◌*◌, ◌-◌, ◌<◌, ◌≤◌, ◌==◌, ℕ, List, [], ◌∷◌, ◌++◌, map, flat_map, filter}
-use Rattle.std.proofs.Common.{filter_map, length, length-append, Bool, true, false, cond, Option, Some, None, IfSome, is_eq}
-use Rattle.std.proofs.Common.{Ordering, sym, refl, ap, ◌∙◌, subst, inl, inr, arith, nat_cmp}
+use Rattle.std.proofs.Common.{rules, ◌≡◌, ◌⊎◌, ◌+◌, ◌*◌, ◌-◌, ◌<◌, ◌≤◌, ◌==◌, ℕ, List, [], ◌∷◌, ◌++◌, map, flat_map, filter, filter_map}
+use Rattle.std.proofs.Common.{length, length-append, Bool, true, false, cond, Option, Some, None, IfSome, is_eq, Ordering, sym, refl, ap}
+use Rattle.std.proofs.Common.{◌∙◌, subst, inl, inr, arith, nat_cmp}
 use Rattle.tl_county.proofs.Common.{AllByRecursion, Body5, Body7, BodyP, Chain, ContentsFit, Coordinates, Fields1, Fields2, Fields4}
 use Rattle.tl_county.proofs.Common.{Fields5, Fields6, Fields7, FieldsI, FieldsP, FitsChain, FitsLandmark, FitsLink, FitsNameBody}
 use Rattle.tl_county.proofs.Common.{FitsPolygon, FitsRanges, IsApart, IsLinked, IsNumber, IsOnMap, IsText, IsWithinLimits, Known, ListsFit}
-use Rattle.tl_county.proofs.Common.{PolygonKey, Ranges, Record, RecordType, SequenceBroken, Type1, Type2, Type4, Type5, Type6, Type7, Type8}
-use Rattle.tl_county.proofs.Common.{TypeI, TypeP, all-in_order, all_among, all_append, all_everywhere, all_joined, all_known, all_map}
-use Rattle.tl_county.proofs.Common.{all_weaker, among-map, among_known, apart_from_no_repeat, apart_from_sorted, as_type, by_type, chain_of}
+use Rattle.tl_county.proofs.Common.{PolygonKey, Record, RecordType, SequenceBroken, Type1, Type2, Type4, Type5, Type6, Type7, Type8, TypeI}
+use Rattle.tl_county.proofs.Common.{TypeP, all-in_order, all_among, all_append, all_everywhere, all_joined, all_known, all_map, all_weaker}
+use Rattle.tl_county.proofs.Common.{among-map, among_known, apart_from_no_repeat, apart_from_sorted, as_type, by_type, chain_of}
 use Rattle.tl_county.proofs.Common.{chain_tlids, chains_of, cons_option, count-map, county_of, differ_apart, distinct, first, five_feat}
 use Rattle.tl_county.proofs.Common.{four_rtsq, four_tlid, further_names, further_ranges, has_repeat, i_tlid, in_order, in_pieces}
 use Rattle.tl_county.proofs.Common.{inner_points, key_cmp, key_keys, key_under, known_all, known_from_distinct, landmark_body_cmp}
@@ -19,21 +19,17 @@ use Rattle.tl_county.proofs.Common.{shape_points, side_keys, six_rtsq, six_tlid,
 use Rattle.tl_layout.specs.Limits.{IsWithinLimit}
 use Rattle.tl_layout.specs.Numbers.{IsNumberOrNone}
 use Rattle.tl_layout.specs.RecordText.{FitsRecord}
-use Rattle.tl_county.specs.Limits.{FitsNumbers}
-use Rattle.tl_county.specs.Limits.{NumbersFit, greatest_rtsq}
-use Rattle.tl_county.specs.declared.fault.SequencedType.TheVariants as sequenced
-use Rattle.ordered_lists.proofs.Lists.Counted.{few_in_groups, hits_once, filter-agree, shorter_pieces, few_numbers}
-use Rattle.tl_county.proofs.Packing.Pieces.{few_pieces}
-use Rattle.ordered_lists.proofs.Lists.Counted.{all_selected}
-use Rattle.tl_county.proofs.Packing.Pieces.{length-numbered_from}
+use Rattle.tl_county.specs.Limits.{FitsNumbers, NumbersFit, greatest_rtsq}
+use Rattle.ordered_lists.proofs.Lists.Counted.{few_in_groups, hits_once, filter-agree, shorter_pieces, few_numbers, all_selected}
+use Rattle.tl_county.proofs.Packing.Pieces.{few_pieces, length-numbered_from}
 use Rattle.tl_county.specs.Laws.TypeCounts.{HasWithin, by_type_within, packed_within}
 use Rattle.ordered_lists.proofs.Lists.Distinct.{apart-distinct}
-use Rattle.tl_county.proofs.Limits.FieldsFit.{Fit, Fit1, Fit2, Fit4, Fit5, Fit6, Fit7, Fit8, FitI, FitP, selected_fit}
-use Rattle.tl_county.proofs.Limits.FieldsFit.{left_cenid_fits, right_cenid_fits}
-use Rattle.tl_county.proofs.Limits.FieldsFit.{polygon_cenid_fits}
+use Rattle.tl_county.proofs.Limits.FieldsFit.{Fit, Fit1, Fit2, Fit4, Fit5, Fit6, Fit7, Fit8, FitI, FitP, selected_fit, left_cenid_fits}
+use Rattle.tl_county.proofs.Limits.FieldsFit.{right_cenid_fits, polygon_cenid_fits}
 use Rattle.ordered_lists.proofs.ByKey.Keys.{differ}
 use Rattle.tl_county.proofs.Rules.LinkedCounty.{chains_all, the_link, tlids-county, county-is_county}
 use Rattle.ordered_lists.proofs.Lists.Elements.{all_filter, flat_map-map}
+use Rattle.tl_county.specs.declared.fault.SequencedType.TheVariants as sequenced
 
 flat_map-one : {X Y : Type 0} (f : X → Y) (xs : List X) → flat_map (λ x. f x ∷ []) xs ≡ map f xs
 flat_map-one f [] = refl
@@ -42,16 +38,13 @@ flat_map-one f (x ∷ xs) = ap (λ ys. f x ∷ ys) (flat_map-one f xs)
 -- a property of each content is a property of the contents joined in the order of their RTSQs
 all_joined_in_order : {X Y : Type 0} (Q : Y → Type 0) (content : X → List Y) (by : X → X → Ordering) (test : X → Bool) (xs : List X)
     → AllByRecursion (λ x. AllByRecursion Q (content x)) xs → AllByRecursion Q (flat_map content (in_order by (filter test xs)))
-all_joined_in_order Q content by test xs a =
-    all_joined Q content (in_order by (filter test xs))
-    (all-in_order (λ x. AllByRecursion Q (content x)) by (filter test xs) (all_filter (λ x. AllByRecursion Q (content x)) test xs a))
+all_joined_in_order Q content by test xs a = search (rules, all_joined, all-in_order, all_filter)
 
 -- contents of at most `width` elements each have at most `width` times as many elements together
 length-joined : {X Y : Type 0} (width : ℕ) (content : X → List Y) (xs : List X) → AllByRecursion (λ x. length (content x) ≤ width) xs
     → length (flat_map content xs) ≤ width * length xs
 length-joined width content [] a = omega arith
-length-joined width content (x ∷ xs) a =
-    omega (arith, length-append (content x) (flat_map content xs), a.0, length-joined width content xs a.1)
+length-joined width content (x ∷ xs) a = search (rules, length-append, length-joined width content xs a.1)
 
 inner_back : (points : List Coordinates) (e : Coordinates) → without_last (points ++ (e ∷ [])) ≡ points
 inner_back [] e = refl
@@ -121,21 +114,10 @@ module _ (records : List Record) (linked : IsLinked records) (fits : AllByRecurs
       (all_weaker Fit6 (λ r. FitsRanges r.ranges) (λ r f. f.ranges) (of_type_6 records) (fit Type6))))
 
   chain_fits : (r : Fields1) (link : FieldsI) → Fit1 r → FitI link → FitsChain (chain_of records r link)
-  chain_fits r link f l = record {
-    body = f.body;
-    points = (f.start, all_append IsOnMap (shape_points records r.tlid) (r.end ∷ []) (shape_points_fit r.tlid) (f.end, tt));
-    ranges = ranges_fit r.tlid;
-    link = l.content;
-  }
+  chain_fits r link f l = search (rules, all_append, shape_points_fit, ranges_fit)
 
   numbers_fit : (r : Fields1) (link : FieldsI) → FitI link → FitsNumbers (chain_of records r link)
-  numbers_fit r link l = record {
-    feats = names_fit r.tlid;
-    start_node = l.start_node;
-    end_node = l.end_node;
-    left = l.left_polyid;
-    right = l.right_polyid;
-  }
+  numbers_fit r link l = search (rules, names_fit)
 
   -- each polygon's key fits
   keys_fit : (key : PolygonKey) → Known key_cmp (flat_map side_keys (of_type_i records) ++ map p_key (of_type_p records)) key
@@ -199,17 +181,9 @@ module _ (records : List Record) (linked : IsLinked records) (fits : AllByRecurs
         (in_order (on five_feat nat_cmp) (of_type_5 records))
         (all-in_order (λ r. FitsNameBody r.body) (on five_feat nat_cmp) (of_type_5 records)
         (all_weaker Fit5 (λ r. FitsNameBody r.body) (λ r f. f.body) (of_type_5 records) (fit Type5)));
-    cenids = all_map (λ (entry : PolygonKey × Option BodyP). IsText 5 entry.0.0) (λ key. (key, polygon_body records key))
-        (distinct key_cmp keys)
-        (all_weaker (λ key. IsText 5 key.0 × IsNumber 10 key.1) (λ key. IsText 5 key.0) (λ key f. f.0)
-        (distinct key_cmp keys) all_keys_fit);
-    polygons = all_map (λ (entry : PolygonKey × Option BodyP). IfSome entry.1 (FitsPolygon entry.0.0))
-        (λ key. (key, polygon_body records key)) (distinct key_cmp keys)
-        (all_everywhere (λ key. IfSome (polygon_body records key) (FitsPolygon key.0)) polygon_body_fits (distinct key_cmp keys));
-    landmarks = all_map (λ (entry : ℕ × List Body7). AllByRecursion FitsLandmark entry.1) landmark_at
-        (distinct nat_cmp (map seven_land (of_type_7 records)))
-        (all_everywhere (λ land. AllByRecursion FitsLandmark (landmark_at land).1) bodies_fit
-        (distinct nat_cmp (map seven_land (of_type_7 records))));
+    cenids = search (rules, all_map, all_weaker, all_keys_fit);
+    polygons = search (rules, all_map, all_everywhere, polygon_body_fits);
+    landmarks = search (rules, all_map, all_everywhere, bodies_fit);
     links = all-in_order FitsLink link_cmp (of_type_8 records)
         (all_weaker Fit8 FitsLink (λ link f. record { file = f.file; cenid = f.cenid }) (of_type_8 records) (fit Type8));
   }
@@ -222,13 +196,8 @@ module _ (records : List Record) (linked : IsLinked records) (fits : AllByRecurs
         (in_order (on five_feat nat_cmp) (of_type_5 records))
         (all-in_order (λ r. IsNumber 8 r.feat) (on five_feat nat_cmp) (of_type_5 records)
         (all_weaker Fit5 (λ r. IsNumber 8 r.feat) (λ r f. f.feat) (of_type_5 records) (fit Type5)));
-    polygons = all_map (λ (entry : PolygonKey × Option BodyP). IsNumber 10 entry.0.1) (λ key. (key, polygon_body records key))
-        (distinct key_cmp keys)
-        (all_weaker (λ key. IsText 5 key.0 × IsNumber 10 key.1) (λ key. IsNumber 10 key.1) (λ key f. f.1)
-        (distinct key_cmp keys) all_keys_fit);
-    landmarks = all_map (λ (entry : ℕ × List Body7). IsNumber 10 entry.0) landmark_at
-        (distinct nat_cmp (map seven_land (of_type_7 records)))
-        (all_known nat_keys (IsNumber 10) (distinct nat_cmp (map seven_land (of_type_7 records))) land_fits);
+    polygons = search (rules, all_map, all_weaker, all_keys_fit);
+    landmarks = search (rules, all_map, all_known, nat_keys, land_fits);
     link_polygons = all-in_order (λ link. IsNumber 10 link.polyid) link_cmp (of_type_8 records)
         (all_weaker Fit8 (λ link. IsNumber 10 link.polyid) (λ link f. f.polyid) (of_type_8 records) (fit Type8));
     link_lands = all-in_order (λ link. IsNumber 10 link.land) link_cmp (of_type_8 records)
@@ -240,12 +209,8 @@ module _ (records : List Record) (linked : IsLinked records) (fits : AllByRecurs
       → has_repeat nat_cmp (map rtsq (of_number tlid n xs)) ≡ false → length (of_number tlid n xs) ≤ greatest_rtsq
   few_records {X} tlid rtsq n xs a e =
       let bounds : AllByRecursion (λ k. (1 ≤ k) × (k < 1000)) (map rtsq (of_number tlid n xs)) =
-      all_map (λ k. (1 ≤ k) × (k < 1000)) rtsq (of_number tlid n xs)
-      (all_filter (λ x. (1 ≤ rtsq x) × (rtsq x < 1000)) (λ x. tlid x == n) xs
-      (all_weaker (λ x. IsNumber 3 (rtsq x)) (λ x. (1 ≤ rtsq x) × (rtsq x < 1000))
-      (λ x h. ((let low : 0 < rtsq x = h.0 in omega arith), h.1)) xs a)) in
-      let few : length (map rtsq (of_number tlid n xs)) ≤ 1000 - 1 =
-      few_numbers 1 1000 (map rtsq (of_number tlid n xs)) (apart_from_no_repeat nat_keys (map rtsq (of_number tlid n xs)) e) bounds in
+      search (rules, all_map, all_filter, all_weaker) in
+      let few : length (map rtsq (of_number tlid n xs)) ≤ 1000 - 1 = search (rules, few_numbers, apart_from_no_repeat, nat_keys) in
       let mapped : length (map rtsq (of_number tlid n xs)) ≡ length (of_number tlid n xs) = length-map (of_number tlid n xs) rtsq in
       omega arith
 
@@ -265,12 +230,7 @@ module _ (records : List Record) (linked : IsLinked records) (fits : AllByRecurs
   held : {X Y : Type 0} (width : ℕ) (tlid rtsq : X → ℕ) (content : X → List Y) (n : ℕ) (xs : List X)
       → AllByRecursion (λ x. length (content x) ≤ width) xs
       → length (flat_map content (in_order (on rtsq nat_cmp) (of_number tlid n xs))) ≤ width * length (of_number tlid n xs)
-  held width tlid rtsq content n xs a =
-      subst (λ k. length (flat_map content (in_order (on rtsq nat_cmp) (of_number tlid n xs))) ≤ width * k)
-      (length-in_order (on rtsq nat_cmp) (of_number tlid n xs))
-      (length-joined width content (in_order (on rtsq nat_cmp) (of_number tlid n xs))
-      (all-in_order (λ x. length (content x) ≤ width) (on rtsq nat_cmp) (of_number tlid n xs)
-      (all_filter (λ x. length (content x) ≤ width) (λ x. tlid x == n) xs a)))
+  held width tlid rtsq content n xs a = search (rules, length-in_order, length-joined, all-in_order, all_filter)
 
   points_held : (n : ℕ) → length (shape_points records n) ≤ 10 * length (of_number two_tlid n (of_type_2 records))
   points_held n = held 10 two_tlid two_rtsq (λ (r : Fields2). r.points) n (of_type_2 records)
@@ -281,21 +241,18 @@ module _ (records : List Record) (linked : IsLinked records) (fits : AllByRecurs
       (all_weaker Fit4 (λ r. length r.feats ≤ 5) (λ r f. f.len) (of_type_4 records) (fit Type4))
 
   ranges_held : (n : ℕ) → length (further_ranges records n) ≡ length (of_number six_tlid n (of_type_6 records))
-  ranges_held n = length-map (in_order (on six_rtsq nat_cmp) (of_number six_tlid n (of_type_6 records))) (λ (r : Fields6). r.ranges)
-      ∙ length-in_order (on six_rtsq nat_cmp) (of_number six_tlid n (of_type_6 records))
+  ranges_held n = search (rules, length-map, length-in_order)
 
   inner_held : (r : Fields1) → length (inner_points (r.start ∷ (shape_points records r.tlid ++ (r.end ∷ [])))) ≤ 10 * length
       (of_number two_tlid r.tlid (of_type_2 records))
-  inner_held r = subst (λ points. length points ≤ 10 * length (of_number two_tlid r.tlid (of_type_2 records)))
-      (sym (inner_back (shape_points records r.tlid) r.end)) (points_held r.tlid)
+  inner_held r = search (rules, inner_back, points_held)
 
   lists : AllByRecursion (λ entry. ListsFit entry.1) (chains_of records)
   lists = all_chains (λ entry. ListsFit entry.1) (λ r link f l. record {
-    points = (let held : length (inner_points (r.start ∷ (shape_points records r.tlid ++ (r.end ∷ [])))) ≤ 10 * length
-        (of_number two_tlid r.tlid (of_type_2 records)) = inner_held r in
-        let few : length (of_number two_tlid r.tlid (of_type_2 records)) ≤ 999 = few_twos r.tlid in omega arith);
+    points = search (rules, held, inner_held, few_twos);
     feats = (let held : length (further_names records r.tlid) ≤ 5 * length (of_number four_tlid r.tlid (of_type_4 records)) =
-        feats_held r.tlid in let few : length (of_number four_tlid r.tlid (of_type_4 records)) ≤ 999 = few_fours r.tlid in omega arith);
+        search (rules, feats_held) in let few : length (of_number four_tlid r.tlid (of_type_4 records)) ≤ 999 = few_fours r.tlid in
+        omega arith);
     ranges = subst (λ n. n ≤ greatest_rtsq) (sym (ranges_held r.tlid)) (few_sixes r.tlid);
   })
 
@@ -310,18 +267,13 @@ module _ (records : List Record) (linked : IsLinked records) (fits : AllByRecurs
       (hits_once tlid (tlids (county_of records))
       (apart_from_sorted nat_keys (tlids (county_of records)) (county-is_county records linked).ascending.chains) x)) xs in
       let one_by_one : length (flat_map pack (chains_of records)) ≤ length
-      (flat_map (λ (entry : ℕ × Chain). of_number tlid entry.0 xs) (chains_of records)) =
-      shorter_pieces pack (λ (entry : ℕ × Chain). of_number tlid entry.0 xs) (chains_of records) a in
+      (flat_map (λ (entry : ℕ × Chain). of_number tlid entry.0 xs) (chains_of records)) = search (rules, shorter_pieces) in
       omega arith
 
   -- a list cut into pieces with RTSQs needs at most as many records as hold it
   few_in_pieces : {X Y : Type 0} (width count : ℕ) (make : ℕ × List X → Y) (xs : List X) → length xs ≤ width * count
       → length (map make (numbered_from 1 (in_pieces width xs))) ≤ count
-  few_in_pieces width count make xs h =
-      let few : length (in_pieces width xs) ≤ count = few_pieces width count (length xs) xs h in
-      let same : length (map make (numbered_from 1 (in_pieces width xs))) ≡ length (in_pieces width xs) =
-      length-map (numbered_from 1 (in_pieces width xs)) make ∙ length-numbered_from 1 (in_pieces width xs) in
-      omega arith
+  few_in_pieces width count make xs h = search (rules, few_pieces, length-map, length-numbered_from)
 
   chain_count : length (chains_of records) ≡ length (of_type_1 records)
   chain_count = sym (length-map (chains_of records) (λ (entry : ℕ × Chain). entry.0)) ∙ ap length (tlids-county records linked)
@@ -331,39 +283,24 @@ module _ (records : List Record) (linked : IsLinked records) (fits : AllByRecurs
   few_sevens =
       let lands : List ℕ = distinct nat_cmp (map seven_land (of_type_7 records)) in
       let groups : length (flat_map (λ land. of_number seven_land land (of_type_7 records)) lands) ≤ length (of_type_7 records) =
-      few_in_groups (λ land r. seven_land r == land) lands
-      (hits_once seven_land lands (apart-distinct nat_keys (map seven_land (of_type_7 records)))) (of_type_7 records) in
+      search (rules, few_in_groups, hits_once, apart-distinct, nat_keys) in
       let packs : flat_map packed_sevens (map landmark_at lands) ≡ flat_map (λ land. packed_sevens (landmark_at land)) lands =
-      flat_map-map packed_sevens landmark_at lands in
+      search (rules, flat_map-map) in
       let one_by_one : length (flat_map (λ land. packed_sevens (landmark_at land)) lands) ≤ length
       (flat_map (λ land. of_number seven_land land (of_type_7 records)) lands) =
-      shorter_pieces (λ land. packed_sevens (landmark_at land)) (λ land. of_number seven_land land (of_type_7 records)) lands
-      (all_everywhere (λ land. length (packed_sevens (landmark_at land)) ≤ length (of_number seven_land land (of_type_7 records)))
-      (λ land. let same : length (packed_sevens (landmark_at land)) ≡ length (of_number seven_land land (of_type_7 records)) =
-      length-map (landmark_at land).1 (λ body. record { land = land; body = body })
-      ∙ length-in_order landmark_body_cmp (map (λ (r : Fields7). r.body) (of_number seven_land land (of_type_7 records)))
-      ∙ length-map (of_number seven_land land (of_type_7 records)) (λ (r : Fields7). r.body) in omega arith) lands) in
+      search (rules, shorter_pieces, all_everywhere, length-map, length-in_order) in
       omega (arith, groups, one_by_one, ap length packs)
 
   few_bodies : (found : List PolygonKey) → length (filter_map packed_p (map (λ key. (key, polygon_body records key)) found)) ≤ length
       (flat_map (λ key. filter (λ r. is_eq (key_cmp key (p_key r))) (of_type_p records)) found)
   few_bodies [] = omega arith
-  few_bodies (key ∷ found) =
-      let own : List FieldsP = filter (λ r. is_eq (key_cmp key (p_key r))) (of_type_p records) in
-      let others : List FieldsP = flat_map (λ key. filter (λ r. is_eq (key_cmp key (p_key r))) (of_type_p records)) found in
-      let few : length (cons_option (packed_body key (first (map (λ (r : FieldsP). r.body) own)))
-      (filter_map packed_p (map (λ key. (key, polygon_body records key)) found))) ≤ length
-      (map (λ (r : FieldsP). r.body) own) + length others =
-      few_packed key (map (λ (r : FieldsP). r.body) own) (filter_map packed_p (map (λ key. (key, polygon_body records key)) found))
-      (length others) (few_bodies found) in
-      omega (arith, few, length-map own (λ (r : FieldsP). r.body), length-append own others)
+  few_bodies (key ∷ found) = search (rules, few_packed, length-map, length-append, few_bodies found)
 
   few_ps : length (filter_map packed_p (county_of records).polygons) ≤ length (of_type_p records)
   few_ps =
       let found : List PolygonKey = distinct key_cmp keys in
       let groups : length (flat_map (λ key. filter (λ r. is_eq (key_cmp key (p_key r))) (of_type_p records)) found) ≤ length
-      (of_type_p records) =
-      few_in_groups (λ key r. is_eq (key_cmp key (p_key r))) found (once found (apart-distinct key_keys keys)) (of_type_p records) in
+      (of_type_p records) = search (rules, few_in_groups, once, apart-distinct, key_keys) in
       let packs : length (filter_map packed_p (map (λ key. (key, polygon_body records key)) found)) ≤ length
       (flat_map (λ key. filter (λ r. is_eq (key_cmp key (p_key r))) (of_type_p records)) found) = few_bodies found in
       omega arith
@@ -378,7 +315,7 @@ module _ (records : List Record) (linked : IsLinked records) (fits : AllByRecurs
   pub county_counts : (limits : ℕ → ℕ) → HasWithin limits (by_type records) → HasWithin limits (packed_by_type (county_of records))
   county_counts limits h = record {
     of_type_1 = (let same : length (map packed_one (chains_of records)) ≡ length (of_type_1 records) =
-        length-map (chains_of records) packed_one ∙ chain_count in let few : length (of_type_1 records) ≤ limits 49 = h.of_type_1 in
+        search (rules, length-map, chain_count) in let few : length (of_type_1 records) ≤ limits 49 = h.of_type_1 in
         omega arith);
     of_type_2 = (let few : length (of_type_2 records) ≤ limits 50 = h.of_type_2 in
         let own : length (flat_map packed_twos (chains_of records)) ≤ length (of_type_2 records) =
@@ -396,42 +333,30 @@ module _ (records : List Record) (linked : IsLinked records) (fits : AllByRecurs
         omega arith);
     of_type_5 = (let few : length (of_type_5 records) ≤ limits 53 = h.of_type_5 in
         let same : length (map packed_five (county_of records).names) ≡ length (of_type_5 records) =
-        length-map (county_of records).names packed_five
-        ∙ length-map (in_order (on five_feat nat_cmp) (of_type_5 records)) (λ (r : Fields5). (r.feat, r.body))
-        ∙ length-in_order (on five_feat nat_cmp) (of_type_5 records) in omega arith);
+        search (rules, length-map, length-in_order) in omega arith);
     of_type_6 = (let few : length (of_type_6 records) ≤ limits 54 = h.of_type_6 in
         let own : length (flat_map packed_sixes (chains_of records)) ≤ length (of_type_6 records) =
         few_of_chains six_tlid packed_sixes (of_type_6 records)
         (all_chains (λ entry. length (packed_sixes entry) ≤ length (of_number six_tlid entry.0 (of_type_6 records)))
         (λ r link f l. let same : length (packed_sixes (r.tlid, chain_of records r link)) ≡ length
-        (of_number six_tlid r.tlid (of_type_6 records)) =
-        length-map (numbered_from 1 (further_ranges records r.tlid))
-        (λ (piece : ℕ × Ranges). record { tlid = r.tlid; rtsq = piece.0; ranges = piece.1 })
-        ∙ length-numbered_from 1 (further_ranges records r.tlid) ∙ ranges_held r.tlid in omega arith)) in omega arith);
+        (of_number six_tlid r.tlid (of_type_6 records)) = search (rules, length-map, length-numbered_from, ranges_held) in omega arith)) in
+        omega arith);
     of_type_7 = (let few : length (of_type_7 records) ≤ limits 55 = h.of_type_7 in
         let own : length (flat_map packed_sevens (county_of records).landmarks) ≤ length (of_type_7 records) = few_sevens in omega arith);
     of_type_8 = (let few : length (of_type_8 records) ≤ limits 56 = h.of_type_8 in
-        let same : length (in_order link_cmp (of_type_8 records)) ≡ length (of_type_8 records) =
-        length-in_order link_cmp (of_type_8 records) in omega arith);
+        let same : length (in_order link_cmp (of_type_8 records)) ≡ length (of_type_8 records) = search (rules, length-in_order) in
+        omega arith);
     of_type_i = (let few : length (of_type_i records) ≤ limits 73 = h.of_type_i in
         let own : length (flat_map (λ entry. packed_i entry ∷ []) (chains_of records)) ≤ length (of_type_i records) =
         few_of_chains i_tlid (λ entry. packed_i entry ∷ []) (of_type_i records)
         linked_once in
         let same : length (flat_map (λ entry. packed_i entry ∷ []) (chains_of records)) ≡ length (map packed_i (chains_of records)) =
-        ap length (flat_map-one packed_i (chains_of records)) in omega arith);
+        search (rules, flat_map-one) in omega arith);
     of_type_p = (let few : length (of_type_p records) ≤ limits 80 = h.of_type_p in
         let own : length (filter_map packed_p (county_of records).polygons) ≤ length (of_type_p records) = few_ps in
         let same : length (in_order (on p_polyid nat_cmp) (filter_map packed_p (county_of records).polygons)) ≡ length
-        (filter_map packed_p (county_of records).polygons) =
-        length-in_order (on p_polyid nat_cmp) (filter_map packed_p (county_of records).polygons) in omega arith);
+        (filter_map packed_p (county_of records).polygons) = search (rules, length-in_order) in omega arith);
   }
 
   pub county-within_limits : (limit : ℕ) → IsWithinLimit limit records → IsWithinLimits limit (county_of records)
-  county-within_limits limit h =
-      record {
-        contents = contents;
-        numbers = numbers;
-        lists = lists;
-        counts =
-            packed_within limit (county_of records) (county_counts (λ _. limit) (by_type_within limit records h));
-      }
+  county-within_limits limit h = search (rules, contents, numbers, lists, packed_within, county_counts, by_type_within)

@@ -1,17 +1,15 @@
 -- A whole county whose contents and numbers fit, and whose chains' lists fit into their records, is packed into records that fit.
-use Rattle.std.proofs.Common.{◌≡◌, ◌+◌, ◌*◌, ◌<◌, ◌≤◌, ℕ, List, [], ◌∷◌, map, flat_map, filter_map, length, Option, Some}
-use Rattle.std.proofs.Common.{None, IfSome, arith, nat_cmp, subst}
+use Rattle.std.proofs.Common.{rules, ◌≡◌, ◌+◌, ◌*◌, ◌<◌, ◌≤◌, ℕ, List, [], ◌∷◌, map, flat_map, filter_map, length, Option, Some, None}
+use Rattle.std.proofs.Common.{IfSome, arith, nat_cmp}
 use Rattle.tl_county.proofs.Common.{AllByRecursion, Body5, Body7, BodyP, Chain, ContentsFit, Coordinates, County, Fields8, FieldsP}
-use Rattle.tl_county.proofs.Common.{FitsChain, FitsLandmark, FitsLink, FitsNameBody, FitsPolygon, FitsRanges, IsNumber, IsOnMap, IsWhole}
-use Rattle.tl_county.proofs.Common.{ListsFit, PolygonKey, Ranges, Record, RecordType, Type1, Type2, Type4, Type5, Type6, Type7, Type8}
-use Rattle.tl_county.proofs.Common.{TypeI, TypeP, all-in_order, all_append, all_joined, all_map, all_weaker, in_order, in_pieces}
-use Rattle.tl_county.proofs.Common.{inner_points, numbered_from, on, p_polyid, packed, packed_body, packed_by_type, packed_five}
-use Rattle.tl_county.proofs.Common.{packed_fours, packed_i, packed_one, packed_p, packed_sevens, packed_sixes, packed_twos, record_of}
-use Rattle.tl_county.proofs.Common.{without_last}
+use Rattle.tl_county.proofs.Common.{FitsChain, FitsLandmark, FitsLink, FitsNameBody, FitsPolygon, IsNumber, IsOnMap, IsWhole, ListsFit}
+use Rattle.tl_county.proofs.Common.{PolygonKey, Record, RecordType, Type1, Type2, Type4, Type5, Type6, Type7, Type8, TypeI, TypeP}
+use Rattle.tl_county.proofs.Common.{all-in_order, all_append, all_joined, all_map, all_weaker, in_order, in_pieces, inner_points}
+use Rattle.tl_county.proofs.Common.{numbered_from, on, p_polyid, packed, packed_body, packed_by_type, packed_five, packed_fours, packed_i}
+use Rattle.tl_county.proofs.Common.{packed_one, packed_p, packed_sevens, packed_sixes, packed_twos, record_of, without_last}
 use Rattle.tl_layout.specs.RecordText.{FitsRecord}
 use Rattle.tl_layout.specs.RecordTypes.{ListsByType, listed_by_type, later_types}
-use Rattle.tl_county.specs.Limits.{FitsNumbers}
-use Rattle.tl_county.specs.Limits.{NumbersFit, greatest_rtsq}
+use Rattle.tl_county.specs.Limits.{FitsNumbers, NumbersFit, greatest_rtsq}
 use Rattle.tl_county.specs.Packing.{first_point, last_point}
 use Rattle.tl_county.proofs.Packing.Pieces.{few_pieces, short_pieces, all_in_pieces, all_numbered_from}
 use Rattle.ordered_lists.proofs.Lists.Counted.{all_selected}
@@ -23,8 +21,7 @@ use Rattle.ordered_lists.proofs.Lists.Elements.{all_both}
 all_by_type : (P : Record → Type 0) (lists : ListsByType) (t : RecordType) (us : List RecordType)
     → ((u : RecordType) → AllByRecursion (λ fields. P (record_of u fields)) (lists u)) → AllByRecursion P (listed_by_type lists t us)
 all_by_type P lists t [] all = all_map P (record_of t) (lists t) (all t)
-all_by_type P lists t (u ∷ us) all = all_append P (map (record_of t) (lists t)) (listed_by_type lists u us)
-    (all_map P (record_of t) (lists t) (all t)) (all_by_type P lists u us all)
+all_by_type P lists t (u ∷ us) all = search (rules, all_append, all_map, all_by_type P lists u us all)
 
 first_holds : (Q : Coordinates → Type 0) (points : List Coordinates) → 1 ≤ length points → AllByRecursion Q points → Q (first_point points)
 first_holds Q [] h a = absurd (omega (arith, h))
@@ -73,53 +70,23 @@ module _ {X Y : Type 0} (width : ℕ) (P : X → Type 0) (make : ℕ × List X �
       (all_in_pieces P width (length xs) xs a))))
 
 twos_fit : (entry : ℕ × Chain) → IsNumber 10 entry.0 → FitsChain entry.1 → ListsFit entry.1 → AllByRecursion Fit2 (packed_twos entry)
-twos_fit entry n f lists =
-    pieces_fit 10 IsOnMap (λ piece. record { tlid = entry.0; rtsq = piece.0; points = piece.1 }) Fit2
-    (λ rtsq piece r few a. record { tlid = n; rtsq = r; len = few; points = a }) (inner_points entry.1.points) lists.points
-    (all_inner IsOnMap entry.1.points f.points)
+twos_fit entry n f lists = search (rules, pieces_fit, all_inner)
 
 fours_fit : (entry : ℕ × Chain) → IsNumber 10 entry.0 → FitsNumbers entry.1 → ListsFit entry.1 → AllByRecursion Fit4 (packed_fours entry)
-fours_fit entry n f lists =
-    pieces_fit 5 (IsNumber 8) (λ piece. record { tlid = entry.0; rtsq = piece.0; feats = piece.1 }) Fit4
-    (λ rtsq piece r few a. record { tlid = n; rtsq = r; len = few; feats = a }) entry.1.feats lists.feats f.feats
+fours_fit entry n f lists = search (rules, pieces_fit)
 
 sixes_fit : (entry : ℕ × Chain) → IsNumber 10 entry.0 → FitsChain entry.1 → ListsFit entry.1 → AllByRecursion Fit6 (packed_sixes entry)
-sixes_fit entry n f lists =
-    all_map Fit6 (λ (piece : ℕ × Ranges). record { tlid = entry.0; rtsq = piece.0; ranges = piece.1 }) (numbered_from 1 entry.1.ranges)
-    (all_weaker (λ (piece : ℕ × Ranges). (1 ≤ piece.0) × ((piece.0 < 1 + length entry.1.ranges) × FitsRanges piece.1))
-    (λ piece. Fit6 (record { tlid = entry.0; rtsq = piece.0; ranges = piece.1 }))
-    (λ piece h. record {
-      tlid = n;
-      rtsq = (
-        (let low : 1 ≤ piece.0 = h.0 in omega arith),
-        (let high : piece.0 < 1 + length entry.1.ranges = h.1.0 in let few : length entry.1.ranges ≤ 999 = lists.ranges in omega arith),
-      );
-      ranges = h.1.1;
-    })
-    (numbered_from 1 entry.1.ranges) (all_numbered_from FitsRanges 1 entry.1.ranges f.ranges))
+sixes_fit entry n f lists = search (rules, all_map, all_weaker, all_numbered_from)
 
 i_fits : (entry : ℕ × Chain) → IsNumber 10 entry.0 → FitsChain entry.1 → FitsNumbers entry.1 → FitI (packed_i entry)
-i_fits entry n f m = record {
-  tlid = n;
-  start_node = m.start_node;
-  end_node = m.end_node;
-  left_polyid = m.left;
-  right_polyid = m.right;
-  content = f.link;
-}
+i_fits entry n f m = search rules
 
 abbrev FitsEntry : PolygonKey × Option BodyP → Type 0
 FitsEntry entry = IfSome entry.1 (FitsPolygon entry.0.0) × IsNumber 10 entry.0.1
 
 p_fits : (key : PolygonKey) (body : Option BodyP) (r : FieldsP) → packed_body key body ≡ Some r → FitsEntry (key, body) → FitP r
 p_fits key None r e f = cc
-p_fits key (Some body) r e f =
-    let same : record { cenid = key.0; polyid = key.1; body = body } ≡ r =
-    some_same (record { cenid = key.0; polyid = key.1; body = body }) r e in
-    subst FitP same (record { polyid = f.1; body = f.0 })
-  where
-    some_same : (x y : FieldsP) → Some x ≡ Some y → x ≡ y
-    some_same x y e = cc
+p_fits key (Some body) r e f = search rules
 
 -- the known facts about each chain of such a county
 abbrev IsFitEntry : ℕ × Chain → Type 0
@@ -138,8 +105,7 @@ module _ (county : County) (whole : IsWhole county) (contents : ContentsFit coun
   -- records of chains fit if those of each chain do
   each_chain : {Y : Type 0} (Fits : Y → Type 0) (pack : ℕ × Chain → List Y)
       → ((entry : ℕ × Chain) → IsFitEntry entry → AllByRecursion Fits (pack entry)) → AllByRecursion Fits (flat_map pack county.chains)
-  each_chain Fits pack h =
-      all_joined Fits pack county.chains (all_weaker IsFitEntry (λ entry. AllByRecursion Fits (pack entry)) h county.chains fit_entries)
+  each_chain Fits pack h = search (rules, all_joined, all_weaker, fit_entries)
 
   sevens_fit : AllByRecursion Fit7 (flat_map packed_sevens county.landmarks)
   sevens_fit = all_joined Fit7 packed_sevens county.landmarks
@@ -177,8 +143,7 @@ module _ (county : County) (whole : IsWhole county) (contents : ContentsFit coun
   fit Type6 = each_chain Fit6 packed_sixes (λ entry h. sixes_fit entry h.1.0 h.1.1.0 h.1.1.1.1)
   fit Type7 = sevens_fit
   fit Type8 = eights_fit
-  fit TypeI = all_map FitI packed_i county.chains (all_weaker IsFitEntry (λ entry. FitI (packed_i entry))
-      (λ entry h. i_fits entry h.1.0 h.1.1.0 h.1.1.1.0) county.chains fit_entries)
+  fit TypeI = search (rules, all_map, all_weaker, i_fits, fit_entries)
   fit TypeP = ps_fit
 
   pub packed-fits : AllByRecursion FitsRecord (packed county)

@@ -1,6 +1,6 @@
 -- Two lists compared from a place on.
-use Rattle.std.proofs.Common.{◌≡◌, ◌<◌, ◌≤◌, ◌+◌, ◌⊎◌, inl, inr, ℕ, zero, suc, List, [], ◌∷◌, length, drop, slice_get, Some, Ordering, Less, Equal, Greater}
-use Rattle.std.proofs.Common.{refl, sym, ap, ◌∙◌, add-one, arith, nat_cmp}
+use Rattle.std.proofs.Common.{rules, ◌≡◌, ◌<◌, ◌≤◌, ◌+◌, ◌⊎◌, inl, inr, ℕ, zero, suc, List, [], ◌∷◌, length, drop, slice_get, Some}
+use Rattle.std.proofs.Common.{Ordering, Less, Equal, Greater, refl, sym, ap, ◌∙◌, add-one, arith, nat_cmp}
 use Rattle.tl_county.proofs.Common.{ordering_then, slice_cmp}
 use Rattle.std.specs.Cmp.{nat_cmp_is}
 use Rattle.std.specs.Ordering.{MatchOrdering}
@@ -16,10 +16,7 @@ module _ {X : Type 0} (cmp : X → X → Ordering) where
       → slice_cmp cmp (drop i xs) (drop i ys) ≡ ordering_then (cmp x y) (slice_cmp cmp (drop (suc i) xs) (drop (suc i) ys))
   from_place [] ys i x y e f = cc
   from_place (a ∷ xs) [] i x y e f = cc
-  from_place (a ∷ xs) (b ∷ ys) zero x y e f =
-      let first : x ≡ a = cc in
-      let second : y ≡ b = cc in
-      λ j. ordering_then (cmp (sym first j) (sym second j)) (slice_cmp cmp xs ys)
+  from_place (a ∷ xs) (b ∷ ys) zero x y e f = search rules
   from_place (a ∷ xs) (b ∷ ys) (suc i) x y e f = from_place xs ys i x y e f
 
   module _ (xs ys : List X) (i : ℕ) (x y : X) (o all : Ordering) (here : Some x ≡ slice_get xs i) (there : Some y ≡ slice_get ys i)

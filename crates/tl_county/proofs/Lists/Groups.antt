@@ -1,6 +1,6 @@
 -- Groups of records with one number, taken in turn from records in the order of their numbers.
-use Rattle.std.proofs.Common.{◌≡◌, ◌==◌, ℕ, List, [], ◌∷◌, ◌++◌, map, filter, Less, is_eq, is_gt, sym, refl, ap, ◌∙◌, subst}
-use Rattle.std.proofs.Common.{nat_cmp, Option}
+use Rattle.std.proofs.Common.{rules, ◌≡◌, ◌==◌, ℕ, List, [], ◌∷◌, ◌++◌, map, filter, Less, is_eq, is_gt, sym, refl, ap, ◌∙◌, subst, nat_cmp}
+use Rattle.std.proofs.Common.{Option}
 use Rattle.tl_county.proofs.Common.{AllByRecursion, Body7, BodyP, Chain, Fields1, Fields2, Fields4, Fields6, Fields7, Fields8, FieldsI}
 use Rattle.tl_county.proofs.Common.{FieldsP, LandmarkParts, PolygonKey, chains_along, eight_land, first, four_tlid, key_cmp, key_keys}
 use Rattle.tl_county.proofs.Common.{landmark_of, later_than, nat_keys, of_number, one_tlid, p_key, polygon_body_of, seven_land, six_tlid}
@@ -28,19 +28,13 @@ pub chains_along-later : (n : ℕ) (twos : List Fields2) (fours : List Fields4) 
 chains_along-later n twos fours sixes [] links h = refl
 chains_along-later n twos fours sixes (r ∷ rs) [] h = refl
 chains_along-later n twos fours sixes (r ∷ rs) (link ∷ links) h =
-    λ i. chain_with r link (number-later two_tlid n r.tlid h.0 twos i) (number-later four_tlid n r.tlid h.0 fours i)
-    (number-later six_tlid n r.tlid h.0 sixes i) ∷ chains_along-later n twos fours sixes rs links h.1 i
+    search (rules, number-later, chains_along-later n twos fours sixes rs links h.1)
 
 pub landmarks-later : (n : ℕ) (sevens : List Fields7) (eights : List Fields8) (lands : List ℕ)
     → AllByRecursion (λ m. nat_cmp n m ≡ Less) lands
     → map (landmark_of (later_than seven_land n sevens) (later_than eight_land n eights)) lands ≡ map (landmark_of sevens eights) lands
 landmarks-later n sevens eights [] h = refl
-landmarks-later n sevens eights (land ∷ lands) h =
-    λ i. record {
-      bodies = map (λ (r : Fields7). r.body) (number-later seven_land n land h.0 sevens i);
-      links =
-          number-later eight_land n land h.0 eights i;
-    } ∷ landmarks-later n sevens eights lands h.1 i
+landmarks-later n sevens eights (land ∷ lands) h = search (rules, number-later, landmarks-later n sevens eights lands h.1)
 
 pub polygons-later : (key : PolygonKey) (points : List FieldsP) (keys : List PolygonKey) → AllByRecursion (λ j. key_cmp key j ≡ Less) keys
     → map (polygon_body_of (filter (λ r. is_gt (key_cmp (p_key r) key)) points)) keys ≡ map (polygon_body_of points) keys
@@ -57,11 +51,7 @@ pub chain-of_groups : (head : Fields1) (link : FieldsI) (twos shape : List Field
     → ranged ≡ filter (λ x. is_eq (nat_cmp (six_tlid x) tlid)) sixes
     → chain_with head link shape named ranged
     ≡ chain_with head link (of_number two_tlid head.tlid twos) (of_number four_tlid head.tlid fours) (of_number six_tlid head.tlid sixes)
-chain-of_groups head link twos shape fours named sixes ranged tlid e shape_is named_is ranged_is =
-    λ i. chain_with head link
-    ((shape_is ∙ group-of_number two_tlid tlid twos ∙ ap (λ n. of_number two_tlid n twos) e) i)
-    ((named_is ∙ group-of_number four_tlid tlid fours ∙ ap (λ n. of_number four_tlid n fours) e) i)
-    ((ranged_is ∙ group-of_number six_tlid tlid sixes ∙ ap (λ n. of_number six_tlid n sixes) e) i)
+chain-of_groups head link twos shape fours named sixes ranged tlid e shape_is named_is ranged_is = search (rules, group-of_number)
 
 -- one more chain is built
 module _ (done whole : List Chain) (head : Fields1) (later heads : List Fields1) (link : FieldsI) (others links : List FieldsI)
@@ -75,16 +65,7 @@ module _ (done whole : List Chain) (head : Fields1) (later heads : List Fields1)
       → done ++ chains_along twos fours sixes heads links ≡ whole
       → (done ++ (chain_of_head ∷ [])) ++ chains_along (later_than two_tlid head.tlid twos) (later_than four_tlid head.tlid fours)
       (later_than six_tlid head.tlid sixes) later others ≡ whole
-  chains-step heads_are links_are ascending before =
-      one_done done chain_of_head chain_of_head
-      (chains_along twos fours sixes later others)
-      (chains_along (later_than two_tlid head.tlid twos) (later_than four_tlid head.tlid fours)
-      (later_than six_tlid head.tlid sixes) later others) whole
-      ((λ i. done ++ chains_along twos fours sixes (sym heads_are i) (sym links_are i)) ∙ before)
-      refl
-      (chains_along-later head.tlid twos fours sixes later others
-      (strict_head nat_cmp head.tlid (map one_tlid later)
-      (subst (λ l. IsStrictlySortedBy nat_cmp (map one_tlid l)) heads_are ascending)))
+  chains-step heads_are links_are ascending before = search (rules, one_done, later_than, chains_along-later, strict_head)
 
 -- one more landmark is built
 pub landmarks-step : (done whole : List LandmarkParts) (land : ℕ) (later lands : List ℕ) (sevens group : List Fields7)

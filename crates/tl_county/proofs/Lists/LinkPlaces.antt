@@ -1,6 +1,6 @@
 -- The links of the landmark at a place, or past the end.
-use Rattle.std.proofs.Common.{◌≡◌, ℕ, List, [], ◌∷◌, length, true, false, cond, IsTrue, Option, Some, None, IfSome, is_some}
-use Rattle.std.proofs.Common.{slice_get, unwrap_or, nat_cmp, refl, sym, ap, ◌∙◌, subst, arith}
+use Rattle.std.proofs.Common.{rules, ◌≡◌, ℕ, List, [], ◌∷◌, length, false, IsTrue, Option, Some, None, IfSome, is_some, slice_get}
+use Rattle.std.proofs.Common.{unwrap_or, nat_cmp, refl, ap}
 use Rattle.tl_county.proofs.Common.{AllByRecursion, Fields8, eight_land, false≢true, links_with, ne_eqb, of_number, stands_in}
 use Rattle.std.proofs.lemmas.Option.{slice_get_past}
 
@@ -8,10 +8,7 @@ use Rattle.std.proofs.lemmas.Option.{slice_get_past}
 none_of_land : (land : ℕ) (lands : List ℕ) → stands_in nat_cmp land lands ≡ false → (links : List Fields8)
     → AllByRecursion (λ link. IsTrue (stands_in nat_cmp link.land lands)) links → of_number eight_land land links ≡ []
 none_of_land land lands unknown [] all = refl
-none_of_land land lands unknown (link ∷ links) all =
-    ap (λ b. cond b (link ∷ of_number eight_land land links) (of_number eight_land land links))
-    (ne_eqb link.land land (λ e. false≢true (sym unknown ∙ subst (λ n. stands_in nat_cmp n lands ≡ true) e all.0)))
-    ∙ none_of_land land lands unknown links all.1
+none_of_land land lands unknown (link ∷ links) all = search (rules, ne_eqb, false≢true, none_of_land land lands unknown links all.1)
 
 -- the links at the place of a LAND, or past the end, are the links with the LAND
 pub links-at_or_end : (land : ℕ) (lands : List ℕ) (links : List Fields8) (found : Option ℕ) (end : ℕ) → length lands ≡ end
@@ -19,5 +16,4 @@ pub links-at_or_end : (land : ℕ) (lands : List ℕ) (links : List Fields8) (fo
     → IfSome found (λ place. slice_get lands place ≡ Some land) → is_some found ≡ stands_in nat_cmp land lands
     → links_with links (slice_get lands (unwrap_or found end)) ≡ of_number eight_land land links
 links-at_or_end land lands links (Some place) end e all at known = ap (links_with links) at
-links-at_or_end land lands links None end e all at known =
-    ap (links_with links) (slice_get_past lands end (omega (arith, e))) ∙ sym (none_of_land land lands (sym known) links all)
+links-at_or_end land lands links None end e all at known = search (rules, slice_get_past, none_of_land)

@@ -1,6 +1,5 @@
 -- Pieces of a list to which others are appended.
-use Rattle.std.proofs.Common.{◌≡◌, ◌-◌, ◌≤◌, ℕ, List, [], ◌∷◌, ◌++◌, length, take, drop, ap, ◌∙◌, arith, slice_range}
-use Rattle.std.proofs.Common.{length-append, length-drop}
+use Rattle.std.proofs.Common.{rules, ◌≡◌, ◌-◌, ◌≤◌, ℕ, List, [], ◌∷◌, ◌++◌, length, ap, ◌∙◌, slice_range, length-append, length-drop}
 use Rattle.std.proofs.Math.Seq.{drop-append_seam}
 use Rattle.std.proofs.lemmas.List.{drop-append-le, take-append-le, take_all}
 use Rattle.tl_county.specs.JoinedLists.{AreWithin, pieces_in}
@@ -8,14 +7,11 @@ use Rattle.tl_county.specs.JoinedLists.{AreWithin, pieces_in}
 module _ {X : Type 0} (xs ys : List X) where
   -- a piece of the list is the same piece after more is appended
   piece_kept : (start end : ℕ) → start ≤ end → end ≤ length xs → slice_range (xs ++ ys) start end ≡ slice_range xs start end
-  piece_kept start end h k =
-      ap (take (end - start)) (drop-append-le start xs ys (omega arith))
-      ∙ take-append-le (end - start) (drop start xs) ys (omega (arith, length-drop start xs))
+  piece_kept start end h k = search (rules, drop-append-le, take-append-le, length-drop)
 
   -- and the appended list is a piece
   new_piece : (end : ℕ) → end ≡ length (xs ++ ys) → slice_range (xs ++ ys) (length xs) end ≡ ys
-  new_piece end e =
-      ap (take (end - length xs)) (drop-append_seam xs ys) ∙ take_all (end - length xs) ys (omega (arith, e, length-append xs ys))
+  new_piece end e = search (rules, drop-append_seam, take_all, length-append)
 
   piece_added : (ranges : List (ℕ × ℕ)) (start end : ℕ) → start ≡ length xs → end ≡ length (xs ++ ys) → AreWithin (length xs) ranges
       → pieces_in (xs ++ ys) (ranges ++ ((start, end) ∷ [])) ≡ pieces_in xs ranges ++ (ys ∷ [])
@@ -26,6 +22,4 @@ module _ {X : Type 0} (xs ys : List X) where
 pub list_joined : {X : Type 0} (old items list : List X) (ranges all_ranges : List (ℕ × ℕ)) (lists : List (List X)) (start end : ℕ)
     → items ≡ old ++ list → all_ranges ≡ ranges ++ ((start, end) ∷ []) → start ≡ length old → end ≡ length items
     → AreWithin (length old) ranges → pieces_in old ranges ≡ lists → pieces_in items all_ranges ≡ lists ++ (list ∷ [])
-list_joined old items list ranges all_ranges lists start end grown added s e h stated =
-    ap (λ xs. pieces_in xs all_ranges) grown ∙ ap (pieces_in (old ++ list)) added
-    ∙ piece_added old list ranges start end s (e ∙ ap length grown) h ∙ ap (λ ls. ls ++ (list ∷ [])) stated
+list_joined old items list ranges all_ranges lists start end grown added s e h stated = search (rules, piece_added)

@@ -1,10 +1,10 @@
 -- Counties under a mask: a mask that leaves nothing out changes nothing, masking twice is masking once, and a county that a mask
 -- doesn't change is carried onto one that it doesn't change.
-use Rattle.std.proofs.Common.{◌≡◌, ℕ, List, [], ◌∷◌, map, Bool, true, false, cond, refl, ap, ◌∙◌}
+use Rattle.std.proofs.Common.{rules, ◌≡◌, ℕ, List, [], ◌∷◌, map, Bool, true, false, cond, refl, ap, ◌∙◌}
 use Rattle.tl_county.proofs.Common.{AllByRecursion, Body7, Carries, Chain, County, IsPermutation-sym, Renumbering, all-in_order, all_among}
 use Rattle.tl_county.proofs.Common.{all_everywhere, all_map, all_weaker, among-permutation, carried_chain, carried_landmark, each_from}
 use Rattle.tl_county.proofs.Common.{in_order, in_order-itself, landmark_body_cmp, landmark_body_keys, map_values, masked, masked_bodies}
-use Rattle.tl_county.proofs.Common.{masked_body_7, renumbered, turned_if, turns}
+use Rattle.tl_county.proofs.Common.{masked_body_7, renumbered, turned_if}
 use Rattle.tl_layout.specs.Masked.{no_mask}
 use Rattle.tl_layout.specs.Laws.MaskLaws.{masked_twice_1, masked_twice_7, masked_twice_i}
 use Rattle.tl_layout.specs.declared.mask.Mask.{Mask}
@@ -14,13 +14,7 @@ use Rattle.ordered_lists.proofs.Lists.InOrder.{in_order-in_order}
 
 -- a mask that leaves nothing out changes nothing
 pub masked_by_none : (county : County) → masked no_mask county ≡ county
-masked_by_none county = λ i. record {
-  chains = map_itself (λ (entry : ℕ × Chain). (entry.0, masked_chain no_mask entry.1)) (λ entry. refl) county.chains i;
-  names = county.names;
-  polygons = county.polygons;
-  landmarks = map_itself (λ (entry : ℕ × List Body7). (entry.0, masked_bodies no_mask entry.1)) (λ entry. refl) county.landmarks i;
-  links = county.links;
-}
+masked_by_none county = search (rules, map_itself)
 
 pub no_mask_is_plain : masked no_mask ≡ (λ county. county)
 no_mask_is_plain = λ i county. masked_by_none county i
@@ -39,17 +33,7 @@ map_fixed f (x ∷ xs) e =
 
 module _ (mask : Mask) where
   chain_twice : (c : Chain) → masked_chain mask (masked_chain mask c) ≡ masked_chain mask c
-  chain_twice c = λ i. record {
-    body = masked_twice_1 mask c.body i;
-    points = c.points;
-    feats = c.feats;
-    ranges = c.ranges;
-    topology = masked_twice_i mask c.topology i;
-    start_node = c.start_node;
-    end_node = c.end_node;
-    left = c.left;
-    right = c.right;
-  }
+  chain_twice c = search (rules, masked_twice_1, masked_twice_i)
 
   -- contents that were masked and sorted don't change again
   hidden_twice : (hidden : Bool) (bodies : List Body7) → let once = cond hidden
@@ -107,8 +91,7 @@ module _ (mask : Mask) where
         (IsPermutation-sym (map (carried_chain r) a.chains) b.chains h.chains) m))
       where
         carried : (e : ℕ × Chain) → mask_chain e ≡ e → mask_chain (carried_chain r e) ≡ carried_chain r e
-        carried e same = ap (λ c. ((carried_chain r e).0, c))
-            (chain_carried r (turns r e.0) e.1 ∙ ap (λ c. renumbered r (turned_if (turns r e.0) c)) (ap (λ d. d.1) same))
+        carried e same = search (rules, chain_carried)
 
     own_landmarks : AllByRecursion (λ entry. mask_landmark entry ≡ entry) b.landmarks
     own_landmarks = each_from (λ entry. mask_landmark entry ≡ entry) b.landmarks (λ entry m.

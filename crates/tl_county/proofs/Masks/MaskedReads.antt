@@ -1,8 +1,8 @@
 -- The values that a chart reads of a county under a mask.
-use Rattle.std.proofs.Common.{◌≡◌, ◌<◌, ℕ, List, [], map, length, Bool, true, false, cond, Option, Some, None, option_map}
-use Rattle.std.proofs.Common.{slice_get, unwrap_or, refl, sym, ap, ◌∙◌, arith}
-use Rattle.tl_county.proofs.Common.{Body7, Chain, County, entry_values, in_order, landmark_body_cmp, length-map, links_with, map_values}
-use Rattle.tl_county.proofs.Common.{masked, masked_bodies, masked_body_7, values-map_values}
+use Rattle.std.proofs.Common.{rules, ◌≡◌, ◌<◌, ℕ, List, [], length, false, Option, Some, None, option_map, slice_get, refl, sym, ap, ◌∙◌}
+use Rattle.std.proofs.Common.{arith}
+use Rattle.tl_county.proofs.Common.{Body7, Chain, County, entry_values, length-map, links_with, map_values, masked, masked_bodies}
+use Rattle.tl_county.proofs.Common.{values-map_values}
 use Rattle.std.proofs.lemmas.Option.{slice_get-map, slice_get-get_or, unwrap_or-slice_get}
 use Rattle.tl_layout.specs.Masked.{masked_body_1, masked_body_i}
 use Rattle.tl_layout.specs.declared.mask.Mask.{Mask}
@@ -13,8 +13,7 @@ use Rattle.tl_county.specs.Laws.MaskedCounties.{lands_masked, length_masked_bodi
 -- the value at a place after all values are mapped
 value_at_place : {K V W : Type 0} (f : V → W) (entries : List (K × V)) (place : ℕ)
     → slice_get (entry_values (map_values f entries)) place ≡ option_map f (slice_get (entry_values entries) place)
-value_at_place f entries place =
-    ap (λ values. slice_get values place) (values-map_values f entries) ∙ slice_get-map f (entry_values entries) place
+value_at_place f entries place = search (rules, values-map_values, slice_get-map)
 
 -- there are as many chains and landmarks
 pub chain_count_masked : (mask : Mask) (county : County) → length (masked mask county).chains ≡ length county.chains
@@ -41,21 +40,11 @@ module _ (mask : Mask) where
 
     pub body_masked : option_map (λ c. c.body) (chain_at (masked mask county) place) ≡ option_map (masked_body_1 mask)
         (option_map (λ c. c.body) (chain_at county place))
-    body_masked = ap (option_map (λ (c : Chain). c.body)) (chain_at_masked mask county place) ∙ go (chain_at county place)
-      where
-        go : (o : Option Chain) → option_map (λ (c : Chain). c.body) (option_map (masked_chain mask) o) ≡ option_map (masked_body_1 mask)
-            (option_map (λ (c : Chain). c.body) o)
-        go None = refl
-        go (Some c) = refl
+    body_masked = search (rules, chain_at_masked)
 
     pub topology_masked : option_map (λ c. c.topology) (chain_at (masked mask county) place) ≡ option_map (masked_body_i mask)
         (option_map (λ c. c.topology) (chain_at county place))
-    topology_masked = ap (option_map (λ (c : Chain). c.topology)) (chain_at_masked mask county place) ∙ go (chain_at county place)
-      where
-        go : (o : Option Chain) → option_map (λ (c : Chain). c.topology) (option_map (masked_chain mask) o) ≡ option_map
-            (masked_body_i mask) (option_map (λ (c : Chain). c.topology) o)
-        go None = refl
-        go (Some c) = refl
+    topology_masked = search (rules, chain_at_masked)
 
     pub points_masked : points_of (chain_at (masked mask county) place) ≡ points_of (chain_at county place)
     points_masked = same points_of (elim [ None ↦ refl | Some c ↦ refl ])
@@ -86,16 +75,7 @@ module _ (mask : Mask) where
 
     -- the contents of the landmark at a place
     pub bodies_masked : bodies_at (masked mask county) place ≡ masked_bodies mask (bodies_at county place)
-    bodies_masked = ap (λ o. unwrap_or o []) (value_at_place (masked_bodies mask) county.landmarks place)
-        ∙ go (slice_get (entry_values county.landmarks) place)
-      where
-        none : (hidden : Bool) → let empty : List Body7 = [] in empty ≡ cond hidden empty empty
-        none true = refl
-        none false = refl
-
-        go : (o : Option (List Body7)) → unwrap_or (option_map (masked_bodies mask) o) [] ≡ masked_bodies mask (unwrap_or o [])
-        go None = none mask.sources
-        go (Some bodies) = refl
+    bodies_masked = search (rules, value_at_place)
 
     pub body_count_masked : length (bodies_at (masked mask county) place) ≡ length (bodies_at county place)
     body_count_masked = ap length bodies_masked ∙ length_masked_bodies mask (bodies_at county place)
@@ -103,15 +83,11 @@ module _ (mask : Mask) where
 -- if the mask keeps SOURCE, it keeps the contents of a landmark
 pub bodies_unmasked : (mask : Mask) (county : County) (place : ℕ) → mask.sources ≡ false
     → bodies_at (masked mask county) place ≡ bodies_at county place
-bodies_unmasked mask county place e =
-    let bodies : List Body7 = bodies_at county place in
-    bodies_masked mask county place
-    ∙ ap (λ hidden. cond hidden (in_order landmark_body_cmp (map (masked_body_7 mask) bodies)) bodies) e
+bodies_unmasked mask county place e = search (rules, bodies_masked)
 
 -- the contents of the landmark at a place are at the same place among those of all landmarks
 pub masked_values_count : (mask : Mask) (county : County) → length (entry_values (masked mask county).landmarks) ≡ length county.landmarks
-masked_values_count mask county =
-    length-map (masked mask county).landmarks (λ entry. entry.1) ∙ landmark_count_masked mask county
+masked_values_count mask county = search (rules, length-map, landmark_count_masked)
 
 pub masked_value_there : (mask : Mask) (county : County) (place : ℕ) → place < length county.landmarks
     → Some (masked_bodies mask (bodies_at county place)) ≡ slice_get (entry_values (masked mask county).landmarks) place

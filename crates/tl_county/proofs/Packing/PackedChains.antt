@@ -1,16 +1,15 @@
 -- The records of a chain in a packed county: each belongs to a chain of the county, and no RTSQ occurs twice.
-use Rattle.std.proofs.Common.{◌≡◌, ℕ, List, map, flat_map}
-use Rattle.std.proofs.Common.{false}
-use Rattle.std.proofs.Common.{sym, refl, ap, ◌∙◌, subst, nat_cmp}
+use Rattle.std.proofs.Common.{rules, ◌≡◌, ℕ, List, map, flat_map, false, sym, refl, ap, ◌∙◌, subst, nat_cmp}
 use Rattle.tl_county.proofs.Common.{AllByRecursion, Chain, County, Four, I, IsCounty, Known, LinkedType, Ranges, SequencedType, Six, Two}
 use Rattle.tl_county.proofs.Common.{all_everywhere, all_joined, all_map, all_weaker, among_known, apart_from_sorted, each_from, four_rtsq}
 use Rattle.tl_county.proofs.Common.{four_tlid, has_repeat, has_repeat-apart, in_pieces, inner_points, linked_tlids, map-map}
 use Rattle.tl_county.proofs.Common.{map_agree_everywhere, nat_keys, numbered_from, of_number, packed, packed_fours, packed_sixes}
 use Rattle.tl_county.proofs.Common.{packed_twos, rtsqs, six_rtsq, six_tlid, tlids, two_rtsq, two_tlid}
-use Rattle.tl_county.specs.declared.fault.SequencedType.TheVariants as sequenced
 use Rattle.tl_county.proofs.Packing.PackedGroups.{group_holds}
 use Rattle.tl_county.proofs.Sameness.Equivalence.{keys_known}
-use Rattle.tl_county.proofs.Packing.PackedNumbers.{four_own, six_own, two_own, numbered_strict, fours, link_numbers, sixes, tlids_apart, twos}
+use Rattle.tl_county.proofs.Packing.PackedNumbers.{four_own, six_own, two_own, numbered_strict, fours, link_numbers, sixes, tlids_apart}
+use Rattle.tl_county.proofs.Packing.PackedNumbers.{twos}
+use Rattle.tl_county.specs.declared.fault.SequencedType.TheVariants as sequenced
 
 module _ (c : County) (is : IsCounty c) where
   linked_known : {X : Type 0} (tlid : X → ℕ) (pack : ℕ × Chain → List X) → ((e : ℕ × Chain) → AllByRecursion (λ x. tlid x ≡ e.0) (pack e))
@@ -22,22 +21,17 @@ module _ (c : County) (is : IsCounty c) where
       (pack e) (own e)) c.chains (keys_known nat_keys c.chains)))
 
   pub all_linked : (t : LinkedType) → AllByRecursion (Known nat_cmp (tlids c)) (linked_tlids t (packed c))
-  all_linked Two = subst (λ xs. AllByRecursion (Known nat_cmp (tlids c)) (map two_tlid xs)) (sym (twos c is))
-      (linked_known two_tlid packed_twos two_own)
-  all_linked Four = subst (λ xs. AllByRecursion (Known nat_cmp (tlids c)) (map four_tlid xs)) (sym (fours c is))
-      (linked_known four_tlid packed_fours four_own)
-  all_linked Six = subst (λ xs. AllByRecursion (Known nat_cmp (tlids c)) (map six_tlid xs)) (sym (sixes c is))
-      (linked_known six_tlid packed_sixes six_own)
-  all_linked I = subst (AllByRecursion (Known nat_cmp (tlids c))) (sym (link_numbers c is))
-      (each_from (Known nat_cmp (tlids c)) (tlids c) (λ n m. among_known nat_keys n (tlids c) m))
+  all_linked Two = search (rules, twos, linked_known, two_own)
+  all_linked Four = search (rules, fours, linked_known, four_own)
+  all_linked Six = search (rules, sixes, linked_known, six_own)
+  all_linked I = search (rules, link_numbers, each_from, among_known, nat_keys)
 
   -- records with the RTSQs 1, 2, 3, .. repeat none
   no_repeat : {X Y : Type 0} (rtsq : X → ℕ) (make : ℕ × Y → X) → ((piece : ℕ × Y) → rtsq (make piece) ≡ piece.0) → (ys : List Y)
       → has_repeat nat_cmp (map rtsq (map make (numbered_from 1 ys))) ≡ false
   no_repeat {X} {Y} rtsq make stated ys =
       let numbers : map rtsq (map make (numbered_from 1 ys)) ≡ map (λ (piece : ℕ × Y). piece.0) (numbered_from 1 ys) =
-      map-map rtsq make (numbered_from 1 ys)
-      ∙ map_agree_everywhere (λ piece. rtsq (make piece)) (λ (piece : ℕ × Y). piece.0) stated (numbered_from 1 ys) in
+      search (rules, map-map, map_agree_everywhere) in
       ap (has_repeat nat_cmp) numbers ∙ has_repeat-apart nat_keys (map (λ (piece : ℕ × Y). piece.0) (numbered_from 1 ys))
       (apart_from_sorted nat_keys (map (λ (piece : ℕ × Y). piece.0) (numbered_from 1 ys)) (numbered_strict 1 ys))
 

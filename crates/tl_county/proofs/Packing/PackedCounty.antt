@@ -1,19 +1,18 @@
 -- The county of the packing of a county is that county.
-use Rattle.std.proofs.Common.{◌≡◌, ◌⊎◌, ◌≤◌, ℕ, zero, suc, List, [], ◌∷◌, ◌++◌, map, flat_map}
-use Rattle.std.proofs.Common.{filter_map, length, take, drop, Option, Some, None, IsTrue, sym}
-use Rattle.std.proofs.Common.{refl, ap, ◌∙◌, subst, inl, inr, arith, nat_cmp, map-id, take-append-drop}
-use Rattle.std.proofs.Common.{length-drop}
-use Rattle.tl_county.proofs.Common.{AllByRecursion, Among, Body7, BodyP, Chain, Coordinates, County, Fields1, Fields2, Fields4, Fields5}
-use Rattle.tl_county.proofs.Common.{Fields6, Fields7, FieldsP, IsCounty, IsInOrder, Known, PolygonKey, Ranges, all_among, all_joined}
-use Rattle.tl_county.proofs.Common.{among-map, among-unmap, among_known, apart_from_sorted, chain_of, chain_polygons, chains_of, county_of}
+use Rattle.tl_county.proofs.Common.{common_steps, AllByRecursion, Among, Body7, BodyP, Chain, Coordinates, County, Fields1, Fields2}
+use Rattle.tl_county.proofs.Common.{Fields4, Fields5, Fields6, Fields7, FieldsP, IsCounty, IsInOrder, Known, PolygonKey, Ranges, all_among}
+use Rattle.tl_county.proofs.Common.{all_joined, among-map, among-unmap, among_known, apart_from_sorted, chain_of, chains_of, county_of}
 use Rattle.tl_county.proofs.Common.{distinct, distinct-strict, each_from, five_feat, four_rtsq, four_tlid, further_names, further_ranges}
 use Rattle.tl_county.proofs.Common.{i_tlid, in_order, in_order-itself, in_pieces, inner_points, key_cmp, key_keys, known-append}
-use Rattle.tl_county.proofs.Common.{known-distinct, known_all, known_from_distinct, known_is_among, landmark_body_cmp, lands, link_cmp}
-use Rattle.tl_county.proofs.Common.{ltb-true, map-map, map_agree_all, map_agree_everywhere, nat_keys, numbered_from, of_number, of_type_7}
-use Rattle.tl_county.proofs.Common.{of_type_i, of_type_p, on, one_tlid, p_key, p_polyid, packed, packed_body, packed_five, packed_fours}
-use Rattle.tl_county.proofs.Common.{packed_i, packed_one, packed_p, packed_sevens, packed_sixes, packed_twos, pieces, polygon_body}
-use Rattle.tl_county.proofs.Common.{polygon_keys, polygons_along, polygons_of, seven_land, shape_points, side_keys, six_rtsq, six_tlid}
-use Rattle.tl_county.proofs.Common.{stands_in, times, to_in_order, two_rtsq, two_tlid, without_last}
+use Rattle.tl_county.proofs.Common.{known-distinct, known_all, known_from_distinct, known_is_among, landmark_body_cmp, lands, ltb-true}
+use Rattle.tl_county.proofs.Common.{map-map, map_agree_all, map_agree_everywhere, nat_keys, numbered_from, of_number, of_type_7, of_type_i}
+use Rattle.tl_county.proofs.Common.{of_type_p, on, one_tlid, p_key, packed, packed_body, packed_five, packed_fours, packed_i, packed_one}
+use Rattle.tl_county.proofs.Common.{packed_p, packed_sevens, packed_sixes, packed_twos, pieces, polygon_body, polygon_keys, polygons_along}
+use Rattle.tl_county.proofs.Common.{polygons_of, seven_land, shape_points, side_keys, six_rtsq, six_tlid, stands_in, times, to_in_order}
+use Rattle.tl_county.proofs.Common.{two_rtsq, two_tlid, without_last}
+use Rattle.std.proofs.Common.{rules, ◌≡◌, ◌⊎◌, ◌≤◌, ℕ, zero, suc, List, [], ◌∷◌, ◌++◌, map, flat_map, filter_map, length, take, drop}
+use Rattle.std.proofs.Common.{Option, Some, None, IsTrue, sym, refl, ap, ◌∙◌, subst, inl, inr, arith, nat_cmp, map-id, take-append-drop}
+use Rattle.std.proofs.Common.{length-drop}
 use Rattle.std.proofs.lemmas.List.Concat.{flat_map_single}
 use Rattle.std.specs.List.Sorted.{IsStrictlySortedBy}
 use Rattle.tl_county.specs.County.{names_of, landmarks_of}
@@ -118,20 +117,14 @@ module _ (c : County) (is : IsCounty c) where
       ∙ group_of i_tlid (λ (d : ℕ × Chain). packed_i d ∷ []) (λ d. (refl, tt)) c.chains (tlids_apart c is) e m
 
   chain_back : (e : ℕ × Chain) → Among e c.chains → chain_of (packed c) (packed_one e) (packed_i e) ≡ e.1
-  chain_back e m =
-      let two : 2 ≤ length e.1.points = all_among (λ d. 2 ≤ length d.1.points) e c.chains is.whole.points m in
-      let points : first_point e.1.points ∷ (shape_points (packed c) e.0 ++ (last_point e.1.points ∷ [])) ≡ e.1.points =
-      ap (λ ps. first_point e.1.points ∷ (ps ++ (last_point e.1.points ∷ []))) (inner e m) ∙ ends_and_inner e.1.points two in
-      λ i. record e.1 { points = points i; feats = names_back e m i; ranges = ranges_back e m i }
+  chain_back e m = search (rules, all_among, inner, ends_and_inner, names_back, ranges_back)
 
   chains_back : chains_of (packed c) ≡ c.chains
   chains_back =
       let entries : Fields1 → List (ℕ × Chain) =
       λ r. map (λ link. (r.tlid, chain_of (packed c) r link)) (of_number i_tlid r.tlid (of_type_i (packed c))) in
       let ordered : in_order (on one_tlid nat_cmp) (map packed_one c.chains) ≡ map packed_one c.chains =
-      in_order-itself (on one_tlid nat_cmp) (map packed_one c.chains)
-      (in_order-from_strict one_tlid (map packed_one c.chains)
-      (subst (IsStrictlySortedBy nat_cmp) (sym (map-map one_tlid packed_one c.chains)) is.ascending.chains)) in
+      search (rules, in_order-itself, in_order-from_strict, map-map) in
       ap (λ rs. flat_map entries (in_order (on one_tlid nat_cmp) rs)) (ones c is)
       ∙ ap (flat_map entries) ordered
       ∙ flat_map-map entries packed_one c.chains
@@ -157,21 +150,7 @@ module _ (c : County) (is : IsCounty c) where
 
   record_entry : (r : FieldsP) → Among r (of_type_p (packed c))
       → (d : PolygonKey × Option BodyP) × Among d c.polygons × ((p_key r ≡ d.0) × (Some r.body ≡ d.1))
-  record_entry r m =
-      let listed : Among r (filter_map packed_p c.polygons) =
-      from_in_order (on p_polyid nat_cmp) (filter_map packed_p c.polygons) r (subst (Among r) (polygons_packed c is) m) in
-      let d = in_filter_map packed_p r c.polygons listed in
-      (d.0, d.1, stated d.0.0 d.0.1 d.2)
-    where
-      some_same : (x y : FieldsP) → Some x ≡ Some y → x ≡ y
-      some_same x y e = cc
-
-      stated : (key : PolygonKey) (o : Option BodyP) → packed_body key o ≡ Some r → (p_key r ≡ key) × (Some r.body ≡ o)
-      stated key None e = cc
-      stated key (Some body) e =
-          let same : record { cenid = key.0; polyid = key.1; body = body } ≡ r =
-          some_same (record { cenid = key.0; polyid = key.1; body = body }) r e in
-          (ap p_key (sym same), ap (λ (x : FieldsP). Some x.body) (sym same))
+  record_entry r m = search (rules, from_in_order, polygons_packed, in_filter_map)
 
   from_keys : (k : PolygonKey) → Known key_cmp keys k → is_entry k
   from_keys k l = go (known-append key_keys k (flat_map side_keys (of_type_i (packed c))) (map p_key (of_type_p (packed c))) l)
@@ -180,8 +159,7 @@ module _ (c : County) (is : IsCounty c) where
       go (inl side) =
           let along : Known key_cmp (polygons_along c.chains) k = subst (λ ks. Known key_cmp ks k) (sides_along c is) side in
           let all : AllByRecursion (λ j. IsTrue (stands_in key_cmp j (polygon_keys c))) (polygons_along c.chains) =
-          all_joined (λ j. IsTrue (stands_in key_cmp j (polygon_keys c)))
-          (λ (e : ℕ × Chain). chain_polygons e.1) c.chains is.closed.sides in
+          search (rules, all_joined) in
           known_is_among key_keys k (polygon_keys c)
           (ltb-true 0 (times key_cmp k (polygon_keys c))
           (known_all key_keys (λ j. IsTrue (stands_in key_cmp j (polygon_keys c))) (polygons_along c.chains) all k along))
@@ -204,15 +182,13 @@ module _ (c : County) (is : IsCounty c) where
       go (Some body) same f found =
           let r : FieldsP = record { cenid = e.0.0; polyid = e.0.1; body = body } in
           let listed : Among r (filter_map packed_p c.polygons) = to_filter_map packed_p e r c.polygons m (ap (packed_body e.0) same) in
-          let there : Among r (of_type_p (packed c)) =
-          subst (Among r) (sym (polygons_packed c is)) (to_in_order (on p_polyid nat_cmp) (filter_map packed_p c.polygons) r listed) in
+          let there : Among r (of_type_p (packed c)) = search (rules, polygons_packed, to_in_order) in
           sym found ∙ body_found r (of_type_p (packed c)) (few_polygons c is) there ∙ sym same
       go None same None found = sym same
       go None same (Some body) found =
           let r = first_body e.0 body (of_type_p (packed c)) found in
           let d = record_entry r.0 r.1 in
-          let one : e ≡ d.0 = one_entry key_keys c.polygons (apart_from_sorted key_keys (polygon_keys c) is.ascending.polygons) e d.0 m d.1
-          (r.2 ∙ d.2.0) in
+          let one : e ≡ d.0 = search (rules, one_entry, key_keys, apart_from_sorted) in
           absurd (none_some (sym same ∙ ap (λ (x : PolygonKey × Option BodyP). x.1) one ∙ sym d.2.1))
         where
           none_some : {B : Type 0} {b : B} → None ≡ Some b → ⊥
@@ -261,10 +237,4 @@ module _ (c : County) (is : IsCounty c) where
       ∙ map-id c.landmarks
 
   pub packed_county : county_of (packed c) ≡ c
-  packed_county = λ i. record {
-    chains = chains_back i;
-    names = names_are i;
-    polygons = polygons_back i;
-    landmarks = landmarks_back i;
-    links = (ap (in_order link_cmp) (eights c is) ∙ in_order-itself link_cmp c.links is.ascending.links) i;
-  }
+  packed_county = search (rules, common_steps, chains_back, names_are, polygons_back, landmarks_back, eights, in_order-itself)

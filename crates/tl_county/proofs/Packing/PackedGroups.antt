@@ -1,9 +1,8 @@
 -- Records made entry by entry: the records with one number come from one entry, and they are in order.
-use Rattle.std.proofs.Common.{◌≡◌, ◌⊎◌, ◌<◌, ◌≤◌, ◌==◌, ℕ, List, [], ◌∷◌, ◌++◌, map, flat_map}
-use Rattle.std.proofs.Common.{true, false, cond, Ordering, Less, is_eq, is_gt, sym, refl}
-use Rattle.std.proofs.Common.{ap, ap₂, ◌∙◌, subst, inl, inr, arith, nat_cmp, append-nil}
-use Rattle.tl_county.proofs.Common.{AllByRecursion, Among, IsApart, IsInOrder, all_append, all_weaker, among-map, among_known, apart_tail}
-use Rattle.tl_county.proofs.Common.{differ_apart, eq-eqb, filter_all, nat_cmp_total, nat_keys, ne_eqb, of_number, ordering_then}
+use Rattle.std.proofs.Common.{rules, ◌≡◌, ◌⊎◌, ◌<◌, ◌≤◌, ℕ, List, [], ◌∷◌, ◌++◌, map, flat_map, false, cond, Ordering, Less, is_eq, is_gt}
+use Rattle.std.proofs.Common.{sym, refl, ap, ap₂, ◌∙◌, subst, inl, inr, arith, nat_cmp, append-nil}
+use Rattle.tl_county.proofs.Common.{common_steps, AllByRecursion, Among, IsApart, IsInOrder, all_append, all_weaker, among-map, among_known}
+use Rattle.tl_county.proofs.Common.{apart_tail, differ_apart, eq-eqb, filter_all, nat_cmp_total, nat_keys, ne_eqb, of_number, ordering_then}
 use Rattle.tl_county.proofs.Common.{same_or_not, tied_itself, times, times-no, times-yes}
 use Rattle.std.proofs.lemmas.List.Elements.{filter-append}
 use Rattle.std.specs.List.Sorted.{IsStrictlySortedBy}
@@ -16,8 +15,7 @@ in_order-append by (x ∷ xs) ys g h a = (all_append (λ y. is_gt (by x y) ≡ f
 
 module _ {V X : Type 0} (key : X → ℕ) (pack : ℕ × V → List X) (own : (e : ℕ × V) → AllByRecursion (λ x. key x ≡ e.0) (pack e)) where
   own_group : (n : ℕ) (e : ℕ × V) → n ≡ e.0 → of_number key n (pack e) ≡ pack e
-  own_group n e same = filter_all (λ x. key x == n) (pack e)
-      (all_weaker (λ x. key x ≡ e.0) (λ x. (key x == n) ≡ true) (λ x f. eq-eqb (key x) n (f ∙ sym same)) (pack e) (own e))
+  own_group n e same = search (rules, filter_all, all_weaker, eq-eqb)
 
   none_of : (n : ℕ) (xs : List X) → AllByRecursion (λ x. key x ≡ n → ⊥) xs → of_number key n xs ≡ []
   none_of n [] a = refl
@@ -36,22 +34,15 @@ module _ {V X : Type 0} (key : X → ℕ) (pack : ℕ × V → List X) (own : (e
           → (times nat_cmp n (map (λ (d : ℕ × V). d.0) es) ≡ 0 → of_number key n (flat_map pack es) ≡ [])
           → of_number key n (pack e ++ flat_map pack es) ≡ []
       go (inl same) ih = absurd (omega (arith, h, times-yes nat_keys n e.0 (map (λ (d : ℕ × V). d.0) es) same))
-      go (inr ne) ih = filter-append (λ x. key x == n) (pack e) (flat_map pack es)
-          ∙ ap₂ (λ xs ys. xs ++ ys) (other_group n e ne) (ih (sym (times-no nat_keys n e.0 (map (λ (d : ℕ × V). d.0) es) ne) ∙ h))
+      go (inr ne) ih = search (rules, filter-append, other_group, times-no, nat_keys)
 
   first_group : (n : ℕ) (e : ℕ × V) (es : List (ℕ × V)) → n ≡ e.0 → IsApart nat_cmp (map (λ (d : ℕ × V). d.0) (e ∷ es))
       → of_number key n (pack e ++ flat_map pack es) ≡ pack e
-  first_group n e es same apart =
-      let few : times nat_cmp n (e.0 ∷ map (λ (d : ℕ × V). d.0) es) ≤ 1 = apart n in
-      let none : times nat_cmp n (map (λ (d : ℕ × V). d.0) es) ≡ 0 =
-      omega (arith, few, times-yes nat_keys n e.0 (map (λ (d : ℕ × V). d.0) es) same) in
-      filter-append (λ x. key x == n) (pack e) (flat_map pack es) ∙ ap₂ (λ xs ys. xs ++ ys) (own_group n e same) (no_group n es none)
-      ∙ append-nil (pack e)
+  first_group n e es same apart = grind (arith, common_steps, times-yes, nat_keys, filter-append, own_group, no_group, append-nil)
 
   later_group : (n : ℕ) (e : ℕ × V) (es : List (ℕ × V)) → is_eq (nat_cmp n e.0) ≡ false
       → of_number key n (pack e ++ flat_map pack es) ≡ of_number key n (flat_map pack es)
-  later_group n e es ne = filter-append (λ x. key x == n) (pack e) (flat_map pack es)
-      ∙ ap (λ xs. xs ++ of_number key n (flat_map pack es)) (other_group n e ne)
+  later_group n e es ne = search (rules, filter-append, other_group)
 
   -- the records of an entry's number are its records
   pub group_of : (es : List (ℕ × V)) → IsApart nat_cmp (map (λ (e : ℕ × V). e.0) es) → (e : ℕ × V) → Among e es
@@ -106,9 +97,7 @@ module _ {V X : Type 0} (key : X → ℕ) (pack : ℕ × V → List X) (own : (e
     above : (e : ℕ × V) (es : List (ℕ × V)) → AllByRecursion (λ n. nat_cmp e.0 n ≡ Less) (map (λ (d : ℕ × V). d.0) es)
         → AllByRecursion (λ y. nat_cmp e.0 (key y) ≡ Less) (flat_map pack es)
     above e [] a = tt
-    above e (d ∷ es) a = all_append (λ y. nat_cmp e.0 (key y) ≡ Less) (pack d) (flat_map pack es)
-        (all_weaker (λ y. key y ≡ d.0) (λ y. nat_cmp e.0 (key y) ≡ Less) (λ y f. ap (nat_cmp e.0) f ∙ a.0) (pack d) (own d))
-        (above e es a.1)
+    above e (d ∷ es) a = search (rules, all_append, all_weaker, above e es a.1)
 
     pub groups_in_order : (es : List (ℕ × V)) → IsStrictlySortedBy nat_cmp (map (λ (e : ℕ × V). e.0) es)
         → AllByRecursion (λ e. IsInOrder sub (pack e)) es → IsInOrder by_number (flat_map pack es)

@@ -1,13 +1,11 @@
 -- The packing of a county is linked.
-use Rattle.std.proofs.Common.{◌≡◌, ◌&&◌, ℕ, nat_lt, List, ◌++◌, map, flat_map}
-use Rattle.std.proofs.Common.{Bool, true, false, not, IsTrue}
-use Rattle.std.proofs.Common.{sym, refl, ap, ◌∙◌, subst, nat_cmp}
+use Rattle.std.proofs.Common.{rules, ◌≡◌, ◌&&◌, ℕ, nat_lt, List, ◌++◌, map, flat_map, Bool, true, false, not, IsTrue, refl, ap, ◌∙◌}
+use Rattle.std.proofs.Common.{nat_cmp}
 use Rattle.tl_county.proofs.Common.{ChainTwice, County, IsApart, IsCounty, IsLinked, Known, LandUnknown, LinkMissing, LinkTwice, Memory}
 use Rattle.tl_county.proofs.Common.{NameTwice, NameUnknown, NoChain, PolygonTwice, PolygonUnknown, SequenceBroken, all_map}
-use Rattle.tl_county.proofs.Common.{apart_from_sorted, chain_tlids, eight_land, false≢true, feats, five_feat, i_tlid, key_cmp, key_keys}
-use Rattle.tl_county.proofs.Common.{known_all, lands, link_key, linked_tlids, lt-ltb, ltb-true, named_feats, nat_keys, of_type_5, of_type_7}
-use Rattle.tl_county.proofs.Common.{of_type_8, of_type_i, of_type_p, p_key, packed, polygon_keys, seven_land, side_keys, stands_in, times}
-use Rattle.tl_county.proofs.Common.{tlids}
+use Rattle.tl_county.proofs.Common.{apart_from_sorted, chain_tlids, eight_land, false≢true, i_tlid, key_cmp, key_keys, known_all, lands}
+use Rattle.tl_county.proofs.Common.{link_key, lt-ltb, ltb-true, nat_keys, of_type_7, of_type_8, of_type_i, of_type_p, p_key, packed}
+use Rattle.tl_county.proofs.Common.{polygon_keys, seven_land, side_keys, stands_in, times, tlids}
 use Rattle.std.proofs.lemmas.Bool.{le-ltb}
 use Rattle.tl_county.proofs.Packing.PackedNumbers.{chain_numbers, eights, link_numbers, name_numbers, tlids_apart}
 use Rattle.tl_county.proofs.Packing.PackedChains.{all_linked, sequence}
@@ -27,32 +25,17 @@ module _ (c : County) (is : IsCounty c) where
 
   pub packed_linked : IsLinked (packed c)
   packed_linked (ChainTwice tlid) = once (chain_tlids (packed c)) (tlids c) (chain_numbers c is) (tlids_apart c is) tlid
-  packed_linked (NoChain rtype tlid) =
-      implied (stands_in nat_cmp tlid (linked_tlids rtype (packed c))) (stands_in nat_cmp tlid (chain_tlids (packed c)))
-      (λ t. let known : Known nat_cmp (tlids c) tlid =
-      known_all nat_keys (Known nat_cmp (tlids c)) (linked_tlids rtype (packed c)) ((all_linked c is) rtype) tlid
-      (ltb-true 0 (times nat_cmp tlid (linked_tlids rtype (packed c))) t) in
-      ap (stands_in nat_cmp tlid) (chain_numbers c is) ∙ lt-ltb 0 (times nat_cmp tlid (tlids c)) known)
+  packed_linked (NoChain rtype tlid) = search (rules, implied, known_all, nat_keys, all_linked, ltb-true, chain_numbers, lt-ltb)
   packed_linked (SequenceBroken rtype tlid) = (sequence c is) rtype tlid
-  packed_linked (LinkMissing tlid) =
-      implied (stands_in nat_cmp tlid (chain_tlids (packed c))) (stands_in nat_cmp tlid (map i_tlid (of_type_i (packed c))))
-      (λ t. ap (stands_in nat_cmp tlid) ((link_numbers c is) ∙ sym (chain_numbers c is)) ∙ t)
+  packed_linked (LinkMissing tlid) = search (rules, implied, link_numbers, chain_numbers)
   packed_linked (LinkTwice tlid) = once (map i_tlid (of_type_i (packed c))) (tlids c) (link_numbers c is) (tlids_apart c is) tlid
-  packed_linked (NameTwice feat) =
-      once (map five_feat (of_type_5 (packed c))) (feats c) (name_numbers c is) (apart_from_sorted nat_keys (feats c) is.ascending.names) feat
-  packed_linked (NameUnknown tlid feat) =
-      implied (stands_in nat_cmp feat (named_feats tlid (packed c))) (stands_in nat_cmp feat (map five_feat (of_type_5 (packed c))))
-      (λ t. ap (stands_in nat_cmp feat) (name_numbers c is)
-      ∙ known_all nat_keys (λ n. IsTrue (stands_in nat_cmp n (feats c))) (named_feats tlid (packed c)) ((named c is) tlid) feat
-      (ltb-true 0 (times nat_cmp feat (named_feats tlid (packed c))) t))
-  packed_linked (PolygonTwice cenid polyid) =
-      le-ltb 1 (times key_cmp (cenid, polyid) (map p_key (of_type_p (packed c)))) ((few_polygons c is) (cenid, polyid))
+  packed_linked (NameTwice feat) = search (rules, once, name_numbers, apart_from_sorted, nat_keys)
+  packed_linked (NameUnknown tlid feat) = search (rules, implied, name_numbers, known_all, nat_keys, named, ltb-true)
+  packed_linked (PolygonTwice cenid polyid) = search (rules, le-ltb, few_polygons)
   packed_linked (LandUnknown land) =
       implied (stands_in nat_cmp land (map eight_land (of_type_8 (packed c))))
       (stands_in nat_cmp land (map seven_land (of_type_7 (packed c))))
-      (λ t. let known : Known nat_cmp (map eight_land c.links) land =
-      subst (λ xs. Known nat_cmp (map eight_land xs) land) (eights c is)
-      (ltb-true 0 (times nat_cmp land (map eight_land (of_type_8 (packed c)))) t) in
+      (λ t. let known : Known nat_cmp (map eight_land c.links) land = search (rules, eights, ltb-true) in
       let listed : IsTrue (stands_in nat_cmp land (lands c)) =
       known_all nat_keys (λ n. IsTrue (stands_in nat_cmp n (lands c))) (map eight_land c.links)
       (all_map (λ n. IsTrue (stands_in nat_cmp n (lands c))) eight_land c.links is.closed.link_lands) land known in
@@ -61,9 +44,7 @@ module _ (c : County) (is : IsCounty c) where
   packed_linked (PolygonUnknown cenid polyid) =
       implied (stands_in key_cmp (cenid, polyid) (map link_key (of_type_8 (packed c))))
       (stands_in key_cmp (cenid, polyid) (flat_map side_keys (of_type_i (packed c)) ++ map p_key (of_type_p (packed c))))
-      (λ t. let known : Known key_cmp (map link_key c.links) (cenid, polyid) =
-      subst (λ xs. Known key_cmp (map link_key xs) (cenid, polyid)) (eights c is)
-      (ltb-true 0 (times key_cmp (cenid, polyid) (map link_key (of_type_8 (packed c)))) t) in
+      (λ t. let known : Known key_cmp (map link_key c.links) (cenid, polyid) = search (rules, eights, ltb-true) in
       let listed : IsTrue (stands_in key_cmp (cenid, polyid) (polygon_keys c)) =
       known_all key_keys (λ k. IsTrue (stands_in key_cmp k (polygon_keys c))) (map link_key c.links)
       (all_map (λ k. IsTrue (stands_in key_cmp k (polygon_keys c))) link_key c.links is.closed.link_polygons) (cenid, polyid) known in

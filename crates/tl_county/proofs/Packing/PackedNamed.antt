@@ -1,53 +1,24 @@
 -- The FEATs, LANDs and polygons that the records of a packed county name are in the county.
-use Rattle.std.proofs.Common.{◌≡◌, ◌⊎◌, ◌<◌, ◌≤◌, ◌+◌, ◌||◌, ℕ, List, [], ◌∷◌, ◌++◌, map, flat_map}
-use Rattle.std.proofs.Common.{filter_map, length, true, false, Option, Some, None, IsTrue, is_some}
-use Rattle.std.proofs.Common.{is_eq, sym, refl, ap, ◌∙◌, subst, inl, inr, arith, nat_cmp}
-use Rattle.tl_county.proofs.Common.{AllByRecursion, AllStandIn, Among, Body7, BodyP, Chain, County, Fields4, Fields7, FieldsP, IsApart}
-use Rattle.tl_county.proofs.Common.{IsCounty, Known, PolygonKey, all_among, all_joined, all_map, all_weaker, among-map, among-pieces}
-use Rattle.tl_county.proofs.Common.{among-unmap, among_known, apart_from_sorted, cons_option, false≢true, feats, four_tlid, in_order}
-use Rattle.tl_county.proofs.Common.{in_pieces, key_cmp, key_keys, known-left, known-right, known_is_among, lands, ltb-true, named_feats}
-use Rattle.tl_county.proofs.Common.{nat_keys, numbered_from, of_number, of_type_7, of_type_i, of_type_p, on, or_cases, p_key, p_polyid}
-use Rattle.tl_county.proofs.Common.{packed, packed_body, packed_fours, packed_i, packed_p, packed_sevens, polygon_keys, polygons_along}
-use Rattle.tl_county.proofs.Common.{same_or_not, seven_land, side_keys, stands_in, times, times-cons, times-no, times-yes, to_in_order}
+use Rattle.std.proofs.Common.{rules, ◌≡◌, ◌⊎◌, ◌<◌, ◌≤◌, ◌+◌, ◌||◌, ℕ, List, [], ◌∷◌, ◌++◌, map, flat_map, filter_map, length, true, Option}
+use Rattle.std.proofs.Common.{Some, None, IsTrue, is_some, sym, refl, ap, ◌∙◌, subst, inl, inr, arith, nat_cmp}
+use Rattle.tl_county.proofs.Common.{common_steps, AllByRecursion, AllStandIn, Among, Body7, BodyP, Chain, County, Fields4, Fields7, FieldsP}
+use Rattle.tl_county.proofs.Common.{IsApart, IsCounty, Known, PolygonKey, all_among, all_joined, all_map, all_weaker, among-map}
+use Rattle.tl_county.proofs.Common.{among-pieces, among-unmap, among_known, apart_from_sorted, false≢true, feats, four_tlid, in_pieces}
+use Rattle.tl_county.proofs.Common.{key_cmp, key_keys, known-left, known-right, known_is_among, lands, ltb-true, named_feats, nat_keys}
+use Rattle.tl_county.proofs.Common.{numbered_from, of_number, of_type_7, of_type_i, of_type_p, or_cases, p_key, packed, packed_body}
+use Rattle.tl_county.proofs.Common.{packed_fours, packed_i, packed_p, packed_sevens, polygon_keys, polygons_along, same_or_not, seven_land}
+use Rattle.tl_county.proofs.Common.{side_keys, stands_in, times, times-cons, times-no, times-yes, to_in_order}
 use Rattle.tl_county.proofs.Packing.Pieces.{all_in_pieces, all_numbered_from}
 use Rattle.tl_county.proofs.Packing.PackedGroups.{group_holds}
 use Rattle.ordered_lists.proofs.Lists.Members.{to_filter_map}
 use Rattle.ordered_lists.proofs.ByKey.Numbers.{times-in_order}
 use Rattle.tl_county.proofs.Packing.PackedNumbers.{four_own, fours, links_of_chains, polygons_packed, sevens, tlids_apart}
 
--- the keys of polygons with content
-key_packed : (key : PolygonKey) (o : Option BodyP) (r : FieldsP) → packed_body key o ≡ Some r → p_key r ≡ key
-key_packed key None r e = cc
-key_packed key (Some body) r e = let same : record { cenid = key.0; polyid = key.1; body = body } ≡ r =
-    some_same (record { cenid = key.0; polyid = key.1; body = body }) r e in ap p_key (sym same)
-  where
-    some_same : (x y : FieldsP) → Some x ≡ Some y → x ≡ y
-    some_same x y e = cc
-
+-- a polygon has at most as many records as entries
 few_packed_keys : (k : PolygonKey) (es : List (PolygonKey × Option BodyP))
     → times key_cmp k (map p_key (filter_map packed_p es)) ≤ times key_cmp k (map (λ (e : PolygonKey × Option BodyP). e.0) es)
 few_packed_keys k [] = omega arith
-few_packed_keys k (e ∷ es) = go e.1 (few_packed_keys k es) (same_or_not key_keys k e.0)
-  where
-    go : (o : Option BodyP) → times key_cmp k (map p_key (filter_map packed_p es)) ≤ times key_cmp k
-        (map (λ (d : PolygonKey × Option BodyP). d.0) es) → (k ≡ e.0) ⊎ (is_eq (key_cmp k e.0) ≡ false)
-        → times key_cmp k (map p_key (cons_option (packed_body e.0 o) (filter_map packed_p es))) ≤ times key_cmp k
-        (e.0 ∷ map (λ (d : PolygonKey × Option BodyP). d.0) es)
-    go None ih same = omega (arith, ih, times-cons key_keys k e.0 (map (λ (d : PolygonKey × Option BodyP). d.0) es))
-    go (Some body) ih (inl same) =
-        omega (
-          arith,
-          ih,
-          times-yes key_keys k e.0 (map p_key (filter_map packed_p es)) same,
-          times-yes key_keys k e.0 (map (λ (d : PolygonKey × Option BodyP). d.0) es) same,
-        )
-    go (Some body) ih (inr ne) =
-        omega (
-          arith,
-          ih,
-          times-no key_keys k e.0 (map p_key (filter_map packed_p es)) ne,
-          times-no key_keys k e.0 (map (λ (d : PolygonKey × Option BodyP). d.0) es) ne,
-        )
+few_packed_keys k (e ∷ es) = grind (arith, common_steps, same_or_not, key_keys, times-cons, times-yes, times-no, few_packed_keys k es)
 
 module _ (c : County) (is : IsCounty c) where
   -- a test of names, of polygons and of landmarks
@@ -79,15 +50,12 @@ module _ (c : County) (is : IsCounty c) where
       at [] same some = absurd (let t : length e.1 ≡ 0 = ap length same in omega (arith, t, some))
       at (body ∷ bodies) same some =
           let r : Fields7 = record { land = e.0; body = body } in
-          let there : Among r (packed_sevens e) =
-          subst (λ (bs : List Body7). Among r (map (λ b. record { land = e.0; body = b }) bs)) (sym same) (inl refl) in
+          let there : Among r (packed_sevens e) = search rules in
           among_known nat_keys e.0 (map seven_land (flat_map packed_sevens c.landmarks))
           (among-map seven_land r (flat_map packed_sevens c.landmarks) (among-pieces packed_sevens e r c.landmarks m there))
 
   pub land_stands : (land : ℕ) → Known nat_cmp (lands c) land → Known nat_cmp (map seven_land (of_type_7 (packed c))) land
-  land_stands land k =
-      let e = among-unmap (λ (d : ℕ × List Body7). d.0) land c.landmarks (known_is_among nat_keys land (lands c) k) in
-      subst (Known nat_cmp (map seven_land (of_type_7 (packed c)))) (sym e.2) (landmark_stands e.0 e.1)
+  land_stands land k = search (rules, among-unmap, known_is_among, nat_keys, landmark_stands)
 
   pub sides_along : flat_map side_keys (of_type_i (packed c)) ≡ polygons_along c.chains
   sides_along = ap (flat_map side_keys) (links_of_chains c is) ∙ joined c.chains
@@ -101,8 +69,7 @@ module _ (c : County) (is : IsCounty c) where
       → Known key_cmp (flat_map side_keys (of_type_i (packed c)) ++ map p_key (of_type_p (packed c))) key
   key_stands key k =
       let e = among-unmap (λ (d : PolygonKey × Option BodyP). d.0) key c.polygons (known_is_among key_keys key (polygon_keys c) k) in
-      let whole : (is_some e.0.1 || stands_in key_cmp e.0.0 (polygons_along c.chains)) ≡ true =
-      all_among (λ d. IsTrue (is_some d.1 || stands_in key_cmp d.0 (polygons_along c.chains))) e.0 c.polygons is.whole.polygons e.1 in
+      let whole : (is_some e.0.1 || stands_in key_cmp e.0.0 (polygons_along c.chains)) ≡ true = search (rules, all_among) in
       subst (Known key_cmp (flat_map side_keys (of_type_i (packed c)) ++ map p_key (of_type_p (packed c)))) (sym e.2)
       (go e.0 e.1 (or_cases (is_some e.0.1) (stands_in key_cmp e.0.0 (polygons_along c.chains)) whole))
     where
@@ -112,25 +79,14 @@ module _ (c : County) (is : IsCounty c) where
       with_body d m (Some body) same some =
           let r : FieldsP = record { cenid = d.0.0; polyid = d.0.1; body = body } in
           let listed : Among r (filter_map packed_p c.polygons) = to_filter_map packed_p d r c.polygons m (ap (packed_body d.0) same) in
-          let ordered : Among r (of_type_p (packed c)) =
-          subst (Among r) (sym (polygons_packed c is)) (to_in_order (on p_polyid nat_cmp) (filter_map packed_p c.polygons) r listed) in
+          let ordered : Among r (of_type_p (packed c)) = search (rules, polygons_packed, to_in_order) in
           among_known key_keys d.0 (map p_key (of_type_p (packed c))) (among-map p_key r (of_type_p (packed c)) ordered)
 
       go : (d : PolygonKey × Option BodyP) → Among d c.polygons
           → (is_some d.1 ≡ true) ⊎ (stands_in key_cmp d.0 (polygons_along c.chains) ≡ true)
           → Known key_cmp (flat_map side_keys (of_type_i (packed c)) ++ map p_key (of_type_p (packed c))) d.0
-      go d m (inl some) = known-right key_keys d.0 (flat_map side_keys (of_type_i (packed c))) (map p_key (of_type_p (packed c)))
-          (with_body d m d.1 refl some)
-      go d m (inr side) = known-left key_keys d.0 (flat_map side_keys (of_type_i (packed c))) (map p_key (of_type_p (packed c)))
-          (subst (λ ks. Known key_cmp ks d.0) (sym sides_along) (ltb-true 0 (times key_cmp d.0 (polygons_along c.chains)) side))
+      go d m (inl some) = search (rules, known-right, key_keys, with_body)
+      go d m (inr side) = search (rules, known-left, key_keys, sides_along, ltb-true)
 
   pub few_polygons : IsApart key_cmp (map p_key (of_type_p (packed c)))
-  few_polygons k =
-      let ordered : times key_cmp k (map p_key (in_order (on p_polyid nat_cmp) (filter_map packed_p c.polygons))) ≡ times key_cmp k
-      (map p_key (filter_map packed_p c.polygons)) =
-      times-in_order key_cmp p_key (on p_polyid nat_cmp) (filter_map packed_p c.polygons) k in
-      let few : times key_cmp k (map p_key (filter_map packed_p c.polygons)) ≤ times key_cmp k (polygon_keys c) =
-      few_packed_keys k c.polygons in
-      let one : times key_cmp k (polygon_keys c) ≤ 1 = apart_from_sorted key_keys (polygon_keys c) is.ascending.polygons k in
-      subst (λ xs. times key_cmp k (map p_key xs) ≤ 1) (sym (polygons_packed c is))
-      (let t : times key_cmp k (map p_key (in_order (on p_polyid nat_cmp) (filter_map packed_p c.polygons))) ≤ 1 = omega arith in t)
+  few_polygons k = search (rules, times-in_order, few_packed_keys, apart_from_sorted, key_keys, polygons_packed)

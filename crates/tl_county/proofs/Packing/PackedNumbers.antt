@@ -1,11 +1,11 @@
 -- The records of each type of a packed county, and their numbers.
-use Rattle.std.proofs.Common.{◌≡◌, ◌<◌, ℕ, suc, List, [], ◌∷◌, map, flat_map, filter_map, Less, refl, ap, ◌∙◌, arith, nat_cmp}
-use Rattle.tl_county.proofs.Common.{AllByRecursion, Body7, Chain, County, IsApart, IsCounty, Ranges, Type1, Type2, Type4, Type5, Type6}
-use Rattle.tl_county.proofs.Common.{Type7, Type8, TypeI, TypeP, all_everywhere, all_map, apart_from_sorted, chain_tlids, feats, five_feat}
-use Rattle.tl_county.proofs.Common.{four_tlid, i_tlid, in_order, in_pieces, inner_points, map-map, nat_keys, numbered_from, of_type_1}
-use Rattle.tl_county.proofs.Common.{of_type_2, of_type_4, of_type_5, of_type_6, of_type_7, of_type_8, of_type_i, of_type_p, on, one_tlid}
-use Rattle.tl_county.proofs.Common.{p_polyid, packed, packed_by_type, packed_five, packed_fours, packed_i, packed_one, packed_p}
-use Rattle.tl_county.proofs.Common.{packed_sevens, packed_sixes, packed_twos, seven_land, six_tlid, tlids, two_tlid}
+use Rattle.std.proofs.Common.{rules, ◌≡◌, ◌<◌, ℕ, suc, List, [], ◌∷◌, map, flat_map, filter_map, Less, refl, ap, ◌∙◌, arith, nat_cmp}
+use Rattle.tl_county.proofs.Common.{AllByRecursion, Body7, Chain, County, IsApart, IsCounty, Type1, Type2, Type4, Type5, Type6, Type7}
+use Rattle.tl_county.proofs.Common.{Type8, TypeI, TypeP, all_everywhere, all_map, apart_from_sorted, chain_tlids, feats, five_feat}
+use Rattle.tl_county.proofs.Common.{four_tlid, i_tlid, in_order, map-map, nat_keys, numbered_from, of_type_1, of_type_2, of_type_4}
+use Rattle.tl_county.proofs.Common.{of_type_5, of_type_6, of_type_7, of_type_8, of_type_i, of_type_p, on, one_tlid, p_polyid, packed}
+use Rattle.tl_county.proofs.Common.{packed_by_type, packed_five, packed_fours, packed_i, packed_one, packed_p, packed_sevens, packed_sixes}
+use Rattle.tl_county.proofs.Common.{packed_twos, seven_land, six_tlid, tlids, two_tlid}
 use Rattle.std.specs.List.Sorted.{IsStrictlySortedBy}
 use Rattle.tl_county.specs.Laws.PackedTypes.{of_its_type}
 use Rattle.tl_county.proofs.Packing.Repacking.{less}
@@ -17,16 +17,13 @@ own number n make same ys = all_map (λ x. number x ≡ n) make ys (all_everywhe
 
 -- each record of an entry has its number
 pub two_own : (e : ℕ × Chain) → AllByRecursion (λ x. two_tlid x ≡ e.0) (packed_twos e)
-two_own e = own two_tlid e.0 (λ (piece : ℕ × List _). record { tlid = e.0; rtsq = piece.0; points = piece.1 }) (λ piece. refl)
-    (numbered_from 1 (in_pieces 10 (inner_points e.1.points)))
+two_own e = search (rules, own)
 
 pub four_own : (e : ℕ × Chain) → AllByRecursion (λ x. four_tlid x ≡ e.0) (packed_fours e)
-four_own e = own four_tlid e.0 (λ (piece : ℕ × List ℕ). record { tlid = e.0; rtsq = piece.0; feats = piece.1 }) (λ piece. refl)
-    (numbered_from 1 (in_pieces 5 e.1.feats))
+four_own e = search (rules, own)
 
 pub six_own : (e : ℕ × Chain) → AllByRecursion (λ x. six_tlid x ≡ e.0) (packed_sixes e)
-six_own e = own six_tlid e.0 (λ (piece : ℕ × Ranges). record { tlid = e.0; rtsq = piece.0; ranges = piece.1 }) (λ piece. refl)
-    (numbered_from 1 e.1.ranges)
+six_own e = search (rules, own)
 
 pub seven_own : (e : ℕ × List Body7) → AllByRecursion (λ x. seven_land x ≡ e.0) (packed_sevens e)
 seven_own e = own seven_land e.0 (λ body. record { land = e.0; body = body }) (λ body. refl) e.1

@@ -1,5 +1,5 @@
 -- Lists cut into pieces, and elements numbered from a number on.
-use Rattle.std.proofs.Common.{◌≡◌, ◌+◌, ◌*◌, ◌<◌, ◌≤◌, ℕ, zero, suc, List, [], ◌∷◌, map, length, drop, refl, ap, ◌∙◌, arith}
+use Rattle.std.proofs.Common.{rules, ◌≡◌, ◌+◌, ◌*◌, ◌<◌, ◌≤◌, ℕ, zero, suc, List, [], ◌∷◌, map, length, drop, refl, ap, arith}
 use Rattle.tl_county.proofs.Common.{AllByRecursion, all_weaker, numbered_from, pieces}
 use Rattle.std.proofs.lemmas.List.{length-drop, length-take}
 use Rattle.std.specs.List.{range_with_len}
@@ -11,9 +11,7 @@ few_pieces n c zero xs h = omega arith
 few_pieces n c (suc most) [] h = omega arith
 few_pieces n zero (suc most) (x ∷ xs) h = absurd (omega arith)
 few_pieces n (suc c) (suc most) (x ∷ xs) h =
-    let rest : length (pieces n most (drop n (x ∷ xs))) ≤ c =
-    few_pieces n c most (drop n (x ∷ xs)) (omega (arith, length-drop n (x ∷ xs), h)) in
-    omega arith
+    search (rules, length-drop, few_pieces n c most (drop n (x ∷ xs)) (omega (arith, length-drop n (x ∷ xs), h)))
 
 pub short_pieces : {X : Type 0} (n most : ℕ) (xs : List X) → AllByRecursion (λ piece. length piece ≤ n) (pieces n most xs)
 short_pieces n zero xs = tt
@@ -46,8 +44,7 @@ length-numbered_from i (x ∷ xs) = ap suc (length-numbered_from (suc i) xs)
 -- numbered lists
 pub lefts-numbered_from : {X : Type 0} (i : ℕ) (xs : List X) → map (λ (e : ℕ × X). e.0) (numbered_from i xs) ≡ range_with_len i (length xs)
 lefts-numbered_from i [] = refl
-lefts-numbered_from i (x ∷ xs) =
-    ap (λ ns. i ∷ ns) (lefts-numbered_from (suc i) xs ∙ ap (λ j. range_with_len j (length xs)) (let t : suc i ≡ i + 1 = omega arith in t))
+lefts-numbered_from i (x ∷ xs) = search (rules, lefts-numbered_from (suc i) xs)
 
 pub rights-numbered_from : {X : Type 0} (i : ℕ) (xs : List X) → map (λ (e : ℕ × X). e.1) (numbered_from i xs) ≡ xs
 rights-numbered_from i [] = refl

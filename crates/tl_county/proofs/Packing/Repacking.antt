@@ -1,16 +1,15 @@
 -- The county depends on the packing of types 2 and 4 and on RTSQs only through the contents in their order.
-use Rattle.std.proofs.Common.{◌≡◌, ◌⊎◌, ◌<◌, ℕ, ◌==◌, List, [], ◌∷◌, ◌++◌, map, flat_map, filter, filter_map, Bool, true, false}
-use Rattle.std.proofs.Common.{cond, Option, Some, None, option_map, Ordering, Less, Equal, Greater, is_eq, is_gt, sym, refl, ap}
-use Rattle.std.proofs.Common.{ap₂, ◌∙◌, inl, inr, nat_cmp, IsTrue, suc, nat_lt, not, ◌&&◌, ◌||◌, length}
-use Rattle.tl_county.proofs.Common.{AllByRecursion, ChainTwice, as_type, Eight, Fields1, Fields2, Fields4, Fields5, Fields6, Fields7, FieldsI}
-use Rattle.tl_county.proofs.Common.{FieldsP, Five, IsLinked, LandUnknown, LinkFault, LinkMissing, LinkTwice, LinkedType, Memory, NameTwice}
-use Rattle.tl_county.proofs.Common.{NameUnknown, NoChain, One, P, PolygonTwice, PolygonUnknown, Record, SequenceBroken, SequencedType}
-use Rattle.tl_county.proofs.Common.{Seven, Typed, all-in_order, all_known, all_map, by_type, chain_of, chains_of, cons_option, county_of}
-use Rattle.tl_county.proofs.Common.{distinct, eight_land, first, five_feat, four_rtsq, four_tlid, further_names, further_ranges, has_repeat}
-use Rattle.tl_county.proofs.Common.{i_tlid, in_order, is_rule_broken, key_cmp, landmark_body_cmp, link_cmp, link_key, linked_tlids, lt-ltb}
-use Rattle.tl_county.proofs.Common.{map-map, map_agree_all, map_agree_everywhere, named_feats, nat_cmp_total, nat_keys, of_number}
-use Rattle.tl_county.proofs.Common.{of_type_2, of_type_4, of_type_6, on, one_tlid, p_key, polygons_of, put_in_order, rtsqs, seven_land}
-use Rattle.tl_county.proofs.Common.{shape_points, side_keys, six_rtsq, six_tlid, stands_in, tied_itself, times, two_rtsq, two_tlid}
+use Rattle.std.proofs.Common.{rules, arith, ◌≡◌, ◌<◌, ℕ, ◌==◌, List, [], ◌∷◌, ◌++◌, map, flat_map, filter_map, cond, Option, Some, None}
+use Rattle.std.proofs.Common.{option_map, Ordering, Less, Equal, Greater, is_gt, sym, refl, ap, ap₂, ◌∙◌, nat_cmp, IsTrue, nat_lt, ◌||◌}
+use Rattle.tl_county.proofs.Common.{common_steps, AllByRecursion, ChainTwice, Eight, Fields1, Fields2, Fields4, Fields6, FieldsI, Five}
+use Rattle.tl_county.proofs.Common.{IsLinked, LandUnknown, LinkFault, LinkMissing, LinkTwice, LinkedType, Memory, NameTwice, NameUnknown}
+use Rattle.tl_county.proofs.Common.{NoChain, One, P, PolygonTwice, PolygonUnknown, Record, SequenceBroken, SequencedType, Seven, Typed}
+use Rattle.tl_county.proofs.Common.{all-in_order, all_known, all_map, by_type, chain_of, chains_of, cons_option, county_of, five_feat}
+use Rattle.tl_county.proofs.Common.{four_rtsq, four_tlid, further_names, further_ranges, has_repeat, i_tlid, in_order, is_rule_broken}
+use Rattle.tl_county.proofs.Common.{key_cmp, linked_tlids, lt-ltb, map-map, map_agree_all, map_agree_everywhere, named_feats, nat_cmp_total}
+use Rattle.tl_county.proofs.Common.{nat_keys, of_number, of_type_2, of_type_4, of_type_6, on, one_tlid, p_key, polygons_of, put_in_order}
+use Rattle.tl_county.proofs.Common.{rtsqs, shape_points, six_rtsq, six_tlid, stands_in, tied_itself, times, two_rtsq, two_tlid}
+use Rattle.tl_county.proofs.Common.{as_type}
 use Rattle.std.proofs.lemmas.Bool.{cases_order}
 use Rattle.std.specs.Ordering.{ordering_reverse}
 use Rattle.tl_layout.specs.declared.record_type.Record.TheVariants.{Two, Four, Six, I}
@@ -35,28 +34,16 @@ pub record AreRepacked (xs ys : List Record) : Type 0 where
 
 module _ (xs ys : List Record) (s : AreRepacked xs ys) where
   chain_same : (r : Fields1) (link : FieldsI) → chain_of xs r link ≡ chain_of ys r link
-  chain_same r link = λ i. record (chain_of xs r link) {
-    points = r.start ∷ (s.points r.tlid i ++ (r.end ∷ []));
-    feats = s.names r.tlid i;
-    ranges = s.ranges r.tlid i;
-  }
+  chain_same r link = search rules
 
   chains_same : chains_of xs ≡ chains_of ys
   chains_same = chains_alike xs ys chain_same (λ n i. of_number i_tlid n (s.rest i).of_type_i) (λ i. in_order (on one_tlid nat_cmp) (s.rest i).of_type_1)
 
   polygons_same : polygons_of xs ≡ polygons_of ys
-  polygons_same = ap₂ (λ ls qs. map (λ k. (k, first (map (λ (q : FieldsP). q.body) (filter (λ q. is_eq (key_cmp k (p_key q))) qs))))
-      (distinct key_cmp (flat_map side_keys ls ++ map p_key qs))) (λ i. (s.rest i).of_type_i) (λ i. (s.rest i).of_type_p)
+  polygons_same = search rules
 
   pub repacked-county : county_of xs ≡ county_of ys
-  repacked-county = λ i. record {
-    chains = chains_same i;
-    names = map (λ (r : Fields5). (r.feat, r.body)) (in_order (on five_feat nat_cmp) (s.rest i).of_type_5);
-    polygons = polygons_same i;
-    landmarks = map (λ land. (land, in_order landmark_body_cmp (map (λ (r : Fields7). r.body) (of_number seven_land land (s.rest i).of_type_7))))
-        (distinct nat_cmp (map seven_land (s.rest i).of_type_7));
-    links = in_order link_cmp (s.rest i).of_type_8;
-  }
+  repacked-county = search (rules, chains_alike)
 
 -- lists changed element by element
 select-changed : {X Y : Type 0} (h : X → Option Y) (g : X → X) (f : Y → Y) → ((x : X) → h (g x) ≡ option_map f (h x)) → (xs : List X)
@@ -71,32 +58,19 @@ select-changed {X} {Y} h g f k (x ∷ xs) = ap₂ cons_option (k x) (select-chan
 number-kept : {X : Type 0} (number : X → ℕ) (f : X → X) → ((x : X) → number (f x) ≡ number x) → (n : ℕ) (xs : List X)
     → of_number number n (map f xs) ≡ map f (of_number number n xs)
 number-kept number f k n [] = refl
-number-kept number f k n (x ∷ xs) = ap₂ (λ b ys. cond b (f x ∷ ys) ys) (ap (λ m. m == n) (k x)) (number-kept number f k n xs)
-    ∙ go (number x == n)
-  where
-    go : (b : Bool) → cond b (f x ∷ map f (of_number number n xs)) (map f (of_number number n xs)) ≡ map f
-        (cond b (x ∷ of_number number n xs) (of_number number n xs))
-    go true = refl
-    go false = refl
+number-kept number f k n (x ∷ xs) = search (rules, number-kept number f k n xs)
 
 put-changed : {X : Type 0} (by : X → X → Ordering) (f : X → X) (Q : X → Type 0)
     → ((x y : X) → Q x → Q y → is_gt (by (f x) (f y)) ≡ is_gt (by x y)) → (x : X) → Q x → (ys : List X) → AllByRecursion Q ys
     → put_in_order by (f x) (map f ys) ≡ map f (put_in_order by x ys)
 put-changed by f Q k x p [] a = refl
-put-changed by f Q k x p (y ∷ ys) a = ap₂ (λ b zs. cond b (f y ∷ zs) (f x ∷ f y ∷ map f ys)) (k x y p a.0) (put-changed by f Q k x p ys a.1)
-    ∙ go (is_gt (by x y))
-  where
-    go : (b : Bool) → cond b (f y ∷ map f (put_in_order by x ys)) (f x ∷ f y ∷ map f ys) ≡ map f
-        (cond b (y ∷ put_in_order by x ys) (x ∷ y ∷ ys))
-    go true = refl
-    go false = refl
+put-changed by f Q k x p (y ∷ ys) a = search (rules, put-changed by f Q k x p ys a.1)
 
 order-changed : {X : Type 0} (by : X → X → Ordering) (f : X → X) (Q : X → Type 0)
     → ((x y : X) → Q x → Q y → is_gt (by (f x) (f y)) ≡ is_gt (by x y)) → (xs : List X) → AllByRecursion Q xs
     → in_order by (map f xs) ≡ map f (in_order by xs)
 order-changed by f Q k [] a = refl
-order-changed by f Q k (x ∷ xs) a = ap (put_in_order by (f x)) (order-changed by f Q k xs a.1)
-    ∙ put-changed by f Q k x a.0 (in_order by xs) (all-in_order Q by xs a.1)
+order-changed by f Q k (x ∷ xs) a = search (rules, put-changed, all-in_order, order-changed by f Q k xs a.1)
 
 pub less : (m n : ℕ) → m < n → nat_cmp m n ≡ Less
 less m n h = ap (λ b. cond b Less (cond (m == n) Equal Greater)) (lt-ltb m n h)
@@ -106,13 +80,7 @@ greater m n h = nat_cmp_total.antisymm m n ∙ ap ordering_reverse (less n m h)
 
 -- two numbers that increase with two others have the same order
 rising : (f : ℕ → ℕ) (i j : ℕ) → (i < j → f i < f j) → (j < i → f j < f i) → nat_cmp (f i) (f j) ≡ nat_cmp i j
-rising f i j up down = go (cases_order i j)
-  where
-    go : (i ≡ j) ⊎ ((i < j) ⊎ (j < i)) → nat_cmp (f i) (f j) ≡ nat_cmp i j
-    go (inl e) = ap (nat_cmp (f i)) (ap f (sym e)) ∙ tied_itself nat_cmp_total (f i)
-        ∙ sym (ap (nat_cmp i) (sym e) ∙ tied_itself nat_cmp_total i)
-    go (inr (inl lt)) = less (f i) (f j) (up lt) ∙ sym (less i j lt)
-    go (inr (inr gt)) = greater (f i) (f j) (down gt) ∙ sym (greater i j gt)
+rising f i j up down = search (rules, cases_order, tied_itself, nat_cmp_total, less, greater)
 
 -- the number is one of the list's numbers
 abbrev Stands : {X : Type 0} → (X → ℕ) → List X → ℕ → Type 0
@@ -144,18 +112,7 @@ flat_map-kept c f k (x ∷ xs) = λ i. k x i ++ flat_map-kept c f k xs i
 module _ (f : ℕ → ℕ) (P : ℕ → Type 0) (up : (i j : ℕ) → P i → P j → i < j → f i < f j) where
   times-rising : (k : ℕ) → P k → (ks : List ℕ) → AllByRecursion P ks → times nat_cmp (f k) (map f ks) ≡ times nat_cmp k ks
   times-rising k p [] a = refl
-  times-rising k p (j ∷ js) a =
-      ap (λ b. length (cond b (f j ∷ filter (λ other. is_eq (nat_cmp (f k) other)) (map f js))
-      (filter (λ other. is_eq (nat_cmp (f k) other)) (map f js))))
-      (ap is_eq (rising f k j (up k j p a.0) (up j k a.0 p)))
-      ∙ go (is_eq (nat_cmp k j)) (times-rising k p js a.1)
-    where
-      go : (b : Bool) → times nat_cmp (f k) (map f js) ≡ times nat_cmp k js
-          → length (cond b (f j ∷ filter (λ other. is_eq (nat_cmp (f k) other)) (map f js))
-          (filter (λ other. is_eq (nat_cmp (f k) other)) (map f js))) ≡ length
-          (cond b (j ∷ filter (λ other. is_eq (nat_cmp k other)) js) (filter (λ other. is_eq (nat_cmp k other)) js))
-      go true ih = ap suc ih
-      go false ih = ih
+  times-rising k p (j ∷ js) a = grind (arith, common_steps, rising, times-rising k p js a.1)
 
   repeat-rising : (ks : List ℕ) → AllByRecursion P ks → has_repeat nat_cmp (map f ks) ≡ has_repeat nat_cmp ks
   repeat-rising [] a = refl
@@ -266,9 +223,7 @@ module _ (q : Sequence) (xs : List Record) (up : KeepsSequence q xs) where
 
   named_same : (n : ℕ) → named_feats n ys ≡ named_feats n xs
   unfolding new_four
-  named_same n = ap (λ rs. flat_map (λ (r : Fields4). r.feats) (of_number four_tlid n rs)) four_is
-      ∙ ap (flat_map (λ (r : Fields4). r.feats)) (number-kept four_tlid new_four (λ r. refl) n (of_type_4 xs))
-      ∙ flat_map-kept (λ (r : Fields4). r.feats) new_four (λ r. refl) (of_number four_tlid n (of_type_4 xs))
+  named_same n = search (rules, four_is, number-kept, flat_map-kept)
 
   sequence_same : (t : SequencedType) (n : ℕ) → has_repeat nat_cmp (rtsqs t n ys) ≡ has_repeat nat_cmp (rtsqs t n xs)
   unfolding new_two new_four new_six
@@ -282,22 +237,15 @@ module _ (q : Sequence) (xs : List Record) (up : KeepsSequence q xs) where
   same_broken : (f : LinkFault) → is_rule_broken ys f ≡ is_rule_broken xs f
   unfolding ys
   same_broken (ChainTwice n) = λ i. nat_lt 1 (times nat_cmp n (map one_tlid (keeps_rest xs i).of_type_1))
-  same_broken (NoChain t n) = λ i. stands_in nat_cmp n (linked_same t i) && not
-      (stands_in nat_cmp n (map one_tlid (keeps_rest xs i).of_type_1))
+  same_broken (NoChain t n) = search (rules, linked_same, keeps_rest)
   same_broken (SequenceBroken t n) = sequence_same t n
-  same_broken (LinkMissing n) = λ i.
-      stands_in nat_cmp n (map one_tlid (keeps_rest xs i).of_type_1) && not (stands_in nat_cmp n (map i_tlid (keeps_rest xs i).of_type_i))
+  same_broken (LinkMissing n) = search (rules, keeps_rest)
   same_broken (LinkTwice n) = λ i. nat_lt 1 (times nat_cmp n (map i_tlid (keeps_rest xs i).of_type_i))
   same_broken (NameTwice n) = λ i. nat_lt 1 (times nat_cmp n (map five_feat (keeps_rest xs i).of_type_5))
-  same_broken (NameUnknown n y) = λ i. stands_in nat_cmp y (named_same n i) && not
-      (stands_in nat_cmp y (map five_feat (keeps_rest xs i).of_type_5))
+  same_broken (NameUnknown n y) = search (rules, named_same, keeps_rest)
   same_broken (PolygonTwice c k) = λ i. nat_lt 1 (times key_cmp (c, k) (map p_key (keeps_rest xs i).of_type_p))
-  same_broken (LandUnknown n) = λ i.
-      stands_in nat_cmp n (map eight_land (keeps_rest xs i).of_type_8) && not
-      (stands_in nat_cmp n (map seven_land (keeps_rest xs i).of_type_7))
-  same_broken (PolygonUnknown c k) = λ i.
-      stands_in key_cmp (c, k) (map link_key (keeps_rest xs i).of_type_8) && not
-      (stands_in key_cmp (c, k) (flat_map side_keys (keeps_rest xs i).of_type_i ++ map p_key (keeps_rest xs i).of_type_p))
+  same_broken (LandUnknown n) = search (rules, keeps_rest)
+  same_broken (PolygonUnknown c k) = search (rules, keeps_rest)
   same_broken Memory = refl
 
   pub resequenced-linked : IsLinked xs → IsLinked (map (resequenced q) xs)

@@ -1,17 +1,16 @@
 -- Cutting a record of type 2 or 4 into two, or leaving out an empty one, changes neither whether a list is linked nor its county.
-use Rattle.std.proofs.Common.{◌≡◌, ◌⊎◌, ◌<◌, ℕ, suc, nat_lt, ◌==◌, List, [], ◌∷◌, ◌++◌, map, flat_map, Bool, true, false, cond, not}
-use Rattle.std.proofs.Common.{◌&&◌, ◌||◌, Ordering, is_eq, is_gt, sym, refl, ap, ap₂, ◌∙◌, subst, inl, inr, arith, nat_cmp, length}
-use Rattle.std.proofs.Common.{IsPermutation, append_assoc, filter}
-use Rattle.tl_county.proofs.Common.{AllByRecursion, Fields2, Fields4, IsLinked, IsPermutation-sym, LinkFault, NameUnknown, NoChain, Record}
-use Rattle.tl_county.proofs.Common.{SequenceBroken, all-in_order, chain_tlids, county_of, eqb-true, false≢true, four_rtsq, four_tlid}
-use Rattle.tl_county.proofs.Common.{has_repeat, in_order, is_rule_broken, lt-ltb, nat_keys, of_number, of_type_2, of_type_4, of_type_5, on}
-use Rattle.tl_county.proofs.Common.{put_in_order, stands_in, times-no, two_rtsq, two_tlid}
+use Rattle.std.proofs.Common.{rules, ◌≡◌, ◌⊎◌, ◌<◌, ℕ, ◌==◌, List, [], ◌∷◌, ◌++◌, map, flat_map, Bool, true, false, cond, not, ◌&&◌}
+use Rattle.std.proofs.Common.{Ordering, is_eq, is_gt, sym, refl, ap, ◌∙◌, subst, inl, inr, arith, nat_cmp, IsPermutation, append_assoc}
+use Rattle.tl_county.proofs.Common.{common_steps, AllByRecursion, Fields2, Fields4, IsLinked, IsPermutation-sym, LinkFault, NameUnknown}
+use Rattle.tl_county.proofs.Common.{NoChain, Record, SequenceBroken, all-in_order, chain_tlids, county_of, eqb-true, false≢true, four_rtsq}
+use Rattle.tl_county.proofs.Common.{four_tlid, has_repeat, in_order, is_rule_broken, lt-ltb, nat_keys, of_number, of_type_2, of_type_4}
+use Rattle.tl_county.proofs.Common.{of_type_5, on, put_in_order, stands_in, times-no, two_rtsq, two_tlid}
 use Rattle.tl_layout.specs.declared.record_type.Record.TheVariants.{Two, Four}
 use Rattle.tl_county.specs.Repacked.{IsCut, AreCut, IsSplit, IsEmpty, LeavesEmptyOut}
 use Rattle.tl_county.specs.declared.fault.LinkedType.TheVariants.{Two as Type2, Four as Type4}
-use Rattle.tl_county.specs.declared.fault.SequencedType.TheVariants as sequenced_types
 use Rattle.tl_county.proofs.Packing.Repacking.{AreRepacked, less, greater, repacked-county}
 use Rattle.tl_county.proofs.Sameness.SameCounty.{reordered-linked, reordered-county}
+use Rattle.tl_county.specs.declared.fault.SequencedType.TheVariants as sequenced_types
 
 module _ {X : Type 0} (by : X → X → Ordering) (x y : X) (ys : List X) where
   put-after : is_gt (by x y) ≡ true → put_in_order by x (y ∷ ys) ≡ y ∷ put_in_order by x ys
@@ -28,14 +27,7 @@ falls m n h = ap is_gt (greater m n h)
 
 -- a key that is in the list twice is in the list
 stands-twice : (n k : ℕ) (ks : List ℕ) → stands_in nat_cmp n (k ∷ ks) ≡ stands_in nat_cmp n (k ∷ k ∷ ks)
-stands-twice n k ks = go (is_eq (nat_cmp n k))
-  where
-    F : List ℕ
-    F = filter (λ other. is_eq (nat_cmp n other)) ks
-
-    go : (b : Bool) → nat_lt 0 (length (cond b (k ∷ F) F)) ≡ nat_lt 0 (length (cond b (k ∷ cond b (k ∷ F) F) (cond b (k ∷ F) F)))
-    go true = lt-ltb 0 (suc (length F)) (omega arith) ∙ sym (lt-ltb 0 (suc (suc (length F))) (omega arith))
-    go false = refl
+stands-twice n k ks = search (rules, lt-ltb)
 
 module _ {X Y : Type 0} (tlid rtsq : X → ℕ) (held : X → List Y) where
   abbrev pub by_rtsq : X → X → Ordering
@@ -54,27 +46,8 @@ module _ {X Y : Type 0} (tlid rtsq : X → ℕ) (held : X → List Y) where
 
     put-cut : (xs : List X) → AllByRecursion IsFree xs
         → flat_map held (put_in_order by_rtsq whole xs) ≡ flat_map held (put_in_order by_rtsq first (put_in_order by_rtsq second xs))
-    put-cut [] free = joined_with [] ∙ ap (flat_map held) (sym (put-before by_rtsq first second [] (rises (rtsq first)
-        (rtsq second) cut.later)))
-    put-cut (x ∷ xs) free = go free.0 (put-cut xs free.1)
-      where
-        go : IsFree x
-            → flat_map held (put_in_order by_rtsq whole xs) ≡ flat_map held (put_in_order by_rtsq first (put_in_order by_rtsq second xs))
-            → flat_map held (put_in_order by_rtsq whole (x ∷ xs)) ≡ flat_map held
-            (put_in_order by_rtsq first (put_in_order by_rtsq second (x ∷ xs)))
-        go (inl below) ih =
-            ap (flat_map held) (put-after by_rtsq whole x xs (falls (rtsq whole) (rtsq x) (subst (λ r. rtsq x < r) cut.kept below)))
-            ∙ ap (λ ys. held x ++ ys) ih
-            ∙ sym (ap (λ ys. flat_map held (put_in_order by_rtsq first ys))
-            (put-after by_rtsq second x xs (falls (rtsq second) (rtsq x) (let l = cut.later in omega (arith, below, l))))
-            ∙ ap (flat_map held) (put-after by_rtsq first x (put_in_order by_rtsq second xs) (falls (rtsq first) (rtsq x) below)))
-        go (inr above) ih =
-            ap (flat_map held) (put-before by_rtsq whole x xs (rises (rtsq whole) (rtsq x)
-            (subst (λ r. r < rtsq x) cut.kept (let l = cut.later in omega (arith, above, l)))))
-            ∙ joined_with (flat_map held (x ∷ xs))
-            ∙ sym (ap (λ ys. flat_map held (put_in_order by_rtsq first ys))
-            (put-before by_rtsq second x xs (rises (rtsq second) (rtsq x) above))
-            ∙ ap (flat_map held) (put-before by_rtsq first second (x ∷ xs) (rises (rtsq first) (rtsq second) cut.later)))
+    put-cut [] free = search (rules, joined_with, put-before, rises)
+    put-cut (x ∷ xs) free = search (rules, put-after, falls, put-before, rises, joined_with, put-cut xs free.1)
 
     -- the records of a chain, by whether the record that is cut is one of them
     of_chain : (n : ℕ) → (C : List X → List X → Type 0)
@@ -100,16 +73,13 @@ module _ {X Y : Type 0} (tlid rtsq : X → ℕ) (held : X → List Y) where
     free_of n e = subst (λ m. AllByRecursion IsFree (of_number tlid m others)) e cut.free
 
     pub sequenced-cut : (n : ℕ) → sequenced (of_number tlid n (whole ∷ others)) ≡ sequenced (of_number tlid n (first ∷ second ∷ others))
-    sequenced-cut n = of_chain n (λ xs ys. sequenced xs ≡ sequenced ys)
-        (λ e. put-cut (in_order by_rtsq (of_number tlid n others))
-        (all-in_order IsFree by_rtsq (of_number tlid n others) (free_of n e))) refl
+    sequenced-cut n = search (rules, put-cut, all-in_order, free_of)
 
     pub held-cut : (n : ℕ) → flat_map held (of_number tlid n (whole ∷ others)) ≡ flat_map held (of_number tlid n (first ∷ second ∷ others))
     held-cut n = of_chain n (λ xs ys. flat_map held xs ≡ flat_map held ys) (λ e. joined_with (flat_map held (of_number tlid n others))) refl
 
     pub known-cut : (n : ℕ) → stands_in nat_cmp n (map tlid (whole ∷ others)) ≡ stands_in nat_cmp n (map tlid (first ∷ second ∷ others))
-    known-cut n = stands-twice n (tlid whole) (map tlid others)
-        ∙ ap₂ (λ a b. stands_in nat_cmp n (a ∷ b ∷ map tlid others)) (sym cut.first_chain) (sym cut.second_chain)
+    known-cut n = search (rules, stands-twice)
 
     differs : (m n : ℕ) → (m < n) ⊎ (n < m) → is_eq (nat_cmp m n) ≡ false
     differs m n (inl h) = ap is_eq (less m n h)
@@ -117,13 +87,7 @@ module _ {X Y : Type 0} (tlid rtsq : X → ℕ) (held : X → List Y) where
 
     absent : (xs : List X) → AllByRecursion IsFree xs → stands_in nat_cmp (rtsq second) (map rtsq xs) ≡ false
     absent [] free = refl
-    absent (x ∷ xs) free = ap (nat_lt 0) (times-no nat_keys (rtsq second) (rtsq x) (map rtsq xs) (differs (rtsq second) (rtsq x)
-        (apart free.0)))
-        ∙ absent xs free.1
-      where
-        apart : IsFree x → (rtsq second < rtsq x) ⊎ (rtsq x < rtsq second)
-        apart (inl below) = inr (let l = cut.later in omega (arith, below, l))
-        apart (inr above) = inl above
+    absent (x ∷ xs) free = search (rules, times-no, nat_keys, differs, absent xs free.1)
 
     pub repeat-cut : (n : ℕ) → has_repeat nat_cmp (map rtsq (of_number tlid n (whole ∷ others))) ≡ has_repeat nat_cmp
         (map rtsq (of_number tlid n (first ∷ second ∷ others)))
@@ -132,109 +96,53 @@ module _ {X Y : Type 0} (tlid rtsq : X → ℕ) (held : X → List Y) where
       where
         here : (xs : List X) → AllByRecursion IsFree xs
             → has_repeat nat_cmp (map rtsq (whole ∷ xs)) ≡ has_repeat nat_cmp (map rtsq (first ∷ second ∷ xs))
-        here xs free =
-            ap (λ r. stands_in nat_cmp r (map rtsq xs) || has_repeat nat_cmp (map rtsq xs)) (sym cut.kept)
-            ∙ ap₂ (λ a b. a || (b || has_repeat nat_cmp (map rtsq xs)))
-            (sym (ap (nat_lt 0) (times-no nat_keys (rtsq first) (rtsq second) (map rtsq xs)
-            (differs (rtsq first) (rtsq second) (inl cut.later))))) (sym (absent xs free))
+        here xs free = search (rules, times-no, nat_keys, differs, absent)
 
   -- a record that holds nothing
   module _ (empty : X) (is_empty : held empty ≡ []) where
     put-empty : (xs : List X) → flat_map held (put_in_order by_rtsq empty xs) ≡ flat_map held xs
     put-empty [] = ap (λ h. h ++ []) is_empty
-    put-empty (x ∷ xs) = go (is_gt (by_rtsq empty x)) (put-empty xs)
-      where
-        go : (b : Bool) → flat_map held (put_in_order by_rtsq empty xs) ≡ flat_map held xs
-            → flat_map held (cond b (x ∷ put_in_order by_rtsq empty xs) (empty ∷ x ∷ xs)) ≡ flat_map held (x ∷ xs)
-        go true ih = ap (λ ys. held x ++ ys) ih
-        go false ih = ap (λ h. h ++ flat_map held (x ∷ xs)) is_empty
+    put-empty (x ∷ xs) = search (rules, put-empty xs)
 
     pub sequenced-empty : (n : ℕ) (others : List X) → sequenced (of_number tlid n (empty ∷ others)) ≡ sequenced (of_number tlid n others)
-    sequenced-empty n others = go (tlid empty == n)
-      where
-        go : (b : Bool) → sequenced (cond b (empty ∷ of_number tlid n others) (of_number tlid n others))
-            ≡ sequenced (of_number tlid n others)
-        go true = put-empty (in_order by_rtsq (of_number tlid n others))
-        go false = refl
+    sequenced-empty n others = search (rules, put-empty)
 
     pub held-empty : (n : ℕ) (others : List X) → flat_map held (of_number tlid n (empty ∷ others)) ≡ flat_map held (of_number tlid n others)
-    held-empty n others = go (tlid empty == n)
-      where
-        go : (b : Bool) → flat_map held (cond b (empty ∷ of_number tlid n others) (of_number tlid n others))
-            ≡ flat_map held (of_number tlid n others)
-        go true = ap (λ h. h ++ flat_map held (of_number tlid n others)) is_empty
-        go false = refl
+    held-empty n others = search rules
 
   -- leaving out a record: there are fewer numbers, so fewer are unknown or occur twice
   module _ (empty : X) where
     pub unknown-empty : (n : ℕ) (others : List X) (known : Bool)
         → (stands_in nat_cmp n (map tlid (empty ∷ others)) && not known) ≡ false
         → (stands_in nat_cmp n (map tlid others) && not known) ≡ false
-    unknown-empty n others known = go (is_eq (nat_cmp n (tlid empty)))
-      where
-        F : List ℕ
-        F = filter (λ other. is_eq (nat_cmp n other)) (map tlid others)
-
-        go : (b : Bool) → (nat_lt 0 (length (cond b (tlid empty ∷ F) F)) && not known) ≡ false → (nat_lt 0 (length F) && not known) ≡ false
-        go false h = h
-        go true h = fewer (nat_lt 0 (length F)) (ap (λ b. b && not known) (sym (lt-ltb 0 (suc (length F)) (omega arith))) ∙ h)
-          where
-            fewer : (b : Bool) → not known ≡ false → (b && not known) ≡ false
-            fewer true h = h
-            fewer false h = refl
+    unknown-empty n others known = search (rules, lt-ltb)
 
     pub repeat-empty : (n : ℕ) (others : List X) → has_repeat nat_cmp (map rtsq (of_number tlid n (empty ∷ others))) ≡ false
         → has_repeat nat_cmp (map rtsq (of_number tlid n others)) ≡ false
-    repeat-empty n others = go (tlid empty == n)
-      where
-        later : (a b : Bool) → (a || b) ≡ false → b ≡ false
-        later true b h = absurd (false≢true (sym h))
-        later false b h = h
-
-        go : (b : Bool) → has_repeat nat_cmp (map rtsq (cond b (empty ∷ of_number tlid n others) (of_number tlid n others))) ≡ false
-            → has_repeat nat_cmp (map rtsq (of_number tlid n others)) ≡ false
-        go false h = h
-        go true h = later (stands_in nat_cmp (rtsq empty) (map rtsq (of_number tlid n others)))
-            (has_repeat nat_cmp (map rtsq (of_number tlid n others))) h
+    repeat-empty n others = search (rules, false≢true)
 
 -- a record of type 2 cut into two, at the head of a list
 module _ (others : List Record) (whole first second : Fields2)
     (cut : IsCut two_tlid two_rtsq (λ (r : Fields2). r.points) (of_type_2 others) whole first second) where
   two-broken : (f : LinkFault) → is_rule_broken (Two whole ∷ others) f ≡ is_rule_broken (Two first ∷ Two second ∷ others) f
-  two-broken (NoChain Type2 n) = ap (λ b. b && not (stands_in nat_cmp n (chain_tlids others)))
-      (known-cut two_tlid two_rtsq (λ (r : Fields2). r.points) (of_type_2 others) whole first second cut n)
-  two-broken (SequenceBroken sequenced_types.Two n) = repeat-cut two_tlid two_rtsq (λ (r : Fields2). r.points) (of_type_2 others) whole
-      first second cut n
+  two-broken (NoChain Type2 n) = search (rules, known-cut)
+  two-broken (SequenceBroken sequenced_types.Two n) = search (rules, repeat-cut)
   two-broken fault = refl
 
   two-repacked : AreRepacked (Two whole ∷ others) (Two first ∷ Two second ∷ others)
-  two-repacked = record {
-    points = sequenced-cut two_tlid two_rtsq (λ (r : Fields2). r.points) (of_type_2 others) whole first second cut;
-    names = λ n. refl;
-    ranges = λ n. refl;
-    rest = refl;
-  }
+  two-repacked = search (rules, common_steps, sequenced-cut)
 
 -- a record of type 4 cut into two, at the head of a list
 module _ (others : List Record) (whole first second : Fields4)
     (cut : IsCut four_tlid four_rtsq (λ (r : Fields4). r.feats) (of_type_4 others) whole first second) where
   four-broken : (f : LinkFault) → is_rule_broken (Four whole ∷ others) f ≡ is_rule_broken (Four first ∷ Four second ∷ others) f
-  four-broken (NoChain Type4 n) = ap (λ b. b && not (stands_in nat_cmp n (chain_tlids others)))
-      (known-cut four_tlid four_rtsq (λ (r : Fields4). r.feats) (of_type_4 others) whole first second cut n)
-  four-broken (SequenceBroken sequenced_types.Four n) = repeat-cut four_tlid four_rtsq (λ (r : Fields4). r.feats)
-      (of_type_4 others) whole first second cut n
-  four-broken (NameUnknown n y) = ap (λ feats. stands_in nat_cmp y feats && not (stands_in nat_cmp y (map (λ r. r.feat)
-      (of_type_5 others))))
-      (held-cut four_tlid four_rtsq (λ (r : Fields4). r.feats) (of_type_4 others) whole first second cut n)
+  four-broken (NoChain Type4 n) = search (rules, known-cut)
+  four-broken (SequenceBroken sequenced_types.Four n) = search (rules, repeat-cut)
+  four-broken (NameUnknown n y) = grind (arith, common_steps, held-cut)
   four-broken fault = refl
 
   four-repacked : AreRepacked (Four whole ∷ others) (Four first ∷ Four second ∷ others)
-  four-repacked = record {
-    points = λ n. refl;
-    names = sequenced-cut four_tlid four_rtsq (λ (r : Fields4). r.feats) (of_type_4 others) whole first second cut;
-    ranges = λ n. refl;
-    rest = refl;
-  }
+  four-repacked = search (rules, common_steps, sequenced-cut)
 
 -- the head of a list cut into two
 record IsAlike (xs ys : List Record) : Type 0 where
@@ -303,24 +211,8 @@ four-left_out others empty none linked fault = linked fault
 
 left_out : (others : List Record) (empty : Record) → IsEmpty empty
     → (IsLinked (empty ∷ others) → IsLinked others) × (county_of (empty ∷ others) ≡ county_of others)
-left_out others (Two empty) none = (
-  two-left_out others empty,
-  repacked-county (Two empty ∷ others) others (record {
-    points = λ n. sequenced-empty two_tlid two_rtsq (λ (r : Fields2). r.points) empty none n (of_type_2 others);
-    names = λ n. refl;
-    ranges = λ n. refl;
-    rest = refl;
-  }),
-)
-left_out others (Four empty) none = (
-  four-left_out others empty none,
-  repacked-county (Four empty ∷ others) others (record {
-    points = λ n. refl;
-    names = λ n. sequenced-empty four_tlid four_rtsq (λ (r : Fields4). r.feats) empty none n (of_type_4 others);
-    ranges = λ n. refl;
-    rest = refl;
-  }),
-)
+left_out others (Two empty) none = search (rules, two-left_out, repacked-county, sequenced-empty)
+left_out others (Four empty) none = search (rules, four-left_out, repacked-county, sequenced-empty)
 left_out others _ none = absurd none
 
 pub left_out-county : (records others : List Record) → LeavesEmptyOut records others → IsLinked records

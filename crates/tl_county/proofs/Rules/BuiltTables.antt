@@ -1,15 +1,14 @@
 -- The parts that linking builds from tables in order are the county of their records.
-use Rattle.std.proofs.Common.{◌≡◌, ◌⊎◌, ◌==◌, ℕ, suc, List, [], ◌∷◌, ◌++◌, map, flat_map, length, Bool, true, false, cond, Less}
-use Rattle.std.proofs.Common.{is_eq, inl, inr, sym, refl, ap, ◌∙◌, subst, arith, nat_cmp, IsPermutation, Option, Some, None}
-use Rattle.std.proofs.Common.{unwrap_or, option_map, slice_get, zero}
-use Rattle.tl_county.proofs.Common.{AllByRecursion, AreInOrder, Chain, Fields1, Fields2, Fields4, Fields6, Fields8, FieldsI, IsCounty}
-use Rattle.tl_county.proofs.Common.{IsFirstBrokenRule, IsInOrder, IsLinked, IsPermutation-trans, IsWithinLimits, LandmarkParts, LinkFault}
+use Rattle.tl_county.proofs.Common.{common_steps, AllByRecursion, AreInOrder, Chain, Fields1, Fields2, Fields4, Fields6, Fields8, FieldsI}
+use Rattle.tl_county.proofs.Common.{IsCounty, IsFirstBrokenRule, IsLinked, IsPermutation-trans, IsWithinLimits, LandmarkParts, LinkFault}
 use Rattle.tl_county.proofs.Common.{LinksUnderLands, Record, SameElements, Typed, by_type, by_type_of, chain_nodes, chains_along}
 use Rattle.tl_county.proofs.Common.{county_along, county_of, distinct, eight_land, entry_keys, entry_values, eq-eqb, false≢true, five_feat}
-use Rattle.tl_county.proofs.Common.{four_rtsq, four_tlid, i_tlid, landmark_body_cmp, landmark_entry, landmark_of, link_nodes, link_part}
-use Rattle.tl_county.proofs.Common.{link_part_cmp, links_with, map-map, most_records, nat_keys, ne_eqb, nodes, of_number, on, one_tlid}
-use Rattle.tl_county.proofs.Common.{same-itself, same_or_not, seven_land, six_rtsq, six_tlid, strict_head, strict_tail, two_rtsq, two_tlid}
+use Rattle.tl_county.proofs.Common.{i_tlid, landmark_entry, landmark_of, link_nodes, links_with, map-map, most_records, nat_keys, ne_eqb}
+use Rattle.tl_county.proofs.Common.{nodes, of_number, one_tlid, same-itself, same_or_not, seven_land, strict_head, strict_tail}
 use Rattle.tl_county.proofs.Common.{type_after_type, typed_of, value_under, values-zip}
+use Rattle.std.proofs.Common.{rules, ◌≡◌, ◌⊎◌, ◌==◌, ℕ, suc, List, [], ◌∷◌, ◌++◌, map, flat_map, length, true, false, cond, Less, is_eq}
+use Rattle.std.proofs.Common.{inl, inr, sym, refl, ap, ◌∙◌, subst, arith, nat_cmp, IsPermutation, Option, Some, None, unwrap_or, option_map}
+use Rattle.std.proofs.Common.{slice_get, zero}
 use Rattle.std.proofs.lemmas.List.{append-nil}
 use Rattle.std.proofs.lemmas.List.Elements.{filter-append}
 use Rattle.std.specs.List.{zip}
@@ -19,8 +18,7 @@ use Rattle.tl_layout.specs.declared.tables.Tables.{Tables}
 use Rattle.tl_county.specs.Building.{landmarks_along}
 use Rattle.ordered_lists.proofs.Lists.EntryLists.{value-at_place}
 use Rattle.tl_county.proofs.Limits.FitsCounty.{county-within_limits}
-use Rattle.ordered_lists.proofs.Lists.Elements.{flat_map-map}
-use Rattle.ordered_lists.proofs.Lists.Elements.{all_places}
+use Rattle.ordered_lists.proofs.Lists.Elements.{flat_map-map, all_places}
 use Rattle.tl_county.proofs.Lists.OfNumber.{of_number-all}
 use Rattle.tl_layout.specs.RecordText.{FitsRecord}
 use Rattle.tl_county.specs.Limits.{HoldsWithinLimits}
@@ -28,7 +26,6 @@ use Rattle.tl_county.specs.OrderedTables.{ArePermuted}
 use Rattle.tl_county.proofs.Rules.LinkedCounty.{county-is_county}
 use Rattle.tl_county.proofs.Rules.LinkedTables.{tlids-strict, feats-strict, side_by_side, county-built}
 use Rattle.ordered_lists.proofs.Lists.Reordered.{from_permutation}
-use Rattle.tl_county.proofs.Rules.RuleTests.{in_order-first}
 use Rattle.tl_county.proofs.Sameness.SameCounty.{reordered-county}
 use Rattle.tl_county.proofs.Sameness.SameRules.{same-sym, same-linked, same-first}
 use Rattle.tl_county.proofs.Rules.TypedRecords.{grouped, permuted-after}
@@ -50,36 +47,18 @@ nodes-chains_along twos fours sixes (r ∷ rs) (l ∷ ls) e = let rest : map one
     ap (λ n. link_nodes l ++ n) (nodes-chains_along twos fours sixes rs ls rest)
 
 module _ (t : Typed) (order : AreInOrder t) where
-  pub twos-in_order : IsInOrder (on two_tlid nat_cmp) t.of_type_2
-  twos-in_order = in_order-first (on two_tlid nat_cmp) (on two_rtsq nat_cmp) t.of_type_2 order.type_2
-
-  pub fours-in_order : IsInOrder (on four_tlid nat_cmp) t.of_type_4
-  fours-in_order = in_order-first (on four_tlid nat_cmp) (on four_rtsq nat_cmp) t.of_type_4 order.type_4
-
-  pub sixes-in_order : IsInOrder (on six_tlid nat_cmp) t.of_type_6
-  sixes-in_order = in_order-first (on six_tlid nat_cmp) (on six_rtsq nat_cmp) t.of_type_6 order.type_6
-
-  pub sevens-in_order : IsInOrder (on seven_land nat_cmp) t.of_type_7
-  sevens-in_order = in_order-first (on seven_land nat_cmp) (λ a b. landmark_body_cmp a.body b.body) t.of_type_7 order.type_7
-
-  pub eights-in_order : IsInOrder (on eight_land nat_cmp) t.of_type_8
-  eights-in_order = in_order-first (on eight_land nat_cmp) (on link_part link_part_cmp) t.of_type_8 order.type_8
-
   module _ (linked : IsLinked (type_after_type t)) where
     ordered : AreInOrder (by_type (type_after_type t))
     ordered = subst AreInOrder (sym (by_type_of t)) order
 
     pub tlids-ascend : IsStrictlySortedBy nat_cmp (map one_tlid t.of_type_1)
-    tlids-ascend = subst (λ (u : Typed). IsStrictlySortedBy nat_cmp (map one_tlid u.of_type_1)) (by_type_of t)
-        (tlids-strict (type_after_type t) ordered linked)
+    tlids-ascend = search (rules, common_steps, by_type_of, tlids-strict, ordered)
 
     pub feats-ascend : IsStrictlySortedBy nat_cmp (map five_feat t.of_type_5)
-    feats-ascend = subst (λ (u : Typed). IsStrictlySortedBy nat_cmp (map five_feat u.of_type_5)) (by_type_of t)
-        (feats-strict (type_after_type t) ordered linked)
+    feats-ascend = search (rules, common_steps, by_type_of, feats-strict, ordered)
 
     pub beside : map one_tlid t.of_type_1 ≡ map i_tlid t.of_type_i
-    beside = subst (λ (u : Typed). map one_tlid u.of_type_1 ≡ map i_tlid u.of_type_i) (by_type_of t)
-        (side_by_side (type_after_type t) ordered linked)
+    beside = search (rules, common_steps, by_type_of, side_by_side, ordered)
 
     pub nodes-built : nodes (county_along t) ≡ distinct nat_cmp (flat_map link_nodes t.of_type_i)
     nodes-built =
@@ -97,17 +76,7 @@ module _ (t : Typed) (order : AreInOrder t) where
 
 -- tables hold the records of a list; the list's order has no meaning
 pub held : (tables : Tables) (records : List Record) → HoldsByType tables records → by_type records ≡ typed_of tables
-held tables records h = λ i. record {
-  of_type_1 = sym h.type_1 i;
-  of_type_2 = sym h.type_2 i;
-  of_type_4 = sym h.type_4 i;
-  of_type_5 = sym h.type_5 i;
-  of_type_6 = sym h.type_6 i;
-  of_type_7 = sym h.type_7 i;
-  of_type_8 = sym h.type_8 i;
-  of_type_i = sym h.type_i i;
-  of_type_p = sym h.type_p i;
-}
+held tables records h = search rules
 
 module _ (records : List Record) (t u : Typed) (holds : by_type records ≡ t) (permuted : ArePermuted t u) where
   moved : IsPermutation records (type_after_type u)
@@ -142,16 +111,12 @@ module _ (land : ℕ) where
   -- if all links, or none, have the number
   all_of : (links : List Fields8) → AllByRecursion (λ link. link.land ≡ land) links → of_number eight_land land links ≡ links
   all_of [] a = refl
-  all_of (link ∷ links) a =
-      ap (λ b. cond b (link ∷ of_number eight_land land links) (of_number eight_land land links)) (eq-eqb link.land land a.0)
-      ∙ ap (λ l. link ∷ l) (all_of links a.1)
+  all_of (link ∷ links) a = search (rules, eq-eqb, all_of links a.1)
 
   none_of : (other : ℕ) → (other ≡ land → ⊥) → (links : List Fields8) → AllByRecursion (λ link. link.land ≡ other) links
       → of_number eight_land land links ≡ []
   none_of other ne [] a = refl
-  none_of other ne (link ∷ links) a =
-      ap (λ b. cond b (link ∷ of_number eight_land land links) (of_number eight_land land links))
-      (ne_eqb link.land land (λ e. ne (sym a.0 ∙ e))) ∙ none_of other ne links a.1
+  none_of other ne (link ∷ links) a = search (rules, ne_eqb, none_of other ne links a.1)
 
   none_later : (landmarks : List (ℕ × LandmarkParts)) → LinksUnderLands landmarks
       → AllByRecursion (λ n. nat_cmp land n ≡ Less) (entry_keys landmarks)
@@ -173,8 +138,7 @@ module _ (land : ℕ) where
     where
       split : of_number eight_land land (entry.1.links ++ flat_map (λ (e : ℕ × LandmarkParts). e.1.links) landmarks)
           ≡ of_number eight_land land entry.1.links ++ of_number eight_land land (flat_map (λ (e : ℕ × LandmarkParts). e.1.links) landmarks)
-      split = filter-append (λ (link : Fields8). link.land == land) entry.1.links
-          (flat_map (λ (e : ℕ × LandmarkParts). e.1.links) landmarks)
+      split = search (rules, filter-append)
 
       go : (land ≡ entry.0) ⊎ (is_eq (nat_cmp land entry.0) ≡ false)
           → (unwrap_or (value_under nat_cmp land landmarks) none).links ≡ of_number eight_land land
@@ -204,14 +168,7 @@ pub bodies-under : (land : ℕ) (landmarks : List (ℕ × LandmarkParts))
     → option_map (λ (l : LandmarkParts). l.bodies) (value_under nat_cmp land landmarks) ≡ value_under nat_cmp land
     (map landmark_entry landmarks)
 bodies-under land [] = refl
-bodies-under land (entry ∷ landmarks) = go (is_eq (nat_cmp land entry.0)) (bodies-under land landmarks)
-  where
-    go : (b : Bool) → option_map (λ (l : LandmarkParts). l.bodies) (value_under nat_cmp land landmarks) ≡ value_under nat_cmp land
-        (map landmark_entry landmarks)
-        → option_map (λ (l : LandmarkParts). l.bodies) (cond b (Some entry.1) (value_under nat_cmp land landmarks)) ≡ cond b
-        (Some entry.1.bodies) (value_under nat_cmp land (map landmark_entry landmarks))
-    go true ih = refl
-    go false ih = ih
+bodies-under land (entry ∷ landmarks) = search (rules, bodies-under land landmarks)
 
 pub lands-kept : (landmarks : List (ℕ × LandmarkParts)) → entry_keys landmarks ≡ entry_keys (map landmark_entry landmarks)
 lands-kept landmarks = sym (map-map (λ e. e.0) landmark_entry landmarks)

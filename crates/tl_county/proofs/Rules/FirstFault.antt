@@ -1,5 +1,5 @@
 -- If all faults are in a finite list, either there is none or exactly one is the first.
-use Rattle.std.proofs.Common.{◌≡◌, ◌⊎◌, ℕ, List, [], ◌∷◌, Bool, true, false, not, ◌&&◌, ◌||◌, is_gt, sym, refl, ap, ◌∙◌, inl, inr}
+use Rattle.std.proofs.Common.{rules, ◌≡◌, ◌⊎◌, ℕ, List, [], ◌∷◌, Bool, true, false, not, ◌&&◌, ◌||◌, is_gt, sym, refl, ap, ◌∙◌, inl, inr}
 use Rattle.tl_county.proofs.Common.{AllByRecursion, Among, IsKeyOrder, all_among, and_parts, bytes_keys, false≢true, list_all, or_cases}
 use Rattle.tl_county.proofs.Common.{place_cmp}
 use Rattle.std.proofs.lemmas.Bool.{not-true}
@@ -55,14 +55,7 @@ module _ {F : Type 0} (there : F → Bool) (place : F → List (List ℕ)) where
       go : AllByRecursion (λ c. there c ≡ false) cs ⊎ ((f : F) × IsLeastOf cs f)
           → ((f : F) → there f ≡ false) ⊎ ((f : F) × IsFirst there place f)
       go (inl h) = inl (λ f. none h f (there f) refl)
-      go (inr p) = inr (
-        p.0,
-        record {
-          there = p.1.0;
-          least = λ g t. all_among (λ c. there c ≡ true
-              → is_gt (place_cmp (place p.0) (place c)) ≡ false) g cs p.1.1 (all g t) t;
-        },
-      )
+      go (inr p) = search (rules, all_among)
 
   pub not_first : (f : F) → ((g : F) → there g ≡ false) → IsFirst there place f → ⊥
   not_first f none h = false≢true (sym (none f) ∙ h.there)

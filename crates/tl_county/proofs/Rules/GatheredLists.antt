@@ -1,15 +1,13 @@
 -- The lists gathered for linking: keys without repetition, landmarks in order, and tables that hold the records of a list.
-use Rattle.std.proofs.Common.{◌≡◌, ◌⊎◌, nat_lt, List, [], ◌∷◌, Bool, true, false, cond, Ordering}
-use Rattle.std.proofs.Common.{Less, Equal, Greater, is_eq, is_gt, sym, refl, ap, ◌∙◌, subst, inl, inr, arith, nat_cmp, Option}
-use Rattle.std.proofs.Common.{Some, None, IsPermutation}
+use Rattle.std.proofs.Common.{rules, ◌≡◌, ◌⊎◌, nat_lt, List, [], ◌∷◌, Bool, true, false, cond, Ordering, Less, Equal, Greater, is_eq, is_gt}
+use Rattle.std.proofs.Common.{sym, refl, ap, ◌∙◌, subst, inl, inr, arith, nat_cmp, Option, Some, None}
 use Rattle.tl_county.proofs.Common.{AllByRecursion, Coordinates, Fields7, IsInOrder, IsKeyOrder, all_known, all_weaker, bytes_cmp, distinct}
-use Rattle.tl_county.proofs.Common.{distinct_same, false≢true, first_least, known_from_distinct, lt-ltb, ordering_then, put_in_order}
-use Rattle.tl_county.proofs.Common.{same-itself, same_or_not, stands_in, times, times-cons, times-yes}
+use Rattle.tl_county.proofs.Common.{false≢true, first_least, known_from_distinct, lt-ltb, ordering_then, put_in_order, same-itself}
+use Rattle.tl_county.proofs.Common.{same_or_not, stands_in, times, times-cons, times-yes}
 use Rattle.std.specs.List.{dedup, dedup_from}
 use Rattle.tl_shape.specs.PointOrder.{point_cmp}
 use Rattle.tl_county.specs.BodyOrder.{optional_point_cmp}
 use Rattle.tl_county.specs.OrderedTables.{landmark_cmp}
-use Rattle.ordered_lists.proofs.ByKey.Keys.{times-permutation}
 use Rattle.ordered_lists.proofs.ByKey.KeyedLists.{before_all, less_from}
 
 module _ {K : Type 0} {cmp : K → K → Ordering} (o : IsKeyOrder cmp) where
@@ -50,17 +48,11 @@ module _ {K : Type 0} {cmp : K → K → Ordering} (o : IsKeyOrder cmp) where
   dedup-distinct [] h = refl
   dedup-distinct (k ∷ ks) h = dedup_from-distinct k ks h
 
-  pub distinct-permuted : (xs ys : List K) → IsPermutation xs ys → distinct cmp ys ≡ distinct cmp xs
-  distinct-permuted xs ys p = distinct_same o ys xs (λ k. ap (nat_lt 0) (times-permutation o k xs ys p))
-
 -- in order by another order with the same results
 pub in_order-alike : {X : Type 0} (by other : X → X → Ordering) → ((x y : X) → by x y ≡ other x y) → (xs : List X) → IsInOrder by xs
     → IsInOrder other xs
 in_order-alike by other e [] h = tt
-in_order-alike by other e (x ∷ xs) h = (
-  all_weaker (λ y. is_gt (by x y) ≡ false) (λ y. is_gt (other x y) ≡ false) (λ y f. ap is_gt (sym (e x y)) ∙ f) xs h.0,
-  in_order-alike by other e xs h.1,
-)
+in_order-alike by other e (x ∷ xs) h = search (rules, all_weaker, in_order-alike by other e xs h.1)
 
 -- landmarks by their fields, with any order of optional points that puts no point first
 module _ (by : Option Coordinates → Option Coordinates → Ordering) (none : by None None ≡ Equal) (first : (p : Coordinates)

@@ -1,27 +1,18 @@
 -- Either a list of records is linked, or exactly one rule is the first that is broken.
-use Rattle.std.proofs.Common.{◌≡◌, ◌⊎◌, ◌<◌, ℕ, zero, suc, nat_lt, ◌==◌, List, [], ◌∷◌, ◌++◌, map, flat_map, Bool, true, false}
-use Rattle.std.proofs.Common.{cond, not, ◌&&◌, is_eq, sym, refl, ap, ◌∙◌, subst, inl, inr, nat_cmp, arith}
-use Rattle.tl_county.proofs.Common.{Among, ChainTwice, Fields4, Four, I, Known, LandUnknown, LinkFault, LinkMissing, LinkTwice, LinkedType}
-use Rattle.tl_county.proofs.Common.{Memory, NameTwice, NameUnknown, NoChain, PolygonTwice, PolygonUnknown, Record, SequenceBroken}
-use Rattle.tl_county.proofs.Common.{SequencedType, Six, Two, and_parts, differ_apart, eight_land, eqb-true, false≢true, five_feat}
-use Rattle.tl_county.proofs.Common.{four_rtsq, four_tlid, has_repeat, i_tlid, key_cmp, key_keys, known-append, link_key, ltb-true, nat_keys}
-use Rattle.tl_county.proofs.Common.{ne_eqb, of_number, of_type_2, of_type_4, of_type_5, of_type_6, of_type_8, of_type_i, of_type_p, p_key}
-use Rattle.tl_county.proofs.Common.{same_or_not, six_rtsq, six_tlid, stands_in, times, times-no, times-yes, two_rtsq, two_tlid}
-use Rattle.tl_county.specs.declared.fault.SequencedType.TheVariants as sequenced
+use Rattle.std.proofs.Common.{rules, ◌≡◌, ◌⊎◌, ◌<◌, ℕ, zero, suc, nat_lt, ◌==◌, List, [], ◌∷◌, ◌++◌, map, flat_map, Bool, true, false, cond}
+use Rattle.std.proofs.Common.{not, ◌&&◌, is_eq, refl, inl, inr, nat_cmp, arith}
+use Rattle.tl_county.proofs.Common.{common_steps, Among, ChainTwice, Fields4, Four, I, Known, LandUnknown, LinkFault, LinkMissing}
+use Rattle.tl_county.proofs.Common.{LinkTwice, LinkedType, Memory, NameTwice, NameUnknown, NoChain, PolygonTwice, PolygonUnknown, Record}
+use Rattle.tl_county.proofs.Common.{SequenceBroken, SequencedType, Six, Two, and_parts, differ_apart, eight_land, eqb-true, false≢true}
+use Rattle.tl_county.proofs.Common.{five_feat, four_rtsq, four_tlid, has_repeat, i_tlid, key_keys, known-append, link_key, ltb-true}
+use Rattle.tl_county.proofs.Common.{nat_keys, ne_eqb, of_number, of_type_2, of_type_4, of_type_5, of_type_6, of_type_8, of_type_i}
+use Rattle.tl_county.proofs.Common.{of_type_p, p_key, same_or_not, six_rtsq, six_tlid, stands_in, times, times-no, times-yes, two_rtsq}
+use Rattle.tl_county.proofs.Common.{two_tlid}
 use Rattle.tl_county.specs.LinkedTypes.{linked_type}
-use Rattle.tl_county.specs.LinkRules.{
-  chain_tlids,
-  linked_tlids,
-  rtsqs,
-  named_feats,
-  is_rule_broken,
-  link_fault_place,
-  IsLinked,
-  IsFirstBrokenRule,
-}
+use Rattle.tl_county.specs.LinkRules.{chain_tlids, linked_tlids, rtsqs, is_rule_broken, link_fault_place, IsLinked, IsFirstBrokenRule}
 use Rattle.ordered_lists.proofs.Lists.Among.{among_left, among_right, known_among}
-use Rattle.tl_county.proofs.Rules.FirstFault.{first_or_none, not_first, one_first}
-use Rattle.tl_county.proofs.Rules.FirstFault.{none_there, least_there, none_computed, first_computed}
+use Rattle.tl_county.proofs.Rules.FirstFault.{first_or_none, not_first, one_first, none_there, least_there, none_computed, first_computed}
+use Rattle.tl_county.specs.declared.fault.SequencedType.TheVariants as sequenced
 
 -- the fault at a place
 abbrev pub part : List (List ℕ) → ℕ → List ℕ
@@ -94,16 +85,11 @@ none_of_number f n (x ∷ xs) e = go (same_or_not nat_keys n (f x)) (none_of_num
     go : (n ≡ f x) ⊎ (is_eq (nat_cmp n (f x)) ≡ false) → (times nat_cmp n (map f xs) ≡ 0 → of_number f n xs ≡ [])
         → of_number f n (x ∷ xs) ≡ []
     go (inl h) ih = absurd (omega (arith, times-yes nat_keys n (f x) (map f xs) h, e))
-    go (inr ne) ih = ap (λ b. cond b (x ∷ of_number f n xs) (of_number f n xs))
-        (ne_eqb (f x) n (λ h. differ_apart nat_keys n (f x) ne (sym h))) ∙ ih (sym (times-no nat_keys n (f x) (map f xs) ne) ∙ e)
+    go (inr ne) ih = search (rules, ne_eqb, differ_apart, nat_keys, times-no)
 
 repeat_known : {X : Type 0} (f g : X → ℕ) (n : ℕ) (xs : List X) → has_repeat nat_cmp (map g (of_number f n xs)) ≡ true
     → Known nat_cmp (map f xs) n
-repeat_known f g n xs h = go (times nat_cmp n (map f xs)) refl
-  where
-    go : (m : ℕ) → times nat_cmp n (map f xs) ≡ m → Known nat_cmp (map f xs) n
-    go zero e = absurd (false≢true (sym (ap (λ ys. has_repeat nat_cmp (map g ys)) (none_of_number f n xs e)) ∙ h))
-    go (suc m) e = omega (arith, e)
+repeat_known f g n xs h = search (rules, false≢true, none_of_number)
 
 name_among : (x y : ℕ) (rs : List Fields4) → Known nat_cmp (flat_map (λ r. r.feats) (of_number four_tlid x rs)) y
     → Among (NameUnknown x y) (name_faults rs)
@@ -111,8 +97,7 @@ name_among x y [] h = absurd (omega (arith, h))
 name_among x y (r ∷ rs) h = go (r.tlid == x) refl h (name_among x y rs)
   where
     here : r.tlid ≡ x → Known nat_cmp r.feats y → Among (NameUnknown x y) (map (NameUnknown r.tlid) r.feats)
-    here e k = subst (λ t. Among (NameUnknown t y) (map (NameUnknown r.tlid) r.feats)) e
-        (known_among nat_keys (NameUnknown r.tlid) y r.feats k)
+    here e k = search (rules, known_among, nat_keys)
 
     split : r.tlid ≡ x → Known nat_cmp r.feats y ⊎ Known nat_cmp (flat_map (λ q. q.feats) (of_number four_tlid x rs)) y
         → (Known nat_cmp (flat_map (λ q. q.feats) (of_number four_tlid x rs)) y → Among (NameUnknown x y) (name_faults rs))
@@ -127,53 +112,28 @@ name_among x y (r ∷ rs) h = go (r.tlid == x) refl h (name_among x y rs)
     go true e k ih = split (eqb-true r.tlid x e) (known-append nat_keys y r.feats (flat_map (λ q. q.feats) (of_number four_tlid x rs)) k) ih
     go false e k ih = among_right (NameUnknown x y) (map (NameUnknown r.tlid) r.feats) (name_faults rs) (ih k)
 
-type_among_no_chain : (t : SequencedType) (tlid : ℕ) (records : List Record) → Known nat_cmp (linked_tlids (linked_type t) records) tlid
-    → Among (NoChain (linked_type t) tlid) (type_faults t records)
-type_among_no_chain t tlid records h =
-    among_left (NoChain (linked_type t) tlid) (map (NoChain (linked_type t)) (linked_tlids (linked_type t) records))
-    (map (SequenceBroken t) (linked_tlids (linked_type t) records))
-    (known_among nat_keys (NoChain (linked_type t)) tlid (linked_tlids (linked_type t) records) h)
-
 type_among_sequence : (t : SequencedType) (tlid : ℕ) (records : List Record) → Known nat_cmp (linked_tlids (linked_type t) records) tlid
     → Among (SequenceBroken t tlid) (type_faults t records)
-type_among_sequence t tlid records h =
-    among_right (SequenceBroken t tlid) (map (NoChain (linked_type t)) (linked_tlids (linked_type t) records))
-    (map (SequenceBroken t) (linked_tlids (linked_type t) records))
-    (known_among nat_keys (SequenceBroken t) tlid (linked_tlids (linked_type t) records) h)
+type_among_sequence t tlid records h = search (rules, among_right, known_among, nat_keys)
 
 among_types : (t : SequencedType) (f : LinkFault) (records : List Record) → Among f (type_faults t records) → Among f
     (faults_11_to_15 records)
-among_types sequenced.Two f records h =
-    among_right f (map ChainTwice (chain_tlids records)) _ (among_left f (type_faults sequenced.Two records) _ h)
-among_types sequenced.Four f records h =
-    among_right f (map ChainTwice (chain_tlids records)) _
-    (among_right f (type_faults sequenced.Two records) _ (among_left f (type_faults sequenced.Four records) _ h))
-among_types sequenced.Six f records h =
-    among_right f (map ChainTwice (chain_tlids records)) _
-    (among_right f (type_faults sequenced.Two records) _
-    (among_right f (type_faults sequenced.Four records) _ (among_left f (type_faults sequenced.Six records) _ h)))
+among_types sequenced.Two f records h = search (rules, among_right, among_left)
+among_types sequenced.Four f records h = search (rules, among_right, among_left)
+among_types sequenced.Six f records h = search (rules, among_right, among_left)
 
 -- a fault listed after those of types 2, 4 and 6 is in the whole list
 after_types : (f : LinkFault) (records : List Record)
     → Among f (map (NoChain I) (linked_tlids I records)
     ++ (map LinkMissing (chain_tlids records) ++ map LinkTwice (map i_tlid (of_type_i records)))) → Among f (faults_11_to_15 records)
-after_types f records h =
-    among_right f (map ChainTwice (chain_tlids records)) _
-    (among_right f (type_faults sequenced.Two records) _
-    (among_right f (type_faults sequenced.Four records) _ (among_right f (type_faults sequenced.Six records) _ h)))
+after_types f records h = search (rules, among_right)
 
 no_chain_among : (t : LinkedType) (tlid : ℕ) (records : List Record) → Known nat_cmp (linked_tlids t records) tlid
     → Among (NoChain t tlid) (faults_11_to_15 records)
-no_chain_among Two tlid records h =
-    among_types sequenced.Two (NoChain Two tlid) records (type_among_no_chain sequenced.Two tlid records h)
-no_chain_among Four tlid records h =
-    among_types sequenced.Four (NoChain Four tlid) records (type_among_no_chain sequenced.Four tlid records h)
-no_chain_among Six tlid records h =
-    among_types sequenced.Six (NoChain Six tlid) records (type_among_no_chain sequenced.Six tlid records h)
-no_chain_among I tlid records h =
-    after_types (NoChain I tlid) records
-    (among_left (NoChain I tlid) (map (NoChain I) (linked_tlids I records)) _
-    (known_among nat_keys (NoChain I) tlid (linked_tlids I records) h))
+no_chain_among Two tlid records h = search (rules, among_right, among_left, known_among, nat_keys)
+no_chain_among Four tlid records h = search (rules, among_right, among_left, known_among, nat_keys)
+no_chain_among Six tlid records h = search (rules, among_right, among_left, known_among, nat_keys)
+no_chain_among I tlid records h = search (rules, among_left, known_among, nat_keys, among_right)
 
 some_above : (n : ℕ) → nat_lt 1 n ≡ true → 0 < n
 some_above n e = omega (arith, ltb-true 1 n e)
@@ -202,17 +162,9 @@ skip_types : (records : List Record) (f : LinkFault)
 skip_types records f h = after_types f records (among_right f (map (NoChain I) (linked_tlids I records)) _ h)
 
 pub broken_among : (records : List Record) (f : LinkFault) → is_rule_broken records f ≡ true → Among f (all_faults records)
-broken_among records (ChainTwice tlid) e =
-    first_half records (ChainTwice tlid)
-    (among_left (ChainTwice tlid) (map ChainTwice (chain_tlids records)) _
-    (known_among nat_keys ChainTwice tlid (chain_tlids records) (some_above (times nat_cmp tlid (chain_tlids records)) e)))
-broken_among records (NoChain t tlid) e =
-    first_half records (NoChain t tlid)
-    (no_chain_among t tlid records
-    (some (times nat_cmp tlid (linked_tlids t records)) (not (stands_in nat_cmp tlid (chain_tlids records))) e))
-broken_among records (SequenceBroken t tlid) e =
-    first_half records (SequenceBroken t tlid)
-    (among_types t (SequenceBroken t tlid) records (type_among_sequence t tlid records (sequence_among t tlid records e)))
+broken_among records (ChainTwice tlid) e = grind (arith, common_steps, first_half, among_left, known_among, nat_keys, some_above)
+broken_among records (NoChain t tlid) e = search (rules, first_half, no_chain_among, some)
+broken_among records (SequenceBroken t tlid) e = search (rules, first_half, among_types, type_among_sequence, sequence_among)
 broken_among records (LinkMissing tlid) e =
     first_half records (LinkMissing tlid)
     (skip_types records (LinkMissing tlid)
@@ -230,19 +182,8 @@ broken_among records (NameTwice feat) e =
     (among_left (NameTwice feat) (map NameTwice (map five_feat (of_type_5 records))) _
     (known_among nat_keys NameTwice feat (map five_feat (of_type_5 records))
     (some_above (times nat_cmp feat (map five_feat (of_type_5 records))) e)))
-broken_among records (NameUnknown tlid feat) e =
-    second_half records (NameUnknown tlid feat)
-    (among_right (NameUnknown tlid feat) (map NameTwice (map five_feat (of_type_5 records))) _
-    (among_left (NameUnknown tlid feat) (name_faults (of_type_4 records)) _
-    (name_among tlid feat (of_type_4 records)
-    (some (times nat_cmp feat (named_feats tlid records)) (not (stands_in nat_cmp feat (map five_feat (of_type_5 records)))) e))))
-broken_among records (PolygonTwice cenid polyid) e =
-    second_half records (PolygonTwice cenid polyid)
-    (among_right (PolygonTwice cenid polyid) (map NameTwice (map five_feat (of_type_5 records))) _
-    (among_right (PolygonTwice cenid polyid) (name_faults (of_type_4 records)) _
-    (among_left (PolygonTwice cenid polyid) (map (λ k. PolygonTwice k.0 k.1) (map p_key (of_type_p records))) _
-    (known_among key_keys (λ k. PolygonTwice k.0 k.1) (cenid, polyid) (map p_key (of_type_p records))
-    (some_above (times key_cmp (cenid, polyid) (map p_key (of_type_p records))) e)))))
+broken_among records (NameUnknown tlid feat) e = search (rules, second_half, among_right, among_left, name_among, some)
+broken_among records (PolygonTwice cenid polyid) e = search (rules, second_half, among_right, among_left, known_among, key_keys, some_above)
 broken_among records (LandUnknown land) e =
     second_half records (LandUnknown land)
     (among_right (LandUnknown land) (map NameTwice (map five_feat (of_type_5 records))) _
@@ -251,14 +192,7 @@ broken_among records (LandUnknown land) e =
     (among_left (LandUnknown land) (map LandUnknown (map eight_land (of_type_8 records))) _
     (known_among nat_keys LandUnknown land (map eight_land (of_type_8 records))
     (some (times nat_cmp land (map eight_land (of_type_8 records))) _ e))))))
-broken_among records (PolygonUnknown cenid polyid) e =
-    second_half records (PolygonUnknown cenid polyid)
-    (among_right (PolygonUnknown cenid polyid) (map NameTwice (map five_feat (of_type_5 records))) _
-    (among_right (PolygonUnknown cenid polyid) (name_faults (of_type_4 records)) _
-    (among_right (PolygonUnknown cenid polyid) (map (λ k. PolygonTwice k.0 k.1) (map p_key (of_type_p records))) _
-    (among_right (PolygonUnknown cenid polyid) (map LandUnknown (map eight_land (of_type_8 records))) _
-    (known_among key_keys (λ k. PolygonUnknown k.0 k.1) (cenid, polyid) (map link_key (of_type_8 records))
-    (some (times key_cmp (cenid, polyid) (map link_key (of_type_8 records))) _ e))))))
+broken_among records (PolygonUnknown cenid polyid) e = search (rules, second_half, among_right, known_among, key_keys, some)
 broken_among records Memory e = absurd (false≢true e)
 
 pub linked_or_first : (records : List Record) → IsLinked records ⊎ ((fault : LinkFault) × IsFirstBrokenRule records fault)
@@ -277,5 +211,4 @@ linked_computed records e = none_computed (is_rule_broken records) link_fault_pl
 
 pub first_rule_computed : (records : List Record) (fault : LinkFault)
     → least_there (is_rule_broken records) link_fault_place fault (all_faults records) ≡ true → IsFirstBrokenRule records fault
-first_rule_computed records fault e = first_computed (is_rule_broken records) link_fault_place (all_faults records) (broken_among records)
-    fault e
+first_rule_computed records fault e = search (rules, first_computed, broken_among)

@@ -1,27 +1,26 @@
 -- The county of a linked list of records: its numbers ascend, and each number that it names exists.
-use Rattle.std.proofs.Common.{◌≡◌, ◌⊎◌, ◌<◌, ◌≤◌, ◌+◌, ◌==◌, ◌||◌, ℕ, nat_lt, length, length-append, filter, cond, is_eq, is_some}
-use Rattle.std.proofs.Common.{inl, inr, Option, List, [], ◌∷◌, ◌++◌, map, flat_map, Bool, true, false, not, ◌&&◌, IsTrue, sym}
-use Rattle.std.proofs.Common.{refl, ap, ◌∙◌, subst, arith, nat_cmp, map-id}
-use Rattle.tl_county.proofs.Common.{AllByRecursion, AllKeysStandIn, AllStandIn, Among, Body7, BodyP, Chain, ChainTwice, Fields1, Fields4}
+use Rattle.tl_county.proofs.Common.{common_steps, AllByRecursion, AllKeysStandIn, Among, Body7, Chain, ChainTwice, Fields1, Fields4}
 use Rattle.tl_county.proofs.Common.{Fields5, Fields7, Fields8, FieldsI, FieldsP, I, IsApart, IsCounty, IsLinked, IsWhole, Known}
 use Rattle.tl_county.proofs.Common.{LandUnknown, LinkMissing, LinkTwice, NameTwice, NameUnknown, NoChain, PolygonKey, PolygonUnknown}
 use Rattle.tl_county.proofs.Common.{Record, all-in_order, all_everywhere, all_joined, all_known, all_map, all_weaker, among-map}
-use Rattle.tl_county.proofs.Common.{among-pieces, among-unmap, among_known, chain_of, chain_polygons, chain_tlids, chains_of, county_of}
-use Rattle.tl_county.proofs.Common.{distinct, distinct-strict, each_from, eight_land, eq-eqb, false≢true, feats, first, five_feat}
-use Rattle.tl_county.proofs.Common.{four_rtsq, four_tlid, further_names, i_tlid, in_order, in_order-map, key_cmp, key_keys, known-append}
+use Rattle.tl_county.proofs.Common.{among-pieces, among-unmap, among_known, chain_of, chain_tlids, chains_of, county_of, distinct}
+use Rattle.tl_county.proofs.Common.{distinct-strict, each_from, eight_land, eq-eqb, false≢true, feats, first, five_feat, four_rtsq}
+use Rattle.tl_county.proofs.Common.{four_tlid, further_names, i_tlid, in_order, in_order-map, key_cmp, key_keys, known-append}
 use Rattle.tl_county.proofs.Common.{known-distinct, known-left, known_from_distinct, known_is_among, landmark_body_cmp, landmark_body_keys}
-use Rattle.tl_county.proofs.Common.{lands, length-in_order, length-map, link_cmp, link_key, lt-ltb, ltb-false, ltb-true, map-map}
-use Rattle.tl_county.proofs.Common.{named_feats, nat_cmp_total, nat_keys, of_number, of_type_1, of_type_4, of_type_5, of_type_7, of_type_8}
-use Rattle.tl_county.proofs.Common.{of_type_i, of_type_p, on, on_total, one_tlid, p_key, polygon_body, polygon_keys, polygons_along}
-use Rattle.tl_county.proofs.Common.{seven_land, shape_points, side_keys, stands_in, times, times-no, tlids, to_in_order}
+use Rattle.tl_county.proofs.Common.{lands, length-in_order, length-map, link_key, lt-ltb, ltb-false, ltb-true, map-map, named_feats}
+use Rattle.tl_county.proofs.Common.{nat_cmp_total, nat_keys, of_number, of_type_1, of_type_4, of_type_5, of_type_7, of_type_8, of_type_i}
+use Rattle.tl_county.proofs.Common.{of_type_p, on, on_total, one_tlid, p_key, polygon_body, polygon_keys, polygons_along, seven_land}
+use Rattle.tl_county.proofs.Common.{shape_points, side_keys, stands_in, times, times-no, tlids, to_in_order}
+use Rattle.std.proofs.Common.{rules, ◌≡◌, ◌⊎◌, ◌<◌, ◌≤◌, ◌+◌, ◌||◌, ℕ, nat_lt, length, length-append, filter, cond, is_eq, is_some, inl}
+use Rattle.std.proofs.Common.{inr, List, [], ◌∷◌, ◌++◌, map, flat_map, Bool, true, false, not, ◌&&◌, IsTrue, sym, refl, ap, ◌∙◌, subst}
+use Rattle.std.proofs.Common.{arith, nat_cmp, map-id}
 use Rattle.std.proofs.lemmas.Bool.{or_left, or_right}
 use Rattle.std.specs.List.Sorted.{IsStrictlySortedBy}
 use Rattle.tl_county.proofs.Sameness.Carried.{among-unpieces}
 use Rattle.ordered_lists.proofs.Lists.InOrder.{in_order-in_order}
 use Rattle.tl_county.specs.Laws.KeyOrders.{link_keys}
 use Rattle.ordered_lists.proofs.Lists.Reordered.{to_filter}
-use Rattle.ordered_lists.proofs.ByKey.Numbers.{only_one, times-in_order, from_in_order}
-use Rattle.ordered_lists.proofs.ByKey.Numbers.{strict_from_order}
+use Rattle.ordered_lists.proofs.ByKey.Numbers.{only_one, times-in_order, from_in_order, strict_from_order}
 use Rattle.tl_county.proofs.Lists.OfNumber.{times-of_number, of_number-among}
 
 -- if a test never holds without another, the other holds whenever it does
@@ -67,27 +66,18 @@ module _ (records : List Record) (linked : IsLinked records) where
       → map (λ (c : ℕ × Chain). c.0)
       (flat_map (λ r. map (λ link. (r.tlid, chain_of records r link)) (of_number i_tlid r.tlid (of_type_i records))) rs) ≡ map one_tlid rs
   tlids_of [] h = refl
-  tlids_of (r ∷ rs) h =
-      let one = the_link r.tlid h.0 in
-      let rest : List (ℕ × Chain) =
-      flat_map (λ q. map (λ link. (q.tlid, chain_of records q link)) (of_number i_tlid q.tlid (of_type_i records))) rs in
-      ap (λ ls. map (λ (c : ℕ × Chain). c.0) (map (λ link. (r.tlid, chain_of records r link)) ls ++ rest)) one.1
-      ∙ ap (λ ns. r.tlid ∷ ns) (tlids_of rs h.1)
+  tlids_of (r ∷ rs) h = search (rules, the_link, tlids_of rs h.1)
 
   ones_known : AllByRecursion (λ r. Known nat_cmp (chain_tlids records) r.tlid) (in_order (on one_tlid nat_cmp) (of_type_1 records))
-  ones_known = all-in_order (λ r. Known nat_cmp (chain_tlids records) r.tlid) (on one_tlid nat_cmp) (of_type_1 records)
-      (each_from (λ r. Known nat_cmp (chain_tlids records) r.tlid) (of_type_1 records)
-      (λ r m. among_known nat_keys r.tlid (chain_tlids records) (among-map one_tlid r (of_type_1 records) m)))
+  ones_known = search (rules, common_steps, all-in_order, each_from, among_known, nat_keys, among-map)
 
   pub tlids-county : tlids (county_of records) ≡ map one_tlid (in_order (on one_tlid nat_cmp) (of_type_1 records))
   tlids-county = tlids_of (in_order (on one_tlid nat_cmp) (of_type_1 records)) ones_known
 
   strict_numbers : {X : Type 0} (f : X → ℕ) (xs : List X) → ((n : ℕ) → times nat_cmp n (map f xs) ≤ 1)
       → IsStrictlySortedBy nat_cmp (map f (in_order (on f nat_cmp) xs))
-  strict_numbers f xs few = strict_from_order nat_keys (map f (in_order (on f nat_cmp) xs))
-      (in_order-map nat_cmp f (in_order (on f nat_cmp) xs) (in_order-in_order (on_total f nat_cmp_total) xs))
-      (λ n. let t : times nat_cmp n (map f (in_order (on f nat_cmp) xs)) ≡ times nat_cmp n (map f xs) =
-      times-in_order nat_cmp f (on f nat_cmp) xs n in let u : times nat_cmp n (map f xs) ≤ 1 = few n in omega arith)
+  strict_numbers f xs few =
+      search (rules, strict_from_order, nat_keys, in_order-map, in_order-in_order, on_total, nat_cmp_total, times-in_order)
 
   pub feats-county : feats (county_of records) ≡ map five_feat (in_order (on five_feat nat_cmp) (of_type_5 records))
   feats-county = map-map (λ (d : ℕ × _). d.0) (λ (r : Fields5). (r.feat, r.body)) (in_order (on five_feat nat_cmp) (of_type_5 records))
@@ -96,24 +86,16 @@ module _ (records : List Record) (linked : IsLinked records) where
   all_keys = flat_map side_keys (of_type_i records) ++ map p_key (of_type_p records)
 
   pub keys-county : polygon_keys (county_of records) ≡ distinct key_cmp all_keys
-  keys-county = map-map (λ (d : PolygonKey × _). d.0) (λ key. (key, polygon_body records key)) (distinct key_cmp all_keys)
-      ∙ map-id (distinct key_cmp all_keys)
+  keys-county = search (rules, common_steps, map-map, map-id)
 
   pub lands-county : lands (county_of records) ≡ distinct nat_cmp (map seven_land (of_type_7 records))
-  lands-county = map-map (λ (d : ℕ × _). d.0) (λ land. (
-    land,
-    in_order landmark_body_cmp (map (λ (r : Fields7). r.body) (of_number seven_land land (of_type_7 records))),
-  ))
-      (distinct nat_cmp (map seven_land (of_type_7 records))) ∙ map-id (distinct nat_cmp (map seven_land (of_type_7 records)))
+  lands-county = search (rules, common_steps, map-map, map-id)
 
   -- each name of a chain has a type 5 record
   name_stands : (n y : ℕ) → Among y (further_names records n) → IsTrue (stands_in nat_cmp y (feats (county_of records)))
   name_stands n y m =
       let r = among-unpieces (λ (q : Fields4). q.feats) y (in_order (on four_rtsq nat_cmp) (of_number four_tlid n (of_type_4 records))) m in
-      let named : Known nat_cmp (named_feats n records) y =
-      among_known nat_keys y (named_feats n records)
-      (among-pieces (λ (q : Fields4). q.feats) r.0 y (of_number four_tlid n (of_type_4 records))
-      (from_in_order (on four_rtsq nat_cmp) (of_number four_tlid n (of_type_4 records)) r.0 r.1) r.2) in
+      let named : Known nat_cmp (named_feats n records) y = search (rules, among_known, nat_keys, among-pieces, from_in_order) in
       let t : stands_in nat_cmp y (map five_feat (of_type_5 records)) ≡ true =
       needed (stands_in nat_cmp y (named_feats n records)) (stands_in nat_cmp y (map five_feat (of_type_5 records)))
       (linked (NameUnknown n y)) (lt-ltb 0 (times nat_cmp y (named_feats n records)) named) in
@@ -121,13 +103,10 @@ module _ (records : List Record) (linked : IsLinked records) where
       ∙ t
 
   key_stands : (k : PolygonKey) → Known key_cmp all_keys k → IsTrue (stands_in key_cmp k (polygon_keys (county_of records)))
-  key_stands k l = ap (stands_in key_cmp k) keys-county
-      ∙ lt-ltb 0 (times key_cmp k (distinct key_cmp all_keys)) (known-distinct key_keys all_keys k l)
+  key_stands k l = search (rules, keys-county, lt-ltb, known-distinct, key_keys)
 
   side_stands : (link : FieldsI) → Among link (of_type_i records) → AllKeysStandIn (polygon_keys (county_of records)) (side_keys link)
-  side_stands link m = each_from (λ k. IsTrue (stands_in key_cmp k (polygon_keys (county_of records)))) (side_keys link)
-      (λ k n. key_stands k (known-left key_keys k (flat_map side_keys (of_type_i records)) (map p_key (of_type_p records))
-      (among_known key_keys k (flat_map side_keys (of_type_i records)) (among-pieces side_keys link k (of_type_i records) m n))))
+  side_stands link m = search (rules, each_from, key_stands, known-left, key_keys, among_known, among-pieces)
 
   -- a property of the chain of each pair of records is a property of each chain of the county
   pub chains_all : (P : ℕ × Chain → Type 0) → ((r : Fields1) (link : FieldsI) → Among r (of_type_1 records) → Among link (of_type_i records)
@@ -143,8 +122,7 @@ module _ (records : List Record) (linked : IsLinked records) where
 
   land_stands : (link : Fields8) → Among link (of_type_8 records) → IsTrue (stands_in nat_cmp link.land (lands (county_of records)))
   land_stands link m =
-      let named : Known nat_cmp (map eight_land (of_type_8 records)) link.land =
-      among_known nat_keys link.land (map eight_land (of_type_8 records)) (among-map eight_land link (of_type_8 records) m) in
+      let named : Known nat_cmp (map eight_land (of_type_8 records)) link.land = search (rules, among_known, nat_keys, among-map) in
       let t : stands_in nat_cmp link.land (map seven_land (of_type_7 records)) ≡ true =
       needed (stands_in nat_cmp link.land (map eight_land (of_type_8 records)))
       (stands_in nat_cmp link.land (map seven_land (of_type_7 records))) (linked (LandUnknown link.land))
@@ -157,8 +135,7 @@ module _ (records : List Record) (linked : IsLinked records) where
   link_key_stands : (link : Fields8) → Among link (of_type_8 records)
       → IsTrue (stands_in key_cmp (link_key link) (polygon_keys (county_of records)))
   link_key_stands link m =
-      let named : Known key_cmp (map link_key (of_type_8 records)) (link_key link) =
-      among_known key_keys (link_key link) (map link_key (of_type_8 records)) (among-map link_key link (of_type_8 records) m) in
+      let named : Known key_cmp (map link_key (of_type_8 records)) (link_key link) = search (rules, among_known, key_keys, among-map) in
       let t : stands_in key_cmp (link_key link) all_keys ≡ true =
       needed (stands_in key_cmp (link_key link) (map link_key (of_type_8 records))) (stands_in key_cmp (link_key link) all_keys)
       (linked (PolygonUnknown link.cenid link.polyid))
@@ -169,15 +146,13 @@ module _ (records : List Record) (linked : IsLinked records) where
   pub linked_chain : (link : FieldsI) → Among link (of_type_i records)
       → (r : Fields1) × Among (r.tlid, chain_of records r link) (chains_of records)
   linked_chain link m =
-      let named : Known nat_cmp (map i_tlid (of_type_i records)) link.tlid =
-      among_known nat_keys link.tlid (map i_tlid (of_type_i records)) (among-map i_tlid link (of_type_i records) m) in
+      let named : Known nat_cmp (map i_tlid (of_type_i records)) link.tlid = search (rules, among_known, nat_keys, among-map) in
       let t : stands_in nat_cmp link.tlid (chain_tlids records) ≡ true =
       needed (stands_in nat_cmp link.tlid (map i_tlid (of_type_i records))) (stands_in nat_cmp link.tlid (chain_tlids records))
       (linked (NoChain I link.tlid)) (lt-ltb 0 (times nat_cmp link.tlid (map i_tlid (of_type_i records))) named) in
       let r = among-unmap one_tlid link.tlid (of_type_1 records)
       (known_is_among nat_keys link.tlid (chain_tlids records) (ltb-true 0 (times nat_cmp link.tlid (chain_tlids records)) t)) in
-      let there : Among link (of_number i_tlid r.0.tlid (of_type_i records)) =
-      to_filter (λ l. i_tlid l == r.0.tlid) link (of_type_i records) m (eq-eqb link.tlid r.0.tlid r.2) in (
+      let there : Among link (of_number i_tlid r.0.tlid (of_type_i records)) = search (rules, to_filter, eq-eqb) in (
         r.0,
         among-pieces (λ (q : Fields1). map (λ l. (q.tlid, chain_of records q l)) (of_number i_tlid q.tlid (of_type_i records))) r.0
             (r.0.tlid, chain_of records r.0 link) (in_order (on one_tlid nat_cmp) (of_type_1 records))
@@ -197,47 +172,28 @@ module _ (records : List Record) (linked : IsLinked records) where
           let link = among-unpieces side_keys key (of_type_i records)
           (known_is_among key_keys key (flat_map side_keys (of_type_i records)) side) in
           let chain = linked_chain link.0 link.1 in
-          let along : Among key (polygons_along (chains_of records)) =
-          among-pieces (λ (entry : ℕ × Chain). chain_polygons entry.1) (chain.0.tlid, chain_of records chain.0 link.0) key
-          (chains_of records) chain.1 link.2 in
+          let along : Among key (polygons_along (chains_of records)) = search (rules, among-pieces) in
           or_right (is_some (polygon_body records key)) (stands_in key_cmp key (polygons_along (chains_of records)))
           (lt-ltb 0 (times key_cmp key (polygons_along (chains_of records)))
           (among_known key_keys key (polygons_along (chains_of records)) along))
-      go (inr body) = or_left (is_some (polygon_body records key)) (stands_in key_cmp key (polygons_along (chains_of records)))
-          (some_body key (of_type_p records) body)
+      go (inr body) = search (rules, or_left, some_body)
 
   some_content : (land : ℕ) → Known nat_cmp (distinct nat_cmp (map seven_land (of_type_7 records))) land
       → 1 ≤ length (in_order landmark_body_cmp (map (λ (r : Fields7). r.body) (of_number seven_land land (of_type_7 records))))
   some_content land k =
-      let known : 0 < times nat_cmp land (map seven_land (of_type_7 records)) =
-      known_from_distinct nat_keys (map seven_land (of_type_7 records)) land k in
+      let known : 0 < times nat_cmp land (map seven_land (of_type_7 records)) = search (rules, known_from_distinct, nat_keys) in
       let bodies : List Body7 = map (λ (r : Fields7). r.body) (of_number seven_land land (of_type_7 records)) in
       let put : length (in_order landmark_body_cmp bodies) ≡ length bodies = length-in_order landmark_body_cmp bodies in
-      let mapped : length bodies ≡ length (of_number seven_land land (of_type_7 records)) =
-      length-map (of_number seven_land land (of_type_7 records)) (λ (r : Fields7). r.body) in
+      let mapped : length bodies ≡ length (of_number seven_land land (of_type_7 records)) = search (rules, length-map) in
       let counted : times nat_cmp land (map seven_land (of_type_7 records)) ≡ length (of_number seven_land land (of_type_7 records)) =
-      times-of_number seven_land land (of_type_7 records) in
+      search (rules, times-of_number) in
       omega arith
 
   some_points : (r : Fields1) → 2 ≤ length (r.start ∷ (shape_points records r.tlid ++ (r.end ∷ [])))
-  some_points r = let appended : length (shape_points records r.tlid ++ (r.end ∷ [])) ≡ length (shape_points records r.tlid) + 1 =
-      length-append (shape_points records r.tlid) (r.end ∷ []) in omega arith
+  some_points r = search (rules, length-append)
 
   county_whole : IsWhole (county_of records)
-  county_whole = record {
-    points = chains_all (λ entry. 2 ≤ length entry.1.points) (λ r link n m. some_points r);
-    bodies = all_map (λ (entry : ℕ × List Body7). 1 ≤ length entry.1)
-        (λ land. (land, in_order landmark_body_cmp (map (λ (r : Fields7). r.body) (of_number seven_land land (of_type_7 records)))))
-        (distinct nat_cmp (map seven_land (of_type_7 records)))
-        (all_known nat_keys (λ land. 1 ≤ length (in_order landmark_body_cmp
-        (map (λ (r : Fields7). r.body) (of_number seven_land land (of_type_7 records)))))
-        (distinct nat_cmp (map seven_land (of_type_7 records))) some_content);
-    polygons = all_map (λ (entry : PolygonKey × Option BodyP). IsTrue
-        (is_some entry.1 || stands_in key_cmp entry.0 (polygons_along (chains_of records)))) (λ key. (key, polygon_body records key))
-        (distinct key_cmp all_keys)
-        (all_known key_keys (λ key. IsTrue (is_some (polygon_body records key) || stands_in key_cmp key
-        (polygons_along (chains_of records)))) (distinct key_cmp all_keys) polygon_whole);
-  }
+  county_whole = search (rules, common_steps, chains_all, some_points, all_map, all_known, nat_keys, some_content, key_keys, polygon_whole)
 
   pub county-is_county : IsCounty (county_of records)
   county-is_county = record {
@@ -249,28 +205,8 @@ module _ (records : List Record) (linked : IsLinked records) where
           (λ n. ltb-false 1 (times nat_cmp n (map five_feat (of_type_5 records))) (linked (NameTwice n))));
       polygons = subst (IsStrictlySortedBy key_cmp) (sym keys-county) (distinct-strict key_keys all_keys);
       landmarks = subst (IsStrictlySortedBy nat_cmp) (sym lands-county) (distinct-strict nat_keys (map seven_land (of_type_7 records)));
-      bodies = all_map (λ entry. _) (λ land. (
-        land,
-        in_order landmark_body_cmp
-            (map (λ (r : Fields7). r.body) (of_number seven_land land (of_type_7 records))),
-      ))
-          (distinct nat_cmp (map seven_land (of_type_7 records)))
-          (all_everywhere (λ land. _) (λ land. in_order-in_order landmark_body_keys.total
-          (map (λ (r : Fields7). r.body) (of_number seven_land land (of_type_7 records))))
-          (distinct nat_cmp (map seven_land (of_type_7 records))));
+      bodies = search (rules, all_map, all_everywhere, in_order-in_order, landmark_body_keys);
       links = in_order-in_order link_keys.total (of_type_8 records);
     };
-    closed = record {
-      names = chains_all (λ entry. AllStandIn (feats (county_of records)) entry.1.feats)
-          (λ r link n m. each_from (λ n. IsTrue (stands_in nat_cmp n (feats (county_of records)))) (further_names records r.tlid)
-          (name_stands r.tlid));
-      sides = chains_all (λ entry. AllKeysStandIn (polygon_keys (county_of records)) (chain_polygons entry.1))
-          (λ r link n m. side_stands link m);
-      link_lands = all-in_order (λ link. IsTrue (stands_in nat_cmp link.land (lands (county_of records)))) link_cmp (of_type_8 records)
-          (each_from (λ link. IsTrue (stands_in nat_cmp link.land (lands (county_of records)))) (of_type_8 records) land_stands);
-      link_polygons = all-in_order (λ link. IsTrue (stands_in key_cmp (link_key link) (polygon_keys (county_of records)))) link_cmp
-          (of_type_8 records)
-          (each_from (λ link. IsTrue (stands_in key_cmp (link_key link) (polygon_keys (county_of records))))
-          (of_type_8 records) link_key_stands);
-    };
+    closed = search (rules, chains_all, each_from, name_stands, side_stands, all-in_order, land_stands, link_key_stands);
   }

@@ -1,17 +1,16 @@
 -- The county of linked records in the order of their numbers is the one built by walking their tables.
-use Rattle.std.proofs.Common.{◌≡◌, ◌⊎◌, ◌<◌, ◌==◌, ℕ, List, [], ◌∷◌, ◌++◌, map, flat_map, filter, Bool, true}
-use Rattle.std.proofs.Common.{false, not, cond, Ordering, Less, Equal, is_eq, is_gt, sym, refl, ap, ◌∙◌, subst, inl, inr}
-use Rattle.std.proofs.Common.{arith, nat_cmp}
+use Rattle.tl_county.proofs.Common.{common_steps}
+use Rattle.std.proofs.Common.{rules, ◌≡◌, ◌⊎◌, ◌<◌, ℕ, List, [], ◌∷◌, ◌++◌, map, flat_map, filter, Bool, true, false, not, cond, Ordering}
+use Rattle.std.proofs.Common.{Less, Equal, is_eq, is_gt, sym, refl, ap, ◌∙◌, subst, inl, inr, arith, nat_cmp}
 use Rattle.tl_county.proofs.Common.{AllByRecursion, Among, AreInOrder, Fields1, Fields5, Fields7, Fields8, FieldsI, I, IsInOrder, IsLinked}
 use Rattle.tl_county.proofs.Common.{Known, LandUnknown, LandmarkParts, LinkTwice, NameTwice, NoChain, Record, all_weaker, among-map}
 use Rattle.tl_county.proofs.Common.{among_known, by_type, chain_of, chain_tlids, chains_along, chains_of, county_along, county_of, distinct}
-use Rattle.tl_county.proofs.Common.{distinct-strict, eight_land, eq-eqb, false≢true, filter_all, first_least, five_feat, four_rtsq}
-use Rattle.tl_county.proofs.Common.{four_tlid, i_tlid, in_order, in_order-filter, in_order-itself, in_order-map, in_order-strict}
-use Rattle.tl_county.proofs.Common.{known-distinct, known_cases, known_is_among, landmark_body_cmp, landmark_entry, landmark_of, later_than}
-use Rattle.tl_county.proofs.Common.{link_cmp, link_part, link_part_cmp, linked_tlids, lt-ltb, ltb-false, ltb-true, nat_cmp_total, nat_keys}
-use Rattle.tl_county.proofs.Common.{of_number, of_type_1, of_type_2, of_type_4, of_type_5, of_type_6, of_type_7, of_type_8, of_type_i, on}
-use Rattle.tl_county.proofs.Common.{one_tlid, ordering_then, seven_land, six_rtsq, six_tlid, stands_in, strict_head, strict_tail}
-use Rattle.tl_county.proofs.Common.{tied_itself, times, two_rtsq, two_tlid}
+use Rattle.tl_county.proofs.Common.{distinct-strict, eight_land, eq-eqb, false≢true, filter_all, first_least, five_feat, four_tlid, i_tlid}
+use Rattle.tl_county.proofs.Common.{in_order, in_order-filter, in_order-itself, in_order-map, in_order-strict, known-distinct, known_cases}
+use Rattle.tl_county.proofs.Common.{known_is_among, landmark_body_cmp, landmark_entry, landmark_of, later_than, link_cmp, link_part}
+use Rattle.tl_county.proofs.Common.{link_part_cmp, linked_tlids, lt-ltb, ltb-false, ltb-true, nat_cmp_total, nat_keys, of_number, of_type_1}
+use Rattle.tl_county.proofs.Common.{of_type_2, of_type_4, of_type_5, of_type_6, of_type_7, of_type_8, of_type_i, on, one_tlid}
+use Rattle.tl_county.proofs.Common.{ordering_then, seven_land, six_tlid, stands_in, strict_head, strict_tail, tied_itself, times, two_tlid}
 use Rattle.std.specs.List.{zip}
 use Rattle.std.specs.List.Sorted.{IsStrictlySortedBy}
 use Rattle.std.specs.Ordering.{is_lt}
@@ -45,9 +44,7 @@ group_order {X} number next n (x ∷ xs) a h = (each xs a.1 h.0, group_order num
 
 pub group_in_order : {X : Type 0} (number : X → ℕ) (next : X → X → Ordering) (n : ℕ) (xs : List X)
     → IsInOrder (λ x y. ordering_then (nat_cmp (number x) (number y)) (next x y)) xs → IsInOrder next (of_number number n xs)
-group_in_order number next n xs h =
-    group_order number next n (of_number number n xs) (of_number-all number n xs)
-    (in_order-filter (λ x y. ordering_then (nat_cmp (number x) (number y)) (next x y)) (λ x. number x == n) xs h)
+group_in_order number next n xs h = search (rules, group_order, of_number-all, in_order-filter)
 
 -- records in the order of their numbers are the groups of those numbers, one after the other
 pub groups-join : {X : Type 0} (number : X → ℕ) (ks : List ℕ) (xs : List X) → IsStrictlySortedBy nat_cmp ks
@@ -83,14 +80,12 @@ groups-join {X} number (k ∷ ks) xs strict h known =
             → AllByRecursion (λ x. Known nat_cmp ks (number x)) (later_than number k ys)
             → AllByRecursion (λ x. Known nat_cmp ks (number x)) (cond b (y ∷ later_than number k ys) (later_than number k ys))
         go false e m ih = ih
-        go true e (inl f) ih =
-            absurd (false≢true (sym (ap is_gt (subst (λ m. nat_cmp m k ≡ Equal) (sym f) (tied_itself nat_cmp_total k))) ∙ e))
+        go true e (inl f) ih = search (rules, false≢true, tied_itself, nat_cmp_total)
         go true e (inr m) ih = (m.0, ih)
 
 module _ (records : List Record) (order : AreInOrder (by_type records)) (linked : IsLinked records) where
   pub tlids-strict : IsStrictlySortedBy nat_cmp (map one_tlid (of_type_1 records))
-  tlids-strict = strict_from_order nat_keys (map one_tlid (of_type_1 records))
-      (in_order-map nat_cmp one_tlid (of_type_1 records) order.type_1) (apart_chains records linked)
+  tlids-strict = search (rules, common_steps, strict_from_order, nat_keys, in_order-map, apart_chains)
 
   links-strict : IsStrictlySortedBy nat_cmp (map i_tlid (of_type_i records))
   links-strict = strict_from_order nat_keys (map i_tlid (of_type_i records)) (in_order-map nat_cmp i_tlid (of_type_i records) order.type_i)
@@ -106,7 +101,7 @@ module _ (records : List Record) (order : AreInOrder (by_type records)) (linked 
   side_by_side = strict-equal nat_cmp_total (λ n. n) (map one_tlid (of_type_1 records))
       (map i_tlid (of_type_i records)) tlids-strict links-strict
       (λ n m. known_is_among nat_keys n (map i_tlid (of_type_i records)) (let one : times nat_cmp n (map i_tlid (of_type_i records)) ≡ 1 =
-      one_link records linked n (among_known nat_keys n (chain_tlids records) m) in omega arith))
+      search (rules, one_link, among_known, nat_keys) in omega arith))
       (λ n m. known_is_among nat_keys n (chain_tlids records)
       (ltb-true 0 (times nat_cmp n (chain_tlids records))
       (needed (stands_in nat_cmp n (linked_tlids I records)) (stands_in nat_cmp n (chain_tlids records)) (linked (NoChain I n))
@@ -116,27 +111,12 @@ module _ (records : List Record) (order : AreInOrder (by_type records)) (linked 
   chain-groups : (r : Fields1) (link : FieldsI) → chain_of records r link ≡ chain_with r link
       (of_number two_tlid r.tlid (of_type_2 records)) (of_number four_tlid r.tlid (of_type_4 records))
       (of_number six_tlid r.tlid (of_type_6 records))
-  chain-groups r link = λ i. chain_with r link
-      (in_order-itself (on two_rtsq nat_cmp) (of_number two_tlid r.tlid (of_type_2 records))
-      (group_in_order two_tlid (on two_rtsq nat_cmp) r.tlid (of_type_2 records) order.type_2) i)
-      (in_order-itself (on four_rtsq nat_cmp) (of_number four_tlid r.tlid (of_type_4 records))
-      (group_in_order four_tlid (on four_rtsq nat_cmp) r.tlid (of_type_4 records) order.type_4) i)
-      (in_order-itself (on six_rtsq nat_cmp) (of_number six_tlid r.tlid (of_type_6 records))
-      (group_in_order six_tlid (on six_rtsq nat_cmp) r.tlid (of_type_6 records) order.type_6) i)
+  chain-groups r link = search (rules, in_order-itself, group_in_order)
 
   -- the one type I record of a chain
   only_link : (n : ℕ) (l : FieldsI) → Known nat_cmp (chain_tlids records) n → Among l (of_type_i records) → l.tlid ≡ n
       → of_number i_tlid n (of_type_i records) ≡ l ∷ []
-  only_link n l known m e =
-      let one : (link : FieldsI) × (of_number i_tlid n (of_type_i records) ≡ link ∷ []) = the_link records linked n known in
-      let there : Among l (of_number i_tlid n (of_type_i records)) =
-      to_filter (λ x. i_tlid x == n) l (of_type_i records) m (eq-eqb l.tlid n e) in
-      go one.0 one.1 (subst (Among l) one.1 there)
-    where
-      go : (link : FieldsI) → of_number i_tlid n (of_type_i records) ≡ link ∷ [] → (l ≡ link) ⊎ ⊥
-          → of_number i_tlid n (of_type_i records) ≡ l ∷ []
-      go link f (inl same) = f ∙ ap (λ x. x ∷ []) (sym same)
-      go link f (inr h) = absurd h
+  only_link n l known m e = search (rules, the_link, to_filter, eq-eqb)
 
   chains_at : (rs : List Fields1) (ls : List FieldsI) → map one_tlid rs ≡ map i_tlid ls
       → AllByRecursion (λ r. Known nat_cmp (chain_tlids records) r.tlid) rs → AllByRecursion (λ l. Among l (of_type_i records)) ls
@@ -168,9 +148,7 @@ module _ (records : List Record) (order : AreInOrder (by_type records)) (linked 
 
   bodies-kept : (land : ℕ) → in_order landmark_body_cmp (map (λ (r : Fields7). r.body) (of_number seven_land land (of_type_7 records)))
       ≡ map (λ (r : Fields7). r.body) (of_number seven_land land (of_type_7 records))
-  bodies-kept land = in_order-itself landmark_body_cmp (map (λ (r : Fields7). r.body) (of_number seven_land land (of_type_7 records)))
-      (in_order-map landmark_body_cmp (λ (r : Fields7). r.body) (of_number seven_land land (of_type_7 records))
-      (group_in_order seven_land (λ a b. landmark_body_cmp a.body b.body) land (of_type_7 records) order.type_7))
+  bodies-kept land = search (rules, in_order-itself, in_order-map, group_in_order)
 
   landmarks-kept : (ks : List ℕ) → map (λ land. (
     land,

@@ -1,5 +1,5 @@
 -- A polygon has the content of its type P record.
-use Rattle.std.proofs.Common.{◌≡◌, ◌⊎◌, ◌≤◌, suc, List, [], ◌∷◌, map, filter, Bool, true, false, cond, Some, is_eq, sym, refl, ap}
+use Rattle.std.proofs.Common.{rules, ◌≡◌, ◌⊎◌, ◌≤◌, suc, List, [], ◌∷◌, map, filter, Bool, true, false, cond, Some, is_eq, sym, refl, ap}
 use Rattle.std.proofs.Common.{◌∙◌, subst, inl, inr, arith}
 use Rattle.tl_county.proofs.Common.{Among, BodyP, FieldsP, IsApart, Known, PolygonKey, among-map, among_known, apart_tail, first, key_cmp}
 use Rattle.tl_county.proofs.Common.{key_keys, p_key, same-itself, same-true, same_or_not, times, times-yes}
@@ -35,10 +35,9 @@ body_found r (q ∷ rs) a (inr m) =
     go (inl e) ih = absurd (
         let l : Known key_cmp (map p_key rs) (p_key r) = among_known key_keys (p_key r) (map p_key rs) (among-map p_key r rs m) in
         let t : times key_cmp (p_key r) (p_key q ∷ map p_key rs) ≡ suc (times key_cmp (p_key r) (map p_key rs)) =
-        times-yes key_keys (p_key r) (p_key q) (map p_key rs) e in
+        search (rules, times-yes, key_keys) in
         let u : times key_cmp (p_key r) (map p_key (q ∷ rs)) ≤ 1 = a (p_key r) in
         omega arith)
-    go (inr ne) ih = ap (λ b. first (map (λ (s : FieldsP). s.body)
-        (cond b (q ∷ filter (λ s. is_eq (key_cmp (p_key r) (p_key s))) rs) (filter (λ s. is_eq (key_cmp (p_key r) (p_key s))) rs)))) ne ∙ ih
+    go (inr ne) ih = search rules
 
 -- the packed record of a polygon has its key

@@ -1,16 +1,15 @@
 -- The rules in turn: what each search finds about its rule, and how stretches of rules are joined.
-use Rattle.std.proofs.Common.{◌≡◌, ◌<◌, ◌≤◌, ◌==◌, ℕ, suc, nat_lt, List, [], ◌∷◌, ◌++◌, Bool, true, false, cond, not}
-use Rattle.std.proofs.Common.{◌||◌, Ordering, Less, Equal, Greater, is_gt, sym, refl, ap, ◌∙◌, subst, inl, inr, arith}
-use Rattle.std.proofs.Common.{nat_cmp, Some, None}
+use Rattle.std.proofs.Common.{rules, ◌≡◌, ◌<◌, ◌≤◌, ◌==◌, ℕ, suc, nat_lt, List, [], ◌∷◌, ◌++◌, Bool, true, false, cond, not, ◌||◌, Ordering}
+use Rattle.std.proofs.Common.{Less, Equal, Greater, is_gt, sym, refl, ap, ◌∙◌, inl, inr, arith, nat_cmp, Some, None}
 use Rattle.tl_county.proofs.Common.{Among, ChainTwice, Four, I, IsFirstBrokenRule, IsLeastPassing, IsLinked, LandUnknown, LinkFault}
 use Rattle.tl_county.proofs.Common.{LinkMissing, LinkTwice, Memory, NameTwice, NameUnknown, NoChain, PolygonTwice, PolygonUnknown, Record}
 use Rattle.tl_county.proofs.Common.{RulesHold, SequenceBroken, Six, Two, and_parts, eqb-true, false≢true, is_rule_broken, list_all}
 use Rattle.tl_county.proofs.Common.{list_any, lt-ltb, ltb-false, ltb-true, ordering_then, place_cmp, slice_cmp}
-use Rattle.tl_county.specs.declared.fault.SequencedType.TheVariants as sequenced
 use Rattle.tl_county.specs.LinkRules.{link_fault_place}
 use Rattle.tl_county.specs.RuleOrder.{rule_place, IsFirstFrom}
 use Rattle.tl_county.proofs.Rules.LinkFaults.{part, number}
 use Rattle.ordered_lists.proofs.Lists.Members.{any_among}
+use Rattle.tl_county.specs.declared.fault.SequencedType.TheVariants as sequenced
 
 -- a fault's place begins with the place of its rule and ends with its key
 abbrev head_of_rule : ℕ → List (List ℕ)
@@ -85,10 +84,7 @@ has_place records Memory b = absurd (false≢true b)
 has_place records fault b = refl
 
 place_among : (records : List Record) (f : LinkFault) → is_rule_broken records f ≡ true → Among (rule_place f) places
-place_among records f b =
-    let found : (n : ℕ) × Among n places × ((n == rule_place f) ≡ true) =
-    any_among (λ n. n == rule_place f) places (has_place records f b) in
-    subst (λ n. Among n places) (eqb-true found.0 (rule_place f) found.2) found.1
+place_among records f b = search (rules, any_among, has_place, eqb-true)
 
 -- whether the first list comes before the second at the first place where they differ, before either ends
 abbrev differs_at : Ordering → Bool → Bool
@@ -124,20 +120,7 @@ all_of p (y ∷ xs) e x (inr m) = all_of p xs (and_parts (p y) (list_all p xs) e
 -- a fault of an earlier rule has the lesser place
 earlier_rule : (records : List Record) (f g : LinkFault) → is_rule_broken records f ≡ true → is_rule_broken records g ≡ true
     → rule_place f < rule_place g → is_gt (place_cmp (link_fault_place f) (link_fault_place g)) ≡ false
-earlier_rule records f g b d lt =
-    let row = all_of (λ m. list_all (λ n. not (nat_lt m n) || comes_before (head_of_rule m) (head_of_rule n)) places) places rules_ascend
-    (rule_place f) (place_among records f b) in
-    let at = all_of (λ n. not (nat_lt (rule_place f) n) || comes_before (head_of_rule (rule_place f)) (head_of_rule n)) places row
-    (rule_place g) (place_among records g d) in
-    let less : place_cmp (head_of_rule (rule_place f) ++ key_place f) (head_of_rule (rule_place g) ++ key_place g) ≡ Less =
-    before-less (head_of_rule (rule_place f)) (head_of_rule (rule_place g)) (key_place f) (key_place g)
-    (go (nat_lt (rule_place f) (rule_place g)) (lt-ltb (rule_place f) (rule_place g) lt) at) in
-    (λ i. is_gt (place_cmp (place-split f i) (place-split g i))) ∙ ap is_gt less
-  where
-    go : (b : Bool) → b ≡ true → (not b || comes_before (head_of_rule (rule_place f)) (head_of_rule (rule_place g))) ≡ true
-        → comes_before (head_of_rule (rule_place f)) (head_of_rule (rule_place g)) ≡ true
-    go true e h = h
-    go false e h = absurd (false≢true e)
+earlier_rule records f g b d lt = search (rules, all_of, rules_ascend, place_among, before-less, lt-ltb, place-split, false≢true)
 
 -- A rule as its search finds it: its faults have keys, it is broken at a key that passes the test, and lesser keys have lesser
 -- places.
@@ -199,14 +182,7 @@ first-after records {low} {mid} {f} le h k =
 
 -- all rules together
 pub all_hold : (records : List Record) → RulesHold records 0 15 → IsLinked records
-all_hold records h f = go (is_rule_broken records f) refl
-  where
-    go : (t : Bool) → is_rule_broken records f ≡ t → is_rule_broken records f ≡ false
-    go false e = e
-    go true e = h f (omega arith) (below (place_among records f e))
-      where
-        below : Among (rule_place f) places → rule_place f < 15
-        below m = ltb-true (rule_place f) 15 (all_of (λ n. nat_lt n 15) places refl (rule_place f) m)
+all_hold records h f = search (rules, place_among, ltb-true, all_of)
 
 pub first_of_all : (records : List Record) (f : LinkFault) → IsFirstFrom records 0 f → IsFirstBrokenRule records f
 first_of_all records f h = record { there = h.broken; least = λ g b. h.least g (omega arith) b }

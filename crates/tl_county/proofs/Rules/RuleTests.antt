@@ -1,26 +1,24 @@
 -- The rules for records that fit together, each as its search finds it.
-use Rattle.std.proofs.Common.{◌≡◌, ◌⊎◌, ◌<◌, ◌≤◌, ◌+◌, ◌==◌, ◌&&◌, not, ℕ, suc, nat_lt, List, [], ◌∷◌, ◌++◌, map, flat_map}
-use Rattle.std.proofs.Common.{Bool, true, false, cond, Ordering, Less, Equal, Greater, is_eq, is_gt, sym, refl}
-use Rattle.std.proofs.Common.{ap, ◌∙◌, subst, inl, inr, arith, nat_cmp, Option, Some, None, zero-add, IsPermutation}
-use Rattle.tl_county.proofs.Common.{ChainTwice, Fields4, Four, I, IsInOrder, IsKeyOrder, IsLeastPassing, LandUnknown, LinkFault}
-use Rattle.tl_county.proofs.Common.{LinkMissing, LinkTwice, NameTwice, NameUnknown, NoChain, PolygonKey, PolygonTwice, PolygonUnknown}
-use Rattle.tl_county.proofs.Common.{Record, SequenceBroken, Six, Two, Typed, all_weaker, and_parts, apart_from_no_repeat, by_type}
-use Rattle.tl_county.proofs.Common.{bytes_cmp, common_steps, distinct, eight_land, eq-eqb, false≢true, first_least, five_feat, four_rtsq}
-use Rattle.tl_county.proofs.Common.{four_tlid, has_repeat, i_tlid, is_repeated, is_rule_broken, is_unknown, is_unnamed, key_cmp, key_keys}
-use Rattle.tl_county.proofs.Common.{least-same, link_key, lt-ltb, ltb-true, nat_cmp_total, nat_keys, ne_eqb, of_number, one_tlid, or_cases}
-use Rattle.tl_county.proofs.Common.{ordering_then, p_key, place_cmp, same-itself, same_or_not, sequence_cmp, seven_land, side_keys}
-use Rattle.tl_county.proofs.Common.{six_rtsq, six_tlid, stands_in, tied_itself, times, times-cons, times-no, times-yes, two_rtsq, two_tlid}
-use Rattle.tl_county.proofs.Common.{uses_of}
+use Rattle.std.proofs.Common.{rules, ◌≡◌, ◌⊎◌, ◌<◌, ◌+◌, ◌==◌, ◌&&◌, not, ℕ, nat_lt, List, [], ◌∷◌, ◌++◌, map, flat_map, Bool, true, false}
+use Rattle.std.proofs.Common.{cond, Ordering, Less, Equal, Greater, is_eq, is_gt, sym, refl, ap, ◌∙◌, subst, inl, inr, arith, nat_cmp, Some}
+use Rattle.std.proofs.Common.{None, zero-add, IsPermutation}
+use Rattle.tl_county.proofs.Common.{Fields4, Four, IsInOrder, IsKeyOrder, IsLeastPassing, LandUnknown, LinkFault, NameTwice, NameUnknown}
+use Rattle.tl_county.proofs.Common.{PolygonKey, PolygonTwice, PolygonUnknown, Record, SequenceBroken, Six, Two, Typed, all_weaker}
+use Rattle.tl_county.proofs.Common.{and_parts, apart_from_no_repeat, by_type, bytes_cmp, common_steps, distinct, eight_land, eq-eqb}
+use Rattle.tl_county.proofs.Common.{false≢true, first_least, five_feat, four_rtsq, four_tlid, has_repeat, is_repeated, is_rule_broken}
+use Rattle.tl_county.proofs.Common.{is_unknown, is_unnamed, key_cmp, key_keys, least-same, link_key, lt-ltb, ltb-true, nat_cmp_total}
+use Rattle.tl_county.proofs.Common.{nat_keys, ne_eqb, of_number, or_cases, ordering_then, p_key, place_cmp, same-itself, same_or_not}
+use Rattle.tl_county.proofs.Common.{sequence_cmp, seven_land, side_keys, six_rtsq, six_tlid, stands_in, tied_itself, times, times-cons}
+use Rattle.tl_county.proofs.Common.{times-no, times-yes, two_rtsq, two_tlid, uses_of}
 use Rattle.std.specs.List.{find}
-use Rattle.tl_county.specs.declared.fault.SequencedType.TheVariants as sequenced
 use Rattle.tl_county.specs.LinkRules.{link_fault_place}
 use Rattle.tl_county.specs.RuleOrder.{rule_place}
 use Rattle.ordered_lists.proofs.Lists.Distinct.{times-distinct, bit}
 use Rattle.ordered_lists.proofs.ByKey.KeyOrders.{pair_keys}
-use Rattle.ordered_lists.proofs.ByKey.Keys.{times-permutation, times-append}
-use Rattle.ordered_lists.proofs.ByKey.Keys.{known-here}
+use Rattle.ordered_lists.proofs.ByKey.Keys.{times-permutation, times-append, known-here}
 use Rattle.tl_county.proofs.Rules.LinkFaults.{part, number}
 use Rattle.tl_county.proofs.Rules.RuleOrders.{IsRule, fault_of_rule}
+use Rattle.tl_county.specs.declared.fault.SequencedType.TheVariants as sequenced
 
 -- orders of lists of one or two numbers
 pub single : (a : Ordering) → is_gt a ≡ false → is_gt (ordering_then (ordering_then a Equal) Equal) ≡ false
@@ -48,11 +46,7 @@ first_order Greater b e = e
 pub in_order-first : {X : Type 0} (first next : X → X → Ordering) (xs : List X) → IsInOrder (λ x y. ordering_then (first x y) (next x y)) xs
     → IsInOrder first xs
 in_order-first first next [] h = tt
-in_order-first first next (x ∷ xs) h = (
-  all_weaker (λ y. is_gt (ordering_then (first x y) (next x y)) ≡ false) (λ y. is_gt (first x y) ≡ false)
-      (λ y e. first_order (first x y) (next x y) e) xs h.0,
-  in_order-first first next xs h.1,
-)
+in_order-first first next (x ∷ xs) h = search (rules, all_weaker, first_order, in_order-first first next xs h.1)
 
 pub sequence_keys : IsKeyOrder sequence_cmp
 sequence_keys = pair_keys nat_keys nat_keys
@@ -62,41 +56,11 @@ module _ {X : Type 0} (f g : X → ℕ) where
   pub times-pair : (n m : ℕ) (xs : List X) → times sequence_cmp (n, m) (map (λ x. (f x, g x)) xs) ≡ times nat_cmp m
       (map g (of_number f n xs))
   times-pair n m [] = refl
-  times-pair n m (x ∷ xs) = go (same_or_not nat_keys n (f x)) (times-pair n m xs)
-    where
-      other : is_eq (nat_cmp n (f x)) ≡ false → is_eq (sequence_cmp (n, m) (f x, g x)) ≡ false
-      other ne = at (nat_cmp n (f x)) ne
-        where
-          at : (a : Ordering) → is_eq a ≡ false → is_eq (ordering_then a (nat_cmp m (g x))) ≡ false
-          at Less e = refl
-          at Equal e = absurd (false≢true (sym e))
-          at Greater e = refl
-
-      go : (n ≡ f x) ⊎ (is_eq (nat_cmp n (f x)) ≡ false)
-          → times sequence_cmp (n, m) (map (λ y. (f y, g y)) xs) ≡ times nat_cmp m (map g (of_number f n xs))
-          → times sequence_cmp (n, m) (map (λ y. (f y, g y)) (x ∷ xs)) ≡ times nat_cmp m (map g (of_number f n (x ∷ xs)))
-      go (inr ne) ih =
-          times-no sequence_keys (n, m) (f x, g x) (map (λ y. (f y, g y)) xs) (other ne) ∙ ih
-          ∙ ap (λ b. times nat_cmp m (map g (cond b (x ∷ of_number f n xs) (of_number f n xs))))
-          (sym (ne_eqb (f x) n (λ e. false≢true (sym ne ∙ subst (λ k. is_eq (nat_cmp n k) ≡ true) (sym e) (same-itself nat_keys n)))))
-      go (inl e) ih = here (same_or_not nat_keys m (g x))
-          ∙ ap (λ b. times nat_cmp m (map g (cond b (x ∷ of_number f n xs) (of_number f n xs)))) (sym (eq-eqb (f x) n (sym e)))
-        where
-          here : (m ≡ g x) ⊎ (is_eq (nat_cmp m (g x)) ≡ false)
-              → times sequence_cmp (n, m) (map (λ y. (f y, g y)) (x ∷ xs)) ≡ times nat_cmp m (g x ∷ map g (of_number f n xs))
-          here (inl h) = times-yes sequence_keys (n, m) (f x, g x) (map (λ y. (f y, g y)) xs) (λ i. (e i, h i)) ∙ ap suc ih
-              ∙ sym (times-yes nat_keys m (g x) (map g (of_number f n xs)) h)
-          here (inr ne) = times-no sequence_keys (n, m) (f x, g x) (map (λ y. (f y, g y)) xs)
-              (subst (λ k. is_eq (ordering_then (nat_cmp n k) (nat_cmp m (g x))) ≡ false) e
-              (ap (λ a. is_eq (ordering_then a (nat_cmp m (g x)))) (tied_itself nat_cmp_total n) ∙ ne)) ∙ ih
-              ∙ sym (times-no nat_keys m (g x) (map g (of_number f n xs)) ne)
+  times-pair n m (x ∷ xs) =
+      grind (arith, common_steps, same_or_not, nat_keys, false≢true, times-no, sequence_keys, ne_eqb, same-itself, eq-eqb, times-yes, tied_itself, nat_cmp_total, times-pair n m xs)
 
   repeat_from : (m : ℕ) (ks : List ℕ) → 1 < times nat_cmp m ks → has_repeat nat_cmp ks ≡ true
-  repeat_from m ks h = go (has_repeat nat_cmp ks) refl
-    where
-      go : (b : Bool) → has_repeat nat_cmp ks ≡ b → b ≡ true
-      go true e = refl
-      go false e = absurd (let few : times nat_cmp m ks ≤ 1 = apart_from_no_repeat nat_keys ks e m in omega arith)
+  repeat_from m ks h = search (rules, apart_from_no_repeat, nat_keys)
 
   repeated_in : (ks : List ℕ) → has_repeat nat_cmp ks ≡ true → (m : ℕ) × (1 < times nat_cmp m ks)
   repeated_in [] e = absurd (false≢true e)
@@ -109,15 +73,14 @@ module _ {X : Type 0} (f g : X → ℕ) where
         (let some : 0 < times nat_cmp k ks = ltb-true 0 (times nat_cmp k ks) s in
             omega (arith, times-yes nat_keys k k ks refl)),
       )
-      go (inr r) ih = let found : (m : ℕ) × (1 < times nat_cmp m ks) = ih r in
-          (found.0, omega (arith, times-cons nat_keys found.0 k ks, found.1))
+      go (inr r) ih = search (rules, times-cons, nat_keys)
 
   -- the least pair that occurs twice has the least number under which something occurs twice
   pub least-repeat : (n m : ℕ) (xs : List X) → IsLeastPassing sequence_cmp (is_repeated sequence_cmp (map (λ x. (f x, g x)) xs))
       (Some (n, m)) → IsLeastPassing nat_cmp (λ k. has_repeat nat_cmp (map g (of_number f k xs))) (Some n)
   least-repeat n m xs h = (
-    repeat_from m (map g (of_number f n xs)) (let t : 1 < times sequence_cmp (n, m) (map (λ x. (f x, g x)) xs) =
-        ltb-true 1 (times sequence_cmp (n, m) (map (λ x. (f x, g x)) xs)) h.0 in omega (arith, times-pair n m xs)),
+    repeat_from m (map g (of_number f n xs)) (let t : 1 < times sequence_cmp (n, m) (map (λ x. (f x, g x)) xs) = search (rules, ltb-true) in
+        omega (arith, times-pair n m xs)),
     least,
   )
     where
@@ -152,12 +115,8 @@ times-uses n y (r ∷ rs) =
       where
         at : (y ≡ feat) ⊎ (is_eq (nat_cmp y feat) ≡ false) → times sequence_cmp (n, y) (map (λ w. (tlid, w)) feats) ≡ times nat_cmp y feats
             → times sequence_cmp (n, y) ((tlid, feat) ∷ map (λ w. (tlid, w)) feats) ≡ times nat_cmp y (feat ∷ feats)
-        at (inl h) ih = times-yes sequence_keys (n, y) (tlid, feat) (map (λ w. (tlid, w)) feats) (λ i. (e i, h i)) ∙ ap suc ih
-            ∙ sym (times-yes nat_keys y feat feats h)
-        at (inr ne) ih = times-no sequence_keys (n, y) (tlid, feat) (map (λ w. (tlid, w)) feats)
-            (subst (λ k. is_eq (ordering_then (nat_cmp n k) (nat_cmp y feat)) ≡ false) e
-            (ap (λ a. is_eq (ordering_then a (nat_cmp y feat))) (tied_itself nat_cmp_total n) ∙ ne)) ∙ ih
-            ∙ sym (times-no nat_keys y feat feats ne)
+        at (inl h) ih = search (rules, times-yes, sequence_keys, nat_keys)
+        at (inr ne) ih = search (rules, times-no, sequence_keys, tied_itself, nat_cmp_total, nat_keys)
 
     none : (tlid : ℕ) → is_eq (nat_cmp n tlid) ≡ false → (feats : List ℕ) → times sequence_cmp (n, y) (map (λ feat. (tlid, feat)) feats) ≡ 0
     none tlid ne [] = refl
@@ -198,34 +157,17 @@ unnamed-first first later feats h none = (
 pub unnamed-found : (uses : List (ℕ × ℕ)) (feats : List ℕ) → IsInOrder sequence_cmp uses
     → IsLeastPassing sequence_cmp (is_unnamed uses feats) (find (λ pair. not (stands_in nat_cmp pair.1 feats)) uses)
 unnamed-found [] feats h = λ pair. refl
-unnamed-found (first ∷ later) feats h = go (stands_in nat_cmp first.1 feats) refl (unnamed-found later feats h.1)
-  where
-    found : Option (ℕ × ℕ)
-    found = find (λ pair. not (stands_in nat_cmp pair.1 feats)) later
-
-    go : (b : Bool) → stands_in nat_cmp first.1 feats ≡ b → IsLeastPassing sequence_cmp (is_unnamed later feats) found
-        → IsLeastPassing sequence_cmp (is_unnamed (first ∷ later) feats) (cond (not b) (Some first) found)
-    go false e ih = unnamed-first first later feats h e
-    go true e ih = least-same sequence_cmp (is_unnamed later feats) (is_unnamed (first ∷ later) feats)
-        (λ pair. grind (arith, common_steps)) found ih
+unnamed-found (first ∷ later) feats h = search (rules, unnamed-first, least-same, common_steps, unnamed-found later feats h.1)
 
 -- the uses and the names may be in another order
 pub unnamed-reordered : (uses others : List (ℕ × ℕ)) (feats : List ℕ) → IsPermutation uses others → (pair : ℕ × ℕ)
     → is_unnamed others feats pair ≡ is_unnamed uses feats pair
-unnamed-reordered uses others feats p pair =
-    ap (λ n. nat_lt 0 n && not (stands_in nat_cmp pair.1 feats)) (times-permutation sequence_keys pair uses others p)
+unnamed-reordered uses others feats p pair = search (rules, times-permutation, sequence_keys)
 
 -- keys in another order, and known keys once each
 pub unknown-distinct : (keys others known : List PolygonKey) → IsPermutation keys others → (key : PolygonKey)
     → is_unknown key_cmp others (distinct key_cmp known) key ≡ is_unknown key_cmp keys known key
-unknown-distinct keys others known p key = (λ i. nat_lt 0 (times-permutation key_keys key keys others p i) && not (once i))
-  where
-    flag : (b : Bool) → nat_lt 0 (bit b) ≡ b
-    flag true = refl
-    flag false = refl
-
-    once : stands_in key_cmp key (distinct key_cmp known) ≡ stands_in key_cmp key known
-    once = ap (nat_lt 0) (times-distinct key_keys key known) ∙ flag (stands_in key_cmp key known)
+unknown-distinct keys others known p key = search (rules, times-permutation, key_keys, bit, times-distinct)
 
 module _ (records : List Record) (t : Typed) (e : by_type records ≡ t) where
   -- a rule whose faults have one number as their key
@@ -256,26 +198,6 @@ module _ (records : List Record) (t : Typed) (e : by_type records ≡ t) where
     order = λ k j h. ap is_gt (order k j) ∙ keyed (bytes_cmp k.0 j.0) (nat_cmp k.1 j.1) h;
   }
 
-  pub rule_11 : IsRule nat_cmp (is_repeated nat_cmp (map one_tlid t.of_type_1)) records 0 ChainTwice
-  rule_11 = numbered 0 ChainTwice (λ u. is_repeated nat_cmp (map one_tlid u.of_type_1))
-      (λ k. refl) (λ k. refl) (λ p. refl) (λ k j. refl)
-
-  pub rule_12_two : IsRule nat_cmp (is_unknown nat_cmp (map two_tlid t.of_type_2) (map one_tlid t.of_type_1)) records 1 (NoChain Two)
-  rule_12_two = numbered 1 (NoChain Two) (λ u. is_unknown nat_cmp (map two_tlid u.of_type_2) (map one_tlid u.of_type_1))
-      (λ k. refl) (λ k. refl) (λ p. refl) (λ k j. refl)
-
-  pub rule_12_four : IsRule nat_cmp (is_unknown nat_cmp (map four_tlid t.of_type_4) (map one_tlid t.of_type_1)) records 2 (NoChain Four)
-  rule_12_four = numbered 2 (NoChain Four) (λ u. is_unknown nat_cmp (map four_tlid u.of_type_4) (map one_tlid u.of_type_1))
-      (λ k. refl) (λ k. refl) (λ p. refl) (λ k j. refl)
-
-  pub rule_12_six : IsRule nat_cmp (is_unknown nat_cmp (map six_tlid t.of_type_6) (map one_tlid t.of_type_1)) records 3 (NoChain Six)
-  rule_12_six = numbered 3 (NoChain Six) (λ u. is_unknown nat_cmp (map six_tlid u.of_type_6) (map one_tlid u.of_type_1))
-      (λ k. refl) (λ k. refl) (λ p. refl) (λ k j. refl)
-
-  pub rule_12_i : IsRule nat_cmp (is_unknown nat_cmp (map i_tlid t.of_type_i) (map one_tlid t.of_type_1)) records 4 (NoChain I)
-  rule_12_i = numbered 4 (NoChain I) (λ u. is_unknown nat_cmp (map i_tlid u.of_type_i) (map one_tlid u.of_type_1))
-      (λ k. refl) (λ k. refl) (λ p. refl) (λ k j. refl)
-
   pub rule_13_two : IsRule nat_cmp (λ k. has_repeat nat_cmp (map two_rtsq (of_number two_tlid k t.of_type_2))) records 5
       (SequenceBroken sequenced.Two)
   rule_13_two = numbered 5 (SequenceBroken sequenced.Two) (λ u k. has_repeat nat_cmp (map two_rtsq (of_number two_tlid k u.of_type_2)))
@@ -290,13 +212,6 @@ module _ (records : List Record) (t : Typed) (e : by_type records ≡ t) where
       (SequenceBroken sequenced.Six)
   rule_13_six = numbered 7 (SequenceBroken sequenced.Six) (λ u k. has_repeat nat_cmp (map six_rtsq (of_number six_tlid k u.of_type_6)))
       (λ k. refl) (λ k. refl) (λ p. refl) (λ k j. refl)
-
-  pub rule_14 : IsRule nat_cmp (is_unknown nat_cmp (map one_tlid t.of_type_1) (map i_tlid t.of_type_i)) records 8 LinkMissing
-  rule_14 = numbered 8 LinkMissing (λ u. is_unknown nat_cmp (map one_tlid u.of_type_1) (map i_tlid u.of_type_i))
-      (λ k. refl) (λ k. refl) (λ p. refl) (λ k j. refl)
-
-  pub rule_15 : IsRule nat_cmp (is_repeated nat_cmp (map i_tlid t.of_type_i)) records 9 LinkTwice
-  rule_15 = numbered 9 LinkTwice (λ u. is_repeated nat_cmp (map i_tlid u.of_type_i)) (λ k. refl) (λ k. refl) (λ p. refl) (λ k j. refl)
 
   pub rule_16 : IsRule nat_cmp (is_repeated nat_cmp (map five_feat t.of_type_5)) records 10 NameTwice
   rule_16 = numbered 10 NameTwice (λ u. is_repeated nat_cmp (map five_feat u.of_type_5))

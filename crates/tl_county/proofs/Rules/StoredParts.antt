@@ -1,8 +1,9 @@
 -- Entries with stored values, and the entries that they represent.
-use Rattle.std.proofs.Common.{◌≡◌, ℕ, zero, suc, List, [], ◌∷◌, map, flat_map, refl, sym, ap, ◌∙◌, subst, slice_get, Option, Some, IfSome, option_map, unwrap_or, nat_cmp}
+use Rattle.std.proofs.Common.{rules, ◌≡◌, ℕ, zero, suc, List, [], ◌∷◌, map, flat_map, refl, sym, ap, ◌∙◌, slice_get, Option, Some, IfSome}
+use Rattle.std.proofs.Common.{option_map, unwrap_or, nat_cmp}
 use Rattle.tl_county.proofs.Common.{Body5, Fields5, LandmarkParts, LinksUnderLands, Typed, county_along, eight_land, entries-equal}
 use Rattle.tl_county.proofs.Common.{entry_keys, entry_values, five_feat, keys-map_values, landmark_entry, map-map, map_values}
-use Rattle.tl_county.proofs.Common.{map_values-id, of_number, value_under, values-map_values}
+use Rattle.tl_county.proofs.Common.{distinct-in_order, nat_keys, map_values-id, of_number, value_under, values-map_values}
 use Rattle.std.specs.List.Sorted.{IsStrictlySortedBy}
 use Rattle.tl_county.proofs.Rules.BuiltTables.{bodies-under, lands-kept, links-under}
 
@@ -12,8 +13,7 @@ keys-kept f xs = sym (keys-map_values f xs)
 -- a number found in one list of keys is found in an equal list
 pub found-in : {keys others : List ℕ} (place : Option ℕ) (number : ℕ) → keys ≡ others
     → IfSome place (λ at. slice_get keys at ≡ Some number) → IfSome place (λ at. slice_get others at ≡ Some number)
-found-in place number same found =
-    subst (λ (ks : List ℕ). IfSome place (λ at. slice_get ks at ≡ Some number)) same found
+found-in place number same found = search rules
 
 pub value-at-kept : {K V W : Type 0} (f : V → W) (xs : List (K × V)) (place : ℕ)
     → option_map f (slice_get (entry_values xs) place) ≡ slice_get (entry_values (map_values f xs)) place
@@ -28,10 +28,7 @@ lands-kept-in f xs = keys-kept f xs ∙ lands-kept (map_values f xs)
 -- the names of type 5 records, under the FEATs of these records
 pub names-built : {V : Type 0} (f : V → Body5) (xs : List (ℕ × V)) (t : Typed) → entry_keys xs ≡ map five_feat t.of_type_5
     → map f (entry_values xs) ≡ map (λ (r : Fields5). r.body) t.of_type_5 → map_values f xs ≡ (county_along t).names
-names-built f xs t keys values =
-    entries-equal (map_values f xs) (map (λ (r : Fields5). (r.feat, r.body)) t.of_type_5)
-    (keys-map_values f xs ∙ keys ∙ sym (map-map (λ e. e.0) (λ (r : Fields5). (r.feat, r.body)) t.of_type_5))
-    (values-map_values f xs ∙ values ∙ sym (map-map (λ e. e.1) (λ (r : Fields5). (r.feat, r.body)) t.of_type_5))
+names-built f xs t keys values = search (rules, entries-equal, keys-map_values, map-map, values-map_values)
 
 -- the parts if there is no landmark
 abbrev pub without : LandmarkParts
@@ -44,13 +41,13 @@ module _ (land : ℕ) (kept : List (ℕ × LandmarkParts)) {found : Option Landm
 
   pub bodies-found : unwrap_or (option_map (λ (l : LandmarkParts). l.bodies) found) []
       ≡ unwrap_or (value_under nat_cmp land (map landmark_entry (map_values (λ l. l) kept))) []
-  bodies-found = ap (λ o. unwrap_or (option_map (λ (l : LandmarkParts). l.bodies) o) []) as_kept
-      ∙ ap (λ o. unwrap_or o []) (bodies-under land (map_values (λ l. l) kept))
+  bodies-found = search (rules, as_kept, bodies-under)
 
   pub links-found : IsStrictlySortedBy nat_cmp (entry_keys (map landmark_entry (map_values (λ l. l) kept)))
       → LinksUnderLands (map_values (λ l. l) kept)
       → (unwrap_or found without).links
       ≡ of_number eight_land land (flat_map (λ (entry : ℕ × LandmarkParts). entry.1.links) (map_values (λ l. l) kept))
-  links-found strict under = ap (λ o. (unwrap_or o without).links) as_kept
-      ∙ links-under land (map_values (λ l. l) kept)
-      (subst (IsStrictlySortedBy nat_cmp) (sym (lands-kept (map_values (λ l. l) kept))) strict) under
+  links-found strict under = search (rules, as_kept, links-under, lands-kept)
+
+-- what the calls of a stored county need
+pub ruleset stored_parts = (keys-kept, lands-kept-in, value-at-kept, found-in, map_values-id, distinct-in_order, nat_keys)

@@ -2,8 +2,7 @@
 use Rattle.std.proofs.Common.{ℕ, List, [], ◌∷◌, ◌++◌, map, take, IsPermutation}
 use Rattle.tl_county.proofs.Common.{Eight, Five, IsPermutation-refl, IsPermutation-sym, IsPermutation-trans, One, P, Record, Seven, Typed}
 use Rattle.tl_county.proofs.Common.{by_type, of_type, record_of, type_after_type}
-use Rattle.std.proofs.lemmas.List.Sorted.{IsPermutation-cons}
-use Rattle.std.proofs.lemmas.List.Sorted.{IsPermutation-middle, IsPermutation-map, IsPermutation-append}
+use Rattle.std.proofs.lemmas.List.Sorted.{IsPermutation-cons, IsPermutation-middle, IsPermutation-map, IsPermutation-append}
 use Rattle.std.proofs.lemmas.List.Sorted.{IsPermutation-append_right}
 use Rattle.tl_layout.specs.RecordTypes.{types}
 use Rattle.tl_layout.specs.declared.record_type.Record.TheVariants.{Two, Four, Six, I}

@@ -1,13 +1,11 @@
 -- Polygons with a type P record that are on no side: in the tables of linked records, and in their county.
-use Rattle.std.proofs.Common.{◌≡◌, ◌⊎◌, ℕ, suc, nat_lt, List, [], ◌∷◌, ◌++◌, length, filter, map, flat_map, Bool, true, false}
-use Rattle.std.proofs.Common.{cond, not, ◌&&◌, ◌||◌, Option, is_eq, is_some, refl, sym, ap, ap₂, ◌∙◌, arith, Ordering}
-use Rattle.std.proofs.Common.{None, Some, inl, inr, map-id}
-use Rattle.tl_county.proofs.Common.{AllByRecursion, Among, Chain, Fields1, FieldsI, FieldsP, IsKeyOrder, IsLeastPassing, IsLinked, Known}
-use Rattle.tl_county.proofs.Common.{PolygonKey, Record, all_among, among-pieces, among_known, chain_of, chain_polygons, chains_of}
-use Rattle.tl_county.proofs.Common.{count-map, county_of, distinct, distinct_same, each_from, false≢true, first, is_unknown, key_cmp}
-use Rattle.tl_county.proofs.Common.{key_keys, known-append, known-left, known-right, known_is_among, list_any, lt-ltb, ltb-true, of_type_1}
-use Rattle.tl_county.proofs.Common.{of_type_i, of_type_p, p_key, polygon_body, polygons_along, same-true, side_keys, stands_alike}
-use Rattle.tl_county.proofs.Common.{stands_in, times}
+use Rattle.std.proofs.Common.{rules, ◌≡◌, ℕ, suc, nat_lt, List, [], ◌∷◌, ◌++◌, length, filter, map, flat_map, Bool, true, false, cond, not}
+use Rattle.std.proofs.Common.{◌&&◌, ◌||◌, Option, is_eq, is_some, refl, sym, ap, ap₂, ◌∙◌, arith, Ordering, None, Some, map-id}
+use Rattle.tl_county.proofs.Common.{AllByRecursion, Among, Chain, Fields1, FieldsI, IsKeyOrder, IsLeastPassing, IsLinked, Known, PolygonKey}
+use Rattle.tl_county.proofs.Common.{Record, all_among, among-pieces, among_known, chain_of, chain_polygons, chains_of, count-map, county_of}
+use Rattle.tl_county.proofs.Common.{distinct, distinct_same, each_from, false≢true, first, is_unknown, key_cmp, key_keys, known-append}
+use Rattle.tl_county.proofs.Common.{known-left, known-right, known_is_among, list_any, lt-ltb, ltb-true, of_type_1, of_type_i, of_type_p}
+use Rattle.tl_county.proofs.Common.{p_key, polygon_body, polygons_along, same-true, side_keys, stands_alike, stands_in}
 use Rattle.tl_county.specs.CountyRules.{has_body, is_without_chain}
 use Rattle.tl_county.proofs.Sameness.Carried.{among-unpieces}
 use Rattle.tl_county.proofs.ByKey.KeySets.{stands_in-distinct}
@@ -38,12 +36,7 @@ content_under {K} {V} {cmp} o content key (k ∷ keys) = go (is_eq (cmp key k)) 
 
     go : (b : Bool) → is_eq (cmp key k) ≡ b → rest ≡ (stands_in cmp key keys && is_some (content key))
         → ((b && is_some (content k)) || rest) ≡ (nat_lt 0 (length (cond b (k ∷ others) others)) && is_some (content key))
-    go true e ih =
-        let same : key ≡ k = same-true o key k e in
-        ap (λ c. is_some (content c) || rest) (sym same)
-        ∙ ap (λ r. is_some (content key) || r) ih
-        ∙ either (is_some (content key)) (stands_in cmp key keys)
-        ∙ ap (λ b. b && is_some (content key)) (sym (lt-ltb 0 (suc (length others)) (omega arith)))
+    go true e ih = search (rules, same-true, rest, either, lt-ltb, others)
     go false e ih = ih
 
 -- if the search for a passing key finds none, no key passes
@@ -56,22 +49,12 @@ module _ {K : Type 0} {cmp : K → K → Ordering} (o : IsKeyOrder cmp) where
   -- if all added keys are known already, they add nothing
   pub distinct-all_known : (known more : List K) → ((k : K) → is_unknown cmp more known k ≡ false)
       → distinct cmp known ≡ distinct cmp (known ++ more)
-  distinct-all_known known more h = distinct_same o known (known ++ more)
-      (λ k. stands_alike o known (known ++ more) k (known-left o k known more) (back k))
-    where
-      back : (k : K) → Known cmp (known ++ more) k → Known cmp known k
-      back k l = go (known-append o k known more l)
-        where
-          go : Known cmp known k ⊎ Known cmp more k → Known cmp known k
-          go (inl m) = m
-          go (inr m) = ltb-true 0 (times cmp k known)
-              (needed (stands_in cmp k more) (stands_in cmp k known) (h k) (lt-ltb 0 (times cmp k more) m))
+  distinct-all_known known more h = search (rules, distinct_same, stands_alike, known-left, known-append, ltb-true, needed, lt-ltb)
 
   -- a key that is unknown among the keys in order is unknown among the keys
   pub unknown-distinct : (asked known ordered : List K) → ordered ≡ distinct cmp known → (k : K)
       → is_unknown cmp asked (map (λ j. j) ordered) k ≡ is_unknown cmp asked known k
-  unknown-distinct asked known ordered e k = ap (λ b. stands_in cmp k asked && not b)
-      (ap (stands_in cmp k) (map-id ordered ∙ e) ∙ stands_in-distinct o k known)
+  unknown-distinct asked known ordered e k = search (rules, map-id, stands_in-distinct)
 
 module _ (records : List Record) (linked : IsLinked records) where
   abbrev on_sides : List PolygonKey
@@ -98,8 +81,7 @@ module _ (records : List Record) (linked : IsLinked records) where
     where
       each : (r : Fields1) (link : FieldsI) → Among r (of_type_1 records) → Among link (of_type_i records)
           → AllByRecursion (Known key_cmp on_sides) (side_keys link)
-      each r link n m = each_from (Known key_cmp on_sides) (side_keys link)
-          (λ k l. among_known key_keys k on_sides (among-pieces side_keys link k (of_type_i records) m l))
+      each r link n m = search (rules, each_from, among_known, key_keys, among-pieces)
 
   -- a polygon is on a side in a type I record exactly if it is on a side of a chain
   same_sides : (key : PolygonKey) → stands_in key_cmp key on_sides ≡ stands_in key_cmp key along
@@ -109,8 +91,7 @@ module _ (records : List Record) (linked : IsLinked records) where
   same_body : (key : PolygonKey) → stands_in key_cmp key (map p_key (of_type_p records)) ≡ has_body (county_of records) key
   same_body key =
       let there : stands_in key_cmp key (map p_key (of_type_p records)) ≡ is_some (polygon_body records key) =
-      ap (nat_lt 0) (count-map (λ k. is_eq (key_cmp key k)) p_key (of_type_p records))
-      ∙ sym (first_there (λ (r : FieldsP). r.body) (filter (λ r. is_eq (key_cmp key (p_key r))) (of_type_p records))) in
+      search (rules, count-map, first_there) in
       sym
       (content_under key_keys (polygon_body records) key (distinct key_cmp (on_sides ++ map p_key (of_type_p records)))
       ∙ ap (λ b. b && is_some (polygon_body records key))
@@ -120,10 +101,7 @@ module _ (records : List Record) (linked : IsLinked records) where
     where
       within : (b : Bool) → stands_in key_cmp key (map p_key (of_type_p records)) ≡ b → (c : Bool) → b ≡ c
           → (stands_in key_cmp key (on_sides ++ map p_key (of_type_p records)) && c) ≡ c
-      within true e true d =
-          ap (λ a. a && true) (lt-ltb 0 (times key_cmp key (on_sides ++ map p_key (of_type_p records)))
-          (known-right key_keys key on_sides (map p_key (of_type_p records))
-          (ltb-true 0 (times key_cmp key (map p_key (of_type_p records))) e)))
+      within true e true d = search (rules, lt-ltb, known-right, key_keys, ltb-true)
       within b e false d = never (stands_in key_cmp key (on_sides ++ map p_key (of_type_p records)))
         where
           never : (a : Bool) → (a && false) ≡ false

@@ -1,6 +1,6 @@
 -- The numbers of a carried chain are the images of its numbers.
-use Rattle.std.proofs.Common.{◌≡◌, ◌⊎◌, ℕ, List, [], ◌∷◌, ◌++◌, map, flat_map, Bool, true, false, Option, Some, None, option_map}
-use Rattle.std.proofs.Common.{option_to_list, sym, refl, ap₂, ◌∙◌, inl, inr, nat_cmp}
+use Rattle.std.proofs.Common.{rules, ◌≡◌, ◌⊎◌, ℕ, List, [], ◌∷◌, ◌++◌, map, flat_map, Bool, true, false, Option, Some, None, option_map}
+use Rattle.std.proofs.Common.{option_to_list, refl, inl, inr, nat_cmp}
 use Rattle.tl_county.proofs.Common.{Among, Chain, PolygonKey, Renumbering, chain_nodes, chain_polygons, image, key_cmp, key_on, key_under}
 use Rattle.tl_county.proofs.Common.{map-append, renumbered, renumbered_polygon, turned_if}
 use Rattle.ordered_lists.proofs.Lists.Among.{among_left, among_right}
@@ -12,27 +12,19 @@ key_on-renumbered r cenid (Some polyid) = refl
 
 pub chain_polygons-renumbered : (r : Renumbering) (c : Chain)
     → chain_polygons (renumbered r c) ≡ map (image key_cmp r.polygons) (chain_polygons c)
-chain_polygons-renumbered r c =
-    ap₂ (λ xs ys. xs ++ ys) (key_on-renumbered r c.left.cenid c.left.polyid) (key_on-renumbered r c.right.cenid c.right.polyid)
-    ∙ sym (map-append (image key_cmp r.polygons) (key_on c.left) (key_on c.right))
+chain_polygons-renumbered r c = search (rules, key_on-renumbered, map-append)
 
 node-renumbered : (f : ℕ → ℕ) (o : Option ℕ) → option_to_list (option_map f o) ≡ map f (option_to_list o)
 node-renumbered f None = refl
 node-renumbered f (Some n) = refl
 
 pub chain_nodes-renumbered : (r : Renumbering) (c : Chain) → chain_nodes (renumbered r c) ≡ map (image nat_cmp r.nodes) (chain_nodes c)
-chain_nodes-renumbered r c =
-    ap₂ (λ xs ys. xs ++ ys) (node-renumbered (image nat_cmp r.nodes) c.start_node) (node-renumbered (image nat_cmp r.nodes) c.end_node)
-    ∙ sym (map-append (image nat_cmp r.nodes) (option_to_list c.start_node) (option_to_list c.end_node))
+chain_nodes-renumbered r c = search (rules, node-renumbered, map-append)
 
 pub among-unappend : {X : Type 0} (x : X) (ys zs : List X) → Among x (ys ++ zs) → Among x ys ⊎ Among x zs
 among-unappend x [] zs h = inr h
 among-unappend x (y ∷ ys) zs (inl e) = inl (inl e)
-among-unappend x (y ∷ ys) zs (inr h) = go (among-unappend x ys zs h)
-  where
-    go : Among x ys ⊎ Among x zs → Among x (y ∷ ys) ⊎ Among x zs
-    go (inl k) = inl (inr k)
-    go (inr k) = inr k
+among-unappend x (y ∷ ys) zs (inr h) = search (rules, among-unappend x ys zs h)
 
 pub among-unpieces : {X Y : Type 0} (f : X → List Y) (y : Y) (xs : List X) → Among y (flat_map f xs) → (x : X) × Among x xs × Among y (f x)
 among-unpieces f y [] h = absurd h

@@ -1,7 +1,6 @@
 -- A renaming that carries takes a closed county to a closed one, and a whole one to a whole one.
-use Rattle.std.proofs.Common.{◌≡◌, ◌⊎◌, ◌≤◌, ◌||◌, ℕ, List, map, length, Bool, true, false}
-use Rattle.std.proofs.Common.{Option, IsTrue, is_some, option_to_list, Ordering, sym, refl, subst, inl, inr, arith}
-use Rattle.std.proofs.Common.{nat_cmp}
+use Rattle.std.proofs.Common.{rules, ◌≡◌, ◌≤◌, ◌||◌, ℕ, List, map, length, Bool, true, false, Option, IsTrue, is_some, option_to_list}
+use Rattle.std.proofs.Common.{Ordering, sym, refl, subst, nat_cmp}
 use Rattle.tl_county.proofs.Common.{AllKeysStandIn, AllStandIn, Among, Body7, BodyP, Carries, Chain, County, Fields8, IsKeyOrder}
 use Rattle.tl_county.proofs.Common.{IsPermutation-sym, IsWhole, Known, PolygonKey, Renumbering, all_among, among-map, among-permutation}
 use Rattle.tl_county.proofs.Common.{among-pieces, among-unmap, among_known, carried_chain, carried_landmark, carried_link, carried_polygon}
@@ -13,7 +12,7 @@ use Rattle.std.proofs.lemmas.List.{length-reverse}
 use Rattle.tl_county.specs.CountyRules.{IsClosed}
 use Rattle.ordered_lists.specs.Pairs.{ArePaired}
 use Rattle.tl_county.proofs.Sameness.Carried.{among-swapped, among-turned, among-unpieces, chain_polygons-renumbered}
-use Rattle.ordered_lists.proofs.ByKey.Keys.{lefts, rights, known-permutation, known-permutation_to, image-known}
+use Rattle.ordered_lists.proofs.ByKey.Keys.{known-permutation, known-permutation_to, image-known}
 
 -- a turn keeps the nodes and polygons of a chain, in both directions
 pub nodes-turned : (n : ℕ) (b : Bool) (c : Chain) → Among n (chain_nodes c) → Among n (chain_nodes (turned_if b c))
@@ -39,9 +38,7 @@ points-turned true c = length-reverse c.points
 -- the image of a known number is known in the other county
 pub paired_known : {K : Type 0} {cmp : K → K → Ordering} (o : IsKeyOrder cmp) (pairs : List (K × K)) (olds news : List K)
     → ArePaired pairs olds news → (k : K) → Known cmp olds k → Known cmp news (image cmp pairs k)
-paired_known {K} {cmp} o pairs olds news h k l =
-    known-permutation_to o (image cmp pairs k) (rights pairs) news h.right
-    (image-known o pairs k (known-permutation o k (lefts pairs) olds h.left l))
+paired_known {K} {cmp} o pairs olds news h k l = search (rules, known-permutation_to, image-known, known-permutation)
 
 module _ (r : Renumbering) (a b : County) (h : Carries r a b) where
   -- each part of the county carried onto is the image of one
@@ -59,30 +56,21 @@ module _ (r : Renumbering) (a b : County) (h : Carries r a b) where
       (among-permutation l b.links (map (carried_link r) a.links) (IsPermutation-sym (map (carried_link r) a.links) b.links h.links) m)
 
   new_name : (n : ℕ) → IsTrue (stands_in nat_cmp n (feats a)) → IsTrue (stands_in nat_cmp (image nat_cmp r.names n) (feats b))
-  new_name n t = lt-ltb 0 (times nat_cmp (image nat_cmp r.names n) (feats b))
-      (paired_known nat_keys r.names (feats a) (feats b) h.numbers.names n (ltb-true 0 (times nat_cmp n (feats a)) t))
+  new_name n t = search (rules, lt-ltb, paired_known, nat_keys, ltb-true)
 
   new_key : (k : PolygonKey) → IsTrue (stands_in key_cmp k (polygon_keys a))
       → IsTrue (stands_in key_cmp (image key_cmp r.polygons k) (polygon_keys b))
-  new_key k t = lt-ltb 0 (times key_cmp (image key_cmp r.polygons k) (polygon_keys b))
-      (paired_known key_keys r.polygons (polygon_keys a) (polygon_keys b) h.numbers.polygons k
-      (ltb-true 0 (times key_cmp k (polygon_keys a)) t))
+  new_key k t = search (rules, lt-ltb, paired_known, key_keys, ltb-true)
 
   names_stand : IsClosed a → (d : ℕ × Chain) → Among d a.chains → AllStandIn (feats b) (carried_chain r d).1.feats
-  names_stand closed d m = each_from (λ n. IsTrue (stands_in nat_cmp n (feats b))) (carried_chain r d).1.feats
-      (λ n k. let o = among-unmap (image nat_cmp r.names) n (turned_if (turns r d.0) d.1).feats k in
-      let old : Among o.0 d.1.feats = subst (Among o.0) (feats-turned (turns r d.0) d.1) o.1 in
-      let stands : AllStandIn (feats a) d.1.feats = all_among (λ e. AllStandIn (feats a) e.1.feats) d a.chains closed.names m in
-      subst (λ i. IsTrue (stands_in nat_cmp i (feats b))) (sym o.2)
-      (new_name o.0 (all_among (λ i. IsTrue (stands_in nat_cmp i (feats a))) o.0 d.1.feats stands old)))
+  names_stand closed d m = search (rules, each_from, among-unmap, feats-turned, all_among, new_name)
 
   sides_stand : IsClosed a → (d : ℕ × Chain) → Among d a.chains → AllKeysStandIn (polygon_keys b) (chain_polygons (carried_chain r d).1)
   sides_stand closed d m = each_from (λ k. IsTrue (stands_in key_cmp k (polygon_keys b))) (chain_polygons (carried_chain r d).1)
       (λ k l. let o = among-unmap (image key_cmp r.polygons) k (chain_polygons (turned_if (turns r d.0) d.1))
       (subst (Among k) (chain_polygons-renumbered r (turned_if (turns r d.0) d.1)) l) in
       let old : Among o.0 (chain_polygons d.1) = polygons-unturned o.0 (turns r d.0) d.1 o.1 in
-      let stands : AllKeysStandIn (polygon_keys a) (chain_polygons d.1) =
-      all_among (λ e. AllKeysStandIn (polygon_keys a) (chain_polygons e.1)) d a.chains closed.sides m in
+      let stands : AllKeysStandIn (polygon_keys a) (chain_polygons d.1) = search (rules, all_among) in
       subst (λ j. IsTrue (stands_in key_cmp j (polygon_keys b))) (sym o.2)
       (new_key o.0 (all_among (λ j. IsTrue (stands_in key_cmp j (polygon_keys a))) o.0 (chain_polygons d.1) stands old)))
 
@@ -113,31 +101,18 @@ module _ (r : Renumbering) (a b : County) (h : Carries r a b) where
       let d = among-unpieces (λ (e : ℕ × Chain). chain_polygons e.1) k a.chains (known_is_among key_keys k (polygons_along a.chains) l) in
       let turned : Among k (chain_polygons (turned_if (turns r d.0.0) d.0.1)) = among-turned k (turns r d.0.0) d.0.1 d.2 in
       let new : Among (image key_cmp r.polygons k) (chain_polygons (carried_chain r d.0).1) =
-      subst (Among (image key_cmp r.polygons k)) (sym (chain_polygons-renumbered r (turned_if (turns r d.0.0) d.0.1)))
-      (among-map (image key_cmp r.polygons) k (chain_polygons (turned_if (turns r d.0.0) d.0.1)) turned) in
+      search (rules, chain_polygons-renumbered, among-map) in
       among_known key_keys (image key_cmp r.polygons k) (polygons_along b.chains)
       (among-pieces (λ (e : ℕ × Chain). chain_polygons e.1) (carried_chain r d.0) (image key_cmp r.polygons k) b.chains
       (new_chain d.0 d.1) new)
 
   polygon_whole : (k : PolygonKey) (body : Option BodyP) → IsTrue (is_some body || stands_in key_cmp k (polygons_along a.chains))
       → IsTrue (is_some body || stands_in key_cmp (image key_cmp r.polygons k) (polygons_along b.chains))
-  polygon_whole k body t = go (or_cases (is_some body) (stands_in key_cmp k (polygons_along a.chains)) t)
-    where
-      go : (is_some body ≡ true) ⊎ (stands_in key_cmp k (polygons_along a.chains) ≡ true)
-          → IsTrue (is_some body || stands_in key_cmp (image key_cmp r.polygons k) (polygons_along b.chains))
-      go (inl e) = or_left (is_some body) (stands_in key_cmp (image key_cmp r.polygons k) (polygons_along b.chains)) e
-      go (inr e) = or_right (is_some body) (stands_in key_cmp (image key_cmp r.polygons k) (polygons_along b.chains))
-          (lt-ltb 0 (times key_cmp (image key_cmp r.polygons k) (polygons_along b.chains))
-          (carried_side k (ltb-true 0 (times key_cmp k (polygons_along a.chains)) e)))
+  polygon_whole k body t = search (rules, or_cases, or_left, or_right, lt-ltb, carried_side, ltb-true)
 
   pub carried_whole : IsWhole a → IsWhole b
   carried_whole whole = record {
-    points = each_from (λ e. 2 ≤ length e.1.points) b.chains
-        (λ e m. let o = old_chain e m in
-        let two : 2 ≤ length o.0.1.points = all_among (λ d. 2 ≤ length d.1.points) o.0 a.chains whole.points o.1 in
-        let same : length (turned_if (turns r o.0.0) o.0.1).points ≡ length o.0.1.points = points-turned (turns r o.0.0) o.0.1 in
-        subst (λ (c : ℕ × Chain). 2 ≤ length c.1.points) (sym o.2) (let t : 2 ≤ length (turned_if (turns r o.0.0) o.0.1).points =
-        omega arith in t));
+    points = search (rules, each_from, old_chain, all_among, points-turned);
     bodies = each_from (λ e. 1 ≤ length e.1) b.landmarks
         (λ e m. let o = among-unmap (carried_landmark r) e a.landmarks
         (among-permutation e b.landmarks (map (carried_landmark r) a.landmarks)

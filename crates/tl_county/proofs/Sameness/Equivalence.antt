@@ -1,9 +1,8 @@
 -- Sameness is an equivalence: the identity carries, and so do inverses and compositions of renamings that carry.
-use Rattle.std.proofs.Common.{◌≡◌, ◌⊎◌, ℕ, nat_lt, List, [], ◌∷◌, Bool, true, false, map, filter, Ordering, IsTrue, is_eq, sym}
-use Rattle.std.proofs.Common.{refl, ap, ◌∙◌, subst, inl, inr, IsPermutation, nat_cmp, Option, Some, None, option_map}
-use Rattle.std.proofs.Common.{option_to_list, map-id}
+use Rattle.std.proofs.Common.{rules, ◌≡◌, ℕ, nat_lt, List, [], ◌∷◌, Bool, true, false, map, filter, Ordering, IsTrue, sym, refl, ap, ◌∙◌}
+use Rattle.std.proofs.Common.{subst, IsPermutation, nat_cmp, Option, Some, None, option_map, option_to_list, map-id}
 use Rattle.tl_county.proofs.Common.{AllByRecursion, AllKeysStandIn, AllStandIn, Carries, Chain, County, Fields8, IsApart, IsCounty}
-use Rattle.tl_county.proofs.Common.{IsKeyOrder, IsPermutation-refl, IsPermutation-sym, IsPermutation-trans, Known, PolygonKey, Renumbering}
+use Rattle.tl_county.proofs.Common.{IsKeyOrder, IsPermutation-sym, IsPermutation-trans, Known, PolygonKey, Renumbering}
 use Rattle.tl_county.proofs.Common.{all_known, all_map, all_weaker, apart_from_sorted, carried_chain, carried_landmark, carried_link}
 use Rattle.tl_county.proofs.Common.{carried_polygon, chain_nodes, chain_polygons, feats, filter_all, has_repeat, has_repeat-apart, image}
 use Rattle.tl_county.proofs.Common.{key_cmp, key_keys, key_on, key_under, known-distinct, lands, link_key, lt-ltb, ltb-true, map-map}
@@ -11,26 +10,18 @@ use Rattle.tl_county.proofs.Common.{map_agree_all, nat_keys, nodes, polygon_keys
 use Rattle.tl_county.proofs.Common.{times, tlids, turned_if, turns}
 use Rattle.std.proofs.lemmas.List.Sorted.{IsPermutation-map}
 use Rattle.tl_county.specs.CountyRules.{IsClosed, nodes_along}
-use Rattle.tl_county.specs.Renumbering.{renumbered_side}
-use Rattle.tl_county.specs.Renumbering.{carried_name}
-use Rattle.ordered_lists.specs.Pairs.{ArePaired}
-use Rattle.tl_county.specs.Renumbering.{AreSame, identity, inverse, exactly_one, then}
-use Rattle.ordered_lists.specs.Pairs.{to_itself, swapped, is_named, composed}
+use Rattle.tl_county.specs.Renumbering.{renumbered_side, carried_name, AreSame, identity, inverse, exactly_one, then}
+use Rattle.ordered_lists.specs.Pairs.{ArePaired, to_itself, swapped, is_named, composed}
 use Rattle.tl_shape.specs.TurnLaws.{turned-turned}
 use Rattle.tl_shape.specs.Turned.{turned}
-use Rattle.ordered_lists.proofs.Lists.Elements.{map_itself, all_unmap, all_left, all_right}
-use Rattle.ordered_lists.proofs.Lists.Elements.{all_pieces, all_filter}
-use Rattle.ordered_lists.proofs.ByKey.Keys.{lefts, rights}
-use Rattle.ordered_lists.proofs.ByKey.Keys.{apart-permutation, known-permutation, known-permutation_to, image-known}
+use Rattle.ordered_lists.proofs.Lists.Elements.{map_itself, all_unmap, all_left, all_right, all_pieces, all_filter}
+use Rattle.ordered_lists.proofs.ByKey.Keys.{lefts, rights, apart-permutation, known-permutation, known-permutation_to, image-known}
 use Rattle.ordered_lists.proofs.ByKey.Keys.{times-images, has_repeat-images, apart-filter, stands_in-filter, image-back, image-yes}
 use Rattle.ordered_lists.proofs.ByKey.Keys.{image-no, rights-swapped, lefts-swapped, image-to_itself, lefts-to_itself, rights-to_itself}
 use Rattle.ordered_lists.proofs.ByKey.Keys.{images-lefts, followed, joined-followed, image-followed, lefts-followed, rights-followed}
 use Rattle.ordered_lists.proofs.Lists.Distinct.{apart-distinct}
 
 -- renaming and turning a chain commute
-pub renumbered-turned : (r : Renumbering) (c : Chain) → renumbered r (turned c) ≡ turned (renumbered r c)
-renumbered-turned r c = refl
-
 pub renumbered-turned_if : (r : Renumbering) (b : Bool) (c : Chain) → renumbered r (turned_if b c) ≡ turned_if b (renumbered r c)
 renumbered-turned_if r true c = refl
 renumbered-turned_if r false c = refl
@@ -55,13 +46,7 @@ option_map-itself None = refl
 option_map-itself (Some n) = refl
 
 pub renumbered-nothing : (c : Chain) → renumbered nothing c ≡ c
-renumbered-nothing c = λ i. record c {
-  feats = map-id c.feats i;
-  start_node = option_map-itself c.start_node i;
-  end_node = option_map-itself c.end_node i;
-  left = renumbered-nothing_side c.left.cenid c.left.polyid i;
-  right = renumbered-nothing_side c.right.cenid c.right.polyid i;
-}
+renumbered-nothing c = search (rules, map-id, option_map-itself, renumbered-nothing_side)
 
 -- r and then q act as p on the numbers of the county a
 pub record Follows (q r p : Renumbering) (a : County) : Type 0 where
@@ -89,8 +74,7 @@ module _ (q r p : Renumbering) (a : County) (f : Follows q r p a) where
   follow_polygon : (cenid : List ℕ) (polyid : Option ℕ) → AllByRecursion (Known key_cmp (polygon_keys a)) (key_under cenid polyid)
       → renumbered_side q (renumbered_polygon r cenid polyid) ≡ renumbered_polygon p cenid polyid
   follow_polygon cenid None h = refl
-  follow_polygon cenid (Some polyid) h =
-      λ i. record { cenid = (f.polygons (cenid, polyid) h.0 i).0; polyid = Some (f.polygons (cenid, polyid) h.0 i).1 }
+  follow_polygon cenid (Some polyid) h = search rules
 
   pub follow_chain : (x : ℕ) (c : Chain) → IsChainOf a (x, c) → renumbered q (renumbered r c) ≡ renumbered p c
   follow_chain x c h = λ i. record c {
@@ -114,10 +98,9 @@ module _ (q r p : Renumbering) (a : County) (f : Follows q r p a) where
       let both : turned_if (turns q y) (turned_if (turns r x) c) ≡ turned_if (turns p x) c = turned_if-twice (turns r x) (turns q y) c
       ∙ ap (λ b. turned_if b c) (f.turned x h.tlid) in
       let one : renumbered q (turned_if (turns q y) (renumbered r (turned_if (turns r x) c))) ≡ turned_if (turns q y)
-      (renumbered q (renumbered r (turned_if (turns r x) c))) =
-      renumbered-turned_if q (turns q y) (renumbered r (turned_if (turns r x) c)) in
+      (renumbered q (renumbered r (turned_if (turns r x) c))) = search (rules, renumbered-turned_if) in
       let two : renumbered q (renumbered r (turned_if (turns r x) c)) ≡ turned_if (turns r x) (renumbered q (renumbered r c)) =
-      ap (renumbered q) (renumbered-turned_if r (turns r x) c) ∙ renumbered-turned_if q (turns r x) (renumbered r c) in
+      search (rules, renumbered-turned_if) in
       let all : renumbered q (turned_if (turns q y) (renumbered r (turned_if (turns r x) c))) ≡ renumbered p (turned_if (turns p x) c) =
       one ∙ ap (turned_if (turns q y)) two
       ∙ ap (λ d. turned_if (turns q y) (turned_if (turns r x) d)) (follow_chain x c h)
@@ -138,17 +121,7 @@ all_chains : (a : County) (es : List (ℕ × Chain)) → AllByRecursion (λ e. K
     → AllByRecursion (λ e. AllKeysStandIn (polygon_keys a) (chain_polygons e.1)) es
     → AllByRecursion (λ e. AllByRecursion (Known nat_cmp (nodes a)) (chain_nodes e.1)) es → AllByRecursion (IsChainOf a) es
 all_chains a [] t n s d = tt
-all_chains a (e ∷ es) t n s d = (
-  record {
-    tlid = t.0;
-    names = all_weaker (λ m. IsTrue (stands_in nat_cmp m (feats a))) (Known nat_cmp (feats a))
-        (λ m h. ltb-true 0 (times nat_cmp m (feats a)) h) e.1.feats n.0;
-    sides = all_weaker (λ k. IsTrue (stands_in key_cmp k (polygon_keys a))) (Known key_cmp (polygon_keys a))
-        (λ k h. ltb-true 0 (times key_cmp k (polygon_keys a)) h) (chain_polygons e.1) s.0;
-    nodes = d.0;
-  },
-  all_chains a es t.1 n.1 s.1 d.1,
-)
+all_chains a (e ∷ es) t n s d = search (rules, all_weaker, ltb-true, all_chains a es t.1 n.1 s.1 d.1)
 
 -- the chains of a county have its numbers
 pub chains_are : (a : County) → IsClosed a → AllByRecursion (IsChainOf a) a.chains
@@ -164,14 +137,7 @@ pub record IsLinkOf (a : County) (link : Fields8) : Type 0 where
 all_links : (a : County) (ls : List Fields8) → AllByRecursion (λ l. IsTrue (stands_in nat_cmp l.land (lands a))) ls
     → AllByRecursion (λ l. IsTrue (stands_in key_cmp (link_key l) (polygon_keys a))) ls → AllByRecursion (IsLinkOf a) ls
 all_links a [] g h = tt
-all_links a (l ∷ ls) g h = (
-  record {
-    land = ltb-true 0 (times nat_cmp l.land (lands a)) g.0;
-    polygon =
-        ltb-true 0 (times key_cmp (link_key l) (polygon_keys a)) h.0;
-  },
-  all_links a ls g.1 h.1,
-)
+all_links a (l ∷ ls) g h = search (rules, ltb-true, all_links a ls g.1 h.1)
 
 pub links_are : (a : County) → IsClosed a → AllByRecursion (IsLinkOf a) a.links
 links_are a h = all_links a a.links h.link_lands h.link_polygons
@@ -186,9 +152,7 @@ pub record PartsFollow (q r p : Renumbering) (a : County) : Type 0 where
 
 pub parts_follow : (q r p : Renumbering) (a : County) → IsClosed a → Follows q r p a → PartsFollow q r p a
 parts_follow q r p a closed f = record {
-  chains = map-map (carried_chain q) (carried_chain r) a.chains
-      ∙ map_agree_all (λ e. carried_chain q (carried_chain r e)) (carried_chain p) (IsChainOf a) (follow_entry q r p a f) a.chains
-      (chains_are a closed);
+  chains = search (rules, map-map, map_agree_all, follow_entry, chains_are);
   names = map-map (carried_name q) (carried_name r) a.names
       ∙ map_agree_all (λ e. carried_name q (carried_name r e)) (carried_name p) (λ e. Known nat_cmp (feats a) e.0)
       (λ e h i. (f.names e.0 h i, e.1)) a.names (keys_known nat_keys a.names);
@@ -220,90 +184,18 @@ forth : {X : Type 0} (f g h : X → X) (xs ys zs : List X) → map g (map f xs) 
 forth f g h xs ys zs e m n =
     IsPermutation-trans (map h xs) (map g ys) zs (subst (λ ws. IsPermutation ws (map g ys)) e (IsPermutation-map g (map f xs) ys m)) n
 
--- reflexive: the identity carries a county onto itself
-pub paired_itself : {K : Type 0} {cmp : K → K → Ordering} → IsKeyOrder cmp → (ks : List K) → ArePaired (to_itself ks) ks ks
-paired_itself o ks = record {
-  left = subst (λ l. IsPermutation l ks) (sym (lefts-to_itself o ks)) (IsPermutation-refl ks);
-  right = subst (λ l. IsPermutation l ks) (sym (rights-to_itself o ks)) (IsPermutation-refl ks);
-}
-
 cenids-itself : (ks : List PolygonKey) → AllByRecursion (λ p. p.0.0 ≡ p.1.0) (to_itself ks)
 cenids-itself [] = tt
 cenids-itself (k ∷ ks) = (refl, cenids-itself ks)
 
--- each image is the number itself
-pub record IsStill (r : Renumbering) : Type 0 where
-  pub chains : (n : ℕ) → image nat_cmp r.chains n ≡ n
-  pub names : (n : ℕ) → image nat_cmp r.names n ≡ n
-  pub polygons : (k : PolygonKey) → image key_cmp r.polygons k ≡ k
-  pub lands : (n : ℕ) → image nat_cmp r.lands n ≡ n
-  pub nodes : (n : ℕ) → image nat_cmp r.nodes n ≡ n
-  pub turned : (n : ℕ) → turns r n ≡ false
-
-still_node : (r : Renumbering) → IsStill r → (o : Option ℕ) → option_map (image nat_cmp r.nodes) o ≡ o
-still_node r h None = refl
-still_node r h (Some n) = ap Some (h.nodes n)
-
-still_side : (r : Renumbering) → IsStill r → (cenid : List ℕ) (polyid : Option ℕ)
-    → renumbered_polygon r cenid polyid ≡ record { cenid = cenid; polyid = polyid }
-still_side r h cenid None = refl
-still_side r h cenid (Some polyid) =
-    λ i. record { cenid = (h.polygons (cenid, polyid) i).0; polyid = Some (h.polygons (cenid, polyid) i).1 }
-
-pub still_chain : (r : Renumbering) → IsStill r → (c : Chain) → renumbered r c ≡ c
-still_chain r h c = λ i. record c {
-  feats = map_itself (image nat_cmp r.names) h.names c.feats i;
-  start_node = still_node r h c.start_node i;
-  end_node = still_node r h c.end_node i;
-  left = still_side r h c.left.cenid c.left.polyid i;
-  right = still_side r h c.right.cenid c.right.polyid i;
-}
-
-pub still_entry : (r : Renumbering) → IsStill r → (e : ℕ × Chain) → carried_chain r e ≡ e
-still_entry r h e = λ i. (h.chains e.0 i, (ap (λ b. renumbered r (turned_if b e.1)) (h.turned e.0) ∙ still_chain r h e.1) i)
-
-identity-still : (a : County) → IsStill (identity a)
-identity-still a = record {
-  chains = image-to_itself nat_keys (tlids a);
-  names = image-to_itself nat_keys (feats a);
-  polygons = image-to_itself key_keys (polygon_keys a);
-  lands = image-to_itself nat_keys (lands a);
-  nodes = image-to_itself nat_keys (nodes a);
-  turned = λ n. refl;
-}
-
-same_list : {X : Type 0} (f : X → X) (xs : List X) → ((x : X) → f x ≡ x) → IsPermutation (map f xs) xs
-same_list f xs h = subst (λ ys. IsPermutation ys xs) (sym (map_itself f h xs)) (IsPermutation-refl xs)
-
+-- reflexive: the identity carries a county onto itself
 pub identity_carries : (a : County) → Carries (identity a) a a
-identity_carries a =
-    let s : IsStill (identity a) = identity-still a in
-    record {
-      numbers = record {
-        chains = paired_itself nat_keys (tlids a);
-        names = paired_itself nat_keys (feats a);
-        polygons = paired_itself key_keys (polygon_keys a);
-        lands = paired_itself nat_keys (lands a);
-        nodes = paired_itself nat_keys (nodes a);
-        cenids = cenids-itself (polygon_keys a);
-        turned_known = tt;
-        turned_once = refl;
-      };
-      chains = same_list (carried_chain (identity a)) a.chains (still_entry (identity a) s);
-      names = same_list (carried_name (identity a)) a.names (λ e i. (s.names e.0 i, e.1));
-      polygons = same_list (carried_polygon (identity a)) a.polygons (λ e i. (s.polygons e.0 i, e.1));
-      landmarks = same_list (carried_landmark (identity a)) a.landmarks (λ e i. (s.lands e.0 i, e.1));
-      links = same_list (carried_link (identity a)) a.links
-          (λ l i. record l { cenid = (s.polygons (link_key l) i).0; polyid = (s.polygons (link_key l) i).1; land = s.lands l.land i });
-    }
+identity_carries a = search (rules, nat_keys, key_keys, cenids-itself, image-to_itself, lefts-to_itself, rights-to_itself, map_itself)
 
 -- symmetric: the inverse carries back
 pub paired_back : {K : Type 0} {cmp : K → K → Ordering} → IsKeyOrder cmp → (ps : List (K × K)) (olds news : List K) → ArePaired ps olds news
     → ArePaired (swapped ps) news olds
-paired_back o ps olds news h = record {
-  left = subst (λ l. IsPermutation l news) (sym (lefts-swapped o ps)) h.right;
-  right = subst (λ l. IsPermutation l olds) (sym (rights-swapped o ps)) h.left;
-}
+paired_back o ps olds news h = search (rules, lefts-swapped, rights-swapped)
 
 cenids_back : (ps : List (PolygonKey × PolygonKey)) → AllByRecursion (λ p. p.0.0 ≡ p.1.0) ps
     → AllByRecursion (λ p. p.0.0 ≡ p.1.0) (swapped ps)
@@ -313,8 +205,7 @@ cenids_back (p ∷ ps) h = (sym h.0, cenids_back ps h.1)
 -- if pairs name all old and all new numbers, images go there and back
 pub there_and_back : {K : Type 0} {cmp : K → K → Ordering} (o : IsKeyOrder cmp) (ps : List (K × K)) (olds news : List K)
     → ArePaired ps olds news → IsApart cmp news → (k : K) → Known cmp olds k → image cmp (swapped ps) (image cmp ps k) ≡ k
-there_and_back o ps olds news h a k l =
-    image-back o ps k (apart-permutation o (rights ps) news h.right a) (known-permutation o k (lefts ps) olds h.left l)
+there_and_back o ps olds news h a k l = search (rules, image-back, apart-permutation, known-permutation)
 
 exactly_one-both : (b : Bool) → exactly_one b b ≡ false
 exactly_one-both true = refl
@@ -322,18 +213,13 @@ exactly_one-both false = refl
 
 module _ (r : Renumbering) (a b : County) (ca : IsCounty a) (cb : IsCounty b) (h : Carries r a b) where
   named_turned : AllByRecursion (Known nat_cmp (lefts r.chains)) r.turned
-  named_turned = all_weaker (λ t. IsTrue (stands_in nat_cmp t (tlids a))) (Known nat_cmp (lefts r.chains))
-      (λ t k. known-permutation nat_keys t (lefts r.chains) (tlids a) h.numbers.chains.left
-      (ltb-true 0 (times nat_cmp t (tlids a)) k)) r.turned h.numbers.turned_known
+  named_turned = search (rules, all_weaker, known-permutation, nat_keys, ltb-true)
 
   apart_chains : IsApart nat_cmp (rights r.chains)
-  apart_chains = apart-permutation nat_keys (rights r.chains) (tlids b) h.numbers.chains.right
-      (apart_from_sorted nat_keys (tlids b) cb.ascending.chains)
+  apart_chains = search (rules, apart-permutation, nat_keys, apart_from_sorted)
 
   all_named : filter (is_named nat_cmp r.chains) r.turned ≡ r.turned
-  all_named = filter_all (is_named nat_cmp r.chains) r.turned
-      (all_weaker (Known nat_cmp (lefts r.chains)) (λ t. is_named nat_cmp r.chains t ≡ true)
-      (λ t k. lt-ltb 0 (times nat_cmp t (lefts r.chains)) k) r.turned named_turned)
+  all_named = search (rules, filter_all, all_weaker, lt-ltb, known-permutation, nat_keys, ltb-true)
 
   turned_back : (n : ℕ) → Known nat_cmp (tlids a) n → turns (inverse r) (image nat_cmp r.chains n) ≡ turns r n
   turned_back n k =
@@ -343,11 +229,9 @@ module _ (r : Renumbering) (a b : County) (ca : IsCounty a) (cb : IsCounty b) (h
 
   pub inverse_follows : Follows (inverse r) r nothing a
   inverse_follows = record {
-    chains = there_and_back nat_keys r.chains (tlids a) (tlids b) h.numbers.chains
-        (apart_from_sorted nat_keys (tlids b) cb.ascending.chains);
+    chains = search (rules, there_and_back, nat_keys, apart_from_sorted);
     names = there_and_back nat_keys r.names (feats a) (feats b) h.numbers.names (apart_from_sorted nat_keys (feats b) cb.ascending.names);
-    polygons = there_and_back key_keys r.polygons (polygon_keys a) (polygon_keys b) h.numbers.polygons
-        (apart_from_sorted key_keys (polygon_keys b) cb.ascending.polygons);
+    polygons = search (rules, there_and_back, key_keys, apart_from_sorted);
     lands = there_and_back nat_keys r.lands (lands a) (lands b) h.numbers.lands
         (apart_from_sorted nat_keys (lands b) cb.ascending.landmarks);
     nodes = there_and_back nat_keys r.nodes (nodes a) (nodes b) h.numbers.nodes (apart-distinct nat_keys (nodes_along b.chains));
@@ -393,8 +277,7 @@ module _ (r : Renumbering) (a b : County) (ca : IsCounty a) (cb : IsCounty b) (h
 pub paired_on : {K : Type 0} {cmp : K → K → Ordering} (o : IsKeyOrder cmp) (ps qs : List (K × K)) (olds mids news : List K)
     → IsApart cmp mids → ArePaired ps olds mids → ArePaired qs mids news → ArePaired (composed cmp ps qs) olds news
 paired_on {K} {cmp} o ps qs olds mids news a g h =
-    let next : (k : K) → Known cmp (rights ps) k → Known cmp (lefts qs) k =
-    λ k l. known-permutation o k (lefts qs) mids h.left (known-permutation_to o k (rights ps) mids g.right l) in
+    let next : (k : K) → Known cmp (rights ps) k → Known cmp (lefts qs) k = search (rules, known-permutation, known-permutation_to) in
     let e : composed cmp ps qs ≡ followed o ps qs = joined-followed o ps qs next in
     let middle : IsPermutation (rights ps) (lefts qs) =
     IsPermutation-trans (rights ps) mids (lefts qs) g.right (IsPermutation-sym (lefts qs) mids h.left) in
@@ -412,19 +295,12 @@ pub images_on : {K : Type 0} {cmp : K → K → Ordering} (o : IsKeyOrder cmp) (
     → ArePaired ps olds mids → ArePaired qs mids news → (k : K) → Known cmp olds k
     → image cmp qs (image cmp ps k) ≡ image cmp (composed cmp ps qs) k
 images_on {K} {cmp} o ps qs olds mids news g h k l =
-    let next : (j : K) → Known cmp (rights ps) j → Known cmp (lefts qs) j =
-    λ j m. known-permutation o j (lefts qs) mids h.left (known-permutation_to o j (rights ps) mids g.right m) in
-    sym (ap (λ es. image cmp es k) (joined-followed o ps qs next)
-    ∙ image-followed o ps qs k (known-permutation o k (lefts ps) olds g.left l))
+    search (rules, known-permutation, known-permutation_to, joined-followed, image-followed)
 
 pub image-keeps : (qs : List (PolygonKey × PolygonKey)) → AllByRecursion (λ p. p.0.0 ≡ p.1.0) qs → (k : PolygonKey)
     → (image key_cmp qs k).0 ≡ k.0
 image-keeps [] h k = refl
-image-keeps (q ∷ qs) h k = go (same_or_not key_keys k q.0) (image-keeps qs h.1 k)
-  where
-    go : (k ≡ q.0) ⊎ (is_eq (key_cmp k q.0) ≡ false) → (image key_cmp qs k).0 ≡ k.0 → (image key_cmp (q ∷ qs) k).0 ≡ k.0
-    go (inl e) ih = ap (λ j. j.0) (image-yes key_keys q qs k e) ∙ sym h.0 ∙ ap (λ j. j.0) (sym e)
-    go (inr ne) ih = ap (λ j. j.0) (image-no key_keys q qs k ne) ∙ ih
+image-keeps (q ∷ qs) h k = search (rules, same_or_not, key_keys, image-yes, image-no, image-keeps qs h.1 k)
 
 cenids_on : (ps qs : List (PolygonKey × PolygonKey)) → AllByRecursion (λ p. p.0.0 ≡ p.1.0) ps → AllByRecursion (λ p. p.0.0 ≡ p.1.0) qs
     → AllByRecursion (λ p. p.0.0 ≡ p.1.0) (followed key_keys ps qs)
@@ -436,8 +312,7 @@ module _ (r q : Renumbering) (a b c : County) (ca : IsCounty a) (cb : IsCounty b
   g_turned t = exactly_one (turns r t) (turns q (image nat_cmp r.chains t))
 
   next_named : (n : ℕ) → Known nat_cmp (rights r.chains) n → Known nat_cmp (lefts q.chains) n
-  next_named n l = known-permutation nat_keys n (lefts q.chains) (tlids b) k.numbers.chains.left
-      (known-permutation_to nat_keys n (rights r.chains) (tlids b) h.numbers.chains.right l)
+  next_named n l = search (rules, known-permutation, nat_keys, known-permutation_to)
 
   turned_of_then : (then r q).turned ≡ filter g_turned (lefts r.chains)
   unfolding g_turned
@@ -454,28 +329,23 @@ module _ (r q : Renumbering) (a b c : County) (ca : IsCounty a) (cb : IsCounty b
   then_follows = record {
     chains = images_on nat_keys r.chains q.chains (tlids a) (tlids b) (tlids c) h.numbers.chains k.numbers.chains;
     names = images_on nat_keys r.names q.names (feats a) (feats b) (feats c) h.numbers.names k.numbers.names;
-    polygons = images_on key_keys r.polygons q.polygons (polygon_keys a) (polygon_keys b)
-        (polygon_keys c) h.numbers.polygons k.numbers.polygons;
+    polygons = search (rules, images_on, key_keys);
     lands = images_on nat_keys r.lands q.lands (lands a) (lands b) (lands c) h.numbers.lands k.numbers.lands;
     nodes = images_on nat_keys r.nodes q.nodes (nodes a) (nodes b) (nodes c) h.numbers.nodes k.numbers.nodes;
     turned = turned_on;
   }
 
   key_named : (n : PolygonKey) → Known key_cmp (rights r.polygons) n → Known key_cmp (lefts q.polygons) n
-  key_named n l = known-permutation key_keys n (lefts q.polygons) (polygon_keys b) k.numbers.polygons.left
-      (known-permutation_to key_keys n (rights r.polygons) (polygon_keys b) h.numbers.polygons.right l)
+  key_named n l = search (rules, known-permutation, key_keys, known-permutation_to)
 
   pub then_carries : Carries (then r q) a c
   then_carries =
       let f : PartsFollow q r (then r q) a = parts_follow q r (then r q) a ca.closed then_follows in
       record {
         numbers = record {
-          chains = paired_on nat_keys r.chains q.chains (tlids a) (tlids b) (tlids c)
-              (apart_from_sorted nat_keys (tlids b) cb.ascending.chains) h.numbers.chains k.numbers.chains;
-          names = paired_on nat_keys r.names q.names (feats a) (feats b) (feats c)
-              (apart_from_sorted nat_keys (feats b) cb.ascending.names) h.numbers.names k.numbers.names;
-          polygons = paired_on key_keys r.polygons q.polygons (polygon_keys a) (polygon_keys b) (polygon_keys c)
-              (apart_from_sorted key_keys (polygon_keys b) cb.ascending.polygons) h.numbers.polygons k.numbers.polygons;
+          chains = search (rules, paired_on, nat_keys, apart_from_sorted);
+          names = search (rules, paired_on, nat_keys, apart_from_sorted);
+          polygons = search (rules, paired_on, key_keys, apart_from_sorted);
           lands = paired_on nat_keys r.lands q.lands (lands a) (lands b) (lands c)
               (apart_from_sorted nat_keys (lands b) cb.ascending.landmarks) h.numbers.lands k.numbers.lands;
           nodes = paired_on nat_keys r.nodes q.nodes (nodes a) (nodes b) (nodes c)
@@ -495,10 +365,8 @@ module _ (r q : Renumbering) (a b c : County) (ca : IsCounty a) (cb : IsCounty b
         };
         chains = forth (carried_chain r) (carried_chain q) (carried_chain (then r q)) a.chains b.chains c.chains f.chains h.chains k.chains;
         names = forth (carried_name r) (carried_name q) (carried_name (then r q)) a.names b.names c.names f.names h.names k.names;
-        polygons = forth (carried_polygon r) (carried_polygon q)
-            (carried_polygon (then r q)) a.polygons b.polygons c.polygons f.polygons h.polygons k.polygons;
-        landmarks = forth (carried_landmark r) (carried_landmark q)
-            (carried_landmark (then r q)) a.landmarks b.landmarks c.landmarks f.landmarks h.landmarks k.landmarks;
+        polygons = search (rules, forth);
+        landmarks = search (rules, forth);
         links = forth (carried_link r) (carried_link q) (carried_link (then r q)) a.links b.links c.links f.links h.links k.links;
       }
 
@@ -511,3 +379,6 @@ same-symmetric a b ca cb s = record { by = inverse s.by; carries = inverse_carri
 
 pub same-transitive : (a b c : County) → IsCounty a → IsCounty b → AreSame a b → AreSame b c → AreSame a c
 same-transitive a b c ca cb s t = record { by = then s.by t.by; carries = then_carries s.by t.by a b c ca cb s.carries t.carries }
+
+-- the three laws, for the function that states them
+pub ruleset laws_of_sameness = (same-reflexive, same-symmetric, same-transitive)

@@ -1,22 +1,21 @@
 -- The county depends neither on the order of the records, nor on the packing of types 2 and 4, nor on the choice of RTSQs.
-use Rattle.std.proofs.Common.{◌≡◌, ◌≤◌, ℕ, nat_lt, ◌==◌, List, [], ◌∷◌, ◌++◌, map, flat_map, filter, length, false}
-use Rattle.std.proofs.Common.{is_eq, sym, ap, ◌∙◌, arith, nat_cmp, IsPermutation}
-use Rattle.tl_county.proofs.Common.{ChainTwice, Fields1, Fields2, Fields4, Fields5, Fields6, Fields7, FieldsI, FieldsP, IsLinked, LinkTwice}
-use Rattle.tl_county.proofs.Common.{NameTwice, PolygonKey, PolygonTwice, Record, RecordType, SameElements, SequenceBroken, Type1, Type2}
-use Rattle.tl_county.proofs.Common.{Type4, Type5, Type6, Type7, Type8, TypeI, TypeP, apart_from_no_repeat, chain_of, chain_tlids, chains_of}
-use Rattle.tl_county.proofs.Common.{count-map, county_of, distinct, distinct_same, first, five_feat, four_rtsq, four_tlid, has_repeat}
-use Rattle.tl_county.proofs.Common.{i_tlid, in_order, key_cmp, key_keys, landmark_body_cmp, landmark_body_keys, ltb-false}
-use Rattle.tl_county.proofs.Common.{map_agree_everywhere, nat_keys, of_number, of_type, of_type_1, of_type_2, of_type_4, of_type_5}
-use Rattle.tl_county.proofs.Common.{of_type_6, of_type_7, of_type_8, of_type_i, of_type_p, on, one_tlid, p_key, polygon_body, polygons_of}
-use Rattle.tl_county.proofs.Common.{seven_land, side_keys, six_rtsq, six_tlid, times, two_rtsq, two_tlid}
-use Rattle.tl_county.specs.declared.fault.SequencedType.TheVariants as sequenced
+use Rattle.tl_county.proofs.Common.{common_steps, ChainTwice, Fields1, Fields2, Fields4, Fields5, Fields6, Fields7, FieldsI, FieldsP}
+use Rattle.tl_county.proofs.Common.{IsLinked, LinkTwice, NameTwice, PolygonKey, PolygonTwice, Record, RecordType, SameElements}
+use Rattle.tl_county.proofs.Common.{SequenceBroken, Type1, Type2, Type4, Type5, Type6, Type7, Type8, TypeI, TypeP, apart_from_no_repeat}
+use Rattle.tl_county.proofs.Common.{chain_of, chain_tlids, chains_of, count-map, county_of, distinct, distinct_same, first, five_feat}
+use Rattle.tl_county.proofs.Common.{four_rtsq, four_tlid, has_repeat, i_tlid, in_order, key_cmp, key_keys, landmark_body_cmp}
+use Rattle.tl_county.proofs.Common.{landmark_body_keys, ltb-false, map_agree_everywhere, nat_keys, of_number, of_type, of_type_1, of_type_2}
+use Rattle.tl_county.proofs.Common.{of_type_4, of_type_5, of_type_6, of_type_7, of_type_8, of_type_i, of_type_p, on, one_tlid, p_key}
+use Rattle.tl_county.proofs.Common.{polygon_body, polygons_of, seven_land, six_rtsq, six_tlid, times, two_rtsq, two_tlid}
+use Rattle.std.proofs.Common.{rules, ◌≡◌, ◌≤◌, ℕ, nat_lt, ◌==◌, List, [], ◌∷◌, ◌++◌, map, flat_map, filter, length, false, is_eq, sym, ap}
+use Rattle.std.proofs.Common.{◌∙◌, arith, nat_cmp, IsPermutation}
 use Rattle.tl_county.specs.County.{landmarks_of}
 use Rattle.tl_county.proofs.Sameness.SameChains.{chains_alike}
 use Rattle.tl_county.proofs.Sameness.SameRules.{keys_alike, same_of_type, same_in_type, same-linked}
 use Rattle.tl_county.specs.Laws.KeyOrders.{link_keys}
 use Rattle.tl_county.proofs.Lists.OfNumber.{times-of_number}
-use Rattle.ordered_lists.proofs.Lists.Reordered.{from_permutation, same-filter, same-map, times-same}
-use Rattle.ordered_lists.proofs.Lists.Reordered.{few_same, numbered_same, ordered_same}
+use Rattle.ordered_lists.proofs.Lists.Reordered.{from_permutation, same-filter, same-map, times-same, few_same, numbered_same, ordered_same}
+use Rattle.tl_county.specs.declared.fault.SequencedType.TheVariants as sequenced
 
 module _ (xs ys : List Record) (p : IsPermutation xs ys) (linked : IsLinked xs) where
   s_all : SameElements xs ys
@@ -32,9 +31,7 @@ module _ (xs ys : List Record) (p : IsPermutation xs ys) (linked : IsLinked xs) 
   in_sequence : {X : Type 0} (f g : X → ℕ) (n : ℕ) (us vs : List X) → SameElements us vs
       → has_repeat nat_cmp (map g (of_number f n us)) ≡ false
       → in_order (on g nat_cmp) (of_number f n us) ≡ in_order (on g nat_cmp) (of_number f n vs)
-  in_sequence f g n us vs s e =
-      numbered_same g (of_number f n us) (of_number f n vs) (same-filter (λ x. f x == n) us vs s)
-      (apart_from_no_repeat nat_keys (map g (of_number f n us)) e)
+  in_sequence f g n us vs s e = search (rules, numbered_same, same-filter, apart_from_no_repeat, nat_keys)
 
   chain_same : (r : Fields1) (link : FieldsI) → chain_of xs r link ≡ chain_of ys r link
   chain_same r link = λ i. record (chain_of xs r link) {
@@ -49,8 +46,7 @@ module _ (xs ys : List Record) (p : IsPermutation xs ys) (linked : IsLinked xs) 
 
   links_same : (n : ℕ) → of_number i_tlid n (of_type_i xs) ≡ of_number i_tlid n (of_type_i ys)
   links_same n = few_same (of_number i_tlid n (of_type_i xs)) (of_number i_tlid n (of_type_i ys))
-      (let t : times nat_cmp n (map i_tlid (of_type_i xs)) ≡ length (of_number i_tlid n (of_type_i xs)) =
-      times-of_number i_tlid n (of_type_i xs) in
+      (let t : times nat_cmp n (map i_tlid (of_type_i xs)) ≡ length (of_number i_tlid n (of_type_i xs)) = search (rules, times-of_number) in
       let u : times nat_cmp n (map i_tlid (of_type_i xs)) ≤ 1 =
       ltb-false 1 (times nat_cmp n (map i_tlid (of_type_i xs))) (linked (LinkTwice n)) in omega arith)
       (same-filter (λ l. l.tlid == n) (of_type_i xs) (of_type_i ys) (same TypeI))
@@ -63,17 +59,13 @@ module _ (xs ys : List Record) (p : IsPermutation xs ys) (linked : IsLinked xs) 
   body_same k = ap (λ qs. first (map (λ (q : FieldsP). q.body) qs))
       (few_same (filter (λ q. is_eq (key_cmp k (p_key q))) (of_type_p xs)) (filter (λ q. is_eq (key_cmp k (p_key q))) (of_type_p ys))
       (let t : times key_cmp k (map p_key (of_type_p xs)) ≡ length (filter (λ q. is_eq (key_cmp k (p_key q))) (of_type_p xs)) =
-      count-map (λ j. is_eq (key_cmp k j)) p_key (of_type_p xs) in
+      search (rules, count-map) in
       let u : times key_cmp k (map p_key (of_type_p xs)) ≤ 1 =
       ltb-false 1 (times key_cmp k (map p_key (of_type_p xs))) (linked (PolygonTwice k.0 k.1)) in omega arith)
       (same-filter (λ q. is_eq (key_cmp k (p_key q))) (of_type_p xs) (of_type_p ys) (same TypeP)))
 
   polygons_same : polygons_of xs ≡ polygons_of ys
-  polygons_same =
-      map_agree_everywhere (λ k. (k, polygon_body xs k)) (λ k. (k, polygon_body ys k)) (λ k i. (k, body_same k i))
-      (distinct key_cmp (flat_map side_keys (of_type_i xs) ++ map p_key (of_type_p xs)))
-      ∙ ap (map (λ k. (k, polygon_body ys k))) (distinct_same key_keys (flat_map side_keys (of_type_i xs) ++ map p_key (of_type_p xs))
-      (flat_map side_keys (of_type_i ys) ++ map p_key (of_type_p ys)) (keys_alike xs ys s_all))
+  polygons_same = search (rules, common_steps, map_agree_everywhere, body_same, distinct_same, key_keys, keys_alike, s_all)
 
   landmarks_same : landmarks_of xs ≡ landmarks_of ys
   landmarks_same =

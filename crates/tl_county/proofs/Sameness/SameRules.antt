@@ -1,6 +1,6 @@
 -- Lists with the same records break the same rules at the same places.
-use Rattle.std.proofs.Common.{◌≡◌, ◌⊎◌, ℕ, nat_lt, ◌==◌, List, ◌++◌, map, flat_map, Bool, true, false, not, ◌&&◌}
-use Rattle.std.proofs.Common.{sym, refl, ap, ap₂, ◌∙◌, subst, inl, inr, nat_cmp}
+use Rattle.std.proofs.Common.{◌≡◌, ◌⊎◌, ℕ, nat_lt, ◌==◌, List, ◌++◌, map, flat_map, Bool, true, false, not, ◌&&◌, sym, refl, ap, ap₂, ◌∙◌}
+use Rattle.std.proofs.Common.{subst, inl, inr, nat_cmp}
 use Rattle.tl_county.proofs.Common.{Among, ChainTwice, Fields4, FieldsI, FieldsP, Four, I, IsFirstBrokenRule, IsLinked, Known, LandUnknown}
 use Rattle.tl_county.proofs.Common.{LinkFault, LinkMissing, LinkTwice, LinkedType, Memory, NameTwice, NameUnknown, NoChain, PolygonKey}
 use Rattle.tl_county.proofs.Common.{PolygonTwice, PolygonUnknown, Record, RecordType, SameElements, SequenceBroken, Six, Two, Type1, Type2}
@@ -11,10 +11,9 @@ use Rattle.tl_county.proofs.Common.{known-right, known_is_among, link_key, linke
 use Rattle.tl_county.proofs.Common.{of_type_2, of_type_4, of_type_5, of_type_6, of_type_7, of_type_8, of_type_i, of_type_p, one_tlid, p_key}
 use Rattle.tl_county.proofs.Common.{rtsqs, seven_land, side_keys, six_rtsq, six_tlid, stands_alike, stands_in, two_rtsq, two_tlid}
 use Rattle.tl_layout.specs.RecordTypes.{FieldsOf}
-use Rattle.tl_county.specs.declared.fault.SequencedType.TheVariants as sequenced
 use Rattle.tl_county.proofs.Sameness.Carried.{among-unpieces}
-use Rattle.ordered_lists.proofs.Lists.Reordered.{same-filter_map, same-filter, same-map, times-same}
-use Rattle.ordered_lists.proofs.Lists.Reordered.{apart-same}
+use Rattle.ordered_lists.proofs.Lists.Reordered.{same-filter_map, same-filter, same-map, times-same, apart-same}
+use Rattle.tl_county.specs.declared.fault.SequencedType.TheVariants as sequenced
 
 -- the same, seen from the other list
 pub same-sym : {X : Type 0} (xs ys : List X) → SameElements xs ys → SameElements ys xs

@@ -1,11 +1,10 @@
 -- The definitions applied to the samples: their counties, the renamings that carry, and the refusal of a list of records.
-use Rattle.std.proofs.Common.{◌≡◌, ℕ, List, [], ◌∷◌, ◌++◌, map, length, Bool, true, false, Some, sym, refl, ap, ◌∙◌, arith}
+use Rattle.std.proofs.Common.{rules, ◌≡◌, ℕ, List, [], ◌∷◌, ◌++◌, map, length, Bool, true, false, Some, sym, refl, ap, ◌∙◌, arith}
 use Rattle.std.proofs.Common.{IsPermutation, codes, ◌==◌, ◌&&◌, ◌⊎◌, inl, inr, slice_index, lit<, nat_cmp}
 use Rattle.tl_county.proofs.Common.{Body7, Carries, Chain, ChainTwice, IsFirstBrokenRule, IsLinked, IsPermutation-refl, NameUnknown}
 use Rattle.tl_county.proofs.Common.{PolygonUnknown, Renumbering, SequenceBroken, among-permutation, carried_chain, county_of, false≢true}
 use Rattle.tl_county.proofs.Common.{image, nodes, polygon_keys, renumbered, turned_if, turns}
 use Rattle.std.proofs.lemmas.List.Sorted.{length_permutation}
-use Rattle.tl_county.specs.declared.fault.SequencedType.TheVariants as sequenced
 use Rattle.tl_county.specs.Renumbering.{AreSame}
 use Rattle.tl_layout.specs.Turned.{turned_body}
 use Rattle.tl_county.proofs.Rules.LinkFaults.{linked_computed, first_rule_computed}
@@ -13,6 +12,7 @@ use Rattle.tl_county.proofs.Samples.Counties.{filled, right, street, ranges_back
 use Rattle.tl_county.proofs.Samples.Counties.{no_side, cenid_1, cenid_2, there, back, back_wrong, back_shaped, there_shaped}
 use Rattle.tl_county.proofs.Samples.Counties.{canonical_shaped, points_up, two_polygons, named, schools, landmark, in_polygon, four, two}
 use Rattle.tl_county.proofs.Samples.Counties.{chain_there, meeting, old_mill}
+use Rattle.tl_county.specs.declared.fault.SequencedType.TheVariants as sequenced
 
 -- the only chain, with further names
 abbrev named_chain : List ℕ → Chain
@@ -41,16 +41,7 @@ onto_back = record { chains = (500, 77) ∷ []; names = []; polygons = []; lands
 
 pub onto_back_carries : Carries onto_back (county_of there) (county_of back)
 onto_back_carries = record {
-  numbers = record {
-    chains = record { left = IsPermutation-refl (500 ∷ []); right = IsPermutation-refl (77 ∷ []) };
-    names = record { left = IsPermutation-refl []; right = IsPermutation-refl [] };
-    polygons = record { left = IsPermutation-refl []; right = IsPermutation-refl [] };
-    lands = record { left = IsPermutation-refl []; right = IsPermutation-refl [] };
-    nodes = record { left = IsPermutation-refl (11 ∷ 12 ∷ []); right = IsPermutation-refl (5 ∷ 6 ∷ []) };
-    cenids = tt;
-    turned_known = (refl, tt);
-    turned_once = refl;
-  };
+  numbers = search (rules, right);
   chains = IsPermutation-refl (county_of back).chains;
   names = IsPermutation-refl [];
   polygons = IsPermutation-refl [];
@@ -153,8 +144,7 @@ address_differs r false = refl
 
 pub wrong_addresses : AreSame (county_of there) (county_of back_wrong) → ⊥
 wrong_addresses s =
-    let e : wrong_entry ≡ carried_chain s.by (500, there_chain) =
-    only (carried_chain s.by (500, there_chain)) wrong_entry s.carries.chains in
+    let e : wrong_entry ≡ carried_chain s.by (500, there_chain) = search (rules, only) in
     false≢true (sym (address_differs s.by (turns s.by 500)) ∙ ap (λ (d : ℕ × Chain). address d.1) (sym e))
 
 -- Two names that differ only in their uses may be exchanged: the order in which a chain names them is the only difference.
@@ -173,16 +163,7 @@ exchanged x y = record { moves = (0, 1) ∷ []; below = (lit< tt, lit< tt, tt); 
 
 pub exchanged_names_carry : Carries exchanged_names (county_of (named (8 ∷ 9 ∷ []))) (county_of (named (9 ∷ 8 ∷ [])))
 exchanged_names_carry = record {
-  numbers = record {
-    chains = record { left = IsPermutation-refl (500 ∷ []); right = IsPermutation-refl (500 ∷ []) };
-    names = record { left = IsPermutation-refl (8 ∷ 9 ∷ []); right = exchanged 9 8 };
-    polygons = record { left = IsPermutation-refl []; right = IsPermutation-refl [] };
-    lands = record { left = IsPermutation-refl []; right = IsPermutation-refl [] };
-    nodes = record { left = IsPermutation-refl (11 ∷ 12 ∷ []); right = IsPermutation-refl (11 ∷ 12 ∷ []) };
-    cenids = tt;
-    turned_known = tt;
-    turned_once = refl;
-  };
+  numbers = search (rules, right, exchanged);
   chains = IsPermutation-refl (county_of (named (9 ∷ 8 ∷ []))).chains;
   names = exchanged (9, old_mill) (8, old_mill);
   polygons = IsPermutation-refl [];
@@ -203,10 +184,8 @@ twice_at r false = refl
 pub one_name_twice : AreSame (county_of (named (8 ∷ 8 ∷ []))) (county_of (named (8 ∷ 9 ∷ []))) → ⊥
 unfolding feats_of
 one_name_twice s =
-    let e : (500, named_chain (8 ∷ 9 ∷ [])) ≡ carried_chain s.by (500, named_chain (8 ∷ 8 ∷ [])) =
-    only (carried_chain s.by (500, named_chain (8 ∷ 8 ∷ []))) (500, named_chain (8 ∷ 9 ∷ [])) s.carries.chains in
-    let names : 8 ∷ 9 ∷ [] ≡ image nat_cmp s.by.names 8 ∷ image nat_cmp s.by.names 8 ∷ [] = ap (λ (d : ℕ × Chain). feats_of d.1) e
-    ∙ twice_at s.by (turns s.by 500) in
+    let e : (500, named_chain (8 ∷ 9 ∷ [])) ≡ carried_chain s.by (500, named_chain (8 ∷ 8 ∷ [])) = search (rules, only) in
+    let names : 8 ∷ 9 ∷ [] ≡ image nat_cmp s.by.names 8 ∷ image nat_cmp s.by.names 8 ∷ [] = search (rules, feats_of, twice_at) in
     let first : 8 ≡ image nat_cmp s.by.names 8 = ap (λ ns. slice_index ns 0) names in
     let second : 9 ≡ image nat_cmp s.by.names 8 = ap (λ ns. slice_index ns 1) names in
     omega arith

@@ -1,5 +1,5 @@
 -- In the orders of this crate, values that compare as equal are equal.
-use Rattle.std.proofs.Common.{◌≡◌, Equal, refl, ap, nat_cmp, int_cmp, Option, Some, None, option_to_list}
+use Rattle.std.proofs.Common.{rules, ◌≡◌, Equal, refl, ap, nat_cmp, int_cmp, Option, Some, None, option_to_list}
 use Rattle.std.specs.Ordering.{ordering_then}
 use Rattle.std.specs.Cmp.Lexicographic.{slice_cmp}
 use Rattle.std.proofs.lemmas.Cmp.{nat_cmp_total, int_cmp_total, nat_list_cmp_total, then_total, on_total}
@@ -9,7 +9,6 @@ use Rattle.tl_county.specs.PolygonKeys.{PolygonKey, key_cmp}
 use Rattle.tl_shape.specs.PointOrder.{point_cmp, points_cmp}
 use Rattle.tl_layout.specs.Fields.{Fields8}
 use Rattle.tl_layout.specs.declared.name.FeatureName.{FeatureName}
-use Rattle.tl_layout.specs.declared.type5.Body5.{Body5}
 use Rattle.tl_layout.specs.declared.type7.Body7.{Body7}
 use Rattle.tl_county.specs.BodyOrder.{bytes_cmp, feature_name_cmp, name_body_cmp, landmark_body_cmp, LinkPart, link_part}
 use Rattle.tl_county.specs.BodyOrder.{link_part_cmp, link_cmp}
@@ -59,20 +58,7 @@ name_exact a b e =
     }
 
 pub name_body_keys : IsKeyOrder name_body_cmp
-name_body_keys = record {
-  total = then_total (on_total (λ (b : Body5). b.file) nat_list_cmp_total)
-      (on_total (λ (b : Body5). b.name)
-      (then_total (on_total (λ (n : FeatureName). n.fedirp) nat_list_cmp_total)
-      (then_total (on_total (λ (n : FeatureName). n.fename) nat_list_cmp_total)
-      (then_total (on_total (λ (n : FeatureName). n.fetype) nat_list_cmp_total)
-      (on_total (λ (n : FeatureName). n.fedirs) nat_list_cmp_total)))));
-  exact = exact;
-}
-  where
-    exact : (a b : Body5) → name_body_cmp a b ≡ Equal → a ≡ b
-    exact a b e =
-        let both = then-equal (bytes_cmp a.file b.file) (feature_name_cmp a.name b.name) e in
-        λ i. record { file = exact_bytes a.file b.file both.0 i; name = name_exact a.name b.name both.1 i }
+name_body_keys = search (rules, then_total, on_total, nat_list_cmp_total, then-equal, exact_bytes, name_exact)
 
 pub landmark_body_keys : IsKeyOrder landmark_body_cmp
 landmark_body_keys = record {

@@ -5,25 +5,20 @@
 --   specs/MaskedLimits        masked_within_limits
 --   proofs/MaskedReads        the values that a chart reads: chain_at_masked, body_masked, bodies_masked and so on
 --   proofs/MaskedCounties     masked_by_none, no_mask_is_plain, masked_twice, carried_masked
-use Rattle.std.proofs.Common.{◌≡◌, ◌≤◌, ◌||◌, ℕ, List, map, length, Bool, true, false, cond, IsTrue, is_some, refl, sym, ap, ◌∙◌, subst}
-use Rattle.std.proofs.Common.{nat_cmp}
+use Rattle.std.proofs.Common.{rules, ◌≡◌, ℕ, List, map, length, Bool, true, false, cond, refl, ◌∙◌}
 use Rattle.std.proofs.lemmas.List.{length-map}
 use Rattle.std.specs.List.{AllByRecursion}
-use Rattle.std.specs.List.Sorted.{IsStrictlySortedBy}
 use Rattle.tl_layout.specs.Masked.{masked_body_7}
 use Rattle.tl_layout.specs.declared.mask.Mask.{Mask}
 use Rattle.tl_layout.specs.declared.type7.Body7.{Body7}
 use Rattle.tl_shape.specs.Chain.{Chain}
 use Rattle.tl_county.specs.BodyOrder.{landmark_body_cmp}
 use Rattle.tl_county.specs.County.{County}
-use Rattle.tl_county.specs.CountyRules.{tlids, feats, polygon_keys, lands, nodes, chain_nodes, chain_polygons, polygons_along}
-use Rattle.tl_county.specs.CountyRules.{AllStandIn, AllKeysStandIn, IsCounty}
-use Rattle.ordered_lists.specs.Orders.{IsInOrder, in_order, distinct, stands_in}
-use Rattle.tl_county.specs.PolygonKeys.{key_cmp}
+use Rattle.tl_county.specs.CountyRules.{tlids, lands, nodes, polygons_along, IsCounty}
+use Rattle.ordered_lists.specs.Orders.{IsInOrder, in_order}
 use Rattle.tl_county.specs.MaskedCounty.{masked_chain, masked_bodies, masked}
 use Rattle.tl_county.specs.Laws.KeyOrders.{landmark_body_keys}
-use Rattle.ordered_lists.proofs.Lists.Elements.{flat_map-map}
-use Rattle.ordered_lists.proofs.Lists.Elements.{all_map, all_weaker}
+use Rattle.ordered_lists.proofs.Lists.Elements.{flat_map-map, all_map, all_weaker}
 use Rattle.ordered_lists.proofs.Lists.EntryLists.{keys-map_values}
 use Rattle.ordered_lists.proofs.Lists.InOrder.{in_order-in_order}
 use Rattle.ordered_lists.proofs.ByKey.Numbers.{length-in_order}
@@ -37,13 +32,10 @@ lands_masked mask county = keys-map_values (masked_bodies mask) county.landmarks
 
 -- and so are the ends and the sides of chains
 pub nodes_masked : (mask : Mask) (county : County) → nodes (masked mask county) ≡ nodes county
-nodes_masked mask county =
-    ap (distinct nat_cmp)
-    (flat_map-map (λ (entry : ℕ × Chain). chain_nodes entry.1) (λ (entry : ℕ × Chain). (entry.0, masked_chain mask entry.1)) county.chains)
+nodes_masked mask county = search (rules, flat_map-map)
 
 pub sides_masked : (mask : Mask) (county : County) → polygons_along (masked mask county).chains ≡ polygons_along county.chains
-sides_masked mask county =
-    flat_map-map (λ (entry : ℕ × Chain). chain_polygons entry.1) (λ (entry : ℕ × Chain). (entry.0, masked_chain mask entry.1)) county.chains
+sides_masked mask county = search (rules, flat_map-map)
 
 -- if contents are in order, they are under a mask; there are as many of them
 hidden_in_order : (hidden : Bool) (f : Body7 → Body7) (bodies : List Body7) → IsInOrder landmark_body_cmp bodies
@@ -74,34 +66,9 @@ module _ (mask : Mask) where
       → ((entry : ℕ × List Body7) → P entry → Q (entry.0, masked_bodies mask entry.1))
       → (landmarks : List (ℕ × List Body7)) → AllByRecursion P landmarks
       → AllByRecursion Q (map (λ entry. (entry.0, masked_bodies mask entry.1)) landmarks)
-  all_landmarks_masked P Q h landmarks a =
-      all_map Q (λ entry. (entry.0, masked_bodies mask entry.1)) landmarks
-      (all_weaker P (λ entry. Q (entry.0, masked_bodies mask entry.1)) h landmarks a)
+  all_landmarks_masked P Q h landmarks a = search (rules, all_map, all_weaker)
 
   -- a well formed county is well formed under a mask
   pub masked_is_county : (county : County) → IsCounty county → IsCounty (masked mask county)
-  masked_is_county county h = record {
-    ascending = record {
-      chains = subst (IsStrictlySortedBy nat_cmp) (sym (tlids_masked mask county)) h.ascending.chains;
-      names = h.ascending.names;
-      polygons = h.ascending.polygons;
-      landmarks = subst (IsStrictlySortedBy nat_cmp) (sym (lands_masked mask county)) h.ascending.landmarks;
-      bodies = all_landmarks_masked (λ entry. IsInOrder landmark_body_cmp entry.1) (λ entry. IsInOrder landmark_body_cmp entry.1)
-          (λ entry. bodies_masked_in_order mask entry.1) county.landmarks h.ascending.bodies;
-      links = h.ascending.links;
-    };
-    closed = record {
-      names = all_chains_masked (λ entry. AllStandIn (feats county) entry.1.feats) county.chains h.closed.names;
-      sides = all_chains_masked (λ entry. AllKeysStandIn (polygon_keys county) (chain_polygons entry.1)) county.chains h.closed.sides;
-      link_lands = subst (λ known. AllByRecursion (λ link. IsTrue (stands_in nat_cmp link.land known)) county.links)
-          (sym (lands_masked mask county)) h.closed.link_lands;
-      link_polygons = h.closed.link_polygons;
-    };
-    whole = record {
-      points = all_chains_masked (λ entry. 2 ≤ length entry.1.points) county.chains h.whole.points;
-      bodies = all_landmarks_masked (λ entry. 1 ≤ length entry.1) (λ entry. 1 ≤ length entry.1)
-          (λ entry. subst (λ n. 1 ≤ n) (sym (length_masked_bodies mask entry.1))) county.landmarks h.whole.bodies;
-      polygons = subst (λ sides. AllByRecursion (λ entry. IsTrue (is_some entry.1 || stands_in key_cmp entry.0 sides)) county.polygons)
-          (sym (sides_masked mask county)) h.whole.polygons;
-    };
-  }
+  masked_is_county county h =
+      search (rules, tlids_masked, lands_masked, all_landmarks_masked, bodies_masked_in_order, all_chains_masked, length_masked_bodies, sides_masked)

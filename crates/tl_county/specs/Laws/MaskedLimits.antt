@@ -1,6 +1,6 @@
 -- Under a mask a county is within the same limits: blanks fit wherever a text does, and there are as many records of each type.
-use Rattle.std.proofs.Common.{◌≡◌, ◌+◌, ◌≤◌, ℕ, List, [], ◌∷◌, map, flat_map, length, Bool, true, false, cond}
-use Rattle.std.proofs.Common.{refl, sym, ap₂, ◌∙◌, subst, length-append}
+use Rattle.std.proofs.Common.{rules, ◌≡◌, ◌≤◌, ℕ, List, [], ◌∷◌, map, flat_map, length, Bool, true, false, cond, refl, sym, ◌∙◌, subst}
+use Rattle.std.proofs.Common.{length-append}
 use Rattle.std.proofs.lemmas.List.{length-map}
 use Rattle.std.specs.List.{AllByRecursion}
 use Rattle.tl_layout.specs.Bytes.{IsText, blanks_if}
@@ -22,8 +22,7 @@ use Rattle.tl_county.specs.Packing.{packed_one, packed_twos, packed_fours, packe
 use Rattle.tl_county.specs.MaskedCounty.{masked_chain, masked_bodies, masked}
 use Rattle.tl_county.specs.Laws.MaskedCounties.{length_masked_bodies, all_chains_masked, all_landmarks_masked}
 use Rattle.ordered_lists.proofs.ByKey.Numbers.{all-in_order}
-use Rattle.ordered_lists.proofs.Lists.Elements.{flat_map-map}
-use Rattle.ordered_lists.proofs.Lists.Elements.{all_map, all_weaker}
+use Rattle.ordered_lists.proofs.Lists.Elements.{flat_map-map, all_map, all_weaker}
 use Rattle.tl_county.specs.Laws.PackedTypes.{by_type_of}
 use Rattle.tl_county.specs.Laws.TypeCounts.{HasAtMost, HasWithin, by_type_within, packed_within}
 
@@ -34,17 +33,7 @@ hidden_fits false width text t = t
 
 module _ (mask : Mask) where
   body_1_fits : (body : Body1Fields) → FitsBody1 body → FitsBody1 (masked_body_1 mask body)
-  body_1_fits body f = record {
-    side1 = f.side1;
-    source = hidden_fits mask.sources 1 body.source f.source;
-    name = f.name;
-    cfcc = f.cfcc;
-    ranges = f.ranges;
-    native_areas = f.native_areas;
-    census1 = hidden_fits mask.reserved 1 body.census1 f.census1;
-    census2 = hidden_fits mask.reserved 1 body.census2 f.census2;
-    entities = f.entities;
-  }
+  body_1_fits body f = search (rules, hidden_fits)
 
   -- FILE, LAND, SOURCE, and the fields after it
   body_7_fits : (body : Body7) → FitsLandmark body → FitsLandmark (masked_body_7 mask body)
@@ -55,51 +44,14 @@ module _ (mask : Mask) where
   body_i_fits : (body : BodyI) (left right : List ℕ) → FitsLinkContent body left right
       → FitsLinkContent (masked_body_i mask body) left right
   unfolding FitsFields
-  body_i_fits body left right f =
-      let fields = f.1.1.1.1.1.1.1.1 in
-      let source = hidden_fits mask.sources 10 body.source fields.0 in
-      let rs_i1 = hidden_fits mask.reserved 10 body.rs_i1 fields.1.1.0 in
-      let rs_i2 = hidden_fits mask.reserved 10 body.rs_i2 fields.1.1.1.0 in
-      let rs_i3 = hidden_fits mask.reserved 10 body.rs_i3 fields.1.1.1.1.0 in (
-        f.0,
-        (
-          f.1.0,
-          (
-            f.1.1.0,
-            (
-              f.1.1.1.0,
-              (
-                f.1.1.1.1.0,
-                (
-                  f.1.1.1.1.1.0,
-                  (
-                    f.1.1.1.1.1.1.0,
-                    (
-                      f.1.1.1.1.1.1.1.0,
-                      (source, (fields.1.0, (rs_i1, (rs_i2, (rs_i3, fields.1.1.1.1.1))))),
-                    ),
-                  ),
-                ),
-              ),
-            ),
-          ),
-        ),
-      )
+  body_i_fits body left right f = search (rules, hidden_fits)
 
   chain_fits : (c : Chain) → FitsChain c → FitsChain (masked_chain mask c)
-  chain_fits c f = record {
-    body = body_1_fits c.body f.body;
-    points = f.points;
-    ranges = f.ranges;
-    link = body_i_fits c.topology c.left.cenid c.right.cenid f.link;
-  }
+  chain_fits c f = search (rules, body_1_fits, body_i_fits)
 
   hidden_landmark_fits : (hidden : Bool) (bodies : List Body7) → AllByRecursion FitsLandmark bodies
       → AllByRecursion FitsLandmark (cond hidden (in_order landmark_body_cmp (map (masked_body_7 mask) bodies)) bodies)
-  hidden_landmark_fits true bodies a =
-      all-in_order FitsLandmark landmark_body_cmp (map (masked_body_7 mask) bodies)
-      (all_map FitsLandmark (masked_body_7 mask) bodies
-      (all_weaker FitsLandmark (λ body. FitsLandmark (masked_body_7 mask body)) body_7_fits bodies a))
+  hidden_landmark_fits true bodies a = search (rules, all-in_order, all_map, all_weaker, body_7_fits)
   hidden_landmark_fits false bodies a = a
 
   contents_masked : (county : County) → ContentsFit county → ContentsFit (masked mask county)
@@ -143,13 +95,7 @@ module _ (mask : Mask) where
       → length (flat_map packed_sevens (map (λ entry. (entry.0, masked_bodies mask entry.1)) landmarks)) ≡ length
       (flat_map packed_sevens landmarks)
   sevens_masked [] = refl
-  sevens_masked (entry ∷ entries) =
-      let masked_entry : ℕ × List Body7 = (entry.0, masked_bodies mask entry.1) in
-      let masked_entries : List (ℕ × List Body7) = map (λ (e : ℕ × List Body7). (e.0, masked_bodies mask e.1)) entries in
-      length-append (packed_sevens masked_entry) (flat_map packed_sevens masked_entries) ∙ ap₂ (λ m n. m + n)
-      (length-map masked_entry.1 (λ body. record { land = entry.0; body = body }) ∙ length_masked_bodies mask entry.1
-      ∙ sym (length-map entry.1 (λ body. record { land = entry.0; body = body }))) (sevens_masked entries)
-      ∙ sym (length-append (packed_sevens entry) (flat_map packed_sevens entries))
+  sevens_masked (entry ∷ entries) = search (rules, length-append, length-map, length_masked_bodies, sevens_masked entries)
 
   -- there are no more records of any type
   pub counts_masked : (limits : ℕ → ℕ) (county : County) → HasWithin limits (packed_by_type county)

@@ -11,6 +11,7 @@ use ordered_lists::place_of;
 use tl_layout::{Body1, Body5, Body7, BodyI, BodyP, Point, Ranges, Rec8, Side};
 
 /// Calls read the county's own tables, and its chains, names and landmarks by their own traits.
+#[tactic(auto, using(crate::proofs::Rules::StoredParts::stored_parts))]
 impl<C: StoredChain, N: StoredName, L: StoredLandmark> Chart for StoredCounty<C, N, L> {
     ghost county = { λ k. county_with (map_values C.chain k.chains) (map_values N.name k.names) k.polygons (map_values L.landmark k.landmarks) };
 

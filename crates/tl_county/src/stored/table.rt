@@ -28,6 +28,7 @@ impl<K: Key, V> Model for Table<K, V> {
     ghost invariant = { λ t. IsStrictlySortedBy K.cmp t.keys.items × (length t.keys.items ≡ length t.values.items) };
 }
 
+#[tactic(auto, using(crate::proofs::Lists::TableEntries::table_entries))]
 impl<K: Key, V> Table<K, V> {
     /// The table of these values under these keys. The keys must ascend, and there must be as many values as keys.
     pub(crate) fn new(keys: Vec<K>, values: Vec<V>) -> Table<K, V>

@@ -1,8 +1,9 @@
 use Rattle.std.proofs.Common.{◌≡◌, map, length, sym, ap, ◌∙◌, subst, nat_cmp}
-use Rattle.tl_county.proofs.Common.{IsInOrder, chains_along, entries-equal, four_tlid, keys-map_values, keys-zip, length-map, map_values}
-use Rattle.tl_county.proofs.Common.{on, one_tlid, six_tlid, two_tlid, typed_of, values-map_values, values-zip}
+use Rattle.tl_county.proofs.Common.{chains_along, entries-equal, keys-map_values, keys-zip, length-map, map_values}
+use Rattle.tl_county.proofs.Common.{one_tlid, typed_of, values-map_values, values-zip}
 use Rattle.std.specs.List.Sorted.{IsStrictlySortedBy}
-use Rattle.tl_county.proofs.Rules.BuiltTables.{twos-in_order, fours-in_order, sixes-in_order, tlids-ascend, beside, length-chains_along}
+use Rattle.tl_county.proofs.Rules.BuiltTables.{tlids-ascend, beside, length-chains_along}
+use Rattle.tl_county.proofs.Rules.TlidsInOrder.{twos_in_order, fours_in_order, sixes_in_order}
 use Rattle.tl_county.proofs.linking.build_chains.Goals as goal
 
 pub chains_of_records-requires : goal.chains_of_records-requires
@@ -10,9 +11,9 @@ chains_of_records-requires g c κs =
     let t = typed_of c.args.tables.now in
     let heads = subst (λ l. IsStrictlySortedBy nat_cmp (map one_tlid l)) (sym c.deref.ensures.value)
     (tlids-ascend t c.requires.tables c.requires.linked) in
-    let shapes = subst (IsInOrder (on two_tlid nat_cmp)) (sym c.deref-3.ensures.value) (twos-in_order t c.requires.tables) in
-    let names = subst (IsInOrder (on four_tlid nat_cmp)) (sym c.deref-4.ensures.value) (fours-in_order t c.requires.tables) in
-    let ranges = subst (IsInOrder (on six_tlid nat_cmp)) (sym c.deref-5.ensures.value) (sixes-in_order t c.requires.tables) in
+    let shapes = twos_in_order t c.requires.tables c.deref-3.ensures.value in
+    let names = fours_in_order t c.requires.tables c.deref-4.ensures.value in
+    let ranges = sixes_in_order t c.requires.tables c.deref-5.ensures.value in
     ((λ i. κs.1.0, tt), (heads, (shapes, (names, ranges))))
 
 pub new-requires-clause-ascending : goal.new-requires-clause-ascending

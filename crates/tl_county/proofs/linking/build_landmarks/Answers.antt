@@ -1,30 +1,23 @@
-use Rattle.std.proofs.Common.{◌≡◌, ℕ, List, map, map-id, sym, ap, ◌∙◌, subst, nat_cmp}
-use Rattle.tl_county.proofs.Common.{IsInOrder, distinct, distinct-strict, eight_land, entries-equal, keys-map_values, landmark_of, map-map}
-use Rattle.tl_county.proofs.Common.{map_values, nat_keys, on, seven_land, typed_of, values-map_values}
-use Rattle.std.specs.List.Sorted.{IsStrictlySortedBy}
-use Rattle.tl_county.proofs.Rules.BuiltTables.{sevens-in_order, eights-in_order}
+use Rattle.std.proofs.Common.{rules, ◌≡◌, ℕ, List, map, map-id, sym, ap, ◌∙◌, nat_cmp}
+use Rattle.tl_county.proofs.Common.{distinct, distinct-strict, entries-equal, keys-map_values, landmark_of, map-map, map_values, nat_keys}
+use Rattle.tl_county.proofs.Common.{seven_land, values-map_values}
+use Rattle.tl_county.proofs.Rules.TlidsInOrder.{tables_in_order}
 use Rattle.tl_county.proofs.linking.build_landmarks.Goals as goal
 
 pub lands_of-requires : goal.lands_of-requires
-lands_of-requires g c =
-    subst (IsInOrder (on seven_land nat_cmp)) (sym c.deref.ensures.value) (sevens-in_order (typed_of c.args.tables.now) c.requires.tables)
+lands_of-requires g c = search (rules, tables_in_order)
 
 pub landmarks_of-requires-clause-lands : goal.landmarks_of-requires-clause-lands
-landmarks_of-requires-clause-lands g c =
-    subst (IsStrictlySortedBy nat_cmp) (sym (c.deref-2.ensures.value ∙ c.in_ok-lands.ensures))
-    (distinct-strict nat_keys (map seven_land c.deref.result.now))
+landmarks_of-requires-clause-lands g c = search (rules, distinct-strict, nat_keys)
 
 pub landmarks_of-requires-clause-landmarks : goal.landmarks_of-requires-clause-landmarks
-landmarks_of-requires-clause-landmarks g c =
-    subst (IsInOrder (on seven_land nat_cmp)) (sym c.deref-3.ensures.value) (sevens-in_order (typed_of c.args.tables.now) c.requires.tables)
+landmarks_of-requires-clause-landmarks g c = search (rules, tables_in_order)
 
 pub landmarks_of-requires-clause-links : goal.landmarks_of-requires-clause-links
-landmarks_of-requires-clause-links g c =
-    subst (IsInOrder (on eight_land nat_cmp)) (sym c.deref-4.ensures.value) (eights-in_order (typed_of c.args.tables.now) c.requires.tables)
+landmarks_of-requires-clause-links g c = search (rules, tables_in_order)
 
 pub new-requires-clause-ascending : goal.new-requires-clause-ascending
-new-requires-clause-ascending g c =
-    subst (IsStrictlySortedBy nat_cmp) (sym c.in_ok-lands.ensures) (distinct-strict nat_keys (map seven_land c.deref.result.now))
+new-requires-clause-ascending g c = search (rules, distinct-strict, nat_keys)
 
 pub returns : goal.returns
 returns g c =

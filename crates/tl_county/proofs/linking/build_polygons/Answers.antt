@@ -1,13 +1,10 @@
-use Rattle.std.proofs.Common.{List, ◌++◌, map, flat_map, map-id, sym, ◌∙◌, subst}
-use Rattle.tl_county.proofs.Common.{PolygonKey, distinct, distinct-strict, entries-equal, key_cmp, key_keys, map-map, p_key}
-use Rattle.tl_county.proofs.Common.{polygon_body_of, side_keys}
+use Rattle.std.proofs.Common.{rules, ◌++◌, map, flat_map, map-id, sym, subst}
+use Rattle.tl_county.proofs.Common.{distinct-strict, entries-equal, key_cmp, key_keys, map-map, p_key, side_keys}
 use Rattle.std.specs.List.Sorted.{IsStrictlySortedBy}
 use Rattle.tl_county.proofs.linking.build_polygons.Goals as goal
 
 pub polygon_bodies-requires-clause-polygons : goal.polygon_bodies-requires-clause-polygons
-polygon_bodies-requires-clause-polygons c =
-    subst (IsStrictlySortedBy key_cmp) (sym (c.deref.ensures.value ∙ c.requires.keys))
-    (distinct-strict key_keys (flat_map side_keys c.args.tables.now.type_i.items ++ map p_key c.args.tables.now.type_p.items))
+polygon_bodies-requires-clause-polygons c = search (rules, distinct-strict, key_keys)
 
 pub new-requires-clause-ascending : goal.new-requires-clause-ascending
 new-requires-clause-ascending c =
@@ -15,12 +12,4 @@ new-requires-clause-ascending c =
     (distinct-strict key_keys (flat_map side_keys c.args.tables.now.type_i.items ++ map p_key c.args.tables.now.type_p.items))
 
 pub returns : goal.returns
-returns c =
-    let keys : List PolygonKey =
-    distinct key_cmp (flat_map side_keys c.args.tables.now.type_i.items ++ map p_key c.args.tables.now.type_p.items) in
-    entries-equal c.new.result (map (λ key. (key, polygon_body_of c.args.tables.now.type_p.items key)) keys)
-    (c.new.ensures.keys ∙ c.requires.keys ∙ sym (map-map (λ e. e.0) (λ key. (key, polygon_body_of c.args.tables.now.type_p.items key)) keys
-    ∙ map-id keys))
-    (c.new.ensures.values ∙ c.in_ok-bodies.ensures
-    ∙ (λ i. map (polygon_body_of (c.deref-2.ensures.value i)) ((c.deref.ensures.value ∙ c.requires.keys) i))
-    ∙ sym (map-map (λ e. e.1) (λ key. (key, polygon_body_of c.args.tables.now.type_p.items key)) keys))
+returns c = search (rules, entries-equal, map-map, map-id)

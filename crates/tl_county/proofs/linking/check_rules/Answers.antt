@@ -1,4 +1,4 @@
-use Rattle.std.proofs.Common.{ℕ, List, Result, Ok, Err, OnOk, IfErr, MatchResult, sym, subst, arith}
+use Rattle.std.proofs.Common.{rules, ℕ, List, Result, Ok, Err, OnOk, IfErr, MatchResult, sym, subst, arith}
 use Rattle.tl_county.proofs.Common.{IsFirstBrokenRule, IsLinked, LinkFault, Record, RulesHold}
 use Rattle.std.proofs.lemmas.Result.{err_from_is_err_and}
 use Rattle.tl_county.specs.RepeatedKeys.{AreLeastRepeated}
@@ -25,8 +25,7 @@ all_before : {Of : List Record → Type 0} {first second third : ℕ} → ((reco
     → ((records : List Record) → Of records → RulesHold records first second)
     → ((records : List Record) → Of records → RulesHold records second third)
     → ((records : List Record) → Of records → RulesHold records third 12) → (records : List Record) → Of records → RulesHold records 0 12
-all_before one two three four records e = rules-join records (one records e)
-    (rules-join records (two records e) (rules-join records (three records e) (four records e)))
+all_before one two three four records e = search (rules, rules-join)
 
 pub returns-clause-linked : goal.returns-clause-linked
 returns-clause-linked c =

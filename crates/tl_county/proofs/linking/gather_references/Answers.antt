@@ -1,8 +1,6 @@
-use Rattle.std.proofs.Common.{nat_cmp, sym, subst}
-use Rattle.tl_county.proofs.Common.{IsInOrder, five_feat, in_order-map}
+use Rattle.std.proofs.Common.{rules}
+use Rattle.tl_county.proofs.Common.{in_order-map}
 use Rattle.tl_county.proofs.linking.gather_references.Goals as goal
 
 pub unnamed_use-requires : goal.unnamed_use-requires
-unnamed_use-requires c =
-    subst (IsInOrder nat_cmp) (sym c.requires.feats)
-    (in_order-map nat_cmp five_feat c.args.tables.now.type_5.items c.requires.tables.type_5)
+unnamed_use-requires c = search (rules, in_order-map)

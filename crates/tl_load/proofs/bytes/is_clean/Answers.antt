@@ -1,7 +1,5 @@
 use Rattle.std.proofs.Common.{◌≡◌, length, map, ltb, sym, ◌∙◌, lit≤, inl, inr, arith, w8}
-use Rattle.std.proofs.lemmas.Bool.{cases_lt, eqb-true}
-use Rattle.std.proofs.lemmas.Simd.{bitmask_splat}
-use lib.Lanes.{mask_l}
+use Rattle.tl_load.proofs.Common.{bitmask_splat, cases_lt, eqb-true, mask_l}
 use Rattle.tl_load.proofs.Lanes.{allowed_at_each, each_of_selected, each_of_empty_mask}
 use Rattle.tl_load.proofs.bytes.is_clean.Goals as goal
 

@@ -1,16 +1,11 @@
-use Rattle.std.proofs.Common.{◌≡◌, ◌+◌, ◌≤◌, ◌%◌, length, map, replicate, refl, subst, ◌∙◌}
-use Rattle.std.proofs.lemmas.Simd.{length-chunk, length-zip2, zip2_splat, zip2_of_maps}
-use lib.Lanes.{chunk, Each1, zip2}
+use Rattle.std.proofs.Common.{rules, ◌≡◌, ◌+◌, ◌≤◌, ◌%◌, length, map, replicate, subst}
+use Rattle.tl_load.proofs.Common.{Each1, chunk, length-chunk, length-zip2, zip2, zip2_splat}
+use Rattle.std.proofs.lemmas.Simd.{zip2_of_maps}
 use Rattle.tl_load.proofs.Lanes.{clean_at}
 use Rattle.tl_load.proofs.bytes.past_controls.Goals as goal
 
 pub returns-clause-long : goal.returns-clause-long
-returns-clause-long c =
-    let block = chunk c.args.at 32 c.args.bytes.now in
-    let next = zip2 (λ a b. (a + b) % 256) block (replicate 32 1) in
-    let long : length block ≡ 32 = length-chunk c.args.at 32 c.args.bytes.now c.requires in
-    let long_next : length next ≡ 32 = length-zip2 (λ a b. (a + b) % 256) block (replicate 32 1) long ∙ long in
-    length-zip2 (λ a b. (a + b) % 256) next next refl ∙ long_next
+returns-clause-long c = search (rules, length-chunk, length-zip2)
 
 pub returns-clause-clean : goal.returns-clause-clean
 returns-clause-clean c each k from below =

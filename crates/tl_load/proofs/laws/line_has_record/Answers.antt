@@ -1,4 +1,5 @@
-use Rattle.tl_load.proofs.LineLaws.{Reading, ReportsFaults, judged_is_line, line_is_judged, judged_fault_found, judged_fault_only}
+use Rattle.std.proofs.Common.{rules}
+use Rattle.tl_load.proofs.LineLaws.{Reading, judged_is_line, line_is_judged, judged_fault_found, judged_fault_only}
 use Rattle.tl_load.proofs.laws.line_has_record.Goals as goal
 
 pub returns-clause-has_record : goal.returns-clause-has_record
@@ -8,7 +9,4 @@ returns-clause-has_record g c line r begins =
     (judged_is_line _ _ _ _ laws line r begins, line_is_judged _ _ _ _ laws line r)
 
 pub returns-clause-has_fault : goal.returns-clause-has_fault
-returns-clause-has_fault g c line fault begins =
-    let reports : ReportsFaults g.L.Layout.RTYPE g.L.Layout.LEN g.L.Layout.reading g.L.Layout.IsFault =
-    λ l f is. g.met.L.Layout.shows_leftmost l f is in
-    (judged_fault_found _ _ _ _ reports line fault begins, judged_fault_only _ _ _ _ reports line fault begins)
+returns-clause-has_fault g c line fault begins = search (rules, judged_fault_found, judged_fault_only)

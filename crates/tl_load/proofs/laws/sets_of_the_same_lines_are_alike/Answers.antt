@@ -1,4 +1,4 @@
-use Rattle.tl_load.specs.Choice.{tiger}
+use Rattle.tl_load.proofs.Common.{tiger}
 use Rattle.tl_load.proofs.CutParts.{spells_alike, fault_elsewhere}
 use Rattle.tl_load.proofs.laws.sets_of_the_same_lines_are_alike.Goals as goal
 

@@ -1,4 +1,4 @@
-use Rattle.std.proofs.Common.{◌≡◌, [], ◌∷◌, ◌++◌, false, is_gt, map, sym, ap, ◌∙◌, subst}
+use Rattle.std.proofs.Common.{rules, ◌≡◌, [], ◌∷◌, ◌++◌, false, is_gt, sym, ◌∙◌, subst}
 use Rattle.tl_county.proofs.Common.{AllByRecursion, IsInOrder}
 use Rattle.std.proofs.lemmas.List.{take_all}
 use Rattle.ordered_lists.proofs.ByKey.KeysInOrder.{at_most-then, in_order-then, in_order-unmap, keys-then}
@@ -20,8 +20,4 @@ loop-item-preserved g c =
     }
 
 pub returns-clause-in_order : goal.returns-clause-in_order
-returns-clause-in_order g c =
-    in_order-unmap g.K.Ord.cmp g.T.Keyed.key_of c.args.items.now
-    (subst (IsInOrder g.K.Ord.cmp)
-    (c.loop-item.invariant.keys ∙ ap (map g.T.Keyed.key_of) (take_all c.loop-item.item-index c.args.items.now c.loop-item-test.false))
-    c.loop-item.invariant.in_order)
+returns-clause-in_order g c = search (rules, in_order-unmap, take_all)

@@ -1,4 +1,4 @@
-use Rattle.std.proofs.Common.{◌≡◌, [], ◌∷◌, map, true, false, is_eq, ap, ◌∙◌, subst}
+use Rattle.std.proofs.Common.{rules, ◌≡◌, ◌∷◌, map, true, false, is_eq, ap, ◌∙◌, subst}
 use Rattle.tl_county.proofs.Common.{IsInOrder, IsKeyOrder, empty_list, is_repeated, on}
 use Rattle.ordered_lists.proofs.ByKey.KeyedLists.{decided-twice, left-once, left-one}
 use Rattle.tl_county.proofs.keys.keyed.least_repeated.Goals as goal
@@ -29,13 +29,4 @@ loop-first-preserved-else-is_eq g c =
     }
 
 pub loop-first-preserved : goal.loop-first-preserved
-loop-first-preserved g c =
-    let o : IsKeyOrder g.K.Ord.cmp = record { total = g.met.K.Ord.total; exact = g.met.K.Key.exact } in
-    let first : c.loop-first.rest.now ≡ c.in-Some.first.now ∷ c.in-Some.later.now = c.in-Some.ensures.cases.0 in
-    let none : c.in-Some.later.now ≡ [] = empty_list c.in-Some.later.now (c.in_default-split_first.ensures).cases in
-    record {
-      in_order = (subst (IsInOrder (on g.T.Keyed.key_of g.K.Ord.cmp)) first c.loop-first.invariant.in_order).1;
-      same = λ k. ap (λ l. is_repeated g.K.Ord.cmp (map g.T.Keyed.key_of l) k) none
-          ∙ left-one o g.T.Keyed.key_of _ c.loop-first.rest.now c.loop-first.invariant.same c.loop-first.invariant.in_order
-          c.in-Some.first.now (first ∙ ap (λ l. c.in-Some.first.now ∷ l) none) k;
-    }
+loop-first-preserved g c = search (rules, empty_list, left-one)

@@ -1,6 +1,6 @@
-use Rattle.std.proofs.Common.{◌≡◌, Less, Equal, Greater, subst}
+use Rattle.std.proofs.Common.{◌≡◌, Less, Greater, subst}
 use Rattle.tl_county.proofs.Common.{IsInOrder, IsKeyOrder, empty_list, on}
-use Rattle.ordered_lists.proofs.ByKey.KeyedLists.{decided-last, decided-first, left-same, left-below}
+use Rattle.ordered_lists.proofs.ByKey.KeyedLists.{decided-last, decided-first, left-below}
 use Rattle.tl_county.proofs.keys.keyed.least_unknown.Goals as goal
 
 pub returns-in-None : goal.returns-in-None
@@ -19,20 +19,6 @@ returns-in-Less g c =
     c.loop-first.invariant.asked_in_order
     c.in-Some.first.now c.in-Some.later.now c.in-Some-split_first.least.now c.in-Some-split_first.others.now c.in-Some.ensures.cases.0
     c.in-Some-split_first.ensures.cases.0 c.loop-first.invariant.known_in_order less c.key-in-Less.result c.key-in-Less.ensures
-
-pub loop-first-preserved-in-Equal : goal.loop-first-preserved-in-Equal
-loop-first-preserved-in-Equal g c =
-    let o : IsKeyOrder g.K.Ord.cmp = record { total = g.met.K.Ord.total; exact = g.met.K.Key.exact } in
-    let equal : g.K.Ord.cmp (g.A.Keyed.key_of c.in-Some.first.now) (g.B.Keyed.key_of c.in-Some-split_first.least.now) ≡ Equal = cc in
-    record {
-      asked_in_order = (subst
-          (IsInOrder (on g.A.Keyed.key_of g.K.Ord.cmp)) c.in-Some.ensures.cases.0 c.loop-first.invariant.asked_in_order).1;
-      known_in_order = c.loop-first.invariant.known_in_order;
-      same = left-same o g.A.Keyed.key_of g.B.Keyed.key_of _ c.loop-first.asked.now c.loop-first.known.now c.loop-first.invariant.same
-          c.loop-first.invariant.asked_in_order
-          c.in-Some.first.now c.in-Some.later.now c.in-Some-split_first.least.now c.in-Some-split_first.others.now c.in-Some.ensures.cases.0
-          c.in-Some-split_first.ensures.cases.0 equal;
-    }
 
 pub loop-first-preserved : goal.loop-first-preserved
 loop-first-preserved g c =

@@ -1,5 +1,5 @@
 use Rattle.std.proofs.Common.{[], ◌∷◌, ◌++◌, map, ap, ◌∙◌}
-use Rattle.tl_county.proofs.Common.{four_tlid, later_than, map-append, six_tlid, two_tlid}
+use Rattle.tl_county.proofs.Common.{map-append}
 use Rattle.tl_county.proofs.Lists.Groups.{chain-of_groups}
 use Rattle.tl_county.proofs.linking.building.push_chain.Goals as goal
 
@@ -13,15 +13,3 @@ returns-clause-chains g c =
     ∙ chain-of_groups c.args.head.now c.args.link.now c.args.details.now.shapes.now c.split_group.result.0.now
     c.args.details.now.names.now c.split_group-2.result.0.now c.args.details.now.ranges.now c.split_group-3.result.0.now
     c.tlid-tlid.result c.tlid-tlid.ensures.value c.split_group.ensures.group c.split_group-2.ensures.group c.split_group-3.ensures.group)
-
-pub returns-clause-shapes : goal.returns-clause-shapes
-returns-clause-shapes g c =
-    c.split_group.ensures.later ∙ ap (λ n. later_than two_tlid n c.args.details.now.shapes.now) c.tlid-tlid.ensures.value
-
-pub returns-clause-names : goal.returns-clause-names
-returns-clause-names g c =
-    c.split_group-2.ensures.later ∙ ap (λ n. later_than four_tlid n c.args.details.now.names.now) c.tlid-tlid.ensures.value
-
-pub returns-clause-ranges : goal.returns-clause-ranges
-returns-clause-ranges g c =
-    c.split_group-3.ensures.later ∙ ap (λ n. later_than six_tlid n c.args.details.now.ranges.now) c.tlid-tlid.ensures.value

@@ -1,18 +1,10 @@
+use Rattle.std.proofs.Common.{rules}
 use Rattle.tl_county.proofs.Common.{typed_of}
 use Rattle.tl_county.proofs.Rules.BuiltTables.{held, also_linked, same_county, within_limits-moved}
 use Rattle.tl_county.proofs.linking.linked_records.link_in_order.Goals as goal
 
 pub invariant_of-result : goal.invariant_of-result
-invariant_of-result c =
-    let stated = c.in_ok-gathered.ensures in (
-      stated.in_order,
-      stated.linked,
-      within_limits-moved c.args.tables c.sort_and_check.new.tables c.requires stated.same stated.linked,
-      stated.tlids,
-      stated.feats,
-      stated.polygons,
-      stated.without_side,
-    )
+invariant_of-result c = search (rules, within_limits-moved)
 
 pub returns-clause-linked : goal.returns-clause-linked
 returns-clause-linked c records h =

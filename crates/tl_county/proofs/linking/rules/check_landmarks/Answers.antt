@@ -1,11 +1,12 @@
-use Rattle.std.proofs.Common.{◌≡◌, ℕ, List, ◌++◌, map, flat_map, sym, ◌∙◌, subst, nat_cmp, Option, Some, None, arith, map-id}
+use Rattle.std.proofs.Common.{rules, ◌≡◌, ℕ, List, ◌++◌, map, flat_map, sym, ◌∙◌, subst, nat_cmp, Option, Some, None, arith, map-id}
 use Rattle.std.proofs.Common.{IsPermutation}
 use Rattle.tl_county.proofs.Common.{FieldsP, IsInOrder, IsLeastPassing, PolygonKey, Record, RulesHold, Typed, by_type, distinct}
-use Rattle.tl_county.proofs.Common.{distinct-in_order, eight_land, is_repeated, is_unknown, key_cmp, key_keys, landmark_body_cmp}
-use Rattle.tl_county.proofs.Common.{least-same, link_key, link_part, link_part_cmp, on, p_key, seven_land, side_keys, typed_of}
+use Rattle.tl_county.proofs.Common.{distinct-in_order, eight_land, is_repeated, is_unknown, key_cmp, key_keys, least-same, link_key, p_key}
+use Rattle.tl_county.proofs.Common.{seven_land, side_keys, typed_of}
 use Rattle.ordered_lists.proofs.ByKey.KeyedLists.{at_lists}
+use Rattle.tl_county.proofs.Rules.TlidsInOrder.{tables_in_order}
 use Rattle.tl_county.proofs.Rules.RuleOrders.{rule-holds, rule-broken, rules-join, first-after}
-use Rattle.tl_county.proofs.Rules.RuleTests.{in_order-first, unknown-distinct, rule_18, rule_19, rule_20}
+use Rattle.tl_county.proofs.Rules.RuleTests.{unknown-distinct, rule_18, rule_19, rule_20}
 use Rattle.tl_county.proofs.linking.rules.check_landmarks.Goals as goal
 
 -- the least polygon that occurs twice among the type P records, the least LAND that the other table lacks, or none
@@ -15,26 +16,13 @@ Twice points found = IsLeastPassing key_cmp (is_repeated key_cmp (map p_key poin
 abbrev Unknown : {X Y : Type 0} → (X → ℕ) → (Y → ℕ) → Option ℕ → List X → List Y → Type 0
 Unknown number other found xs ys = IsLeastPassing nat_cmp (is_unknown nat_cmp (map number xs) (map other ys)) found
 
-pub least_unknown-requires-clause-items : goal.least_unknown-requires-clause-items
-least_unknown-requires-clause-items c =
-    subst (IsInOrder (on eight_land nat_cmp)) (sym c.deref.ensures.value)
-    (in_order-first (on eight_land nat_cmp) (on link_part link_part_cmp) c.args.tables.now.type_8.items c.requires.tables.type_8)
-
-pub least_unknown-requires-clause-known : goal.least_unknown-requires-clause-known
-least_unknown-requires-clause-known c =
-    subst (IsInOrder (on seven_land nat_cmp)) (sym c.deref-2.ensures.value)
-    (in_order-first (on seven_land nat_cmp)
-    (λ a b. landmark_body_cmp a.body b.body) c.args.tables.now.type_7.items c.requires.tables.type_7)
+pub least_unknown-requires : goal.least_unknown-requires
+least_unknown-requires c = search (rules, tables_in_order)
 
 pub least_unknown-requires-2-clause-known : goal.least_unknown-requires-2-clause-known
 least_unknown-requires-2-clause-known c =
     subst (IsInOrder key_cmp) (sym c.requires.polygons)
     (distinct-in_order key_keys (flat_map side_keys c.args.tables.now.type_i.items ++ map p_key c.args.tables.now.type_p.items))
-
-pub returns-in-Some : goal.returns-in-Some
-returns-in-Some c records e =
-    rule-broken (rule_18 records (typed_of c.args.tables.now) e) c.in-Some.key
-    (subst (Twice c.args.tables.now.type_p.items) c.in-Some.is c.requires.repeated)
 
 -- if no polygon occurs twice, and if no LAND is unknown, the rule holds
 points : (records : List Record) (t : Typed) → by_type records ≡ t → Twice t.of_type_p None → RulesHold records 12 13
@@ -43,14 +31,6 @@ points records t e none = rule-holds (rule_18 records t e) none
 lands : (records : List Record) (t : Typed) → by_type records ≡ t → Unknown eight_land seven_land None t.of_type_8 t.of_type_7
     → RulesHold records 13 14
 lands records t e none = rule-holds (rule_19 records t e) none
-
-pub returns-in-Some-least_unknown : goal.returns-in-Some-least_unknown
-returns-in-Some-least_unknown c records e =
-    first-after records (omega arith)
-    (points records (typed_of c.args.tables.now) e (subst (Twice c.args.tables.now.type_p.items) c.in_default.is c.requires.repeated))
-    (rule-broken (rule_19 records (typed_of c.args.tables.now) e) c.in-Some-least_unknown.land
-    (at_lists (Unknown eight_land seven_land
-    (Some c.in-Some-least_unknown.land)) c.deref.ensures.value c.deref-2.ensures.value c.in-Some-least_unknown.ensures))
 
 -- the polygons asked for and known, as in the lists from which they were gathered
 alike : (linked polygons keys known : List PolygonKey) → IsPermutation keys linked → polygons ≡ distinct key_cmp known

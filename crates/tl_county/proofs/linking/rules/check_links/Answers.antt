@@ -1,12 +1,9 @@
-use Rattle.tl_county.proofs.Common.{typed_of}
-use Rattle.tl_county.proofs.Rules.TlidsInOrder.{tlids_in_order, linked_in_order}
+use Rattle.std.proofs.Common.{rules}
+use Rattle.tl_county.proofs.Rules.TlidsInOrder.{tables_in_order}
 use Rattle.tl_county.proofs.linking.rules.check_links.Goals as goal
 
-pub least_unknown-requires-clause-items : goal.least_unknown-requires-clause-items
-least_unknown-requires-clause-items c = tlids_in_order (typed_of c.args.tables.now) c.requires.tables c.requires.tlids
-
-pub least_unknown-requires-clause-known : goal.least_unknown-requires-clause-known
-least_unknown-requires-clause-known c = linked_in_order (typed_of c.args.tables.now) c.requires.tables c.requires.linked
+pub least_unknown-requires : goal.least_unknown-requires
+least_unknown-requires c = search (rules, tables_in_order)
 
 pub least_repeated-requires : goal.least_repeated-requires
-least_repeated-requires c = linked_in_order (typed_of c.args.tables.now) c.requires.tables c.requires.linked
+least_repeated-requires c = search (rules, tables_in_order)

@@ -1,4 +1,4 @@
-use Rattle.std.proofs.Common.{ℕ, List, map, refl, subst, Option, None, arith}
+use Rattle.std.proofs.Common.{rules, ℕ, List, map, refl, subst, Option, None, arith}
 use Rattle.tl_county.proofs.Common.{IsLeastPassing, Record, RulesHold, Typed, by_type, four_rtsq, four_tlid, is_repeated, sequence_cmp}
 use Rattle.tl_county.proofs.Common.{six_rtsq, six_tlid, two_rtsq, two_tlid}
 use Rattle.tl_county.specs.SequenceKeys.{two_sequence, four_sequence, six_sequence}
@@ -15,8 +15,7 @@ twos : (records : List Record) → Twice two_sequence (by_type records).of_type_
 twos records none = rule-holds (rule_13_two records (by_type records) refl) (no_repeat two_tlid two_rtsq (by_type records).of_type_2 none)
 
 fours : (records : List Record) → Twice four_sequence (by_type records).of_type_4 None → RulesHold records 6 7
-fours records none =
-    rule-holds (rule_13_four records (by_type records) refl) (no_repeat four_tlid four_rtsq (by_type records).of_type_4 none)
+fours records none = search (rules, rule-holds, rule_13_four, no_repeat)
 
 sixes : (records : List Record) → Twice six_sequence (by_type records).of_type_6 None → RulesHold records 7 8
 sixes records none = rule-holds (rule_13_six records (by_type records) refl) (no_repeat six_tlid six_rtsq (by_type records).of_type_6 none)
@@ -46,8 +45,4 @@ returns-in-Some-type_6 c records stated =
     (subst (Twice six_sequence t.of_type_6) c.in-Some-type_6.is stated.type_6))))
 
 pub returns : goal.returns
-returns c records stated =
-    let t : Typed = by_type records in
-    rules-join records (twos records (subst (Twice two_sequence t.of_type_2) c.in_default.is stated.type_2))
-    (rules-join records (fours records (subst (Twice four_sequence t.of_type_4) c.in_default-type_4.is stated.type_4))
-    (sixes records (subst (Twice six_sequence t.of_type_6) c.in_default-type_6.is stated.type_6)))
+returns c records stated = search (rules, rules-join, twos, fours, sixes)

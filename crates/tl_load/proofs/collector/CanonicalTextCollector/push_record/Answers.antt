@@ -1,18 +1,13 @@
-use Rattle.std.proofs.Common.{◌≡◌, ℕ, List, [], ◌∷◌, ◌++◌, Result, Ok, Err, sym, ap, ◌∙◌}
-use Rattle.std.specs.Prelude.{OnOk}
-use Rattle.tl_layout.specs.RecordText.{spelling_of, text_of}
-use Rattle.tl_layout.specs.declared.record_type.Record.{Record}
+use Rattle.std.proofs.Common.{rules, ◌≡◌, ℕ, List, [], ◌∷◌, ◌++◌, Result, Ok, Err}
+use Rattle.tl_load.proofs.Common.{OnOk, Record, text_of}
+use Rattle.tl_layout.specs.RecordText.{spelling_of}
 use Rattle.tl_load.proofs.TextLemmas.{text_of-snoc}
 use Rattle.tl_load.proofs.collector.CanonicalTextCollector.push_record.Goals as goal
 
 extended : {T E : Type 0} (r : Result T E) (before after line : List ℕ) (records : List Record) (added : Record) → before ≡ text_of records
     → spelling_of added ≡ line → OnOk r (after ≡ before ++ (line ++ 10 ∷ [])) → OnOk r (after ≡ text_of (records ++ added ∷ []))
-extended (Ok x) before after line records added held spelled more =
-    more ∙ ap (λ (l : List ℕ). l ++ (line ++ 10 ∷ [])) held ∙ ap (λ (l : List ℕ). text_of records ++ (l ++ 10 ∷ [])) (sym spelled)
-    ∙ sym (text_of-snoc records added)
+extended (Ok x) before after line records added held spelled more = search (rules, text_of-snoc)
 extended (Err e) before after line records added held spelled more = tt
 
 pub returns : goal.returns
-returns g c records held =
-    extended c.append_line.result _ _ (g.L.Layout.spelling c.args.found) records (g.L.Tabled.as_record c.args.found) held
-    (g.met.L.Tabled.spelling_is c.args.found) c.append_line.ensures
+returns g c records held = search (rules, extended)

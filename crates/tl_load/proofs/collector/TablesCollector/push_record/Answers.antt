@@ -1,7 +1,7 @@
-use Rattle.std.specs.Prelude.{OnOk, Result, Ok, Err}
+use Rattle.tl_load.proofs.Common.{OnOk, Record}
+use Rattle.std.specs.Prelude.{Result, Ok, Err}
 use Rattle.std.proofs.Common.{List, ◌∷◌, [], ◌++◌}
 use Rattle.tl_layout.specs.Tables.{HoldsByType, AddsRecord}
-use Rattle.tl_layout.specs.declared.record_type.Record.{Record}
 use Rattle.tl_layout.specs.declared.tables.Tables.{Tables}
 use Rattle.tl_layout.proofs.TableSteps.{holds_with}
 use Rattle.tl_load.proofs.collector.TablesCollector.push_record.Goals as goal

@@ -1,10 +1,5 @@
 use Rattle.std.proofs.Common.{ℕ, List}
-use Rattle.std.specs.Prelude.{All}
-use Rattle.tl_layout.specs.RecordText.{FitsRecord}
-use Rattle.tl_load.specs.Choice.{tiger}
-use Rattle.tl_load.specs.Outcome.{SpellsWithin}
-use Rattle.tl_load.specs.Loaded.{WasFed, all_parts}
-use Rattle.tl_load.specs.Keeping.{WasFedInto}
+use Rattle.tl_load.proofs.Common.{All, FitsRecord, SpellsWithin, WasFed, WasFedInto, all_parts, tiger}
 use Rattle.tl_load.proofs.RecordLines.{spelled_fit}
 use Rattle.tl_load.proofs.Listed.{holds_list, into_of, found_list, also}
 use Rattle.tl_load.proofs.loader.Loader.finish.Goals as goal
@@ -28,6 +23,3 @@ returns-clause-fits c limit closed open_part w =
 pub returns-clause-only : goal.returns-clause-only
 returns-clause-only c limit closed open_part records w a =
     c.finish.ensures.only limit closed open_part records (fed c limit closed open_part w) a
-
-pub returns-clause-fault : goal.returns-clause-fault
-returns-clause-fault c limit closed open_part w = c.finish.ensures.fault limit closed open_part (fed c limit closed open_part w)

@@ -1,20 +1,12 @@
-use Rattle.std.proofs.Common.{ℕ, List, [], ◌∷◌, ◌++◌, Result, Ok, Err, ap, ◌∙◌, ◌⊎◌, inl, inr}
-use Rattle.tl_load.specs.Loaded.{Loaded, WasFed}
-use Rattle.std.specs.Prelude.{MatchResult}
-use Rattle.tl_load.specs.declared.fault.LoadFault.{LoadFault}
-use Rattle.tl_load.specs.Keeping.{LoadedInto, WasFedInto}
-use Rattle.tl_load.proofs.Listed.{Records, holds_list, listed, into_of, of_into, listed_after, at_fault}
+use Rattle.std.proofs.Common.{ℕ, List, [], ◌∷◌, ◌++◌, Result, Ok, Err, ◌⊎◌, inl, inr}
+use Rattle.tl_load.proofs.Common.{LoadFault, LoadedInto, MatchResult, WasFed, WasFedInto}
+use Rattle.tl_load.proofs.Listed.{Records, holds_list, listed, into_of, of_into}
 use Rattle.tl_load.proofs.loader.Loader.read_part.Given as given
 use Rattle.tl_load.proofs.loader.Loader.read_part.Goals as goal
 
 fed : (g : given.Over) (c : goal.After-read_part g) (limit : ℕ) (closed : List (List ℕ)) (open_part : List ℕ)
     → WasFed limit c.args.self.now closed open_part → WasFedInto holds_list limit c.self.inside.inner closed open_part
 fed g c limit closed open_part w = into_of limit c.self.inside.inner closed open_part c.self.invariant (rw (← c.self.view_is) at w)
-
-pub invariant_of-self : goal.invariant_of-self
-invariant_of-self g c =
-    listed_after c.self.inside.inner c.read_part.new.self c.read_part.result c.self.invariant c.read_part.ensures.kept
-    c.read_part.ensures.reported (λ f e. (at_fault _ c.self.inside.inner.fault f e c.read_part.ensures.stood).0)
 
 read : (limit : ℕ) (l : LoadedInto Records) (at_end : Type 0) (closed : List (List ℕ)) (part : List ℕ) (r : Result (Unit {0}) LoadFault)
     → MatchResult r (λ _. at_end × WasFedInto holds_list limit l (closed ++ part ∷ []) [])
@@ -34,15 +26,3 @@ returns-clause-fed g c =
       λ limit closed open_part w. read limit c.read_part.new.self _ closed (open_part ++ r.0) c.read_part.result
           (r.3 limit closed open_part (fed g c limit closed open_part w)),
     )
-
-pub returns-clause-stops : goal.returns-clause-stops
-returns-clause-stops g c none =
-    let s = c.read_part.ensures.stops (ap (λ (l : Loaded). l.fault) c.self.view_is ∙ none) in
-    record {
-      last = s.last;
-      taken = s.taken;
-      gave = s.gave;
-      one_read = s.one_read;
-      should =
-          λ limit closed open_part w. s.should limit closed open_part (fed g c limit closed open_part w);
-    }

@@ -1,5 +1,5 @@
 use Rattle.std.proofs.Common.{◌≡◌, sym, ◌∙◌, arith}
-use Rattle.tl_layout.specs.RecordText.{type_of}
+use Rattle.tl_load.proofs.Common.{type_of}
 use Rattle.tl_load.proofs.Counts.{type_low, adds_full, adds_below, counted_more, total_up, loader_with}
 use Rattle.tl_load.proofs.loader_for.LoaderFor.add.Goals as goal
 

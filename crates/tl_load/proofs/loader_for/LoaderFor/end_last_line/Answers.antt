@@ -1,7 +1,5 @@
 use Rattle.std.proofs.Common.{refl, sym, ap, ◌∙◌}
-use Rattle.tl_load.specs.Lines.{without_return}
-use Rattle.tl_load.specs.Loaded.{Loaded}
-use Rattle.tl_load.specs.Keeping.{seen}
+use Rattle.tl_load.proofs.Common.{Loaded, seen, without_return}
 use Rattle.tl_load.proofs.Steps.{ends_empty, ends_part}
 use Rattle.tl_load.proofs.Views.{opened, empty_is, some_is}
 use Rattle.tl_load.proofs.loader_for.LoaderFor.end_last_line.Goals as goal

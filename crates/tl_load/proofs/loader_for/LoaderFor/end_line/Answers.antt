@@ -1,15 +1,9 @@
-use Rattle.std.proofs.Common.{◌≡◌, ◌≤◌, ◌+◌, ◌*◌, ℕ, Result, Ok, Err, List, [], ◌∷◌, ◌++◌, length, refl, sym, ap, subst, ◌∙◌, arith}
-use Rattle.std.specs.Prelude.{OnOk}
-use Rattle.std.proofs.lemmas.Result.{err_from_is_err_and}
-use Rattle.tl_layout.specs.Bytes.{AreAllowed}
-use Rattle.tl_load.specs.Lines.{IsWithoutLineFeed, without_return}
-use Rattle.tl_load.specs.declared.fault.LoadFault.{LoadFault}
-use Rattle.tl_load.specs.Keeping.{seen, total}
+use Rattle.std.proofs.Common.{rules, ◌≡◌, ◌≤◌, ◌+◌, ◌*◌, ℕ, Result, Ok, Err, [], ◌∷◌, arith}
+use Rattle.tl_load.proofs.Common.{LONGEST_LINE, LoadFault, OnOk, err_from_is_err_and, seen}
 use Rattle.tl_load.proofs.LineLemmas.{clean_without_return, without_return_length}
 use Rattle.tl_load.proofs.Steps.{ends_line, takes_then, fault_then}
 use Rattle.tl_load.proofs.Views.{empty_is}
 use Rattle.tl_load.proofs.loader_for.LoaderFor.end_line.Goals as goal
-use Rattle.tl_layout.specs.declared.layout.TheConstants.{LONGEST_LINE}
 
 -- a judged line has at most 230 bytes with its line ending, so that 230 for each of them is enough
 line_used : {T : Type 0} (r : Result T LoadFault) (line bytes was now open_was : ℕ) → OnOk r (line ≤ LONGEST_LINE) → OnOk r (now ≡ was + 1)
@@ -18,34 +12,13 @@ line_used (Ok x) line bytes was now open_was short one dropped none open_now = o
 line_used (Err f) line bytes was now open_was short one dropped none open_now = tt
 
 pub judge_next-requires-clause-clean : goal.judge_next-requires-clause-clean
-judge_next-requires-clause-clean g c = λ clean.
-    subst AreAllowed (sym c.without_carriage_return.ensures) (clean_without_return c.args.bytes.now (c.requires.clean clean))
+judge_next-requires-clause-clean g c = search (rules, clean_without_return)
 
 pub returns-then-is_empty-clause-takes : goal.returns-then-is_empty-clause-takes
-returns-then-is_empty-clause-takes g c = λ records kept.
-    let none : c.args.self.now.unfinished ≡ [] =
-    rw (← c.self.view_is) (empty_is c.self.inside.line.items (sym c.is_empty.ensures ∙ c.if-is_empty.true)) in
-    let joined : c.args.self.now.unfinished ++ c.args.bytes.now ≡ c.args.bytes.now = ap (λ (l : List ℕ). l ++ c.args.bytes.now) none in
-    let j = c.judge_next.ensures.judges records kept in (
-      j.0,
-      j.1,
-      ends_line (seen c.args.self.now records) (seen c.args.self.now records)
-          (seen c.judge_next.new.self j.0) c.args.bytes.now _ c.judge_next.result
-          (record { records = refl; parts = refl; judged = refl; limit = refl })
-          (c.without_carriage_return.ensures ∙ ap without_return (sym joined)) (subst IsWithoutLineFeed (sym joined) c.requires.no_feed) j.2
-          c.judge_next.ensures.judged (c.judge_next.ensures.unfinished
-          ∙ none) c.judge_next.ensures.same_part.parts c.judge_next.ensures.same_part.limit,
-    )
+returns-then-is_empty-clause-takes g c = search (rules, empty_is, ends_line)
 
 pub returns-then-is_empty-clause-used : goal.returns-then-is_empty-clause-used
-returns-then-is_empty-clause-used g c =
-    let none : c.args.self.now.unfinished ≡ [] =
-    rw (← c.self.view_is) (empty_is c.self.inside.line.items (sym c.is_empty.ensures ∙ c.if-is_empty.true)) in
-    let dropped : length c.args.bytes.now ≤ length c.without_carriage_return.result.now + 1 =
-    omega (arith, without_return_length c.args.bytes.now, ap length c.without_carriage_return.ensures) in
-    line_used c.judge_next.result (length c.without_carriage_return.result.now) (length c.args.bytes.now) (total c.args.self.now.counts)
-    (total c.judge_next.new.self.counts) (length c.args.self.now.unfinished)
-    c.judge_next.ensures.short c.judge_next.ensures.one_more dropped (ap length none) (length c.judge_next.new.self.unfinished)
+returns-then-is_empty-clause-used g c = search (rules, empty_is, without_return_length, line_used)
 
 pub returns-in_err-buffer_bytes-clause-takes : goal.returns-in_err-buffer_bytes-clause-takes
 returns-in_err-buffer_bytes-clause-takes g c =

@@ -1,15 +1,11 @@
-use Rattle.std.proofs.Common.{◌≡◌, ℕ, List, [], ◌∷◌, ◌++◌}
-use Rattle.std.specs.Prelude.{Some, None}
-use Rattle.tl_load.specs.Keeping.{WasFedInto}
-use Rattle.tl_load.proofs.Histories.{fed_closed, fed_closed_standing, reported_at, with_fault_reported, stands_at, some_after}
-use Rattle.tl_load.specs.Steps.{Closes}
+use Rattle.std.proofs.Common.{rules, ◌≡◌, ℕ, List, [], ◌∷◌, ◌++◌}
+use Rattle.tl_load.proofs.Common.{None, Some, WasFedInto}
+use Rattle.tl_load.proofs.Histories.{fed_closed, fed_closed_standing, reported_at, with_fault_reported, stands_at}
 use Rattle.tl_load.proofs.loader_for.LoaderFor.end_part.Given as given
 use Rattle.tl_load.proofs.loader_for.LoaderFor.end_part.Goals as goal
 
 pub returns-in-Some-clause-fed : goal.returns-in-Some-clause-fed
-returns-in-Some-clause-fed g c limit closed open_part w =
-    let stands : c.args.self.now.fault ≡ Some c.in-Some.fault = rw (← c.self.view_is) c.in-Some.is in
-    fed_closed_standing g.K.Collector.holds limit c.args.self.now c.in-Some.fault closed open_part stands w
+returns-in-Some-clause-fed g c limit closed open_part w = search (rules, fed_closed_standing)
 
 pub returns-in-Some-clause-fault : goal.returns-in-Some-clause-fault
 returns-in-Some-clause-fault g c limit closed open_part w =
@@ -34,9 +30,3 @@ returns-clause-fault g c limit closed open_part w =
     rw c.latch.ensures.same (reported_at g.K.Collector.holds limit c.latch.new.self _ _ c.close_part-outcome.result
     (rw c.latch.ensures.stands (with_fault_reported c.close_part-outcome.result c.close_part-outcome.new.self))
     (goes_on g c limit closed open_part w))
-
-pub returns-clause-kept : goal.returns-clause-kept
-returns-clause-kept g c some =
-    rw (c.latch.ensures.same, c.latch.ensures.stands)
-    (some_after g.K.Collector.holds Closes c.args.self.now c.close_part-outcome.new.self c.close_part-outcome.result
-    c.close_part-outcome.ensures.closes some)

@@ -1,15 +1,11 @@
-use Rattle.std.proofs.Common.{◌≡◌, ℕ, List, ◌++◌}
-use Rattle.std.specs.Prelude.{Some, None}
-use Rattle.tl_load.specs.Keeping.{WasFedInto}
-use Rattle.tl_load.specs.Steps.{Takes}
-use Rattle.tl_load.proofs.Histories.{fed_piece, fed_standing, stands_at, reported_at, with_fault_reported, well_of_step, some_after}
+use Rattle.std.proofs.Common.{rules, ◌≡◌, ℕ, List, ◌++◌}
+use Rattle.tl_load.proofs.Common.{None, Some, WasFedInto}
+use Rattle.tl_load.proofs.Histories.{fed_piece, fed_standing, stands_at, reported_at, with_fault_reported, well_of_step}
 use Rattle.tl_load.proofs.loader_for.LoaderFor.feed.Given as given
 use Rattle.tl_load.proofs.loader_for.LoaderFor.feed.Goals as goal
 
 pub returns-in-Some-clause-fed : goal.returns-in-Some-clause-fed
-returns-in-Some-clause-fed g c limit closed open_part w =
-    let stands : c.args.self.now.fault ≡ Some c.in-Some.fault = rw (← c.self.view_is) c.in-Some.is in
-    fed_standing g.K.Collector.holds limit c.args.self.now c.args.piece.now c.in-Some.fault closed open_part stands w
+returns-in-Some-clause-fed g c limit closed open_part w = search (rules, fed_standing)
 
 pub returns-in-Some-clause-fault : goal.returns-in-Some-clause-fault
 returns-in-Some-clause-fault g c limit closed open_part w =
@@ -41,10 +37,3 @@ returns-clause-well g c =
     rw c.latch.ensures.same
     (well_of_step g.K.Collector.holds c.args.self.now c.take_piece-outcome.new.self c.args.piece.now c.take_piece-outcome.result none
     c.take_piece-outcome.ensures.takes c.take_piece-outcome.ensures.short)
-
-pub returns-clause-kept : goal.returns-clause-kept
-returns-clause-kept g c some =
-    rw (c.latch.ensures.same, c.latch.ensures.stands)
-    (some_after g.K.Collector.holds
-    (Takes c.args.piece.now) c.args.self.now c.take_piece-outcome.new.self c.take_piece-outcome.result c.take_piece-outcome.ensures.takes
-    some)

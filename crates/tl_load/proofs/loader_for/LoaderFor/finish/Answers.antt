@@ -1,11 +1,5 @@
-use Rattle.std.proofs.Common.{◌≡◌, ℕ, List, sym, subst}
-use Rattle.std.specs.Prelude.{Some, None}
-use Rattle.std.proofs.lemmas.Result.{err_from_is_err_and}
-use Rattle.tl_layout.specs.declared.record_type.Record.{Record}
-use Rattle.tl_load.specs.Choice.{tiger}
-use Rattle.tl_load.specs.Outcome.{FaultAt}
-use Rattle.tl_load.specs.Loaded.{IsOfLines, all_parts}
-use Rattle.tl_load.specs.Keeping.{LoadedInto, WasFedInto}
+use Rattle.std.proofs.Common.{rules, ◌≡◌, ℕ, List, sym, subst}
+use Rattle.tl_load.proofs.Common.{FaultAt, IsOfLines, LoadedInto, None, Record, WasFedInto, all_parts, err_from_is_err_and, tiger}
 use Rattle.tl_load.proofs.Histories.{finished, finished_fault, finished_standing}
 use Rattle.tl_load.proofs.Reading.{accepted_once, accepted_no_fault}
 use Rattle.tl_load.proofs.RecordLines.{tiger_is_sound}
@@ -15,9 +9,7 @@ use Rattle.tl_load.proofs.loader_for.LoaderFor.finish.Goals as goal
 stood : (g : given.Over) (c : goal.After-drop-self-inside g) (limit : ℕ) (closed : List (List ℕ)) (open_part : List ℕ)
     → WasFedInto g.K.Collector.holds limit c.args.self closed open_part → IsOfLines c.in-Some.fault
     → FaultAt tiger limit (all_parts closed open_part) c.in-Some.fault
-stood g c limit closed open_part w =
-    let stands : c.args.self.fault ≡ Some c.in-Some.fault = rw (← c.self.view_is) c.in-Some.is in
-    finished_standing g.K.Collector.holds limit c.args.self c.in-Some.fault closed open_part stands w
+stood g c limit closed open_part w = search (rules, finished_standing)
 
 pub returns-in-Some-clause-fault : goal.returns-in-Some-clause-fault
 returns-in-Some-clause-fault g c = stood g c

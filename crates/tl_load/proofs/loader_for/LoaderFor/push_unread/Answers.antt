@@ -1,9 +1,5 @@
-use Rattle.std.proofs.Common.{◌≡◌, List, [], ◌+◌, ◌∷◌, ◌++◌, Result, refl, sym, ap, ◌∙◌, arith}
-use Rattle.tl_layout.specs.RecordText.{type_of}
-use Rattle.tl_layout.specs.declared.record_type.Record.{Record}
-use Rattle.tl_load.specs.Choice.{tiger, as_record}
-use Rattle.tl_load.specs.Outcome.{after_verdict}
-use Rattle.tl_load.specs.declared.fault.LineFault.{LineFault}
+use Rattle.std.proofs.Common.{◌≡◌, [], ◌+◌, ◌∷◌, ◌++◌, refl, sym, ap, ◌∙◌, arith}
+use Rattle.tl_load.proofs.Common.{after_verdict, as_record, tiger, type_of}
 use Rattle.tl_load.proofs.Counts.{adds_below, counted_more, total_up, loader_with}
 use Rattle.tl_load.proofs.TextLemmas.{judged_full_line}
 use Rattle.tl_load.proofs.loader_for.LoaderFor.push_unread.Goals as goal

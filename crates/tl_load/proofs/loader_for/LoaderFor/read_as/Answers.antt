@@ -1,15 +1,11 @@
-use Rattle.std.proofs.Common.{◌≤◌, length, arith, sym}
+use Rattle.std.proofs.Common.{rules}
 use Rattle.tl_load.proofs.LineLaws.{judged_short}
 use Rattle.tl_load.proofs.Steps.{place_not_device}
 use Rattle.tl_load.proofs.Views.{on_ok_by}
 use Rattle.tl_load.proofs.loader_for.LoaderFor.read_as.Goals as goal
-use Rattle.tl_layout.specs.declared.layout.TheConstants.{LONGEST_LINE}
 
 pub returns-in-Ok-clause-short : goal.returns-in-Ok-clause-short
-returns-in-Ok-clause-short g c =
-    let most = judged_short g.L.Layout.LEN g.L.Layout.reading c.args.line.now c.in-Ok.found (sym c.in-Ok.ensures) in
-    let short : length c.args.line.now ≤ LONGEST_LINE = omega (arith, most, g.met.L.Layout.bounded.1) in
-    on_ok_by c.add.result short
+returns-in-Ok-clause-short g c = search (rules, judged_short, on_ok_by)
 
 pub returns-in-Err-clause-no_device : goal.returns-in-Err-clause-no_device
 returns-in-Err-clause-no_device g c = place_not_device _ _ _ _ c.at.ensures

@@ -1,10 +1,8 @@
 use Rattle.std.proofs.Common.{◌≡◌, ℕ, List, [], sym, subst, append-nil, inr, arith}
-use Rattle.std.specs.Prelude.{None}
+use Rattle.tl_load.proofs.Common.{None, WasFedInto}
 use Rattle.std.specs.Io.KnownBytes.{IsAtEnd}
-use Rattle.tl_load.specs.Keeping.{WasFedInto}
 use Rattle.tl_load.proofs.ReadSteps.{gave_none}
-use Rattle.tl_load.specs.Steps.{ReadsPart}
-use Rattle.tl_load.proofs.Histories.{fed_read, well_after, some_after}
+use Rattle.tl_load.proofs.Histories.{fed_read, well_after}
 use Rattle.tl_load.proofs.loader_for.LoaderFor.read_part_by.Goals as goal
 
 pub returns-in-Some-clause-fed : goal.returns-in-Some-clause-fed
@@ -41,12 +39,3 @@ returns-in-None-clause-stops g c none =
       should = λ limit closed open_part w. well_after {T =
           Unit {0}} g.K.Collector.holds tt limit c.args.self.now s.should.after s.taken closed open_part none s.should.takes s.should.short w;
     }
-
-pub returns-in-None-clause-kept : goal.returns-in-None-clause-kept
-returns-in-None-clause-kept g c some =
-    let r = c.read_to_end-outcome.ensures.reads in
-    rw (c.latch.ensures.same, c.latch.ensures.stands)
-    (some_after g.K.Collector.holds
-    (ReadsPart r.0 (IsAtEnd
-    (g.R.Source.remaining c.read_to_end-outcome.new.source))) c.args.self.now c.read_to_end-outcome.new.self c.read_to_end-outcome.result
-    r.3 some)

@@ -1,15 +1,10 @@
 use Rattle.std.proofs.Common.{◌≡◌, ℕ, ◌≤◌, ◌<◌, [], ◌++◌, length, take, refl, sym, ap, subst, ◌∙◌, arith}
-use Rattle.std.proofs.lemmas.Result.{err_from_is_err_and}
-use Rattle.std.proofs.lemmas.List.{length-append, length-take}
-use Rattle.std.specs.Io.KnownBytes.{Consumes}
-use Rattle.tl_load.specs.Sources.{RoseBy}
-use Rattle.tl_load.specs.Lines.{IsWithoutLineFeed}
-use Rattle.tl_load.specs.Keeping.{seen, bytes_used}
+use Rattle.tl_load.proofs.Common.{Consumes, IsWithoutLineFeed, LINE_BYTES, MOST_BYTES, RoseBy, bytes_used, err_from_is_err_and}
+use Rattle.tl_load.proofs.Common.{length-append, length-take, seen}
 use Rattle.tl_load.proofs.Counts.{most_records}
-use Rattle.tl_load.proofs.ReadSteps.{gave_none, gave_more, gave_same, gave_kept, stopped}
+use Rattle.tl_load.proofs.ReadSteps.{gave_none, gave_more, gave_same}
 use Rattle.tl_load.proofs.Steps.{takes_none, takes_both, reads_closed, reads_fault}
 use Rattle.tl_load.proofs.loader_for.LoaderFor.read_to_end.Goals as goal
-use Rattle.tl_load.specs.declared.loader_for.TheConstants.{LINE_BYTES, MOST_BYTES}
 
 pub loop-count-init : goal.loop-count-init
 loop-count-init g c =
@@ -26,20 +21,6 @@ loop-count-init g c =
       short = short;
       failures = refl;
     }
-
-pub returns-in-Err-clause-reads : goal.returns-in-Err-clause-reads
-returns-in-Err-clause-reads g c =
-    let r = c.loop-count.invariant.reads in (
-      r.0,
-      gave_kept _ _ _ _ _ _ r.1 c.in-Err.ensures.bytes c.in-Err.ensures.given,
-      omega (arith, r.2, c.loop-count.invariant.most),
-      λ records kept. (records, tt, λ is. absurd is),
-    )
-
-pub returns-in-Err-clause-stops : goal.returns-in-Err-clause-stops
-returns-in-Err-clause-stops g c =
-    let i = c.loop-count.invariant in
-    stopped g.R.Source.remaining g.R.Source.given g.R.Source.reads g.K.Collector.holds _ _ _ _ _ _ i.reads.1 i.reads.3 i.short c.in-Err.ensures.reads
 
 pub returns-then-count-eq0-clause-reads : goal.returns-then-count-eq0-clause-reads
 returns-then-count-eq0-clause-reads g c =
@@ -64,11 +45,6 @@ returns-then-count-eq0-clause-reads g c =
                 (seen c.close_part.new.self u.0) r.0 _ c.close_part.result t.2 u.2 at_end,
           ),
     )
-
-pub returns-then-count-eq0-clause-stops : goal.returns-then-count-eq0-clause-stops
-returns-then-count-eq0-clause-stops g c =
-    let i = c.loop-count.invariant in
-    stopped g.R.Source.remaining g.R.Source.given g.R.Source.reads g.K.Collector.holds _ _ _ _ _ _ i.reads.1 i.reads.3 i.short c.in-Ok.ensures.reads
 
 pub loop-count-preserved : goal.loop-count-preserved
 loop-count-preserved g c =
@@ -121,8 +97,3 @@ returns-in_err-take_piece-clause-reads g c =
                 (seen c.take_piece.new.self u.0) r.0 piece _ _ t.2 u.2,
           ),
     )
-
-pub returns-in_err-take_piece-clause-stops : goal.returns-in_err-take_piece-clause-stops
-returns-in_err-take_piece-clause-stops g c =
-    let i = c.loop-count.invariant in
-    stopped g.R.Source.remaining g.R.Source.given g.R.Source.reads g.K.Collector.holds _ _ _ _ _ _ i.reads.1 i.reads.3 i.short c.in-Ok.ensures.reads

@@ -1,9 +1,6 @@
 use Rattle.std.proofs.Common.{◌≡◌, ℕ, ◌+◌, ◌-◌, ◌≤◌, List, length, Ok}
-use Rattle.tl_load.specs.Sources.{Gave}
-use Rattle.tl_load.specs.Keeping.{Lifts, IsSamePart, bytes_used}
-use Rattle.tl_load.specs.Steps.{Takes}
+use Rattle.tl_load.proofs.Common.{Gave, IsSamePart, LINE_BYTES, Lifts, MOST_BYTES, Takes, bytes_used}
 use Rattle.tl_load.proofs.loader_for.LoaderFor.read_to_end.Given as goal
-use Rattle.tl_load.specs.declared.loader_for.TheConstants.{LINE_BYTES, MOST_BYTES}
 
 abbrev pub invariant-loop-count : goal.invariant-loop-count
 invariant-loop-count g l = record {

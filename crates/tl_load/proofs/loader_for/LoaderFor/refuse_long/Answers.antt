@@ -1,15 +1,10 @@
-use Rattle.std.proofs.Common.{◌≡◌, ◌<◌, ◌≤◌, ℕ, ◌+◌, ◌-◌, List, ◌++◌, length, take, drop, arith, refl, sym, ap, ◌∙◌}
-use Rattle.std.proofs.Common.{append_assoc, false}
-use Rattle.std.proofs.lemmas.List.{take-append-drop, length-append, length-take, length-drop}
+use Rattle.std.proofs.Common.{◌≡◌, ◌<◌, ◌≤◌, ℕ, ◌+◌, ◌-◌, List, ◌++◌, length, take, drop, arith, refl, sym, ap, ◌∙◌, append_assoc, false}
+use Rattle.tl_load.proofs.Common.{LINE_BYTES, LONGEST_LINE, Loaded, is_line_feed, length-append, length-drop, length-take, seen}
+use Rattle.tl_load.proofs.Common.{take-append-drop}
 use Rattle.std.proofs.lemmas.List.Elements.{All-append}
-use Rattle.tl_load.specs.Lines.{is_line_feed}
-use Rattle.tl_load.specs.Loaded.{Loaded}
-use Rattle.tl_load.specs.Keeping.{seen}
 use Rattle.tl_load.proofs.Steps.{refuses}
 use Rattle.tl_load.proofs.Views.{opened, on_ok_of}
 use Rattle.tl_load.proofs.loader_for.LoaderFor.refuse_long.Goals as goal
-use Rattle.tl_load.specs.declared.loader_for.TheConstants.{LINE_BYTES}
-use Rattle.tl_layout.specs.declared.layout.TheConstants.{LONGEST_LINE}
 
 pub returns-clause-takes : goal.returns-clause-takes
 returns-clause-takes g c =

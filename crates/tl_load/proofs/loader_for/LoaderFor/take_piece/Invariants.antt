@@ -1,5 +1,5 @@
 use Rattle.std.proofs.Common.{◌+◌, ◌≤◌, length, Ok}
-use Rattle.tl_load.specs.Keeping.{Lifts, IsSamePart, bytes_used}
+use Rattle.tl_load.proofs.Common.{IsSamePart, Lifts, bytes_used}
 use Rattle.tl_load.specs.Steps.{LeavesRestOnOk}
 use Rattle.tl_load.proofs.loader_for.LoaderFor.take_piece.Given as goal
 

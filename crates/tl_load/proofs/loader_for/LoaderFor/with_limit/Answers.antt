@@ -1,3 +1,4 @@
+use Rattle.std.proofs.Common.{rules}
 use Rattle.tl_load.proofs.Counts.{empty_loader}
 use Rattle.tl_load.proofs.Histories.{fed_nothing}
 use Rattle.tl_load.proofs.loader_for.LoaderFor.with_limit.Goals as goal
@@ -6,6 +7,4 @@ pub invariant_of-result : goal.invariant_of-result
 invariant_of-result g c = rw (c.no_counts.ensures, c.new.ensures) (empty_loader c.args.limit c.requires.most)
 
 pub returns-clause-fed : goal.returns-clause-fed
-returns-clause-fed g c =
-    fed_nothing g.K.Collector.holds c.args.limit c.empty.result c.no_counts.result c.new.result.items c.empty.ensures c.no_counts.ensures
-    c.new.ensures
+returns-clause-fed g c = search (rules, fed_nothing)

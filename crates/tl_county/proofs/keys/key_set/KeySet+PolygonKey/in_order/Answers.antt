@@ -1,11 +1,6 @@
-use Rattle.std.proofs.Common.{ap, ◌∙◌}
-use Rattle.tl_county.proofs.Common.{distinct, key_cmp}
-use Rattle.std.proofs.lemmas.Result.{IfOk-weaker}
+use Rattle.std.proofs.Common.{rules}
 use Rattle.tl_county.proofs.ByKey.PolygonSets.{keys_themselves}
 use Rattle.tl_county.proofs.keys.key_set.KeySet+PolygonKey.in_order.Goals as goal
 
 pub returns : goal.returns
-returns c =
-    IfOk-weaker c.distinct_polygons.result _ _
-    (λ keys e. e ∙ ap (distinct key_cmp) (keys_themselves c.as_slice-keys.result.now ∙ c.as_slice-keys.ensures.keys))
-    c.distinct_polygons.ensures
+returns c = search (rules, keys_themselves)

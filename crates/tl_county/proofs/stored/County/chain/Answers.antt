@@ -1,6 +1,0 @@
-use Rattle.std.proofs.Common.{sym, ap, ◌∙◌, nat_cmp}
-use Rattle.tl_county.proofs.Common.{map_values-id, value_under}
-use Rattle.tl_county.proofs.stored.County.chain.Goals as goal
-
-pub returns : goal.returns
-returns c = c.get.ensures ∙ ap (value_under nat_cmp c.args.tlid) (sym (map_values-id c.args.self.now.chains))
