@@ -1,15 +1,15 @@
 -- The county depends on the packing of types 2 and 4 and on RTSQs only through the contents in their order.
-use Rattle.std.proofs.Common.{rules, arith, ◌≡◌, ◌<◌, ℕ, ◌==◌, List, [], ◌∷◌, ◌++◌, map, flat_map, filter_map, cond, Option, Some, None}
+use Rattle.std.proofs.Common.{not, ◌&&◌, rules, arith, ◌≡◌, ◌<◌, ℕ, ◌==◌, List, [], ◌∷◌, ◌++◌, map, flat_map, filter_map, cond, Option, Some, None}
 use Rattle.std.proofs.Common.{option_map, Ordering, Less, Equal, Greater, is_gt, sym, refl, ap, ap₂, ◌∙◌, nat_cmp, IsTrue, nat_lt, ◌||◌}
-use Rattle.tl_county.proofs.Common.{common_steps, AllByRecursion, ChainTwice, Eight, Fields1, Fields2, Fields4, Fields6, FieldsI, Five}
-use Rattle.tl_county.proofs.Common.{IsLinked, LandUnknown, LinkFault, LinkMissing, LinkTwice, LinkedType, Memory, NameTwice, NameUnknown}
-use Rattle.tl_county.proofs.Common.{NoChain, One, P, PolygonTwice, PolygonUnknown, Record, SequenceBroken, SequencedType, Seven, Typed}
-use Rattle.tl_county.proofs.Common.{all-in_order, all_known, all_map, by_type, chain_of, chains_of, cons_option, county_of, five_feat}
-use Rattle.tl_county.proofs.Common.{four_rtsq, four_tlid, further_names, further_ranges, has_repeat, i_tlid, in_order, is_rule_broken}
-use Rattle.tl_county.proofs.Common.{key_cmp, linked_tlids, lt-ltb, map-map, map_agree_all, map_agree_everywhere, named_feats, nat_cmp_total}
-use Rattle.tl_county.proofs.Common.{nat_keys, of_number, of_type_2, of_type_4, of_type_6, on, one_tlid, p_key, polygons_of, put_in_order}
-use Rattle.tl_county.proofs.Common.{rtsqs, shape_points, six_rtsq, six_tlid, stands_in, tied_itself, times, two_rtsq, two_tlid}
-use Rattle.tl_county.proofs.Common.{as_type}
+use Rattle.tl_county.proofs.Common.{eight_land, seven_land, link_key, side_keys, common_steps, AllByRecursion, ChainTwice, Eight}
+use Rattle.tl_county.proofs.Common.{Fields1, Fields2, Fields4, Fields6, FieldsI, Five, IsLinked, LandUnknown, LinkFault, LinkMissing}
+use Rattle.tl_county.proofs.Common.{LinkTwice, LinkedType, Memory, NameTwice, NameUnknown, NoChain, One, P, PolygonTwice}
+use Rattle.tl_county.proofs.Common.{PolygonUnknown, Record, SequenceBroken, SequencedType, Seven, Typed, all-in_order, all_known}
+use Rattle.tl_county.proofs.Common.{all_map, by_type, chain_of, chains_of, cons_option, county_of, five_feat, four_rtsq, four_tlid}
+use Rattle.tl_county.proofs.Common.{further_names, further_ranges, has_repeat, i_tlid, in_order, is_rule_broken, key_cmp, linked_tlids}
+use Rattle.tl_county.proofs.Common.{lt-ltb, map-map, map_agree_all, map_agree_everywhere, named_feats, nat_cmp_total, nat_keys}
+use Rattle.tl_county.proofs.Common.{of_number, of_type_2, of_type_4, of_type_6, on, one_tlid, p_key, polygons_of, put_in_order, rtsqs}
+use Rattle.tl_county.proofs.Common.{shape_points, six_rtsq, six_tlid, stands_in, tied_itself, times, two_rtsq, two_tlid, as_type}
 use Rattle.std.proofs.lemmas.Bool.{cases_order}
 use Rattle.std.specs.Ordering.{ordering_reverse}
 use Rattle.tl_layout.specs.declared.record_type.Record.TheVariants.{Two, Four, Six, I}
@@ -237,15 +237,22 @@ module _ (q : Sequence) (xs : List Record) (up : KeepsSequence q xs) where
   same_broken : (f : LinkFault) → is_rule_broken ys f ≡ is_rule_broken xs f
   unfolding ys
   same_broken (ChainTwice n) = λ i. nat_lt 1 (times nat_cmp n (map one_tlid (keeps_rest xs i).of_type_1))
-  same_broken (NoChain t n) = search (rules, linked_same, keeps_rest)
+  same_broken (NoChain t n) = λ i. stands_in nat_cmp n (linked_same t i) && not
+      (stands_in nat_cmp n (map one_tlid (keeps_rest xs i).of_type_1))
   same_broken (SequenceBroken t n) = sequence_same t n
-  same_broken (LinkMissing n) = search (rules, keeps_rest)
+  same_broken (LinkMissing n) = λ i.
+      stands_in nat_cmp n (map one_tlid (keeps_rest xs i).of_type_1) && not (stands_in nat_cmp n (map i_tlid (keeps_rest xs i).of_type_i))
   same_broken (LinkTwice n) = λ i. nat_lt 1 (times nat_cmp n (map i_tlid (keeps_rest xs i).of_type_i))
   same_broken (NameTwice n) = λ i. nat_lt 1 (times nat_cmp n (map five_feat (keeps_rest xs i).of_type_5))
-  same_broken (NameUnknown n y) = search (rules, named_same, keeps_rest)
+  same_broken (NameUnknown n y) = λ i. stands_in nat_cmp y (named_same n i) && not
+      (stands_in nat_cmp y (map five_feat (keeps_rest xs i).of_type_5))
   same_broken (PolygonTwice c k) = λ i. nat_lt 1 (times key_cmp (c, k) (map p_key (keeps_rest xs i).of_type_p))
-  same_broken (LandUnknown n) = search (rules, keeps_rest)
-  same_broken (PolygonUnknown c k) = search (rules, keeps_rest)
+  same_broken (LandUnknown n) = λ i.
+      stands_in nat_cmp n (map eight_land (keeps_rest xs i).of_type_8) && not
+      (stands_in nat_cmp n (map seven_land (keeps_rest xs i).of_type_7))
+  same_broken (PolygonUnknown c k) = λ i.
+      stands_in key_cmp (c, k) (map link_key (keeps_rest xs i).of_type_8) && not
+      (stands_in key_cmp (c, k) (flat_map side_keys (keeps_rest xs i).of_type_i ++ map p_key (keeps_rest xs i).of_type_p))
   same_broken Memory = refl
 
   pub resequenced-linked : IsLinked xs → IsLinked (map (resequenced q) xs)
