@@ -28,7 +28,10 @@ judged_of t line = judged_as (line_length t) (reading_of t) line
 
 -- what a layout promises about its reading
 layout_reading : (t : RecordType) → Reading (byte_of t) (line_length t) (reading_of t) (SpellsFields t)
-layout_reading t = search (rules, layout_laws)
+layout_reading t = record {
+  found = λ l r is e. ((layout_laws t).reads_spelled l r is e).1;
+  only = λ l r is h. (layout_laws t).spelled_is_read l r is h;
+}
 
 -- a line with a record of a type is a line of that type
 line_of_type : (t : RecordType) (line : List ℕ) (fields : FieldsOf t)
