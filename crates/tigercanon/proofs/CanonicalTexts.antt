@@ -1,9 +1,8 @@
 -- The canonical text of records that were read, and why there may be none.
-use Rattle.tigercanon.proofs.Common.{◌≡◌, ◌∙◌, ℕ, List, Result, Ok, Err, [], ◌∷◌, subst, sym, ◌+◌, ◌++◌, ◌<◌, length, take}
-use Rattle.tigercanon.proofs.Common.{MatchResult, if◌then◌else◌, is_ok, WriteFault, text_of, Record, County, county_of, IsCounty}
-use Rattle.tigercanon.proofs.Common.{packed, Renumbering, Carries, packed_county, IsSight, IsOnlyTextThrough, StopsShort}
-use Rattle.tigercanon.proofs.Common.{CarriesSetThrough, IsAcceptedSet, IsCanonSetThrough, IsCanonicalTextThrough}
-use Rattle.tigercanon.proofs.Common.{IsOneCanonicalTextThrough}
+use Rattle.tigercanon.proofs.Common.{◌≡◌, ◌∙◌, ℕ, List, Result, Ok, Err, [], ◌∷◌, subst, sym, ◌+◌, ◌++◌, ◌<◌, length, take, MatchResult}
+use Rattle.tigercanon.proofs.Common.{if◌then◌else◌, is_ok, WriteFault, text_of, Record, County, county_of, IsCounty, packed}
+use Rattle.tigercanon.proofs.Common.{Renumbering, Carries, packed_county, IsSight, IsOnlyTextThrough, StopsShort, CarriesSetThrough}
+use Rattle.tigercanon.proofs.Common.{IsAcceptedSet, IsCanonSetThrough, IsCanonicalTextThrough, IsOneCanonicalTextThrough}
 use Rattle.std.proofs.Common.{IfOk, IfErr}
 use Rattle.tigercanon.specs.Normalising.{GoesOut}
 use Rattle.tigercanon.proofs.Sets.{one_text, only_text, text_accepted, text_itself}

@@ -1,7 +1,6 @@
 -- The bytes of a source that was read to its end, and the fault that is then recorded.
-use Rattle.tigercanon.proofs.Common.{◌≡◌, ◌≢◌, ℕ, ◌+◌, ◌%◌, ◌^◌, List, ◌++◌, Option, Some, None, Result, Ok, Err, append-nil, refl}
-use Rattle.tigercanon.proofs.Common.{sym, ap, subst, ◌∙◌, IfSome, OnOk, Consumes, IsAtEnd, RoseBy, LoadFault, IsNotDevice}
-use Rattle.tigercanon.proofs.Common.{is_device_fault}
+use Rattle.tigercanon.proofs.Common.{◌≡◌, ◌≢◌, ℕ, ◌+◌, ◌%◌, ◌^◌, List, ◌++◌, Option, Some, None, Result, Ok, Err, append-nil, refl, sym}
+use Rattle.tigercanon.proofs.Common.{ap, subst, ◌∙◌, IfSome, OnOk, Consumes, IsAtEnd, RoseBy, LoadFault, IsNotDevice, is_device_fault}
 use Rattle.std.proofs.Common.{add_assoc}
 use Rattle.std.proofs.Math.Nat.{mod-add-mod}
 use Rattle.std.specs.Prelude.{false, IfErr}

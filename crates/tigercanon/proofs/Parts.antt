@@ -1,8 +1,7 @@
 -- Slices of bytes as the parts of a set.
 use Rattle.tigercanon.proofs.Common.{◌≡◌, ℕ, suc, ◌<◌, ◌+◌, List, [], ◌∷◌, ◌++◌, length, take, get_or, map, ap, sym, ◌∙◌, subst}
 use Rattle.tigercanon.proofs.Common.{append-nil, map-append, empty_fault, tiger, IsFaultHowever, LoadFault, record_limit, IsFirstFault}
-use Rattle.std.proofs.Common.{drop, Bor}
-use Rattle.std.proofs.Common.{append_assoc}
+use Rattle.std.proofs.Common.{drop, Bor, append_assoc}
 use Rattle.std.proofs.Math.Seq.{drop-cons}
 use Rattle.std.proofs.lemmas.List.{take_more, take-append-drop}
 

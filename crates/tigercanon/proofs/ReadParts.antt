@@ -2,8 +2,7 @@
 use Rattle.tigercanon.proofs.Common.{◌≡◌, ℕ, suc, ◌+◌, ◌<◌, ◌%◌, ◌^◌, List, [], ◌∷◌, ◌++◌, length, get_or, Option, Some, None, inl}
 use Rattle.tigercanon.proofs.Common.{inr, refl, sym, ap, ◌∙◌, subst, arith, Consumes, IsAtEnd, Record, LoadedInto, WasFedInto, Gave}
 use Rattle.tigercanon.proofs.Common.{AreRead, AreReadUpTo, IsUnread, NoneFailed, OneFailed, SomeUnread, record_limit}
-use Rattle.std.proofs.Common.{zero}
-use Rattle.std.proofs.Common.{add-zero}
+use Rattle.std.proofs.Common.{zero, add-zero}
 use Rattle.std.proofs.Math.ListN.{set}
 use Rattle.std.proofs.Math.Seq.{map-set_same}
 

@@ -3,8 +3,7 @@ use Rattle.tigercanon.proofs.Common.{◌≡◌, ◌≢◌, ◌⊎◌, ◌<◌, �
 use Rattle.tigercanon.proofs.Common.{Option, arith, MatchResult, OnOk, Device, Mask, Job, Compare, Fault, Load, Link, Profile, Write}
 use Rattle.tigercanon.proofs.Common.{Memory, Ending, Done, Stopped, Opened, IsOfNoLines, GivenOutput, GivenSet, HoldsAccepted}
 use Rattle.tigercanon.proofs.Common.{ReportsSet, fault_line, IsOfMissing, Does, LeavesStopped, ReportsFor}
-use Rattle.std.proofs.Common.{Contains, IfErr}
-use Rattle.std.proofs.Common.{lit<}
+use Rattle.std.proofs.Common.{Contains, IfErr, lit<}
 use Rattle.tl_county.specs.declared.fault.LinkFault.TheVariants.{Memory as LinkMemory}
 use Rattle.tl_load.specs.declared.fault.LoadFault.TheVariants.{Memory as LoadMemory}
 use Rattle.tl_profile.specs.declared.fault.ProfileFault.TheVariants.{Memory as ProfileMemory}

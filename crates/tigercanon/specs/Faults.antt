@@ -2,8 +2,7 @@
 use Rattle.std.specs.Prelude.{ℕ, ◌≢◌, List}
 use Rattle.tl_layout.specs.declared.record_type.Record.{Record}
 use Rattle.tl_load.specs.Loaded.{IsOfLines}
-use Rattle.tl_load.specs.declared.fault.LoadFault.TheVariants.{Device}
-use Rattle.tl_load.specs.declared.fault.LoadFault.TheVariants.{Memory as LoadMemory}
+use Rattle.tl_load.specs.declared.fault.LoadFault.TheVariants.{Device, Memory as LoadMemory}
 use Rattle.tl_county.specs.County.{county_of}
 use Rattle.tl_county.specs.LinkRules.{IsLinked, IsFirstBrokenRule}
 use Rattle.tl_county.specs.declared.fault.LinkFault.TheVariants.{Memory as LinkMemory}

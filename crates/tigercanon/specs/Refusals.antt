@@ -9,8 +9,7 @@ use Rattle.tl_county.specs.Reports.{link_report}
 use Rattle.tl_profile.specs.Reports.{profile_report}
 use Rattle.tl_write.specs.Reports.{write_report}
 use Rattle.command_line.specs.declared.plans.PlanFault.{PlanFault}
-use Rattle.command_line.specs.declared.plans.PlanFault.TheVariants.{Usage}
-use Rattle.command_line.specs.declared.plans.PlanFault.TheVariants.{Memory as PlanMemory}
+use Rattle.command_line.specs.declared.plans.PlanFault.TheVariants.{Usage, Memory as PlanMemory}
 use Rattle.tigercanon.specs.declared.fault.Fault.{Fault}
 use Rattle.tigercanon.specs.declared.fault.Fault.TheVariants.{Load, Link, Profile, Write, Memory}
 

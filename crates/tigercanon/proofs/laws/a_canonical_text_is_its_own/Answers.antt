@@ -5,8 +5,5 @@ use Rattle.tigercanon.proofs.laws.a_canonical_text_is_its_own.Goals as goal
 pub returns-clause-accepted : goal.returns-clause-accepted
 returns-clause-accepted c = text_accepted plain plain_sight
 
-pub returns-clause-same : goal.returns-clause-same
-returns-clause-same c = λ parts text h. h.canonical_of.same
-
 pub returns-clause-itself : goal.returns-clause-itself
 returns-clause-itself c = text_itself plain plain_sight

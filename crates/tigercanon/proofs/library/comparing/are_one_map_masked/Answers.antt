@@ -1,6 +1,6 @@
 use Rattle.std.proofs.Common.{refl}
-use Rattle.tigercanon.proofs.CanonicalTexts.{err_holds, if_err_by, ok_holds}
-use Rattle.tigercanon.proofs.Reported.{one_no_device, one_refused, one_succeeds}
+use Rattle.tigercanon.proofs.CanonicalTexts.{if_err_by, ok_holds}
+use Rattle.tigercanon.proofs.Reported.{one_refused, one_succeeds}
 use Rattle.tigercanon.proofs.library.comparing.are_one_map_masked.Goals as goal
 
 pub returns-clause-same : goal.returns-clause-same
@@ -11,10 +11,6 @@ returns-clause-different c = λ reported. ok_holds _ _ _ reported (c.compare_unl
 
 pub returns-clause-refused : goal.returns-clause-refused
 returns-clause-refused c = if_err_by c.compare_unlinked.result (one_refused _ _) (c.compare_unlinked.ensures.refused _ _ refl refl)
-
-pub returns-clause-no_device : goal.returns-clause-no_device
-returns-clause-no_device c = λ set e.
-    one_no_device _ _ set (err_holds _ c.compare_unlinked.result _ e (c.compare_unlinked.ensures.refused _ _ refl refl))
 
 pub returns-clause-succeeds : goal.returns-clause-succeeds
 returns-clause-succeeds c = if_err_by c.compare_unlinked.result (one_succeeds _ _) (c.compare_unlinked.ensures.refused _ _ refl refl)

@@ -1,4 +1,4 @@
-use Rattle.tigercanon.proofs.Common.{◌∙◌, rules, subst, sym, err_from_is_err_and, County, IsFirstBrokenClause}
+use Rattle.tigercanon.proofs.Common.{◌∙◌, subst, sym, err_from_is_err_and, County, IsFirstBrokenClause}
 use Rattle.tl_county.specs.CountyRules.{is_without_chain}
 use Rattle.ordered_lists.specs.Keyed.{IsLeastPassing}
 use Rattle.tl_county.specs.PolygonKeys.{key_cmp}
@@ -17,8 +17,3 @@ returns-in_err-admit_linked-clause-refused c =
       subst (λ (county : County). IsFirstBrokenClause county c.in_err-admit_linked.field-0.0) (c.in_ok-county.ensures.county ∙ linked.1)
           (c.in_err-admit_linked.ensures.broken ne),
     ))
-
-pub returns-clause-seen : goal.returns-clause-seen
-returns-clause-seen c = λ parts set.
-    let is = c.in_ok-county.ensures.county ∙ set.2.1 in
-    record { records = set.0; accepted = record { spelled = set.1; accepted = search rules }; county_is = search rules }

@@ -1,19 +1,6 @@
-use Rattle.std.proofs.lemmas.Result.{err_from_is_err_and}
 use Rattle.tigercanon.proofs.Masking.{seen_acceptable}
-use Rattle.tigercanon.proofs.Refusing.{linked_refused}
 use Rattle.tigercanon.proofs.library.linked.judge.Goals as goal
 
 pub returns-clause-accepted : goal.returns-clause-accepted
 returns-clause-accepted g c = λ parts says.
     seen_acceptable parts _ (c.in_ok-admitted_county.ensures.seen parts (c.in_ok-linked.ensures.linked parts says))
-
-pub returns-in_err-linked-clause-refused : goal.returns-in_err-linked-clause-refused
-returns-in_err-linked-clause-refused g c = λ parts says.
-    let p = err_from_is_err_and c.from_residual.result c.from_residual.ensures.1 in
-    rw (p.1, p.2) (c.in_err-linked.ensures.refused parts says)
-
-pub returns-in_err-admitted_county-clause-refused : goal.returns-in_err-admitted_county-clause-refused
-returns-in_err-admitted_county-clause-refused g c = λ parts says.
-    let p = err_from_is_err_and c.from_residual-in_err-admitted_county.result c.from_residual-in_err-admitted_county.ensures.1 in
-    rw (p.1, p.2) (linked_refused parts c.in_ok-linked.linked (c.in_ok-linked.ensures.linked parts says)
-    c.in_err-admitted_county.field-0.0 c.in_err-admitted_county.ensures.refused)

@@ -17,11 +17,6 @@ pub returns-in_err-made-clause-refused : goal.returns-in_err-made-clause-refused
 returns-in_err-made-clause-refused c =
     let p = err_from_is_err_and c.from_residual.result c.from_residual.ensures.1 in rw (p.1, p.2) (c.in_err-made.ensures.refused _ refl).0
 
-pub returns-in_err-made-clause-no_device : goal.returns-in_err-made-clause-no_device
-returns-in_err-made-clause-no_device c =
-    let p = err_from_is_err_and c.from_residual.result c.from_residual.ensures.1 in
-    rw (p.1, p.2) (λ e. (c.in_err-made.ensures.refused _ refl).1 (cc))
-
 pub returns-in_err-made-clause-succeeds : goal.returns-in_err-made-clause-succeeds
 returns-in_err-made-clause-succeeds c = λ records accepted.
     let p = err_from_is_err_and c.from_residual.result c.from_residual.ensures.1 in

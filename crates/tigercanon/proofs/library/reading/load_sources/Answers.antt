@@ -1,18 +1,10 @@
-use Rattle.tigercanon.proofs.Common.{◌≡◌, ◌+◌, ◌∙◌, ◌<◌, ℕ, [], ◌∷◌, ◌++◌, Err, inl, inr, refl, sym, ap, arith, subst, length-append}
+use Rattle.tigercanon.proofs.Common.{◌≡◌, ◌+◌, ◌∙◌, ◌<◌, ℕ, [], ◌∷◌, ◌++◌, Err, inl, inr, sym, ap, arith, subst, length-append}
 use Rattle.tigercanon.proofs.Common.{err_from_is_err_and, MAX, record_limit}
 use Rattle.tl_load.specs.declared.fault.LoadFault.TheVariants as faults
 use Rattle.tigercanon.proofs.CanonicalTexts.{if_ok_by, if_err_by}
 use Rattle.tigercanon.proofs.ReadParts.{all_read, nothing_more, none_more, one_failed, one_more_at, untouched_at, up_to_at}
 use Rattle.tigercanon.proofs.Standing.{counted_device, counted_none, none_standing, standing_fault}
 use Rattle.tigercanon.proofs.library.reading.load_sources.Goals as goal
-
-pub loop-source-init : goal.loop-source-init
-loop-source-init g c = record {
-  read = ([], refl, refl, c.new-loader.ensures.fed);
-  none_failed = refl;
-  no_fault = c.new-loader.ensures.fault;
-  counted = c.new-loader.ensures.parts;
-}
 
 pub read_part_by-requires-clause-failures : goal.read_part_by-requires-clause-failures
 read_part_by-requires-clause-failures g c =

@@ -1,17 +1,8 @@
-use Rattle.tigercanon.proofs.Common.{◌≡◌, ◌∙◌, ◌%◌, ◌^◌, ℕ, [], ◌++◌, take, length, refl, sym, ap, subst, arith, RoseBy, record_limit}
+use Rattle.tigercanon.proofs.Common.{◌≡◌, ◌∙◌, ℕ, ◌++◌, take, length, sym, subst, arith, RoseBy, record_limit}
 use Rattle.std.proofs.lemmas.List.{length-take}
-use Rattle.tl_load.proofs.ReadSteps.{gave_more, gave_none}
+use Rattle.tl_load.proofs.ReadSteps.{gave_more}
 use Rattle.tigercanon.proofs.FileParts.{rose_again, still_no_device}
 use Rattle.tigercanon.proofs.library.reading.read_to_end.Goals as goal
-
-pub loop-made-init : goal.loop-made-init
-loop-made-init g c = record {
-  fed = ([], gave_none g.R.Source.remaining g.R.Source.given _, λ closed w. w);
-  parts = refl;
-  no_device = c.requires.no_device;
-  failures = refl;
-  reads = ap (λ (k : ℕ). k % 2 ^ 64) (omega arith);
-}
 
 pub loop-made-preserved : goal.loop-made-preserved
 loop-made-preserved g c =

@@ -1,16 +1,7 @@
-use Rattle.tigercanon.proofs.Common.{◌+◌, ◌∙◌, ◌<◌, ℕ, [], ◌∷◌, ◌++◌, inl, refl, sym, ap, arith, subst, length-append}
+use Rattle.tigercanon.proofs.Common.{◌+◌, ◌∙◌, ◌<◌, ℕ, [], ◌∷◌, ◌++◌, inl, sym, ap, arith, subst, length-append}
 use Rattle.tigercanon.proofs.Common.{err_from_is_err_and, MAX, Load, IsUnread}
-use Rattle.tigercanon.proofs.FileParts.{none_device}
 use Rattle.tigercanon.proofs.ReadParts.{all_read, none_more, one_more_at, unread_at, untouched_at}
 use Rattle.tigercanon.proofs.library.reading.read_to_ends.Goals as goal
-
-pub loop-source-init : goal.loop-source-init
-loop-source-init g c = record {
-  read = ([], refl, refl, c.new-loader.ensures.fed);
-  none_failed = refl;
-  no_device = none_device _ c.new-loader.ensures.fault;
-  counted = omega (arith, c.new-loader.ensures.parts);
-}
 
 pub read_to_end-requires-clause-failures : goal.read_to_end-requires-clause-failures
 read_to_end-requires-clause-failures g c =

@@ -1,10 +1,6 @@
-use Rattle.tigercanon.proofs.Common.{◌≡◌, map, ap, bytes_of}
-use Rattle.tigercanon.proofs.FileSources.{all_more, all_none, map_more}
+use Rattle.tigercanon.proofs.Common.{◌≡◌, bytes_of}
+use Rattle.tigercanon.proofs.FileSources.{all_more, map_more}
 use Rattle.tigercanon.proofs.program.files.open_files.Goals as goal
-
-pub loop-file-init : goal.loop-file-init
-loop-file-init g c =
-    (ap (map (λ s. bytes_of g.R.Read.remaining s.inner)) c.in_ok-sources.ensures.items, all_none (λ s. s.failures ≡ 0) _ c.in_ok-sources.ensures.items)
 
 pub loop-file-preserved : goal.loop-file-preserved
 loop-file-preserved g c = (

@@ -1,25 +1,7 @@
-use Rattle.tigercanon.proofs.Common.{None, refl, err_from_is_err_and, no_mask, Done, set_of_sources, to_sink}
+use Rattle.tigercanon.proofs.Common.{refl, no_mask, Done, set_of_sources}
 use Rattle.command_line.specs.declared.plans.Job.TheVariants.{Check}
-use Rattle.tigercanon.proofs.SourceSets.{left_untouched, read_reported, reading_reported, refused_of_read, text_printed}
+use Rattle.tigercanon.proofs.SourceSets.{text_printed}
 use Rattle.tigercanon.proofs.program.jobs.check_set.Goals as goal
-
-pub returns-in_err-loader-clause-did : goal.returns-in_err-loader-clause-did
-returns-in_err-loader-clause-did g c =
-    let p = err_from_is_err_and c.from_residual.result c.from_residual.ensures.1 in
-    let set = set_of_sources g.R.Source.remaining g.R.Source.given g.R.Source.failed g.R.Source.reads c.args.set.now c.read_to_ends.new.sources in
-    let reported = reading_reported set c.in_err-loader.field-0.0 c.in_err-loader.ensures.stopped in
-    rw (p.1, p.2) (left_untouched no_mask set set (to_sink g.W.Sink.failed g.W.Sink.holds c.args.out.now c.args.out.now) refl Check
-    c.in_err-loader.field-0.0 None (refl, (reported.0, tt)))
-
-pub returns-in_err-judge-clause-did : goal.returns-in_err-judge-clause-did
-returns-in_err-judge-clause-did g c =
-    let p = err_from_is_err_and c.from_residual-in_err-judge.result c.from_residual-in_err-judge.ensures.1 in
-    let set = set_of_sources g.R.Source.remaining g.R.Source.given g.R.Source.failed g.R.Source.reads c.args.set.now c.read_to_ends.new.sources in
-    let l = c.in_ok-loader.ensures.fed in
-    let reported = read_reported set l.0 (refused_of_read g.R.Source.remaining g.R.Source.given _ _ l.0 l.1) c.in_err-judge.field-0.0
-    (c.in_err-judge.ensures.refused l.0 l.2) in
-    rw (p.1, p.2) (left_untouched no_mask set set (to_sink g.W.Sink.failed g.W.Sink.holds c.args.out.now c.args.out.now) refl Check
-    c.in_err-judge.field-0.0 None (refl, (reported, tt)))
 
 pub returns-clause-did : goal.returns-clause-did
 returns-clause-did g c =

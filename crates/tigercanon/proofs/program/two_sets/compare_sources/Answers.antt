@@ -1,18 +1,8 @@
-use Rattle.tigercanon.proofs.Common.{refl, err_from_is_err_and, set_of_sources}
-use Rattle.tigercanon.proofs.CanonicalTexts.{err_holds, ok_holds}
+use Rattle.tigercanon.proofs.Common.{err_from_is_err_and, set_of_sources}
+use Rattle.tigercanon.proofs.CanonicalTexts.{ok_holds}
 use Rattle.tigercanon.proofs.SourceSets.{refused_of_read}
-use Rattle.tigercanon.proofs.TwoSets.{line_different, line_same, one_reported, unread_first, unread_second}
+use Rattle.tigercanon.proofs.TwoSets.{line_different, line_same, one_reported}
 use Rattle.tigercanon.proofs.program.two_sets.compare_sources.Goals as goal
-
-pub compare_unlinked-requires-clause-first : goal.compare_unlinked-requires-clause-first
-compare_unlinked-requires-clause-first g c =
-    let a = ok_holds _ _ _ c.in_ok-one.ensures.ok c.read_to_ends.ensures.fed in
-    ((a.0, a.2), ok_holds _ _ _ c.in_ok-one.ensures.ok c.read_to_ends.ensures.reported_none)
-
-pub compare_unlinked-requires-clause-second : goal.compare_unlinked-requires-clause-second
-compare_unlinked-requires-clause-second g c =
-    let b = ok_holds _ _ _ c.in_ok-other.ensures.ok c.read_to_ends-2.ensures.fed in
-    ((b.0, b.2), ok_holds _ _ _ c.in_ok-other.ensures.ok c.read_to_ends-2.ensures.reported_none)
 
 pub returns-then-is_one_map-clause-verdict : goal.returns-then-is_one_map-clause-verdict
 returns-then-is_one_map-clause-verdict g c =
@@ -37,21 +27,3 @@ returns-in_err-is_one_map-clause-refused g c =
     a.0 b.0 a.1 (refused_of_read g.R.Source.remaining g.R.Source.given _ _ a.0 a.1)
     (refused_of_read g.R.Source.remaining g.R.Source.given _ _ b.0 b.1) c.in_err-is_one_map.field-0.0
     (c.in_err-is_one_map.ensures.refused a.0 b.0 a.2 b.2))
-
-pub returns-in_err-one-clause-refused : goal.returns-in_err-one-clause-refused
-returns-in_err-one-clause-refused g c =
-    let p = err_from_is_err_and c.from_residual.result c.from_residual.ensures.1 in
-    let e = c.in_err-one.ensures.err in
-    rw (p.1, p.2, e.2) (unread_first
-    (set_of_sources g.R.Source.remaining g.R.Source.given g.R.Source.failed g.R.Source.reads c.args.first.now c.read_to_ends.new.sources)
-    (set_of_sources g.R.Source.remaining g.R.Source.given g.R.Source.failed g.R.Source.reads c.args.second.now c.args.second.now)
-    e.0 _ (err_holds _ _ e.0 e.1 c.read_to_ends.ensures.stopped) refl)
-
-pub returns-in_err-other-clause-refused : goal.returns-in_err-other-clause-refused
-returns-in_err-other-clause-refused g c =
-    let p = err_from_is_err_and c.from_residual-in_err-other.result c.from_residual-in_err-other.ensures.1 in
-    let e = c.in_err-other.ensures.err in
-    rw (p.1, p.2, e.2) (unread_second
-    (set_of_sources g.R.Source.remaining g.R.Source.given g.R.Source.failed g.R.Source.reads c.args.first.now c.read_to_ends.new.sources)
-    (set_of_sources g.R.Source.remaining g.R.Source.given g.R.Source.failed g.R.Source.reads c.args.second.now c.read_to_ends-2.new.sources)
-    e.0 _ (err_holds _ _ e.0 e.1 c.read_to_ends-2.ensures.stopped) refl)
