@@ -1,5 +1,5 @@
 -- The bytes of a source that was read to its end, and the fault that is then recorded.
-use Rattle.tigercanon.proofs.Common.{◌≡◌, ◌≢◌, ℕ, ◌+◌, ◌%◌, ◌^◌, List, ◌++◌, Option, Some, None, Result, Ok, Err, append-nil, refl, sym}
+use Rattle.tigercanon.proofs.Common.{◌≡◌, ℕ, ◌+◌, ◌%◌, ◌^◌, List, ◌++◌, Option, Some, None, Result, Ok, Err, append-nil, refl, sym}
 use Rattle.tigercanon.proofs.Common.{ap, subst, ◌∙◌, IfSome, OnOk, Consumes, IsAtEnd, RoseBy, LoadFault, IsNotDevice, is_device_fault}
 use Rattle.std.proofs.Common.{add_assoc}
 use Rattle.std.proofs.Math.Nat.{mod-add-mod}
@@ -36,9 +36,6 @@ still_no_device fault_of before after (Err f) was ok reported device stood =
         → IfSome o (λ g. (◌≡◌ {A = Result (Unit {0}) LoadFault} (Err f) (Err g)) × (after ≡ before)) → IsNotDevice f
     go None e was stood = device e
     go (Some g) e was stood = let same : f ≡ g = cc in subst IsNotDevice (sym same) was
-
-pub not_device : (f : LoadFault) → IsNotDevice f → f ≢ faults.Device
-not_device f h e = subst IsNotDevice e h
 
 -- ---- counts of reads
 

@@ -20,9 +20,6 @@ map_more f h xs zs ys x y e same one = ap (map f) e ∙ map-append f xs (x ∷ [
 pub all_more : {X : Type 0} (P : X → Type 0) (xs zs : List X) (x : X) → zs ≡ xs ++ x ∷ [] → All P xs → P x → All P zs
 all_more P xs zs x e all one = subst (All P) (sym e) (All-push P xs x all one)
 
-pub all_none : {X : Type 0} (P : X → Type 0) (xs : List X) → xs ≡ [] → All P xs
-all_none P xs e = subst (All P) (sym e) (λ k d l. absurd (omega (arith, l)))
-
 -- sources that haven't failed can be read
 pub below_most : {S : Type 0} (failed : S → ℕ) (xs ys : List S) → ys ≡ xs → All (λ s. failed s ≡ 0) xs → All (λ s. failed s < MAX) ys
 below_most failed xs ys e all =

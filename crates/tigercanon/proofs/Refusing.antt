@@ -1,13 +1,11 @@
 -- A set is refused for the fault of its records.
-use Rattle.tigercanon.proofs.Common.{◌≢◌, ℕ, List, Option, subst, Record, tiger, SpellsWithin, Device, spelled_fit, accepted_within}
-use Rattle.tigercanon.proofs.Common.{Fault, Load, Link, Profile, Write, Memory, ReportsRefusal, ReportsRefusalOfRead, ReportsRead}
+use Rattle.tigercanon.proofs.Common.{ℕ, List, Option, Record, tiger, SpellsWithin, spelled_fit, accepted_within}
+use Rattle.tigercanon.proofs.Common.{Fault, Load, Link, Profile, Write, Memory, ReportsRefusal, ReportsRead}
 use Rattle.tigercanon.proofs.Common.{AreRead, record_limit}
 use Rattle.tl_layout.specs.Tables.{HoldsByType}
 use Rattle.tl_layout.specs.declared.tables.Tables.{Tables}
 use Rattle.tl_county.specs.Limits.{HoldsWithinLimits}
-use Rattle.tl_county.specs.Packing.{Typed}
 use Rattle.tigercanon.specs.Faults.{RefusesRecords}
-use Rattle.tigercanon.specs.Linked.{AreLinkedAs, IsLinkedSet}
 
 -- parts are refused for the fault of their records
 pub set_refused : (parts : List (List ℕ)) (records : List Record) → SpellsWithin tiger record_limit parts records → (f : Fault)
@@ -17,15 +15,6 @@ set_refused parts records spelled (Link f) h = λ ne. (records, spelled, h ne)
 set_refused parts records spelled (Profile f) h = λ ne. (records, spelled, (h ne).0, (h ne).1)
 set_refused parts records spelled (Write f) h = absurd h
 set_refused parts records spelled Memory h = tt
-
--- and it is not a device's fault
-pub no_device_refused : (records : List Record) (f : Fault) → RefusesRecords records f → f ≢ Load Device
-no_device_refused records f h e = subst (RefusesRecords records) e h
-
--- parts are refused for the fault of the linked records that they spell
-pub linked_refused : (parts : List (List ℕ)) (tables : Typed) → IsLinkedSet parts tables → (f : Fault)
-    → ((records : List Record) → AreLinkedAs tables records → RefusesRecords records f) → ReportsRefusalOfRead parts f
-linked_refused parts tables set f reported = (set_refused parts set.0 set.1 f (reported set.0 set.2), no_device_refused set.0 f (reported set.0 set.2))
 
 -- the fault of the records of parts that were read is reported for what was read
 module _ {R : Type 0} (remaining : R → Option (List ℕ)) (given : R → ℕ) (before after : List R) (parts : List (List ℕ))
