@@ -29,6 +29,7 @@ use Rattle.tl_number.proofs.Numbering.FirstSeen.{place_from, place-here, place-l
 use Rattle.tl_number.proofs.Arrangements.Placed.{image-numbered, image-under_cenid, chain_count, rights-numbered}
 use Rattle.tl_number.proofs.Unique.SameLandmarks.{landmark_key_keys, relanded, count-permutation, is_link, times-links}
 use Rattle.tl_number.proofs.Unique.SameLandmarks.{links_of-in_order, count-relanded}
+use Rattle.tl_number.proofs.Unique.SameKeys.{key_with}
 use Rattle.tl_number.proofs.Unique.SameNames.{name_key_keys, all_uses-kept, all_uses-all, uses_of-renamed}
 use Rattle.tl_number.proofs.Unique.SameNumbers.{counted_injective, kept_entry, polygons_along-kept}
 
@@ -72,6 +73,17 @@ in_order-kept {X} cmp old new f (x ∷ xs) a h = (each xs a.1 h.0, in_order-kept
         → AllByRecursion (λ y. is_gt (cmp (new (f x)) (new y)) ≡ false) (map f ys)
     each [] b g = tt
     each (y ∷ ys) b g = (ap₂ (λ k j. is_gt (cmp k j)) a.0 b.0 ∙ g.0, each ys b.1 g.1)
+
+-- so entries in the order of a content and a part, if a renaming keeps the parts
+ordered_kept : {V P : Type 0} {cmp : V × P → V × P → Ordering} → IsKeyOrder cmp → (f : ℕ → ℕ) (part new_part : ℕ → P) (entries : List (ℕ × V))
+    → ((n : ℕ) → Known nat_cmp (map (λ (e : ℕ × V). e.0) entries) n → new_part (f n) ≡ part n)
+    → IsInOrder (on (key_with new_part) cmp) (map (λ (e : ℕ × V). (f e.0, e.1)) (in_order (on (key_with part) cmp) entries))
+ordered_kept {V} {P} {cmp} o f part new_part entries kept =
+    in_order-kept cmp (key_with part) (key_with new_part) (λ (e : ℕ × V). (f e.0, e.1)) (in_order (on (key_with part) cmp) entries)
+    (all-in_order (λ (e : ℕ × V). key_with new_part (f e.0, e.1) ≡ key_with part e) (on (key_with part) cmp) entries
+    (all_weaker (λ (e : ℕ × V). Known nat_cmp (map (λ (d : ℕ × V). d.0) entries) e.0)
+    (λ e. key_with new_part (f e.0, e.1) ≡ key_with part e) (λ e k i. (e.1, kept e.0 k i)) entries (keys_known nat_keys entries)))
+    (in_order-in_order (on_total (key_with part) o.total) entries)
 
 module _ (county : County) (arrangement : Arrangement) (is : IsCounty county) (arranges : Arranges arrangement county)
     (sides : AllKeysStandIn (polygons_along county.chains) (polygon_keys county)) where
@@ -171,18 +183,10 @@ module _ (county : County) (arrangement : Arrangement) (is : IsCounty county) (a
       (all_uses (placed county arrangement)) uses_known n k
 
   names_ordered : IsInOrder (on (name_key (all_uses (arranged county arrangement).chains)) name_key_cmp) (arranged county arrangement).names
-  names_ordered =
-      let by : ℕ × Body5 → ℕ × Body5 → Ordering = on (name_key (all_uses (placed county arrangement))) name_key_cmp in
-      subst (IsInOrder (on (name_key (all_uses (arranged county arrangement).chains)) name_key_cmp))
+  names_ordered = subst (IsInOrder (on (name_key (all_uses (arranged county arrangement).chains)) name_key_cmp))
       (sym (names_arranged county arrangement is arranges))
-      (in_order-kept name_key_cmp (name_key (all_uses (placed county arrangement))) (name_key (all_uses (arranged county arrangement).chains))
-      (carried_name (renaming_of county arrangement)) (names_in_order county arrangement)
-      (all-in_order (λ e. name_key (all_uses (arranged county arrangement).chains) (carried_name (renaming_of county arrangement) e) ≡ name_key
-      (all_uses (placed county arrangement)) e) by county.names
-      (all_weaker (λ e. Known nat_cmp (feats county) e.0)
-      (λ e. name_key (all_uses (arranged county arrangement).chains) (carried_name (renaming_of county arrangement) e) ≡ name_key
-      (all_uses (placed county arrangement)) e) (λ e k i. (e.1, uses_kept e.0 k i)) county.names (keys_known nat_keys county.names)))
-      (in_order-in_order (on_total (name_key (all_uses (placed county arrangement))) name_key_keys.total) county.names))
+      (ordered_kept name_key_keys (image nat_cmp (renaming_of county arrangement).names) (uses_of_name (all_uses (placed county arrangement)))
+      (uses_of_name (all_uses (arranged county arrangement).chains)) county.names uses_kept)
 
   -- landmarks keep their links
   land_injective : (n m : ℕ) → Known nat_cmp (lands county) n → Known nat_cmp (lands county) m
@@ -231,18 +235,10 @@ module _ (county : County) (arrangement : Arrangement) (is : IsCounty county) (a
       ∙ sym (times-links (links_relinked county arrangement) n k))
 
   landmarks_ordered : IsInOrder (on (landmark_key (arranged county arrangement).links) landmark_key_cmp) (arranged county arrangement).landmarks
-  landmarks_ordered =
-      let by : ℕ × List Body7 → ℕ × List Body7 → Ordering = on (landmark_key (links_relinked county arrangement)) landmark_key_cmp in
-      subst (IsInOrder (on (landmark_key (arranged county arrangement).links) landmark_key_cmp))
+  landmarks_ordered = subst (IsInOrder (on (landmark_key (arranged county arrangement).links) landmark_key_cmp))
       (sym (landmarks_arranged county arrangement is arranges))
-      (in_order-kept landmark_key_cmp (landmark_key (links_relinked county arrangement)) (landmark_key (arranged county arrangement).links)
-      (carried_landmark (renaming_of county arrangement)) (landmarks_in_order county arrangement)
-      (all-in_order (λ e. landmark_key (arranged county arrangement).links (carried_landmark (renaming_of county arrangement) e) ≡ landmark_key
-      (links_relinked county arrangement) e) by county.landmarks
-      (all_weaker (λ e. Known nat_cmp (lands county) e.0)
-      (λ e. landmark_key (arranged county arrangement).links (carried_landmark (renaming_of county arrangement) e) ≡ landmark_key
-      (links_relinked county arrangement) e) (λ e k i. (e.1, links_kept e.0 k i)) county.landmarks (keys_known nat_keys county.landmarks)))
-      (in_order-in_order (on_total (landmark_key (links_relinked county arrangement)) landmark_key_keys.total) county.landmarks))
+      (ordered_kept landmark_key_keys f_land (links_of (links_relinked county arrangement)) (links_of (arranged county arrangement).links)
+      county.landmarks links_kept)
 
   pub is_arranged : IsArranged (arranged county arrangement)
   is_arranged = record {

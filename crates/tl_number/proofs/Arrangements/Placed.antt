@@ -1,8 +1,8 @@
 -- The chains of an arrangement, in their new order and direction and with their new numbers.
 use Rattle.std.proofs.Common.{◌≡◌, ◌⊎◌, ◌≤◌, ℕ, zero, suc, nat_lt, List, [], ◌∷◌, ◌++◌, map, filter, flat_map}
 use Rattle.std.proofs.Common.{length, Bool, true, false, cond, is_eq, sym, refl, ap, ap₂, ◌∙◌, subst, inl, inr, arith}
-use Rattle.std.proofs.Common.{nat_cmp, IsPermutation}
-use Rattle.tl_number.proofs.Common.{AllByRecursion, Arrangement, Arranges, Chain, County, IsApart, IsCounty, Known, PolygonKey, Renumbering}
+use Rattle.std.proofs.Common.{Ordering, nat_cmp, IsPermutation}
+use Rattle.tl_number.proofs.Common.{AllByRecursion, Arrangement, Arranges, Chain, County, IsApart, IsCounty, IsKeyOrder, Known, PolygonKey, Renumbering}
 use Rattle.tl_number.proofs.Common.{all_weaker, apart-permutation, apart_from_sorted, apart_tail, arranged_tlids, carried_chain}
 use Rattle.tl_number.proofs.Common.{chains_in_order, entries_of, image, images-lefts, key_cmp, key_keys, keys_known, known-here}
 use Rattle.tl_number.proofs.Common.{known-permutation, known-permutation_to, known_cases, length-map, lt-ltb, map-append, map-map}
@@ -14,7 +14,7 @@ use Rattle.ordered_lists.proofs.ByKey.Keys.{differ}
 use Rattle.tl_county.proofs.Lists.OfNumber.{of_number-all}
 use Rattle.ordered_lists.proofs.ByKey.Numbers.{only_one}
 use Rattle.tl_county.proofs.Lists.OfNumber.{groups-permutation}
-use Rattle.tl_number.proofs.Lists.Counting.{entries_equal}
+use Rattle.tl_number.proofs.Lists.Counting.{entries_equal, flat_map-map}
 use Rattle.tl_county.proofs.Packing.Pieces.{lefts-numbered_from}
 use Rattle.tl_number.proofs.Numbering.FirstSeen.{place_from, place-here, place-later}
 use Rattle.tl_number.proofs.Unique.SameNumbers.{kept_entry}
@@ -28,49 +28,31 @@ pub rights-numbered : {K : Type 0} (keys : List K) → map (λ (pair : K × ℕ)
 rights-numbered {K} keys = map-map (λ (pair : K × ℕ). pair.1) (λ (entry : ℕ × K). (entry.1, entry.0)) (numbered_from 1 keys)
     ∙ lefts-numbered_from 1 keys
 
-numbers_are_places : (i : ℕ) (keys : List ℕ) (k : ℕ) → Known nat_cmp keys k
-    → image nat_cmp (map (λ (entry : ℕ × ℕ). (entry.1, entry.0)) (numbered_from i keys)) k ≡ place_from nat_keys i keys k
-numbers_are_places i [] k h = absurd (omega (arith, h))
-numbers_are_places i (x ∷ xs) k h = go (known_cases nat_keys k x xs h) (numbers_are_places (suc i) xs k)
-  where
-    go : (k ≡ x) ⊎ (Known nat_cmp xs k × (is_eq (nat_cmp k x) ≡ false))
-        → (Known nat_cmp xs k
-        → image nat_cmp (map (λ (entry : ℕ × ℕ). (entry.1, entry.0)) (numbered_from (suc i) xs)) k ≡ place_from nat_keys (suc i) xs k)
-        → image nat_cmp ((x, i) ∷ map (λ (entry : ℕ × ℕ). (entry.1, entry.0)) (numbered_from (suc i) xs)) k ≡ place_from nat_keys i
-        (x ∷ xs) k
-    go (inl e) ih = image-yes nat_keys (x, i) (map (λ (entry : ℕ × ℕ). (entry.1, entry.0)) (numbered_from (suc i) xs)) k e
-        ∙ sym (place-here nat_keys i x xs k e)
-    go (inr l) ih = image-no nat_keys (x, i) (map (λ (entry : ℕ × ℕ). (entry.1, entry.0)) (numbered_from (suc i) xs)) k l.1 ∙ ih l.0
-        ∙ sym (place-later nat_keys i x xs k l.1)
+-- the image of a key, if each key's image is made of the key and its place
+module _ {K : Type 0} {cmp : K → K → Ordering} (o : IsKeyOrder cmp) (new : K → ℕ → K) where
+  abbrev paired : ℕ → List K → List (K × K)
+  paired i keys = map (λ (entry : ℕ × K). (entry.1, new entry.1 entry.0)) (numbered_from i keys)
+
+  made_of_place : (i : ℕ) (keys : List K) (k : K) → Known cmp keys k → image cmp (paired i keys) k ≡ new k (place_from o i keys k)
+  made_of_place i [] k h = absurd (omega (arith, h))
+  made_of_place i (x ∷ xs) k h = go (known_cases o k x xs h) (made_of_place (suc i) xs k)
+    where
+      go : (k ≡ x) ⊎ (Known cmp xs k × (is_eq (cmp k x) ≡ false))
+          → (Known cmp xs k → image cmp (paired (suc i) xs) k ≡ new k (place_from o (suc i) xs k))
+          → image cmp (paired i (x ∷ xs)) k ≡ new k (place_from o i (x ∷ xs) k)
+      go (inl e) ih = image-yes o (x, new x i) (paired (suc i) xs) k e ∙ ap₂ new (sym e) (sym (place-here o i x xs k e))
+      go (inr l) ih = image-no o (x, new x i) (paired (suc i) xs) k l.1 ∙ ih l.0 ∙ ap (new k) (sym (place-later o i x xs k l.1))
 
 -- the new number of a number is its place
 pub image-numbered : (keys : List ℕ) (k : ℕ) → Known nat_cmp keys k → image nat_cmp (numbered keys) k ≡ place_from nat_keys 1 keys k
-image-numbered keys k h = numbers_are_places 1 keys k h
-
-keys_are_places : (i : ℕ) (keys : List PolygonKey) (k : PolygonKey) → Known key_cmp keys k
-    → image key_cmp (map under_cenid (map (λ (entry : ℕ × PolygonKey). (entry.1, entry.0)) (numbered_from i keys))) k ≡
-    (k.0, place_from key_keys i keys k)
-keys_are_places i [] k h = absurd (omega (arith, h))
-keys_are_places i (x ∷ xs) k h = go (known_cases key_keys k x xs h) (keys_are_places (suc i) xs k)
-  where
-    go : (k ≡ x) ⊎ (Known key_cmp xs k × (is_eq (key_cmp k x) ≡ false))
-        → (Known key_cmp xs k
-        → image key_cmp (map under_cenid (map (λ (entry : ℕ × PolygonKey). (entry.1, entry.0)) (numbered_from (suc i) xs))) k ≡
-        (k.0, place_from key_keys (suc i) xs k))
-        → image key_cmp
-        ((x, (x.0, i)) ∷ map under_cenid (map (λ (entry : ℕ × PolygonKey). (entry.1, entry.0)) (numbered_from (suc i) xs))) k ≡
-        (k.0, place_from key_keys i (x ∷ xs) k)
-    go (inl e) ih = image-yes key_keys (x, (x.0, i))
-        (map under_cenid (map (λ (entry : ℕ × PolygonKey). (entry.1, entry.0)) (numbered_from (suc i) xs))) k e
-        ∙ (λ j. ((sym e j).0, sym (place-here key_keys i x xs k e) j))
-    go (inr l) ih = image-no key_keys (x, (x.0, i))
-        (map under_cenid (map (λ (entry : ℕ × PolygonKey). (entry.1, entry.0)) (numbered_from (suc i) xs))) k l.1 ∙ ih l.0
-        ∙ (λ j. (k.0, sym (place-later key_keys i x xs k l.1) j))
+image-numbered keys k h = made_of_place nat_keys (λ key i. i) 1 keys k h
 
 -- the new key of a polygon is its CENID with its place
 pub image-under_cenid : (keys : List PolygonKey) (k : PolygonKey) → Known key_cmp keys k
     → image key_cmp (map under_cenid (numbered keys)) k ≡ (k.0, place_from key_keys 1 keys k)
-image-under_cenid keys k h = keys_are_places 1 keys k h
+image-under_cenid keys k h =
+    ap (λ pairs. image key_cmp pairs k) (map-map under_cenid (λ (entry : ℕ × PolygonKey). (entry.1, entry.0)) (numbered_from 1 keys))
+    ∙ made_of_place key_keys (λ key i. (key.0, i)) 1 keys k h
 
 -- the chains that an arrangement turns
 pub turned_known : (arrangement : Arrangement) (k : ℕ) → Known nat_cmp (turned_tlids arrangement) k → Known nat_cmp (arranged_tlids arrangement) k
@@ -151,10 +133,6 @@ turns_as_stated (s ∷ arrangement) a = (
           subst (Known nat_cmp (arranged_tlids arrangement)) e (h t.0 (known-here nat_keys t.0 (arranged_tlids ts))) in omega (arith, l, none)),
       apart_others ts (λ k l. h k (known-later nat_keys k t.0 (arranged_tlids ts) l)),
     )
-
-flat_map-map : {X Y Z : Type 0} (f : Y → List Z) (g : X → Y) (xs : List X) → flat_map f (map g xs) ≡ flat_map (λ x. f (g x)) xs
-flat_map-map f g [] = refl
-flat_map-map f g (x ∷ xs) = ap (λ zs. f (g x) ++ zs) (flat_map-map f g xs)
 
 module _ (county : County) (arrangement : Arrangement) (is : IsCounty county) (arranges : Arranges arrangement county) where
   pub arrangement_apart : IsApart nat_cmp (arranged_tlids arrangement)

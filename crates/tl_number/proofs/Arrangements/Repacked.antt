@@ -23,7 +23,7 @@ use Rattle.tl_county.proofs.Lists.OfNumber.{of_number-all}
 use Rattle.ordered_lists.proofs.ByKey.Numbers.{distinct-strict}
 use Rattle.tl_number.specs.Canonical.{seven_cmp}
 use Rattle.tl_county.specs.Packing.{without_last}
-use Rattle.tl_number.proofs.Lists.Counting.{up_to-strict}
+use Rattle.tl_number.proofs.Lists.Counting.{flat_map-map, up_to-strict}
 use Rattle.tl_number.proofs.Lists.Grouping.{in_order-weaker, then-first, then-second, in_order-filter, grouped, pieces-joined, rtsqs-back}
 
 -- the points between the ends, and the last one
@@ -39,10 +39,6 @@ last_back s (p ∷ ps) e = last_back p ps e
 flat_map-agree : {X Y : Type 0} (f g : X → List Y) → ((x : X) → f x ≡ g x) → (xs : List X) → flat_map f xs ≡ flat_map g xs
 flat_map-agree f g h [] = refl
 flat_map-agree f g h (x ∷ xs) = ap₂ (λ ys zs. ys ++ zs) (h x) (flat_map-agree f g h xs)
-
-flat_map-map : {X Y Z : Type 0} (f : Y → List Z) (g : X → Y) (xs : List X) → flat_map f (map g xs) ≡ flat_map (λ x. f (g x)) xs
-flat_map-map f g [] = refl
-flat_map-map f g (x ∷ xs) = ap (λ ys. f (g x) ++ ys) (flat_map-map f g xs)
 
 -- In a linked list each type 1 record has one type I record, and the chains are the type 1 records with their type I records.
 module _ (records : List Record) (linked : IsLinked records) where

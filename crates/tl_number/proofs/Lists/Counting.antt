@@ -1,5 +1,5 @@
 -- Lists that count from a number: they ascend, and lists with the same length are equal.
-use Rattle.std.proofs.Common.{◌≡◌, ◌<◌, ◌+◌, ℕ, zero, suc, List, [], ◌∷◌, map, Less, Equal, Greater, refl, ap, arith, nat_cmp, cond, ◌==◌}
+use Rattle.std.proofs.Common.{◌≡◌, ◌<◌, ◌+◌, ℕ, zero, suc, List, [], ◌∷◌, ◌++◌, map, flat_map, Less, Equal, Greater, refl, ap, arith, nat_cmp, cond, ◌==◌}
 use Rattle.tl_number.proofs.Common.{AllByRecursion, lt-ltb, range_with_len, up_to}
 use Rattle.std.specs.List.Sorted.{IsStrictlySortedBy}
 
@@ -34,3 +34,8 @@ entries_equal {A} {B} (x ∷ xs) (y ∷ ys) p q =
 pub map-equal_all : {X Y : Type 0} (f g : X → Y) (xs : List X) → map f xs ≡ map g xs → AllByRecursion (λ x. f x ≡ g x) xs
 map-equal_all f g [] e = tt
 map-equal_all f g (x ∷ xs) e = ((let t : f x ≡ g x = cc in t), map-equal_all f g xs (cc))
+
+-- lists joined after a map
+pub flat_map-map : {X Y Z : Type 0} (f : Y → List Z) (g : X → Y) (xs : List X) → flat_map f (map g xs) ≡ flat_map (λ x. f (g x)) xs
+flat_map-map f g [] = refl
+flat_map-map f g (x ∷ xs) = ap (λ zs. f (g x) ++ zs) (flat_map-map f g xs)

@@ -16,7 +16,7 @@ use Rattle.tl_number.proofs.Choices.AscendingArrangement.{arrangement_there}
 use Rattle.tl_number.proofs.Choices.ChosenArrangements.{arrangement_of_number, arrangement_of_number_apart, arrangement_of_number_count, arrangement_of_number_there, places_within}
 use Rattle.tl_number.proofs.Choices.LeastNumbers.{choices_same, lesser_of}
 use Rattle.tl_number.proofs.Choices.LeastOnes.{both_tied, tied_along, tied_with_itself, whole_of_number}
-use Rattle.tl_number.proofs.Ties.CriticalSlots.{agree_all, critical_decide}
+use Rattle.tl_number.proofs.Ties.CriticalSlots.{critical_decide}
 use Rattle.tl_number.proofs.Ties.NodeOrder.{nodes_decide}
 use Rattle.tl_number.proofs.Ties.OpenChains.{closed_apart, moved_has}
 
@@ -99,13 +99,11 @@ module _ (county : County) (shapes : OrderOfShapes) (known : LeavesChoices count
         ≡ slice_cmp ends_cmp (critical_numbers county critical (numbered_arrangement shapes n))
         (critical_numbers county critical (numbered_arrangement shapes m))
     numbers_decide n m =
-        let shape = ends_along county shapes.by_shape in
-        let left = ends_along county (numbered_arrangement shapes n) in
-        let right = ends_along county (numbered_arrangement shapes m) in
-        critical_decide are.nodes shapes.places left right shape
-        (agree_all are.nodes shapes.places left right shape (fixed_ends_same n) (fixed_ends_same m)
-        (open_ends are.nodes are.open_nodes n) (open_ends are.nodes are.open_nodes m) (as_many n) (as_many m))
-        ∙ ap (λ all. slice_cmp ends_cmp (renumbered_ends (map (ends_at left) all)) (renumbered_ends (map (ends_at right) all))) (sym are.all)
+        let whole : Bool → List (Option ℕ × Option ℕ) = λ first. ends_along county (numbered_arrangement shapes (cond first n m)) in
+        critical_decide are.nodes shapes.places whole (ends_along county shapes.by_shape) (λ first. as_many (cond first n m))
+        (λ first. fixed_ends_same (cond first n m)) (λ first. open_ends are.nodes are.open_nodes (cond first n m))
+        ∙ ap (λ all. slice_cmp ends_cmp (renumbered_ends (map (ends_at (whole true)) all)) (renumbered_ends (map (ends_at (whole false)) all)))
+        (sym are.all)
       where
         as_many : (k : ℕ) → length (ends_along county shapes.by_shape) ≡ length (ends_along county (numbered_arrangement shapes k))
         as_many k = length-map shapes.by_shape (λ (d : DirectedChain). ends_or_none (directed_chain county d)) ∙ sym (length_numbered k)

@@ -16,9 +16,9 @@ use Rattle.std.proofs.lemmas.List.Sorted.{sum_by-IsPermutation}
 use Rattle.tl_county.specs.BodyOrder.{LinkPart}
 use Rattle.tl_county.specs.Laws.KeyOrders.{landmark_body_keys}
 use Rattle.ordered_lists.proofs.ByKey.Keys.{differ}
-use Rattle.tl_number.specs.Uses.{links_of, LandmarkKey}
+use Rattle.tl_number.specs.Uses.{links_of}
 use Rattle.tl_number.proofs.Unique.SameNumbers.{counted_injective}
-use Rattle.tl_number.proofs.Lists.Counting.{entries_equal, map-equal_all}
+use Rattle.tl_number.proofs.Unique.SameKeys.{entries_same, parts_same}
 
 pub landmark_key_keys : IsKeyOrder landmark_key_cmp
 landmark_key_keys = pair_keys (lists_keys landmark_body_keys) (lists_keys link_part_keys)
@@ -188,42 +188,15 @@ module _ (r : Renumbering) (a b : County) (h : Carries r a b) (aa : IsAscending 
       ∙ count-relanded f_land (Known nat_cmp (lands a)) land_injective a.links lands_known y d k
       ∙ sym (times-links a.links y k))
 
-  keys_same : map (landmark_key a.links) a.landmarks ≡ map (landmark_key b.links) b.landmarks
-  unfolding f_land
-  keys_same =
-      let carried : map (landmark_key b.links) (map (carried_landmark r) a.landmarks) ≡ map (landmark_key a.links) a.landmarks =
-      map-map (landmark_key b.links) (carried_landmark r) a.landmarks
-      ∙ map_agree_all (λ d. landmark_key b.links (carried_landmark r d)) (landmark_key a.links) (λ d. Known nat_cmp (lands a) d.0)
-      (λ d k i. (d.1, links_kept d.0 k i)) a.landmarks (keys_known nat_keys a.landmarks) in
-      in_order-permutation landmark_key_keys (map (landmark_key a.links) a.landmarks) (map (landmark_key b.links) b.landmarks)
-      (in_order-map landmark_key_cmp (landmark_key a.links) a.landmarks ta.landmarks)
-      (in_order-map landmark_key_cmp (landmark_key b.links) b.landmarks tb.landmarks)
-      (subst (λ ks. IsPermutation ks (map (landmark_key b.links) b.landmarks)) carried
-      (IsPermutation-map (landmark_key b.links) (map (carried_landmark r) a.landmarks) b.landmarks h.landmarks))
-
   pub landmarks_equal : a.landmarks ≡ b.landmarks
-  landmarks_equal =
-      let len : length a.landmarks ≡ length b.landmarks = sym (length-map a.landmarks (landmark_key a.links)) ∙ ap length keys_same
-      ∙ length-map b.landmarks (landmark_key b.links) in
-      let left : map (λ (d : ℕ × List Body7). d.0) a.landmarks ≡ map (λ (d : ℕ × List Body7). d.0) b.landmarks = ta.lands ∙ ap up_to len
-      ∙ sym tb.lands in
-      let right : map (λ (d : ℕ × List Body7). d.1) a.landmarks ≡ map (λ (d : ℕ × List Body7). d.1) b.landmarks =
-      sym (map-map (λ (k : LandmarkKey). k.0) (landmark_key a.links) a.landmarks)
-      ∙ ap (map (λ (k : LandmarkKey). k.0)) keys_same
-      ∙ map-map (λ (k : LandmarkKey). k.0) (landmark_key b.links) b.landmarks in
-      entries_equal a.landmarks b.landmarks left right
+  unfolding f_land
+  landmarks_equal = entries_same landmark_key_keys f_land (links_of a.links) (links_of b.links) a.landmarks b.landmarks
+      links_kept h.landmarks ta.landmarks tb.landmarks ta.lands tb.lands
 
   same_links : (y : ℕ) → Known nat_cmp (lands a) y → links_of a.links y ≡ links_of b.links y
-  same_links y k =
-      let keys : map (landmark_key a.links) a.landmarks ≡ map (landmark_key b.links) a.landmarks = keys_same
-      ∙ ap (map (landmark_key b.links)) (sym landmarks_equal) in
-      let each : AllByRecursion (λ d. landmark_key a.links d ≡ landmark_key b.links d) a.landmarks =
-      map-equal_all (landmark_key a.links) (landmark_key b.links) a.landmarks keys in
-      let all : AllByRecursion (λ n. links_of a.links n ≡ links_of b.links n) (lands a) =
-      all_map (λ n. links_of a.links n ≡ links_of b.links n) (λ (d : ℕ × List Body7). d.0) a.landmarks
-      (all_weaker (λ d. landmark_key a.links d ≡ landmark_key b.links d) (λ d. links_of a.links d.0 ≡ links_of b.links d.0)
-      (λ d same. ap (λ (key : LandmarkKey). key.1) same) a.landmarks each) in
-      known_all nat_keys (λ n. links_of a.links n ≡ links_of b.links n) (lands a) all y k
+  unfolding f_land
+  same_links = parts_same landmark_key_keys f_land (links_of a.links) (links_of b.links) a.landmarks b.landmarks
+      links_kept h.landmarks ta.landmarks tb.landmarks ta.lands tb.lands
 
   links_count : (k : Fields8) (n : ℕ) → times nat_cmp k.land (lands a) ≡ n
       → length (filter (is_link k.land (link_part k)) a.links) ≡ length (filter (is_link k.land (link_part k)) b.links)

@@ -12,8 +12,8 @@ use Rattle.std.proofs.lemmas.Bool.{cases_eq}
 use Rattle.std.specs.List.Sorted.{IsStrictlySortedBy}
 use Rattle.tl_county.specs.Laws.KeyOrders.{name_body_keys}
 use Rattle.ordered_lists.proofs.Lists.Members.{one_entry}
-use Rattle.tl_number.specs.Uses.{NameKey}
-use Rattle.tl_number.proofs.Lists.Counting.{entries_equal, map-equal_all, up_to-strict}
+use Rattle.tl_number.proofs.Lists.Counting.{up_to-strict}
+use Rattle.tl_number.proofs.Unique.SameKeys.{entries_same, parts_same}
 use Rattle.tl_number.proofs.Unique.SameNumbers.{counted_injective, kept_entry, KeepsChains, all_themselves}
 use Rattle.tl_number.proofs.Names.UsesOrder.{use_keys, all_uses-strict, use_under, under_use}
 
@@ -101,52 +101,16 @@ module _ (r : Renumbering) (a b : County) (h : Carries r a b) (ca : IsClosed a) 
   uses_kept y d = ap (λ us. uses_of_name us (f_name y)) uses_b
       ∙ uses_of-renamed f_name (Known nat_cmp (feats a)) name_injective (all_uses a.chains) uses_known y d
 
-  -- the keys of names, list by list
-  keys_a : List NameKey
-  keys_a = map (name_key (all_uses a.chains)) a.names
-
-  keys_b : List NameKey
-  keys_b = map (name_key (all_uses b.chains)) b.names
-
-  keys_same : keys_a ≡ keys_b
-  unfolding keys_a keys_b f_name
-  keys_same =
-      let carried : map (name_key (all_uses b.chains)) (map (carried_name r) a.names) ≡ map (name_key (all_uses a.chains)) a.names =
-      map-map (name_key (all_uses b.chains)) (carried_name r) a.names
-      ∙ map_agree_all (λ d. name_key (all_uses b.chains) (carried_name r d)) (name_key (all_uses a.chains))
-      (λ d. Known nat_cmp (feats a) d.0) (λ d k i. (d.1, uses_kept d.0 k i)) a.names (keys_known nat_keys a.names) in
-      in_order-permutation name_key_keys (map (name_key (all_uses a.chains)) a.names) (map (name_key (all_uses b.chains)) b.names)
-      (in_order-map name_key_cmp (name_key (all_uses a.chains)) a.names ta.names)
-      (in_order-map name_key_cmp (name_key (all_uses b.chains)) b.names tb.names)
-      (subst (λ ks. IsPermutation ks (map (name_key (all_uses b.chains)) b.names)) carried
-      (IsPermutation-map (name_key (all_uses b.chains)) (map (carried_name r) a.names) b.names h.names))
-
   pub names_equal : a.names ≡ b.names
-  unfolding keys_a keys_b
-  names_equal =
-      let len : length a.names ≡ length b.names = sym (length-map a.names (name_key (all_uses a.chains))) ∙ ap length keys_same
-      ∙ length-map b.names (name_key (all_uses b.chains)) in
-      let left : map (λ (d : ℕ × Body5). d.0) a.names ≡ map (λ (d : ℕ × Body5). d.0) b.names = ta.feats ∙ ap up_to len ∙ sym tb.feats in
-      let right : map (λ (d : ℕ × Body5). d.1) a.names ≡ map (λ (d : ℕ × Body5). d.1) b.names =
-      sym (map-map (λ (k : NameKey). k.0) (name_key (all_uses a.chains)) a.names)
-      ∙ ap (map (λ (k : NameKey). k.0)) keys_same
-      ∙ map-map (λ (k : NameKey). k.0) (name_key (all_uses b.chains)) b.names in
-      entries_equal a.names b.names left right
+  unfolding f_name
+  names_equal = entries_same name_key_keys f_name (uses_of_name (all_uses a.chains)) (uses_of_name (all_uses b.chains)) a.names b.names
+      uses_kept h.names ta.names tb.names ta.feats tb.feats
 
   -- each FEAT therefore has the same uses in both
   same_uses : (y : ℕ) → Known nat_cmp (feats a) y → uses_of_name (all_uses a.chains) y ≡ uses_of_name (all_uses b.chains) y
-  unfolding keys_a keys_b
-  same_uses y k =
-      let keys : map (name_key (all_uses a.chains)) a.names ≡ map (name_key (all_uses b.chains)) a.names = keys_same
-      ∙ ap (map (name_key (all_uses b.chains))) (sym names_equal) in
-      let each : AllByRecursion (λ d. name_key (all_uses a.chains) d ≡ name_key (all_uses b.chains) d) a.names =
-      map-equal_all (name_key (all_uses a.chains)) (name_key (all_uses b.chains)) a.names keys in
-      let uses : AllByRecursion (λ n. uses_of_name (all_uses a.chains) n ≡ uses_of_name (all_uses b.chains) n) (feats a) =
-      all_map (λ n. uses_of_name (all_uses a.chains) n ≡ uses_of_name (all_uses b.chains) n) (λ (d : ℕ × Body5). d.0) a.names
-      (all_weaker (λ d. name_key (all_uses a.chains) d ≡ name_key (all_uses b.chains) d)
-      (λ d. uses_of_name (all_uses a.chains) d.0 ≡ uses_of_name (all_uses b.chains) d.0)
-      (λ d same. ap (λ (key : NameKey). key.1) same) a.names each) in
-      known_all nat_keys (λ n. uses_of_name (all_uses a.chains) n ≡ uses_of_name (all_uses b.chains) n) (feats a) uses y k
+  unfolding f_name
+  same_uses = parts_same name_key_keys f_name (uses_of_name (all_uses a.chains)) (uses_of_name (all_uses b.chains)) a.names b.names
+      uses_kept h.names ta.names tb.names ta.feats tb.feats
 
   uses_apart : IsApart use_cmp (map (λ u. u.0) (all_uses a.chains))
   uses_apart = apart_from_sorted use_keys (map (λ u. u.0) (all_uses a.chains))
