@@ -9,13 +9,6 @@ number_critical-requires g c =
     there_numbered (g.C.Chart.county c.args.chart.now) c.args.order.now c.requires.known (g.met.C.Chart.is_county c.args.chart.now)
     (g.met.C.Chart.within_limits c.args.chart.now) c.args.number c.args.arrangement.now c.requires.arrangement
 
-pub compare_critical-ordering-requires : goal.compare_critical-ordering-requires
-compare_critical-ordering-requires g c =
-    let county = g.C.Chart.county c.args.chart.now in
-    ap length (c.deref.ensures.value ∙ c.requires.numbers)
-    ∙ as_many_numbers county c.args.critical.now (numbered_arrangement c.args.order.now c.args.least.number) c.args.arrangement.now
-    ∙ sym (ap length (c.deref-in-Ok.ensures.value ∙ c.in-Ok.ensures))
-
 pub returns-in-Ok-clause-numbers : goal.returns-in-Ok-clause-numbers
 returns-in-Ok-clause-numbers g c =
     let county = g.C.Chart.county c.args.chart.now in
