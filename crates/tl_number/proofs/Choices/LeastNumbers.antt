@@ -74,15 +74,21 @@ module _ (county : County) where
       go true e = below m (ltb-true m from e)
       go false e = not_after_both old first m upper (among m (ltb-false m from e) l)
 
--- a property of two values is a property of either
-pub of_either : {X : Type 0} (P : X → Type 0) (b : Bool) (x y : X) → P x → P y → P (cond b x y)
-of_either P true x y p q = p
-of_either P false x y p q = q
+-- One of two values is kept: what both have, it has, and its number is that of one of them.
+module _ {X : Type 0} (b : Bool) (kept x y : X) (is : kept ≡ cond b x y) where
+  pub kept_has : (P : X → Type 0) → P x → P y → P kept
+  kept_has P p q = subst P (sym is) (either b)
+    where
+      either : (d : Bool) → P (cond d x y)
+      either true = p
+      either false = q
 
-pub stated_of_either : {X Y : Type 0} (state : X → Y) (P : Y → Type 0) (b : Bool) (x y : X) → P (cond b (state x) (state y))
-    → P (state (cond b x y))
-stated_of_either state P true x y p = p
-stated_of_either state P false x y p = p
+  pub kept_is : {Y : Type 0} (state : X → Y) → state kept ≡ cond b (state x) (state y)
+  kept_is {Y} state = ap state is ∙ either b
+    where
+      either : (d : Bool) → state (cond d x y) ≡ cond d (state x) (state y)
+      either true = refl
+      either false = refl
 
 module _ (county : County) (is : IsCounty county) where
   -- the choice with the number that is least of all

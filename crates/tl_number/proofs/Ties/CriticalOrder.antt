@@ -144,13 +144,3 @@ module _ (county : County) (shapes : OrderOfShapes) where
 
   pub tie_of_both : (first n m : ℕ) → AreNodeTies county shapes first n → AreNodeTies county shapes first m → AreNodeTies county shapes n m
   tie_of_both first n m a b = record { ones = both_tied county first n m a.ones b.ones; rest = sym a.rest ∙ b.rest }
-
--- the numbers of critical ends are as many as these, whatever the arrangement
-pub as_many_numbers : (county : County) (critical : List CriticalEnds) (one other : List DirectedChain)
-    → length (critical_numbers county critical one) ≡ length (critical_numbers county critical other)
-as_many_numbers county critical one other = all one ∙ sym (all other)
-  where
-    all : (arrangement : List DirectedChain) → length (critical_numbers county critical arrangement) ≡ length critical
-    all arrangement =
-        let ends = map (ends_at (ends_along county arrangement)) critical in
-        length-map ends (ends_among (first_seen nat_cmp (flat_map nodes_at ends))) ∙ length-map critical (ends_at (ends_along county arrangement))

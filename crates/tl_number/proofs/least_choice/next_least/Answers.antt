@@ -3,7 +3,7 @@ use Rattle.tl_number.proofs.Common.{AreSame, IsNotAfter, One, arranged_county, c
 use Rattle.tl_number.proofs.Common.{type_2_by_chain}
 use Rattle.tl_number.specs.Arrangement.{arranged}
 use Rattle.tl_number.specs.Tidy.{numbered_choice}
-use Rattle.tl_number.proofs.Choices.LeastNumbers.{choices_same, of_either, text_compared, stated_of_either}
+use Rattle.tl_number.proofs.Choices.LeastNumbers.{choices_same, kept_has, kept_is, text_compared}
 use Rattle.tl_number.proofs.Choices.LeastOnes.{tied_with_itself}
 use Rattle.tl_number.proofs.CanonicalLists.SameShapes.{twos_of_numbers}
 use Rattle.tl_number.proofs.least_choice.next_least.Goals as goal
@@ -34,24 +34,16 @@ pub returns-in-Ok : goal.returns-in-Ok
 returns-in-Ok g c =
     let county = g.C.Chart.county c.args.chart.now in
     let least = c.args.least.number in
-    let o = c.compare_texts-ordering.result in
-    let kept = sym c.lesser.ensures in
-    let compared = text_compared county least c.args.number o (arranged_county c.args.least.choice) (arranged_county c.in-Ok.choice)
-    c.requires.choice c.in-Ok.ensures.county c.compare_texts-ordering.ensures in
+    let compared = text_compared county least c.args.number c.compare_texts-ordering.result (arranged_county c.args.least.choice)
+    (arranged_county c.in-Ok.choice) c.requires.choice c.in-Ok.ensures.county c.compare_texts-ordering.ensures in
+    let number = sym (kept_is (is_gt c.compare_texts-ordering.result) c.lesser.result (record { number = c.args.number; choice = c.in-Ok.choice }) c.args.least
+    c.lesser.ensures (λ kept. kept.number)) in
     record {
-      choice = subst (λ kept. arranged_county kept.choice ≡ arranged county (numbered_choice county kept.number)) kept
-          (of_either (λ kept. arranged_county kept.choice ≡ arranged county (numbered_choice county kept.number)) (is_gt o)
-          (record { number = c.args.number; choice = c.in-Ok.choice }) c.args.least c.in-Ok.ensures.county c.requires.choice);
-      source = subst (λ kept. g.C.Chart.county kept.choice.chart.chart.now ≡ county) kept
-          (of_either (λ kept. g.C.Chart.county kept.choice.chart.chart.now ≡ county) (is_gt o)
-          (record { number = c.args.number; choice = c.in-Ok.choice }) c.args.least c.in-Ok.ensures.source c.requires.source);
-      least = subst (λ kept. IsNotAfter (choice_list county kept.number) (choice_list county least)) kept
-          (stated_of_either (λ kept. kept.number) (λ n. IsNotAfter (choice_list county n) (choice_list county least)) (is_gt o)
-          (record { number = c.args.number; choice = c.in-Ok.choice }) c.args.least compared.0);
-      other = subst (λ kept. IsNotAfter (choice_list county kept.number) (choice_list county c.args.number)) kept
-          (stated_of_either (λ kept. kept.number) (λ n. IsNotAfter (choice_list county n) (choice_list county c.args.number)) (is_gt o)
-          (record { number = c.args.number; choice = c.in-Ok.choice }) c.args.least compared.1);
-      tied = subst (λ kept. ones_cmp county least kept.number ≡ Equal) kept
-          (of_either (λ kept. ones_cmp county least kept.number ≡ Equal) (is_gt o)
-          (record { number = c.args.number; choice = c.in-Ok.choice }) c.args.least c.requires.tied (tied_with_itself county least));
+      choice = kept_has _ _ _ _ c.lesser.ensures (λ kept. arranged_county kept.choice ≡ arranged county (numbered_choice county kept.number))
+          c.in-Ok.ensures.county c.requires.choice;
+      source = kept_has _ _ _ _ c.lesser.ensures (λ kept. g.C.Chart.county kept.choice.chart.chart.now ≡ county) c.in-Ok.ensures.source c.requires.source;
+      least = subst (λ n. IsNotAfter (choice_list county n) (choice_list county least)) number compared.0;
+      other = subst (λ n. IsNotAfter (choice_list county n) (choice_list county c.args.number)) number compared.1;
+      tied = kept_has (is_gt c.compare_texts-ordering.result) c.lesser.result (record { number = c.args.number; choice = c.in-Ok.choice }) c.args.least
+          c.lesser.ensures (λ kept. ones_cmp county least kept.number ≡ Equal) c.requires.tied (tied_with_itself county least);
     }
