@@ -36,14 +36,15 @@ returns-in-Ok g c =
     let least = c.args.least.number in
     let compared = text_compared county least c.args.number c.compare_texts-ordering.result (arranged_county c.args.least.choice)
     (arranged_county c.in-Ok.choice) c.requires.choice c.in-Ok.ensures.county c.compare_texts-ordering.ensures in
+    let both = kept_has (is_gt c.compare_texts-ordering.result) c.lesser.result (record { number = c.args.number; choice = c.in-Ok.choice })
+    c.args.least c.lesser.ensures in
     let number = sym (kept_is (is_gt c.compare_texts-ordering.result) c.lesser.result (record { number = c.args.number; choice = c.in-Ok.choice }) c.args.least
     c.lesser.ensures (λ kept. kept.number)) in
     record {
-      choice = kept_has _ _ _ _ c.lesser.ensures (λ kept. arranged_county kept.choice ≡ arranged county (numbered_choice county kept.number))
+      choice = both (λ kept. arranged_county kept.choice ≡ arranged county (numbered_choice county kept.number))
           c.in-Ok.ensures.county c.requires.choice;
-      source = kept_has _ _ _ _ c.lesser.ensures (λ kept. g.C.Chart.county kept.choice.chart.chart.now ≡ county) c.in-Ok.ensures.source c.requires.source;
+      source = both (λ kept. g.C.Chart.county kept.choice.chart.chart.now ≡ county) c.in-Ok.ensures.source c.requires.source;
       least = subst (λ n. IsNotAfter (choice_list county n) (choice_list county least)) number compared.0;
       other = subst (λ n. IsNotAfter (choice_list county n) (choice_list county c.args.number)) number compared.1;
-      tied = kept_has (is_gt c.compare_texts-ordering.result) c.lesser.result (record { number = c.args.number; choice = c.in-Ok.choice }) c.args.least
-          c.lesser.ensures (λ kept. ones_cmp county least kept.number ≡ Equal) c.requires.tied (tied_with_itself county least);
+      tied = both (λ kept. ones_cmp county least kept.number ≡ Equal) c.requires.tied (tied_with_itself county least);
     }
