@@ -1,23 +1,20 @@
 -- The arranged county is a county, and all its numbers are canonical for the arrangement's choice.
-use Rattle.std.proofs.Common.{◌≡◌, ◌⊎◌, ◌≤◌, ℕ, suc, List, [], ◌∷◌, map, length, false, Option}
-use Rattle.std.proofs.Common.{IsTrue, Ordering, is_eq, is_gt, sym, ap, ap₂, ◌∙◌, subst, inl, inr, arith, nat_cmp}
-use Rattle.std.proofs.Common.{IsPermutation}
-use Rattle.tl_number.proofs.Common.{AllByRecursion, AllKeysStandIn, AllStandIn, Among, Arrangement, Arranges, Body5, Body7, BodyP, Carries}
-use Rattle.tl_number.proofs.Common.{Chain, County, Fields8, Grows, IsApart, IsArranged, IsAscending, IsCounty, IsInOrder, IsKeyOrder}
-use Rattle.tl_number.proofs.Common.{IsPermutation-sym, Known, PolygonKey, all-in_order, all_among, all_map, all_uses, all_weaker, among-map}
-use Rattle.tl_number.proofs.Common.{among-permutation, among-unmap, among_known, apart_from_sorted, arranged_tlids, carried_landmark}
-use Rattle.tl_number.proofs.Common.{carried_link, carried_name, carried_polygon, each_from, feats, first_seen, image, in_order}
-use Rattle.tl_number.proofs.Common.{in_order-equal, in_order-in_order, in_order-is_permutation, in_order-map, key_cmp, key_keys, keys_known}
-use Rattle.tl_number.proofs.Common.{known_all, known_cases, known_is_among, landmark_body_cmp, landmark_key, landmark_key_cmp}
+use Rattle.tl_number.proofs.Common.{◌≡◌, ◌⊎◌, ◌≤◌, ℕ, suc, List, [], ◌∷◌, map, length, false, Option, IsTrue, Ordering, is_eq, is_gt, sym}
+use Rattle.tl_number.proofs.Common.{ap, ap₂, ◌∙◌, subst, inl, inr, arith, nat_cmp, IsPermutation, AllByRecursion, AllKeysStandIn}
+use Rattle.tl_number.proofs.Common.{AllStandIn, Among, Arrangement, Arranges, Body5, Body7, BodyP, Carries, Chain, County, Fields8, Grows}
+use Rattle.tl_number.proofs.Common.{IsApart, IsArranged, IsAscending, IsCounty, IsInOrder, IsKeyOrder, IsPermutation-sym}
+use Rattle.tl_number.proofs.Common.{IsStrictlySortedBy, Known, PolygonKey, all-in_order, all_among, all_map, all_uses, all_weaker}
+use Rattle.tl_number.proofs.Common.{among-map, among-permutation, among-unmap, among_known, apart_from_sorted, arranged, arranged_tlids}
+use Rattle.tl_number.proofs.Common.{carried_landmark, carried_link, carried_name, carried_polygon, each_from, feats, first_seen, image}
+use Rattle.tl_number.proofs.Common.{in_order, in_order-equal, in_order-in_order, in_order-is_permutation, in_order-map, key_cmp, key_keys}
+use Rattle.tl_number.proofs.Common.{keys_known, known_all, known_cases, known_is_among, landmark_body_cmp, landmark_key, landmark_key_cmp}
 use Rattle.tl_number.proofs.Common.{landmarks_in_order, lands, length-map, link_cmp, link_keys, link_part_keys, links_relinked, lt-ltb}
 use Rattle.tl_number.proofs.Common.{ltb-true, map-map, name_key, name_key_cmp, names_in_order, nat_keys, new_keys, nodes_along}
 use Rattle.tl_number.proofs.Common.{nodes_in_order, numbered, on, on_total, placed, polygon_keys, polygons_along, polygons_in_order}
-use Rattle.tl_number.proofs.Common.{relinked, rights, same_or_not, stands_in, strict_from_order, times, times-no, times-permutation}
-use Rattle.tl_number.proofs.Common.{times-yes, under_cenid, up_to, uses_of_name}
-use Rattle.std.specs.List.Sorted.{IsStrictlySortedBy}
+use Rattle.tl_number.proofs.Common.{relinked, renaming_of, rights, same_or_not, stands_in, strict_from_order, times, times-no}
+use Rattle.tl_number.proofs.Common.{times-permutation, times-yes, under_cenid, up_to, uses_of_name}
 use Rattle.tl_county.proofs.Sameness.CarriedCounty.{carried_closed, carried_whole, feats-turned}
 use Rattle.ordered_lists.proofs.ByKey.Keys.{map_agree}
-use Rattle.tl_number.specs.Arrangement.{renaming_of, arranged}
 use Rattle.tl_number.specs.ArrangedCounty.{HasOneCenidEach}
 use Rattle.tl_number.specs.Uses.{links_of}
 use Rattle.tl_number.proofs.Arrangements.Carrying.{arrangement_carries, from_placed, polygons_to_placed, keys_arranged}

@@ -1,14 +1,13 @@
 -- The numbers of an arranged county are small, and canonical lists keep the limits of their original lists.
-use Rattle.std.proofs.Common.{◌≡◌, ◌+◌, ◌*◌, ◌<◌, ◌≤◌, ℕ, zero, suc, max, List, [], ◌∷◌, map, flat_map, length}
-use Rattle.std.proofs.Common.{length-append, Option, Some, None, option_to_list, IsTrue, sym, subst, arith}
-use Rattle.std.proofs.Common.{nat_cmp}
-use Rattle.tl_number.proofs.Common.{AllByRecursion, AllKeysStandIn, AllStandIn, Arrangement, Arranges, Body5, Body7, BodyP, Carries, Chain}
-use Rattle.tl_number.proofs.Common.{County, GrowsFrom, IsAccepted, IsArranged, IsCanonicalThrough, IsCounty, IsLeastChoice, IsSight}
-use Rattle.tl_number.proofs.Common.{IsWithinLimits, PolygonKey, Record, all_both, all_known, all_unmap, all_weaker, arranged_list}
-use Rattle.tl_number.proofs.Common.{by_type_of, chain_nodes, chain_polygons, county-is_county, county_of, feats, key_cmp, key_keys, key_on}
-use Rattle.tl_number.proofs.Common.{key_under, known_all, lands, length-map, link_key, lt-ltb, ltb-true, most_records, nat_keys}
-use Rattle.tl_number.proofs.Common.{nodes_along, packed, packed_by_type, packed_five, packed_one, packed_sevens, polygon_keys}
-use Rattle.tl_number.proofs.Common.{polygons_along, range_with_len, stands_in, times, tlids, up_to}
+use Rattle.tl_number.proofs.Common.{◌≡◌, ◌+◌, ◌*◌, ◌<◌, ◌≤◌, ℕ, zero, suc, max, List, [], ◌∷◌, map, flat_map, length, length-append, Option}
+use Rattle.tl_number.proofs.Common.{Some, None, option_to_list, IsTrue, sym, subst, arith, nat_cmp, AllByRecursion, AllKeysStandIn}
+use Rattle.tl_number.proofs.Common.{AllStandIn, Arrangement, Arranges, Body5, Body7, BodyP, Carries, Chain, County, GrowsFrom, IsAccepted}
+use Rattle.tl_number.proofs.Common.{IsArranged, IsCanonicalThrough, IsCounty, IsLeastChoice, IsSight, IsWithinLimits, PolygonKey, Record}
+use Rattle.tl_number.proofs.Common.{all_both, all_known, all_unmap, all_weaker, arranged, arranged_list, by_type_of, chain_nodes}
+use Rattle.tl_number.proofs.Common.{chain_polygons, county-is_county, county_of, feats, key_cmp, key_keys, key_on, key_under, known_all}
+use Rattle.tl_number.proofs.Common.{lands, length-map, link_key, lt-ltb, ltb-true, most_records, nat_keys, nodes_along, packed}
+use Rattle.tl_number.proofs.Common.{packed_by_type, packed_five, packed_one, packed_sevens, polygon_keys, polygons_along, range_with_len}
+use Rattle.tl_number.proofs.Common.{renaming_of, stands_in, times, tlids, up_to}
 use Rattle.tl_layout.specs.Limits.{IsWithinLimit, count_of_type}
 use Rattle.tl_layout.specs.RecordText.{FitsRecord}
 use Rattle.tl_county.proofs.Limits.CarriedLimits.{carried_contents, carried_lists, carried_counts}
@@ -17,7 +16,6 @@ use Rattle.tl_county.proofs.Limits.FitsPacked.{packed-fits}
 use Rattle.ordered_lists.proofs.Lists.Elements.{all_pieces}
 use Rattle.tl_county.specs.Laws.TypeCounts.{HasAtMost, HasWithin, KeepsLimits, by_type_keeps, by_type_within, packed_keeps}
 use Rattle.tl_county.specs.Laws.TypeCounts.{packed_within}
-use Rattle.tl_number.specs.Arrangement.{renaming_of, arranged}
 use Rattle.tl_number.specs.SeenRecords.{ShowsNoMore}
 use Rattle.tl_number.proofs.CanonicalLists.Ascending.{sides_in_profile}
 use Rattle.tl_number.proofs.Arrangements.Carrying.{arrangement_carries}

@@ -1,14 +1,12 @@
 -- The packing of an arranged county is an arranged list of records.
-use Rattle.std.proofs.Common.{◌≡◌, ◌≤◌, ◌-◌, min, ℕ, zero, suc, List, [], ◌∷◌, map, filter_map, length, take}
-use Rattle.std.proofs.Common.{drop, Ordering, is_gt, false, sym, refl, ap, ap₂, ◌∙◌, subst, arith, nat_cmp, map-id, length-drop}
-use Rattle.tl_number.proofs.Common.{AllByRecursion, AreFull, Body7, Chain, Coordinates, County, Fields2, Fields4, Fields6, Fields7}
-use Rattle.tl_number.proofs.Common.{IsArranged, IsArrangedList, IsCounty, IsInOrder, IsPacked, Ranges, StandsInOrder, all_everywhere}
-use Rattle.tl_number.proofs.Common.{all_weaker, by_type_of, in_order-in_order, in_pieces, inner_points, landmark_body_cmp, length-map}
-use Rattle.tl_number.proofs.Common.{length-take, link_cmp, map-map, map_agree_everywhere, nat_cmp_total, numbered_from, of_number, on}
-use Rattle.tl_number.proofs.Common.{on_total, p_polyid, packed, packed_by_type, packed_county, packed_five, packed_fours, packed_i}
-use Rattle.tl_number.proofs.Common.{packed_one, packed_p, packed_sevens, packed_sixes, packed_twos, pieces, rights-numbered_from, then_cmp}
-use Rattle.tl_number.proofs.Common.{up_to}
-use Rattle.std.specs.List.Sorted.{IsStrictlySortedBy}
+use Rattle.tl_number.proofs.Common.{◌≡◌, ◌≤◌, ◌-◌, min, ℕ, zero, suc, List, [], ◌∷◌, map, filter_map, length, take, drop, Ordering, is_gt}
+use Rattle.tl_number.proofs.Common.{false, sym, refl, ap, ap₂, ◌∙◌, subst, arith, nat_cmp, map-id, length-drop, AllByRecursion, AreFull}
+use Rattle.tl_number.proofs.Common.{Body7, Chain, Coordinates, County, Fields2, Fields4, Fields6, Fields7, IsArranged, IsArrangedList}
+use Rattle.tl_number.proofs.Common.{IsCounty, IsInOrder, IsPacked, IsStrictlySortedBy, Ranges, StandsInOrder, all_everywhere, all_weaker}
+use Rattle.tl_number.proofs.Common.{by_type_of, in_order-in_order, in_pieces, inner_points, landmark_body_cmp, length-map, length-take}
+use Rattle.tl_number.proofs.Common.{link_cmp, map-map, map_agree_everywhere, nat_cmp_total, numbered_from, of_number, on, on_total}
+use Rattle.tl_number.proofs.Common.{p_polyid, packed, packed_by_type, packed_county, packed_five, packed_fours, packed_i, packed_one}
+use Rattle.tl_number.proofs.Common.{packed_p, packed_sevens, packed_sixes, packed_twos, pieces, rights-numbered_from, then_cmp, up_to}
 use Rattle.tl_county.specs.County.{one_tlid, two_tlid, two_rtsq, four_tlid, four_rtsq, five_feat, six_tlid, six_rtsq}
 use Rattle.tl_county.specs.County.{seven_land, i_tlid}
 use Rattle.tl_county.specs.Packing.{type_after_type}

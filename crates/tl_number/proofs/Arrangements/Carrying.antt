@@ -1,18 +1,17 @@
 -- The renaming of an arrangement carries the county onto the arranged county.
-use Rattle.std.proofs.Common.{◌≡◌, ℕ, List, map, flat_map, length, Bool}
-use Rattle.std.proofs.Common.{Option, IsTrue, Ordering, sym, refl, ap, ◌∙◌, subst, nat_cmp, IsPermutation}
-use Rattle.tl_number.proofs.Common.{AllByRecursion, AllKeysStandIn, Among, Arrangement, Arranges, Body5, Body7, BodyP, Carries, Chain}
-use Rattle.tl_number.proofs.Common.{County, IsApart, IsCounty, IsKeyOrder, IsPermutation-map, IsPermutation-sym, IsPermutation-trans, Known, PolygonKey}
-use Rattle.tl_number.proofs.Common.{all_among, all_everywhere, all_joined, all_known, all_map, all_uses, among-map, among-permutation}
-use Rattle.tl_number.proofs.Common.{among-unmap, among_known, apart-distinct, apart-permutation, apart-permutation_of, apart_from_sorted}
-use Rattle.tl_number.proofs.Common.{arranged_tlids, carried_chain, carried_landmark, carried_link, carried_name, carried_polygon}
-use Rattle.tl_number.proofs.Common.{chain_nodes, chain_polygons, chains_in_order, entries_of, feats, has_repeat, has_repeat-apart, image}
-use Rattle.tl_number.proofs.Common.{images-lefts, in_order, in_order-is_permutation, key_cmp, key_keys, known-distinct}
-use Rattle.tl_number.proofs.Common.{known-permutation_to, known_all, known_is_among, landmark_key, landmark_key_cmp, landmarks_in_order}
-use Rattle.tl_number.proofs.Common.{lands, lefts, length-map, link_cmp, links_relinked, lt-ltb, ltb-true, map-map, name_key, name_key_cmp}
-use Rattle.tl_number.proofs.Common.{names_in_order, nat_keys, new_keys, nodes, nodes_along, nodes_in_order, numbered, on, placed}
-use Rattle.tl_number.proofs.Common.{polygon_keys, polygons_along, polygons_in_order, rights, rights-numbered_from, stands_in, times, tlids}
-use Rattle.tl_number.proofs.Common.{turned_if, turned_tlids, under_cenid, up_to}
+use Rattle.tl_number.proofs.Common.{◌≡◌, ℕ, List, map, flat_map, length, Bool, Option, IsTrue, Ordering, sym, refl, ap, ◌∙◌, subst, nat_cmp}
+use Rattle.tl_number.proofs.Common.{IsPermutation, AllByRecursion, AllKeysStandIn, Among, Arrangement, Arranges, Body5, Body7, BodyP}
+use Rattle.tl_number.proofs.Common.{Carries, Chain, County, IsApart, IsCounty, IsKeyOrder, IsPermutation-map, IsPermutation-sym}
+use Rattle.tl_number.proofs.Common.{IsPermutation-trans, Known, PolygonKey, all_among, all_everywhere, all_joined, all_known, all_map}
+use Rattle.tl_number.proofs.Common.{all_uses, among-map, among-permutation, among-unmap, among_known, apart-distinct, apart-permutation}
+use Rattle.tl_number.proofs.Common.{apart-permutation_of, apart_from_sorted, arranged_tlids, carried_chain, carried_landmark, carried_link}
+use Rattle.tl_number.proofs.Common.{carried_name, carried_polygon, chain_nodes, chain_polygons, chains_in_order, entries_of, feats}
+use Rattle.tl_number.proofs.Common.{has_repeat, has_repeat-apart, image, images-lefts, in_order, in_order-is_permutation, key_cmp, key_keys}
+use Rattle.tl_number.proofs.Common.{known-distinct, known-permutation_to, known_all, known_is_among, landmark_key, landmark_key_cmp}
+use Rattle.tl_number.proofs.Common.{landmarks_in_order, lands, lefts, length-map, link_cmp, links_relinked, lt-ltb, ltb-true, map-map}
+use Rattle.tl_number.proofs.Common.{name_key, name_key_cmp, names_in_order, nat_keys, new_keys, nodes, nodes_along, nodes_in_order}
+use Rattle.tl_number.proofs.Common.{numbered, on, placed, polygon_keys, polygons_along, polygons_in_order, rights, rights-numbered_from}
+use Rattle.tl_number.proofs.Common.{stands_in, times, tlids, turned_if, turned_tlids, under_cenid, up_to}
 use Rattle.std.proofs.lemmas.List.Sorted.{IsPermutation-refl}
 use Rattle.tl_county.specs.Renumbering.{NumbersArePaired}
 use Rattle.ordered_lists.specs.Pairs.{ArePaired}

@@ -1,14 +1,13 @@
 -- The chains of an arrangement, in their new order and direction and with their new numbers.
-use Rattle.std.proofs.Common.{◌≡◌, ◌⊎◌, ◌≤◌, ℕ, zero, suc, nat_lt, List, [], ◌∷◌, ◌++◌, map, filter, flat_map}
-use Rattle.std.proofs.Common.{length, Bool, true, false, cond, is_eq, sym, refl, ap, ap₂, ◌∙◌, subst, inl, inr, arith}
-use Rattle.std.proofs.Common.{Ordering, nat_cmp, IsPermutation}
-use Rattle.tl_number.proofs.Common.{AllByRecursion, Arrangement, Arranges, Chain, County, IsApart, IsCounty, IsKeyOrder, Known, PolygonKey, Renumbering}
-use Rattle.tl_number.proofs.Common.{all_weaker, apart-permutation, apart_from_sorted, apart_tail, arranged_tlids, carried_chain}
-use Rattle.tl_number.proofs.Common.{chains_in_order, entries_of, image, images-lefts, key_cmp, key_keys, keys_known, known-here}
-use Rattle.tl_number.proofs.Common.{known-permutation, known-permutation_to, known_cases, length-map, lt-ltb, map-append, map-map}
-use Rattle.tl_number.proofs.Common.{map_agree_all, nat_keys, numbered, numbered_from, placed, renumbered, rights-numbered_from, same_or_not}
-use Rattle.tl_number.proofs.Common.{stands_in, times, times-no, times-of_number, times-yes, tlids, turned_if, turned_tlids, turns}
-use Rattle.tl_number.proofs.Common.{under_cenid, up_to}
+use Rattle.tl_number.proofs.Common.{◌≡◌, ◌⊎◌, ◌≤◌, ℕ, zero, suc, nat_lt, List, [], ◌∷◌, ◌++◌, map, filter, flat_map, length, Bool, true}
+use Rattle.tl_number.proofs.Common.{false, cond, is_eq, sym, refl, ap, ap₂, ◌∙◌, subst, inl, inr, arith, Ordering, nat_cmp, IsPermutation}
+use Rattle.tl_number.proofs.Common.{AllByRecursion, Arrangement, Arranges, Chain, County, IsApart, IsCounty, IsKeyOrder, Known, PolygonKey}
+use Rattle.tl_number.proofs.Common.{Renumbering, all_weaker, apart-permutation, apart_from_sorted, apart_tail, arranged_tlids}
+use Rattle.tl_number.proofs.Common.{carried_chain, chains_in_order, entries_of, image, images-lefts, key_cmp, key_keys, keys_known}
+use Rattle.tl_number.proofs.Common.{known-here, known-permutation, known-permutation_to, known_cases, length-map, lt-ltb, map-append}
+use Rattle.tl_number.proofs.Common.{map-map, map_agree_all, nat_keys, numbered, numbered_from, placed, renumbered, rights-numbered_from}
+use Rattle.tl_number.proofs.Common.{same_or_not, stands_in, times, times-no, times-of_number, times-yes, tlids, turned_if, turned_tlids}
+use Rattle.tl_number.proofs.Common.{turns, under_cenid, up_to}
 use Rattle.ordered_lists.proofs.ByKey.Keys.{known-later, image-yes, image-no}
 use Rattle.ordered_lists.proofs.ByKey.Keys.{differ}
 use Rattle.tl_county.proofs.Lists.OfNumber.{of_number-all}

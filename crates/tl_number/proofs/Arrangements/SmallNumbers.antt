@@ -1,12 +1,11 @@
 -- Numbers up to the greatest one of a canonical list: in a county, and in the records that it is packed into.
-use Rattle.std.proofs.Common.{◌≡◌, ◌+◌, ◌<◌, ◌≤◌, ℕ, List, map, flat_map, filter_map, length, Option, Some, None}
-use Rattle.std.proofs.Common.{option_to_list, subst, arith, nat_cmp}
-use Rattle.tl_number.proofs.Common.{AllByRecursion, Body5, Body7, BodyP, Chain, County, Eight, Fields2, Fields4, Fields6, Fields7, Fields8}
-use Rattle.tl_number.proofs.Common.{FieldsP, FitsNumbers, Five, Four, I, IsNumber, IsNumberOrNone, One, P, PolygonKey, Ranges, Record}
-use Rattle.tl_number.proofs.Common.{Seven, Six, Two, all-in_order, all_append, all_both, all_everywhere, all_joined, all_left, all_map}
-use Rattle.tl_number.proofs.Common.{all_right, all_weaker, chain_nodes, chain_polygons, in_order, in_pieces, inner_points, key_on}
-use Rattle.tl_number.proofs.Common.{key_under, numbered_from, on, p_polyid, packed, packed_body, packed_five, packed_fours, packed_i}
-use Rattle.tl_number.proofs.Common.{packed_one, packed_p, packed_sevens, packed_sixes, packed_twos}
+use Rattle.tl_number.proofs.Common.{◌≡◌, ◌+◌, ◌<◌, ◌≤◌, ℕ, List, map, flat_map, filter_map, length, Option, Some, None, option_to_list}
+use Rattle.tl_number.proofs.Common.{subst, arith, nat_cmp, AllByRecursion, Body5, Body7, BodyP, Chain, County, Eight, Fields2, Fields4}
+use Rattle.tl_number.proofs.Common.{Fields6, Fields7, Fields8, FieldsP, FitsNumbers, Five, Four, I, IsNumber, IsNumberOrNone, One, P}
+use Rattle.tl_number.proofs.Common.{PolygonKey, Ranges, Record, Seven, Six, Two, all-in_order, all_append, all_both, all_everywhere}
+use Rattle.tl_number.proofs.Common.{all_joined, all_left, all_map, all_right, all_weaker, chain_nodes, chain_polygons, in_order, in_pieces}
+use Rattle.tl_number.proofs.Common.{inner_points, key_on, key_under, numbered_from, on, p_polyid, packed, packed_body, packed_five}
+use Rattle.tl_number.proofs.Common.{packed_fours, packed_i, packed_one, packed_p, packed_sevens, packed_sixes, packed_twos}
 use Rattle.tl_county.specs.Limits.{NumbersFit}
 use Rattle.tl_county.proofs.Packing.Pieces.{all_in_pieces, all_numbered_from}
 use Rattle.ordered_lists.proofs.Lists.Counted.{all_selected}

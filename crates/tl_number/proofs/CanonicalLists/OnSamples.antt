@@ -1,5 +1,5 @@
 -- The canonical form of the samples: which lists are canonical, and that the samples are carried onto them.
-use Rattle.std.proofs.Common.{◌≡◌, [], ◌∷◌, refl, ap, arith, lit≤, ◌==◌, slice_index, Bool, true, false, cond, map, length, List}
+use Rattle.tl_number.proofs.Common.{◌≡◌, [], ◌∷◌, refl, ap, arith, lit≤, ◌==◌, slice_index, Bool, true, false, cond, map, length, List}
 use Rattle.tl_number.proofs.Common.{AreFull, AreSame, Fields2, IsArranged, IsCanonical, Renumbering, county_of, packed, true≢false, up_to}
 use Rattle.std.proofs.lemmas.List.Sorted.{IsPermutation-refl}
 use Rattle.std.specs.List.Sorted.{IsStrictlySortedBy}

@@ -1,17 +1,14 @@
 -- If the shapes of chains are distinct, and none is its own reverse, there is one choice: the ascending arrangement.
-use Rattle.std.proofs.Common.{◌≡◌, ◌<◌, ◌*◌, suc, List, [], ◌∷◌, map, reverse, Bool, false, cond, Ordering, Less, Equal, Greater}
-use Rattle.std.proofs.Common.{is_eq, is_gt, sym, refl, ap, ◌∙◌, subst, arith}
-use Rattle.tl_number.proofs.Common.{AllByRecursion, AreSame, Arrangement, County, HasShapesApart, IsApart, IsArrangedList, IsCanonical}
-use Rattle.tl_number.proofs.Common.{IsChoice, IsCounty, IsKeyOrder, IsLeastChoice, IsNotAfter, IsTidy, IsTidyList, Record, all_map}
-use Rattle.tl_number.proofs.Common.{all_weaker, apart_from_no_repeat, apart_from_sorted, apart_tail, arranged_list, ascending, choices}
-use Rattle.tl_number.proofs.Common.{choices_of_shapes, county-is_county, county_of, entry_points, entry_shape, has_repeat-apart}
-use Rattle.tl_number.proofs.Common.{is_either_way, map_agree_all, points_cmp, points_from, points_keys, running, same-reflexive, shapes}
-use Rattle.tl_number.proofs.Common.{times, times-yes}
-use Rattle.std.specs.List.Sorted.{IsStrictlySortedBy}
+use Rattle.tl_number.proofs.Common.{◌≡◌, ◌<◌, ◌*◌, suc, List, [], ◌∷◌, map, reverse, Bool, false, cond, Ordering, Less, Equal, Greater}
+use Rattle.tl_number.proofs.Common.{is_eq, is_gt, sym, refl, ap, ◌∙◌, subst, arith, AllByRecursion, AreSame, Arrangement, County}
+use Rattle.tl_number.proofs.Common.{HasShapesApart, IsApart, IsArrangedList, IsCanonical, IsChoice, IsCounty, IsKeyOrder, IsLeastChoice}
+use Rattle.tl_number.proofs.Common.{IsNotAfter, IsStrictlySortedBy, IsTidy, IsTidyList, Record, all_map, all_weaker, apart_from_no_repeat}
+use Rattle.tl_number.proofs.Common.{apart_from_sorted, apart_tail, arranged_list, ascending, choices, choices_of_shapes, county-is_county}
+use Rattle.tl_number.proofs.Common.{county_of, entry_points, entry_shape, has_repeat-apart, is_either_way, map_agree_all, numbered_choice}
+use Rattle.tl_number.proofs.Common.{points_cmp, points_from, points_keys, running, same-reflexive, shapes, times, times-yes}
 use Rattle.ordered_lists.proofs.Lists.EntryLists.{in_order-strict}
 use Rattle.ordered_lists.proofs.Lists.InOrder.{strict-unmap}
 use Rattle.tl_number.specs.Strict.{IsStrict}
-use Rattle.tl_number.specs.Tidy.{numbered_choice}
 use Rattle.tl_number.proofs.Choices.AscendingArrangement.{turned_same}
 use Rattle.tl_number.proofs.Lists.SortedPlaces.{in_order-unmap}
 use Rattle.tl_number.proofs.Choices.TidyChoices.{choice_number, first_choice, numbered_is_choice}

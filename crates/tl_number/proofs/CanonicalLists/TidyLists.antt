@@ -1,14 +1,11 @@
 -- The tidy lists of a map are the lists of its choices. Some choice has the least text, its list is canonical, and all canonical
 -- lists of one map have the same text.
-use Rattle.std.proofs.Common.{◌≡◌, ◌<◌, ℕ, List, sym, ap, ◌∙◌, subst, arith}
-use Rattle.tl_number.proofs.Common.{AllKeysStandIn, AreSame, Arrangement, Carries, County, IsCanonical, IsChoice, IsCounty, IsLeastChoice}
-use Rattle.tl_number.proofs.Common.{IsNotAfter, IsTidy, IsTidyList, Record, arranged_list, choices, county-is_county, county_of}
-use Rattle.tl_number.proofs.Common.{order_antisymm, packed, packed_county, polygon_keys, polygons_along, same-symmetric, same-transitive}
-use Rattle.tl_number.proofs.Common.{text_of}
+use Rattle.tl_number.proofs.Common.{◌≡◌, ◌<◌, ℕ, List, sym, ap, ◌∙◌, subst, arith, AllKeysStandIn, AreSame, Arrangement, Carries, County}
+use Rattle.tl_number.proofs.Common.{IsCanonical, IsChoice, IsCounty, IsLeastChoice, IsNotAfter, IsTidy, IsTidyList, Record, arranged}
+use Rattle.tl_number.proofs.Common.{arranged_list, choices, county-is_county, county_of, numbered_choice, order_antisymm, packed}
+use Rattle.tl_number.proofs.Common.{packed_county, polygon_keys, polygons_along, renaming_of, same-symmetric, same-transitive, text_of}
 use Rattle.ordered_lists.proofs.ByKey.KeyOrders.{bytes_keys}
 use Rattle.ordered_lists.proofs.ByKey.Keys.{order_itself}
-use Rattle.tl_number.specs.Arrangement.{renaming_of, arranged}
-use Rattle.tl_number.specs.Tidy.{numbered_choice}
 use Rattle.tl_number.proofs.Arrangements.ArrangedCounties.{arranged_county, is_arranged}
 use Rattle.tl_number.proofs.Arrangements.ArrangedPacking.{packed_arranged}
 use Rattle.tl_number.proofs.Arrangements.Carrying.{arrangement_carries}

@@ -1,12 +1,10 @@
 -- All chains in the order of their shapes and places are the ascending arrangement.
-use Rattle.std.proofs.Common.{◌≡◌, ◌<◌, ℕ, List, [], ◌∷◌, map, length, Bool, true, false, Less, Equal, Option}
-use Rattle.std.proofs.Common.{Some, None}
-use Rattle.std.proofs.Common.{option_map, slice_get, is_gt, is_lt, refl, sym, ap, ap₂, ◌∙◌, subst, nat_cmp}
-use Rattle.std.proofs.Common.{reverse, Ordering}
-use Rattle.tl_number.proofs.Common.{AllByRecursion, AreInShapeOrder, Chain, Coordinates, County, DirectedChain, HasChainsOf, IsTotalOrder}
-use Rattle.tl_number.proofs.Common.{all_unmap, arrangement_of, ascending, chain_at, entry_shape, in_order, least_points, on, on_total}
-use Rattle.tl_number.proofs.Common.{option_cmp, ordering_reverse, ordering_then, points_along, points_cmp, points_from, points_keys}
-use Rattle.tl_number.proofs.Common.{points_of, slice_get-map, tlid_at, tlids, turned_if}
+use Rattle.tl_number.proofs.Common.{◌≡◌, ◌<◌, ℕ, List, [], ◌∷◌, map, length, Bool, true, false, Less, Equal, Option, Some, None, option_map}
+use Rattle.tl_number.proofs.Common.{slice_get, is_gt, is_lt, refl, sym, ap, ap₂, ◌∙◌, subst, nat_cmp, reverse, Ordering, AllByRecursion}
+use Rattle.tl_number.proofs.Common.{AreInShapeOrder, Chain, Coordinates, County, DirectedChain, HasChainsOf, IsTotalOrder, all_unmap}
+use Rattle.tl_number.proofs.Common.{arrangement_of, ascending, chain_at, entry_shape, in_order, least_points, on, on_total, option_cmp}
+use Rattle.tl_number.proofs.Common.{ordering_reverse, ordering_then, points_along, points_cmp, points_from, points_keys, points_of}
+use Rattle.tl_number.proofs.Common.{slice_get-map, tlid_at, tlids, turned_if}
 use Rattle.std.proofs.lemmas.Option.{get_or_from_slice_get}
 use Rattle.ordered_lists.proofs.ByKey.KeyedLists.{lt_reversed}
 use Rattle.tl_profile.proofs.Places.{along_from}

@@ -1,16 +1,15 @@
 -- Chains in the order of their shapes, moved at their open places, are the choice with a number.
-use Rattle.std.proofs.Common.{◌≡◌, ◌<◌, ◌≤◌, ◌+◌, ◌/◌, ◌%◌, ℕ, zero, suc, List, [], ◌∷◌, ◌++◌, map, take, drop, length, Bool, true, false}
-use Rattle.std.proofs.Common.{cond}
-use Rattle.std.proofs.Common.{Ordering, sym, refl, ap, ◌∙◌, subst, arith}
-use Rattle.tl_number.proofs.Common.{AgreeApart, AllByRecursion, AreInShapeOrder, AreWithin, County, DirectedChain, HasChainsOf, IsCounty}
-use Rattle.tl_number.proofs.Common.{IsKeyOrder, IsMoved, IsPermutation-insert, NamesEachOnce, OpenPlace, OrderOfShapes, StandInOrder}
-use Rattle.tl_number.proofs.Common.{arranged_tlids, arrangement_of, chosen, insert, is_either_way, length-map, length_permutation}
-use Rattle.tl_number.proofs.Common.{map-append, moved, nat_keys, numbered_arrangement, open_places, other_way, points_along, points_cmp}
-use Rattle.tl_number.proofs.Common.{points_keys, stood, times, times-permutation, tlid_at, tlids, turned_by}
+use Rattle.tl_number.proofs.Common.{◌≡◌, ◌<◌, ◌≤◌, ◌+◌, ◌/◌, ◌%◌, ℕ, zero, suc, List, [], ◌∷◌, ◌++◌, map, take, drop, length, Bool, true}
+use Rattle.tl_number.proofs.Common.{false, cond, Ordering, sym, refl, ap, ◌∙◌, subst, arith, AgreeApart, AllByRecursion, AreInShapeOrder}
+use Rattle.tl_number.proofs.Common.{AreWithin, County, DirectedChain, HasChainsOf, IsCounty, IsKeyOrder, IsMoved, IsPermutation-insert}
+use Rattle.tl_number.proofs.Common.{NamesEachOnce, OpenPlace, OrderOfShapes, StandInOrder, arranged_tlids, arrangement_of, chosen, insert}
+use Rattle.tl_number.proofs.Common.{is_either_way, length-map, length_permutation, map-append, moved, nat_keys, numbered_arrangement}
+use Rattle.tl_number.proofs.Common.{numbered_choice, open_places, other_way, points_along, points_cmp, points_keys, stood, times}
+use Rattle.tl_number.proofs.Common.{times-permutation, tlid_at, tlids, turned_by}
 use Rattle.std.proofs.lemmas.List.{drop-map, take-map}
 use Rattle.tl_profile.specs.Choices.{is_settled, open_place_at}
 use Rattle.tl_profile.proofs.CountedChoices.{alike_few}
-use Rattle.tl_number.specs.Tidy.{directed_shape, turned_directed, numbered_choice}
+use Rattle.tl_number.specs.Tidy.{directed_shape, turned_directed}
 use Rattle.tl_number.proofs.Choices.AscendingArrangement.{arrangement_ascend, arrangement_there, shapes_of_order}
 use Rattle.tl_number.proofs.Choices.Choosing.{all_insert}
 use Rattle.tl_number.proofs.Choices.FixedPlaces.{moved_apart, open_in_order}

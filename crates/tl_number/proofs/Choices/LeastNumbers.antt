@@ -1,12 +1,10 @@
 -- The least of the texts of numbered choices, number by number.
-use Rattle.std.proofs.Common.{◌≡◌, ◌≤◌, ◌+◌, ℕ, nat_lt, List, Bool, true, false, cond, Ordering, is_gt, nat_cmp, refl, sym, ap, ◌∙◌, subst}
-use Rattle.std.proofs.Common.{arith}
-use Rattle.tl_number.proofs.Common.{AllKeysStandIn, AreSame, Arrangement, County, IsChoice, IsCounty, IsLeastBelow, IsLeastChoice}
-use Rattle.tl_number.proofs.Common.{IsLeastFrom, IsNotAfter, arranged_list, choice_list, choices, ltb-false, ltb-true, not_greater, packed}
-use Rattle.tl_number.proofs.Common.{polygon_keys, polygons_along, same-symmetric, same-transitive, slice_cmp, text_of, upto}
+use Rattle.tl_number.proofs.Common.{◌≡◌, ◌≤◌, ◌+◌, ℕ, nat_lt, List, Bool, true, false, cond, Ordering, is_gt, nat_cmp, refl, sym, ap, ◌∙◌}
+use Rattle.tl_number.proofs.Common.{subst, arith, AllKeysStandIn, AreSame, Arrangement, County, IsChoice, IsCounty, IsLeastBelow}
+use Rattle.tl_number.proofs.Common.{IsLeastChoice, IsLeastFrom, IsNotAfter, arranged, arranged_list, choice_list, choices, ltb-false}
+use Rattle.tl_number.proofs.Common.{ltb-true, not_greater, numbered_choice, packed, polygon_keys, polygons_along, renaming_of}
+use Rattle.tl_number.proofs.Common.{same-symmetric, same-transitive, slice_cmp, text_of, upto}
 use Rattle.ordered_lists.proofs.ByKey.KeyOrders.{bytes_keys}
-use Rattle.tl_number.specs.Arrangement.{arranged, renaming_of}
-use Rattle.tl_number.specs.Tidy.{numbered_choice}
 use Rattle.tl_number.proofs.Arrangements.ArrangedCounties.{arranged_county}
 use Rattle.tl_number.proofs.Arrangements.Carrying.{arrangement_carries}
 use Rattle.tl_number.proofs.Choices.Choosing.{one_more}

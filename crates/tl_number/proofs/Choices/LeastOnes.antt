@@ -1,15 +1,13 @@
 -- The least type 1 records of choices, number by number, and the consequence for texts.
-use Rattle.std.proofs.Common.{◌≡◌, ◌<◌, ◌≤◌, ◌+◌, ℕ, suc, nat_lt, List, Bool, true, false, Ordering, Less, Equal, Greater}
-use Rattle.std.proofs.Common.{is_eq, is_gt, length, map, sym, refl, ap, ◌∙◌, subst, arith}
-use Rattle.tl_number.proofs.Common.{AgreeApart, AllKeysStandIn, AreInShapeOrder, AreWhole, AreWithin, County, DirectedChain, IsCounty}
-use Rattle.tl_number.proofs.Common.{IsLeastFrom, IsNotAfter, IsWithinLimits, OpenPlace, Record, StandInOrder, choice_list, directed_chain}
-use Rattle.tl_number.proofs.Common.{false≢true, few_chains, is_either_way, ltb-false, ltb-true, most_records, moved, not_greater, ones_cmp}
+use Rattle.tl_number.proofs.Common.{◌≡◌, ◌<◌, ◌≤◌, ◌+◌, ℕ, suc, nat_lt, List, Bool, true, false, Ordering, Less, Equal, Greater, is_eq}
+use Rattle.tl_number.proofs.Common.{is_gt, length, map, sym, refl, ap, ◌∙◌, subst, arith, AgreeApart, AllKeysStandIn, AreInShapeOrder}
+use Rattle.tl_number.proofs.Common.{AreWhole, AreWithin, County, DirectedChain, IsCounty, IsLeastFrom, IsNotAfter, IsWithinLimits}
+use Rattle.tl_number.proofs.Common.{OpenPlace, Record, StandInOrder, arranged, choice_list, directed_chain, false≢true, few_chains}
+use Rattle.tl_number.proofs.Common.{is_either_way, ltb-false, ltb-true, most_records, moved, not_greater, numbered_choice, ones_cmp}
 use Rattle.tl_number.proofs.Common.{ones_of, open_places, ordering_then, other_way, packed, points_along, points_cmp, polygon_keys}
 use Rattle.tl_number.proofs.Common.{polygons_along, tied_itself, upto}
 use Rattle.std.specs.Ordering.{is_le}
-use Rattle.tl_number.specs.Arrangement.{arranged}
 use Rattle.tl_number.specs.MovedChains.{AgreeButOpen}
-use Rattle.tl_number.specs.Tidy.{numbered_choice}
 use Rattle.tl_number.specs.TypeOneOrder.{IsLeastOne}
 use Rattle.tl_number.proofs.Arrangements.ArrangedCounties.{arranged_county}
 use Rattle.tl_number.proofs.Arrangements.ArrangedNumbers.{arrangement_within}

@@ -1,20 +1,19 @@
 -- The choices that make a county tidy are those selected by numbers.
-use Rattle.std.proofs.Common.{◌≡◌, ◌⊎◌, ◌<◌, ◌==◌, ℕ, List, [], ◌∷◌, ◌++◌, map, flat_map, reverse, Bool, true, false, not, Ordering, Less}
-use Rattle.std.proofs.Common.{Equal, Greater, is_eq, is_gt, is_lt, sym, refl, ap, ◌∙◌, subst, inl, inr, nat_cmp, IsPermutation}
+use Rattle.tl_number.proofs.Common.{◌≡◌, ◌⊎◌, ◌<◌, ◌==◌, ℕ, List, [], ◌∷◌, ◌++◌, map, flat_map, reverse, Bool, true, false, not, Ordering}
+use Rattle.tl_number.proofs.Common.{Less, Equal, Greater, is_eq, is_gt, is_lt, sym, refl, ap, ◌∙◌, subst, inl, inr, nat_cmp, IsPermutation}
 use Rattle.tl_number.proofs.Common.{AllByRecursion, Among, Arrangement, Arranges, Chain, Coordinates, County, IsChoice, IsCounty, IsInOrder}
 use Rattle.tl_number.proofs.Common.{IsPermutation-map, IsPermutation-trans, IsTidy, Known, all_both, all_map, all_unmap, all_weaker}
-use Rattle.tl_number.proofs.Common.{among-map, among_known, arranged_tlids, ascending, choices, choices_of_shapes, chosen, each_from}
-use Rattle.tl_number.proofs.Common.{entries_of, entry_points, entry_shape, eq-eqb, false≢true, in_order, in_order-in_order}
+use Rattle.tl_number.proofs.Common.{among-map, among_known, arranged, arranged_tlids, ascending, choices, choices_of_shapes, chosen}
+use Rattle.tl_number.proofs.Common.{each_from, entries_of, entry_points, entry_shape, eq-eqb, false≢true, in_order, in_order-in_order}
 use Rattle.tl_number.proofs.Common.{in_order-is_permutation, in_order-map, is_either_way, keys_known, known-permutation_to, least_points}
 use Rattle.tl_number.proofs.Common.{map-map, map_agree_all, nat_keys, on, on_total, order_antisymm, placed, points_cmp, points_from}
-use Rattle.tl_number.proofs.Common.{points_keys, rights-numbered_from, running, same-itself, same-true, shapes, times-permutation, tlids}
-use Rattle.tl_number.proofs.Common.{to_filter, turned_if}
+use Rattle.tl_number.proofs.Common.{points_keys, renaming_of, rights-numbered_from, running, same-itself, same-true, shapes}
+use Rattle.tl_number.proofs.Common.{times-permutation, tlids, to_filter, turned_if}
 use Rattle.std.proofs.lemmas.List.{append-nil, reverse-reverse}
 use Rattle.ordered_lists.proofs.ByKey.Numbers.{from_in_order}
 use Rattle.ordered_lists.proofs.Lists.Reordered.{from_permutation}
 use Rattle.tl_profile.proofs.Factorials.{running-same}
 use Rattle.tl_number.specs.Arrangement.{comes_turned}
-use Rattle.tl_number.specs.Arrangement.{renaming_of, arranged}
 use Rattle.tl_number.specs.Tidy.{directed_shape, turned_directed, numbered_choice}
 use Rattle.tl_number.proofs.Choices.AscendingArrangement.{shape_turned, turned_same}
 use Rattle.tl_number.proofs.Arrangements.Carrying.{chains_arranged}

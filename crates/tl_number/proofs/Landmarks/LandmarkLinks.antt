@@ -1,9 +1,8 @@
 -- Links gathered landmark by landmark, and counted LAND by LAND.
-use Rattle.std.proofs.Common.{◌≡◌, ◌⊎◌, ◌<◌, ◌≤◌, ◌+◌, ◌-◌, ℕ, zero, suc, nat_le, List, [], ◌∷◌, ◌++◌, map, filter, flat_map, length}
-use Rattle.std.proofs.Common.{Bool, true, false, cond, not, Ordering, Less, Equal, Greater, is_gt, Some}
-use Rattle.std.proofs.Common.{slice_get}
-use Rattle.std.proofs.Common.{refl, sym, ap, ap₂, ◌∙◌, subst, inl, inr, arith, nat_cmp, append-nil, append_assoc, IsPermutation, IsTrue}
-use Rattle.tl_number.proofs.Common.{County, Fields8, IsCounty, IsInOrder, IsPermutation-map, IsPermutation-sym, IsPermutation-trans, Known}
+use Rattle.tl_number.proofs.Common.{◌≡◌, ◌⊎◌, ◌<◌, ◌≤◌, ◌+◌, ◌-◌, ℕ, zero, suc, nat_le, List, [], ◌∷◌, ◌++◌, map, filter, flat_map, length}
+use Rattle.tl_number.proofs.Common.{Bool, true, false, cond, not, Ordering, Less, Equal, Greater, is_gt, Some, slice_get, refl, sym, ap}
+use Rattle.tl_number.proofs.Common.{ap₂, ◌∙◌, subst, inl, inr, arith, nat_cmp, append-nil, append_assoc, IsPermutation, IsTrue, County}
+use Rattle.tl_number.proofs.Common.{Fields8, IsCounty, IsInOrder, IsPermutation-map, IsPermutation-sym, IsPermutation-trans, Known}
 use Rattle.tl_number.proofs.Common.{MatchOrdering, all_weaker, apart_from_sorted, eight_land, in_order, in_order-in_order}
 use Rattle.tl_number.proofs.Common.{in_order-is_permutation, in_order-permutation, lands, length-map, link_cmp, link_keys, links_at}
 use Rattle.tl_number.proofs.Common.{links_up_to, links_with, ltb-true, map-append, nat_keys, of_number, range_with_len, ranked, stands_in}

@@ -1,6 +1,6 @@
 -- Lists that count from a number: they ascend, and lists with the same length are equal.
-use Rattle.std.proofs.Common.{◌≡◌, ◌<◌, ◌+◌, ℕ, zero, suc, List, [], ◌∷◌, ◌++◌, map, flat_map, Less, Equal, Greater, refl, ap, arith, nat_cmp, cond, ◌==◌}
-use Rattle.tl_number.proofs.Common.{AllByRecursion, lt-ltb, range_with_len, up_to}
+use Rattle.tl_number.proofs.Common.{◌≡◌, ◌<◌, ◌+◌, ℕ, zero, suc, List, [], ◌∷◌, ◌++◌, map, flat_map, Less, Equal, Greater, refl, ap, arith}
+use Rattle.tl_number.proofs.Common.{nat_cmp, cond, ◌==◌, AllByRecursion, lt-ltb, range_with_len, up_to}
 use Rattle.std.specs.List.Sorted.{IsStrictlySortedBy}
 
 pub less : (m n : ℕ) → m < n → nat_cmp m n ≡ Less

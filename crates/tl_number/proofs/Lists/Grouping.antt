@@ -1,10 +1,9 @@
 -- A list that ascends by a number is its elements number by number; and a list in pieces is joined again.
-use Rattle.std.proofs.Common.{◌≡◌, ◌⊎◌, ◌<◌, ◌≤◌, ◌+◌, ℕ, zero, suc, List, [], ◌∷◌, ◌++◌, map, flat_map, filter, length}
-use Rattle.std.proofs.Common.{length-append, take, drop, Bool, true, false, cond, Ordering, Less, Equal, Greater, is_gt, is_eq}
-use Rattle.std.proofs.Common.{sym, refl, ap, ap₂, ◌∙◌, subst, inl, inr, arith, nat_cmp, add-one, append-nil}
-use Rattle.tl_number.proofs.Common.{AllByRecursion, AreFull, IsInOrder, Known, MatchOrdering, all_weaker, eq-eqb, false≢true, known_all}
-use Rattle.tl_number.proofs.Common.{known_cases, nat_keys, ne_eqb, numbered_from, of_number, on, ordering_then, pieces, range_with_len}
-use Rattle.tl_number.proofs.Common.{ranked}
+use Rattle.tl_number.proofs.Common.{◌≡◌, ◌⊎◌, ◌<◌, ◌≤◌, ◌+◌, ℕ, zero, suc, List, [], ◌∷◌, ◌++◌, map, flat_map, filter, length}
+use Rattle.tl_number.proofs.Common.{length-append, take, drop, Bool, true, false, cond, Ordering, Less, Equal, Greater, is_gt, is_eq, sym}
+use Rattle.tl_number.proofs.Common.{refl, ap, ap₂, ◌∙◌, subst, inl, inr, arith, nat_cmp, add-one, append-nil, AllByRecursion, AreFull}
+use Rattle.tl_number.proofs.Common.{IsInOrder, Known, MatchOrdering, all_weaker, eq-eqb, false≢true, known_all, known_cases, nat_keys}
+use Rattle.tl_number.proofs.Common.{ne_eqb, numbered_from, of_number, on, ordering_then, pieces, range_with_len, ranked}
 use Rattle.std.specs.List.Sorted.{IsStrictlySortedBy}
 use Rattle.ordered_lists.proofs.Lists.Elements.{all_filter}
 

@@ -1,17 +1,15 @@
 -- Names sorted by their bytes, the ranks of their first uses and their places are in their new order.
-use Rattle.std.proofs.Common.{◌≡◌, ◌<◌, ◌≤◌, ◌+◌, ℕ, suc, nat_lt, List, [], ◌∷◌, ◌++◌, map, flat_map, filter_map, length, Bool}
-use Rattle.std.proofs.Common.{true, false}
-use Rattle.std.proofs.Common.{cond, not, Ordering, Less, Equal, Greater, Option, Some, None, option_map, slice_get, is_eq, sym, refl, ap}
-use Rattle.std.proofs.Common.{ap₂}
-use Rattle.std.proofs.Common.{◌∙◌, subst, arith, nat_cmp, IsPermutation, append-nil, append_assoc}
-use Rattle.tl_number.proofs.Common.{AreReadAt, AreWhole, Arrangement, Body5, Chain, County, DirectedChain, IsApart, IsCounty, IsInOrder}
-use Rattle.tl_number.proofs.Common.{IsKeyOrder, IsPermutation-map, IsTotalOrder, Use, all_uses, apart-permutation, apart_from_sorted}
-use Rattle.tl_number.proofs.Common.{arranged_tlids, arrangement_of, cons_option, entry_keys, feats, feats_along_arrangement, first_seen}
-use Rattle.tl_number.proofs.Common.{first_seen_after, has_repeat, has_repeat-apart, length-map, length_permutation, ltb-false, ltb-true}
-use Rattle.tl_number.proofs.Common.{map-append, name_key, name_key_cmp, names_in_order, nat_cmp_total, nat_keys, on_total, option_cmp}
-use Rattle.tl_number.proofs.Common.{ordering_then, placed, position_or_len, range_with_len, slice_cmp, slice_get-map, stands_in, then_total}
-use Rattle.tl_number.proofs.Common.{times-append, times-yes, use_cmp, uses_from, uses_of_name}
-use Rattle.std.specs.List.Sorted.{IsStrictlySortedBy}
+use Rattle.tl_number.proofs.Common.{◌≡◌, ◌<◌, ◌≤◌, ◌+◌, ℕ, suc, nat_lt, List, [], ◌∷◌, ◌++◌, map, flat_map, filter_map, length, Bool, true}
+use Rattle.tl_number.proofs.Common.{false, cond, not, Ordering, Less, Equal, Greater, Option, Some, None, option_map, slice_get, is_eq, sym}
+use Rattle.tl_number.proofs.Common.{refl, ap, ap₂, ◌∙◌, subst, arith, nat_cmp, IsPermutation, append-nil, append_assoc, AreReadAt, AreWhole}
+use Rattle.tl_number.proofs.Common.{Arrangement, Body5, Chain, County, DirectedChain, IsApart, IsCounty, IsInOrder, IsKeyOrder}
+use Rattle.tl_number.proofs.Common.{IsPermutation-map, IsStrictlySortedBy, IsTotalOrder, Use, all_uses, apart-permutation}
+use Rattle.tl_number.proofs.Common.{apart_from_sorted, arranged_tlids, arrangement_of, cons_option, entry_keys, feats}
+use Rattle.tl_number.proofs.Common.{feats_along_arrangement, first_seen, first_seen_after, has_repeat, has_repeat-apart, length-map}
+use Rattle.tl_number.proofs.Common.{length_permutation, ltb-false, ltb-true, map-append, name_key, name_key_cmp, names_in_order}
+use Rattle.tl_number.proofs.Common.{nat_cmp_total, nat_keys, on_total, option_cmp, ordering_then, placed, position_or_len, range_with_len}
+use Rattle.tl_number.proofs.Common.{slice_cmp, slice_get-map, stands_in, then_total, times-append, times-yes, use_cmp, uses_from}
+use Rattle.tl_number.proofs.Common.{uses_of_name}
 use Rattle.tl_county.specs.BodyOrder.{name_body_cmp}
 use Rattle.tl_county.specs.ChartWords.{name_at}
 use Rattle.tl_county.specs.Laws.KeyOrders.{name_body_keys}

@@ -1,12 +1,10 @@
 -- The first uses of two names along the chains decide as all their uses do.
-use Rattle.std.proofs.Common.{◌≡◌, ◌⊎◌, ◌<◌, ◌≤◌, ◌+◌, ◌==◌, ℕ, zero, suc, List, [], ◌∷◌, ◌++◌, map, filter, length, Bool, true}
-use Rattle.std.proofs.Common.{false, cond, Less, Greater, is_eq, sym, refl, ap, ap₂, ◌∙◌, subst, inl}
-use Rattle.std.proofs.Common.{inr}
-use Rattle.std.proofs.Common.{arith, nat_cmp, nat_lt, length-append}
-use Rattle.tl_number.proofs.Common.{AllByRecursion, Among, IsTotalOrder, Known, Use, all_among, among-map, eq-eqb, first_seen_after}
-use Rattle.tl_number.proofs.Common.{known-here, known-right, length-map, lists_keys, nat_cmp_total, nat_keys, ne_eqb, ordering_reverse}
-use Rattle.tl_number.proofs.Common.{ordering_then, same_or_not, slice_cmp, stands_in, tied_itself, times, times-append, times-no}
-use Rattle.tl_number.proofs.Common.{times-of_number, times-yes, use_cmp, uses_of_name}
+use Rattle.tl_number.proofs.Common.{◌≡◌, ◌⊎◌, ◌<◌, ◌≤◌, ◌+◌, ◌==◌, ℕ, zero, suc, List, [], ◌∷◌, ◌++◌, map, filter, length, Bool, true}
+use Rattle.tl_number.proofs.Common.{false, cond, Less, Greater, is_eq, sym, refl, ap, ap₂, ◌∙◌, subst, inl, inr, arith, nat_cmp, nat_lt}
+use Rattle.tl_number.proofs.Common.{length-append, AllByRecursion, Among, IsTotalOrder, Known, Use, all_among, among-map, eq-eqb}
+use Rattle.tl_number.proofs.Common.{first_seen_after, known-here, known-right, length-map, lists_keys, nat_cmp_total, nat_keys, ne_eqb}
+use Rattle.tl_number.proofs.Common.{ordering_reverse, ordering_then, same_or_not, slice_cmp, stands_in, tied_itself, times, times-append}
+use Rattle.tl_number.proofs.Common.{times-no, times-of_number, times-yes, use_cmp, uses_of_name}
 use Rattle.std.specs.List.Sorted.{IsStrictlySortedBy}
 use Rattle.ordered_lists.proofs.ByKey.Keys.{differ_apart}
 use Rattle.tl_number.proofs.Lists.Counting.{less}

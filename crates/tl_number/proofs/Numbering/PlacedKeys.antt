@@ -1,8 +1,8 @@
 -- Keys in a list that are found by marks or in a table of others: that one more key is found too, and where a key stands.
-use Rattle.std.proofs.Common.{◌≡◌, ◌⊎◌, ◌<◌, ◌+◌, ◌%◌, ℕ, zero, suc, List, [], ◌∷◌, ◌++◌, length, length-set, set, get_or, slice_get, Bool, true, false}
-use Rattle.std.proofs.Common.{Ordering, Option, Some, None, IfSome, is_eq, is_some, refl, sym, ap, ◌∙◌, subst, inl, inr, arith, length-append}
-use Rattle.std.proofs.Common.{Result, Ok, Err, IfOk}
-use Rattle.tl_number.proofs.Common.{IsKeyOrder, any-stands_in, false≢true, list_any, lt-ltb, position, same-itself, stands_in, times}
+use Rattle.tl_number.proofs.Common.{◌≡◌, ◌⊎◌, ◌<◌, ◌+◌, ◌%◌, ℕ, zero, suc, List, [], ◌∷◌, ◌++◌, length, length-set, set, get_or, slice_get}
+use Rattle.tl_number.proofs.Common.{Bool, true, false, Ordering, Option, Some, None, IfSome, is_eq, is_some, refl, sym, ap, ◌∙◌, subst, inl}
+use Rattle.tl_number.proofs.Common.{inr, arith, length-append, Result, Ok, Err, IfOk, IsKeyOrder, any-stands_in, false≢true, list_any}
+use Rattle.tl_number.proofs.Common.{lt-ltb, position, same-itself, stands_in, times}
 use Rattle.std.specs.Prelude.{OnOk}
 use Rattle.std.proofs.lemmas.List.{get_or-set_other, get_or-set_same}
 use Rattle.std.proofs.lemmas.Option.{none-some, same_Some}

@@ -1,7 +1,7 @@
 -- The place of a key among those that were seen, and that it stays there.
-use Rattle.std.proofs.Common.{◌≡◌, ◌<◌, ◌≤◌, ◌+◌, ◌||◌, ℕ, suc, nat_lt, List, [], ◌∷◌, ◌++◌, length, Bool, true, false, cond, not}
-use Rattle.std.proofs.Common.{Ordering, Some, None, is_eq, refl, sym, ap, ◌∙◌, arith, length-append}
-use Rattle.tl_number.proofs.Common.{IsKeyOrder, first_seen_after, list_any, lt-ltb, ltb-true, position, position_or_len, same-itself}
+use Rattle.tl_number.proofs.Common.{◌≡◌, ◌<◌, ◌≤◌, ◌+◌, ◌||◌, ℕ, suc, nat_lt, List, [], ◌∷◌, ◌++◌, length, Bool, true, false, cond, not}
+use Rattle.tl_number.proofs.Common.{Ordering, Some, None, is_eq, refl, sym, ap, ◌∙◌, arith, length-append, IsKeyOrder, first_seen_after}
+use Rattle.tl_number.proofs.Common.{list_any, lt-ltb, ltb-true, position, position_or_len, same-itself}
 use Rattle.std.proofs.lemmas.Option.{cond_some}
 use Rattle.indexmap.specs.IndexSet.{insert_key}
 use Rattle.tl_number.proofs.Numbering.FirstSeen.{seen_stays}

@@ -1,13 +1,12 @@
 -- Polygons in the order of first appearance are the polygons of the arranged county by number.
-use Rattle.std.proofs.Common.{◌≡◌, ℕ, List, [], ◌∷◌, map, length, Option, Some, sym, refl, ap, ◌∙◌, subst, nat_cmp}
-use Rattle.std.proofs.Common.{IsPermutation, IfSome, zero, suc, slice_get, option_map, None, arith, ◌+◌}
-use Rattle.tl_number.proofs.Common.{AllByRecursion, AllKeysStandIn, Arrangement, Arranges, BodyP, County, IsApart, IsCounty}
-use Rattle.tl_number.proofs.Common.{IsPermutation-map, IsPermutation-sym, IsPermutation-trans, PolygonKey, carried_polygon, entry_keys}
-use Rattle.tl_number.proofs.Common.{entry_polyid, entry_values, image, images-lefts, in_order, in_order-in_order, in_order-is_permutation}
-use Rattle.tl_number.proofs.Common.{in_order-map, in_order-permutation, key_cmp, key_keys, lefts, map-map, nat_cmp_total, nat_keys}
-use Rattle.tl_number.proofs.Common.{numbered, numbered_from, on, on_total, placed, polygon_keys, polygons_along, polygons_by_number}
-use Rattle.tl_number.proofs.Common.{polygons_in_order, rights, slice_get-map, strict-map, under_cenid, under_number, up_to}
-use Rattle.std.specs.List.Sorted.{IsStrictlySortedBy}
+use Rattle.tl_number.proofs.Common.{◌≡◌, ℕ, List, [], ◌∷◌, map, length, Option, Some, sym, refl, ap, ◌∙◌, subst, nat_cmp, IsPermutation}
+use Rattle.tl_number.proofs.Common.{IfSome, zero, suc, slice_get, option_map, None, arith, ◌+◌, AllByRecursion, AllKeysStandIn, Arrangement}
+use Rattle.tl_number.proofs.Common.{Arranges, BodyP, County, IsApart, IsCounty, IsPermutation-map, IsPermutation-sym, IsPermutation-trans}
+use Rattle.tl_number.proofs.Common.{IsStrictlySortedBy, PolygonKey, arranged, carried_polygon, entry_keys, entry_polyid, entry_values}
+use Rattle.tl_number.proofs.Common.{image, images-lefts, in_order, in_order-in_order, in_order-is_permutation, in_order-map}
+use Rattle.tl_number.proofs.Common.{in_order-permutation, key_cmp, key_keys, lefts, map-map, nat_cmp_total, nat_keys, numbered}
+use Rattle.tl_number.proofs.Common.{numbered_from, on, on_total, placed, polygon_keys, polygons_along, polygons_by_number}
+use Rattle.tl_number.proofs.Common.{polygons_in_order, renaming_of, rights, slice_get-map, strict-map, under_cenid, under_number, up_to}
 use Rattle.std.specs.Option.{option_and_then}
 use Rattle.tl_county.specs.ChartWords.{polygon_under}
 use Rattle.ordered_lists.specs.Entries.{value_under}
@@ -15,7 +14,6 @@ use Rattle.ordered_lists.proofs.Lists.InOrder.{strict-permutation}
 use Rattle.ordered_lists.proofs.Lists.EntryLists.{in_order-strict, value-at_place}
 use Rattle.ordered_lists.proofs.Lists.ByPlace.{all_at}
 use Rattle.tl_profile.proofs.PlacedOrder.{all_permuted}
-use Rattle.tl_number.specs.Arrangement.{renaming_of, arranged}
 use Rattle.tl_number.proofs.Arrangements.Carrying.{polygon_lefts, polygons_permutation, polygons_renamed, polygons_arranged}
 use Rattle.tl_number.proofs.Lists.Counting.{up_to-strict}
 use Rattle.tl_number.proofs.Numbering.FirstSeen.{first_seen-apart}

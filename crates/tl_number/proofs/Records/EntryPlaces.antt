@@ -1,9 +1,8 @@
 -- The name, the landmark and the polygon at a place of a county within its limits.
-use Rattle.std.proofs.Common.{◌≡◌, ◌<◌, ℕ, List, [], length, map, Option, Some, None, option_map, option_to_list, unwrap_or, slice_get}
-use Rattle.std.proofs.Common.{IsSome, sym, refl, ap, ◌∙◌, subst, nat_cmp, arith}
-use Rattle.tl_number.proofs.Common.{Body5, Body7, BodyP, County, IsNumber, IsWithinLimits, PolygonKey, all-in_order, bodies_at}
-use Rattle.tl_number.proofs.Common.{entry_polyid, feats, group_at, lands, length-map, most_records, on, packed_body, packed_p}
-use Rattle.tl_number.proofs.Common.{polygons_by_number, slice_get-map, type_p_by_number}
+use Rattle.tl_number.proofs.Common.{◌≡◌, ◌<◌, ℕ, List, [], length, map, Option, Some, None, option_map, option_to_list, unwrap_or}
+use Rattle.tl_number.proofs.Common.{slice_get, IsSome, sym, refl, ap, ◌∙◌, subst, nat_cmp, arith, Body5, Body7, BodyP, County, IsNumber}
+use Rattle.tl_number.proofs.Common.{IsWithinLimits, PolygonKey, all-in_order, bodies_at, entry_polyid, feats, group_at, lands, length-map}
+use Rattle.tl_number.proofs.Common.{most_records, on, packed_body, packed_p, polygons_by_number, slice_get-map, type_p_by_number}
 use Rattle.tl_layout.specs.Bytes.{IsText}
 use Rattle.tl_county.specs.ChartWords.{name_at}
 use Rattle.ordered_lists.proofs.ByKey.Numbers.{length-in_order}

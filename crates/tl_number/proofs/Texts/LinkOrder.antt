@@ -1,10 +1,9 @@
 -- The records of types I and P of a county in two arrangements.
-use Rattle.std.proofs.Common.{◌≡◌, ◌<◌, ◌≤◌, ◌+◌, ℕ, nat_lt, List, map, length, Bool, true, false, Option, Some, None}
-use Rattle.std.proofs.Common.{option_map, slice_get, Equal, sym, refl, ap, ap₂, ◌∙◌, subst, arith}
-use Rattle.tl_number.proofs.Common.{AreTiedAt, AreTiedBelow, AreWhole, Chain, County, DirectedChain, I, IsCounty, arranged_by}
-use Rattle.tl_number.proofs.Common.{arrangement_of, chain_at, directed_chain, ends_of, links_of, ltb-false, ltb-true, option_cmp, packed_i}
-use Rattle.tl_number.proofs.Common.{placed, records_cmp, renumbered, sides_of, slice_get-map, slice_get_past, spelling_cmp}
-use Rattle.tl_number.specs.Arrangement.{renaming_of}
+use Rattle.tl_number.proofs.Common.{◌≡◌, ◌<◌, ◌≤◌, ◌+◌, ℕ, nat_lt, List, map, length, Bool, true, false, Option, Some, None, option_map}
+use Rattle.tl_number.proofs.Common.{slice_get, Equal, sym, refl, ap, ap₂, ◌∙◌, subst, arith, AreTiedAt, AreTiedBelow, AreWhole, Chain}
+use Rattle.tl_number.proofs.Common.{County, DirectedChain, I, IsCounty, arranged_by, arrangement_of, chain_at, directed_chain, ends_of}
+use Rattle.tl_number.proofs.Common.{links_of, ltb-false, ltb-true, option_cmp, packed_i, placed, records_cmp, renaming_of, renumbered}
+use Rattle.tl_number.proofs.Common.{sides_of, slice_get-map, slice_get_past, spelling_cmp}
 use Rattle.tl_number.proofs.Arrangements.Carrying.{chains_arranged}
 use Rattle.tl_number.proofs.Records.PackedGroups.{is}
 use Rattle.tl_number.proofs.Unique.SameNumbers.{kept_entry}

@@ -1,6 +1,5 @@
 -- Chains are the same except for their nodes if their sides, further names and further address ranges are.
-use Rattle.std.proofs.Common.{◌≡◌, [], ◌∷◌, Option, Some, None, refl, ap}
-use Rattle.tl_number.proofs.Common.{Chain, but_nodes_list, feats_of, ranges_of}
+use Rattle.tl_number.proofs.Common.{◌≡◌, [], ◌∷◌, Option, Some, None, refl, ap, Chain, but_nodes_list, feats_of, ranges_of}
 use Rattle.tl_number.specs.CriticalPlaces.{HaveSameSides, but_nodes}
 
 pub alike_but_nodes : (o p : Option Chain) → HaveSameSides o p → feats_of o ≡ feats_of p → ranges_of o ≡ ranges_of p

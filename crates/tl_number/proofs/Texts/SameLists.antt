@@ -1,11 +1,10 @@
 -- Arrangements of chains with the same further names have the same records of types 4 and 5, and those of chains with the same
 -- further address ranges have the same records of type 6.
-use Rattle.std.proofs.Common.{◌≡◌, ◌∙◌, ℕ, suc, List, [], ◌∷◌, map, Option, Some, sym, refl, ap, nat_cmp, subst}
-use Rattle.tl_number.proofs.Common.{AreWhole, Body5, Chain, County, DirectedChain, Fields4, Fields6, IsCounty, Ranges, Renumbering}
-use Rattle.tl_number.proofs.Common.{all_uses, arranged_by, arrangement_of, directed_chain, feats_of, grouped, image, in_order, in_pieces}
-use Rattle.tl_number.proofs.Common.{map-map, name_key, name_key_cmp, names_in_order, numbered, numbered_from, on, packed_five, packed_fours}
-use Rattle.tl_number.proofs.Common.{packed_sixes, parts_along, ranges_of, type_4_by_chain, type_5_by_name, type_6_by_chain, uses_from}
-use Rattle.tl_number.specs.Arrangement.{renaming_of}
+use Rattle.tl_number.proofs.Common.{◌≡◌, ◌∙◌, ℕ, suc, List, [], ◌∷◌, map, Option, Some, sym, refl, ap, nat_cmp, subst, AreWhole, Body5}
+use Rattle.tl_number.proofs.Common.{Chain, County, DirectedChain, Fields4, Fields6, IsCounty, Ranges, Renumbering, all_uses, arranged_by}
+use Rattle.tl_number.proofs.Common.{arrangement_of, directed_chain, feats_of, grouped, image, in_order, in_pieces, map-map, name_key}
+use Rattle.tl_number.proofs.Common.{name_key_cmp, names_in_order, numbered, numbered_from, on, packed_five, packed_fours, packed_sixes}
+use Rattle.tl_number.proofs.Common.{parts_along, ranges_of, renaming_of, type_4_by_chain, type_5_by_name, type_6_by_chain, uses_from}
 use Rattle.tl_number.proofs.Arrangements.Carrying.{chains_arranged, names_arranged, names_renamed}
 use Rattle.tl_number.proofs.Records.Grouped.{grouped_map}
 use Rattle.tl_number.proofs.Unique.SameNumbers.{kept_entry}

@@ -1,8 +1,9 @@
 -- The numbers of the nodes in two arrangements are in the order of their numbers at critical ends.
-use Rattle.std.proofs.Common.{◌≡◌, ◌+◌, ◌&&◌, ℕ, zero, suc, List, [], ◌∷◌, ◌++◌, map, flat_map, length, get_or, slice_get, Bool, true, false, cond, not}
-use Rattle.std.proofs.Common.{Option, Some, None, option_to_list, IfSome, IsTrue, nat_cmp, refl, sym, ap, ap₂, ◌∙◌, inl, inr, arith, append_assoc}
-use Rattle.tl_number.proofs.Common.{HasNodes, OpenPlace, critical_from, ends_among, ends_at, ends_cmp, false≢true, first_seen, is_open}
-use Rattle.tl_number.proofs.Common.{map-append, length-map, node_among, node_cmp, nodes_at, ordering_then, renumbered_ends, slice_cmp, stands_in}
+use Rattle.tl_number.proofs.Common.{◌≡◌, ◌+◌, ◌&&◌, ℕ, zero, suc, List, [], ◌∷◌, ◌++◌, map, flat_map, length, get_or, slice_get, Bool, true}
+use Rattle.tl_number.proofs.Common.{false, cond, not, Option, Some, None, option_to_list, IfSome, IsTrue, nat_cmp, refl, sym, ap, ap₂, ◌∙◌}
+use Rattle.tl_number.proofs.Common.{inl, inr, arith, append_assoc, HasNodes, OpenPlace, critical_from, ends_among, ends_at, ends_cmp}
+use Rattle.tl_number.proofs.Common.{false≢true, first_seen, is_open, length-map, map-append, node_among, node_cmp, nodes_at, ordering_then}
+use Rattle.tl_number.proofs.Common.{renumbered_ends, slice_cmp, stands_in}
 use Rattle.std.proofs.lemmas.Grind.{flat_map-append}
 use Rattle.tl_number.specs.CriticalPlaces.{fixed_ends, met_after, met_after_both, newly_met, newly_met_ends}
 use Rattle.tl_number.specs.declared.critical_places.CriticalEnds.{CriticalEnds}

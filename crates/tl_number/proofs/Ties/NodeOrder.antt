@@ -1,16 +1,15 @@
 -- The texts of two arrangements whose chains differ only in their nodes are in the order of the numbers of these.
-use Rattle.std.proofs.Common.{◌≡◌, ◌∙◌, ℕ, suc, List, [], ◌∷◌, map, flat_map, Option, Some, None, option_map, option_to_list, Equal, nat_cmp}
-use Rattle.std.proofs.Common.{refl, sym, ap, ap₂, subst}
-use Rattle.tl_number.proofs.Common.{AllByRecursion, AreSame, AreWhole, Body7, BodyP, Chain, County, DirectedChain, Eight, Fields8}
-use Rattle.tl_number.proofs.Common.{FitsNumbers, Five, Four, I, IsCounty, One, P, PolygonKey, PolygonSide, Renumbering, Seven, Six, all_map}
-use Rattle.tl_number.proofs.Common.{all_weaker, arranged_by, arrangement_of, but_nodes_list, directed_chain, ends_along, ends_cmp, ends_of}
-use Rattle.tl_number.proofs.Common.{ends_or_none, entry_polyid, feats_of, first_seen, groups_cmp, image, in_order, key_cmp, map-map}
-use Rattle.tl_number.proofs.Common.{new_keys, numbered, numbered_from, on, ordering_then, packed, packed_i, packed_p, packed_sevens}
-use Rattle.tl_number.proofs.Common.{parts_along, ranges_of, records_cmp, renumbered, renumbered_ends, renumbered_polygon, side_of, sides_of}
-use Rattle.tl_number.proofs.Common.{slice_cmp, text_of, type_1_by_chain, type_2_by_chain, type_4_by_chain, type_5_by_name, type_6_by_chain}
-use Rattle.tl_number.proofs.Common.{type_7_by_landmark, type_8_together, type_i_by_chain, type_p_by_number, under_cenid}
+use Rattle.tl_number.proofs.Common.{◌≡◌, ◌∙◌, ℕ, suc, List, [], ◌∷◌, map, flat_map, Option, Some, None, option_map, option_to_list, Equal}
+use Rattle.tl_number.proofs.Common.{nat_cmp, refl, sym, ap, ap₂, subst, AllByRecursion, AreSame, AreWhole, Body7, BodyP, Chain, County}
+use Rattle.tl_number.proofs.Common.{DirectedChain, Eight, Fields8, FitsNumbers, Five, Four, I, IsCounty, One, P, PolygonKey, PolygonSide}
+use Rattle.tl_number.proofs.Common.{Renumbering, Seven, Six, all_map, all_weaker, arranged_by, arrangement_of, but_nodes_list}
+use Rattle.tl_number.proofs.Common.{directed_chain, ends_along, ends_cmp, ends_of, ends_or_none, entry_polyid, feats_of, first_seen}
+use Rattle.tl_number.proofs.Common.{groups_cmp, image, in_order, key_cmp, map-map, new_keys, numbered, numbered_from, on, ordering_then}
+use Rattle.tl_number.proofs.Common.{packed, packed_i, packed_p, packed_sevens, parts_along, ranges_of, records_cmp, renaming_of, renumbered}
+use Rattle.tl_number.proofs.Common.{renumbered_ends, renumbered_polygon, side_of, sides_of, slice_cmp, text_of, type_1_by_chain}
+use Rattle.tl_number.proofs.Common.{type_2_by_chain, type_4_by_chain, type_5_by_name, type_6_by_chain, type_7_by_landmark, type_8_together}
+use Rattle.tl_number.proofs.Common.{type_i_by_chain, type_p_by_number, under_cenid}
 use Rattle.tl_county.specs.Renumbering.{renumbered_side}
-use Rattle.tl_number.specs.Arrangement.{renaming_of}
 use Rattle.tl_number.specs.CriticalPlaces.{AreSameButNodes, ButNodes, but_nodes}
 use Rattle.tl_number.specs.EndsAndSides.{polygons_at}
 use Rattle.tl_number.proofs.Arrangements.Carrying.{chains_arranged}

@@ -1,10 +1,8 @@
 -- Nodes seen along two whole lists and along two shorter ones: as long as the numbers agree, nodes of open chains are in one order in
 -- both, and all other nodes are at one place in both whole lists.
-use Rattle.std.proofs.Common.{◌≡◌, ◌⊎◌, ◌<◌, ◌≤◌, ◌+◌, ℕ, suc, List, [], ◌∷◌, ◌++◌, length, Bool, true, false, cond, not}
-use Rattle.std.proofs.Common.{is_eq, nat_cmp, refl, sym, ap, ◌∙◌}
-use Rattle.std.proofs.Common.{subst, inl, inr, arith, length-append}
-use Rattle.tl_number.proofs.Common.{any-stands_in, first_seen_after, list_any, nat_keys, position_or_len, same-itself, same-true}
-use Rattle.tl_number.proofs.Common.{same_or_not}
+use Rattle.tl_number.proofs.Common.{◌≡◌, ◌⊎◌, ◌<◌, ◌≤◌, ◌+◌, ℕ, suc, List, [], ◌∷◌, ◌++◌, length, Bool, true, false, cond, not, is_eq}
+use Rattle.tl_number.proofs.Common.{nat_cmp, refl, sym, ap, ◌∙◌, subst, inl, inr, arith, length-append, any-stands_in, first_seen_after}
+use Rattle.tl_number.proofs.Common.{list_any, nat_keys, position_or_len, same-itself, same-true, same_or_not}
 use Rattle.ordered_lists.proofs.ByKey.Keys.{differ}
 use Rattle.tl_number.proofs.Numbering.SeenPlaces.{any_within, first_stays, none_within}
 use Rattle.tl_number.proofs.Ties.NumberTexts.{InOneOrder}

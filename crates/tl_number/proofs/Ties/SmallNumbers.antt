@@ -1,10 +1,9 @@
 -- Numbers by first appearance along two lists that differ at some places are in the order of those along shorter lists.
-use Rattle.std.proofs.Common.{◌≡◌, ◌⊎◌, ◌<◌, ◌+◌, ℕ, List, [], ◌∷◌, ◌++◌, map, flat_map, length, Bool, true, false, cond}
-use Rattle.std.proofs.Common.{Ordering, Less, Equal, Greater, Option, Some, None, option_to_list, IfSome, IsTrue, is_eq, nat_cmp, refl, sym, ap, ap₂, ◌∙◌}
-use Rattle.std.proofs.Common.{subst, inl, inr, arith}
-use Rattle.tl_number.proofs.Common.{Known, exact_unsigned, false≢true, first_seen_after, lt-ltb, ltb-true, nat_cmp_total, nat_keys}
-use Rattle.tl_number.proofs.Common.{node_among, node_cmp, ordering_then, position, same_or_not, slice_cmp, stands_in, tied_itself, times}
-use Rattle.tl_number.proofs.Common.{times-no, unwrap_or}
+use Rattle.tl_number.proofs.Common.{◌≡◌, ◌⊎◌, ◌<◌, ◌+◌, ℕ, List, [], ◌∷◌, ◌++◌, map, flat_map, length, Bool, true, false, cond, Ordering}
+use Rattle.tl_number.proofs.Common.{Less, Equal, Greater, Option, Some, None, option_to_list, IfSome, IsTrue, is_eq, nat_cmp, refl, sym, ap}
+use Rattle.tl_number.proofs.Common.{ap₂, ◌∙◌, subst, inl, inr, arith, Known, exact_unsigned, false≢true, first_seen_after, lt-ltb, ltb-true}
+use Rattle.tl_number.proofs.Common.{nat_cmp_total, nat_keys, node_among, node_cmp, ordering_then, position, same_or_not, slice_cmp}
+use Rattle.tl_number.proofs.Common.{stands_in, tied_itself, times, times-no, unwrap_or}
 use Rattle.tl_number.proofs.Numbering.FirstSeen.{known_after}
 use Rattle.tl_number.proofs.Numbering.SeenKeys.{inserted-seen}
 use Rattle.tl_number.proofs.Numbering.SeenLists.{seen_append}

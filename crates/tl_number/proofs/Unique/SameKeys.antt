@@ -1,8 +1,7 @@
 -- Names, or landmarks, of two counties that are in the order of their keys. A key is a content with a part that depends on the number,
 -- as the uses of a name. If a renaming keeps contents and parts, the entries are equal.
-use Rattle.std.proofs.Common.{◌≡◌, ℕ, List, map, length, sym, ap, ◌∙◌, subst, nat_cmp, IsPermutation}
-use Rattle.std.proofs.Common.{Ordering}
-use Rattle.tl_number.proofs.Common.{AllByRecursion, IsInOrder, IsKeyOrder, IsPermutation-map, Known, all_map, all_weaker, in_order-map}
+use Rattle.tl_number.proofs.Common.{◌≡◌, ℕ, List, map, length, sym, ap, ◌∙◌, subst, nat_cmp, IsPermutation, Ordering, AllByRecursion}
+use Rattle.tl_number.proofs.Common.{IsInOrder, IsKeyOrder, IsPermutation-map, Known, all_map, all_weaker, in_order-map}
 use Rattle.tl_number.proofs.Common.{in_order-permutation, keys_known, known_all, length-map, map-map, map_agree_all, nat_keys, on, up_to}
 use Rattle.tl_number.proofs.Lists.Counting.{entries_equal, map-equal_all}
 

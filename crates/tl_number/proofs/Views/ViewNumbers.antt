@@ -1,6 +1,6 @@
 -- New numbers from places: the image of a number, and the numbers from 1.
-use Rattle.std.proofs.Common.{◌≡◌, ◌⊎◌, ◌<◌, ◌≤◌, ◌+◌, ◌-◌, ℕ, zero, suc, nat_lt, List, [], ◌∷◌, map, length, Bool, true, false, cond, not}
-use Rattle.std.proofs.Common.{Ordering, Some, None, is_eq, refl, sym, ap, ap₂, ◌∙◌, inl, inr, arith, nat_cmp, slice_get}
+use Rattle.tl_number.proofs.Common.{◌≡◌, ◌⊎◌, ◌<◌, ◌≤◌, ◌+◌, ◌-◌, ℕ, zero, suc, nat_lt, List, [], ◌∷◌, map, length, Bool, true, false, cond}
+use Rattle.tl_number.proofs.Common.{not, Ordering, Some, None, is_eq, refl, sym, ap, ap₂, ◌∙◌, inl, inr, arith, nat_cmp, slice_get}
 use Rattle.tl_number.proofs.Common.{AllByRecursion, IsKeyOrder, PolygonKey, all_among, all_weaker, among_known, image, key_cmp, key_keys}
 use Rattle.tl_number.proofs.Common.{known_is_among, length-range_with_len, lt-ltb, ltb-false, ltb-true, map-map, nat_keys, numbered}
 use Rattle.tl_number.proofs.Common.{numbered_from, position, position_or_len, range_with_len, same-true, slice_get_past, stands_in, times}

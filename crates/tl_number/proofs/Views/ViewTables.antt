@@ -1,17 +1,15 @@
 -- Nodes, names, polygons and landmarks of a county in an arrangement, read from its tables.
-use Rattle.std.proofs.Common.{◌≡◌, ℕ, suc, List, [], ◌∷◌, map, length, Option, Some, None, option_map, Less, Equal}
-use Rattle.std.proofs.Common.{Greater, is_gt, false, ◌+◌, ◌-◌, ap₂}
-use Rattle.std.proofs.Common.{Ordering, slice_get, unwrap_or, sym, refl, ap, ◌∙◌, subst, arith, nat_cmp, IsPermutation}
-use Rattle.tl_number.proofs.Common.{AreReadAt, AreWhole, Arrangement, Body5, Body7, County, DirectedChain, Fields8, IsCounty, IsInOrder}
-use Rattle.tl_number.proofs.Common.{PolygonKey, all_weaker, arranged_by, arrangement_of, carried_landmark, carried_name, eight_land}
-use Rattle.tl_number.proofs.Common.{entry_values, feats, in_order-permutation, landmarks_in_order, lands, length-map, link_bounds, link_cmp}
-use Rattle.tl_number.proofs.Common.{link_part, link_part_cmp, links_at, links_up_to, links_with, map-map, names_in_order, nat_keys, nodes}
-use Rattle.tl_number.proofs.Common.{nodes_along, nodes_in_order, numbered, on, ordering_then, polygons_in_order, slice_get-map, under_cenid}
-use Rattle.tl_number.proofs.Common.{up_to}
+use Rattle.tl_number.proofs.Common.{◌≡◌, ℕ, suc, List, [], ◌∷◌, map, length, Option, Some, None, option_map, Less, Equal, Greater, is_gt}
+use Rattle.tl_number.proofs.Common.{false, ◌+◌, ◌-◌, ap₂, Ordering, slice_get, unwrap_or, sym, refl, ap, ◌∙◌, subst, arith, nat_cmp}
+use Rattle.tl_number.proofs.Common.{IsPermutation, AreReadAt, AreWhole, Arrangement, Body5, Body7, County, DirectedChain, Fields8, IsCounty}
+use Rattle.tl_number.proofs.Common.{IsInOrder, PolygonKey, all_weaker, arranged_by, arrangement_of, carried_landmark, carried_name}
+use Rattle.tl_number.proofs.Common.{eight_land, entry_values, feats, in_order-permutation, landmarks_in_order, lands, length-map}
+use Rattle.tl_number.proofs.Common.{link_bounds, link_cmp, link_part, link_part_cmp, links_at, links_up_to, links_with, map-map}
+use Rattle.tl_number.proofs.Common.{names_in_order, nat_keys, nodes, nodes_along, nodes_in_order, numbered, on, ordering_then}
+use Rattle.tl_number.proofs.Common.{polygons_in_order, renaming_of, slice_get-map, under_cenid, up_to}
 use Rattle.std.proofs.lemmas.List.FromFn.{length-map-range_with_len}
 use Rattle.std.specs.List.Sorted.{IsStrictlySortedBy}
 use Rattle.ordered_lists.proofs.ByKey.Numbers.{distinct-in_order}
-use Rattle.tl_number.specs.Arrangement.{renaming_of}
 use Rattle.tl_number.specs.ViewFacts.{MatchesNames, MatchesLandmarks}
 use Rattle.tl_number.specs.declared.arranged_tables.LandmarkTables.{LandmarkTables}
 use Rattle.tl_number.specs.declared.arranged_tables.NameTables.{NameTables}

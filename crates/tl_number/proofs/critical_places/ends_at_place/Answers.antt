@@ -1,5 +1,4 @@
-use Rattle.std.proofs.Common.{◌∙◌, false, ap₂}
-use Rattle.tl_number.proofs.Common.{slice_get-get_or, slice_get_past}
+use Rattle.tl_number.proofs.Common.{◌∙◌, false, ap₂, slice_get-get_or, slice_get_past}
 use Rattle.tl_number.proofs.Ties.CollectedEnds.{chain_at_place, end_at_place, no_end_there}
 use Rattle.tl_number.proofs.critical_places.ends_at_place.Goals as goal
 

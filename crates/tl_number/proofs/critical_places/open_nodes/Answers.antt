@@ -1,4 +1,4 @@
-use Rattle.std.proofs.Common.{◌<◌, length, arith}
+use Rattle.tl_number.proofs.Common.{◌<◌, length, arith}
 use Rattle.std.proofs.lemmas.Option.{slice_get_within}
 use Rattle.tl_number.proofs.Ties.CollectedEnds.{item_there, one_more_open}
 use Rattle.tl_number.proofs.critical_places.open_nodes.Goals as goal

@@ -1,6 +1,5 @@
 -- the nodes of the chains at open places so far
-use Rattle.std.proofs.Common.{◌≡◌, ◌<◌, ℕ, Option, Some, true, slice_get}
-use Rattle.tl_number.proofs.Common.{HasNodes, is_open, nodes_at}
+use Rattle.tl_number.proofs.Common.{◌≡◌, ◌<◌, ℕ, Option, Some, true, slice_get, HasNodes, is_open, nodes_at}
 use Rattle.tl_number.proofs.critical_places.open_nodes.Given as goal
 
 abbrev pub invariant-loop-place : goal.invariant-loop-place

@@ -1,4 +1,4 @@
-use Rattle.std.proofs.Common.{◌≡◌, ◌+◌, ◌++◌, ◌∷◌, ◌∙◌, [], Ok, Err, map, take, drop, suc, subst, sym, ap, arith, add-one}
+use Rattle.tl_number.proofs.Common.{◌≡◌, ◌+◌, ◌++◌, ◌∷◌, ◌∙◌, [], Ok, Err, map, take, drop, suc, subst, sym, ap, arith, add-one}
 use Rattle.tl_number.proofs.Common.{err_from_is_err_and, group_at, take_all}
 use Rattle.ordered_lists.proofs.Lists.Places.{next_taken}
 use Rattle.tl_number.proofs.Records.ChainPlaces.{some_at}

@@ -1,8 +1,6 @@
-use Rattle.std.proofs.Common.{◌≡◌, ap, ◌∙◌, sym, subst}
-use Rattle.tl_number.proofs.Common.{HasChainsOf, IfOk-weaker, NamesEachOnce, arranged_county, arrangement_of}
+use Rattle.tl_number.proofs.Common.{◌≡◌, ap, ◌∙◌, sym, subst, HasChainsOf, IfOk-weaker, NamesEachOnce, arranged, arranged_county}
+use Rattle.tl_number.proofs.Common.{arrangement_of, numbered_choice}
 use Rattle.tl_number.proofs.Lemmas.{arrangement_of_number, places_within}
-use Rattle.tl_number.specs.Arrangement.{arranged}
-use Rattle.tl_number.specs.Tidy.{numbered_choice}
 use Rattle.tl_number.proofs.Choices.ChosenArrangements.{arrangement_of_number_there, arrangement_of_number_once}
 use Rattle.tl_number.proofs.least_choice.arrange_choice.Goals as goal
 

@@ -1,7 +1,6 @@
-use Rattle.std.proofs.Common.{length, sym, ap, ap₂, ◌∙◌, subst}
-use Rattle.tl_number.proofs.Common.{AgreeApart, AreWithin, One, arranged_by, groups_cmp, moved, other_way, type_1_by_chain}
+use Rattle.tl_number.proofs.Common.{length, sym, ap, ap₂, ◌∙◌, subst, AgreeApart, AreWithin, One, arranged, arranged_by, groups_cmp, moved}
+use Rattle.tl_number.proofs.Common.{other_way, type_1_by_chain}
 use Rattle.tl_number.proofs.Lemmas.{agree_of_numbers, arrangement_of_number, places_within}
-use Rattle.tl_number.specs.Arrangement.{arranged}
 use Rattle.tl_number.proofs.Choices.ChosenArrangements.{moved_of_number}
 use Rattle.tl_number.proofs.least_choice.compare_number.Goals as goal
 

@@ -1,5 +1,4 @@
-use Rattle.std.proofs.Common.{sym, subst}
-use Rattle.tl_number.proofs.Common.{IsLeastChoice}
+use Rattle.tl_number.proofs.Common.{sym, subst, IsLeastChoice}
 use Rattle.tl_number.proofs.Lemmas.{arrangement_of_number, places_within}
 use Rattle.tl_number.proofs.Choices.ChosenArrangements.{arrangement_of_number_there, arrangement_of_number_once}
 use Rattle.tl_number.proofs.Choices.LeastNumbers.{least_of_all}

@@ -1,8 +1,5 @@
-use Rattle.std.proofs.Common.{◌≡◌, ◌∙◌, Equal, is_gt, ap, ap₂, sym, subst}
-use Rattle.tl_number.proofs.Common.{AreSame, IsNotAfter, One, arranged_county, choice_list, groups_cmp, ones_cmp, type_1_by_chain}
-use Rattle.tl_number.proofs.Common.{type_2_by_chain}
-use Rattle.tl_number.specs.Arrangement.{arranged}
-use Rattle.tl_number.specs.Tidy.{numbered_choice}
+use Rattle.tl_number.proofs.Common.{◌≡◌, ◌∙◌, Equal, is_gt, ap, ap₂, sym, subst, AreSame, IsNotAfter, One, arranged, arranged_county}
+use Rattle.tl_number.proofs.Common.{choice_list, groups_cmp, numbered_choice, ones_cmp, type_1_by_chain, type_2_by_chain}
 use Rattle.tl_number.proofs.Choices.LeastNumbers.{choices_same, kept_has, kept_is, text_compared}
 use Rattle.tl_number.proofs.Choices.LeastOnes.{tied_with_itself}
 use Rattle.tl_number.proofs.CanonicalLists.SameShapes.{twos_of_numbers}

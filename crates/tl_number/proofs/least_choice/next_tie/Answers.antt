@@ -1,4 +1,4 @@
-use Rattle.std.proofs.Common.{◌≡◌, false, rules, arith}
+use Rattle.tl_number.proofs.Common.{◌≡◌, false, rules, arith}
 use Rattle.tl_number.proofs.Choices.LeastOnes.{from_more}
 use Rattle.tl_number.proofs.least_choice.next_tie.Goals as goal
 

@@ -1,5 +1,5 @@
-use Rattle.std.proofs.Common.{◌≡◌, ◌∙◌, true, sym, subst, arith, rules, ap, ap₂}
-use Rattle.tl_number.proofs.Common.{but_nodes_list, choice_list, choices, critical_numbers, numbered_arrangement, parts_along}
+use Rattle.tl_number.proofs.Common.{◌≡◌, ◌∙◌, true, sym, subst, arith, rules, ap, ap₂, but_nodes_list, choice_list, choices}
+use Rattle.tl_number.proofs.Common.{critical_numbers, numbered_arrangement, parts_along}
 use Rattle.tl_number.proofs.Lemmas.{agree_of_numbers}
 use Rattle.tl_number.specs.CriticalPlaces.{AreCritical}
 use Rattle.tl_number.proofs.CanonicalLists.TidyLists.{not_after_itself}

@@ -1,5 +1,5 @@
-use Rattle.std.proofs.Common.{◌≡◌, ◌∙◌, List, is_gt, ap, ap₂, sym, subst}
-use Rattle.tl_number.proofs.Common.{AreNodeTies, IsNotAfter, choice_list, critical_numbers, ends_cmp, numbered_arrangement, slice_cmp}
+use Rattle.tl_number.proofs.Common.{◌≡◌, ◌∙◌, List, is_gt, ap, ap₂, sym, subst, AreNodeTies, IsNotAfter, choice_list, critical_numbers}
+use Rattle.tl_number.proofs.Common.{ends_cmp, numbered_arrangement, slice_cmp}
 use Rattle.tl_number.proofs.Choices.LeastNumbers.{kept_has, kept_is}
 use Rattle.tl_number.proofs.Ties.CriticalOrder.{lesser_tie, there_numbered, tie_with_itself}
 use Rattle.tl_number.proofs.node_ties.next_by_nodes.Goals as goal

@@ -1,5 +1,4 @@
-use Rattle.std.proofs.Common.{length, sym, subst, ◌∙◌}
-use Rattle.tl_number.proofs.Common.{AgreeApart, AreWithin}
+use Rattle.tl_number.proofs.Common.{length, sym, subst, ◌∙◌, AgreeApart, AreWithin}
 use Rattle.tl_number.proofs.Lemmas.{nothing_left}
 use Rattle.tl_number.proofs.Choices.FixedPlaces.{agree_put, agree_same}
 use Rattle.tl_number.proofs.numbered_arrangement.put_back.Goals as goal

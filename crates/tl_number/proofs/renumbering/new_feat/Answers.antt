@@ -1,4 +1,4 @@
-use Rattle.std.proofs.Common.{sym}
+use Rattle.tl_number.proofs.Common.{sym}
 use Rattle.tl_number.proofs.Views.ViewNumbers.{number_seen, number_unseen}
 use Rattle.tl_number.proofs.renumbering.new_feat.Goals as goal
 

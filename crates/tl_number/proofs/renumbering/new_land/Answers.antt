@@ -1,5 +1,4 @@
-use Rattle.std.proofs.Common.{◌<◌, sym, arith, length}
-use Rattle.tl_number.proofs.Common.{nat_keys}
+use Rattle.tl_number.proofs.Common.{◌<◌, sym, arith, length, nat_keys}
 use Rattle.tl_number.proofs.Views.ViewNumbers.{number_seen, number_unseen, seen_within}
 use Rattle.tl_number.proofs.renumbering.new_land.Goals as goal
 

@@ -1,5 +1,4 @@
-use Rattle.std.proofs.Common.{◌≡◌, ◌∙◌, true, rules, sym}
-use Rattle.tl_number.proofs.Common.{decides_same}
+use Rattle.tl_number.proofs.Common.{◌≡◌, ◌∙◌, true, rules, sym, decides_same}
 use Rattle.tl_number.proofs.same_chains.have_same_content.Goals as goal
 
 pub returns : goal.returns

@@ -1,5 +1,4 @@
-use Rattle.std.proofs.Common.{refl, ap}
-use Rattle.tl_number.proofs.Common.{directed_chain}
+use Rattle.tl_number.proofs.Common.{refl, ap, directed_chain}
 use Rattle.tl_number.proofs.same_chains.have_same_part_at.Goals as goal
 
 pub returns-then-same : goal.returns-then-same

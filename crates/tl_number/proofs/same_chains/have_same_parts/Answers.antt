@@ -1,5 +1,4 @@
-use Rattle.std.proofs.Common.{◌≡◌, ◌∙◌, length, sym, ap, arith}
-use Rattle.tl_number.proofs.Common.{parts_along}
+use Rattle.tl_number.proofs.Common.{◌≡◌, ◌∙◌, length, sym, ap, arith, parts_along}
 use Rattle.ordered_lists.proofs.Lists.ByPlace.{decides_over}
 use Rattle.tl_number.proofs.Texts.SameChains.{all_parts}
 use Rattle.tl_number.proofs.Texts.TypeOnes.{as_many_chains}

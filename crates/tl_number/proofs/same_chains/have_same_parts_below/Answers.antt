@@ -1,5 +1,4 @@
-use Rattle.std.proofs.Common.{◌≡◌, ◌<◌, ◌∙◌, Some, length, true, false, rules, refl, sym, ap, arith}
-use Rattle.tl_number.proofs.Common.{decides_no, parts_along}
+use Rattle.tl_number.proofs.Common.{◌≡◌, ◌<◌, ◌∙◌, Some, length, true, false, rules, refl, sym, ap, arith, decides_no, parts_along}
 use Rattle.tl_number.proofs.Texts.LinkOrder.{same_further}
 use Rattle.tl_number.proofs.Texts.SameChains.{part_read, the_same}
 use Rattle.tl_number.proofs.same_chains.have_same_parts_below.Goals as goal

@@ -1,5 +1,4 @@
-use Rattle.std.proofs.Common.{◌≡◌, true, rules}
-use Rattle.tl_number.proofs.Common.{decides_same, directed_chain}
+use Rattle.tl_number.proofs.Common.{◌≡◌, true, rules, decides_same, directed_chain}
 use Rattle.tl_cert.proofs.Towards.{agree, agree_lists}
 use Rattle.tl_number.proofs.same_chains.is_same_chain.Goals as goal
 

@@ -1,5 +1,4 @@
-use Rattle.std.proofs.Common.{◌≡◌, ◌∙◌, ◌++◌, true, false, rules, drop, length, take, refl, sym, ap, arith}
-use Rattle.tl_number.proofs.Common.{length-take}
+use Rattle.tl_number.proofs.Common.{◌≡◌, ◌∙◌, ◌++◌, true, false, rules, drop, length, take, refl, sym, ap, arith, length-take}
 use Rattle.tl_number.proofs.Lemmas.{same_whole}
 use Rattle.std.proofs.Math.Seq.{take-add}
 use Rattle.tl_number.proofs.Records.SameGroups.{decides_no}

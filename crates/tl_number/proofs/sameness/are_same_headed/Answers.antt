@@ -1,5 +1,4 @@
-use Rattle.std.proofs.Common.{◌≡◌, ◌∙◌, true, false, rules, drop, length, take, refl, sym, ap, arith}
-use Rattle.tl_number.proofs.Common.{group_at, slice_get_read}
+use Rattle.tl_number.proofs.Common.{◌≡◌, ◌∙◌, true, false, rules, drop, length, take, refl, sym, ap, arith, group_at, slice_get_read}
 use Rattle.tl_number.proofs.Lemmas.{same_whole}
 use Rattle.tl_number.proofs.Records.Grouped.{group_headed, length_headed}
 use Rattle.tl_number.proofs.Records.SameGroups.{decides_no, same_next, same_group}

@@ -1,5 +1,4 @@
-use Rattle.std.proofs.Common.{◌≡◌, ◌∙◌, true, false, rules, refl, sym, ap, slice_get, Some, arith}
-use Rattle.tl_number.proofs.Common.{group_at}
+use Rattle.tl_number.proofs.Common.{◌≡◌, ◌∙◌, true, false, rules, refl, sym, ap, slice_get, Some, arith, group_at}
 use Rattle.tl_number.proofs.Lemmas.{same_whole}
 use Rattle.tl_number.proofs.Records.SameGroups.{decides_no, same_next}
 use Rattle.tl_number.proofs.sameness.is_same_group.Goals as goal

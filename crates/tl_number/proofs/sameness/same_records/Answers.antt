@@ -1,5 +1,4 @@
-use Rattle.std.proofs.Common.{refl}
-use Rattle.tl_number.proofs.Common.{arranged_by}
+use Rattle.tl_number.proofs.Common.{refl, arranged_by}
 use Rattle.tl_number.proofs.Records.SameGroups.{also, not_also, decides_packing}
 use Rattle.tl_number.proofs.sameness.same_records.Goals as goal
 

@@ -1,5 +1,5 @@
-use Rattle.std.proofs.Common.{◌≡◌, ◌<◌, length, get_or, slice_get, sym, ap₂, ◌∙◌, arith, false}
-use Rattle.tl_number.proofs.Common.{DirectedChain, arranged_by, ones_of, option_cmp, slice_get-get_or, spelling_cmp}
+use Rattle.tl_number.proofs.Common.{◌≡◌, ◌<◌, length, get_or, slice_get, sym, ap₂, ◌∙◌, arith, false, DirectedChain, arranged_by, ones_of}
+use Rattle.tl_number.proofs.Common.{option_cmp, slice_get-get_or, spelling_cmp}
 use Rattle.tl_number.proofs.Texts.TiedOnes.{first_untied, tied_more}
 use Rattle.tl_number.proofs.Texts.TypeOnes.{length_whole, ones_arranged_by}
 use Rattle.tl_number.proofs.type_1_order.compare_at_open.Given.{Over}

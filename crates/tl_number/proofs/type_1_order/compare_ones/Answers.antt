@@ -1,5 +1,4 @@
-use Rattle.std.proofs.Common.{length, sym, subst}
-use Rattle.tl_number.proofs.Common.{AllByRecursion, AreTiedAt, AreWithin, StandInOrder, arranged_by, ones_of}
+use Rattle.tl_number.proofs.Common.{length, sym, subst, AllByRecursion, AreTiedAt, AreWithin, StandInOrder, arranged_by, ones_of}
 use Rattle.tl_number.proofs.Lemmas.{nothing_left}
 use Rattle.tl_number.specs.MovedChains.{IsApart}
 use Rattle.tl_number.proofs.Choices.FixedPlaces.{before_apart, past_first}

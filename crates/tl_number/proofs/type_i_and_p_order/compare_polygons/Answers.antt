@@ -1,5 +1,4 @@
-use Rattle.std.proofs.Common.{◌∙◌, map, option_to_list, sym, ap, ap₂}
-use Rattle.tl_number.proofs.Common.{numbered, packed_p, under_number}
+use Rattle.tl_number.proofs.Common.{◌∙◌, map, option_to_list, sym, ap, ap₂, numbered, packed_p, under_number}
 use Rattle.tl_number.proofs.type_i_and_p_order.compare_polygons.Goals as goal
 
 pub compare_unless-requires : goal.compare_unless-requires

@@ -1,5 +1,4 @@
-use Rattle.std.proofs.Common.{ap, ◌∙◌, slice_get}
-use Rattle.tl_number.proofs.Common.{arranged_by, entry_values, sides_of, slice_get-map}
+use Rattle.tl_number.proofs.Common.{ap, ◌∙◌, slice_get, arranged_by, entry_values, sides_of, slice_get-map}
 use Rattle.tl_number.proofs.arranged.Arranged.sides_at.Goals as goal
 
 pub returns : goal.returns

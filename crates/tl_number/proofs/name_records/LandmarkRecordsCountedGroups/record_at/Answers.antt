@@ -1,5 +1,5 @@
-use Rattle.std.proofs.Common.{◌≡◌, ◌<◌, ◌∙◌, Some, length, slice_get, option_map, sym, ap, subst}
-use Rattle.tl_number.proofs.Common.{Body7, Fields7, IsNumber, lands, length-map, packed_sevens, slice_get-map}
+use Rattle.tl_number.proofs.Common.{◌≡◌, ◌<◌, ◌∙◌, Some, length, slice_get, option_map, sym, ap, subst, Body7, Fields7, IsNumber, lands}
+use Rattle.tl_number.proofs.Common.{length-map, packed_sevens, slice_get-map}
 use Rattle.tl_number.proofs.Lemmas.{group_of, some-same}
 use Rattle.tl_number.proofs.Records.EntryPlaces.{landmark_of_group}
 use Rattle.tl_number.proofs.name_records.LandmarkRecordsCountedGroups.record_at.Goals as goal

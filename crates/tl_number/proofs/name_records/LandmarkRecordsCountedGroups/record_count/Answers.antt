@@ -1,5 +1,4 @@
-use Rattle.std.proofs.Common.{◌∙◌, length, sym, ap}
-use Rattle.tl_number.proofs.Common.{length-map, packed_sevens}
+use Rattle.tl_number.proofs.Common.{◌∙◌, length, sym, ap, length-map, packed_sevens}
 use Rattle.tl_number.proofs.Lemmas.{group_of}
 use Rattle.tl_number.proofs.Records.EntryPlaces.{landmark_of_group}
 use Rattle.tl_number.proofs.name_records.LandmarkRecordsCountedGroups.record_count.Goals as goal

@@ -1,5 +1,4 @@
-use Rattle.std.proofs.Common.{◌∙◌, ◌∷◌, [], Some, sym, ap, subst}
-use Rattle.tl_number.proofs.Common.{IsNumber, packed_five}
+use Rattle.tl_number.proofs.Common.{◌∙◌, ◌∷◌, [], Some, sym, ap, subst, IsNumber, packed_five}
 use Rattle.tl_number.proofs.Lemmas.{group_of, some-same}
 use Rattle.tl_number.proofs.Records.EntryPlaces.{NameThere, name_of_group}
 use Rattle.tl_number.proofs.Records.Grouped.{lone}

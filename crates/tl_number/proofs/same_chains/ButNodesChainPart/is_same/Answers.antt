@@ -1,5 +1,4 @@
-use Rattle.std.proofs.Common.{◌≡◌, true, rules}
-use Rattle.tl_number.proofs.Common.{decides_no, decides_same, directed_chain}
+use Rattle.tl_number.proofs.Common.{◌≡◌, true, rules, decides_no, decides_same, directed_chain}
 use Rattle.tl_number.proofs.Texts.SameButNodes.{alike_but_nodes, parts_alike}
 use Rattle.tl_number.proofs.same_chains.ButNodesChainPart.is_same.Goals as goal
 
