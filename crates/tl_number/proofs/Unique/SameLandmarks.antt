@@ -10,6 +10,8 @@ use Rattle.tl_number.proofs.Common.{link_cmp, link_key, link_keys, link_part, li
 use Rattle.tl_number.proofs.Common.{map_agree_all, nat_cmp_total, nat_keys, ne_eqb, ordering_then, pair_keys, polygon_keys, stands_in}
 use Rattle.tl_number.proofs.Common.{tied_itself, times, up_to}
 use Rattle.std.proofs.lemmas.Bool.{cases_eq}
+use Rattle.ordered_lists.proofs.Lists.Counted.{filter-agree}
+use Rattle.tl_number.proofs.Lists.Filtered.{filter-agree_all, filter-filtered, filter-mapped, same_after}
 use Rattle.std.proofs.lemmas.List.Sums.{length-filter}
 use Rattle.std.proofs.lemmas.List.Sorted.{sum_by-IsPermutation}
 use Rattle.tl_county.specs.BodyOrder.{LinkPart}
@@ -36,22 +38,10 @@ is_link land part link = (link.land == land) && is_eq (link_part_cmp part (link_
 
 pub times-links : (links : List Fields8) (y : ℕ) (k : LinkPart)
     → times link_part_cmp k (links_of links y) ≡ length (filter (is_link y k) links)
-times-links [] y k = refl
-times-links (x ∷ xs) y k = go (x.land == y) (is_eq (link_part_cmp k (link_part x))) (times-links xs y k)
-  where
-    go : (b c : Bool) → times link_part_cmp k (links_of xs y) ≡ length (filter (is_link y k) xs)
-        → length (filter (λ p. is_eq (link_part_cmp k p))
-        (map link_part (cond b (x ∷ filter (λ l. l.land == y) xs) (filter (λ l. l.land == y) xs)))) ≡ length
-        (cond (b && is_eq (link_part_cmp k (link_part x))) (x ∷ filter (is_link y k) xs) (filter (is_link y k) xs))
-    go true c ih = yes (is_eq (link_part_cmp k (link_part x))) ih
-      where
-        yes : (d : Bool) → times link_part_cmp k (links_of xs y) ≡ length (filter (is_link y k) xs)
-            → length (cond d (link_part x ∷ filter (λ p. is_eq (link_part_cmp k p)) (links_of xs y))
-            (filter (λ p. is_eq (link_part_cmp k p)) (links_of xs y))) ≡ length
-            (cond d (x ∷ filter (is_link y k) xs) (filter (is_link y k) xs))
-        yes true ih = ap suc ih
-        yes false ih = ih
-    go false c ih = ih
+times-links links y k =
+    ap length (filter-mapped (λ p. is_eq (link_part_cmp k p)) link_part (filter (λ l. l.land == y) links))
+    ∙ length-map (filter (λ l. is_eq (link_part_cmp k (link_part l))) (filter (λ l. l.land == y) links)) link_part
+    ∙ ap length (filter-filtered (λ (l : Fields8). l.land == y) (λ l. is_eq (link_part_cmp k (link_part l))) links)
 
 -- the links of one landmark are in order
 pub links_of-in_order : (links : List Fields8) → IsInOrder link_cmp links → (y : ℕ) → IsInOrder link_part_cmp (links_of links y)
@@ -84,59 +74,31 @@ links_of-in_order (x ∷ xs) h y = go (x.land == y) refl (links_of-in_order xs h
 
 -- links that each have one LAND, counted by landmark
 times-land : (links : List Fields8) (k : Fields8) → times link_cmp k links ≡ length (filter (is_link k.land (link_part k)) links)
-times-land [] k = refl
-times-land (x ∷ xs) k = go (cases_eq x.land k.land) (times-land xs k)
+times-land links k = ap length (filter-agree (λ l. is_eq (link_cmp k l)) (is_link k.land (link_part k)) (λ l. go l (cases_eq l.land k.land)) links)
   where
-    directed : (b c : Bool) → b ≡ c → times link_cmp k xs ≡ length (filter (is_link k.land (link_part k)) xs)
-        → length (cond b (x ∷ filter (λ l. is_eq (link_cmp k l)) xs) (filter (λ l. is_eq (link_cmp k l)) xs)) ≡ length
-        (cond c (x ∷ filter (is_link k.land (link_part k)) xs) (filter (is_link k.land (link_part k)) xs))
-    directed true true e ih = ap suc ih
-    directed true false e ih = cc
-    directed false true e ih = cc
-    directed false false e ih = ih
+    other : (o p : Ordering) → is_eq o ≡ false → is_eq (ordering_then o p) ≡ false
+    other Less p e = refl
+    other Equal p e = absurd (false≢true (sym e))
+    other Greater p e = refl
 
-    other : (o : Ordering) → is_eq o ≡ false → is_eq (ordering_then o (link_part_cmp (link_part k) (link_part x))) ≡ false
-    other Less e = refl
-    other Equal e = absurd (false≢true (sym e))
-    other Greater e = refl
-
-    go : (x.land ≡ k.land) ⊎ (x.land ≡ k.land → ⊥) → times link_cmp k xs ≡ length (filter (is_link k.land (link_part k)) xs)
-        → times link_cmp k (x ∷ xs) ≡ length (filter (is_link k.land (link_part k)) (x ∷ xs))
-    go (inl e) ih = directed (is_eq (link_cmp k x)) (is_link k.land (link_part k) x)
-        (ap (λ o. is_eq (ordering_then o (link_part_cmp (link_part k) (link_part x)))) (ap (nat_cmp k.land) e
-        ∙ tied_itself nat_cmp_total k.land)
-        ∙ ap (λ b. b && is_eq (link_part_cmp (link_part k) (link_part x))) (sym (eq-eqb x.land k.land e))) ih
-    go (inr ne) ih = directed (is_eq (link_cmp k x)) (is_link k.land (link_part k) x)
-        (other (nat_cmp k.land x.land) (differ nat_keys k.land x.land (λ e. ne (sym e)))
-        ∙ ap (λ b. b && is_eq (link_part_cmp (link_part k) (link_part x))) (sym (ne_eqb x.land k.land ne))) ih
+    go : (l : Fields8) → (l.land ≡ k.land) ⊎ (l.land ≡ k.land → ⊥) → is_eq (link_cmp k l) ≡ is_link k.land (link_part k) l
+    go l (inl e) =
+        ap (λ o. is_eq (ordering_then o (link_part_cmp (link_part k) (link_part l)))) (ap (nat_cmp k.land) e ∙ tied_itself nat_cmp_total k.land)
+        ∙ ap (λ b. b && is_eq (link_part_cmp (link_part k) (link_part l))) (sym (eq-eqb l.land k.land e))
+    go l (inr ne) =
+        other (nat_cmp k.land l.land) _ (differ nat_keys k.land l.land (λ e. ne (sym e)))
+        ∙ ap (λ b. b && is_eq (link_part_cmp (link_part k) (link_part l))) (sym (ne_eqb l.land k.land ne))
 
 -- if renaming keeps LANDs distinct, a renamed landmark has the same links as before
 pub count-relanded : (f : ℕ → ℕ) (Dom : ℕ → Type 0) → ((n m : ℕ) → Dom n → Dom m → f n ≡ f m → n ≡ m) → (links : List Fields8)
     → AllByRecursion (λ l. Dom l.land) links → (y : ℕ) → Dom y → (k : LinkPart)
     → length (filter (is_link (f y) k) (map (relanded f) links)) ≡ length (filter (is_link y k) links)
-count-relanded f Dom inj [] a y d k = refl
-count-relanded f Dom inj (x ∷ xs) a y d k = go (cases_eq x.land y) (count-relanded f Dom inj xs a.1 y d k)
-  where
-    directed : (b c : Bool) → b ≡ c → length (filter (is_link (f y) k) (map (relanded f) xs)) ≡ length (filter (is_link y k) xs)
-        → length (cond (b && is_eq (link_part_cmp k (link_part x))) (relanded f x ∷ filter (is_link (f y) k) (map (relanded f) xs))
-        (filter (is_link (f y) k) (map (relanded f) xs))) ≡ length
-        (cond (c && is_eq (link_part_cmp k (link_part x))) (x ∷ filter (is_link y k) xs) (filter (is_link y k) xs))
-    directed true true e ih = yes (is_eq (link_part_cmp k (link_part x))) ih
-      where
-        yes : (v : Bool) → length (filter (is_link (f y) k) (map (relanded f) xs)) ≡ length (filter (is_link y k) xs)
-            → length (cond v (relanded f x ∷ filter (is_link (f y) k) (map (relanded f) xs))
-            (filter (is_link (f y) k) (map (relanded f) xs))) ≡ length (cond v (x ∷ filter (is_link y k) xs) (filter (is_link y k) xs))
-        yes true ih = ap suc ih
-        yes false ih = ih
-    directed true false e ih = cc
-    directed false true e ih = cc
-    directed false false e ih = ih
-
-    go : (x.land ≡ y) ⊎ (x.land ≡ y → ⊥) → length (filter (is_link (f y) k) (map (relanded f) xs)) ≡ length (filter (is_link y k) xs)
-        → length (filter (is_link (f y) k) (map (relanded f) (x ∷ xs))) ≡ length (filter (is_link y k) (x ∷ xs))
-    go (inl e) ih = directed (f x.land == f y) (x.land == y) (eq-eqb (f x.land) (f y) (ap f e) ∙ sym (eq-eqb x.land y e)) ih
-    go (inr ne) ih = directed (f x.land == f y) (x.land == y) (ne_eqb (f x.land) (f y) (λ e. ne (inj x.land y a.0 d e))
-        ∙ sym (ne_eqb x.land y ne)) ih
+count-relanded f Dom inj links a y d k =
+    ap length (filter-mapped (is_link (f y) k) (relanded f) links)
+    ∙ length-map (filter (λ l. is_link (f y) k (relanded f l)) links) (relanded f)
+    ∙ ap length (filter-agree_all (λ l. is_link (f y) k (relanded f l)) (is_link y k) links
+    (all_weaker (λ (l : Fields8). Dom l.land) (λ l. is_link (f y) k (relanded f l) ≡ is_link y k l)
+    (λ l known. ap (λ b. b && is_eq (link_part_cmp k (link_part l))) (same_after f Dom inj l.land y known d)) links a))
 
 -- a LAND without a landmark has no link
 no_links : (known : List ℕ) (links : List Fields8) → AllByRecursion (λ l. IsTrue (stands_in nat_cmp l.land known)) links → (y : ℕ)

@@ -8,7 +8,7 @@ use Rattle.tl_number.proofs.Common.{all_weaker, among-unmap, apart_from_sorted, 
 use Rattle.tl_number.proofs.Common.{in_order-permutation, keys_known, known_all, length-map, lists_keys, ltb-true, map-append, map-map}
 use Rattle.tl_number.proofs.Common.{map_agree_all, name_key, name_key_cmp, nat_keys, ne_eqb, pair_keys, stands_in, times, up_to, use_cmp}
 use Rattle.tl_number.proofs.Common.{uses_from, uses_of_name}
-use Rattle.std.proofs.lemmas.Bool.{cases_eq}
+use Rattle.tl_number.proofs.Lists.Filtered.{filter-agree_all, filter-mapped, same_after}
 use Rattle.tl_county.specs.Laws.KeyOrders.{name_body_keys}
 use Rattle.ordered_lists.proofs.Lists.Members.{one_entry}
 use Rattle.tl_number.proofs.Lists.Counting.{up_to-strict}
@@ -59,22 +59,11 @@ from_all_uses P (c ∷ cs) a = (
 -- if renaming keeps FEATs distinct, a renamed name has the same uses as before
 pub uses_of-renamed : (f : ℕ → ℕ) (Dom : ℕ → Type 0) → ((n m : ℕ) → Dom n → Dom m → f n ≡ f m → n ≡ m) → (us : List (Use × ℕ))
     → AllByRecursion (λ u. Dom u.1) us → (y : ℕ) → Dom y → uses_of_name (map (renamed_use f) us) (f y) ≡ uses_of_name us y
-uses_of-renamed f Dom inj [] a y d = refl
-uses_of-renamed f Dom inj (u ∷ us) a y d = go (cases_eq u.1 y) (uses_of-renamed f Dom inj us a.1 y d)
-  where
-    directed : (b c : Bool) → b ≡ c → uses_of_name (map (renamed_use f) us) (f y) ≡ uses_of_name us y
-        → map (λ (v : Use × ℕ). v.0)
-        (cond b ((u.0, f u.1) ∷ filter (λ v. v.1 == f y) (map (renamed_use f) us)) (filter (λ v. v.1 == f y) (map (renamed_use f) us)))
-        ≡ map (λ (v : Use × ℕ). v.0) (cond c (u ∷ filter (λ v. v.1 == y) us) (filter (λ v. v.1 == y) us))
-    directed true true e ih = ap (λ vs. u.0 ∷ vs) ih
-    directed true false e ih = cc
-    directed false true e ih = cc
-    directed false false e ih = ih
-
-    go : (u.1 ≡ y) ⊎ (u.1 ≡ y → ⊥) → uses_of_name (map (renamed_use f) us) (f y) ≡ uses_of_name us y
-        → uses_of_name (map (renamed_use f) (u ∷ us)) (f y) ≡ uses_of_name (u ∷ us) y
-    go (inl e) ih = directed (f u.1 == f y) (u.1 == y) (eq-eqb (f u.1) (f y) (ap f e) ∙ sym (eq-eqb u.1 y e)) ih
-    go (inr ne) ih = directed (f u.1 == f y) (u.1 == y) (ne_eqb (f u.1) (f y) (λ e. ne (inj u.1 y a.0 d e)) ∙ sym (ne_eqb u.1 y ne)) ih
+uses_of-renamed f Dom inj us a y d =
+    ap (map (λ (v : Use × ℕ). v.0)) (filter-mapped (λ (v : Use × ℕ). v.1 == f y) (renamed_use f) us)
+    ∙ map-map (λ (v : Use × ℕ). v.0) (renamed_use f) (filter (λ (u : Use × ℕ). f u.1 == f y) us)
+    ∙ ap (map (λ (u : Use × ℕ). u.0)) (filter-agree_all (λ (u : Use × ℕ). f u.1 == f y) (λ u. u.1 == y) us
+    (all_weaker (λ (u : Use × ℕ). Dom u.1) (λ u. (f u.1 == f y) ≡ (u.1 == y)) (λ u known. same_after f Dom inj u.1 y known d) us a))
 
 module _ (r : Renumbering) (a b : County) (h : Carries r a b) (ca : IsClosed a) (ta : IsArranged a) (tb : IsArranged b)
     (e : KeepsChains r a b) where
