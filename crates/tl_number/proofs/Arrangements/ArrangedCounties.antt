@@ -13,6 +13,7 @@ use Rattle.tl_number.proofs.Common.{ltb-true, map-map, name_key, name_key_cmp, n
 use Rattle.tl_number.proofs.Common.{nodes_in_order, numbered, on, on_total, placed, polygon_keys, polygons_along, polygons_in_order}
 use Rattle.tl_number.proofs.Common.{relinked, renaming_of, rights, same_or_not, stands_in, strict_from_order, times, times-no}
 use Rattle.tl_number.proofs.Common.{times-permutation, times-yes, under_cenid, up_to, uses_of_name}
+use Rattle.tl_number.proofs.Common.{Some, position_or_len, refl, slice_get}
 use Rattle.tl_county.proofs.Sameness.CarriedCounty.{carried_closed, carried_whole, feats-turned}
 use Rattle.ordered_lists.proofs.ByKey.Keys.{map_agree}
 use Rattle.tl_number.specs.ArrangedCounty.{HasOneCenidEach}
@@ -22,8 +23,10 @@ use Rattle.tl_number.proofs.Arrangements.Carrying.{tlids_arranged, feats_arrange
 use Rattle.tl_number.proofs.Arrangements.Carrying.{names_arranged, polygons_arranged, landmarks_arranged, links_arranged, nodes_renamed}
 use Rattle.tl_number.proofs.Arrangements.Carrying.{polygons_renamed}
 use Rattle.tl_number.proofs.Lists.Counting.{up_to-strict}
-use Rattle.tl_number.proofs.Numbering.FirstSeen.{place_from, place-here, place-later, place_bounds, first_seen-grows, to_first_seen}
-use Rattle.tl_number.proofs.Arrangements.Placed.{image-numbered, image-under_cenid, chain_count, rights-numbered}
+use Rattle.tl_number.proofs.Numbering.FirstSeen.{first_seen-grows, known_within, place_from, to_first_seen}
+use Rattle.tl_number.proofs.Numbering.NewNumbers.{image-numbered, image-under_cenid}
+use Rattle.tl_number.proofs.Numbering.SeenKeys.{found_key}
+use Rattle.tl_number.proofs.Arrangements.Placed.{chain_count, rights-numbered}
 use Rattle.tl_number.proofs.Unique.SameLandmarks.{landmark_key_keys, relanded, count-permutation, is_link, times-links}
 use Rattle.tl_number.proofs.Unique.SameLandmarks.{links_of-in_order, count-relanded}
 use Rattle.tl_number.proofs.Unique.SameKeys.{key_with}
@@ -33,19 +36,12 @@ use Rattle.tl_number.proofs.Unique.SameNumbers.{counted_injective, kept_entry, p
 -- different keys have different places
 place-injective : {K : Type 0} {cmp : K → K → Ordering} (o : IsKeyOrder cmp) (i : ℕ) (xs : List K) (k j : K) → Known cmp xs k
     → Known cmp xs j → place_from o i xs k ≡ place_from o i xs j → k ≡ j
-place-injective o i [] k j h l e = absurd (omega (arith, h))
-place-injective {K} {cmp} o i (x ∷ xs) k j h l e = go (known_cases o k x xs h) (known_cases o j x xs l) (place-injective o (suc i) xs k j)
-  where
-    go : (k ≡ x) ⊎ (Known cmp xs k × (is_eq (cmp k x) ≡ false)) → (j ≡ x) ⊎ (Known cmp xs j × (is_eq (cmp j x) ≡ false))
-        → (Known cmp xs k → Known cmp xs j → place_from o (suc i) xs k ≡ place_from o (suc i) xs j → k ≡ j) → k ≡ j
-    go (inl a) (inl b) ih = a ∙ sym b
-    go (inl a) (inr b) ih =
-        absurd (let low : suc i ≤ place_from o (suc i) xs j = (place_bounds o (suc i) xs j b.0).0 in
-        omega (arith, e, place-here o i x xs k a, place-later o i x xs j b.1, low))
-    go (inr a) (inl b) ih =
-        absurd (let low : suc i ≤ place_from o (suc i) xs k = (place_bounds o (suc i) xs k a.0).0 in
-        omega (arith, e, place-here o i x xs j b, place-later o i x xs k a.1, low))
-    go (inr a) (inr b) ih = ih a.0 b.0 (sym (place-later o i x xs k a.1) ∙ e ∙ place-later o i x xs j b.1)
+place-injective {K} {cmp} o i xs k j h l e =
+    let there : (m : K) → Known cmp xs m → slice_get xs (position_or_len (λ other. is_eq (cmp m other)) xs) ≡ Some m =
+    λ m known. found_key (λ x y. is_eq (cmp x y)) cmp (λ x y. refl) o m xs (known_within o xs m known) in
+    let both : Some k ≡ Some j = sym (there k h) ∙ ap (slice_get xs) (omega (arith, e)) ∙ there j l in
+    let one : k ≡ j = cc in
+    one
 
 -- keys are distinct if values computed from them are
 times-stated : {K L : Type 0} {cmp : K → K → Ordering} {by : L → L → Ordering} (o : IsKeyOrder cmp) (q : IsKeyOrder by) (f : K → L) (k : K)

@@ -20,19 +20,10 @@ use Rattle.tl_number.specs.SeenRecords.{ShowsNoMore}
 use Rattle.tl_number.proofs.CanonicalLists.Ascending.{sides_in_profile}
 use Rattle.tl_number.proofs.Arrangements.Carrying.{arrangement_carries}
 use Rattle.tl_number.specs.RecordNumbers.{numbers_of, greatest_number}
+use Rattle.tl_number.proofs.Lists.Counting.{range_bounds}
 use Rattle.tl_number.proofs.Arrangements.SmallNumbers.{IsSmall, IsSmallKey, NamesSmall, NumbersSmall, small_numbers_fit, packed_low}
 use Rattle.tl_number.proofs.Arrangements.ArrangedCounties.{is_arranged, arranged_county}
 use Rattle.tl_number.proofs.CanonicalLists.TidyLists.{canonical_is_choice}
-
--- consecutive numbers are within their bounds
-counted_bounds : (i n : ℕ) → AllByRecursion (λ k. (i ≤ k) × (k < i + n)) (range_with_len i n)
-counted_bounds i zero = tt
-counted_bounds i (suc n) = (
-  (omega arith, omega arith),
-  all_weaker (λ k. (i + 1 ≤ k) × (k < (i + 1) + n)) (λ k. (i ≤ k) × (k < i + suc n))
-      (λ k h. (let low : i + 1 ≤ k = h.0 in omega arith, let high : k < (i + 1) + n = h.1 in omega arith)) (range_with_len (i + 1) n)
-      (counted_bounds (i + 1) n),
-)
 
 -- numbers that grow are at most as large as the list is long
 grown_bounds : (m : ℕ) (ks : List ℕ) → GrowsFrom m ks → AllByRecursion (λ k. (1 ≤ k) × (k ≤ m + length ks)) ks
@@ -85,7 +76,7 @@ module _ (county : County) (is : IsCounty county) (in_form : IsArranged county)
   counted_small n ks e few =
       subst (AllByRecursion IsSmall) (sym e)
       (all_weaker (λ k. (1 ≤ k) × (k < 1 + n)) IsSmall
-      (λ k h. (h.0, let high : k < 1 + n = h.1 in omega (arith, high, few))) (up_to n) (counted_bounds 1 n))
+      (λ k h. (h.0, let high : k < 1 + n = h.1 in omega (arith, high, few))) (up_to n) (range_bounds 1 n))
 
   tlids_small : AllByRecursion IsSmall (tlids county)
   tlids_small = counted_small (length county.chains) (tlids county) in_form.tlids chains

@@ -8,14 +8,13 @@ use Rattle.tl_number.proofs.Common.{known-here, known-permutation, known-permuta
 use Rattle.tl_number.proofs.Common.{map-map, map_agree_all, nat_keys, numbered, numbered_from, placed, renumbered, rights-numbered_from}
 use Rattle.tl_number.proofs.Common.{same_or_not, stands_in, times, times-no, times-of_number, times-yes, tlids, turned_if, turned_tlids}
 use Rattle.tl_number.proofs.Common.{turns, under_cenid, up_to}
-use Rattle.ordered_lists.proofs.ByKey.Keys.{known-later, image-yes, image-no}
+use Rattle.ordered_lists.proofs.ByKey.Keys.{known-later}
 use Rattle.ordered_lists.proofs.ByKey.Keys.{differ}
 use Rattle.tl_county.proofs.Lists.OfNumber.{of_number-all}
 use Rattle.ordered_lists.proofs.ByKey.Numbers.{only_one}
 use Rattle.tl_county.proofs.Lists.OfNumber.{groups-permutation}
 use Rattle.tl_number.proofs.Lists.Counting.{entries_equal, flat_map-map}
 use Rattle.tl_county.proofs.Packing.Pieces.{lefts-numbered_from}
-use Rattle.tl_number.proofs.Numbering.FirstSeen.{place_from, place-here, place-later}
 use Rattle.tl_number.proofs.Unique.SameNumbers.{kept_entry}
 
 -- numbered keys as pairs
@@ -26,32 +25,6 @@ lefts-numbered {K} keys = map-map (λ (pair : K × ℕ). pair.0) (λ (entry : �
 pub rights-numbered : {K : Type 0} (keys : List K) → map (λ (pair : K × ℕ). pair.1) (numbered keys) ≡ up_to (length keys)
 rights-numbered {K} keys = map-map (λ (pair : K × ℕ). pair.1) (λ (entry : ℕ × K). (entry.1, entry.0)) (numbered_from 1 keys)
     ∙ lefts-numbered_from 1 keys
-
--- the image of a key, if each key's image is made of the key and its place
-module _ {K : Type 0} {cmp : K → K → Ordering} (o : IsKeyOrder cmp) (new : K → ℕ → K) where
-  abbrev paired : ℕ → List K → List (K × K)
-  paired i keys = map (λ (entry : ℕ × K). (entry.1, new entry.1 entry.0)) (numbered_from i keys)
-
-  made_of_place : (i : ℕ) (keys : List K) (k : K) → Known cmp keys k → image cmp (paired i keys) k ≡ new k (place_from o i keys k)
-  made_of_place i [] k h = absurd (omega (arith, h))
-  made_of_place i (x ∷ xs) k h = go (known_cases o k x xs h) (made_of_place (suc i) xs k)
-    where
-      go : (k ≡ x) ⊎ (Known cmp xs k × (is_eq (cmp k x) ≡ false))
-          → (Known cmp xs k → image cmp (paired (suc i) xs) k ≡ new k (place_from o (suc i) xs k))
-          → image cmp (paired i (x ∷ xs)) k ≡ new k (place_from o i (x ∷ xs) k)
-      go (inl e) ih = image-yes o (x, new x i) (paired (suc i) xs) k e ∙ ap₂ new (sym e) (sym (place-here o i x xs k e))
-      go (inr l) ih = image-no o (x, new x i) (paired (suc i) xs) k l.1 ∙ ih l.0 ∙ ap (new k) (sym (place-later o i x xs k l.1))
-
--- the new number of a number is its place
-pub image-numbered : (keys : List ℕ) (k : ℕ) → Known nat_cmp keys k → image nat_cmp (numbered keys) k ≡ place_from nat_keys 1 keys k
-image-numbered keys k h = made_of_place nat_keys (λ key i. i) 1 keys k h
-
--- the new key of a polygon is its CENID with its place
-pub image-under_cenid : (keys : List PolygonKey) (k : PolygonKey) → Known key_cmp keys k
-    → image key_cmp (map under_cenid (numbered keys)) k ≡ (k.0, place_from key_keys 1 keys k)
-image-under_cenid keys k h =
-    ap (λ pairs. image key_cmp pairs k) (map-map under_cenid (λ (entry : ℕ × PolygonKey). (entry.1, entry.0)) (numbered_from 1 keys))
-    ∙ made_of_place key_keys (λ key i. (key.0, i)) 1 keys k h
 
 -- the chains that an arrangement turns
 pub turned_known : (arrangement : Arrangement) (k : ℕ) → Known nat_cmp (turned_tlids arrangement) k → Known nat_cmp (arranged_tlids arrangement) k

@@ -1,6 +1,7 @@
 -- Lists that count from a number: they ascend, and lists with the same length are equal.
 use Rattle.tl_number.proofs.Common.{◌≡◌, ◌<◌, ◌+◌, ℕ, zero, suc, List, [], ◌∷◌, ◌++◌, map, flat_map, Less, Equal, Greater, refl, ap, arith}
 use Rattle.tl_number.proofs.Common.{nat_cmp, cond, ◌==◌, AllByRecursion, lt-ltb, range_with_len, up_to}
+use Rattle.tl_number.proofs.Common.{all_weaker, ◌≤◌}
 use Rattle.std.specs.List.Sorted.{IsStrictlySortedBy}
 
 pub less : (m n : ℕ) → m < n → nat_cmp m n ≡ Less
@@ -17,6 +18,16 @@ range_strict a (suc n) = (above a (a + 1) n (omega arith), range_strict (a + 1) 
 
 pub up_to-strict : (n : ℕ) → IsStrictlySortedBy nat_cmp (up_to n)
 up_to-strict n = range_strict 1 n
+
+-- and are within their bounds
+pub range_bounds : (a n : ℕ) → AllByRecursion (λ j. (a ≤ j) × (j < a + n)) (range_with_len a n)
+range_bounds a zero = tt
+range_bounds a (suc n) = (
+  (omega arith, omega arith),
+  all_weaker (λ j. (a + 1 ≤ j) × (j < (a + 1) + n)) (λ j. (a ≤ j) × (j < a + suc n))
+      (λ j h. (let low = h.0 in omega (arith, low), let high = h.1 in omega (arith, high))) (range_with_len (a + 1) n) (range_bounds
+      (a + 1) n),
+)
 
 -- entries with equal left parts and equal right parts are equal
 pub entries_equal : {A B : Type 0} (xs ys : List (A × B)) → map (λ e. e.0) xs ≡ map (λ e. e.0) ys → map (λ e. e.1) xs ≡ map (λ e. e.1) ys

@@ -10,7 +10,7 @@ module _ {K : Type 0} (eq : K → K → Bool) (cmp : K → K → Ordering) (same
   inserted-seen k ks = ap (λ b. cond b ks (ks ++ (k ∷ []))) (any-stands_in eq cmp same k ks)
 
   module _ (o : IsKeyOrder cmp) where
-    found_key : (k : K) (ks : List K) → position_or_len (eq k) ks < length ks → slice_get ks (position_or_len (eq k) ks) ≡ Some k
+    pub found_key : (k : K) (ks : List K) → position_or_len (eq k) ks < length ks → slice_get ks (position_or_len (eq k) ks) ≡ Some k
     found_key k [] h = absurd (omega (arith, h))
     found_key k (x ∷ xs) h = go (eq k x) refl h (found_key k xs)
       where

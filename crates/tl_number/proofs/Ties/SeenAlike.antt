@@ -4,7 +4,7 @@ use Rattle.tl_number.proofs.Common.{◌≡◌, ◌⊎◌, ◌<◌, ◌≤◌, �
 use Rattle.tl_number.proofs.Common.{nat_cmp, refl, sym, ap, ◌∙◌, subst, inl, inr, arith, length-append, any-stands_in, first_seen_after}
 use Rattle.tl_number.proofs.Common.{list_any, nat_keys, position_or_len, same-itself, same-true, same_or_not}
 use Rattle.ordered_lists.proofs.ByKey.Keys.{differ}
-use Rattle.tl_number.proofs.Numbering.SeenPlaces.{any_within, first_stays, none_within}
+use Rattle.tl_number.proofs.Numbering.FoundPlaces.{any_within, first_stays, none_at_end, place_behind, place_bound}
 use Rattle.tl_number.proofs.Ties.NumberTexts.{InOneOrder}
 
 -- whether two nodes are the same
@@ -19,29 +19,14 @@ at seen x = position_or_len (alike x) seen
 abbrev pub and_then : List ℕ → ℕ → List ℕ
 and_then seen x = first_seen_after nat_cmp seen (x ∷ [])
 
-place_bound : (p : ℕ → Bool) (xs : List ℕ) → position_or_len p xs ≤ length xs
-place_bound p [] = omega arith
-place_bound p (x ∷ xs) = go (p x) (place_bound p xs)
-  where
-    go : (b : Bool) → position_or_len p xs ≤ length xs → cond (not b) (1 + position_or_len p xs) 0 ≤ suc (length xs)
-    go true h = omega arith
-    go false h = omega (arith, h)
-
 -- the place of an element that isn't found before the last one
 place_pushed : (p : ℕ → Bool) (xs : List ℕ) (x : ℕ) → length xs ≤ position_or_len p xs
     → position_or_len p (xs ++ (x ∷ [])) ≡ length xs + cond (p x) 0 1
-place_pushed p [] x h = go (p x)
+place_pushed p xs x h = place_behind p xs (x ∷ []) h ∙ ap (λ n. length xs + n) (go (p x))
   where
-    go : (b : Bool) → cond (not b) (1 + 0) 0 ≡ 0 + cond b 0 1
+    go : (b : Bool) → cond (not b) (1 + 0) 0 ≡ cond b 0 1
     go true = refl
     go false = refl
-place_pushed p (y ∷ ys) x h = go (p y) h (place_pushed p ys x)
-  where
-    go : (b : Bool) → suc (length ys) ≤ cond (not b) (1 + position_or_len p ys) 0
-        → (length ys ≤ position_or_len p ys → position_or_len p (ys ++ (x ∷ [])) ≡ length ys + cond (p x) 0 1)
-        → cond (not b) (1 + position_or_len p (ys ++ (x ∷ []))) 0 ≡ suc (length ys) + cond (p x) 0 1
-    go true l ih = absurd (omega (arith, l))
-    go false l ih = let e = ih (omega (arith, l)) in omega (arith, e)
 
 -- a node that was seen changes nothing, and any other is appended
 pub already_seen : (seen : List ℕ) (x : ℕ) → at seen x < length seen → and_then seen x ≡ seen
@@ -49,7 +34,7 @@ already_seen seen x h = go (list_any (alike x) seen) refl
   where
     go : (b : Bool) → list_any (alike x) seen ≡ b → and_then seen x ≡ seen
     go true e = ap (λ b. cond b seen (seen ++ (x ∷ []))) (sym (any-stands_in alike nat_cmp (λ i j. refl) x seen) ∙ e)
-    go false e = let none = (none_within (alike x) seen x e (same-itself nat_keys x)).0 in absurd (omega (arith, h, none))
+    go false e = let none = none_at_end (alike x) seen e in absurd (omega (arith, h, none))
 
 pub newly_seen : (seen : List ℕ) (x : ℕ) → length seen ≤ at seen x → and_then seen x ≡ seen ++ (x ∷ [])
 newly_seen seen x h = go (list_any (alike x) seen) refl
@@ -63,7 +48,7 @@ cases_at seen x = go (list_any (alike x) seen) refl
   where
     go : (b : Bool) → list_any (alike x) seen ≡ b → (at seen x < length seen) ⊎ (at seen x ≡ length seen)
     go true e = inl (any_within (alike x) seen e)
-    go false e = inr (none_within (alike x) seen x e (same-itself nat_keys x)).0
+    go false e = inr (none_at_end (alike x) seen e)
 
 -- the place of a node after another one was appended
 pub record IsPushed (same : Bool) (n p q : ℕ) : Type 0 where
