@@ -6,7 +6,7 @@ pub use Rattle.ordered_lists.proofs.ByKey.Keys.{known_cases, lefts, nat_keys, or
 pub use Rattle.ordered_lists.proofs.ByKey.Keys.{times-append, times-no, times-permutation, times-yes}
 pub use Rattle.ordered_lists.proofs.ByKey.Numbers.{all-in_order, each_from, strict_from_order}
 pub use Rattle.ordered_lists.proofs.Lists.Among.{Among, all_among}
-pub use Rattle.ordered_lists.proofs.Lists.ByPlace.{decides_no, decides_same}
+pub use Rattle.ordered_lists.proofs.Lists.ByPlace.{decides_no, decides_same, same_next}
 pub use Rattle.ordered_lists.proofs.Lists.Distinct.{apart-distinct, apart_from_no_repeat, has_repeat-apart, known-distinct}
 pub use Rattle.ordered_lists.proofs.Lists.Elements.{all_append, all_both, all_everywhere, all_joined, all_left, all_map, all_right}
 pub use Rattle.ordered_lists.proofs.Lists.Elements.{all_unmap, all_weaker, map-map, map_agree_all, map_agree_everywhere}
@@ -20,7 +20,7 @@ pub use Rattle.ordered_lists.specs.Orders.{IsInOrder, has_repeat, in_order, stan
 pub use Rattle.ordered_lists.specs.Pairs.{image}
 pub use Rattle.std.proofs.Common.{◌%◌, ◌&&◌, ◌*◌, ◌++◌, ◌+◌, ◌-◌, ◌/◌, ◌<◌, ◌==◌, ◌^◌, ◌||◌, ◌∙◌, ◌∷◌, ◌≡◌, ◌≢◌, ◌≤◌, ◌⊎◌, Bool, Equal, Err}
 pub use Rattle.std.proofs.Common.{Greater, IfOk, IfSome, IsPermutation, IsSome, IsTrue, Less, List, None, Ok, OnOk, Option, Ordering}
-pub use Rattle.std.proofs.Common.{Result, Some, [], add-one, ap, append-nil, append_assoc, ap₂, arith, codes, cond, drop, eqb, false}
+pub use Rattle.std.proofs.Common.{Result, Some, [], add-one, ap, append-nil, append_assoc, ap₂, arith, below_more, codes, cond, drop, eqb, false}
 pub use Rattle.std.proofs.Common.{filter, filter_map, flat_map, get_or, inl, inr, is_eq, is_gt, is_lt, is_some, length, length-append}
 pub use Rattle.std.proofs.Common.{length-drop, length-set, lit≤, map, map-id, max, min, nat_cmp, nat_eq, nat_le, nat_lt, not, option_map}
 pub use Rattle.std.proofs.Common.{option_to_list, refl, reverse, rules, set, slice_get, slice_index, subst, suc, sym, take, tests, true}

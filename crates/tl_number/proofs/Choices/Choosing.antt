@@ -1,5 +1,5 @@
 -- Choices selected by numbers: each number selects a choice, and each choice has a number below the count of choices.
-use Rattle.tl_number.proofs.Common.{◌≡◌, ◌⊎◌, ◌<◌, ◌≤◌, ◌+◌, ◌*◌, ◌/◌, ◌%◌, ℕ, zero, suc, nat_lt, List, [], ◌∷◌, map, take, drop, length}
+use Rattle.tl_number.proofs.Common.{below_more, ◌≡◌, ◌⊎◌, ◌<◌, ◌≤◌, ◌+◌, ◌*◌, ◌/◌, ◌%◌, ℕ, zero, suc, nat_lt, List, [], ◌∷◌, map, take, drop, length}
 use Rattle.tl_number.proofs.Common.{Bool, true, false, cond, Ordering, is_eq, is_gt, sym, refl, ap, ◌∙◌, subst, inl, inr, arith, nat_cmp}
 use Rattle.tl_number.proofs.Common.{IsPermutation, AllByRecursion, IsInOrder, IsKeyOrder, IsPermutation-insert, IsPermutation-map}
 use Rattle.tl_number.proofs.Common.{IsPermutation-sym, IsPermutation-trans, IsTotalOrder, Known, all_append, all_known, all_map, all_unmap}
@@ -82,15 +82,8 @@ module _ {T : Type 0} {cmp : T → T → Ordering} (o : IsTotalOrder cmp) (f : �
   abbrev IsLeastBelow : ℕ → ℕ → Type 0
   IsLeastBelow bound n = (m : ℕ) → m < bound → is_gt (cmp (f n) (f m)) ≡ false
 
-  pub one_more : (bound n : ℕ) → IsLeastBelow bound n → is_gt (cmp (f n) (f bound)) ≡ false → IsLeastBelow (suc bound) n
-  one_more bound n least last m below = go (nat_lt m bound) refl
-    where
-      go : (b : Bool) → nat_lt m bound ≡ b → is_gt (cmp (f n) (f m)) ≡ false
-      go true e = least m (ltb-true m bound e)
-      go false e =
-          let past : bound ≤ m = ltb-false m bound e in
-          let same : bound ≡ m = omega (arith, below, past) in
-          subst (λ k. is_gt (cmp (f n) (f k)) ≡ false) same last
+  pub one_more : (bound n : ℕ) → IsLeastBelow bound n → is_gt (cmp (f n) (f bound)) ≡ false → IsLeastBelow (bound + 1) n
+  one_more bound n = below_more (λ m. is_gt (cmp (f n) (f m)) ≡ false) bound
 
   itself : (n : ℕ) → is_gt (cmp (f n) (f n)) ≡ false
   itself n = ap is_gt (tied_itself o (f n))
@@ -102,13 +95,14 @@ module _ {T : Type 0} {cmp : T → T → Ordering} (o : IsTotalOrder cmp) (f : �
     where
       pick : (n : ℕ) → n < suc count → IsLeastBelow (suc count) n → (b : Bool) → is_gt (cmp (f n) (f (suc count))) ≡ b
           → (k : ℕ) × (k < suc (suc count)) × IsLeastBelow (suc (suc count)) k
-      pick n below least false e = (n, omega (arith, below), one_more (suc count) n least e)
+      pick n below least false e = (n, omega (arith, below), λ m l. one_more (suc count) n least e m (omega (arith, l)))
       pick n below least true e =
           let turned : is_gt (cmp (f (suc count)) (f n)) ≡ false =
           not_greater (cmp (f n) (f (suc count))) (cmp (f (suc count)) (f n)) (o.antisymm (f n) (f (suc count))) e in (
             suc count,
             omega arith,
-            one_more (suc count) (suc count) (λ m l. upto o (f (suc count)) (f n) (f m) turned (least m l)) (itself (suc count)),
+            (λ k under. one_more (suc count) (suc count) (λ m l. upto o (f (suc count)) (f n) (f m) turned (least m l)) (itself (suc count)) k
+                (omega (arith, under))),
           )
 
       go : (n : ℕ) × (n < suc count) × IsLeastBelow (suc count) n → (k : ℕ) × (k < suc (suc count)) × IsLeastBelow (suc (suc count)) k

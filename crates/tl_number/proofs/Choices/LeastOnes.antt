@@ -1,5 +1,5 @@
 -- The least type 1 records of choices, number by number, and the consequence for texts.
-use Rattle.tl_number.proofs.Common.{◌≡◌, ◌<◌, ◌≤◌, ◌+◌, ℕ, suc, nat_lt, List, Bool, true, false, Ordering, Less, Equal, Greater, is_eq}
+use Rattle.tl_number.proofs.Common.{below_more, ◌≡◌, ◌<◌, ◌≤◌, ◌+◌, ℕ, suc, nat_lt, List, Bool, true, false, Ordering, Less, Equal, Greater, is_eq}
 use Rattle.tl_number.proofs.Common.{is_gt, length, map, sym, refl, ap, ◌∙◌, subst, arith, AgreeApart, AllKeysStandIn, AreInShapeOrder}
 use Rattle.tl_number.proofs.Common.{AreWhole, AreWithin, County, DirectedChain, IsCounty, IsLeastFrom, IsNotAfter, IsWithinLimits}
 use Rattle.tl_number.proofs.Common.{OpenPlace, Record, StandInOrder, arranged, choice_list, directed_chain, false≢true, few_chains}
@@ -68,30 +68,22 @@ module _ (county : County) where
 
   -- the least so far stays if the next number has no lesser records
   pub one_stays : (bound n : ℕ) → IsLeastOne county bound n → is_gt (ones_cmp county n bound) ≡ false → IsLeastOne county (bound + 1) n
-  one_stays bound n least e =
-      subst (λ b. IsLeastOne county b n) (let s : suc bound ≡ bound + 1 = omega arith in s)
-      (one_more records_total ones_at bound n least e)
+  one_stays = one_more records_total ones_at
 
   -- and is replaced if it has
   pub one_gives_way : (bound n : ℕ) → IsLeastOne county bound n → is_gt (ones_cmp county n bound) ≡ true → IsLeastOne county (bound + 1) bound
   one_gives_way bound n least e =
       let turned : is_gt (ones_cmp county bound n) ≡ false =
       not_greater (ones_cmp county n bound) (ones_cmp county bound n) (records_total.antisymm (ones_at n) (ones_at bound)) e in
-      subst (λ b. IsLeastOne county b bound) (let s : suc bound ≡ bound + 1 = omega arith in s)
-      (one_more records_total ones_at bound bound
-      (λ m l. upto records_total (ones_at bound) (ones_at n) (ones_at m) turned (least m l)) (one_itself bound))
+      one_more records_total ones_at bound bound
+      (λ m l. upto records_total (ones_at bound) (ones_at n) (ones_at m) turned (least m l)) (one_itself bound)
 
   -- one more number whose text isn't before that of the number
   pub from_more : (first bound n : ℕ) → IsLeastFrom county first bound n → IsNotAfter (choice_list county n) (choice_list county bound)
       → IsLeastFrom county first (bound + 1) n
-  from_more first bound n among last m l k = go (nat_lt m bound) refl
-    where
-      go : (b : Bool) → nat_lt m bound ≡ b → IsNotAfter (choice_list county n) (choice_list county m)
-      go true e = among m l (ltb-true m bound e)
-      go false e =
-          let past : bound ≤ m = ltb-false m bound e in
-          let same : bound ≡ m = omega (arith, k, past) in
-          subst (λ j. IsNotAfter (choice_list county n) (choice_list county j)) same last
+  from_more first bound n among last m l k =
+      below_more (λ j. first ≤ j → IsNotAfter (choice_list county n) (choice_list county j)) bound (λ j below from. among j from below)
+      (λ from. last) m k l
 
 module _ (county : County) (is : IsCounty county) (within : IsWithinLimits most_records county)
     (sides : AllKeysStandIn (polygons_along county.chains) (polygon_keys county)) where

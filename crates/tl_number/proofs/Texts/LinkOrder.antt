@@ -110,18 +110,6 @@ module _ (county : County) (is_county : IsCounty county) (one other : List Direc
           })))
           ∙ sym (link_there (arranged_by county other) place ∙ ap (option_map (λ entry. I (packed_i entry))) b.entry)
 
--- lists that agree up to a place, and at it
-pub same_further : {X : Type 0} (xs ys : List X) (end : ℕ) → ((place : ℕ) → place < end → slice_get xs place ≡ slice_get ys place)
-    → slice_get xs end ≡ slice_get ys end → (place : ℕ) → place < end + 1 → slice_get xs place ≡ slice_get ys place
-same_further xs ys end below here place l = go (nat_lt place end) refl
-  where
-    go : (b : Bool) → nat_lt place end ≡ b → slice_get xs place ≡ slice_get ys place
-    go true e = below place (ltb-true place end e)
-    go false e =
-        let past : end ≤ place = ltb-false place end e in
-        let same : end ≡ place = omega (arith, l, past) in
-        subst (λ k. slice_get xs k ≡ slice_get ys k) same here
-
 -- type I records that are tied up to the last chain of both counties
 pub all_links_tied : (a b : County) (end : ℕ) → length a.chains ≤ end → length b.chains ≤ end
     → AreTiedBelow end (links_of a) (links_of b) → Equal ≡ records_cmp (links_of a) (links_of b)

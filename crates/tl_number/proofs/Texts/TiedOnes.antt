@@ -6,17 +6,6 @@ use Rattle.tl_number.proofs.Common.{ordering_then, records_cmp, slice_get-get_or
 use Rattle.tl_number.proofs.Texts.GroupOrders.{decided}
 use Rattle.tl_number.proofs.Texts.TypeOnes.{length-ones_arranged_by, ones_arranged_by, same_one}
 
--- with one more place
-pub tied_more : (rs ss : List Record) (end : ℕ) → AreTiedBelow end rs ss → AreTiedAt rs ss end → AreTiedBelow (end + 1) rs ss
-tied_more rs ss end below here place l = go (nat_lt place end) refl
-  where
-    go : (b : Bool) → nat_lt place end ≡ b → AreTiedAt rs ss place
-    go true e = below place (ltb-true place end e)
-    go false e =
-        let past : end ≤ place = ltb-false place end e in
-        let same : end ≡ place = omega (arith, l, past) in
-        subst (AreTiedAt rs ss) same here
-
 -- the first place where two lists aren't tied decides
 pub first_untied : (rs ss : List Record) (place : ℕ) → AreTiedBelow place rs ss
     → option_cmp spelling_cmp (slice_get rs place) (slice_get ss place) ≢ Equal

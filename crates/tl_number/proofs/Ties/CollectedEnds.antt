@@ -1,5 +1,5 @@
 -- Collecting the nodes of open chains and the critical ends.
-use Rattle.tl_number.proofs.Common.{◌≡◌, ◌<◌, ◌≤◌, ◌+◌, nat_lt, Bool, true, false, arith, ℕ, zero, suc, List, [], ◌∷◌, map, drop, get_or}
+use Rattle.tl_number.proofs.Common.{below_more, ◌≡◌, ◌<◌, ◌≤◌, ◌+◌, nat_lt, Bool, true, false, arith, ℕ, zero, suc, List, [], ◌∷◌, map, drop, get_or}
 use Rattle.tl_number.proofs.Common.{length, slice_get, Option, Some, None, option_map, option_to_list, IsTrue, nat_cmp, refl, sym, ap, ◌∙◌}
 use Rattle.tl_number.proofs.Common.{subst, Chain, County, DirectedChain, HasChainsOf, HasNodes, OpenPlace, all_known, all_weaker}
 use Rattle.tl_number.proofs.Common.{directed_chain, ends_along, ends_of, ends_or_none, first_seen_after, is_open, lt-ltb, ltb-false}
@@ -39,20 +39,19 @@ has_still old new nodes grown has =
 -- the nodes of the chains at the open places up to one more
 pub one_more_open : (places : List OpenPlace) (ends : List (Option ℕ × Option ℕ)) (old new : List ℕ) (place : ℕ) (here : Option ℕ × Option ℕ)
     → slice_get ends place ≡ Some here
-    → ((k : ℕ) (pair : Option ℕ × Option ℕ) → k < place → is_open k places ≡ true → slice_get ends k ≡ Some pair → HasNodes old (nodes_at pair))
+    → ((k : ℕ) → k < place → (pair : Option ℕ × Option ℕ) → is_open k places ≡ true → slice_get ends k ≡ Some pair → HasNodes old (nodes_at pair))
     → ((node : ℕ) → IsTrue (stands_in nat_cmp node old) → IsTrue (stands_in nat_cmp node new))
     → (is_open place places ≡ true → HasNodes new (nodes_at here))
-    → (k : ℕ) (pair : Option ℕ × Option ℕ) → k < place + 1 → is_open k places ≡ true → slice_get ends k ≡ Some pair → HasNodes new (nodes_at pair)
-one_more_open places ends old new place here there before grown seen k pair l e f = go (nat_lt k place) refl
+    → (k : ℕ) → k < place + 1 → (pair : Option ℕ × Option ℕ) → is_open k places ≡ true → slice_get ends k ≡ Some pair → HasNodes new (nodes_at pair)
+one_more_open places ends old new place here there before grown seen =
+    below_more (λ k. (pair : Option ℕ × Option ℕ) → is_open k places ≡ true → slice_get ends k ≡ Some pair → HasNodes new (nodes_at pair)) place
+    (λ k l pair e f. has_still old new (nodes_at pair) grown (before k l pair e f)) last
   where
-    go : (b : Bool) → nat_lt k place ≡ b → HasNodes new (nodes_at pair)
-    go true h = has_still old new (nodes_at pair) grown (before k pair (ltb-true k place h) e f)
-    go false h =
-        let past : place ≤ k = ltb-false k place h in
-        let same : place ≡ k = omega (arith, l, past) in
-        let both : Some here ≡ Some pair = sym there ∙ ap (slice_get ends) same ∙ f in
+    last : (pair : Option ℕ × Option ℕ) → is_open place places ≡ true → slice_get ends place ≡ Some pair → HasNodes new (nodes_at pair)
+    last pair e f =
+        let both : Some here ≡ Some pair = sym there ∙ f in
         let one : here ≡ pair = cc in
-        subst (λ p. HasNodes new (nodes_at p)) one (seen (ap (λ j. is_open j places) same ∙ e))
+        subst (λ p. HasNodes new (nodes_at p)) one (seen e)
 
 -- ends read from each directed chain
 end_read : (o : Option Chain) (ends : Option ℕ × Option ℕ) → Some ends ≡ option_map ends_of o → ends ≡ ends_or_none o

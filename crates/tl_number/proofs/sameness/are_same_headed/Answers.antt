@@ -1,7 +1,7 @@
-use Rattle.tl_number.proofs.Common.{◌≡◌, ◌∙◌, true, false, rules, drop, length, take, refl, sym, ap, arith, group_at, slice_get_read}
+use Rattle.tl_number.proofs.Common.{decides_no, same_next, ◌≡◌, ◌∙◌, true, false, rules, drop, length, take, refl, sym, ap, arith, group_at, slice_get_read}
 use Rattle.tl_number.proofs.Lemmas.{same_whole}
 use Rattle.tl_number.proofs.Records.Grouped.{group_headed, length_headed}
-use Rattle.tl_number.proofs.Records.SameGroups.{decides_no, same_next, same_group}
+use Rattle.tl_number.proofs.Records.SameGroups.{same_group}
 use Rattle.tl_number.proofs.sameness.are_same_headed.Goals as goal
 
 pub is_same_group-same-requires-clause-head : goal.is_same_group-same-requires-clause-head

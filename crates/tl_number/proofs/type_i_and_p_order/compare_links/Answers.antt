@@ -1,6 +1,6 @@
-use Rattle.tl_number.proofs.Common.{◌∙◌, sym, arith, arranged_by, links_of}
+use Rattle.tl_number.proofs.Common.{AreTiedAt, below_more, ◌∙◌, sym, arith, arranged_by, links_of}
 use Rattle.tl_number.proofs.Texts.LinkOrder.{all_links_tied, as_many_through}
-use Rattle.tl_number.proofs.Texts.TiedOnes.{first_untied, tied_more}
+use Rattle.tl_number.proofs.Texts.TiedOnes.{first_untied}
 use Rattle.tl_number.proofs.type_i_and_p_order.compare_links.Goals as goal
 
 pub loop-place-init : goal.loop-place-init
@@ -24,7 +24,7 @@ pub loop-place-preserved : goal.loop-place-preserved
 loop-place-preserved g c =
     let a = arranged_by (g.A.Chart.county c.args.a.now.chart) c.args.a.now.arrangement.items in
     let b = arranged_by (g.B.Chart.county c.args.b.now.chart) c.args.b.now.arrangement.items in
-    tied_more (links_of a) (links_of b) c.loop-place.place c.loop-place.invariant (sym c.compare_link.ensures ∙ c.in-Equal.is)
+    below_more (AreTiedAt (links_of a) (links_of b)) c.loop-place.place c.loop-place.invariant (sym c.compare_link.ensures ∙ c.in-Equal.is)
 
 pub returns : goal.returns
 returns g c =
