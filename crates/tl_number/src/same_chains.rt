@@ -135,8 +135,7 @@ fn have_same_parts_below<P: ChainPart, C: Chart>(
 fn have_same_content<C: Chart>(chart: &C, one: DirectedChain, other: DirectedChain) -> bool
     ensures { Decides result (HaveSameContent (directed_chain (C.county chart.now) one) (directed_chain (C.county chart.now) other)) }
 {
-    one.body(chart).is_same(other.body(chart))
-        && one.topology(chart).is_same(other.topology(chart))
+    one.body(chart).is_same(other.body(chart)) && one.topology(chart).is_same(other.topology(chart))
 }
 
 /// Whether two directed chains have the same nodes and the same sides.

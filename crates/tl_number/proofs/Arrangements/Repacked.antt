@@ -1,5 +1,5 @@
 -- A canonical list of records is the packing of its county: chains, names and landmarks.
-use Rattle.tl_number.proofs.Common.{AreFull, ◌≡◌, ℕ, ◌==◌, List, [], ◌∷◌, ◌++◌, map, flat_map, length, false, is_gt, sym, refl, ap, ap₂, ◌∙◌, subst}
+use Rattle.tl_number.proofs.Common.{AreFull, ◌≤◌, ◌≡◌, ℕ, ◌==◌, List, [], ◌∷◌, ◌++◌, map, flat_map, length, false, is_gt, sym, refl, ap, ap₂, ◌∙◌, subst}
 use Rattle.tl_number.proofs.Common.{arith, nat_cmp, map-id, AllByRecursion, Chain, Coordinates, Fields2, Fields4, Fields6, Fields7, FieldsI}
 use Rattle.tl_number.proofs.Common.{IsInOrder, IsLinked, IsPacked, IsStrictlySortedBy, Known, Ranges, Record, StandsInOrder, all_known}
 use Rattle.tl_number.proofs.Common.{all_unmap, in_order, in_order-map, in_pieces, known-distinct, landmark_body_cmp, last_point, lt-ltb}
