@@ -100,11 +100,7 @@ fn have_same_part_at<P: ChainPart, C: Chart>(
 ) -> bool
     ensures { Decides result (P.part (directed_chain (C.county chart.now) one) ≡ P.part (directed_chain (C.county chart.now) other)) }
 {
-    let same = one.is_same(other);
-    if same {
-        return true;
-    }
-    part.is_same(chart, one, other)
+    one.is_same(other) || part.is_same(chart, one, other)
 }
 
 /// Whether the chains of two arrangements have the same part at each place below the end. It must be the same at the places before the

@@ -7,14 +7,6 @@ use Rattle.tl_number.proofs.Common.{type_8_together, type_i_by_chain, type_p_by_
 use Rattle.tl_number.specs.SharedGroups.{HaveSameCounts, HaveSameChains, HaveSameEntries}
 use Rattle.tl_number.proofs.Records.PackedGroups.{all_groups}
 
--- one test, and then another one only if the first passes
-pub also : {P Q : Type 0} (v w r : Bool) → v ≡ true → w ≡ r → Decides v P → Decides r Q → Decides w (P × Q)
-also v w r passes is d e = (λ t. (d.0 passes, e.0 (sym is ∙ t)), λ h. is ∙ e.1 h.1)
-
-pub not_also : {P Q : Type 0} (v w : Bool) → v ≡ false → w ≡ v → Decides v P → Decides w (P × Q)
-not_also v w fails is d =
-    (λ t. absurd (false≢true (sym fails ∙ sym is ∙ t)), λ h. absurd (false≢true (sym fails ∙ d.1 h.0)))
-
 module _ {X : Type 0} where
   -- lists that agree up to the end of both
   pub same_whole : (xs ys : List X) (place : ℕ) → take place xs ≡ take place ys → length xs ≤ place → length ys ≤ place → xs ≡ ys
