@@ -30,9 +30,15 @@ fn is_same_link<A: Chart, R: Evidence, B: Chart, S: Evidence>(
     requires { A.county a.now.chart ≡ B.county b.now.chart }
     ensures { result ≡ true → slice_get (links_of (arranged_county a.now)) place ≡ slice_get (links_of (arranged_county b.now)) place }
 {
-    a.directed_at(place).is_same(b.directed_at(place))
-        && a.ends_at(place).is_same(b.ends_at(place))
-        && a.sides_at(place).is_same(b.sides_at(place))
+    let arrangement = a.directed_at(place).is_same(b.directed_at(place));
+    if !arrangement {
+        return false;
+    }
+    let ends = a.ends_at(place).is_same(b.ends_at(place));
+    if !ends {
+        return false;
+    }
+    a.sides_at(place).is_same(b.sides_at(place))
 }
 
 /// The record of type I of the chain at a place.
