@@ -22,7 +22,7 @@ use Rattle.ordered_lists.proofs.ByKey.Numbers.{distinct-strict}
 use Rattle.tl_number.specs.Canonical.{seven_cmp}
 use Rattle.tl_county.specs.Packing.{without_last}
 use Rattle.tl_number.proofs.Lists.Counting.{flat_map-map, up_to-strict}
-use Rattle.tl_number.proofs.Lists.Grouping.{in_order-weaker, then-first, then-second, in_order-filter, grouped, pieces-joined, rtsqs-back}
+use Rattle.tl_number.proofs.Lists.Grouping.{in_order-weaker, then-first, in_order-filter, parts_in_order, grouped, pieces-joined, rtsqs-back}
 
 -- the points between the ends, and the last one
 inner_back : (s : Coordinates) (ps : List Coordinates) (e : Coordinates) → without_last (ps ++ (e ∷ [])) ≡ ps
@@ -208,21 +208,6 @@ module _ (records : List Record) (linked : IsLinked records) where
         ∙ map-id (in_order (on five_feat nat_cmp) (of_type_5 records))
         ∙ in_order-itself (on five_feat nat_cmp) (of_type_5 records) order.of_type_5
 
-    -- the bodies of one landmark are in order
-    bodies_order : (n : ℕ) (xs : List Fields7) → AllByRecursion (λ r. r.land ≡ n) xs → IsInOrder seven_cmp xs
-        → IsInOrder landmark_body_cmp (map (λ (r : Fields7). r.body) xs)
-    bodies_order n [] a h = tt
-    bodies_order n (x ∷ xs) a h = (each xs a.1 h.0, bodies_order n xs a.1 h.1)
-      where
-        each : (ys : List Fields7) → AllByRecursion (λ r. r.land ≡ n) ys → AllByRecursion (λ y. is_gt (seven_cmp x y) ≡ false) ys
-            → AllByRecursion (λ b. is_gt (landmark_body_cmp x.body b) ≡ false) (map (λ (r : Fields7). r.body) ys)
-        each [] l g = tt
-        each (y ∷ ys) l g = (
-          then-second (nat_cmp x.land y.land) (landmark_body_cmp x.body y.body) (ap (nat_cmp x.land) (l.0 ∙ sym a.0)
-              ∙ tied_itself nat_cmp_total x.land) g.0,
-          each ys l.1 g.1,
-        )
-
     sevens_of : (n : ℕ) → packed_sevens (
       n,
       in_order landmark_body_cmp
@@ -233,7 +218,7 @@ module _ (records : List Record) (linked : IsLinked records) where
         let all : AllByRecursion (λ r. r.land ≡ n) rs = of_number-all seven_land n (of_type_7 records) in
         ap (map (λ body. record { land = n; body = body }))
         (in_order-itself landmark_body_cmp (map (λ (r : Fields7). r.body) rs)
-        (bodies_order n rs all (in_order-filter seven_cmp (λ r. r.land == n) (of_type_7 records) order.of_type_7)))
+        (parts_in_order seven_land (λ (r : Fields7). r.body) landmark_body_cmp n rs all (in_order-filter seven_cmp (λ r. r.land == n) (of_type_7 records) order.of_type_7)))
         ∙ map-map (λ body. record { land = n; body = body }) (λ (r : Fields7). r.body) rs
         ∙ map_agree_all (λ (r : Fields7). record { land = n; body = r.body }) (λ r. r) (λ r. r.land ≡ n)
         (λ r e i. record r { land = sym e i }) rs all

@@ -1,6 +1,6 @@
 -- If a renaming carries one arranged county onto another, keeps each TLID and turns no chain, the landmarks and their links are
 -- equal: landmarks are in the order of their bodies and links.
-use Rattle.tl_number.proofs.Common.{◌≡◌, ◌⊎◌, ◌<◌, ℕ, zero, suc, ◌==◌, List, [], ◌∷◌, map, filter, length, Bool, true, false, cond, ◌&&◌}
+use Rattle.tl_number.proofs.Common.{eight_land, ◌≡◌, ◌⊎◌, ◌<◌, ℕ, zero, suc, ◌==◌, List, [], ◌∷◌, map, filter, length, Bool, true, false, cond, ◌&&◌}
 use Rattle.tl_number.proofs.Common.{IsTrue, Ordering, Less, Equal, Greater, is_eq, is_gt, sym, refl, ap, ◌∙◌, subst, inl, inr, arith}
 use Rattle.tl_number.proofs.Common.{nat_cmp, IsPermutation, AllByRecursion, Body7, Carries, County, Fields8, IsArranged, IsAscending}
 use Rattle.tl_number.proofs.Common.{IsClosed, IsInOrder, IsKeyOrder, IsPermutation-map, Known, PolygonKey, Renumbering, all_map, all_weaker}
@@ -11,6 +11,8 @@ use Rattle.tl_number.proofs.Common.{map_agree_all, nat_cmp_total, nat_keys, ne_e
 use Rattle.tl_number.proofs.Common.{tied_itself, times, up_to}
 use Rattle.std.proofs.lemmas.Bool.{cases_eq}
 use Rattle.ordered_lists.proofs.Lists.Counted.{filter-agree}
+use Rattle.tl_county.proofs.Lists.OfNumber.{of_number-all}
+use Rattle.tl_number.proofs.Lists.Grouping.{in_order-filter, parts_in_order}
 use Rattle.tl_number.proofs.Lists.Filtered.{filter-agree_all, filter-filtered, filter-mapped, same_after}
 use Rattle.std.proofs.lemmas.List.Sums.{length-filter}
 use Rattle.std.proofs.lemmas.List.Sorted.{sum_by-IsPermutation}
@@ -45,32 +47,8 @@ times-links links y k =
 
 -- the links of one landmark are in order
 pub links_of-in_order : (links : List Fields8) → IsInOrder link_cmp links → (y : ℕ) → IsInOrder link_part_cmp (links_of links y)
-links_of-in_order [] h y = tt
-links_of-in_order (x ∷ xs) h y = go (x.land == y) refl (links_of-in_order xs h.1 y)
-  where
-    below : (o : Ordering) (z : Fields8) → o ≡ Equal → is_gt (ordering_then o (link_part_cmp (link_part x) (link_part z))) ≡ false
-        → is_gt (link_part_cmp (link_part x) (link_part z)) ≡ false
-    below o z e f = sym (ap (λ q. is_gt (ordering_then q (link_part_cmp (link_part x) (link_part z)))) e) ∙ f
-
-    each : x.land ≡ y → (zs : List Fields8) → AllByRecursion (λ z. is_gt (link_cmp x z) ≡ false) zs
-        → AllByRecursion (λ p. is_gt (link_part_cmp (link_part x) p) ≡ false) (links_of zs y)
-    each e [] a = tt
-    each e (z ∷ zs) a = at (z.land == y) refl (each e zs a.1)
-      where
-        at : (b : Bool) → (z.land == y) ≡ b → AllByRecursion (λ p. is_gt (link_part_cmp (link_part x) p) ≡ false) (links_of zs y)
-            → AllByRecursion (λ p. is_gt (link_part_cmp (link_part x) p) ≡ false)
-            (map link_part (cond b (z ∷ filter (λ l. l.land == y) zs) (filter (λ l. l.land == y) zs)))
-        at true f ih = (
-          below (nat_cmp x.land z.land) z (ap (nat_cmp x.land) (eqb-true z.land y f ∙ sym e)
-              ∙ tied_itself nat_cmp_total x.land) a.0,
-          ih,
-        )
-        at false f ih = ih
-
-    go : (b : Bool) → (x.land == y) ≡ b → IsInOrder link_part_cmp (links_of xs y)
-        → IsInOrder link_part_cmp (map link_part (cond b (x ∷ filter (λ l. l.land == y) xs) (filter (λ l. l.land == y) xs)))
-    go true e ih = (each (eqb-true x.land y e) xs h.0, ih)
-    go false e ih = ih
+links_of-in_order links h y = parts_in_order eight_land link_part link_part_cmp y (filter (λ l. l.land == y) links) (of_number-all eight_land y links)
+    (in_order-filter link_cmp (λ l. l.land == y) links h)
 
 -- links that each have one LAND, counted by landmark
 times-land : (links : List Fields8) (k : Fields8) → times link_cmp k links ≡ length (filter (is_link k.land (link_part k)) links)

@@ -15,6 +15,7 @@ use Rattle.tl_number.specs.declared.arranged_tables.LandmarkTables.{LandmarkTabl
 use Rattle.tl_number.specs.declared.arranged_tables.NameTables.{NameTables}
 use Rattle.tl_number.proofs.Arrangements.Carrying.{names_arranged, landmarks_arranged, feats_arranged, lands_arranged, paired_nodes, node_rights}
 use Rattle.tl_number.proofs.Arrangements.Carrying.{nodes_renamed, names_renamed, polygons_renamed}
+use Rattle.tl_number.proofs.Lists.Grouping.{in_order-weaker, then-first}
 use Rattle.tl_number.proofs.Lists.Counting.{up_to-strict}
 use Rattle.tl_number.proofs.Views.ViewChains.{arranges, read_there, read_nowhere, read_length}
 
@@ -27,17 +28,7 @@ order_from_strict cmp (k ∷ ks) h =
 
 -- links in order are in the order of their LANDs
 pub by_land : (links : List Fields8) → IsInOrder link_cmp links → IsInOrder (on eight_land nat_cmp) links
-by_land [] h = tt
-by_land (l ∷ ls) h = (
-  all_weaker (λ m. is_gt (link_cmp l m) ≡ false) (λ m. is_gt (nat_cmp l.land m.land) ≡ false) (λ m e. first m (nat_cmp l.land m.land) e)
-      ls h.0,
-  by_land ls h.1,
-)
-  where
-    first : (m : Fields8) (o : Ordering) → is_gt (ordering_then o (link_part_cmp (link_part l) (link_part m))) ≡ false → is_gt o ≡ false
-    first m Less e = refl
-    first m Equal e = refl
-    first m Greater e = e
+by_land = in_order-weaker link_cmp (on eight_land nat_cmp) (λ l m. then-first (nat_cmp l.land m.land) (link_part_cmp (link_part l) (link_part m)))
 
 -- an element read at its old place
 pub read_at : {X : Type 0} (xs ys : List X) (places : List ℕ) → AreReadAt xs places ys → (i p : ℕ) → Some p ≡ slice_get places i
