@@ -61,13 +61,19 @@ few_under : (cenid : List ℕ) (polyid : Option ℕ) → length (key_under cenid
 few_under cenid None = omega arith
 few_under cenid (Some polyid) = omega arith
 
-pub few_polygons : (e : ℕ × Chain) → length (chain_polygons e.1) ≤ 2
-few_polygons e = omega (
+pub two_polygons : (e : ℕ × Chain) → length (chain_polygons e.1) ≤ 2
+two_polygons e = omega (
   arith,
   length-append (key_on e.1.left) (key_on e.1.right),
   few_under e.1.left.cenid e.1.left.polyid,
   few_under e.1.right.cenid e.1.right.polyid,
 )
+
+-- each landmark has a record of type 7
+pub few_landmarks : (county : County) → IsCounty county → length county.landmarks ≤ length (flat_map packed_sevens county.landmarks)
+few_landmarks county is = long_joined packed_sevens county.landmarks
+    (all_weaker (λ (e : ℕ × List Body7). 1 ≤ length e.1) (λ e. 1 ≤ length (packed_sevens e))
+    (λ e one. subst (λ n. 1 ≤ n) (sym (length-map e.1 (λ body. record { land = e.0; body = body }))) one) county.landmarks is.whole.bodies)
 
 module _ (county : County) (is : IsCounty county) (in_form : IsArranged county)
     (chains : length county.chains ≤ most_records) (names : length county.names ≤ most_records)
@@ -99,7 +105,7 @@ module _ (county : County) (is : IsCounty county) (in_form : IsArranged county)
   polygons_small : AllByRecursion IsSmallKey (polygons_along county.chains)
   polygons_small =
       let few : length (polygons_along county.chains) ≤ 2 * length county.chains =
-      short_joined (λ (e : ℕ × Chain). chain_polygons e.1) few_polygons county.chains in
+      short_joined (λ (e : ℕ × Chain). chain_polygons e.1) two_polygons county.chains in
       all_unmap IsSmall (λ (k : PolygonKey). k.1) (polygons_along county.chains)
       (grown_small (map (λ (k : PolygonKey). k.1) (polygons_along county.chains))
       (omega (arith, few, length-map (polygons_along county.chains) (λ (k : PolygonKey). k.1))) in_form.polygons)
@@ -165,11 +171,7 @@ module _ (limit : ℕ) (low : limit ≤ most_records) (county : County) (is : Is
       let ones : length (map packed_one (arranged county arrangement).chains) ≤ limit = counts.of_type_1 in
       let fives : length (map packed_five (arranged county arrangement).names) ≤ limit = counts.of_type_5 in
       let sevens : length (flat_map packed_sevens (arranged county arrangement).landmarks) ≤ limit = counts.of_type_7 in
-      let some : length (arranged county arrangement).landmarks ≤ length (flat_map packed_sevens (arranged county arrangement).landmarks) =
-      long_joined packed_sevens (arranged county arrangement).landmarks
-      (all_weaker (λ (e : ℕ × List Body7). 1 ≤ length e.1) (λ e. 1 ≤ length (packed_sevens e))
-      (λ e one. subst (λ n. 1 ≤ n) (sym (length-map e.1 (λ body. record { land = e.0; body = body }))) one)
-      (arranged county arrangement).landmarks new_is_county.whole.bodies) in
+      let some = few_landmarks (arranged county arrangement) new_is_county in
       arranged_numbers_small (arranged county arrangement) new_is_county (is_arranged county arrangement is arranges sides)
       (omega (arith, ones, length-map (arranged county arrangement).chains packed_one, low))
       (omega (arith, fives, length-map (arranged county arrangement).names packed_five, low)) (omega (arith, sevens, some, low))

@@ -1,4 +1,4 @@
-use Rattle.tl_number.proofs.Common.{AreTiedAt, below_more, ◌≡◌, ◌<◌, length, get_or, slice_get, sym, ap₂, ◌∙◌, arith, false, DirectedChain, arranged_by, ones_of}
+use Rattle.tl_number.proofs.Common.{AreTiedAt, List, below_more, ◌≡◌, ◌<◌, length, get_or, slice_get, sym, ap₂, ◌∙◌, arith, false, DirectedChain, arranged_by, ones_of}
 use Rattle.tl_number.proofs.Common.{option_cmp, slice_get-get_or, spelling_cmp}
 use Rattle.tl_number.proofs.Texts.TiedOnes.{first_untied}
 use Rattle.tl_number.proofs.Texts.TypeOnes.{length_whole, ones_arranged_by}
@@ -39,6 +39,6 @@ returns-in_default-clause-untied g c =
 
 pub loop-place-preserved : goal.loop-place-preserved
 loop-place-preserved g c =
-    let ones = λ arrangement. ones_of (arranged_by (g.C.Chart.county c.args.chart.now) arrangement) in
+    let ones = λ (arrangement : List DirectedChain). ones_of (arranged_by (g.C.Chart.county c.args.chart.now) arrangement) in
     below_more (AreTiedAt (ones c.args.one.now) (ones c.args.other.now)) c.loop-place.place c.loop-place.invariant
     (sym (compared g (goal.at.loop-place-preserved g c).After-compare_at) ∙ c.in-Equal.is)
