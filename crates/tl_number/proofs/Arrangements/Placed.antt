@@ -132,7 +132,7 @@ module _ (county : County) (arrangement : Arrangement) (is : IsCounty county) (a
       (of_number-all (λ (entry : ℕ × Chain). entry.0) n county.chains) in
       (one.0, one.1, all.0)
 
-  arrangement_known : AllByRecursion (λ (s : ℕ × Bool). Known nat_cmp (tlids county) s.0) arrangement
+  pub arrangement_known : AllByRecursion (λ (s : ℕ × Bool). Known nat_cmp (tlids county) s.0) arrangement
   arrangement_known = all_weaker (λ (s : ℕ × Bool). Known nat_cmp (arranged_tlids arrangement) s.0) (λ s. Known nat_cmp (tlids county) s.0)
       (λ s k. known-permutation_to nat_keys s.0 (arranged_tlids arrangement) (tlids county) arranges k) arrangement (keys_known nat_keys arrangement)
 

@@ -77,6 +77,11 @@ stood-digits turn g w x later i d q below_g below_w =
     let rest : ((q * w + d) * g + i) / g / w ≡ q = ap (λ n. n / w) left ∙ div-mul-add q w d below_w in
     λ j. (insert later (last j) (turned_by turn (next j) x), rest j)
 
+-- there are one or two digits
+some_digit : (b : Bool) → 0 < cond b 2 1
+some_digit true = omega arith
+some_digit false = omega arith
+
 -- of the values of the numbers below a bound, one comes after none of the others
 module _ {T : Type 0} {cmp : T → T → Ordering} (o : IsTotalOrder cmp) (f : ℕ → T) where
   abbrev IsLeastBelow : ℕ → ℕ → Type 0
@@ -225,11 +230,7 @@ module _ {X K : Type 0} {cmp : K → K → Ordering} (o : IsKeyOrder cmp) (eithe
     -- the digit that turns an element this way
     digit_of : (x y : X) → (y ≡ x) ⊎ ((either (key_of x) ≡ true) × (y ≡ turn x))
         → (d : ℕ) × (d < cond (either (key_of x)) 2 1) × (turned_by turn d x ≡ y)
-    digit_of x y (inl e) = (0, some (either (key_of x)), sym e)
-      where
-        some : (b : Bool) → 0 < cond b 2 1
-        some true = omega arith
-        some false = omega arith
+    digit_of x y (inl e) = (0, some_digit (either (key_of x)), sym e)
     digit_of x y (inr r) = (1, subst (λ b. 1 < cond b 2 1) (sym r.0) (omega arith), sym r.1)
 
     none_left : (ys : List X) → ((n : ℕ) → times nat_cmp n (map name ys) ≡ 0) → ys ≡ []
@@ -306,8 +307,4 @@ module _ {X K : Type 0} {cmp : K → K → Ordering} (o : IsKeyOrder cmp) (eithe
       let w : ℕ = cond (either (key_of x)) 2 1 in
       ap (stood turn g w x) (first_stated xs)
       ∙ ap (λ n. stood turn g w x (xs, n)) (let e : 0 ≡ (0 * w + 0) * g + 0 = omega arith in e)
-      ∙ stood-digits turn g w x xs 0 0 0 (omega arith) (some (either (key_of x)))
-    where
-      some : (b : Bool) → 0 < cond b 2 1
-      some true = omega arith
-      some false = omega arith
+      ∙ stood-digits turn g w x xs 0 0 0 (omega arith) (some_digit (either (key_of x)))

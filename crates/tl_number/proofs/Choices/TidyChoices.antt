@@ -18,7 +18,7 @@ use Rattle.tl_number.specs.Tidy.{directed_shape, turned_directed, numbered_choic
 use Rattle.tl_number.proofs.Choices.AscendingArrangement.{shape_turned, turned_same}
 use Rattle.tl_number.proofs.Arrangements.Carrying.{chains_arranged}
 use Rattle.tl_number.proofs.Choices.Choosing.{IsChosen, permutation_of_times, chosen_is_choice, choice_has_number, first_stated}
-use Rattle.tl_number.proofs.Arrangements.Placed.{one_chain}
+use Rattle.tl_number.proofs.Arrangements.Placed.{arrangement_known, one_chain}
 use Rattle.tl_number.proofs.Unique.SameNumbers.{kept_entry}
 use Rattle.tl_number.proofs.Lists.SortedPlaces.{in_order-unmap}
 
@@ -171,10 +171,6 @@ module _ (county : County) (is : IsCounty county) where
 
   -- the chains of an arranged county have the points of the directed chains
   module _ (arrangement : Arrangement) (arranges : Arranges arrangement county) where
-    arrangement_known : AllByRecursion (λ (s : ℕ × Bool). Known nat_cmp (tlids county) s.0) arrangement
-    arrangement_known = all_weaker (λ (s : ℕ × Bool). Known nat_cmp (arranged_tlids arrangement) s.0) (λ s. Known nat_cmp (tlids county) s.0)
-        (λ s k. known-permutation_to nat_keys s.0 (arranged_tlids arrangement) (tlids county) arranges k) arrangement (keys_known nat_keys arrangement)
-
     bodies_points : (ss : Arrangement) → AllByRecursion (λ (s : ℕ × Bool). Known nat_cmp (tlids county) s.0) ss
         → map (λ (c : Chain). c.points)
         (flat_map (λ (s : ℕ × Bool). map (λ (e : ℕ × Chain). turned_if s.1 e.1) (entries_of county.chains s.0)) ss)
@@ -195,7 +191,7 @@ module _ (county : County) (is : IsCounty county) where
         ∙ ap (map (λ (c : Chain). c.points))
         (rights-numbered_from 1 (flat_map (λ (s : ℕ × Bool). map (λ (e : ℕ × Chain). turned_if s.1 e.1)
         (entries_of county.chains s.0)) arrangement))
-        ∙ bodies_points arrangement arrangement_known
+        ∙ bodies_points arrangement (arrangement_known county arrangement is arranges)
 
     abbrev IsNotAfterReverse : List Coordinates → Type 0
     IsNotAfterReverse ps = is_gt (points_cmp ps (reverse ps)) ≡ false
@@ -211,7 +207,8 @@ module _ (county : County) (is : IsCounty county) where
         (subst (AllByRecursion IsNotAfterReverse) points_of_arrangement
         (all_map IsNotAfterReverse entry_points (arranged county arrangement).chains tidy.directions)) in
         all_weaker (λ s. Known nat_cmp (tlids county) s.0 × IsNotAfterReverse (directed_points county s)) (IsLawful county) each arrangement
-        (all_both (λ s. Known nat_cmp (tlids county) s.0) (λ s. IsNotAfterReverse (directed_points county s)) arrangement arrangement_known directions)
+        (all_both (λ s. Known nat_cmp (tlids county) s.0) (λ s. IsNotAfterReverse (directed_points county s)) arrangement
+        (arrangement_known county arrangement is arranges) directions)
       where
         each : (s : ℕ × Bool) → Known nat_cmp (tlids county) s.0 × IsNotAfterReverse (directed_points county s) → IsLawful county s
         each s h =

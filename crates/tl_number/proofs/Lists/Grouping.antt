@@ -16,7 +16,8 @@ at_most_by m n Less h g = omega arith
 at_most_by m n Equal h g = omega arith
 at_most_by m n Greater h g = absurd (false≢true (sym g))
 
-at_most : (m n : ℕ) → is_gt (nat_cmp m n) ≡ false → m ≤ n
+-- a number that doesn't compare as greater isn't greater
+pub at_most : (m n : ℕ) → is_gt (nat_cmp m n) ≡ false → m ≤ n
 at_most m n g = at_most_by m n (nat_cmp m n) (ranked m n (nat_cmp m n) refl) g
 
 pub in_order-weaker : {X : Type 0} (by to : X → X → Ordering) → ((x y : X) → is_gt (by x y) ≡ false → is_gt (to x y) ≡ false)

@@ -8,8 +8,9 @@ use Rattle.tl_number.proofs.Arrangements.Carrying.{chains_arranged}
 use Rattle.tl_number.proofs.Records.PackedGroups.{is}
 use Rattle.tl_number.proofs.Unique.SameNumbers.{kept_entry}
 use Rattle.tl_number.proofs.Texts.TiedOnes.{all_tied}
-use Rattle.tl_number.proofs.Texts.TypeOnes.{length_whole, numbered_at}
+use Rattle.tl_number.proofs.Texts.TypeOnes.{length_whole}
 use Rattle.tl_number.proofs.Views.ViewChains.{arranges, bodies_read, chains, chains_arranged_by, read_nowhere, read_there}
+use Rattle.tl_number.proofs.Polygons.PolygonNumbers.{numbered_at}
 
 -- the type I record of a chain
 pub link_there : (county : County) (place : ℕ) → slice_get (links_of county) place ≡ option_map (λ entry. I (packed_i entry))

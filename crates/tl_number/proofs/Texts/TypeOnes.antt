@@ -11,6 +11,7 @@ use Rattle.tl_number.proofs.Records.ChainPlaces.{chain_there}
 use Rattle.tl_number.proofs.Records.PackedGroups.{ones}
 use Rattle.tl_number.proofs.Unique.SameNumbers.{kept_entry}
 use Rattle.tl_number.proofs.Views.ViewChains.{arranges, bodies_read, chains, chains_arranged_by, read_there}
+use Rattle.tl_number.proofs.Polygons.PolygonNumbers.{numbered_at}
 
 -- a record compared with itself, if there is one
 pub same_one : (r : Option Record) → Equal ≡ option_cmp spelling_cmp r r
@@ -37,12 +38,6 @@ directed_there county is within directed h =
     either : (turned : Bool) (chain : Chain) → 2 ≤ length chain.points → 2 ≤ length (turned_if turned chain).points
     either true chain two = subst (λ n. 2 ≤ n) (sym (length-reverse chain.points)) two
     either false chain two = two
-
-pub numbered_at : {X : Type 0} (n : ℕ) (xs : List X) (i : ℕ) → slice_get (numbered_from n xs) i ≡ option_map (λ x. (n + i, x)) (slice_get xs i)
-numbered_at n [] i = refl
-numbered_at n (x ∷ xs) zero = ap (λ m. Some (m, x)) (let e : n ≡ n + zero = omega arith in e)
-numbered_at n (x ∷ xs) (suc i) = numbered_at (suc n) xs i
-    ∙ ap (λ m. option_map (λ y. (m, y)) (slice_get xs i)) (let e : suc n + i ≡ n + suc i = omega arith in e)
 
 pub length-ones : (county : County) → length (ones_of county) ≡ length county.chains
 length-ones county = ap length (ones county) ∙ length-map (map packed_one county.chains) One ∙ length-map county.chains packed_one

@@ -83,9 +83,3 @@ pub no_end_there : (county : County) (arrangement : List DirectedChain) (place :
 no_end_there county [] place e = refl
 no_end_there county (d ∷ ds) zero e = cc
 no_end_there county (d ∷ ds) (suc place) e = no_end_there county ds place e
-
-pub chain_at_place : (county : County) (arrangement : List DirectedChain) → HasChainsOf county arrangement → (place : ℕ) (directed : DirectedChain)
-    → slice_get arrangement place ≡ Some directed → directed.place < length county.chains
-chain_at_place county [] has place directed e = cc
-chain_at_place county (d ∷ ds) has zero directed e = let same : d ≡ directed = cc in subst (λ x. x.place < length county.chains) same has.0
-chain_at_place county (d ∷ ds) has (suc place) directed e = chain_at_place county ds has.1 place directed e
