@@ -17,6 +17,7 @@ use Rattle.tl_number.proofs.Masks.MaskedSights.{masked_sight}
 use Rattle.tl_number.proofs.CanonicalLists.OneChoice.{one_choice, only_tidy, strict_is_canonical}
 use Rattle.tl_number.proofs.CanonicalLists.SameShapes.{points_in_order, shapes_carried, tidy_shapes}
 use Rattle.tl_number.proofs.CanonicalLists.TidyLists.{tidy_of}
+use Rattle.tl_number.proofs.Lists.Counting.{less_from}
 
 -- ---- lists that the stricter rules accept are accepted
 
@@ -57,11 +58,6 @@ apart_masked mask county h = record {
 }
 
 -- ---- a tidy county with distinct shapes is strict
-
-less_from : (o : Ordering) → is_gt o ≡ false → is_eq o ≡ false → o ≡ Less
-less_from Less g e = refl
-less_from Equal g e = absurd (true≢false e)
-less_from Greater g e = absurd (true≢false g)
 
 tidy_is_strict : (county : County) → IsTidy county → HasShapesApart county → IsStrict county
 tidy_is_strict county tidy apart =

@@ -12,7 +12,7 @@ use Rattle.tl_profile.proofs.CountedChoices.{alike_few}
 use Rattle.tl_number.specs.Tidy.{directed_shape, turned_directed}
 use Rattle.tl_number.proofs.Choices.AscendingArrangement.{arrangement_ascend, arrangement_there, shapes_of_order}
 use Rattle.tl_number.proofs.Choices.Choosing.{all_insert}
-use Rattle.tl_number.proofs.Choices.FixedPlaces.{moved_apart, open_in_order}
+use Rattle.tl_number.proofs.Choices.FixedPlaces.{insert_count, moved_apart, open_in_order}
 use Rattle.tl_number.proofs.Choices.MovedChoice.{moved_is}
 use Rattle.tl_number.proofs.Choices.TidyChoices.{numbered_is_choice, shapes_ascending, stated_here}
 
@@ -33,11 +33,7 @@ chosen_count : {X K : Type 0} (cmp : K → K → Ordering) (either : K → Bool)
     → length (chosen cmp either key turn xs n).0 ≡ length xs
 chosen_count cmp either key turn [] n = refl
 chosen_count cmp either key turn (x ∷ xs) n =
-    length_inserted (chosen cmp either key turn xs n).0 _ _ ∙ ap suc (chosen_count cmp either key turn xs n)
-  where
-    length_inserted : {Z : Type 0} (zs : List Z) (i : ℕ) (z : Z) → length (insert zs i z) ≡ suc (length zs)
-    length_inserted zs i z =
-        let same = length_permutation (z ∷ zs) (insert zs i z) (IsPermutation-insert zs i z) in omega (arith, same)
+    insert_count _ (chosen cmp either key turn xs n).0 _ ∙ ap suc (chosen_count cmp either key turn xs n)
 
 -- images of elements, with the same keys and turned as the elements are
 module _ {X Y K : Type 0} (cmp : K → K → Ordering) (either : K → Bool) (key : X → K) (turn : X → X) (key_stated : Y → K) (turn_stated : Y → Y)

@@ -39,7 +39,7 @@ insert_kept zero later t x (suc place) l = refl
 insert_kept (suc j) [] t x (suc place) l = refl
 insert_kept (suc j) (y ∷ ys) t x (suc place) l = insert_kept j ys t y place (omega (arith, l))
 
-insert_count : {X : Type 0} (j : ℕ) (later : List X) (t : X) → length (insert later j t) ≡ suc (length later)
+pub insert_count : {X : Type 0} (j : ℕ) (later : List X) (t : X) → length (insert later j t) ≡ suc (length later)
 insert_count j later t = let same = length_permutation (t ∷ later) (insert later j t) (IsPermutation-insert later j t) in omega (arith, same)
 
 module _ {X : Type 0} (turn : X → X) (at : OpenPlace) (n : ℕ) (some : 0 < at.alike) where

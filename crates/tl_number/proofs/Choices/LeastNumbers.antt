@@ -89,14 +89,6 @@ module _ {X : Type 0} (b : Bool) (kept x y : X) (is : kept ≡ cond b x y) where
       either false = refl
 
 module _ (county : County) (is : IsCounty county) where
-  -- the choice with the number that is least of all
-  pub least_of_all : (n : ℕ) → IsLeastBelow county (choices county) n → IsLeastChoice county (numbered_choice county n)
-  least_of_all n least = record {
-    choice = numbered_is_choice county is n;
-    least = λ other choice. (let m = choice_number county is other choice in
-        subst (λ arrangement. IsNotAfter (choice_list county n) (arranged_list county arrangement)) m.2 (least m.0 m.1));
-  }
-
   -- the counties of two choices are the same
   module _ (sides : AllKeysStandIn (polygons_along county.chains) (polygon_keys county)) where
     same_by : (arrangement : Arrangement) → IsChoice county arrangement → AreSame county (arranged county arrangement)

@@ -22,11 +22,7 @@ use Rattle.tl_number.proofs.Texts.SameChains.{arranged_by_same}
 use Rattle.tl_number.proofs.Choices.TidyChoices.{numbered_is_choice}
 use Rattle.tl_number.proofs.CanonicalLists.TidyLists.{not_after_itself}
 use Rattle.tl_number.proofs.Texts.TypeOrders.{texts_in_order}
-
-less_from_others : (o : Ordering) → is_gt o ≡ false → is_eq o ≡ false → o ≡ Less
-less_from_others Less e f = refl
-less_from_others Equal e f = absurd (false≢true (sym f))
-less_from_others Greater e f = absurd (false≢true (sym e))
+use Rattle.tl_number.proofs.Lists.Counting.{less_from}
 
 pub greater_from : (o : Ordering) → is_le o ≡ false → is_gt o ≡ true
 greater_from Less e = absurd (false≢true (sym e))
@@ -102,7 +98,7 @@ module _ (county : County) (is : IsCounty county) (within : IsWithinLimits most_
   -- so if the least of them doesn't tie
   pub least_one_first : (count n m : ℕ) → IsLeastOne county count n → m < count → is_eq (ones_cmp county n m) ≡ false
       → IsNotAfter (choice_list county n) (choice_list county m)
-  least_one_first count n m least l e = less_first n m (less_from_others (ones_cmp county n m) (least m l) e)
+  least_one_first count n m least l e = less_first n m (less_from (ones_cmp county n m) (least m l) e)
 
   pub whole_of_number : (by_shape : List DirectedChain) (order : AreInShapeOrder county by_shape) (places : List OpenPlace)
       → places ≡ open_places points_cmp is_either_way 0 (map (points_along county) by_shape) → (arrangement : List DirectedChain) (n : ℕ)

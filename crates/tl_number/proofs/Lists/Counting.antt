@@ -1,11 +1,17 @@
 -- Lists that count from a number: they ascend, and lists with the same length are equal.
-use Rattle.tl_number.proofs.Common.{◌≡◌, ◌<◌, ◌+◌, ℕ, zero, suc, List, [], ◌∷◌, ◌++◌, map, flat_map, Less, Equal, Greater, refl, ap, arith}
+use Rattle.tl_number.proofs.Common.{Ordering, is_gt, is_eq, false, true≢false, ◌≡◌, ◌<◌, ◌+◌, ℕ, zero, suc, List, [], ◌∷◌, ◌++◌, map, flat_map, Less, Equal, Greater, refl, ap, arith}
 use Rattle.tl_number.proofs.Common.{nat_cmp, cond, ◌==◌, AllByRecursion, lt-ltb, range_with_len, up_to}
 use Rattle.tl_number.proofs.Common.{all_weaker, ◌≤◌}
 use Rattle.std.specs.List.Sorted.{IsStrictlySortedBy}
 
 pub less : (m n : ℕ) → m < n → nat_cmp m n ≡ Less
 less m n h = ap (λ b. cond b Less (cond (m == n) Equal Greater)) (lt-ltb m n h)
+
+-- a comparison that finds neither greater nor equal
+pub less_from : (o : Ordering) → is_gt o ≡ false → is_eq o ≡ false → o ≡ Less
+less_from Less g e = refl
+less_from Equal g e = absurd (true≢false e)
+less_from Greater g e = absurd (true≢false g)
 
 above : (m a n : ℕ) → m < a → AllByRecursion (λ y. nat_cmp m y ≡ Less) (range_with_len a n)
 above m a zero h = tt
