@@ -3,9 +3,6 @@ use Rattle.std.proofs.lemmas.Option.{slice_get_within}
 use Rattle.tl_number.proofs.Ties.CollectedEnds.{item_there, one_more_open}
 use Rattle.tl_number.proofs.critical_places.open_nodes.Goals as goal
 
-pub loop-place-init : goal.loop-place-init
-loop-place-init c = λ place l. absurd (omega (arith, l))
-
 pub loop-place-preserved : goal.loop-place-preserved
 loop-place-preserved c =
     let i = c.loop-place.place in

@@ -57,6 +57,3 @@ returns-clause-given g c =
     subst (λ hs. g.T.RecordVisitor.Takes (map f (grouped hs))
     c.args.visitor.now c.args.device.now (Ok tt) c.loop-first.visitor c.loop-first.device)
     (take_all c.loop-first.first gs (omega (arith, c.count-count.ensures, c.loop-first-test.false))) c.loop-first.invariant.taken
-
-pub returns-clause-ready : goal.returns-clause-ready
-returns-clause-ready g c = c.loop-first.invariant.ready

@@ -11,9 +11,6 @@ loop-ahead-init g c = record {
   ready = c.requires.ready;
 }
 
-pub visit_whole_group-requires-clause-ready : goal.visit_whole_group-requires-clause-ready
-visit_whole_group-requires-clause-ready g c = c.loop-ahead.invariant.ready
-
 pub returns-in_err-visit_whole_group-clause-given : goal.returns-in_err-visit_whole_group-clause-given
 returns-in_err-visit_whole_group-clause-given g c =
     let f = g.G.Item.Tabled.as_record in
@@ -52,9 +49,6 @@ returns-clause-given g c =
     c.args.visitor.now c.args.device.now (Ok tt) c.loop-ahead.visitor c.loop-ahead.device)
     (take_all c.loop-ahead.ahead gs
     (omega (arith, length_headed all_groups c.args.first count c.requires.within, c.loop-ahead-test.false))) c.loop-ahead.invariant.taken
-
-pub returns-clause-ready : goal.returns-clause-ready
-returns-clause-ready g c = c.loop-ahead.invariant.ready
 
 pub visit_whole_group-requires-clause-head : goal.visit_whole_group-requires-clause-head
 visit_whole_group-requires-clause-head g c =

@@ -11,9 +11,6 @@ loop-place-init g c = record {
   ready = c.requires.ready;
 }
 
-pub visit_group-requires-clause-ready : goal.visit_group-requires-clause-ready
-visit_group-requires-clause-ready g c = c.loop-place.invariant.ready
-
 pub returns-in_err-visit_group-clause-given : goal.returns-in_err-visit_group-clause-given
 returns-in_err-visit_group-clause-given g c =
     let f = g.G.Item.Tabled.as_record in
@@ -54,6 +51,3 @@ returns-clause-given g c =
     let xs = group_at (g.G.RecordGroups.groups c.args.groups.now) c.args.group in
     subst (λ ys. g.T.RecordVisitor.Takes (map f ys) c.args.visitor.now c.args.device.now (Ok tt) c.loop-place.visitor c.loop-place.device)
     (take_all c.loop-place.place xs (omega (arith, c.count_in-place-end.ensures, c.loop-place-test.false))) c.loop-place.invariant.taken
-
-pub returns-clause-ready : goal.returns-clause-ready
-returns-clause-ready g c = c.loop-place.invariant.ready

@@ -16,9 +16,6 @@ compare_texts-ordering-requires-clause-twos g c =
     ∙ twos_of_numbers county (g.met.C.Chart.is_county c.args.chart.now) c.requires.known.sides c.args.least.number c.args.number
     ∙ sym (ap type_2_by_chain c.in-Ok.ensures.county)
 
-pub compare_texts-ordering-requires-clause-county : goal.compare_texts-ordering-requires-clause-county
-compare_texts-ordering-requires-clause-county g c = c.requires.source ∙ sym c.in-Ok.ensures.source
-
 pub compare_texts-ordering-requires-clause-same : goal.compare_texts-ordering-requires-clause-same
 compare_texts-ordering-requires-clause-same g c =
     let county = g.C.Chart.county c.args.chart.now in

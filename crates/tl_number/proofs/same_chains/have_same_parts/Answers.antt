@@ -24,9 +24,6 @@ have_same_parts_below-requires-clause-count g c = as_many g c
 pub have_same_parts_below-requires-clause-within : goal.have_same_parts_below-requires-clause-within
 have_same_parts_below-requires-clause-within g c = omega (arith, counted g c)
 
-pub have_same_parts_below-requires-clause-before : goal.have_same_parts_below-requires-clause-before
-have_same_parts_below-requires-clause-before g c = λ place l. absurd (omega (arith, l))
-
 pub returns : goal.returns
 returns g c =
     let along = parts_along g.P.ChainPart.part (g.A.Chart.county c.args.a.now.chart) in

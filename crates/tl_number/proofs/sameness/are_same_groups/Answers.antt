@@ -3,9 +3,6 @@ use Rattle.tl_number.proofs.Lemmas.{same_whole}
 use Rattle.std.proofs.Math.Seq.{take-add}
 use Rattle.tl_number.proofs.sameness.are_same_groups.Goals as goal
 
-pub loop-first-init : goal.loop-first-init
-loop-first-init g c = record { buffer = refl; other = refl; within = omega arith; same = refl }
-
 pub loop-first-preserved : goal.loop-first-preserved
 loop-first-preserved g c =
     let same : c.are_same_headed-same.result ≡ true = search rules in

@@ -25,9 +25,6 @@ compare_at_open-requires-clause-before g c =
     λ place before. c.loop-at.invariant.tied place (subst (AllByRecursion (IsApart place)) (sym cut)
     (before_apart at behind (subst StandInOrder cut c.loop-at.invariant.in_order) place before))
 
-pub returns-in_default-compare_at_open : goal.returns-in_default-compare_at_open
-returns-in_default-compare_at_open g c = c.compare_at_open.ensures.untied c.in_default-compare_at_open.not-Equal
-
 pub loop-at-preserved : goal.loop-at-preserved
 loop-at-preserved g c =
     let county = g.C.Chart.county c.args.chart.now in

@@ -3,9 +3,6 @@ use Rattle.tl_number.proofs.Texts.LinkOrder.{all_links_tied, as_many_through}
 use Rattle.tl_number.proofs.Texts.TiedOnes.{first_untied}
 use Rattle.tl_number.proofs.type_i_and_p_order.compare_links.Goals as goal
 
-pub loop-place-init : goal.loop-place-init
-loop-place-init g c = λ place l. absurd (omega (arith, l))
-
 pub compare_link-requires-clause-other : goal.compare_link-requires-clause-other
 compare_link-requires-clause-other g c =
     let many = as_many_through (g.A.Chart.county c.args.a.now.chart) (g.B.Chart.county c.args.b.now.chart) c.requires
