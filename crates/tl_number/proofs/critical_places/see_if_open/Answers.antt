@@ -2,11 +2,6 @@ use Rattle.tl_number.proofs.Common.{◌≡◌, ◌∙◌, false, sym, subst, IsT
 use Rattle.tl_number.proofs.Ties.CollectedEnds.{both_seen_now, still_seen}
 use Rattle.tl_number.proofs.critical_places.see_if_open.Goals as goal
 
-pub returns-then-not-opened-clause-seen : goal.returns-then-not-opened-clause-seen
-returns-then-not-opened-clause-seen c = λ e.
-    let closed : c.is_open_at-opened.result ≡ false = search rules in
-    absurd (false≢true (sym closed ∙ c.is_open_at-opened.ensures ∙ e))
-
 pub returns-clause-grown : goal.returns-clause-grown
 returns-clause-grown c = λ node h.
     subst (λ l. IsTrue (stands_in nat_cmp node l)) (sym c.in_ok-see_both.ensures) (still_seen c.args.nodes.now c.args.ends node h)

@@ -5,12 +5,6 @@ use Rattle.tl_number.proofs.Records.ChainPlaces.{some_at}
 use Rattle.tl_number.proofs.Records.Grouped.{map-append, parted}
 use Rattle.tl_number.proofs.groups.visit_whole_group.Goals as goal
 
-pub loop-place-init : goal.loop-place-init
-loop-place-init g c = record {
-  taken = g.met.T.RecordVisitor.none c.args.visitor.now c.args.device.now;
-  ready = c.requires.ready;
-}
-
 pub returns-in_err-visit_group-clause-given : goal.returns-in_err-visit_group-clause-given
 returns-in_err-visit_group-clause-given g c =
     let f = g.G.Item.Tabled.as_record in
@@ -44,10 +38,3 @@ loop-place-preserved g c =
           c.args.device.now c.loop-place.device c.visit_group.new.device (Ok tt) c.loop-place.invariant.taken (c.in_ok-visit_group.ensures.takes x found.1));
       ready = c.in_ok-visit_group.ensures.ready;
     }
-
-pub returns-clause-given : goal.returns-clause-given
-returns-clause-given g c =
-    let f = g.G.Item.Tabled.as_record in
-    let xs = group_at (g.G.RecordGroups.groups c.args.groups.now) c.args.group in
-    subst (λ ys. g.T.RecordVisitor.Takes (map f ys) c.args.visitor.now c.args.device.now (Ok tt) c.loop-place.visitor c.loop-place.device)
-    (take_all c.loop-place.place xs (omega (arith, c.count_in-place-end.ensures, c.loop-place-test.false))) c.loop-place.invariant.taken

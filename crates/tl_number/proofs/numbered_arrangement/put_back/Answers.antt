@@ -3,9 +3,6 @@ use Rattle.tl_number.proofs.Lemmas.{nothing_left}
 use Rattle.tl_number.proofs.Choices.FixedPlaces.{agree_put, agree_same}
 use Rattle.tl_number.proofs.numbered_arrangement.put_back.Goals as goal
 
-pub put_back_at-requires-clause-within : goal.put_back_at-requires-clause-within
-put_back_at-requires-clause-within c = (subst (AreWithin (length c.loop-at.arrangement)) c.in-Some.ensures.cases.0 c.loop-at.invariant.within).0
-
 pub loop-at-preserved : goal.loop-at-preserved
 loop-at-preserved c =
     let cut = c.in-Some.ensures.cases.0 in

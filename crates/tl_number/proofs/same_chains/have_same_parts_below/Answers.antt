@@ -24,9 +24,3 @@ returns-then-not-same g c =
     decides_no c.have_same_part_at-same.result not_same c.have_same_part_at-same.ensures
     (λ all. the_same _ _ (sym (part_read county part c.args.one.now i there) ∙ all i (omega (arith, c.loop-place-test.true))
     ∙ part_read county part c.args.other.now i (omega (arith, there, c.requires.count))))
-
-pub returns : goal.returns
-returns g c = (
-  λ e. λ place l. c.loop-place.invariant place (omega (arith, l, c.loop-place-test.false)),
-  λ all. refl,
-)

@@ -17,12 +17,6 @@ returns-in_default g c =
     ∙ first_untied (links_of a) (links_of b) c.loop-place.place c.loop-place.invariant
     (λ same. c.in_default.not-Equal (c.compare_link.ensures ∙ same))
 
-pub loop-place-preserved : goal.loop-place-preserved
-loop-place-preserved g c =
-    let a = arranged_by (g.A.Chart.county c.args.a.now.chart) c.args.a.now.arrangement.items in
-    let b = arranged_by (g.B.Chart.county c.args.b.now.chart) c.args.b.now.arrangement.items in
-    below_more (AreTiedAt (links_of a) (links_of b)) c.loop-place.place c.loop-place.invariant (sym c.compare_link.ensures ∙ c.in-Equal.is)
-
 pub returns : goal.returns
 returns g c =
     let a = arranged_by (g.A.Chart.county c.args.a.now.chart) c.args.a.now.arrangement.items in

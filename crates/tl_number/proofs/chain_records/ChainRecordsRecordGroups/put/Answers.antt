@@ -8,11 +8,6 @@ use Rattle.tl_layout.specs.Type1.{type_1_spelling}
 use Rattle.tl_layout.specs.Type1Groups.{body_1_texts, point_texts}
 use Rattle.tl_number.proofs.chain_records.ChainRecordsRecordGroups.put.Goals as goal
 
-pub put_chain_body-requires-clause-place : goal.put_chain_body-requires-clause-place
-put_chain_body-requires-clause-place g c =
-    let county = g.C.Chart.county c.args.self.now.chart.now in
-    subst (λ n. c.args.group < n) (length-map county.chains (λ entry. packed_one entry ∷ [])) c.requires.group
-
 pub returns : goal.returns
 unfolding type_1_spelling
 returns g c =

@@ -9,8 +9,3 @@ loop-key-preserved g c =
     let key = c.key-item.result in
     seen_next g.K.Ord.cmp i c.loop-key.self c.see.new.self keys (Some key) _ c.in_ok-see.ensures.seen
     (sym (slice_get_read keys (length keys) i key refl c.loop-key-test.true c.key-item.is)) c.loop-key.invariant
-
-pub returns : goal.returns
-returns g c =
-    sym (ap (first_seen_after g.K.Ord.cmp c.loop-key.self) (drop_all c.loop-key.key-index c.args.keys.now c.loop-key-test.false))
-    ∙ c.loop-key.invariant
