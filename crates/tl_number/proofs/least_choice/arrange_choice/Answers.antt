@@ -23,12 +23,6 @@ arrange-requires-clause-once g c =
     c.requires.order.by_shape c.args.order.now.places (c.requires.order.places c.requires.few) c.in_ok-arrangement.arrangement.items c.args.number
     c.in_ok-arrangement.ensures)
 
-pub returns-clause-source : goal.returns-clause-source
-returns-clause-source g c =
-    let county = g.C.Chart.county c.args.chart.now in
-    IfOk-weaker c.arrange.result (λ view. view.chart ≡ c.new.result) (λ view. g.C.Chart.county view.chart.chart.now ≡ county)
-    (λ view e. ap (λ lent. g.C.Chart.county lent.chart.now) e ∙ c.new.ensures) c.arrange.ensures.source
-
 pub returns-clause-county : goal.returns-clause-county
 returns-clause-county g c =
     let county = g.C.Chart.county c.args.chart.now in

@@ -11,11 +11,6 @@ put_back-requires-clause-within g c =
     (places_within (g.C.Chart.county c.args.chart.now) (g.met.C.Chart.is_county c.args.chart.now) c.args.order.now.by_shape
     c.requires.known.order.by_shape c.args.order.now.places (c.requires.known.order.places c.requires.known.few)))
 
-pub put_back-requires-clause-apart : goal.put_back-requires-clause-apart
-put_back-requires-clause-apart g c =
-    subst (λ by_shape. AgreeApart c.open_places-places.result.now c.args.arrangement.now by_shape) (sym c.by_shape.ensures)
-    (subst (λ places. AgreeApart places c.args.arrangement.now c.args.order.now.by_shape) (sym c.open_places-places.ensures) c.requires.moved.apart)
-
 pub choose-requires : goal.choose-requires
 choose-requires g c =
     subst (λ n. AreWithin n c.open_places-places.result.now) (sym (ap length (c.put_back.ensures ∙ c.by_shape.ensures)))

@@ -5,10 +5,6 @@ use Rattle.tl_number.proofs.Choices.LeastOnes.{tied_with_itself}
 use Rattle.tl_number.proofs.CanonicalLists.SameShapes.{twos_of_numbers}
 use Rattle.tl_number.proofs.least_choice.next_least.Goals as goal
 
-pub compare_texts-ordering-requires-clause-ones : goal.compare_texts-ordering-requires-clause-ones
-compare_texts-ordering-requires-clause-ones g c =
-    ap₂ (λ one other. groups_cmp One (type_1_by_chain one) (type_1_by_chain other)) c.requires.choice c.in-Ok.ensures.county ∙ c.requires.tied
-
 pub compare_texts-ordering-requires-clause-twos : goal.compare_texts-ordering-requires-clause-twos
 compare_texts-ordering-requires-clause-twos g c =
     let county = g.C.Chart.county c.args.chart.now in

@@ -39,12 +39,6 @@ pub next_by_nodes-requires-clause-critical : goal.next_by_nodes-requires-clause-
 next_by_nodes-requires-clause-critical g c =
     subst (AreCritical (g.C.Chart.county c.args.chart.now) c.args.order.now) (sym c.deref-in-Some-2.ensures.value) c.in_ok-critical.ensures
 
-pub next_by_nodes-requires-clause-numbers : goal.next_by_nodes-requires-clause-numbers
-next_by_nodes-requires-clause-numbers g c =
-    let county = g.C.Chart.county c.args.chart.now in
-    c.loop-next.invariant.numbers
-    ∙ ap (λ all. critical_numbers county all (numbered_arrangement c.args.order.now c.loop-next.least.number)) (sym c.deref-in-Some-2.ensures.value)
-
 pub next_by_nodes-requires-clause-tied : goal.next_by_nodes-requires-clause-tied
 next_by_nodes-requires-clause-tied g c =
     let county = g.C.Chart.county c.args.chart.now in

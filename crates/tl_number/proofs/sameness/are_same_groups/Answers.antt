@@ -22,12 +22,6 @@ loop-first-preserved g c =
       same = take-add i n xs ∙ (λ k. c.loop-first.invariant.same k ++ next k) ∙ sym (take-add i n ys);
     }
 
-pub returns-then-not-same : goal.returns-then-not-same
-returns-then-not-same g c =
-    let other : c.are_same_headed-same.result ≡ false = search rules in
-    decides_no c.are_same_headed-same.result other c.are_same_headed-same.ensures
-    (λ all. ap (λ gs. take (length (take c.read_heads-heads.result c.read_heads-heads.new.buffer)) (drop c.loop-first.first gs)) all)
-
 pub returns : goal.returns
 returns g c = (
   λ e. same_whole (g.G.RecordGroups.groups c.args.a.now) (g.H.RecordGroups.groups c.args.b.now) c.loop-first.first

@@ -4,18 +4,6 @@ use Rattle.tl_number.proofs.Records.Grouped.{group_headed, length_headed}
 use Rattle.tl_number.proofs.Records.SameGroups.{same_group}
 use Rattle.tl_number.proofs.sameness.are_same_headed.Goals as goal
 
-pub is_same_group-same-requires-clause-head : goal.is_same_group-same-requires-clause-head
-is_same_group-same-requires-clause-head g c =
-    c.requires.heads c.loop-ahead.ahead c.index-heads-ahead.result
-    (slice_get_read c.args.heads.now (length c.args.heads.now) c.loop-ahead.ahead c.index-heads-ahead.result refl c.loop-ahead-test.true
-    c.index-heads-ahead.is)
-
-pub is_same_group-same-requires-clause-other : goal.is_same_group-same-requires-clause-other
-is_same_group-same-requires-clause-other g c =
-    c.requires.others c.loop-ahead.ahead c.index-others-ahead.result
-    (slice_get_read c.args.others.now (length c.args.heads.now) c.loop-ahead.ahead c.index-others-ahead.result (sym c.requires.count)
-    c.loop-ahead-test.true c.index-others-ahead.is)
-
 pub loop-ahead-preserved : goal.loop-ahead-preserved
 loop-ahead-preserved g c =
     let same : c.is_same_group-same.result ≡ true = search rules in

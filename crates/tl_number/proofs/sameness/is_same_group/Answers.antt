@@ -9,12 +9,6 @@ loop-place-preserved g c =
     c.loop-place.place c.loop-place.invariant
     (sym c.record.ensures ∙ ap (λ x. Some x) (c.is_same-same.ensures.0 same) ∙ c.record-in-loop-place.ensures)
 
-pub returns-then-not-same : goal.returns-then-not-same
-returns-then-not-same g c =
-    let other : c.is_same-same.result ≡ false = search rules in
-    decides_no c.is_same-same.result other c.is_same-same.ensures
-    (λ all. let read = c.record.ensures ∙ ap (λ xs. slice_get xs c.loop-place.place) all ∙ sym c.record-in-loop-place.ensures in cc)
-
 pub returns : goal.returns
 returns g c =
     let xs = group_at (g.G.RecordGroups.groups c.args.a.now) c.args.group in

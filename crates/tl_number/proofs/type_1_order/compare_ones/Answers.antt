@@ -13,10 +13,6 @@ loop-at-init g c = record {
       c.args.other.now c.requires.whole c.requires.other_whole c.requires.count place (c.requires.apart place apart);
 }
 
-pub compare_at_open-requires-clause-within : goal.compare_at_open-requires-clause-within
-compare_at_open-requires-clause-within g c =
-    (subst (AreWithin (length c.args.one.now)) c.in-Some.ensures.cases.0 c.loop-at.invariant.within).0
-
 pub compare_at_open-requires-clause-before : goal.compare_at_open-requires-clause-before
 compare_at_open-requires-clause-before g c =
     let cut = c.in-Some.ensures.cases.0 in
