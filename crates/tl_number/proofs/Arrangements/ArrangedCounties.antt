@@ -1,18 +1,17 @@
 -- The arranged county is a county, and all its numbers are canonical for the arrangement's choice.
-use Rattle.tl_number.proofs.Common.{◌≡◌, ◌⊎◌, ◌≤◌, ℕ, suc, List, [], ◌∷◌, map, length, false, Option, IsTrue, Ordering, is_eq, is_gt, sym}
-use Rattle.tl_number.proofs.Common.{ap, ap₂, ◌∙◌, subst, inl, inr, arith, nat_cmp, IsPermutation, AllByRecursion, AllKeysStandIn}
-use Rattle.tl_number.proofs.Common.{AllStandIn, Among, Arrangement, Arranges, Body5, Body7, BodyP, Carries, Chain, County, Fields8, Grows}
-use Rattle.tl_number.proofs.Common.{IsApart, IsArranged, IsAscending, IsCounty, IsInOrder, IsKeyOrder, IsPermutation-sym}
-use Rattle.tl_number.proofs.Common.{IsStrictlySortedBy, Known, PolygonKey, all-in_order, all_among, all_map, all_uses, all_weaker}
-use Rattle.tl_number.proofs.Common.{among-map, among-permutation, among-unmap, among_known, apart_from_sorted, arranged, arranged_tlids}
-use Rattle.tl_number.proofs.Common.{carried_landmark, carried_link, carried_name, carried_polygon, each_from, feats, first_seen, image}
-use Rattle.tl_number.proofs.Common.{in_order, in_order-equal, in_order-in_order, in_order-is_permutation, in_order-map, key_cmp, key_keys}
-use Rattle.tl_number.proofs.Common.{keys_known, known_all, known_cases, known_is_among, landmark_body_cmp, landmark_key, landmark_key_cmp}
-use Rattle.tl_number.proofs.Common.{landmarks_in_order, lands, length-map, link_cmp, link_keys, link_part_keys, links_relinked, lt-ltb}
-use Rattle.tl_number.proofs.Common.{ltb-true, map-map, name_key, name_key_cmp, names_in_order, nat_keys, new_keys, nodes_along}
-use Rattle.tl_number.proofs.Common.{nodes_in_order, numbered, on, on_total, placed, polygon_keys, polygons_along, polygons_in_order}
-use Rattle.tl_number.proofs.Common.{relinked, renaming_of, rights, same_or_not, stands_in, strict_from_order, times, times-no}
-use Rattle.tl_number.proofs.Common.{times-permutation, times-yes, under_cenid, up_to, uses_of_name}
+use Rattle.tl_number.proofs.Common.{◌≡◌, ◌⊎◌, ◌≤◌, ℕ, List, [], ◌∷◌, map, length, false, Option, IsTrue, Ordering, is_eq, is_gt, sym, ap}
+use Rattle.tl_number.proofs.Common.{ap₂, ◌∙◌, subst, inl, inr, arith, nat_cmp, IsPermutation, AllByRecursion, AllKeysStandIn, AllStandIn}
+use Rattle.tl_number.proofs.Common.{Among, Arrangement, Arranges, Body7, BodyP, Carries, Chain, County, Fields8, Grows, IsApart, IsArranged}
+use Rattle.tl_number.proofs.Common.{IsAscending, IsCounty, IsInOrder, IsKeyOrder, IsPermutation-sym, IsStrictlySortedBy, Known, PolygonKey}
+use Rattle.tl_number.proofs.Common.{all-in_order, all_among, all_map, all_uses, all_weaker, among-map, among-permutation, among-unmap}
+use Rattle.tl_number.proofs.Common.{among_known, apart_from_sorted, arranged, arranged_tlids, carried_landmark, carried_link, carried_name}
+use Rattle.tl_number.proofs.Common.{carried_polygon, each_from, feats, first_seen, image, in_order, in_order-equal, in_order-in_order}
+use Rattle.tl_number.proofs.Common.{in_order-is_permutation, in_order-map, key_cmp, key_keys, keys_known, known_all, known_is_among}
+use Rattle.tl_number.proofs.Common.{landmark_body_cmp, landmark_key, landmark_key_cmp, landmarks_in_order, lands, length-map, link_cmp}
+use Rattle.tl_number.proofs.Common.{link_keys, link_part_keys, links_relinked, lt-ltb, ltb-true, map-map, name_key, name_key_cmp}
+use Rattle.tl_number.proofs.Common.{names_in_order, nat_keys, new_keys, nodes_along, nodes_in_order, numbered, on, on_total, placed}
+use Rattle.tl_number.proofs.Common.{polygon_keys, polygons_along, polygons_in_order, relinked, renaming_of, rights, same_or_not, stands_in}
+use Rattle.tl_number.proofs.Common.{strict_from_order, times, times-no, times-permutation, times-yes, under_cenid, up_to, uses_of_name}
 use Rattle.tl_number.proofs.Common.{Some, position_or_len, refl, slice_get}
 use Rattle.tl_county.proofs.Sameness.CarriedCounty.{carried_closed, carried_whole, feats-turned}
 use Rattle.ordered_lists.proofs.ByKey.Keys.{map_agree}

@@ -1,13 +1,12 @@
 -- The numbers of an arranged county are small, and canonical lists keep the limits of their original lists.
-use Rattle.tl_number.proofs.Common.{◌≡◌, ◌+◌, ◌*◌, ◌<◌, ◌≤◌, ℕ, zero, suc, max, List, [], ◌∷◌, map, flat_map, length, length-append, Option}
-use Rattle.tl_number.proofs.Common.{Some, None, option_to_list, IsTrue, sym, subst, arith, nat_cmp, AllByRecursion, AllKeysStandIn}
-use Rattle.tl_number.proofs.Common.{AllStandIn, Arrangement, Arranges, Body5, Body7, BodyP, Carries, Chain, County, GrowsFrom, IsAccepted}
-use Rattle.tl_number.proofs.Common.{IsArranged, IsCanonicalThrough, IsCounty, IsLeastChoice, IsSight, IsWithinLimits, PolygonKey, Record}
-use Rattle.tl_number.proofs.Common.{all_both, all_known, all_unmap, all_weaker, arranged, arranged_list, by_type_of, chain_nodes}
-use Rattle.tl_number.proofs.Common.{chain_polygons, county-is_county, county_of, feats, key_cmp, key_keys, key_on, key_under, known_all}
-use Rattle.tl_number.proofs.Common.{lands, length-map, link_key, lt-ltb, ltb-true, most_records, nat_keys, nodes_along, packed}
-use Rattle.tl_number.proofs.Common.{packed_by_type, packed_five, packed_one, packed_sevens, polygon_keys, polygons_along, range_with_len}
-use Rattle.tl_number.proofs.Common.{renaming_of, stands_in, times, tlids, up_to}
+use Rattle.tl_number.proofs.Common.{◌≡◌, ◌+◌, ◌*◌, ◌<◌, ◌≤◌, ℕ, suc, max, List, [], ◌∷◌, map, flat_map, length, length-append, Option, Some}
+use Rattle.tl_number.proofs.Common.{None, option_to_list, IsTrue, sym, subst, arith, nat_cmp, AllByRecursion, AllKeysStandIn, AllStandIn}
+use Rattle.tl_number.proofs.Common.{Arrangement, Arranges, Body5, Body7, BodyP, Carries, Chain, County, GrowsFrom, IsAccepted, IsArranged}
+use Rattle.tl_number.proofs.Common.{IsCanonicalThrough, IsCounty, IsLeastChoice, IsSight, IsWithinLimits, PolygonKey, Record, all_both}
+use Rattle.tl_number.proofs.Common.{all_known, all_unmap, all_weaker, arranged, arranged_list, by_type_of, chain_nodes, chain_polygons}
+use Rattle.tl_number.proofs.Common.{county-is_county, county_of, feats, key_cmp, key_keys, key_on, key_under, known_all, lands, length-map}
+use Rattle.tl_number.proofs.Common.{link_key, lt-ltb, ltb-true, most_records, nat_keys, nodes_along, packed, packed_by_type, packed_five}
+use Rattle.tl_number.proofs.Common.{packed_one, packed_sevens, polygon_keys, polygons_along, renaming_of, stands_in, times, tlids, up_to}
 use Rattle.tl_layout.specs.Limits.{IsWithinLimit, count_of_type}
 use Rattle.tl_layout.specs.RecordText.{FitsRecord}
 use Rattle.tl_county.proofs.Limits.CarriedLimits.{carried_contents, carried_lists, carried_counts}

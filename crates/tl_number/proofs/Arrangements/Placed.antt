@@ -1,13 +1,12 @@
 -- The chains of an arrangement, in their new order and direction and with their new numbers.
 use Rattle.tl_number.proofs.Common.{◌≡◌, ◌⊎◌, ◌≤◌, ℕ, zero, suc, nat_lt, List, [], ◌∷◌, ◌++◌, map, filter, flat_map, length, Bool, true}
-use Rattle.tl_number.proofs.Common.{false, cond, is_eq, sym, refl, ap, ap₂, ◌∙◌, subst, inl, inr, arith, Ordering, nat_cmp, IsPermutation}
-use Rattle.tl_number.proofs.Common.{AllByRecursion, Arrangement, Arranges, Chain, County, IsApart, IsCounty, IsKeyOrder, Known, PolygonKey}
-use Rattle.tl_number.proofs.Common.{Renumbering, all_weaker, apart-permutation, apart_from_sorted, apart_tail, arranged_tlids}
-use Rattle.tl_number.proofs.Common.{carried_chain, chains_in_order, entries_of, image, images-lefts, key_cmp, key_keys, keys_known}
-use Rattle.tl_number.proofs.Common.{known-here, known-permutation, known-permutation_to, known_cases, length-map, lt-ltb, map-append}
-use Rattle.tl_number.proofs.Common.{map-map, map_agree_all, nat_keys, numbered, numbered_from, placed, renumbered, rights-numbered_from}
-use Rattle.tl_number.proofs.Common.{same_or_not, stands_in, times, times-no, times-of_number, times-yes, tlids, turned_if, turned_tlids}
-use Rattle.tl_number.proofs.Common.{turns, under_cenid, up_to}
+use Rattle.tl_number.proofs.Common.{false, cond, is_eq, sym, refl, ap, ap₂, ◌∙◌, subst, inl, inr, arith, nat_cmp, IsPermutation}
+use Rattle.tl_number.proofs.Common.{AllByRecursion, Arrangement, Arranges, Chain, County, IsApart, IsCounty, Known, Renumbering, all_weaker}
+use Rattle.tl_number.proofs.Common.{apart-permutation, apart_from_sorted, apart_tail, arranged_tlids, carried_chain, chains_in_order}
+use Rattle.tl_number.proofs.Common.{entries_of, image, images-lefts, keys_known, known-here, known-permutation, known-permutation_to}
+use Rattle.tl_number.proofs.Common.{known_cases, length-map, lt-ltb, map-append, map-map, map_agree_all, nat_keys, numbered, numbered_from}
+use Rattle.tl_number.proofs.Common.{placed, renumbered, rights-numbered_from, same_or_not, stands_in, times, times-no, times-of_number}
+use Rattle.tl_number.proofs.Common.{times-yes, tlids, turned_if, turned_tlids, turns, up_to}
 use Rattle.ordered_lists.proofs.ByKey.Keys.{known-later}
 use Rattle.ordered_lists.proofs.ByKey.Keys.{differ}
 use Rattle.tl_county.proofs.Lists.OfNumber.{of_number-all}

@@ -1,6 +1,6 @@
 -- A county within its limits is small enough for places of 32 bits.
-use Rattle.tl_number.proofs.Common.{◌≡◌, ◌*◌, ◌^◌, ◌<◌, ◌≤◌, ℕ, List, [], ◌∷◌, map, filter, flat_map, length, IsTrue, Ordering, is_eq, sym}
-use Rattle.tl_number.proofs.Common.{subst, arith, AllByRecursion, AllKeysStandIn, Among, Body7, BodyP, Chain, County, IsApart, IsCounty}
+use Rattle.tl_number.proofs.Common.{◌≡◌, ◌*◌, ◌^◌, ◌<◌, ◌≤◌, ℕ, List, [], ◌∷◌, map, filter, flat_map, length, IsTrue, Ordering, is_eq}
+use Rattle.tl_number.proofs.Common.{subst, arith, AllByRecursion, AllKeysStandIn, Among, BodyP, Chain, County, IsApart, IsCounty}
 use Rattle.tl_number.proofs.Common.{IsKeyOrder, IsWithinLimits, PolygonKey, all_weaker, apart_from_sorted, by_type_of, chain_polygons}
 use Rattle.tl_number.proofs.Common.{key_keys, known_is_among, length-map, ltb-true, most_records, packed, packed_by_type, packed_five}
 use Rattle.tl_number.proofs.Common.{packed_one, packed_sevens, polygon_keys, polygons_along, same-itself, stands_in, times, to_filter}

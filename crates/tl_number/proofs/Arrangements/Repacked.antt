@@ -1,11 +1,11 @@
 -- A canonical list of records is the packing of its county: chains, names and landmarks.
-use Rattle.tl_number.proofs.Common.{AreFull, ◌≤◌, ◌≡◌, ℕ, ◌==◌, List, [], ◌∷◌, ◌++◌, map, flat_map, length, false, is_gt, sym, refl, ap, ap₂, ◌∙◌, subst}
+use Rattle.tl_number.proofs.Common.{AreFull, ◌≤◌, ◌≡◌, ℕ, ◌==◌, List, [], ◌∷◌, ◌++◌, map, flat_map, length, sym, refl, ap, ap₂, ◌∙◌, subst}
 use Rattle.tl_number.proofs.Common.{arith, nat_cmp, map-id, AllByRecursion, Chain, Coordinates, Fields2, Fields4, Fields6, Fields7, FieldsI}
 use Rattle.tl_number.proofs.Common.{IsInOrder, IsLinked, IsPacked, IsStrictlySortedBy, Known, Ranges, Record, StandsInOrder, all_known}
 use Rattle.tl_number.proofs.Common.{all_unmap, in_order, in_order-map, in_pieces, known-distinct, landmark_body_cmp, last_point, lt-ltb}
-use Rattle.tl_number.proofs.Common.{ltb-true, map-append, map-map, map_agree_all, nat_cmp_total, nat_keys, numbered_from, of_number, on}
-use Rattle.tl_number.proofs.Common.{packed_five, packed_fours, packed_i, packed_one, packed_sevens, packed_sixes, packed_twos, stands_in}
-use Rattle.tl_number.proofs.Common.{strict_from_order, then_cmp, tied_itself, times, up_to}
+use Rattle.tl_number.proofs.Common.{ltb-true, map-append, map-map, map_agree_all, nat_keys, numbered_from, of_number, on, packed_five}
+use Rattle.tl_number.proofs.Common.{packed_fours, packed_i, packed_one, packed_sevens, packed_sixes, packed_twos, stands_in}
+use Rattle.tl_number.proofs.Common.{strict_from_order, then_cmp, times, up_to}
 use Rattle.tl_layout.specs.Fields.{Fields1, Fields5}
 use Rattle.tl_layout.specs.ByType.{of_type_1, of_type_2, of_type_4, of_type_5, of_type_6, of_type_7, of_type_i}
 use Rattle.tl_county.specs.County.{one_tlid, two_tlid, two_rtsq, four_tlid, four_rtsq, five_feat, six_tlid, six_rtsq, seven_land}

@@ -1,7 +1,6 @@
 -- The canonical form of the samples: which lists are canonical, and that the samples are carried onto them.
-use Rattle.tl_number.proofs.Common.{◌≡◌, [], ◌∷◌, refl, ap, arith, lit≤, ◌==◌, slice_index, List}
-use Rattle.tl_number.proofs.Common.{AreSame, IsArranged, IsArrangedList, IsCanonical, IsLinked, Record, Renumbering, county-is_county, county_of, packed, subst}
-use Rattle.tl_number.proofs.Common.{true≢false}
+use Rattle.tl_number.proofs.Common.{◌≡◌, [], ◌∷◌, refl, ap, arith, lit≤, ◌==◌, slice_index, List, AreSame, IsArranged, IsArrangedList}
+use Rattle.tl_number.proofs.Common.{IsCanonical, IsLinked, Record, Renumbering, county-is_county, county_of, packed, subst, true≢false}
 use Rattle.std.proofs.lemmas.List.Sorted.{IsPermutation-refl}
 use Rattle.std.specs.List.Sorted.{IsStrictlySortedBy}
 use Rattle.tl_county.proofs.Rules.LinkFaults.{linked_computed}

@@ -1,11 +1,10 @@
 -- If the shapes of chains are distinct, and none is its own reverse, canonical lists are strict, and strict lists are canonical.
-use Rattle.tl_number.proofs.Common.{◌≡◌, ℕ, List, map, reverse, false, Ordering, Less, Equal, Greater, is_eq, is_gt, nat_lt, sym, refl, ap}
-use Rattle.tl_number.proofs.Common.{subst, AllByRecursion, AreSame, Chain, Coordinates, County, HasShapesApart, IsAccepted}
-use Rattle.tl_number.proofs.Common.{IsCanonicalThrough, IsCounty, IsInProfile, IsSight, IsTidy, Mask, Record, TooSymmetric, all_among}
-use Rattle.tl_number.proofs.Common.{all_both, all_unmap, all_weaker, apart_from_no_repeat, county-is_county, county_of, each_from}
-use Rattle.tl_number.proofs.Common.{entry_points, has_repeat, has_repeat-apart, is_either_way, least_points, map-map, masked, most_choices}
-use Rattle.tl_number.proofs.Common.{plain, points_cmp, points_keys, same-symmetric, same-transitive, shapes, strict-map, strict_from_order}
-use Rattle.tl_number.proofs.Common.{true≢false}
+use Rattle.tl_number.proofs.Common.{◌≡◌, ℕ, List, map, reverse, false, Less, is_gt, nat_lt, sym, refl, ap, subst, AllByRecursion, AreSame}
+use Rattle.tl_number.proofs.Common.{Chain, Coordinates, County, HasShapesApart, IsAccepted, IsCanonicalThrough, IsCounty, IsInProfile}
+use Rattle.tl_number.proofs.Common.{IsSight, IsTidy, Mask, Record, TooSymmetric, all_among, all_both, all_unmap, all_weaker}
+use Rattle.tl_number.proofs.Common.{apart_from_no_repeat, county-is_county, county_of, each_from, entry_points, has_repeat}
+use Rattle.tl_number.proofs.Common.{has_repeat-apart, is_either_way, least_points, map-map, masked, most_choices, plain, points_cmp}
+use Rattle.tl_number.proofs.Common.{points_keys, same-symmetric, same-transitive, shapes, strict-map, strict_from_order}
 use Rattle.tl_county.specs.MaskedCounty.{masked_chain}
 use Rattle.ordered_lists.proofs.Lists.Reordered.{SameElements, apart-same}
 use Rattle.tl_profile.specs.Profile.{AreAllOnSides}

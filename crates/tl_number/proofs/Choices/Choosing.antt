@@ -1,11 +1,11 @@
 -- Choices selected by numbers: each number selects a choice, and each choice has a number below the count of choices.
-use Rattle.tl_number.proofs.Common.{below_more, ◌≡◌, ◌⊎◌, ◌<◌, ◌≤◌, ◌+◌, ◌*◌, ◌/◌, ◌%◌, ℕ, zero, suc, nat_lt, List, [], ◌∷◌, map, take, drop, length}
-use Rattle.tl_number.proofs.Common.{Bool, true, false, cond, Ordering, is_eq, is_gt, sym, refl, ap, ◌∙◌, subst, inl, inr, arith, nat_cmp}
-use Rattle.tl_number.proofs.Common.{IsPermutation, AllByRecursion, IsInOrder, IsKeyOrder, IsPermutation-insert, IsPermutation-map}
+use Rattle.tl_number.proofs.Common.{below_more, ◌≡◌, ◌⊎◌, ◌<◌, ◌≤◌, ◌+◌, ◌*◌, ◌/◌, ◌%◌, ℕ, zero, suc, List, [], ◌∷◌, map, take, drop}
+use Rattle.tl_number.proofs.Common.{length, Bool, true, false, cond, Ordering, is_eq, is_gt, sym, refl, ap, ◌∙◌, subst, inl, inr, arith}
+use Rattle.tl_number.proofs.Common.{nat_cmp, IsPermutation, AllByRecursion, IsInOrder, IsKeyOrder, IsPermutation-insert, IsPermutation-map}
 use Rattle.tl_number.proofs.Common.{IsPermutation-sym, IsPermutation-trans, IsTotalOrder, Known, all_append, all_known, all_map, all_unmap}
 use Rattle.tl_number.proofs.Common.{chosen, in_order, in_order-equal, in_order-in_order, in_order-is_permutation, insert, known_all}
-use Rattle.tl_number.proofs.Common.{ltb-false, ltb-true, map-map, nat_keys, not_greater, on, order_antisymm, running, same_or_not, stood}
-use Rattle.tl_number.proofs.Common.{tied_itself, times, times-no, times-permutation, times-yes, turned_by, upto}
+use Rattle.tl_number.proofs.Common.{map-map, nat_keys, not_greater, on, order_antisymm, running, same_or_not, stood, tied_itself, times}
+use Rattle.tl_number.proofs.Common.{times-no, times-permutation, times-yes, turned_by, upto}
 use Rattle.std.proofs.lemmas.Nat.{mod_below, mod-mul-add, div-mul-add, mul-add-lt, mul-le}
 use Rattle.ordered_lists.proofs.ByKey.Keys.{order_itself}
 use Rattle.ordered_lists.proofs.ByKey.Numbers.{count-in_order}

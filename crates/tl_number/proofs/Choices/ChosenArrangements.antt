@@ -1,11 +1,10 @@
 -- Chains in the order of their shapes, moved at their open places, are the choice with a number.
 use Rattle.tl_number.proofs.Common.{◌≡◌, ◌<◌, ◌≤◌, ◌+◌, ◌/◌, ◌%◌, ℕ, zero, suc, List, [], ◌∷◌, ◌++◌, map, take, drop, length, Bool, true}
 use Rattle.tl_number.proofs.Common.{false, cond, Ordering, sym, refl, ap, ◌∙◌, subst, arith, AgreeApart, AllByRecursion, AreInShapeOrder}
-use Rattle.tl_number.proofs.Common.{AreWithin, County, DirectedChain, HasChainsOf, IsCounty, IsKeyOrder, IsMoved, IsPermutation-insert}
-use Rattle.tl_number.proofs.Common.{NamesEachOnce, OpenPlace, OrderOfShapes, StandInOrder, arranged_tlids, arrangement_of, chosen, insert}
-use Rattle.tl_number.proofs.Common.{is_either_way, length-map, length_permutation, map-append, moved, nat_keys, numbered_arrangement}
-use Rattle.tl_number.proofs.Common.{numbered_choice, open_places, other_way, points_along, points_cmp, points_keys, stood, times}
-use Rattle.tl_number.proofs.Common.{times-permutation, tlid_at, tlids, turned_by}
+use Rattle.tl_number.proofs.Common.{AreWithin, County, DirectedChain, HasChainsOf, IsCounty, IsKeyOrder, IsMoved, NamesEachOnce, OpenPlace}
+use Rattle.tl_number.proofs.Common.{OrderOfShapes, StandInOrder, arranged_tlids, arrangement_of, chosen, insert, is_either_way, length-map}
+use Rattle.tl_number.proofs.Common.{map-append, moved, nat_keys, numbered_arrangement, numbered_choice, open_places, other_way}
+use Rattle.tl_number.proofs.Common.{points_along, points_cmp, points_keys, stood, times, times-permutation, tlid_at, tlids, turned_by}
 use Rattle.std.proofs.lemmas.List.{drop-map, take-map}
 use Rattle.tl_profile.specs.Choices.{is_settled, open_place_at}
 use Rattle.tl_profile.proofs.CountedChoices.{alike_few}

@@ -1,14 +1,14 @@
 -- The least of the texts of numbered choices, number by number.
 use Rattle.tl_number.proofs.Common.{◌≡◌, ◌≤◌, ◌+◌, ℕ, nat_lt, List, Bool, true, false, cond, Ordering, is_gt, nat_cmp, refl, sym, ap, ◌∙◌}
 use Rattle.tl_number.proofs.Common.{subst, arith, AllKeysStandIn, AreSame, Arrangement, County, IsChoice, IsCounty, IsLeastBelow}
-use Rattle.tl_number.proofs.Common.{IsLeastChoice, IsLeastFrom, IsNotAfter, arranged, arranged_list, choice_list, choices, ltb-false}
-use Rattle.tl_number.proofs.Common.{ltb-true, not_greater, numbered_choice, packed, polygon_keys, polygons_along, renaming_of}
-use Rattle.tl_number.proofs.Common.{same-symmetric, same-transitive, slice_cmp, text_of, upto}
+use Rattle.tl_number.proofs.Common.{IsLeastFrom, IsNotAfter, arranged, choice_list, choices, ltb-false, ltb-true, not_greater}
+use Rattle.tl_number.proofs.Common.{numbered_choice, packed, polygon_keys, polygons_along, renaming_of, same-symmetric, same-transitive}
+use Rattle.tl_number.proofs.Common.{slice_cmp, text_of, upto}
 use Rattle.ordered_lists.proofs.ByKey.KeyOrders.{bytes_keys}
 use Rattle.tl_number.proofs.Arrangements.ArrangedCounties.{arranged_county}
 use Rattle.tl_number.proofs.Arrangements.Carrying.{arrangement_carries}
 use Rattle.tl_number.proofs.Choices.Choosing.{one_more}
-use Rattle.tl_number.proofs.Choices.TidyChoices.{choice_number, numbered_is_choice}
+use Rattle.tl_number.proofs.Choices.TidyChoices.{numbered_is_choice}
 use Rattle.tl_number.proofs.CanonicalLists.TidyLists.{not_after_itself}
 
 module _ (county : County) where

@@ -1,11 +1,10 @@
 -- The least type 1 records of choices, number by number, and the consequence for texts.
-use Rattle.tl_number.proofs.Common.{below_more, ◌≡◌, ◌<◌, ◌≤◌, ◌+◌, ℕ, suc, nat_lt, List, Bool, true, false, Ordering, Less, Equal, Greater, is_eq}
-use Rattle.tl_number.proofs.Common.{is_gt, length, map, sym, refl, ap, ◌∙◌, subst, arith, AgreeApart, AllKeysStandIn, AreInShapeOrder}
-use Rattle.tl_number.proofs.Common.{AreWhole, AreWithin, County, DirectedChain, IsCounty, IsLeastFrom, IsNotAfter, IsWithinLimits}
-use Rattle.tl_number.proofs.Common.{OpenPlace, Record, StandInOrder, arranged, choice_list, directed_chain, false≢true, few_chains}
-use Rattle.tl_number.proofs.Common.{is_either_way, ltb-false, ltb-true, most_records, moved, not_greater, numbered_choice, ones_cmp}
-use Rattle.tl_number.proofs.Common.{ones_of, open_places, ordering_then, other_way, packed, points_along, points_cmp, polygon_keys}
-use Rattle.tl_number.proofs.Common.{polygons_along, tied_itself, upto}
+use Rattle.tl_number.proofs.Common.{below_more, ◌≡◌, ◌<◌, ◌≤◌, ◌+◌, ℕ, List, true, false, Ordering, Less, Equal, Greater, is_eq, is_gt}
+use Rattle.tl_number.proofs.Common.{length, map, sym, refl, ap, ◌∙◌, subst, arith, AgreeApart, AllKeysStandIn, AreInShapeOrder, AreWhole}
+use Rattle.tl_number.proofs.Common.{AreWithin, County, DirectedChain, IsCounty, IsLeastFrom, IsNotAfter, IsWithinLimits, OpenPlace, Record}
+use Rattle.tl_number.proofs.Common.{StandInOrder, arranged, choice_list, directed_chain, false≢true, few_chains, is_either_way}
+use Rattle.tl_number.proofs.Common.{most_records, moved, not_greater, numbered_choice, ones_cmp, ones_of, open_places, ordering_then}
+use Rattle.tl_number.proofs.Common.{other_way, packed, points_along, points_cmp, polygon_keys, polygons_along, tied_itself, upto}
 use Rattle.std.specs.Ordering.{is_le}
 use Rattle.tl_number.specs.MovedChains.{AgreeButOpen}
 use Rattle.tl_number.specs.TypeOneOrder.{IsLeastOne}

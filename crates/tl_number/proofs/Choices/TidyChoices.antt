@@ -5,10 +5,10 @@ use Rattle.tl_number.proofs.Common.{AllByRecursion, Among, Arrangement, Arranges
 use Rattle.tl_number.proofs.Common.{IsPermutation-map, IsPermutation-trans, IsTidy, Known, all_both, all_map, all_unmap, all_weaker}
 use Rattle.tl_number.proofs.Common.{among-map, among_known, arranged, arranged_tlids, ascending, choices, choices_of_shapes, chosen}
 use Rattle.tl_number.proofs.Common.{each_from, entries_of, entry_points, entry_shape, eq-eqb, false≢true, in_order, in_order-in_order}
-use Rattle.tl_number.proofs.Common.{in_order-is_permutation, in_order-map, is_either_way, keys_known, known-permutation_to, least_points}
-use Rattle.tl_number.proofs.Common.{map-map, map_agree_all, nat_keys, on, on_total, order_antisymm, placed, points_cmp, points_from}
-use Rattle.tl_number.proofs.Common.{points_keys, renaming_of, rights-numbered_from, running, same-itself, same-true, shapes}
-use Rattle.tl_number.proofs.Common.{times-permutation, tlids, to_filter, turned_if}
+use Rattle.tl_number.proofs.Common.{in_order-is_permutation, in_order-map, is_either_way, least_points, map-map, map_agree_all, nat_keys}
+use Rattle.tl_number.proofs.Common.{on, on_total, order_antisymm, placed, points_cmp, points_from, points_keys, renaming_of}
+use Rattle.tl_number.proofs.Common.{rights-numbered_from, running, same-itself, same-true, shapes, times-permutation, tlids, to_filter}
+use Rattle.tl_number.proofs.Common.{turned_if}
 use Rattle.std.proofs.lemmas.List.{append-nil, reverse-reverse}
 use Rattle.ordered_lists.proofs.ByKey.Numbers.{from_in_order}
 use Rattle.ordered_lists.proofs.Lists.Reordered.{from_permutation}

@@ -1,6 +1,6 @@
 -- Links gathered landmark by landmark, and counted LAND by LAND.
-use Rattle.tl_number.proofs.Common.{◌&&◌, ◌≡◌, ◌⊎◌, ◌<◌, ◌≤◌, ◌+◌, ◌-◌, ℕ, zero, suc, nat_le, List, [], ◌∷◌, ◌++◌, map, filter, flat_map, length}
-use Rattle.tl_number.proofs.Common.{Bool, true, false, cond, not, Ordering, Less, Equal, Greater, is_gt, Some, slice_get, refl, sym, ap}
+use Rattle.tl_number.proofs.Common.{◌&&◌, ◌≡◌, ◌⊎◌, ◌<◌, ◌≤◌, ◌+◌, ◌-◌, ℕ, zero, suc, nat_le, List, [], ◌∷◌, ◌++◌, map, filter, flat_map}
+use Rattle.tl_number.proofs.Common.{length, Bool, true, false, not, Ordering, Less, Equal, Greater, is_gt, Some, slice_get, refl, sym, ap}
 use Rattle.tl_number.proofs.Common.{ap₂, ◌∙◌, subst, inl, inr, arith, nat_cmp, append-nil, append_assoc, IsPermutation, IsTrue, County}
 use Rattle.tl_number.proofs.Common.{Fields8, IsCounty, IsInOrder, IsPermutation-map, IsPermutation-sym, IsPermutation-trans, Known}
 use Rattle.tl_number.proofs.Common.{MatchOrdering, all_weaker, apart_from_sorted, eight_land, in_order, in_order-in_order}

@@ -1,8 +1,8 @@
 -- In a list in the order of its numbers, the elements with one number are between two counts.
 use Rattle.tl_number.proofs.Common.{◌≡◌, ◌⊎◌, ◌≢◌, ◌<◌, ◌≤◌, ◌+◌, ◌-◌, ◌==◌, ℕ, suc, nat_le, List, [], ◌∷◌, filter, length, take, drop}
-use Rattle.tl_number.proofs.Common.{Bool, true, false, cond, Less, Equal, Greater, Ordering, is_gt, eqb, get_or, slice_get, nat_cmp, refl}
-use Rattle.tl_number.proofs.Common.{sym, ap, ap₂, ◌∙◌, subst, inl, inr, arith, AllByRecursion, Fields8, IsInOrder, MatchOrdering}
-use Rattle.tl_number.proofs.Common.{all_weaker, eight_land, link_bounds, links_up_to, links_with, on, ranked, true≢false, up_to}
+use Rattle.tl_number.proofs.Common.{Bool, true, false, cond, is_gt, eqb, get_or, slice_get, nat_cmp, refl, sym, ap, ap₂, ◌∙◌, subst, inl}
+use Rattle.tl_number.proofs.Common.{inr, arith, AllByRecursion, Fields8, IsInOrder, all_weaker, eight_land, link_bounds, links_up_to}
+use Rattle.tl_number.proofs.Common.{links_with, on, up_to}
 use Rattle.std.proofs.lemmas.Bool.Decides.{leb_tells, eqb_tells}
 use Rattle.std.proofs.lemmas.List.FromFn.{get_or-map-range_with_len}
 use Rattle.tl_number.proofs.Views.ViewNumbers.{get_up_to}

@@ -1,19 +1,18 @@
 -- Names sorted by their bytes, the ranks of their first uses and their places are in their new order.
-use Rattle.tl_number.proofs.Common.{◌≡◌, ◌<◌, ◌≤◌, ◌+◌, ℕ, suc, nat_lt, List, [], ◌∷◌, ◌++◌, map, flat_map, filter_map, length, Bool, true}
-use Rattle.tl_number.proofs.Common.{false, cond, not, Ordering, Less, Equal, Greater, Option, Some, None, option_map, slice_get, is_eq, sym}
-use Rattle.tl_number.proofs.Common.{refl, ap, ap₂, ◌∙◌, subst, arith, nat_cmp, IsPermutation, append-nil, append_assoc, AreReadAt, AreWhole}
-use Rattle.tl_number.proofs.Common.{Arrangement, Body5, Chain, County, DirectedChain, IsApart, IsCounty, IsInOrder, IsKeyOrder}
-use Rattle.tl_number.proofs.Common.{IsPermutation-map, IsStrictlySortedBy, IsTotalOrder, Use, all_uses, apart-permutation}
-use Rattle.tl_number.proofs.Common.{apart_from_sorted, arranged_tlids, arrangement_of, cons_option, entry_keys, feats}
-use Rattle.tl_number.proofs.Common.{feats_along_arrangement, first_seen, first_seen_after, has_repeat, has_repeat-apart, length-map}
-use Rattle.tl_number.proofs.Common.{length_permutation, ltb-false, ltb-true, map-append, name_key, name_key_cmp, names_in_order}
-use Rattle.tl_number.proofs.Common.{nat_cmp_total, nat_keys, on_total, option_cmp, ordering_then, placed, position_or_len, range_with_len}
+use Rattle.tl_number.proofs.Common.{◌≡◌, ◌+◌, ℕ, suc, List, [], ◌∷◌, ◌++◌, map, flat_map, filter_map, length, Bool, true, false, cond}
+use Rattle.tl_number.proofs.Common.{Ordering, Less, Equal, Greater, Option, Some, option_map, slice_get, sym, refl, ap, ap₂, ◌∙◌, subst}
+use Rattle.tl_number.proofs.Common.{arith, nat_cmp, IsPermutation, append-nil, append_assoc, AreReadAt, AreWhole, Arrangement, Body5, Chain}
+use Rattle.tl_number.proofs.Common.{County, DirectedChain, IsApart, IsCounty, IsInOrder, IsKeyOrder, IsPermutation-map, IsStrictlySortedBy}
+use Rattle.tl_number.proofs.Common.{IsTotalOrder, Use, all_uses, apart-permutation, apart_from_sorted, arranged_tlids, arrangement_of}
+use Rattle.tl_number.proofs.Common.{cons_option, entry_keys, feats, feats_along_arrangement, first_seen, first_seen_after, has_repeat}
+use Rattle.tl_number.proofs.Common.{has_repeat-apart, length-map, length_permutation, ltb-true, map-append, name_key, name_key_cmp}
+use Rattle.tl_number.proofs.Common.{names_in_order, nat_cmp_total, nat_keys, on_total, option_cmp, ordering_then, placed, range_with_len}
 use Rattle.tl_number.proofs.Common.{slice_cmp, slice_get-map, stands_in, then_total, times-append, times-yes, use_cmp, uses_from}
 use Rattle.tl_number.proofs.Common.{uses_of_name}
 use Rattle.tl_county.specs.BodyOrder.{name_body_cmp}
 use Rattle.tl_county.specs.ChartWords.{name_at}
 use Rattle.tl_county.specs.Laws.KeyOrders.{name_body_keys}
-use Rattle.tl_number.specs.NameItems.{from_one, rank_of, ranked_at, ranked_cmp, ranked_place}
+use Rattle.tl_number.specs.NameItems.{rank_of, ranked_at, ranked_cmp, ranked_place}
 use Rattle.tl_number.specs.declared.name_order.RankedName.{RankedName}
 use Rattle.tl_number.proofs.Choices.AscendingArrangement.{options_total}
 use Rattle.tl_number.proofs.Arrangements.Carrying.{names_permutation}

@@ -4,8 +4,7 @@ use Rattle.tl_number.proofs.Common.{false, cond, Less, Greater, is_eq, sym, refl
 use Rattle.tl_number.proofs.Common.{length-append, AllByRecursion, Among, IsTotalOrder, Known, Use, all_among, among-map, eq-eqb}
 use Rattle.tl_number.proofs.Common.{first_seen_after, known-here, known-right, length-map, lists_keys, nat_cmp_total, nat_keys, ne_eqb}
 use Rattle.tl_number.proofs.Common.{ordering_reverse, ordering_then, same_or_not, slice_cmp, stands_in, tied_itself, times, times-append}
-use Rattle.tl_number.proofs.Common.{times-no, times-of_number, times-yes, use_cmp, uses_of_name}
-use Rattle.tl_number.proofs.Common.{None, Some, ltb-true, position_or_len}
+use Rattle.tl_number.proofs.Common.{times-no, times-of_number, use_cmp, uses_of_name, None, Some, ltb-true, position_or_len}
 use Rattle.std.specs.List.Sorted.{IsStrictlySortedBy}
 use Rattle.ordered_lists.proofs.ByKey.Keys.{differ_apart, known-left}
 use Rattle.tl_number.proofs.Lists.Counting.{less}

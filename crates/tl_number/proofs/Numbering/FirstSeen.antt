@@ -1,7 +1,7 @@
 -- Keys in the order of their first occurrence: each occurs once, the members are the same, and the numbers grow along the keys.
-use Rattle.tl_number.proofs.Common.{◌≡◌, ◌⊎◌, ◌<◌, ◌≤◌, ◌+◌, ℕ, suc, max, List, [], ◌∷◌, ◌++◌, map, length, Bool, true, false, cond}
-use Rattle.tl_number.proofs.Common.{Ordering, is_eq, sym, refl, ap, ◌∙◌, subst, inl, inr, arith, append_assoc, append-nil, length-append}
-use Rattle.tl_number.proofs.Common.{Grows, GrowsFrom, IsApart, IsKeyOrder, Known, first_seen, first_seen_after, known-here, known-right}
+use Rattle.tl_number.proofs.Common.{◌≡◌, ◌⊎◌, ◌<◌, ◌≤◌, ◌+◌, ℕ, max, List, [], ◌∷◌, ◌++◌, map, length, Bool, true, false, cond, Ordering}
+use Rattle.tl_number.proofs.Common.{is_eq, sym, refl, ap, ◌∙◌, subst, inl, inr, arith, append_assoc, append-nil, length-append, Grows}
+use Rattle.tl_number.proofs.Common.{GrowsFrom, IsApart, IsKeyOrder, Known, first_seen, first_seen_after, known-here, known-right}
 use Rattle.tl_number.proofs.Common.{known_cases, ltb-false, ltb-true, same_or_not, stands_in, times, times-append, times-no, times-yes}
 use Rattle.tl_number.proofs.Common.{any-stands_in, lt-ltb, nat_lt, not, position_or_len, same-itself}
 use Rattle.ordered_lists.proofs.ByKey.Keys.{known-append, known-later, known-left}

@@ -1,7 +1,7 @@
 -- The place of a key among those that were seen, and that it stays there.
-use Rattle.tl_number.proofs.Common.{◌≡◌, ◌<◌, ◌≤◌, ◌+◌, ◌||◌, ℕ, suc, nat_lt, List, [], ◌∷◌, ◌++◌, length, Bool, true, false, cond, not}
-use Rattle.tl_number.proofs.Common.{Ordering, Some, None, is_eq, refl, sym, ap, ◌∙◌, arith, length-append, IsKeyOrder, first_seen_after}
-use Rattle.tl_number.proofs.Common.{list_any, lt-ltb, ltb-true, position, position_or_len, same-itself}
+use Rattle.tl_number.proofs.Common.{◌≡◌, ◌≤◌, ◌+◌, ℕ, List, [], ◌∷◌, ◌++◌, length, Bool, true, false, cond, Ordering, Some, is_eq, refl}
+use Rattle.tl_number.proofs.Common.{sym, ap, ◌∙◌, arith, length-append, IsKeyOrder, first_seen_after, list_any, position, position_or_len}
+use Rattle.tl_number.proofs.Common.{same-itself}
 use Rattle.indexmap.specs.IndexSet.{insert_key}
 use Rattle.tl_number.proofs.Numbering.FirstSeen.{seen_stays}
 use Rattle.tl_number.proofs.Numbering.FoundPlaces.{any_within, none_within, place_stays, to_position}

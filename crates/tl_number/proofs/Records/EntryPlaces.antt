@@ -1,7 +1,7 @@
 -- The name, the landmark and the polygon at a place of a county within its limits.
-use Rattle.tl_number.proofs.Common.{AllByRecursion, entry_values, ◌≡◌, ◌<◌, ℕ, List, [], length, map, Option, Some, None, option_map, option_to_list, unwrap_or}
-use Rattle.tl_number.proofs.Common.{slice_get, IsSome, sym, refl, ap, ◌∙◌, subst, nat_cmp, arith, Body5, Body7, BodyP, County, IsNumber}
-use Rattle.tl_number.proofs.Common.{IsWithinLimits, PolygonKey, all-in_order, bodies_at, entry_polyid, feats, group_at, lands, length-map}
+use Rattle.tl_number.proofs.Common.{AllByRecursion, entry_values, ◌≡◌, ◌<◌, ℕ, List, length, map, Option, Some, None, option_map}
+use Rattle.tl_number.proofs.Common.{option_to_list, slice_get, IsSome, sym, refl, ap, ◌∙◌, subst, nat_cmp, arith, Body5, Body7, BodyP}
+use Rattle.tl_number.proofs.Common.{County, IsNumber, IsWithinLimits, PolygonKey, all-in_order, entry_polyid, group_at, length-map}
 use Rattle.tl_number.proofs.Common.{most_records, on, packed_body, packed_p, polygons_by_number, slice_get-map, type_p_by_number}
 use Rattle.tl_layout.specs.Bytes.{IsText}
 use Rattle.ordered_lists.proofs.ByKey.Numbers.{length-in_order}

@@ -1,9 +1,8 @@
 -- Lists that are compared place by place, and tests that decide whether they are the same.
-use Rattle.tl_number.proofs.Common.{◌≡◌, ◌<◌, ◌≤◌, ◌+◌, ℕ, zero, suc, List, [], ◌∷◌, length, take, Bool, true, false, Some, slice_get, map}
-use Rattle.tl_number.proofs.Common.{◌++◌, refl, sym, ap, ◌∙◌, add-one, arith, County, Decides, Eight, Five, Four, I, IsCounty, One, P}
-use Rattle.tl_number.proofs.Common.{Seven, Six, Two, county_of, false≢true, group_at, grouped, packed, packed_county, take_all}
-use Rattle.tl_number.proofs.Common.{type_1_by_chain, type_2_by_chain, type_4_by_chain, type_5_by_name, type_6_by_chain, type_7_by_landmark}
-use Rattle.tl_number.proofs.Common.{type_8_together, type_i_by_chain, type_p_by_number}
+use Rattle.tl_number.proofs.Common.{◌≡◌, ◌<◌, ◌≤◌, ◌+◌, ℕ, zero, suc, List, [], ◌∷◌, length, take, Bool, Some, slice_get, map, ◌++◌, sym}
+use Rattle.tl_number.proofs.Common.{ap, ◌∙◌, arith, County, Decides, Eight, Five, Four, I, IsCounty, One, P, Seven, Six, Two, county_of}
+use Rattle.tl_number.proofs.Common.{group_at, grouped, packed, packed_county, take_all, type_1_by_chain, type_2_by_chain, type_4_by_chain}
+use Rattle.tl_number.proofs.Common.{type_5_by_name, type_6_by_chain, type_7_by_landmark, type_8_together, type_i_by_chain, type_p_by_number}
 use Rattle.tl_number.specs.SharedGroups.{HaveSameCounts, HaveSameChains, HaveSameEntries}
 use Rattle.tl_number.proofs.Records.PackedGroups.{all_groups}
 

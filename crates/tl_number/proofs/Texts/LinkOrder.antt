@@ -1,5 +1,5 @@
 -- The records of types I and P of a county in two arrangements.
-use Rattle.tl_number.proofs.Common.{◌≡◌, ◌<◌, ◌≤◌, ◌+◌, ℕ, nat_lt, List, map, length, Bool, true, false, Option, Some, None, option_map}
+use Rattle.tl_number.proofs.Common.{◌≡◌, ◌≤◌, ◌+◌, ℕ, nat_lt, List, map, length, Bool, true, false, Option, Some, None, option_map}
 use Rattle.tl_number.proofs.Common.{slice_get, Equal, sym, refl, ap, ap₂, ◌∙◌, subst, arith, AreTiedAt, AreTiedBelow, AreWhole, Chain}
 use Rattle.tl_number.proofs.Common.{County, DirectedChain, I, IsCounty, arranged_by, arrangement_of, chain_at, directed_chain, ends_of}
 use Rattle.tl_number.proofs.Common.{links_of, ltb-false, ltb-true, option_cmp, packed_i, placed, records_cmp, renaming_of, renumbered}

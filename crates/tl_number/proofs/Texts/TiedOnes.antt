@@ -1,7 +1,7 @@
 -- The type 1 records of two arrangements, compared only at open places.
-use Rattle.tl_number.proofs.Common.{◌≡◌, ◌≢◌, ◌≤◌, ◌+◌, ℕ, zero, suc, nat_lt, List, [], ◌∷◌, length, get_or, Bool, true, false, Less, Equal}
-use Rattle.tl_number.proofs.Common.{Greater, Some, slice_get, sym, refl, ap, ap₂, ◌∙◌, subst, arith, AreTiedAt, AreTiedBelow, AreWhole}
-use Rattle.tl_number.proofs.Common.{County, DirectedChain, IsCounty, Record, arranged_by, ltb-false, ltb-true, one_at, ones_of, option_cmp}
+use Rattle.tl_number.proofs.Common.{◌≡◌, ◌≢◌, ◌≤◌, ℕ, zero, suc, nat_lt, List, [], ◌∷◌, length, get_or, Bool, true, false, Less, Equal}
+use Rattle.tl_number.proofs.Common.{Greater, Some, slice_get, sym, refl, ap, ap₂, ◌∙◌, arith, AreTiedAt, AreTiedBelow, AreWhole, County}
+use Rattle.tl_number.proofs.Common.{DirectedChain, IsCounty, Record, arranged_by, ltb-false, ltb-true, one_at, ones_of, option_cmp}
 use Rattle.tl_number.proofs.Common.{ordering_then, records_cmp, slice_get-get_or, slice_get_past, spelling_cmp}
 use Rattle.tl_number.proofs.Texts.GroupOrders.{decided}
 use Rattle.tl_number.proofs.Texts.TypeOnes.{length-ones_arranged_by, ones_arranged_by, same_one}

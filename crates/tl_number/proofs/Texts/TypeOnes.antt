@@ -1,10 +1,9 @@
 -- The type 1 records of a county in an arrangement.
-use Rattle.tl_number.proofs.Common.{◌≡◌, ◌<◌, ◌≤◌, ◌+◌, ℕ, zero, suc, List, [], ◌∷◌, map, length, Bool, true, false, Option, Some, None}
-use Rattle.tl_number.proofs.Common.{option_map, slice_get, Equal, sym, refl, ap, ◌∙◌, subst, arith, AreWhole, Chain, County, DirectedChain}
-use Rattle.tl_number.proofs.Common.{IsCounty, IsWithinLimits, One, Record, arranged_by, arranged_tlids, arrangement_of, directed_chain}
-use Rattle.tl_number.proofs.Common.{length-map, length_permutation, most_records, nat_list_cmp_total, numbered_from, one_at, ones_of}
-use Rattle.tl_number.proofs.Common.{option_cmp, packed_one, placed, renaming_of, slice_get-map, spelling_cmp, spelling_of, tied_itself}
-use Rattle.tl_number.proofs.Common.{tlid_at, tlids, turned_if}
+use Rattle.tl_number.proofs.Common.{◌≡◌, ◌<◌, ◌≤◌, ◌+◌, ℕ, List, map, length, Bool, true, false, Option, Some, None, option_map, slice_get}
+use Rattle.tl_number.proofs.Common.{Equal, sym, refl, ap, ◌∙◌, subst, arith, AreWhole, Chain, County, DirectedChain, IsCounty}
+use Rattle.tl_number.proofs.Common.{IsWithinLimits, One, Record, arranged_by, arranged_tlids, arrangement_of, directed_chain, length-map}
+use Rattle.tl_number.proofs.Common.{length_permutation, most_records, nat_list_cmp_total, one_at, ones_of, option_cmp, packed_one, placed}
+use Rattle.tl_number.proofs.Common.{renaming_of, slice_get-map, spelling_cmp, spelling_of, tied_itself, tlid_at, tlids, turned_if}
 use Rattle.std.proofs.lemmas.List.{length-reverse}
 use Rattle.tl_number.proofs.Arrangements.Carrying.{chains_arranged}
 use Rattle.tl_number.proofs.Records.ChainPlaces.{chain_there}

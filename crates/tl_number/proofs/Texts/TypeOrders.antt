@@ -2,8 +2,7 @@
 use Rattle.tl_number.proofs.Common.{◌≡◌, ◌∙◌, ◌+◌, List, ◌++◌, length, map, length-append, nat_cmp, Equal, sym, ap, ap₂, AreSame, County}
 use Rattle.tl_number.proofs.Common.{Eight, Five, Four, I, IsCounty, IsWithinLimits, One, Record, Seven, Six, Two, grouped, groups_cmp}
 use Rattle.tl_number.proofs.Common.{length-map, most_records, ordering_then, packed, packed_by_type, records_cmp, slice_cmp, spelling_cmp}
-use Rattle.tl_number.proofs.Common.{text_of, tied_itself, type_1_by_chain, type_2_by_chain, type_4_by_chain, type_5_by_name}
-use Rattle.tl_number.proofs.Common.{type_6_by_chain, type_7_by_landmark, type_8_together, type_i_by_chain, types_1_to_4, types_5_to_7}
+use Rattle.tl_number.proofs.Common.{text_of, tied_itself, type_1_by_chain, type_2_by_chain, type_4_by_chain, types_1_to_4, types_5_to_7}
 use Rattle.tl_number.proofs.Common.{types_8_to_p}
 use Rattle.tl_county.proofs.Limits.CarriedLimits.{carried_many}
 use Rattle.tl_county.proofs.Limits.FitsPacked.{packed-fits}

@@ -1,9 +1,9 @@
 -- Collecting the nodes of open chains and the critical ends.
-use Rattle.tl_number.proofs.Common.{below_more, ◌≡◌, ◌<◌, ◌≤◌, ◌+◌, nat_lt, Bool, true, false, arith, ℕ, zero, suc, List, [], ◌∷◌, map, drop, get_or}
-use Rattle.tl_number.proofs.Common.{length, slice_get, Option, Some, None, option_map, option_to_list, IsTrue, nat_cmp, refl, sym, ap, ◌∙◌}
-use Rattle.tl_number.proofs.Common.{subst, Chain, County, DirectedChain, HasChainsOf, HasNodes, OpenPlace, all_known, all_weaker}
-use Rattle.tl_number.proofs.Common.{directed_chain, ends_along, ends_of, ends_or_none, first_seen_after, is_open, lt-ltb, ltb-false}
-use Rattle.tl_number.proofs.Common.{ltb-true, nat_keys, nodes_at, slice_get-get_or, stands_in, times}
+use Rattle.tl_number.proofs.Common.{below_more, ◌≡◌, ◌<◌, ◌+◌, true, ℕ, zero, suc, List, [], ◌∷◌, map, drop, get_or, length, slice_get}
+use Rattle.tl_number.proofs.Common.{Option, Some, None, option_map, option_to_list, IsTrue, nat_cmp, refl, sym, ap, ◌∙◌, subst, Chain}
+use Rattle.tl_number.proofs.Common.{County, DirectedChain, HasNodes, OpenPlace, all_known, all_weaker, directed_chain, ends_along, ends_of}
+use Rattle.tl_number.proofs.Common.{ends_or_none, first_seen_after, is_open, lt-ltb, ltb-true, nat_keys, nodes_at, slice_get-get_or}
+use Rattle.tl_number.proofs.Common.{stands_in, times}
 use Rattle.std.proofs.lemmas.List.{drop_more}
 use Rattle.tl_number.specs.CriticalPlaces.{met_after_both}
 use Rattle.tl_number.proofs.Numbering.FirstSeen.{all_after, seen_after}

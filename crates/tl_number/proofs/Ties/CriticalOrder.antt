@@ -1,11 +1,11 @@
 -- Choices that differ only in the nodes of their chains are in the order of the numbers of their critical ends.
-use Rattle.tl_number.proofs.Common.{◌≡◌, ◌∙◌, ℕ, List, ◌++◌, flat_map, length, map, slice_get, Bool, true, false, not, cond, Option, Some}
-use Rattle.tl_number.proofs.Common.{None, option_map, option_to_list, Ordering, nat_cmp, is_gt, refl, sym, ap, subst, AreNodeTies, AreSame}
+use Rattle.tl_number.proofs.Common.{◌≡◌, ◌∙◌, ℕ, List, ◌++◌, length, map, slice_get, Bool, true, false, not, cond, Option, Some, None}
+use Rattle.tl_number.proofs.Common.{option_map, option_to_list, Ordering, nat_cmp, is_gt, refl, sym, ap, subst, AreNodeTies, AreSame}
 use Rattle.tl_number.proofs.Common.{AreWhole, Chain, County, DirectedChain, HasChainsOf, HasNodes, IsCounty, IsNotAfter, IsWithinLimits}
 use Rattle.tl_number.proofs.Common.{One, OrderOfShapes, arranged, arrangement_of, chain_at, choice_list, critical_numbers, directed_chain}
-use Rattle.tl_number.proofs.Common.{ends_along, ends_among, ends_at, ends_cmp, ends_or_none, first_seen, groups_cmp, is_open, length-map}
-use Rattle.tl_number.proofs.Common.{most_records, nodes_at, numbered_arrangement, numbered_choice, other_way, packed, renumbered_ends}
-use Rattle.tl_number.proofs.Common.{slice_cmp, slice_get-map, text_of, turned_if, type_1_by_chain, type_2_by_chain}
+use Rattle.tl_number.proofs.Common.{ends_along, ends_at, ends_cmp, ends_or_none, groups_cmp, is_open, length-map, most_records, nodes_at}
+use Rattle.tl_number.proofs.Common.{numbered_arrangement, numbered_choice, other_way, packed, renumbered_ends, slice_cmp, slice_get-map}
+use Rattle.tl_number.proofs.Common.{text_of, turned_if, type_1_by_chain, type_2_by_chain}
 use Rattle.tl_number.specs.ChoiceSearch.{LeavesChoices}
 use Rattle.tl_number.specs.CriticalPlaces.{AreCritical, HasOpenNodes}
 use Rattle.tl_number.specs.declared.critical_places.CriticalEnds.{CriticalEnds}

@@ -1,8 +1,8 @@
 -- Nodes seen along two whole lists and along two shorter ones: as long as the numbers agree, nodes of open chains are in one order in
 -- both, and all other nodes are at one place in both whole lists.
-use Rattle.tl_number.proofs.Common.{◌≡◌, ◌⊎◌, ◌<◌, ◌≤◌, ◌+◌, ℕ, suc, List, [], ◌∷◌, ◌++◌, length, Bool, true, false, cond, not, is_eq}
-use Rattle.tl_number.proofs.Common.{nat_cmp, refl, sym, ap, ◌∙◌, subst, inl, inr, arith, length-append, any-stands_in, first_seen_after}
-use Rattle.tl_number.proofs.Common.{list_any, nat_keys, position_or_len, same-itself, same-true, same_or_not}
+use Rattle.tl_number.proofs.Common.{◌≡◌, ◌⊎◌, ◌<◌, ◌≤◌, ◌+◌, ℕ, List, [], ◌∷◌, ◌++◌, length, Bool, true, false, cond, not, is_eq, nat_cmp}
+use Rattle.tl_number.proofs.Common.{refl, sym, ap, ◌∙◌, subst, inl, inr, arith, length-append, any-stands_in, first_seen_after, list_any}
+use Rattle.tl_number.proofs.Common.{nat_keys, position_or_len, same-itself, same-true}
 use Rattle.ordered_lists.proofs.ByKey.Keys.{differ}
 use Rattle.tl_number.proofs.Numbering.FoundPlaces.{any_within, first_stays, none_at_end, place_behind, place_bound}
 use Rattle.tl_number.proofs.Ties.NumberTexts.{InOneOrder}

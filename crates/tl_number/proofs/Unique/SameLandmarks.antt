@@ -1,14 +1,12 @@
 -- If a renaming carries one arranged county onto another, keeps each TLID and turns no chain, the landmarks and their links are
 -- equal: landmarks are in the order of their bodies and links.
-use Rattle.tl_number.proofs.Common.{eight_land, ◌≡◌, ◌⊎◌, ◌<◌, ℕ, zero, suc, ◌==◌, List, [], ◌∷◌, map, filter, length, Bool, true, false, cond, ◌&&◌}
-use Rattle.tl_number.proofs.Common.{IsTrue, Ordering, Less, Equal, Greater, is_eq, is_gt, sym, refl, ap, ◌∙◌, subst, inl, inr, arith}
+use Rattle.tl_number.proofs.Common.{eight_land, ◌≡◌, ◌⊎◌, ◌<◌, ℕ, zero, suc, ◌==◌, List, [], ◌∷◌, map, filter, length, Bool, false, cond}
+use Rattle.tl_number.proofs.Common.{◌&&◌, IsTrue, Ordering, Less, Equal, Greater, is_eq, sym, refl, ap, ◌∙◌, subst, inl, inr, arith}
 use Rattle.tl_number.proofs.Common.{nat_cmp, IsPermutation, AllByRecursion, Body7, Carries, County, Fields8, IsArranged, IsAscending}
-use Rattle.tl_number.proofs.Common.{IsClosed, IsInOrder, IsKeyOrder, IsPermutation-map, Known, PolygonKey, Renumbering, all_map, all_weaker}
-use Rattle.tl_number.proofs.Common.{carried_landmark, carried_link, eq-eqb, eqb-true, false≢true, image, in_order-equal, in_order-map}
-use Rattle.tl_number.proofs.Common.{in_order-permutation, key_cmp, keys_known, known_all, landmark_key, landmark_key_cmp, lands, length-map}
-use Rattle.tl_number.proofs.Common.{link_cmp, link_key, link_keys, link_part, link_part_cmp, link_part_keys, lists_keys, ltb-true, map-map}
-use Rattle.tl_number.proofs.Common.{map_agree_all, nat_cmp_total, nat_keys, ne_eqb, ordering_then, pair_keys, polygon_keys, stands_in}
-use Rattle.tl_number.proofs.Common.{tied_itself, times, up_to}
+use Rattle.tl_number.proofs.Common.{IsClosed, IsInOrder, IsKeyOrder, Known, PolygonKey, Renumbering, all_weaker, carried_link, eq-eqb}
+use Rattle.tl_number.proofs.Common.{false≢true, image, in_order-equal, key_cmp, landmark_key, landmark_key_cmp, lands, length-map, link_cmp}
+use Rattle.tl_number.proofs.Common.{link_key, link_keys, link_part, link_part_cmp, link_part_keys, lists_keys, ltb-true, map_agree_all}
+use Rattle.tl_number.proofs.Common.{nat_cmp_total, nat_keys, ne_eqb, ordering_then, pair_keys, polygon_keys, stands_in, tied_itself, times}
 use Rattle.std.proofs.lemmas.Bool.{cases_eq}
 use Rattle.ordered_lists.proofs.Lists.Counted.{filter-agree}
 use Rattle.tl_county.proofs.Lists.OfNumber.{of_number-all}

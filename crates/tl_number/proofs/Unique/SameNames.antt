@@ -1,13 +1,10 @@
 -- If a renaming carries one arranged county onto another, keeps each TLID and turns no chain, the names and the FEATs of chains are
 -- equal: names are in the order of content and uses, and their uses determine the chains' lists.
-use Rattle.tl_number.proofs.Common.{◌≡◌, ◌⊎◌, ℕ, suc, ◌==◌, List, [], ◌∷◌, ◌++◌, map, filter, length, Bool, true, false, cond, IsTrue, sym}
-use Rattle.tl_number.proofs.Common.{refl, ap, ap₂, ◌∙◌, subst, inl, inr, nat_cmp, IsPermutation, AllByRecursion, AllStandIn, Among, Body5}
-use Rattle.tl_number.proofs.Common.{Carries, Chain, County, IsApart, IsArranged, IsClosed, IsKeyOrder, IsPermutation-map}
-use Rattle.tl_number.proofs.Common.{IsStrictlySortedBy, Known, Renumbering, Use, all_append, all_left, all_map, all_right, all_uses}
-use Rattle.tl_number.proofs.Common.{all_weaker, among-unmap, apart_from_sorted, carried_name, eq-eqb, feats, image, in_order-map}
-use Rattle.tl_number.proofs.Common.{in_order-permutation, keys_known, known_all, length-map, lists_keys, ltb-true, map-append, map-map}
-use Rattle.tl_number.proofs.Common.{map_agree_all, name_key, name_key_cmp, nat_keys, ne_eqb, pair_keys, stands_in, times, up_to, use_cmp}
-use Rattle.tl_number.proofs.Common.{uses_from, uses_of_name}
+use Rattle.tl_number.proofs.Common.{◌≡◌, ℕ, suc, ◌==◌, List, [], ◌∷◌, ◌++◌, map, filter, length, IsTrue, sym, refl, ap, ap₂, ◌∙◌, subst}
+use Rattle.tl_number.proofs.Common.{nat_cmp, AllByRecursion, AllStandIn, Among, Carries, Chain, County, IsApart, IsArranged, IsClosed}
+use Rattle.tl_number.proofs.Common.{IsKeyOrder, IsStrictlySortedBy, Known, Renumbering, Use, all_append, all_left, all_right, all_uses}
+use Rattle.tl_number.proofs.Common.{all_weaker, among-unmap, apart_from_sorted, feats, image, lists_keys, ltb-true, map-append, map-map}
+use Rattle.tl_number.proofs.Common.{name_key, name_key_cmp, pair_keys, stands_in, times, use_cmp, uses_from, uses_of_name}
 use Rattle.tl_number.proofs.Lists.Filtered.{filter-agree_all, filter-mapped, same_after}
 use Rattle.tl_county.specs.Laws.KeyOrders.{name_body_keys}
 use Rattle.ordered_lists.proofs.Lists.Members.{one_entry}

@@ -1,9 +1,9 @@
 -- The chains of an arrangement given by directed chains are those at their places.
 use Rattle.tl_number.proofs.Common.{◌≡◌, ◌⊎◌, ◌<◌, ◌≤◌, ◌==◌, ℕ, zero, suc, List, [], ◌∷◌, ◌++◌, map, flat_map, length, Option, Some, None}
-use Rattle.tl_number.proofs.Common.{option_map, slice_get, sym, refl, ap, ap₂, ◌∙◌, inl, inr, arith, append-nil, append_assoc, Among}
-use Rattle.tl_number.proofs.Common.{Arrangement, Chain, County, DirectedChain, HasChainsOf, IsCounty, apart_from_sorted, arrangement_of}
-use Rattle.tl_number.proofs.Common.{chain_at, chains_in_order, directed_chain, entries_of, eq-eqb, feats_of, nat_keys, numbered_from}
-use Rattle.tl_number.proofs.Common.{placed, rights-numbered_from, slice_get-map, times-of_number, tlid_at, tlids, to_filter, turned_if}
+use Rattle.tl_number.proofs.Common.{option_map, slice_get, sym, refl, ap, ap₂, ◌∙◌, inl, inr, arith, append-nil, Among, Arrangement, Chain}
+use Rattle.tl_number.proofs.Common.{County, DirectedChain, HasChainsOf, IsCounty, apart_from_sorted, arrangement_of, chain_at}
+use Rattle.tl_number.proofs.Common.{chains_in_order, directed_chain, entries_of, eq-eqb, feats_of, nat_keys, numbered_from, placed}
+use Rattle.tl_number.proofs.Common.{rights-numbered_from, slice_get-map, times-of_number, tlid_at, tlids, to_filter, turned_if}
 use Rattle.std.proofs.lemmas.Option.{get_or_from_slice_get}
 use Rattle.ordered_lists.proofs.Lists.Elements.{flat_map_agree}
 use Rattle.std.proofs.lemmas.Grind.{flat_map-append}

@@ -1,10 +1,7 @@
 -- The numbers from 1.
-use Rattle.tl_number.proofs.Common.{◌≡◌, ◌⊎◌, ◌<◌, ◌≤◌, ◌+◌, ◌-◌, ℕ, zero, suc, nat_lt, List, [], ◌∷◌, map, length, Bool, true, false, cond}
-use Rattle.tl_number.proofs.Common.{not, Ordering, Some, None, is_eq, refl, sym, ap, ap₂, ◌∙◌, inl, inr, arith, nat_cmp, slice_get}
-use Rattle.tl_number.proofs.Common.{AllByRecursion, IsKeyOrder, PolygonKey, all_among, all_weaker, among_known, image, key_cmp, key_keys}
-use Rattle.tl_number.proofs.Common.{known_is_among, length-range_with_len, lt-ltb, ltb-false, ltb-true, map-map, nat_keys, numbered}
-use Rattle.tl_number.proofs.Common.{numbered_from, position, position_or_len, range_with_len, same-true, slice_get_past, stands_in, times}
-use Rattle.tl_number.proofs.Common.{under_cenid, up_to}
+use Rattle.tl_number.proofs.Common.{◌≡◌, ◌⊎◌, ◌<◌, ◌≤◌, ◌+◌, ◌-◌, ℕ, zero, suc, true, false, Some, None, sym, ap, ◌∙◌, inl, inr, arith}
+use Rattle.tl_number.proofs.Common.{nat_cmp, slice_get, all_among, among_known, known_is_among, length-range_with_len, lt-ltb, ltb-true}
+use Rattle.tl_number.proofs.Common.{nat_keys, range_with_len, slice_get_past, stands_in, times, up_to}
 use Rattle.std.proofs.lemmas.Bool.{false_from_ne_true}
 use Rattle.tl_number.proofs.Lists.Counting.{range_bounds}
 use Rattle.tl_number.proofs.Views.DirectedChains.{among-get}

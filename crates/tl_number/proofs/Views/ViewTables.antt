@@ -1,12 +1,11 @@
 -- Nodes, names, polygons and landmarks of a county in an arrangement, read from its tables.
-use Rattle.tl_number.proofs.Common.{◌≡◌, ℕ, suc, List, [], ◌∷◌, map, length, Option, Some, None, option_map, Less, Equal, Greater, is_gt}
-use Rattle.tl_number.proofs.Common.{false, ◌+◌, ◌-◌, ap₂, Ordering, slice_get, unwrap_or, sym, refl, ap, ◌∙◌, subst, arith, nat_cmp}
-use Rattle.tl_number.proofs.Common.{IsPermutation, AreReadAt, AreWhole, Arrangement, Body5, Body7, County, DirectedChain, Fields8, IsCounty}
-use Rattle.tl_number.proofs.Common.{IsInOrder, PolygonKey, all_weaker, arranged_by, arrangement_of, carried_landmark, carried_name}
-use Rattle.tl_number.proofs.Common.{eight_land, entry_values, feats, in_order-permutation, landmarks_in_order, lands, length-map}
-use Rattle.tl_number.proofs.Common.{link_bounds, link_cmp, link_part, link_part_cmp, links_at, links_up_to, links_with, map-map}
-use Rattle.tl_number.proofs.Common.{names_in_order, nat_keys, nodes, nodes_along, nodes_in_order, numbered, on, ordering_then}
-use Rattle.tl_number.proofs.Common.{polygons_in_order, renaming_of, slice_get-map, under_cenid, up_to}
+use Rattle.tl_number.proofs.Common.{◌≡◌, ℕ, suc, List, [], ◌∷◌, map, length, Option, Some, None, option_map, Less, is_gt, false, ◌+◌, ◌-◌}
+use Rattle.tl_number.proofs.Common.{ap₂, Ordering, slice_get, unwrap_or, sym, ap, ◌∙◌, subst, arith, nat_cmp, IsPermutation, AreReadAt}
+use Rattle.tl_number.proofs.Common.{AreWhole, Arrangement, Body5, Body7, County, DirectedChain, Fields8, IsCounty, IsInOrder, PolygonKey}
+use Rattle.tl_number.proofs.Common.{all_weaker, arranged_by, arrangement_of, carried_landmark, carried_name, eight_land, entry_values}
+use Rattle.tl_number.proofs.Common.{feats, in_order-permutation, landmarks_in_order, lands, length-map, link_bounds, link_cmp, link_part}
+use Rattle.tl_number.proofs.Common.{link_part_cmp, links_at, links_up_to, links_with, map-map, names_in_order, nat_keys, nodes, nodes_along}
+use Rattle.tl_number.proofs.Common.{nodes_in_order, numbered, on, polygons_in_order, renaming_of, slice_get-map, under_cenid, up_to}
 use Rattle.std.proofs.lemmas.List.FromFn.{length-map-range_with_len}
 use Rattle.std.specs.List.Sorted.{IsStrictlySortedBy}
 use Rattle.ordered_lists.proofs.ByKey.Numbers.{distinct-in_order}

@@ -1,5 +1,5 @@
 use Rattle.tl_number.proofs.Common.{◌≡◌, ◌∙◌, ℕ, Option, Ordering, ap, nat_cmp, refl, rules, YieldsList-from_map, YieldsList-from_slice}
-use Rattle.tl_number.proofs.Common.{ends_cmp, ordering_then, unwrap_or}
+use Rattle.tl_number.proofs.Common.{ordering_then, unwrap_or}
 use Rattle.std.proofs.lemmas.Iterator.Search.{cmp_from_yields_List}
 use Rattle.std.specs.Iterator.Adapters.{map_callee}
 use Rattle.tl_number.proofs.Landmarks.LandmarkOrder.{cmp_mapped}

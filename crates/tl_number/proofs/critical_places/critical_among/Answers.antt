@@ -1,4 +1,4 @@
-use Rattle.tl_number.proofs.Common.{◌≡◌, ◌<◌, ◌≤◌, ◌+◌, ◌++◌, suc, drop, length, sym, ap, ◌∙◌, arith, append-nil, critical_from, drop_all}
+use Rattle.tl_number.proofs.Common.{◌≡◌, ◌<◌, ◌+◌, ◌++◌, suc, drop, length, sym, ap, ◌∙◌, arith, critical_from}
 use Rattle.tl_number.proofs.Ties.CollectedEnds.{item_dropped}
 use Rattle.tl_number.proofs.critical_places.critical_among.Goals as goal
 

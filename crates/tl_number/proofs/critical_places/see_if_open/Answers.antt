@@ -1,4 +1,4 @@
-use Rattle.tl_number.proofs.Common.{◌≡◌, ◌∙◌, false, sym, subst, IsTrue, nat_cmp, rules, HasNodes, false≢true, nodes_at, stands_in}
+use Rattle.tl_number.proofs.Common.{sym, subst, IsTrue, nat_cmp, HasNodes, nodes_at, stands_in}
 use Rattle.tl_number.proofs.Ties.CollectedEnds.{both_seen_now, still_seen}
 use Rattle.tl_number.proofs.critical_places.see_if_open.Goals as goal
 

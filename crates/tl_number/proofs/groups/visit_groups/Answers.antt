@@ -1,5 +1,4 @@
-use Rattle.tl_number.proofs.Common.{◌∙◌, Ok, Err, map, take, drop, subst, sym, refl, arith, err_from_is_err_and, grouped, length-take}
-use Rattle.tl_number.proofs.Common.{take_all}
+use Rattle.tl_number.proofs.Common.{◌∙◌, Ok, Err, map, take, drop, subst, sym, arith, err_from_is_err_and, grouped, length-take}
 use Rattle.tl_number.proofs.Lemmas.{second_stops}
 use Rattle.tl_number.proofs.Records.GivenGroups.{around_groups, with_groups}
 use Rattle.tl_number.proofs.groups.visit_groups.Goals as goal

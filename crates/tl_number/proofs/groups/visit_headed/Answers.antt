@@ -1,5 +1,5 @@
-use Rattle.tl_number.proofs.Common.{◌+◌, Ok, length, map, take, drop, suc, subst, sym, refl, arith, err_from_is_err_and, group_at, grouped}
-use Rattle.tl_number.proofs.Common.{slice_get_read, take_all}
+use Rattle.tl_number.proofs.Common.{◌+◌, Ok, length, map, take, drop, suc, subst, sym, arith, err_from_is_err_and, group_at, grouped}
+use Rattle.tl_number.proofs.Common.{take_all}
 use Rattle.tl_number.proofs.Lemmas.{second_stops}
 use Rattle.tl_number.proofs.Records.GivenGroups.{around_group, with_group}
 use Rattle.tl_number.proofs.Records.Grouped.{length_headed}

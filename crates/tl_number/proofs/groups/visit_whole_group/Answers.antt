@@ -1,5 +1,5 @@
-use Rattle.tl_number.proofs.Common.{◌≡◌, ◌+◌, ◌++◌, ◌∷◌, ◌∙◌, [], Ok, Err, map, take, drop, suc, subst, sym, ap, arith, add-one}
-use Rattle.tl_number.proofs.Common.{err_from_is_err_and, group_at, take_all}
+use Rattle.tl_number.proofs.Common.{◌≡◌, ◌+◌, ◌++◌, ◌∷◌, ◌∙◌, [], Ok, map, take, drop, suc, subst, sym, ap, arith, add-one}
+use Rattle.tl_number.proofs.Common.{err_from_is_err_and, group_at}
 use Rattle.tl_number.proofs.Lemmas.{second_stops}
 use Rattle.ordered_lists.proofs.Lists.Places.{next_taken}
 use Rattle.tl_number.proofs.Records.ChainPlaces.{some_at}

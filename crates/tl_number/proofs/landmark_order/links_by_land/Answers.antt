@@ -1,5 +1,4 @@
-use Rattle.tl_number.proofs.Common.{length, nat_cmp, sym, ap, ◌∙◌, subst, slice_get, arith, IsInOrder, eight_land, lands, link_bounds}
-use Rattle.tl_number.proofs.Common.{numbered_links, on}
+use Rattle.tl_number.proofs.Common.{length, nat_cmp, sym, ap, ◌∙◌, subst, slice_get, arith, IsInOrder, eight_land, lands, on}
 use Rattle.tl_number.proofs.Landmarks.LandmarkOrder.{few_lands, numbered_by_land}
 use Rattle.tl_number.proofs.landmark_order.links_by_land.Goals as goal
 

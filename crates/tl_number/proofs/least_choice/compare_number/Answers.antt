@@ -1,5 +1,5 @@
-use Rattle.tl_number.proofs.Common.{length, sym, ap, ap₂, ◌∙◌, subst, AgreeApart, AreWithin, One, arranged, arranged_by, groups_cmp, moved}
-use Rattle.tl_number.proofs.Common.{other_way, type_1_by_chain}
+use Rattle.tl_number.proofs.Common.{length, sym, ap, ap₂, ◌∙◌, subst, AreWithin, One, arranged, arranged_by, groups_cmp, moved, other_way}
+use Rattle.tl_number.proofs.Common.{type_1_by_chain}
 use Rattle.tl_number.proofs.Lemmas.{agree_of_numbers, arrangement_of_number, places_within}
 use Rattle.tl_number.proofs.Choices.ChosenArrangements.{moved_of_number}
 use Rattle.tl_number.proofs.least_choice.compare_number.Goals as goal

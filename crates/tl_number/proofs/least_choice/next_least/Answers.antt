@@ -1,5 +1,5 @@
-use Rattle.tl_number.proofs.Common.{◌≡◌, ◌∙◌, Equal, is_gt, ap, ap₂, sym, subst, AreSame, IsNotAfter, One, arranged, arranged_county}
-use Rattle.tl_number.proofs.Common.{choice_list, groups_cmp, numbered_choice, ones_cmp, type_1_by_chain, type_2_by_chain}
+use Rattle.tl_number.proofs.Common.{◌≡◌, ◌∙◌, Equal, is_gt, ap, sym, subst, AreSame, IsNotAfter, arranged, arranged_county, choice_list}
+use Rattle.tl_number.proofs.Common.{numbered_choice, ones_cmp, type_2_by_chain}
 use Rattle.tl_number.proofs.Choices.LeastNumbers.{choices_same, kept_has, kept_is, text_compared}
 use Rattle.tl_number.proofs.Choices.LeastOnes.{tied_with_itself}
 use Rattle.tl_number.proofs.CanonicalLists.SameShapes.{twos_of_numbers}

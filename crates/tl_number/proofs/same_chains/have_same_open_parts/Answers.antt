@@ -1,5 +1,5 @@
-use Rattle.tl_number.proofs.Common.{◌≡◌, ◌∙◌, length, map, option_map, slice_get, true, false, rules, refl, sym, ap, subst, AllByRecursion}
-use Rattle.tl_number.proofs.Common.{AreWithin, DirectedChain, StandInOrder, decides_no, directed_chain, slice_get-map}
+use Rattle.tl_number.proofs.Common.{◌≡◌, ◌∙◌, length, map, option_map, true, rules, refl, sym, ap, subst, AllByRecursion, AreWithin}
+use Rattle.tl_number.proofs.Common.{DirectedChain, StandInOrder, directed_chain, slice_get-map}
 use Rattle.tl_number.proofs.Lemmas.{nothing_left}
 use Rattle.tl_number.specs.MovedChains.{HaveSamePartAt, IsApart}
 use Rattle.tl_number.proofs.Choices.FixedPlaces.{before_apart, past_first, same_everywhere}

@@ -1,4 +1,5 @@
-use Rattle.tl_number.proofs.Common.{below_more, slice_get, ◌≡◌, ◌<◌, ◌∙◌, Some, length, true, false, rules, refl, sym, ap, arith, decides_no, parts_along}
+use Rattle.tl_number.proofs.Common.{below_more, slice_get, ◌≡◌, ◌<◌, ◌∙◌, Some, length, true, false, rules, sym, ap, arith, decides_no}
+use Rattle.tl_number.proofs.Common.{parts_along}
 use Rattle.tl_number.proofs.Texts.SameChains.{part_read, the_same}
 use Rattle.tl_number.proofs.same_chains.have_same_parts_below.Goals as goal
 

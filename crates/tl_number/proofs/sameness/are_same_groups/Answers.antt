@@ -1,4 +1,4 @@
-use Rattle.tl_number.proofs.Common.{decides_no, ◌≡◌, ◌∙◌, ◌++◌, true, false, rules, drop, length, take, refl, sym, ap, arith, length-take}
+use Rattle.tl_number.proofs.Common.{◌≡◌, ◌∙◌, ◌++◌, true, false, rules, drop, length, take, refl, sym, ap, arith, length-take}
 use Rattle.tl_number.proofs.Lemmas.{same_whole}
 use Rattle.std.proofs.Math.Seq.{take-add}
 use Rattle.tl_number.proofs.sameness.are_same_groups.Goals as goal

@@ -1,4 +1,4 @@
-use Rattle.tl_number.proofs.Common.{decides_no, same_next, ◌≡◌, ◌∙◌, true, false, rules, drop, length, take, refl, sym, ap, arith, group_at, slice_get_read}
+use Rattle.tl_number.proofs.Common.{decides_no, same_next, ◌≡◌, ◌∙◌, true, false, rules, drop, length, take, refl, sym, ap, arith, group_at}
 use Rattle.tl_number.proofs.Lemmas.{same_whole}
 use Rattle.tl_number.proofs.Records.Grouped.{group_headed, length_headed}
 use Rattle.tl_number.proofs.Records.SameGroups.{same_group}

@@ -1,4 +1,4 @@
-use Rattle.tl_number.proofs.Common.{decides_no, same_next, ◌≡◌, ◌∙◌, true, false, rules, refl, sym, ap, slice_get, Some, arith, group_at}
+use Rattle.tl_number.proofs.Common.{same_next, ◌≡◌, ◌∙◌, true, false, rules, refl, sym, ap, Some, arith, group_at}
 use Rattle.tl_number.proofs.Lemmas.{same_whole}
 use Rattle.tl_number.proofs.sameness.is_same_group.Goals as goal
 

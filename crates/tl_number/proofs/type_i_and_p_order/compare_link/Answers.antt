@@ -1,4 +1,4 @@
-use Rattle.tl_number.proofs.Common.{◌∙◌, slice_get, ap, ap₂, arranged_by, links_of, option_cmp, spelling_cmp}
+use Rattle.tl_number.proofs.Common.{◌∙◌, slice_get, ap, arranged_by, links_of, option_cmp, spelling_cmp}
 use Rattle.tl_number.proofs.Texts.TypeOnes.{same_one}
 use Rattle.tl_number.proofs.type_i_and_p_order.compare_link.Goals as goal
 

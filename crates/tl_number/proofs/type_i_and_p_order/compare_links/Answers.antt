@@ -1,4 +1,4 @@
-use Rattle.tl_number.proofs.Common.{AreTiedAt, below_more, ◌∙◌, sym, arith, arranged_by, links_of}
+use Rattle.tl_number.proofs.Common.{◌∙◌, arith, arranged_by, links_of}
 use Rattle.tl_number.proofs.Texts.LinkOrder.{all_links_tied, as_many_through}
 use Rattle.tl_number.proofs.Texts.TiedOnes.{first_untied}
 use Rattle.tl_number.proofs.type_i_and_p_order.compare_links.Goals as goal

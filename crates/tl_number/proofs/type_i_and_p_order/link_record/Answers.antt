@@ -1,5 +1,4 @@
-use Rattle.tl_number.proofs.Common.{◌<◌, ◌∙◌, ◌∷◌, [], length, option_map, slice_get, sym, ap, subst, arith, I, arranged_by, length-map}
-use Rattle.tl_number.proofs.Common.{packed_i}
+use Rattle.tl_number.proofs.Common.{◌<◌, ◌∙◌, ◌∷◌, [], length, option_map, slice_get, sym, ap, subst, arith, I, arranged_by, packed_i}
 use Rattle.tl_number.proofs.Lemmas.{group_of}
 use Rattle.tl_number.proofs.Records.ChainPlaces.{some_at}
 use Rattle.tl_number.proofs.Texts.LinkOrder.{link_there}

@@ -1,4 +1,4 @@
-use Rattle.tl_number.proofs.Common.{◌++◌, map, err_from_is_err_and, grouped}
+use Rattle.tl_number.proofs.Common.{map, err_from_is_err_and, grouped}
 use Rattle.tl_number.proofs.Lemmas.{second_stops}
 use Rattle.tl_number.proofs.Records.OneAfterAnother.{third_ends}
 use Rattle.tl_number.proofs.visiting.visit_three.Goals as goal

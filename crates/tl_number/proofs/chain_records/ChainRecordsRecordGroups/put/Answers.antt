@@ -1,6 +1,5 @@
 -- The number, the content and the points are written one after another, as the record is spelled.
-use Rattle.tl_number.proofs.Common.{◌<◌, ◌∙◌, ◌∷◌, ◌++◌, [], Some, option_map, codes, take, sym, ap, subst, first_point, joined, last_point}
-use Rattle.tl_number.proofs.Common.{length-map, packed_one}
+use Rattle.tl_number.proofs.Common.{◌∙◌, ◌∷◌, ◌++◌, [], Some, option_map, codes, take, sym, ap, first_point, joined, last_point, packed_one}
 use Rattle.tl_number.proofs.Lemmas.{chain_of_group, lone_of, part_of, tlid_of}
 use Rattle.tl_layout.specs.FieldTexts.{number_text}
 use Rattle.tl_layout.specs.RecordTables.{rtype_1}

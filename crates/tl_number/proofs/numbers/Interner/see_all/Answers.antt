@@ -1,4 +1,4 @@
-use Rattle.tl_number.proofs.Common.{◌∙◌, Some, ap, length, refl, sym, drop_all, first_seen_after, slice_get_read}
+use Rattle.tl_number.proofs.Common.{Some, length, refl, sym, slice_get_read}
 use Rattle.tl_number.proofs.Numbering.SeenLists.{seen_next}
 use Rattle.tl_number.proofs.numbers.Interner.see_all.Goals as goal
 
