@@ -6,7 +6,7 @@ pub use Rattle.ordered_lists.proofs.ByKey.Keys.{known_cases, lefts, nat_keys, or
 pub use Rattle.ordered_lists.proofs.ByKey.Keys.{times-append, times-no, times-permutation, times-yes}
 pub use Rattle.ordered_lists.proofs.ByKey.Numbers.{all-in_order, each_from, strict_from_order}
 pub use Rattle.ordered_lists.proofs.Lists.Among.{Among, all_among}
-pub use Rattle.ordered_lists.proofs.Lists.ByPlace.{decides_no, decides_same}
+pub use Rattle.ordered_lists.proofs.Lists.ByPlace.{decides_no, same_next}
 pub use Rattle.ordered_lists.proofs.Lists.Distinct.{apart-distinct, apart_from_no_repeat, has_repeat-apart, known-distinct}
 pub use Rattle.ordered_lists.proofs.Lists.Elements.{all_append, all_both, all_everywhere, all_joined, all_left, all_map, all_right}
 pub use Rattle.ordered_lists.proofs.Lists.Elements.{all_unmap, all_weaker, map-map, map_agree_all, map_agree_everywhere}
@@ -18,6 +18,13 @@ pub use Rattle.ordered_lists.proofs.Lists.Reordered.{to_filter}
 pub use Rattle.ordered_lists.specs.Entries.{entry_keys, entry_values}
 pub use Rattle.ordered_lists.specs.Orders.{IsInOrder, has_repeat, in_order, stands_in, times}
 pub use Rattle.ordered_lists.specs.Pairs.{image}
+pub use Rattle.std.proofs.Common.{◌%◌, ◌&&◌, ◌*◌, ◌++◌, ◌+◌, ◌-◌, ◌/◌, ◌<◌, ◌==◌, ◌^◌, ◌||◌, ◌∙◌, ◌∷◌, ◌≡◌, ◌≢◌, ◌≤◌, ◌⊎◌, Bool, Equal, Err}
+pub use Rattle.std.proofs.Common.{Greater, IfOk, IfSome, IsPermutation, IsSome, IsTrue, Less, List, None, Ok, OnOk, Option, Ordering}
+pub use Rattle.std.proofs.Common.{Result, Some, [], add-one, ap, append-nil, append_assoc, ap₂, arith, below_more, codes, cond, drop, eqb, false}
+pub use Rattle.std.proofs.Common.{filter, filter_map, flat_map, get_or, inl, inr, is_eq, is_gt, is_lt, is_some, length, length-append}
+pub use Rattle.std.proofs.Common.{length-drop, length-set, lit≤, map, map-id, max, min, nat_cmp, nat_eq, nat_le, nat_lt, not, option_map}
+pub use Rattle.std.proofs.Common.{option_to_list, refl, reverse, rules, set, slice_get, slice_index, subst, suc, sym, take, tests, true}
+pub use Rattle.std.proofs.Common.{unwrap_or, zero, zip, ℕ}
 pub use Rattle.std.proofs.Math.Seq.{take-append_seam}
 pub use Rattle.std.proofs.lemmas.Bool.{eq-eqb, eqb-true, false≢true, lt-ltb, ltb-false, ltb-true, ne_eqb, true≢false}
 pub use Rattle.std.proofs.lemmas.Cmp.{nat_cmp_total, nat_list_cmp_total, on_total, ranked, then_total, tied_itself, upto}
@@ -36,7 +43,6 @@ pub use Rattle.std.specs.Cmp.Lexicographic.{slice_cmp}
 pub use Rattle.std.specs.List.{AllByRecursion, cons_option, insert, list_any, position, position_or_len, range_with_len}
 pub use Rattle.std.specs.Option.{option_cmp}
 pub use Rattle.std.specs.Ordering.{MatchOrdering, on, ordering_reverse, ordering_then, then_cmp}
-pub use Rattle.std.specs.Prelude.{unwrap_or}
 pub use Rattle.tl_county.proofs.ByKey.KeySets.{any-stands_in}
 pub use Rattle.tl_county.proofs.Limits.FewChains.{few_chains}
 pub use Rattle.tl_county.proofs.Lists.OfNumber.{times-of_number}
@@ -118,3 +124,7 @@ pub use Rattle.tl_profile.specs.declared.open_places.OpenPlace.{OpenPlace}
 pub use Rattle.tl_shape.specs.Chain.{Chain}
 pub use Rattle.tl_shape.specs.PointOrder.{points_cmp}
 pub use Rattle.tl_shape.specs.Turned.{turned_if}
+pub use Rattle.std.specs.List.Sorted.{IsStrictlySortedBy}
+pub use Rattle.tl_layout.specs.RecordText.{spelling_of}
+pub use Rattle.tl_number.specs.Arrangement.{arranged, renaming_of}
+pub use Rattle.tl_number.specs.Tidy.{numbered_choice}

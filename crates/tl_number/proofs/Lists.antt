@@ -3,3 +3,4 @@ pub mod Counting
 pub mod Grouping
 pub mod SortedPlaces
 pub mod ItemByItem
+pub mod Filtered

@@ -4,7 +4,6 @@ pub mod LinkOrder
 pub mod SamePolygons
 pub mod SameChains
 pub mod SameLists
-pub mod SameButNodes
 pub mod TypeOnes
 pub mod RecordTexts
 pub mod TypeOrders

@@ -9,8 +9,8 @@
 ghost use Rattle.ordered_lists.specs.Orders.{stands_in};
 ghost use Rattle.std.specs.Cmp.Lexicographic.{slice_cmp};
 ghost use Rattle.std.specs.Ordering.{nat_cmp};
-ghost use Rattle.std.specs.Prelude.{◌≡◌, ◌+◌, ◌&&◌, ◌++◌, ◌∷◌, [], ℕ, List, Option, None, get_or, length, map, nat_le, nat_lt, suc, true, IfOk, IsTrue, OnOk};
-ghost use Rattle.tl_number.specs.CriticalPlaces.{AreCritical, HasNodes, HasOpenNodes, critical_from, critical_numbers, ends_along, ends_at, ends_cmp, fixed_ends, is_open, met_after, met_after_both, newly_met, newly_met_ends, node_cmp};
+ghost use Rattle.std.specs.Prelude.{◌≡◌, ◌+◌, ◌&&◌, ◌++◌, ◌∷◌, [], ℕ, List, Option, None, get_or, length, map, nat_le, nat_lt, suc, true, unwrap_or, IfOk, IsTrue, OnOk};
+ghost use Rattle.tl_number.specs.CriticalPlaces.{AreCritical, HasNodes, HasOpenNodes, critical_from, critical_numbers, ends_along, ends_at, ends_cmp, fixed_ends, is_open, met_after, met_after_both, newly_met, newly_met_ends};
 ghost use Rattle.tl_number.specs.DirectedChains.{HasChainsOf};
 ghost use Rattle.tl_number.specs.EndsAndSides.{nodes_at};
 
@@ -45,15 +45,7 @@ fn covers(at: OpenPlace, place: usize) -> bool
 fn is_open_at(places: &[OpenPlace], place: usize) -> bool
     ensures { result ≡ is_open place places.now }
 {
-    let mut rest = places;
-    while let Some((at, behind)) = rest.split_first() {
-        let covered = covers(*at, place);
-        if covered {
-            return true;
-        }
-        rest = behind;
-    }
-    false
+    places.iter().any(|at| covers(*at, place))
 }
 
 /// Sees a node, if there is one.
@@ -250,11 +242,10 @@ fn all_ends_in<C: Chart>(
     requires { HasChainsOf (C.county chart.now) arrangement.now }
     ensures { IfOk result (λ ends. ends.items ≡ map (ends_at (ends_along (C.county chart.now) arrangement.now)) critical.now) }
 {
-    let mut ends = Vec::with_capacity(alloc, critical.len())?;
-    for one in critical {
-        ends.push(ends_in(chart, arrangement, *one))?;
-    }
-    Ok(ends)
+    critical
+        .iter()
+        .map(|one| ends_in(chart, arrangement, *one))
+        .collect(alloc)
 }
 
 /// The critical ends in an arrangement, numbered among themselves.
@@ -273,35 +264,17 @@ pub(crate) fn number_critical<C: Chart>(
     Ok(ends)
 }
 
-/// Compares two nodes by their numbers. None comes first.
-fn compare_nodes(one: NumberOrNone, other: NumberOrNone) -> Ordering
-    ensures { result ≡ node_cmp one other }
+/// The numbers of the nodes at both ends of a chain, 0 for none.
+fn node_numbers(ends: Ends) -> (u64, u64)
+    ensures { result ≡ (unwrap_or ends.0 0, unwrap_or ends.1 0) }
 {
-    let first = one.get().unwrap_or(0);
-    let second = other.get().unwrap_or(0);
-    first.cmp(&second)
+    (ends.0.get().unwrap_or(0), ends.1.get().unwrap_or(0))
 }
 
-/// Compares the ends of two chains, start before end.
-fn compare_ends(one: Ends, other: Ends) -> Ordering
-    ensures { result ≡ ends_cmp one other }
-{
-    match compare_nodes(one.0, other.0) {
-        Ordering::Equal => compare_nodes(one.1, other.1),
-        unequal => unequal,
-    }
-}
-
-/// Compares the numbers of critical ends in two arrangements.
+/// Compares the numbers of critical ends in two arrangements, start before end.
 pub(crate) fn compare_critical(one: &[Ends], other: &[Ends]) -> Ordering
-    requires { length one.now ≡ length other.now }
     ensures { result ≡ slice_cmp ends_cmp one.now other.now }
 {
-    for place in 0..one.len() {
-        match compare_ends(one[place], other[place]) {
-            Ordering::Equal => {}
-            unequal => return unequal,
-        }
-    }
-    Ordering::Equal
+    let others = other.iter().map(|ends| node_numbers(*ends));
+    one.iter().map(|ends| node_numbers(*ends)).cmp(others)
 }

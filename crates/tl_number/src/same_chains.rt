@@ -100,11 +100,7 @@ fn have_same_part_at<P: ChainPart, C: Chart>(
 ) -> bool
     ensures { Decides result (P.part (directed_chain (C.county chart.now) one) ≡ P.part (directed_chain (C.county chart.now) other)) }
 {
-    let same = one.is_same(other);
-    if same {
-        return true;
-    }
-    part.is_same(chart, one, other)
+    one.is_same(other) || part.is_same(chart, one, other)
 }
 
 /// Whether the chains of two arrangements have the same part at each place below the end. It must be the same at the places before the
@@ -135,60 +131,35 @@ fn have_same_parts_below<P: ChainPart, C: Chart>(
 fn have_same_content<C: Chart>(chart: &C, one: DirectedChain, other: DirectedChain) -> bool
     ensures { Decides result (HaveSameContent (directed_chain (C.county chart.now) one) (directed_chain (C.county chart.now) other)) }
 {
-    let body = one.body(chart).is_same(other.body(chart));
-    if !body {
-        return false;
-    }
-    one.topology(chart).is_same(other.topology(chart))
+    one.body(chart).is_same(other.body(chart)) && one.topology(chart).is_same(other.topology(chart))
 }
 
 /// Whether two directed chains have the same nodes and the same sides.
 fn have_same_ends<C: Chart>(chart: &C, one: DirectedChain, other: DirectedChain) -> bool
     ensures { Decides result (HaveSameEnds (directed_chain (C.county chart.now) one) (directed_chain (C.county chart.now) other)) }
 {
-    let start = one.start_node(chart).is_same(other.start_node(chart));
-    if !start {
-        return false;
-    }
-    let end = one.end_node(chart).is_same(other.end_node(chart));
-    if !end {
-        return false;
-    }
-    let left = one.left(chart).is_same(other.left(chart));
-    if !left {
-        return false;
-    }
-    one.right(chart).is_same(other.right(chart))
+    one.start_node(chart).is_same(other.start_node(chart))
+        && one.end_node(chart).is_same(other.end_node(chart))
+        && one.left(chart).is_same(other.left(chart))
+        && one.right(chart).is_same(other.right(chart))
 }
 
 /// Whether two directed chains have the same points, further names and further address ranges.
 fn have_same_lists<C: Chart>(chart: &C, one: DirectedChain, other: DirectedChain) -> bool
     ensures { Decides result (HaveSameLists (directed_chain (C.county chart.now) one) (directed_chain (C.county chart.now) other)) }
 {
-    let points = have_same_points(chart, one, other);
-    if !points {
-        return false;
-    }
-    let feats = FurtherNames.is_same(chart, one, other);
-    if !feats {
-        return false;
-    }
-    FurtherRanges.is_same(chart, one, other)
+    have_same_points(chart, one, other)
+        && FurtherNames.is_same(chart, one, other)
+        && FurtherRanges.is_same(chart, one, other)
 }
 
 /// Whether two directed chains are the same except for their TLIDs.
 fn is_same_chain<C: Chart>(chart: &C, one: DirectedChain, other: DirectedChain) -> bool
     ensures { Decides result (directed_chain (C.county chart.now) one ≡ directed_chain (C.county chart.now) other) }
 {
-    let content = have_same_content(chart, one, other);
-    if !content {
-        return false;
-    }
-    let ends = have_same_ends(chart, one, other);
-    if !ends {
-        return false;
-    }
-    have_same_lists(chart, one, other)
+    have_same_content(chart, one, other)
+        && have_same_ends(chart, one, other)
+        && have_same_lists(chart, one, other)
 }
 
 /// What the records of types 4, 6 and I have of a chain, except for its nodes.
@@ -204,15 +175,9 @@ impl ChainPart for ButNodes {
     ghost part = { but_nodes_list };
 
     fn is_same<C: Chart>(&self, chart: &C, one: DirectedChain, other: DirectedChain) -> bool {
-        let sides = have_same_sides(chart, one, other);
-        if !sides {
-            return false;
-        }
-        let feats = FurtherNames.is_same(chart, one, other);
-        if !feats {
-            return false;
-        }
-        FurtherRanges.is_same(chart, one, other)
+        have_same_sides(chart, one, other)
+            && FurtherNames.is_same(chart, one, other)
+            && FurtherRanges.is_same(chart, one, other)
     }
 }
 
@@ -220,15 +185,9 @@ impl ChainPart for ButNodes {
 fn have_same_sides<C: Chart>(chart: &C, one: DirectedChain, other: DirectedChain) -> bool
     ensures { Decides result (HaveSameSides (directed_chain (C.county chart.now) one) (directed_chain (C.county chart.now) other)) }
 {
-    let topology = one.topology(chart).is_same(other.topology(chart));
-    if !topology {
-        return false;
-    }
-    let left = one.left(chart).is_same(other.left(chart));
-    if !left {
-        return false;
-    }
-    one.right(chart).is_same(other.right(chart))
+    one.topology(chart).is_same(other.topology(chart))
+        && one.left(chart).is_same(other.left(chart))
+        && one.right(chart).is_same(other.right(chart))
 }
 
 /// Whether the chains of two arrangements have the same part up to the last of those among which an open place inserts a chain. They

@@ -1,23 +1,20 @@
 -- The arranged county is a county, and all its numbers are canonical for the arrangement's choice.
-use Rattle.std.proofs.Common.{◌≡◌, ◌⊎◌, ◌≤◌, ℕ, suc, List, [], ◌∷◌, map, length, false, Option}
-use Rattle.std.proofs.Common.{IsTrue, Ordering, is_eq, is_gt, sym, ap, ap₂, ◌∙◌, subst, inl, inr, arith, nat_cmp}
-use Rattle.std.proofs.Common.{IsPermutation}
-use Rattle.tl_number.proofs.Common.{AllByRecursion, AllKeysStandIn, AllStandIn, Among, Arrangement, Arranges, Body5, Body7, BodyP, Carries}
-use Rattle.tl_number.proofs.Common.{Chain, County, Fields8, Grows, IsApart, IsArranged, IsAscending, IsCounty, IsInOrder, IsKeyOrder}
-use Rattle.tl_number.proofs.Common.{IsPermutation-sym, Known, PolygonKey, all-in_order, all_among, all_map, all_uses, all_weaker, among-map}
-use Rattle.tl_number.proofs.Common.{among-permutation, among-unmap, among_known, apart_from_sorted, arranged_tlids, carried_landmark}
-use Rattle.tl_number.proofs.Common.{carried_link, carried_name, carried_polygon, each_from, feats, first_seen, image, in_order}
-use Rattle.tl_number.proofs.Common.{in_order-equal, in_order-in_order, in_order-is_permutation, in_order-map, key_cmp, key_keys, keys_known}
-use Rattle.tl_number.proofs.Common.{known_all, known_cases, known_is_among, landmark_body_cmp, landmark_key, landmark_key_cmp}
-use Rattle.tl_number.proofs.Common.{landmarks_in_order, lands, length-map, link_cmp, link_keys, link_part_keys, links_relinked, lt-ltb}
-use Rattle.tl_number.proofs.Common.{ltb-true, map-map, name_key, name_key_cmp, names_in_order, nat_keys, new_keys, nodes_along}
-use Rattle.tl_number.proofs.Common.{nodes_in_order, numbered, on, on_total, placed, polygon_keys, polygons_along, polygons_in_order}
-use Rattle.tl_number.proofs.Common.{relinked, rights, same_or_not, stands_in, strict_from_order, times, times-no, times-permutation}
-use Rattle.tl_number.proofs.Common.{times-yes, under_cenid, up_to, uses_of_name}
-use Rattle.std.specs.List.Sorted.{IsStrictlySortedBy}
+use Rattle.tl_number.proofs.Common.{◌≡◌, ◌⊎◌, ◌≤◌, ℕ, List, [], ◌∷◌, map, length, false, Option, IsTrue, Ordering, is_eq, is_gt, sym, ap}
+use Rattle.tl_number.proofs.Common.{ap₂, ◌∙◌, subst, inl, inr, arith, nat_cmp, IsPermutation, AllByRecursion, AllKeysStandIn, AllStandIn}
+use Rattle.tl_number.proofs.Common.{Among, Arrangement, Arranges, Body7, BodyP, Carries, Chain, County, Fields8, Grows, IsApart, IsArranged}
+use Rattle.tl_number.proofs.Common.{IsAscending, IsCounty, IsInOrder, IsKeyOrder, IsPermutation-sym, IsStrictlySortedBy, Known, PolygonKey}
+use Rattle.tl_number.proofs.Common.{all-in_order, all_among, all_map, all_uses, all_weaker, among-map, among-permutation, among-unmap}
+use Rattle.tl_number.proofs.Common.{among_known, apart_from_sorted, arranged, arranged_tlids, carried_landmark, carried_link, carried_name}
+use Rattle.tl_number.proofs.Common.{carried_polygon, each_from, feats, first_seen, image, in_order, in_order-equal, in_order-in_order}
+use Rattle.tl_number.proofs.Common.{in_order-is_permutation, in_order-map, key_cmp, key_keys, keys_known, known_all, known_is_among}
+use Rattle.tl_number.proofs.Common.{landmark_body_cmp, landmark_key, landmark_key_cmp, landmarks_in_order, lands, length-map, link_cmp}
+use Rattle.tl_number.proofs.Common.{link_keys, link_part_keys, links_relinked, lt-ltb, ltb-true, map-map, name_key, name_key_cmp}
+use Rattle.tl_number.proofs.Common.{names_in_order, nat_keys, new_keys, nodes_along, nodes_in_order, numbered, on, on_total, placed}
+use Rattle.tl_number.proofs.Common.{polygon_keys, polygons_along, polygons_in_order, relinked, renaming_of, rights, same_or_not, stands_in}
+use Rattle.tl_number.proofs.Common.{strict_from_order, times, times-no, times-permutation, times-yes, under_cenid, up_to, uses_of_name}
+use Rattle.tl_number.proofs.Common.{Some, position_or_len, refl, slice_get}
 use Rattle.tl_county.proofs.Sameness.CarriedCounty.{carried_closed, carried_whole, feats-turned}
 use Rattle.ordered_lists.proofs.ByKey.Keys.{map_agree}
-use Rattle.tl_number.specs.Arrangement.{renaming_of, arranged}
 use Rattle.tl_number.specs.ArrangedCounty.{HasOneCenidEach}
 use Rattle.tl_number.specs.Uses.{links_of}
 use Rattle.tl_number.proofs.Arrangements.Carrying.{arrangement_carries, from_placed, polygons_to_placed, keys_arranged}
@@ -25,29 +22,25 @@ use Rattle.tl_number.proofs.Arrangements.Carrying.{tlids_arranged, feats_arrange
 use Rattle.tl_number.proofs.Arrangements.Carrying.{names_arranged, polygons_arranged, landmarks_arranged, links_arranged, nodes_renamed}
 use Rattle.tl_number.proofs.Arrangements.Carrying.{polygons_renamed}
 use Rattle.tl_number.proofs.Lists.Counting.{up_to-strict}
-use Rattle.tl_number.proofs.Numbering.FirstSeen.{place_from, place-here, place-later, place_bounds, first_seen-grows, to_first_seen}
-use Rattle.tl_number.proofs.Arrangements.Placed.{image-numbered, image-under_cenid, chain_count, rights-numbered}
+use Rattle.tl_number.proofs.Numbering.FirstSeen.{first_seen-grows, known_within, place_from, to_first_seen}
+use Rattle.tl_number.proofs.Numbering.NewNumbers.{image-numbered, image-under_cenid}
+use Rattle.tl_number.proofs.Numbering.SeenKeys.{found_key}
+use Rattle.tl_number.proofs.Arrangements.Placed.{chain_count, rights-numbered}
 use Rattle.tl_number.proofs.Unique.SameLandmarks.{landmark_key_keys, relanded, count-permutation, is_link, times-links}
 use Rattle.tl_number.proofs.Unique.SameLandmarks.{links_of-in_order, count-relanded}
+use Rattle.tl_number.proofs.Unique.SameKeys.{key_with}
 use Rattle.tl_number.proofs.Unique.SameNames.{name_key_keys, all_uses-kept, all_uses-all, uses_of-renamed}
 use Rattle.tl_number.proofs.Unique.SameNumbers.{counted_injective, kept_entry, polygons_along-kept}
 
 -- different keys have different places
 place-injective : {K : Type 0} {cmp : K → K → Ordering} (o : IsKeyOrder cmp) (i : ℕ) (xs : List K) (k j : K) → Known cmp xs k
     → Known cmp xs j → place_from o i xs k ≡ place_from o i xs j → k ≡ j
-place-injective o i [] k j h l e = absurd (omega (arith, h))
-place-injective {K} {cmp} o i (x ∷ xs) k j h l e = go (known_cases o k x xs h) (known_cases o j x xs l) (place-injective o (suc i) xs k j)
-  where
-    go : (k ≡ x) ⊎ (Known cmp xs k × (is_eq (cmp k x) ≡ false)) → (j ≡ x) ⊎ (Known cmp xs j × (is_eq (cmp j x) ≡ false))
-        → (Known cmp xs k → Known cmp xs j → place_from o (suc i) xs k ≡ place_from o (suc i) xs j → k ≡ j) → k ≡ j
-    go (inl a) (inl b) ih = a ∙ sym b
-    go (inl a) (inr b) ih =
-        absurd (let low : suc i ≤ place_from o (suc i) xs j = (place_bounds o (suc i) xs j b.0).0 in
-        omega (arith, e, place-here o i x xs k a, place-later o i x xs j b.1, low))
-    go (inr a) (inl b) ih =
-        absurd (let low : suc i ≤ place_from o (suc i) xs k = (place_bounds o (suc i) xs k a.0).0 in
-        omega (arith, e, place-here o i x xs j b, place-later o i x xs k a.1, low))
-    go (inr a) (inr b) ih = ih a.0 b.0 (sym (place-later o i x xs k a.1) ∙ e ∙ place-later o i x xs j b.1)
+place-injective {K} {cmp} o i xs k j h l e =
+    let there : (m : K) → Known cmp xs m → slice_get xs (position_or_len (λ other. is_eq (cmp m other)) xs) ≡ Some m =
+    λ m known. found_key (λ x y. is_eq (cmp x y)) cmp (λ x y. refl) o m xs (known_within o xs m known) in
+    let both : Some k ≡ Some j = sym (there k h) ∙ ap (slice_get xs) (omega (arith, e)) ∙ there j l in
+    let one : k ≡ j = cc in
+    one
 
 -- keys are distinct if values computed from them are
 times-stated : {K L : Type 0} {cmp : K → K → Ordering} {by : L → L → Ordering} (o : IsKeyOrder cmp) (q : IsKeyOrder by) (f : K → L) (k : K)
@@ -72,6 +65,17 @@ in_order-kept {X} cmp old new f (x ∷ xs) a h = (each xs a.1 h.0, in_order-kept
         → AllByRecursion (λ y. is_gt (cmp (new (f x)) (new y)) ≡ false) (map f ys)
     each [] b g = tt
     each (y ∷ ys) b g = (ap₂ (λ k j. is_gt (cmp k j)) a.0 b.0 ∙ g.0, each ys b.1 g.1)
+
+-- so entries in the order of a content and a part, if a renaming keeps the parts
+ordered_kept : {V P : Type 0} {cmp : V × P → V × P → Ordering} → IsKeyOrder cmp → (f : ℕ → ℕ) (part new_part : ℕ → P) (entries : List (ℕ × V))
+    → ((n : ℕ) → Known nat_cmp (map (λ (e : ℕ × V). e.0) entries) n → new_part (f n) ≡ part n)
+    → IsInOrder (on (key_with new_part) cmp) (map (λ (e : ℕ × V). (f e.0, e.1)) (in_order (on (key_with part) cmp) entries))
+ordered_kept {V} {P} {cmp} o f part new_part entries kept =
+    in_order-kept cmp (key_with part) (key_with new_part) (λ (e : ℕ × V). (f e.0, e.1)) (in_order (on (key_with part) cmp) entries)
+    (all-in_order (λ (e : ℕ × V). key_with new_part (f e.0, e.1) ≡ key_with part e) (on (key_with part) cmp) entries
+    (all_weaker (λ (e : ℕ × V). Known nat_cmp (map (λ (d : ℕ × V). d.0) entries) e.0)
+    (λ e. key_with new_part (f e.0, e.1) ≡ key_with part e) (λ e k i. (e.1, kept e.0 k i)) entries (keys_known nat_keys entries)))
+    (in_order-in_order (on_total (key_with part) o.total) entries)
 
 module _ (county : County) (arrangement : Arrangement) (is : IsCounty county) (arranges : Arranges arrangement county)
     (sides : AllKeysStandIn (polygons_along county.chains) (polygon_keys county)) where
@@ -171,18 +175,10 @@ module _ (county : County) (arrangement : Arrangement) (is : IsCounty county) (a
       (all_uses (placed county arrangement)) uses_known n k
 
   names_ordered : IsInOrder (on (name_key (all_uses (arranged county arrangement).chains)) name_key_cmp) (arranged county arrangement).names
-  names_ordered =
-      let by : ℕ × Body5 → ℕ × Body5 → Ordering = on (name_key (all_uses (placed county arrangement))) name_key_cmp in
-      subst (IsInOrder (on (name_key (all_uses (arranged county arrangement).chains)) name_key_cmp))
+  names_ordered = subst (IsInOrder (on (name_key (all_uses (arranged county arrangement).chains)) name_key_cmp))
       (sym (names_arranged county arrangement is arranges))
-      (in_order-kept name_key_cmp (name_key (all_uses (placed county arrangement))) (name_key (all_uses (arranged county arrangement).chains))
-      (carried_name (renaming_of county arrangement)) (names_in_order county arrangement)
-      (all-in_order (λ e. name_key (all_uses (arranged county arrangement).chains) (carried_name (renaming_of county arrangement) e) ≡ name_key
-      (all_uses (placed county arrangement)) e) by county.names
-      (all_weaker (λ e. Known nat_cmp (feats county) e.0)
-      (λ e. name_key (all_uses (arranged county arrangement).chains) (carried_name (renaming_of county arrangement) e) ≡ name_key
-      (all_uses (placed county arrangement)) e) (λ e k i. (e.1, uses_kept e.0 k i)) county.names (keys_known nat_keys county.names)))
-      (in_order-in_order (on_total (name_key (all_uses (placed county arrangement))) name_key_keys.total) county.names))
+      (ordered_kept name_key_keys (image nat_cmp (renaming_of county arrangement).names) (uses_of_name (all_uses (placed county arrangement)))
+      (uses_of_name (all_uses (arranged county arrangement).chains)) county.names uses_kept)
 
   -- landmarks keep their links
   land_injective : (n m : ℕ) → Known nat_cmp (lands county) n → Known nat_cmp (lands county) m
@@ -231,18 +227,10 @@ module _ (county : County) (arrangement : Arrangement) (is : IsCounty county) (a
       ∙ sym (times-links (links_relinked county arrangement) n k))
 
   landmarks_ordered : IsInOrder (on (landmark_key (arranged county arrangement).links) landmark_key_cmp) (arranged county arrangement).landmarks
-  landmarks_ordered =
-      let by : ℕ × List Body7 → ℕ × List Body7 → Ordering = on (landmark_key (links_relinked county arrangement)) landmark_key_cmp in
-      subst (IsInOrder (on (landmark_key (arranged county arrangement).links) landmark_key_cmp))
+  landmarks_ordered = subst (IsInOrder (on (landmark_key (arranged county arrangement).links) landmark_key_cmp))
       (sym (landmarks_arranged county arrangement is arranges))
-      (in_order-kept landmark_key_cmp (landmark_key (links_relinked county arrangement)) (landmark_key (arranged county arrangement).links)
-      (carried_landmark (renaming_of county arrangement)) (landmarks_in_order county arrangement)
-      (all-in_order (λ e. landmark_key (arranged county arrangement).links (carried_landmark (renaming_of county arrangement) e) ≡ landmark_key
-      (links_relinked county arrangement) e) by county.landmarks
-      (all_weaker (λ e. Known nat_cmp (lands county) e.0)
-      (λ e. landmark_key (arranged county arrangement).links (carried_landmark (renaming_of county arrangement) e) ≡ landmark_key
-      (links_relinked county arrangement) e) (λ e k i. (e.1, links_kept e.0 k i)) county.landmarks (keys_known nat_keys county.landmarks)))
-      (in_order-in_order (on_total (landmark_key (links_relinked county arrangement)) landmark_key_keys.total) county.landmarks))
+      (ordered_kept landmark_key_keys f_land (links_of (links_relinked county arrangement)) (links_of (arranged county arrangement).links)
+      county.landmarks links_kept)
 
   pub is_arranged : IsArranged (arranged county arrangement)
   is_arranged = record {

@@ -1,14 +1,12 @@
 -- The numbers of an arranged county are small, and canonical lists keep the limits of their original lists.
-use Rattle.std.proofs.Common.{◌≡◌, ◌+◌, ◌*◌, ◌<◌, ◌≤◌, ℕ, zero, suc, max, List, [], ◌∷◌, map, flat_map, length}
-use Rattle.std.proofs.Common.{length-append, Option, Some, None, option_to_list, IsTrue, sym, subst, arith}
-use Rattle.std.proofs.Common.{nat_cmp}
-use Rattle.tl_number.proofs.Common.{AllByRecursion, AllKeysStandIn, AllStandIn, Arrangement, Arranges, Body5, Body7, BodyP, Carries, Chain}
-use Rattle.tl_number.proofs.Common.{County, GrowsFrom, IsAccepted, IsArranged, IsCanonicalThrough, IsCounty, IsLeastChoice, IsSight}
-use Rattle.tl_number.proofs.Common.{IsWithinLimits, PolygonKey, Record, all_both, all_known, all_unmap, all_weaker, arranged_list}
-use Rattle.tl_number.proofs.Common.{by_type_of, chain_nodes, chain_polygons, county-is_county, county_of, feats, key_cmp, key_keys, key_on}
-use Rattle.tl_number.proofs.Common.{key_under, known_all, lands, length-map, link_key, lt-ltb, ltb-true, most_records, nat_keys}
-use Rattle.tl_number.proofs.Common.{nodes_along, packed, packed_by_type, packed_five, packed_one, packed_sevens, polygon_keys}
-use Rattle.tl_number.proofs.Common.{polygons_along, range_with_len, stands_in, times, tlids, up_to}
+use Rattle.tl_number.proofs.Common.{◌≡◌, ◌+◌, ◌*◌, ◌<◌, ◌≤◌, ℕ, suc, max, List, [], ◌∷◌, map, flat_map, length, length-append, Option, Some}
+use Rattle.tl_number.proofs.Common.{None, option_to_list, IsTrue, sym, subst, arith, nat_cmp, AllByRecursion, AllKeysStandIn, AllStandIn}
+use Rattle.tl_number.proofs.Common.{Arrangement, Arranges, Body5, Body7, BodyP, Carries, Chain, County, GrowsFrom, IsAccepted, IsArranged}
+use Rattle.tl_number.proofs.Common.{IsCanonicalThrough, IsCounty, IsLeastChoice, IsSight, IsWithinLimits, PolygonKey, Record, all_both}
+use Rattle.tl_number.proofs.Common.{all_known, all_unmap, all_weaker, arranged, arranged_list, by_type_of, chain_nodes, chain_polygons}
+use Rattle.tl_number.proofs.Common.{county-is_county, county_of, feats, key_cmp, key_keys, key_on, key_under, known_all, lands, length-map}
+use Rattle.tl_number.proofs.Common.{link_key, lt-ltb, ltb-true, most_records, nat_keys, nodes_along, packed, packed_by_type, packed_five}
+use Rattle.tl_number.proofs.Common.{packed_one, packed_sevens, polygon_keys, polygons_along, renaming_of, stands_in, times, tlids, up_to}
 use Rattle.tl_layout.specs.Limits.{IsWithinLimit, count_of_type}
 use Rattle.tl_layout.specs.RecordText.{FitsRecord}
 use Rattle.tl_county.proofs.Limits.CarriedLimits.{carried_contents, carried_lists, carried_counts}
@@ -17,24 +15,14 @@ use Rattle.tl_county.proofs.Limits.FitsPacked.{packed-fits}
 use Rattle.ordered_lists.proofs.Lists.Elements.{all_pieces}
 use Rattle.tl_county.specs.Laws.TypeCounts.{HasAtMost, HasWithin, KeepsLimits, by_type_keeps, by_type_within, packed_keeps}
 use Rattle.tl_county.specs.Laws.TypeCounts.{packed_within}
-use Rattle.tl_number.specs.Arrangement.{renaming_of, arranged}
 use Rattle.tl_number.specs.SeenRecords.{ShowsNoMore}
 use Rattle.tl_number.proofs.CanonicalLists.Ascending.{sides_in_profile}
 use Rattle.tl_number.proofs.Arrangements.Carrying.{arrangement_carries}
 use Rattle.tl_number.specs.RecordNumbers.{numbers_of, greatest_number}
+use Rattle.tl_number.proofs.Lists.Counting.{range_bounds}
 use Rattle.tl_number.proofs.Arrangements.SmallNumbers.{IsSmall, IsSmallKey, NamesSmall, NumbersSmall, small_numbers_fit, packed_low}
 use Rattle.tl_number.proofs.Arrangements.ArrangedCounties.{is_arranged, arranged_county}
 use Rattle.tl_number.proofs.CanonicalLists.TidyLists.{canonical_is_choice}
-
--- consecutive numbers are within their bounds
-counted_bounds : (i n : ℕ) → AllByRecursion (λ k. (i ≤ k) × (k < i + n)) (range_with_len i n)
-counted_bounds i zero = tt
-counted_bounds i (suc n) = (
-  (omega arith, omega arith),
-  all_weaker (λ k. (i + 1 ≤ k) × (k < (i + 1) + n)) (λ k. (i ≤ k) × (k < i + suc n))
-      (λ k h. (let low : i + 1 ≤ k = h.0 in omega arith, let high : k < (i + 1) + n = h.1 in omega arith)) (range_with_len (i + 1) n)
-      (counted_bounds (i + 1) n),
-)
 
 -- numbers that grow are at most as large as the list is long
 grown_bounds : (m : ℕ) (ks : List ℕ) → GrowsFrom m ks → AllByRecursion (λ k. (1 ≤ k) × (k ≤ m + length ks)) ks
@@ -72,13 +60,19 @@ few_under : (cenid : List ℕ) (polyid : Option ℕ) → length (key_under cenid
 few_under cenid None = omega arith
 few_under cenid (Some polyid) = omega arith
 
-pub few_polygons : (e : ℕ × Chain) → length (chain_polygons e.1) ≤ 2
-few_polygons e = omega (
+pub two_polygons : (e : ℕ × Chain) → length (chain_polygons e.1) ≤ 2
+two_polygons e = omega (
   arith,
   length-append (key_on e.1.left) (key_on e.1.right),
   few_under e.1.left.cenid e.1.left.polyid,
   few_under e.1.right.cenid e.1.right.polyid,
 )
+
+-- each landmark has a record of type 7
+pub few_landmarks : (county : County) → IsCounty county → length county.landmarks ≤ length (flat_map packed_sevens county.landmarks)
+few_landmarks county is = long_joined packed_sevens county.landmarks
+    (all_weaker (λ (e : ℕ × List Body7). 1 ≤ length e.1) (λ e. 1 ≤ length (packed_sevens e))
+    (λ e one. subst (λ n. 1 ≤ n) (sym (length-map e.1 (λ body. record { land = e.0; body = body }))) one) county.landmarks is.whole.bodies)
 
 module _ (county : County) (is : IsCounty county) (in_form : IsArranged county)
     (chains : length county.chains ≤ most_records) (names : length county.names ≤ most_records)
@@ -87,7 +81,7 @@ module _ (county : County) (is : IsCounty county) (in_form : IsArranged county)
   counted_small n ks e few =
       subst (AllByRecursion IsSmall) (sym e)
       (all_weaker (λ k. (1 ≤ k) × (k < 1 + n)) IsSmall
-      (λ k h. (h.0, let high : k < 1 + n = h.1 in omega (arith, high, few))) (up_to n) (counted_bounds 1 n))
+      (λ k h. (h.0, let high : k < 1 + n = h.1 in omega (arith, high, few))) (up_to n) (range_bounds 1 n))
 
   tlids_small : AllByRecursion IsSmall (tlids county)
   tlids_small = counted_small (length county.chains) (tlids county) in_form.tlids chains
@@ -110,7 +104,7 @@ module _ (county : County) (is : IsCounty county) (in_form : IsArranged county)
   polygons_small : AllByRecursion IsSmallKey (polygons_along county.chains)
   polygons_small =
       let few : length (polygons_along county.chains) ≤ 2 * length county.chains =
-      short_joined (λ (e : ℕ × Chain). chain_polygons e.1) few_polygons county.chains in
+      short_joined (λ (e : ℕ × Chain). chain_polygons e.1) two_polygons county.chains in
       all_unmap IsSmall (λ (k : PolygonKey). k.1) (polygons_along county.chains)
       (grown_small (map (λ (k : PolygonKey). k.1) (polygons_along county.chains))
       (omega (arith, few, length-map (polygons_along county.chains) (λ (k : PolygonKey). k.1))) in_form.polygons)
@@ -176,11 +170,7 @@ module _ (limit : ℕ) (low : limit ≤ most_records) (county : County) (is : Is
       let ones : length (map packed_one (arranged county arrangement).chains) ≤ limit = counts.of_type_1 in
       let fives : length (map packed_five (arranged county arrangement).names) ≤ limit = counts.of_type_5 in
       let sevens : length (flat_map packed_sevens (arranged county arrangement).landmarks) ≤ limit = counts.of_type_7 in
-      let some : length (arranged county arrangement).landmarks ≤ length (flat_map packed_sevens (arranged county arrangement).landmarks) =
-      long_joined packed_sevens (arranged county arrangement).landmarks
-      (all_weaker (λ (e : ℕ × List Body7). 1 ≤ length e.1) (λ e. 1 ≤ length (packed_sevens e))
-      (λ e one. subst (λ n. 1 ≤ n) (sym (length-map e.1 (λ body. record { land = e.0; body = body }))) one)
-      (arranged county arrangement).landmarks new_is_county.whole.bodies) in
+      let some = few_landmarks (arranged county arrangement) new_is_county in
       arranged_numbers_small (arranged county arrangement) new_is_county (is_arranged county arrangement is arranges sides)
       (omega (arith, ones, length-map (arranged county arrangement).chains packed_one, low))
       (omega (arith, fives, length-map (arranged county arrangement).names packed_five, low)) (omega (arith, sevens, some, low))

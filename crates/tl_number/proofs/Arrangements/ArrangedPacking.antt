@@ -1,14 +1,12 @@
 -- The packing of an arranged county is an arranged list of records.
-use Rattle.std.proofs.Common.{◌≡◌, ◌≤◌, ◌-◌, min, ℕ, zero, suc, List, [], ◌∷◌, map, filter_map, length, take}
-use Rattle.std.proofs.Common.{drop, Ordering, is_gt, false, sym, refl, ap, ap₂, ◌∙◌, subst, arith, nat_cmp, map-id, length-drop}
-use Rattle.tl_number.proofs.Common.{AllByRecursion, AreFull, Body7, Chain, Coordinates, County, Fields2, Fields4, Fields6, Fields7}
-use Rattle.tl_number.proofs.Common.{IsArranged, IsArrangedList, IsCounty, IsInOrder, IsPacked, Ranges, StandsInOrder, all_everywhere}
-use Rattle.tl_number.proofs.Common.{all_weaker, by_type_of, in_order-in_order, in_pieces, inner_points, landmark_body_cmp, length-map}
-use Rattle.tl_number.proofs.Common.{length-take, link_cmp, map-map, map_agree_everywhere, nat_cmp_total, numbered_from, of_number, on}
-use Rattle.tl_number.proofs.Common.{on_total, p_polyid, packed, packed_by_type, packed_county, packed_five, packed_fours, packed_i}
-use Rattle.tl_number.proofs.Common.{packed_one, packed_p, packed_sevens, packed_sixes, packed_twos, pieces, rights-numbered_from, then_cmp}
-use Rattle.tl_number.proofs.Common.{up_to}
-use Rattle.std.specs.List.Sorted.{IsStrictlySortedBy}
+use Rattle.tl_number.proofs.Common.{flat_map, ◌≡◌, ◌≤◌, ◌-◌, min, ℕ, zero, suc, List, [], ◌∷◌, map, filter_map, length, take, drop, Ordering, is_gt}
+use Rattle.tl_number.proofs.Common.{false, sym, refl, ap, ap₂, ◌∙◌, subst, arith, nat_cmp, map-id, length-drop, AllByRecursion, AreFull}
+use Rattle.tl_number.proofs.Common.{Body7, Chain, Coordinates, County, Fields2, Fields4, Fields6, Fields7, IsArranged, IsArrangedList}
+use Rattle.tl_number.proofs.Common.{IsCounty, IsInOrder, IsPacked, IsStrictlySortedBy, Ranges, StandsInOrder, all_everywhere, all_weaker}
+use Rattle.tl_number.proofs.Common.{by_type_of, in_order-in_order, in_pieces, inner_points, landmark_body_cmp, length-map, length-take}
+use Rattle.tl_number.proofs.Common.{link_cmp, map-map, map_agree_everywhere, nat_cmp_total, numbered_from, of_number, on, on_total}
+use Rattle.tl_number.proofs.Common.{p_polyid, packed, packed_by_type, packed_county, packed_five, packed_fours, packed_i, packed_one}
+use Rattle.tl_number.proofs.Common.{packed_p, packed_sevens, packed_sixes, packed_twos, pieces, rights-numbered_from, then_cmp, up_to}
 use Rattle.tl_county.specs.County.{one_tlid, two_tlid, two_rtsq, four_tlid, four_rtsq, five_feat, six_tlid, six_rtsq}
 use Rattle.tl_county.specs.County.{seven_land, i_tlid}
 use Rattle.tl_county.specs.Packing.{type_after_type}
@@ -115,38 +113,32 @@ module _ (c : County) (is : IsCounty c) where
         (in_order-in_order (on_total p_polyid nat_cmp_total) (filter_map packed_p c.polygons));
   }
 
+  -- what holds of the records of each chain holds of those of each TLID
+  in_group : {X : Type 0} (number : X → ℕ) (pack : ℕ × Chain → List X) → ((e : ℕ × Chain) → AllByRecursion (λ x. number x ≡ e.0) (pack e))
+      → (P : List X → Type 0) → P [] → ((e : ℕ × Chain) → P (pack e)) → (xs : List X) → xs ≡ flat_map pack c.chains → (tlid : ℕ)
+      → P (of_number number tlid xs)
+  in_group number pack own P none each xs same tlid = subst (λ ys. P (of_number number tlid ys)) (sym same)
+      (group_holds number pack own P none c.chains (tlids_apart c is) (all_everywhere (λ e. P (pack e)) each c.chains) tlid)
+
   pub packed_is_packed : IsPacked (packed c)
   unfolding make_2 make_4 make_6
   packed_is_packed = record {
-    points = λ tlid. subst (λ xs. AreFull 10 (map (λ (r : Fields2). r.points) (of_number two_tlid tlid xs))) (sym (twos c is))
-        (group_holds two_tlid packed_twos two_own (λ xs. AreFull 10 (map (λ (r : Fields2). r.points) xs)) tt c.chains (tlids_apart c is)
-        (all_everywhere (λ e. AreFull 10 (map (λ (r : Fields2). r.points) (packed_twos e)))
+    points = in_group two_tlid packed_twos two_own (λ xs. AreFull 10 (map (λ (r : Fields2). r.points) xs)) tt
         (λ e. subst (AreFull 10)
         (sym (contents_made two_rtsq (make_2 e) (λ piece. refl) (λ (r : Fields2). r.points) (λ (piece : List Coordinates). piece)
         (λ piece. refl) (in_pieces 10 (inner_points e.1.points)) ∙ map-id (in_pieces 10 (inner_points e.1.points))))
-        (full_pieces 10 (length (inner_points e.1.points)) (inner_points e.1.points) (omega arith) (omega arith))) c.chains) tlid);
-    feats = λ tlid. subst (λ xs. AreFull 5 (map (λ (r : Fields4). r.feats) (of_number four_tlid tlid xs))) (sym (fours c is))
-        (group_holds four_tlid packed_fours four_own (λ xs. AreFull 5 (map (λ (r : Fields4). r.feats) xs)) tt c.chains (tlids_apart c is)
-        (all_everywhere (λ e. AreFull 5 (map (λ (r : Fields4). r.feats) (packed_fours e)))
+        (full_pieces 10 (length (inner_points e.1.points)) (inner_points e.1.points) (omega arith) (omega arith))) _ (twos c is);
+    feats = in_group four_tlid packed_fours four_own (λ xs. AreFull 5 (map (λ (r : Fields4). r.feats) xs)) tt
         (λ e. subst (AreFull 5)
         (sym (contents_made four_rtsq (make_4 e) (λ piece. refl) (λ (r : Fields4). r.feats) (λ (piece : List ℕ). piece) (λ piece. refl)
         (in_pieces 5 e.1.feats) ∙ map-id (in_pieces 5 e.1.feats)))
-        (full_pieces 5 (length e.1.feats) e.1.feats (omega arith) (omega arith))) c.chains) tlid);
-    two_rtsqs = λ tlid. subst (λ xs. map two_rtsq (of_number two_tlid tlid xs) ≡ up_to (length (of_number two_tlid tlid xs)))
-        (sym (twos c is))
-        (group_holds two_tlid packed_twos two_own (λ xs. map two_rtsq xs ≡ up_to (length xs)) refl c.chains (tlids_apart c is)
-        (all_everywhere (λ e. map two_rtsq (packed_twos e) ≡ up_to (length (packed_twos e)))
-        (λ e. rtsqs_counted two_rtsq (make_2 e) (λ piece. refl) (in_pieces 10 (inner_points e.1.points))) c.chains) tlid);
-    four_rtsqs = λ tlid. subst (λ xs. map four_rtsq (of_number four_tlid tlid xs) ≡ up_to (length (of_number four_tlid tlid xs)))
-        (sym (fours c is))
-        (group_holds four_tlid packed_fours four_own (λ xs. map four_rtsq xs ≡ up_to (length xs)) refl c.chains (tlids_apart c is)
-        (all_everywhere (λ e. map four_rtsq (packed_fours e) ≡ up_to (length (packed_fours e)))
-        (λ e. rtsqs_counted four_rtsq (make_4 e) (λ piece. refl) (in_pieces 5 e.1.feats)) c.chains) tlid);
-    six_rtsqs = λ tlid. subst (λ xs. map six_rtsq (of_number six_tlid tlid xs) ≡ up_to (length (of_number six_tlid tlid xs)))
-        (sym (sixes c is))
-        (group_holds six_tlid packed_sixes six_own (λ xs. map six_rtsq xs ≡ up_to (length xs)) refl c.chains (tlids_apart c is)
-        (all_everywhere (λ e. map six_rtsq (packed_sixes e) ≡ up_to (length (packed_sixes e)))
-        (λ e. rtsqs_counted six_rtsq (make_6 e) (λ piece. refl) e.1.ranges) c.chains) tlid);
+        (full_pieces 5 (length e.1.feats) e.1.feats (omega arith) (omega arith))) _ (fours c is);
+    two_rtsqs = in_group two_tlid packed_twos two_own (λ xs. map two_rtsq xs ≡ up_to (length xs)) refl
+        (λ e. rtsqs_counted two_rtsq (make_2 e) (λ piece. refl) (in_pieces 10 (inner_points e.1.points))) _ (twos c is);
+    four_rtsqs = in_group four_tlid packed_fours four_own (λ xs. map four_rtsq xs ≡ up_to (length xs)) refl
+        (λ e. rtsqs_counted four_rtsq (make_4 e) (λ piece. refl) (in_pieces 5 e.1.feats)) _ (fours c is);
+    six_rtsqs = in_group six_tlid packed_sixes six_own (λ xs. map six_rtsq xs ≡ up_to (length xs)) refl
+        (λ e. rtsqs_counted six_rtsq (make_6 e) (λ piece. refl) e.1.ranges) _ (sixes c is);
   }
 
   -- The packing of an arranged county is an arranged list.

@@ -1,18 +1,17 @@
 -- The renaming of an arrangement carries the county onto the arranged county.
-use Rattle.std.proofs.Common.{◌≡◌, ℕ, List, map, flat_map, length, Bool}
-use Rattle.std.proofs.Common.{Option, IsTrue, sym, refl, ap, ◌∙◌, subst, nat_cmp, IsPermutation}
-use Rattle.tl_number.proofs.Common.{AllByRecursion, AllKeysStandIn, Among, Arrangement, Arranges, Body5, Body7, BodyP, Carries, Chain}
-use Rattle.tl_number.proofs.Common.{County, IsApart, IsCounty, IsPermutation-map, IsPermutation-sym, IsPermutation-trans, Known, PolygonKey}
-use Rattle.tl_number.proofs.Common.{all_among, all_everywhere, all_joined, all_known, all_map, all_uses, among-map, among-permutation}
-use Rattle.tl_number.proofs.Common.{among-unmap, among_known, apart-distinct, apart-permutation, apart-permutation_of, apart_from_sorted}
-use Rattle.tl_number.proofs.Common.{arranged_tlids, carried_chain, carried_landmark, carried_link, carried_name, carried_polygon}
-use Rattle.tl_number.proofs.Common.{chain_nodes, chain_polygons, chains_in_order, entries_of, feats, has_repeat, has_repeat-apart, image}
-use Rattle.tl_number.proofs.Common.{images-lefts, in_order, in_order-is_permutation, key_cmp, key_keys, known-distinct}
-use Rattle.tl_number.proofs.Common.{known-permutation_to, known_all, known_is_among, landmark_key, landmark_key_cmp, landmarks_in_order}
-use Rattle.tl_number.proofs.Common.{lands, lefts, length-map, link_cmp, links_relinked, lt-ltb, ltb-true, map-map, name_key, name_key_cmp}
-use Rattle.tl_number.proofs.Common.{names_in_order, nat_keys, new_keys, nodes, nodes_along, nodes_in_order, numbered, on, placed}
-use Rattle.tl_number.proofs.Common.{polygon_keys, polygons_along, polygons_in_order, rights, rights-numbered_from, stands_in, times, tlids}
-use Rattle.tl_number.proofs.Common.{turned_if, turned_tlids, under_cenid, up_to}
+use Rattle.tl_number.proofs.Common.{◌≡◌, ℕ, List, map, flat_map, length, Bool, Option, IsTrue, Ordering, sym, refl, ap, ◌∙◌, subst, nat_cmp}
+use Rattle.tl_number.proofs.Common.{IsPermutation, AllByRecursion, AllKeysStandIn, Among, Arrangement, Arranges, Body5, Body7, BodyP}
+use Rattle.tl_number.proofs.Common.{Carries, Chain, County, IsApart, IsCounty, IsKeyOrder, IsPermutation-map, IsPermutation-sym}
+use Rattle.tl_number.proofs.Common.{IsPermutation-trans, Known, PolygonKey, all_among, all_everywhere, all_joined, all_known, all_map}
+use Rattle.tl_number.proofs.Common.{all_uses, among-map, among-permutation, among-unmap, among_known, apart-distinct, apart-permutation}
+use Rattle.tl_number.proofs.Common.{apart-permutation_of, apart_from_sorted, arranged_tlids, carried_chain, carried_landmark, carried_link}
+use Rattle.tl_number.proofs.Common.{carried_name, carried_polygon, chain_nodes, chain_polygons, chains_in_order, entries_of, feats}
+use Rattle.tl_number.proofs.Common.{has_repeat, has_repeat-apart, image, images-lefts, in_order, in_order-is_permutation, key_cmp, key_keys}
+use Rattle.tl_number.proofs.Common.{known-distinct, known-permutation_to, known_all, known_is_among, landmark_key, landmark_key_cmp}
+use Rattle.tl_number.proofs.Common.{landmarks_in_order, lands, lefts, length-map, link_cmp, links_relinked, lt-ltb, ltb-true, map-map}
+use Rattle.tl_number.proofs.Common.{name_key, name_key_cmp, names_in_order, nat_keys, new_keys, nodes, nodes_along, nodes_in_order}
+use Rattle.tl_number.proofs.Common.{numbered, on, placed, polygon_keys, polygons_along, polygons_in_order, rights, rights-numbered_from}
+use Rattle.tl_number.proofs.Common.{stands_in, times, tlids, turned_if, turned_tlids, under_cenid, up_to}
 use Rattle.std.proofs.lemmas.List.Sorted.{IsPermutation-refl}
 use Rattle.tl_county.specs.Renumbering.{NumbersArePaired}
 use Rattle.ordered_lists.specs.Pairs.{ArePaired}
@@ -74,44 +73,42 @@ module _ (county : County) (arrangement : Arrangement) (is : IsCounty county) (a
       (subst (Among (turned_if s.0.1 e.1)) (sym (rights-numbered_from 1 bodies)) body) in
       (entry.0, entry.1, (s.0.1, sym entry.2))
 
-  -- the nodes and polygons along the placed chains are those along the county's
+  -- keys of chains that a turn keeps: those along the placed chains are those along the county's
+  module _ {K : Type 0} {cmp : K → K → Ordering} (o : IsKeyOrder cmp) (keys : Chain → List K)
+      (turned : (k : K) (b : Bool) (c : Chain) → Among k (keys c) → Among k (keys (turned_if b c)))
+      (unturned : (k : K) (b : Bool) (c : Chain) → Among k (keys (turned_if b c)) → Among k (keys c))
+    where
+      abbrev along : List (ℕ × Chain) → List K
+      along chains = flat_map (λ (x : ℕ × Chain). keys x.1) chains
+
+      keys_from_placed : (k : K) → Known cmp (along (placed county arrangement)) k → Known cmp (along county.chains) k
+      keys_from_placed k l =
+          let entry = among-unpieces (λ (x : ℕ × Chain). keys x.1) k (placed county arrangement)
+          (known_is_among o k (along (placed county arrangement)) l) in
+          let e = from_placed entry.0 entry.1 in
+          among_known o k (along county.chains) (among-pieces (λ (x : ℕ × Chain). keys x.1) e.0 k county.chains e.1
+          (unturned k e.2.0 e.0.1 (subst (λ c. Among k (keys c)) e.2.1 entry.2)))
+
+      keys_to_placed : (k : K) → Known cmp (along county.chains) k → Known cmp (along (placed county arrangement)) k
+      keys_to_placed k l =
+          let e = among-unpieces (λ (x : ℕ × Chain). keys x.1) k county.chains (known_is_among o k (along county.chains) l) in
+          let entry = to_placed e.0 e.1 in
+          among_known o k (along (placed county arrangement)) (among-pieces (λ (x : ℕ × Chain). keys x.1) entry.0 k (placed county arrangement) entry.1
+          (subst (λ c. Among k (keys c)) (sym entry.2.1) (turned k entry.2.0 e.0.1 e.2)))
+
   pub nodes_from_placed : (n : ℕ) → Known nat_cmp (nodes_along (placed county arrangement)) n → Known nat_cmp (nodes_along county.chains) n
-  nodes_from_placed n k =
-      let entry = among-unpieces (λ (x : ℕ × Chain). chain_nodes x.1) n (placed county arrangement)
-      (known_is_among nat_keys n (nodes_along (placed county arrangement)) k) in
-      let e = from_placed entry.0 entry.1 in
-      among_known nat_keys n (nodes_along county.chains)
-      (among-pieces (λ (x : ℕ × Chain). chain_nodes x.1) e.0 n county.chains e.1
-      (nodes-unturned n e.2.0 e.0.1 (subst (λ c. Among n (chain_nodes c)) e.2.1 entry.2)))
+  nodes_from_placed = keys_from_placed nat_keys chain_nodes nodes-turned nodes-unturned
 
   pub nodes_to_placed : (n : ℕ) → Known nat_cmp (nodes_along county.chains) n → Known nat_cmp (nodes_along (placed county arrangement)) n
-  nodes_to_placed n k =
-      let e = among-unpieces (λ (x : ℕ × Chain). chain_nodes x.1) n county.chains
-      (known_is_among nat_keys n (nodes_along county.chains) k) in
-      let entry = to_placed e.0 e.1 in
-      among_known nat_keys n (nodes_along (placed county arrangement))
-      (among-pieces (λ (x : ℕ × Chain). chain_nodes x.1) entry.0 n (placed county arrangement) entry.1
-      (subst (λ c. Among n (chain_nodes c)) (sym entry.2.1) (nodes-turned n entry.2.0 e.0.1 e.2)))
+  nodes_to_placed = keys_to_placed nat_keys chain_nodes nodes-turned nodes-unturned
 
   pub polygons_from_placed : (k : PolygonKey) → Known key_cmp (polygons_along (placed county arrangement)) k
       → Known key_cmp (polygons_along county.chains) k
-  polygons_from_placed k l =
-      let entry = among-unpieces (λ (x : ℕ × Chain). chain_polygons x.1) k (placed county arrangement)
-      (known_is_among key_keys k (polygons_along (placed county arrangement)) l) in
-      let e = from_placed entry.0 entry.1 in
-      among_known key_keys k (polygons_along county.chains)
-      (among-pieces (λ (x : ℕ × Chain). chain_polygons x.1) e.0 k county.chains e.1
-      (polygons-unturned k e.2.0 e.0.1 (subst (λ c. Among k (chain_polygons c)) e.2.1 entry.2)))
+  polygons_from_placed = keys_from_placed key_keys chain_polygons among-turned polygons-unturned
 
   pub polygons_to_placed : (k : PolygonKey) → Known key_cmp (polygons_along county.chains) k
       → Known key_cmp (polygons_along (placed county arrangement)) k
-  polygons_to_placed k l =
-      let e = among-unpieces (λ (x : ℕ × Chain). chain_polygons x.1) k county.chains
-      (known_is_among key_keys k (polygons_along county.chains) l) in
-      let entry = to_placed e.0 e.1 in
-      among_known key_keys k (polygons_along (placed county arrangement))
-      (among-pieces (λ (x : ℕ × Chain). chain_polygons x.1) entry.0 k (placed county arrangement) entry.1
-      (subst (λ c. Among k (chain_polygons c)) (sym entry.2.1) (among-turned k entry.2.0 e.0.1 e.2)))
+  polygons_to_placed = keys_to_placed key_keys chain_polygons among-turned polygons-unturned
 
   -- the renaming and the arranged county, component by component
   pub chains_renamed : (renaming_of county arrangement).chains ≡ numbered (arranged_tlids arrangement)

@@ -1,22 +1,19 @@
 -- The chains of an arrangement, in their new order and direction and with their new numbers.
-use Rattle.std.proofs.Common.{◌≡◌, ◌⊎◌, ◌≤◌, ℕ, zero, suc, nat_lt, List, [], ◌∷◌, ◌++◌, map, filter, flat_map}
-use Rattle.std.proofs.Common.{length, Bool, true, false, cond, is_eq, sym, refl, ap, ap₂, ◌∙◌, subst, inl, inr, arith}
-use Rattle.std.proofs.Common.{nat_cmp, IsPermutation}
-use Rattle.tl_number.proofs.Common.{AllByRecursion, Arrangement, Arranges, Chain, County, IsApart, IsCounty, Known, PolygonKey, Renumbering}
-use Rattle.tl_number.proofs.Common.{all_weaker, apart-permutation, apart_from_sorted, apart_tail, arranged_tlids, carried_chain}
-use Rattle.tl_number.proofs.Common.{chains_in_order, entries_of, image, images-lefts, key_cmp, key_keys, keys_known, known-here}
-use Rattle.tl_number.proofs.Common.{known-permutation, known-permutation_to, known_cases, length-map, lt-ltb, map-append, map-map}
-use Rattle.tl_number.proofs.Common.{map_agree_all, nat_keys, numbered, numbered_from, placed, renumbered, rights-numbered_from, same_or_not}
-use Rattle.tl_number.proofs.Common.{stands_in, times, times-no, times-of_number, times-yes, tlids, turned_if, turned_tlids, turns}
-use Rattle.tl_number.proofs.Common.{under_cenid, up_to}
-use Rattle.ordered_lists.proofs.ByKey.Keys.{known-later, image-yes, image-no}
+use Rattle.tl_number.proofs.Common.{◌≡◌, ◌⊎◌, ◌≤◌, ℕ, zero, suc, nat_lt, List, [], ◌∷◌, ◌++◌, map, filter, flat_map, length, Bool, true}
+use Rattle.tl_number.proofs.Common.{false, cond, is_eq, sym, refl, ap, ap₂, ◌∙◌, subst, inl, inr, arith, nat_cmp, IsPermutation}
+use Rattle.tl_number.proofs.Common.{AllByRecursion, Arrangement, Arranges, Chain, County, IsApart, IsCounty, Known, Renumbering, all_weaker}
+use Rattle.tl_number.proofs.Common.{apart-permutation, apart_from_sorted, apart_tail, arranged_tlids, carried_chain, chains_in_order}
+use Rattle.tl_number.proofs.Common.{entries_of, image, images-lefts, keys_known, known-here, known-permutation, known-permutation_to}
+use Rattle.tl_number.proofs.Common.{known_cases, length-map, lt-ltb, map-append, map-map, map_agree_all, nat_keys, numbered, numbered_from}
+use Rattle.tl_number.proofs.Common.{placed, renumbered, rights-numbered_from, same_or_not, stands_in, times, times-no, times-of_number}
+use Rattle.tl_number.proofs.Common.{times-yes, tlids, turned_if, turned_tlids, turns, up_to}
+use Rattle.ordered_lists.proofs.ByKey.Keys.{known-later}
 use Rattle.ordered_lists.proofs.ByKey.Keys.{differ}
 use Rattle.tl_county.proofs.Lists.OfNumber.{of_number-all}
 use Rattle.ordered_lists.proofs.ByKey.Numbers.{only_one}
 use Rattle.tl_county.proofs.Lists.OfNumber.{groups-permutation}
-use Rattle.tl_number.proofs.Lists.Counting.{entries_equal}
+use Rattle.tl_number.proofs.Lists.Counting.{entries_equal, flat_map-map}
 use Rattle.tl_county.proofs.Packing.Pieces.{lefts-numbered_from}
-use Rattle.tl_number.proofs.Numbering.FirstSeen.{place_from, place-here, place-later}
 use Rattle.tl_number.proofs.Unique.SameNumbers.{kept_entry}
 
 -- numbered keys as pairs
@@ -27,50 +24,6 @@ lefts-numbered {K} keys = map-map (λ (pair : K × ℕ). pair.0) (λ (entry : �
 pub rights-numbered : {K : Type 0} (keys : List K) → map (λ (pair : K × ℕ). pair.1) (numbered keys) ≡ up_to (length keys)
 rights-numbered {K} keys = map-map (λ (pair : K × ℕ). pair.1) (λ (entry : ℕ × K). (entry.1, entry.0)) (numbered_from 1 keys)
     ∙ lefts-numbered_from 1 keys
-
-numbers_are_places : (i : ℕ) (keys : List ℕ) (k : ℕ) → Known nat_cmp keys k
-    → image nat_cmp (map (λ (entry : ℕ × ℕ). (entry.1, entry.0)) (numbered_from i keys)) k ≡ place_from nat_keys i keys k
-numbers_are_places i [] k h = absurd (omega (arith, h))
-numbers_are_places i (x ∷ xs) k h = go (known_cases nat_keys k x xs h) (numbers_are_places (suc i) xs k)
-  where
-    go : (k ≡ x) ⊎ (Known nat_cmp xs k × (is_eq (nat_cmp k x) ≡ false))
-        → (Known nat_cmp xs k
-        → image nat_cmp (map (λ (entry : ℕ × ℕ). (entry.1, entry.0)) (numbered_from (suc i) xs)) k ≡ place_from nat_keys (suc i) xs k)
-        → image nat_cmp ((x, i) ∷ map (λ (entry : ℕ × ℕ). (entry.1, entry.0)) (numbered_from (suc i) xs)) k ≡ place_from nat_keys i
-        (x ∷ xs) k
-    go (inl e) ih = image-yes nat_keys (x, i) (map (λ (entry : ℕ × ℕ). (entry.1, entry.0)) (numbered_from (suc i) xs)) k e
-        ∙ sym (place-here nat_keys i x xs k e)
-    go (inr l) ih = image-no nat_keys (x, i) (map (λ (entry : ℕ × ℕ). (entry.1, entry.0)) (numbered_from (suc i) xs)) k l.1 ∙ ih l.0
-        ∙ sym (place-later nat_keys i x xs k l.1)
-
--- the new number of a number is its place
-pub image-numbered : (keys : List ℕ) (k : ℕ) → Known nat_cmp keys k → image nat_cmp (numbered keys) k ≡ place_from nat_keys 1 keys k
-image-numbered keys k h = numbers_are_places 1 keys k h
-
-keys_are_places : (i : ℕ) (keys : List PolygonKey) (k : PolygonKey) → Known key_cmp keys k
-    → image key_cmp (map under_cenid (map (λ (entry : ℕ × PolygonKey). (entry.1, entry.0)) (numbered_from i keys))) k ≡
-    (k.0, place_from key_keys i keys k)
-keys_are_places i [] k h = absurd (omega (arith, h))
-keys_are_places i (x ∷ xs) k h = go (known_cases key_keys k x xs h) (keys_are_places (suc i) xs k)
-  where
-    go : (k ≡ x) ⊎ (Known key_cmp xs k × (is_eq (key_cmp k x) ≡ false))
-        → (Known key_cmp xs k
-        → image key_cmp (map under_cenid (map (λ (entry : ℕ × PolygonKey). (entry.1, entry.0)) (numbered_from (suc i) xs))) k ≡
-        (k.0, place_from key_keys (suc i) xs k))
-        → image key_cmp
-        ((x, (x.0, i)) ∷ map under_cenid (map (λ (entry : ℕ × PolygonKey). (entry.1, entry.0)) (numbered_from (suc i) xs))) k ≡
-        (k.0, place_from key_keys i (x ∷ xs) k)
-    go (inl e) ih = image-yes key_keys (x, (x.0, i))
-        (map under_cenid (map (λ (entry : ℕ × PolygonKey). (entry.1, entry.0)) (numbered_from (suc i) xs))) k e
-        ∙ (λ j. ((sym e j).0, sym (place-here key_keys i x xs k e) j))
-    go (inr l) ih = image-no key_keys (x, (x.0, i))
-        (map under_cenid (map (λ (entry : ℕ × PolygonKey). (entry.1, entry.0)) (numbered_from (suc i) xs))) k l.1 ∙ ih l.0
-        ∙ (λ j. (k.0, sym (place-later key_keys i x xs k l.1) j))
-
--- the new key of a polygon is its CENID with its place
-pub image-under_cenid : (keys : List PolygonKey) (k : PolygonKey) → Known key_cmp keys k
-    → image key_cmp (map under_cenid (numbered keys)) k ≡ (k.0, place_from key_keys 1 keys k)
-image-under_cenid keys k h = keys_are_places 1 keys k h
 
 -- the chains that an arrangement turns
 pub turned_known : (arrangement : Arrangement) (k : ℕ) → Known nat_cmp (turned_tlids arrangement) k → Known nat_cmp (arranged_tlids arrangement) k
@@ -152,10 +105,6 @@ turns_as_stated (s ∷ arrangement) a = (
       apart_others ts (λ k l. h k (known-later nat_keys k t.0 (arranged_tlids ts) l)),
     )
 
-flat_map-map : {X Y Z : Type 0} (f : Y → List Z) (g : X → Y) (xs : List X) → flat_map f (map g xs) ≡ flat_map (λ x. f (g x)) xs
-flat_map-map f g [] = refl
-flat_map-map f g (x ∷ xs) = ap (λ zs. f (g x) ++ zs) (flat_map-map f g xs)
-
 module _ (county : County) (arrangement : Arrangement) (is : IsCounty county) (arranges : Arranges arrangement county) where
   pub arrangement_apart : IsApart nat_cmp (arranged_tlids arrangement)
   arrangement_apart = apart-permutation nat_keys (arranged_tlids arrangement) (tlids county) arranges
@@ -182,7 +131,7 @@ module _ (county : County) (arrangement : Arrangement) (is : IsCounty county) (a
       (of_number-all (λ (entry : ℕ × Chain). entry.0) n county.chains) in
       (one.0, one.1, all.0)
 
-  arrangement_known : AllByRecursion (λ (s : ℕ × Bool). Known nat_cmp (tlids county) s.0) arrangement
+  pub arrangement_known : AllByRecursion (λ (s : ℕ × Bool). Known nat_cmp (tlids county) s.0) arrangement
   arrangement_known = all_weaker (λ (s : ℕ × Bool). Known nat_cmp (arranged_tlids arrangement) s.0) (λ s. Known nat_cmp (tlids county) s.0)
       (λ s k. known-permutation_to nat_keys s.0 (arranged_tlids arrangement) (tlids county) arranges k) arrangement (keys_known nat_keys arrangement)
 

@@ -1,14 +1,13 @@
 -- A county within its limits is small enough for places of 32 bits.
-use Rattle.std.proofs.Common.{◌≡◌, ◌*◌, ◌^◌, ◌<◌, ◌≤◌, ℕ, List, [], ◌∷◌, map, filter, flat_map, length, IsTrue, Ordering, is_eq}
-use Rattle.std.proofs.Common.{sym, subst, arith}
-use Rattle.tl_number.proofs.Common.{AllByRecursion, AllKeysStandIn, Among, Body7, BodyP, Chain, County, IsApart, IsCounty, IsKeyOrder}
-use Rattle.tl_number.proofs.Common.{IsWithinLimits, PolygonKey, all_weaker, apart_from_sorted, by_type_of, chain_polygons, key_keys}
-use Rattle.tl_number.proofs.Common.{known_is_among, length-map, ltb-true, most_records, packed, packed_by_type, packed_five, packed_one}
-use Rattle.tl_number.proofs.Common.{packed_sevens, polygon_keys, polygons_along, same-itself, stands_in, times, to_filter}
+use Rattle.tl_number.proofs.Common.{◌≡◌, ◌*◌, ◌^◌, ◌<◌, ◌≤◌, ℕ, List, [], ◌∷◌, map, filter, flat_map, length, IsTrue, Ordering, is_eq}
+use Rattle.tl_number.proofs.Common.{subst, arith, AllByRecursion, AllKeysStandIn, Among, BodyP, Chain, County, IsApart, IsCounty}
+use Rattle.tl_number.proofs.Common.{IsKeyOrder, IsWithinLimits, PolygonKey, all_weaker, apart_from_sorted, by_type_of, chain_polygons}
+use Rattle.tl_number.proofs.Common.{key_keys, known_is_among, length-map, ltb-true, most_records, packed, packed_by_type, packed_five}
+use Rattle.tl_number.proofs.Common.{packed_one, packed_sevens, polygon_keys, polygons_along, same-itself, stands_in, times, to_filter}
 use Rattle.std.specs.Prelude.{Option}
 use Rattle.ordered_lists.proofs.Lists.Counted.{few_in_groups}
 use Rattle.tl_county.specs.Laws.TypeCounts.{HasAtMost, by_type_within}
-use Rattle.tl_number.proofs.Arrangements.ArrangedNumbers.{few_polygons, long_joined, short_joined}
+use Rattle.tl_number.proofs.Arrangements.ArrangedNumbers.{few_landmarks, long_joined, short_joined, two_polygons}
 
 -- the places of chains, names, polygons and landmarks fit into 32 bits
 pub record FitsPlaces (county : County) : Type 0 where
@@ -41,13 +40,9 @@ places_fit county is within sides =
     let ones : length (map packed_one county.chains) ≤ most_records = counts.of_type_1 in
     let fives : length (map packed_five county.names) ≤ most_records = counts.of_type_5 in
     let sevens : length (flat_map packed_sevens county.landmarks) ≤ most_records = counts.of_type_7 in
-    let lands : length county.landmarks ≤ length (flat_map packed_sevens county.landmarks) =
-    long_joined packed_sevens county.landmarks
-    (all_weaker (λ (e : ℕ × List Body7). 1 ≤ length e.1) (λ e. 1 ≤ length (packed_sevens e))
-    (λ e one. subst (λ n. 1 ≤ n) (sym (length-map e.1 (λ body. record { land = e.0; body = body }))) one)
-    county.landmarks is.whole.bodies) in
+    let lands = few_landmarks county is in
     let along : length (polygons_along county.chains) ≤ 2 * length county.chains =
-    short_joined (λ (e : ℕ × Chain). chain_polygons e.1) few_polygons county.chains in
+    short_joined (λ (e : ℕ × Chain). chain_polygons e.1) two_polygons county.chains in
     let keys : length (polygon_keys county) ≤ length (polygons_along county.chains) =
     few_known key_keys (polygon_keys county) (polygons_along county.chains)
     (apart_from_sorted key_keys (polygon_keys county) is.ascending.polygons) sides in

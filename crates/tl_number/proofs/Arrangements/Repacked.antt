@@ -1,13 +1,11 @@
 -- A canonical list of records is the packing of its county: chains, names and landmarks.
-use Rattle.std.proofs.Common.{◌≡◌, ℕ, ◌==◌, List, [], ◌∷◌, ◌++◌, map, flat_map, length, false, is_gt, sym, refl, ap, ap₂, ◌∙◌}
-use Rattle.std.proofs.Common.{subst, arith, nat_cmp, map-id}
-use Rattle.tl_number.proofs.Common.{AllByRecursion, Chain, Coordinates, Fields2, Fields4, Fields6, Fields7, FieldsI, IsInOrder, IsLinked}
-use Rattle.tl_number.proofs.Common.{IsPacked, Known, Ranges, Record, StandsInOrder, all_known, all_unmap, in_order, in_order-map, in_pieces}
-use Rattle.tl_number.proofs.Common.{known-distinct, landmark_body_cmp, last_point, lt-ltb, ltb-true, map-append, map-map, map_agree_all}
-use Rattle.tl_number.proofs.Common.{nat_cmp_total, nat_keys, numbered_from, of_number, on, packed_five, packed_fours, packed_i, packed_one}
-use Rattle.tl_number.proofs.Common.{packed_sevens, packed_sixes, packed_twos, stands_in, strict_from_order, then_cmp, tied_itself, times}
-use Rattle.tl_number.proofs.Common.{up_to}
-use Rattle.std.specs.List.Sorted.{IsStrictlySortedBy}
+use Rattle.tl_number.proofs.Common.{AreFull, ◌≤◌, ◌≡◌, ℕ, ◌==◌, List, [], ◌∷◌, ◌++◌, map, flat_map, length, sym, refl, ap, ap₂, ◌∙◌, subst}
+use Rattle.tl_number.proofs.Common.{arith, nat_cmp, map-id, AllByRecursion, Chain, Coordinates, Fields2, Fields4, Fields6, Fields7, FieldsI}
+use Rattle.tl_number.proofs.Common.{IsInOrder, IsLinked, IsPacked, IsStrictlySortedBy, Known, Ranges, Record, StandsInOrder, all_known}
+use Rattle.tl_number.proofs.Common.{all_unmap, in_order, in_order-map, in_pieces, known-distinct, landmark_body_cmp, last_point, lt-ltb}
+use Rattle.tl_number.proofs.Common.{ltb-true, map-append, map-map, map_agree_all, nat_keys, numbered_from, of_number, on, packed_five}
+use Rattle.tl_number.proofs.Common.{packed_fours, packed_i, packed_one, packed_sevens, packed_sixes, packed_twos, stands_in}
+use Rattle.tl_number.proofs.Common.{strict_from_order, then_cmp, times, up_to}
 use Rattle.tl_layout.specs.Fields.{Fields1, Fields5}
 use Rattle.tl_layout.specs.ByType.{of_type_1, of_type_2, of_type_4, of_type_5, of_type_6, of_type_7, of_type_i}
 use Rattle.tl_county.specs.County.{one_tlid, two_tlid, two_rtsq, four_tlid, four_rtsq, five_feat, six_tlid, six_rtsq, seven_land}
@@ -23,8 +21,8 @@ use Rattle.tl_county.proofs.Lists.OfNumber.{of_number-all}
 use Rattle.ordered_lists.proofs.ByKey.Numbers.{distinct-strict}
 use Rattle.tl_number.specs.Canonical.{seven_cmp}
 use Rattle.tl_county.specs.Packing.{without_last}
-use Rattle.tl_number.proofs.Lists.Counting.{up_to-strict}
-use Rattle.tl_number.proofs.Lists.Grouping.{in_order-weaker, then-first, then-second, in_order-filter, grouped, pieces-joined, rtsqs-back}
+use Rattle.tl_number.proofs.Lists.Counting.{flat_map-map, up_to-strict}
+use Rattle.tl_number.proofs.Lists.Grouping.{in_order-weaker, then-first, in_order-filter, parts_in_order, grouped, pieces-joined, rtsqs-back}
 
 -- the points between the ends, and the last one
 inner_back : (s : Coordinates) (ps : List Coordinates) (e : Coordinates) → without_last (ps ++ (e ∷ [])) ≡ ps
@@ -39,10 +37,6 @@ last_back s (p ∷ ps) e = last_back p ps e
 flat_map-agree : {X Y : Type 0} (f g : X → List Y) → ((x : X) → f x ≡ g x) → (xs : List X) → flat_map f xs ≡ flat_map g xs
 flat_map-agree f g h [] = refl
 flat_map-agree f g h (x ∷ xs) = ap₂ (λ ys zs. ys ++ zs) (h x) (flat_map-agree f g h xs)
-
-flat_map-map : {X Y Z : Type 0} (f : Y → List Z) (g : X → Y) (xs : List X) → flat_map f (map g xs) ≡ flat_map (λ x. f (g x)) xs
-flat_map-map f g [] = refl
-flat_map-map f g (x ∷ xs) = ap (λ ys. f (g x) ++ ys) (flat_map-map f g xs)
 
 -- In a linked list each type 1 record has one type I record, and the chains are the type 1 records with their type I records.
 module _ (records : List Record) (linked : IsLinked records) where
@@ -142,15 +136,30 @@ module _ (records : List Record) (linked : IsLinked records) where
     joined_pieces : {X Y : Type 0} (f : X → List Y) (xs : List X) → flat_map f xs ≡ flat_map (λ l. l) (map f xs)
     joined_pieces f xs = sym (flat_map-map (λ l. l) f xs)
 
+    -- contents in pieces are those of the records with a TLID
+    contents_back : {X Y : Type 0} (width : ℕ) → 1 ≤ width → (rtsq : X → ℕ) (content : X → List Y) (rs : List X)
+        → map rtsq rs ≡ up_to (length rs) → AreFull width (map content rs)
+        → in_pieces width (flat_map content (in_order (on rtsq nat_cmp) rs)) ≡ map content rs
+    contents_back width one rtsq content rs counted full_pieces =
+        ap (in_pieces width) (ap (flat_map content) (rtsq_order rtsq rs counted) ∙ joined_pieces content rs)
+        ∙ pieces-joined width one (map content rs) full_pieces (length (flat_map (λ l. l) (map content rs))) (omega arith)
+
     two_pieces : (n : ℕ) → in_pieces 10 (shape_points records n) ≡ map (λ (r : Fields2). r.points)
         (of_number two_tlid n (of_type_2 records))
-    two_pieces n =
-        let rs : List Fields2 = of_number two_tlid n (of_type_2 records) in
-        let e : shape_points records n ≡ flat_map (λ l. l) (map (λ (r : Fields2). r.points) rs) =
-        ap (flat_map (λ (r : Fields2). r.points)) (rtsq_order two_rtsq rs (full.two_rtsqs n))
-        ∙ joined_pieces (λ (r : Fields2). r.points) rs in
-        ap (in_pieces 10) e ∙ pieces-joined 10 (omega arith) (map (λ (r : Fields2). r.points) rs) (full.points n)
-        (length (flat_map (λ l. l) (map (λ (r : Fields2). r.points) rs))) (omega arith)
+    two_pieces n = contents_back 10 (omega arith) two_rtsq (λ (r : Fields2). r.points) (of_number two_tlid n (of_type_2 records))
+        (full.two_rtsqs n) (full.points n)
+
+    -- the lists of all chains, in records with RTSQs
+    lists_back : {X : Type 0} (pack : ℕ × Chain → List X) (tlid rtsq : X → ℕ) (xs : List X)
+        → ((r : Fields1) (link : FieldsI) → pack (r.tlid, chain_of records r link) ≡ of_number tlid r.tlid xs)
+        → IsInOrder (then_cmp (on tlid nat_cmp) (on rtsq nat_cmp)) xs → AllByRecursion (Known nat_cmp (chain_tlids records)) (map tlid xs)
+        → flat_map pack (chains_of records) ≡ xs
+    lists_back pack tlid rtsq xs each ordered known =
+        ap (flat_map pack) chains_are
+        ∙ each_chain_list pack (λ r. of_number tlid r.tlid xs) each (of_type_1 records) ones_known
+        ∙ by_chain tlid xs (in_order-weaker (then_cmp (on tlid nat_cmp) (on rtsq nat_cmp)) (on tlid nat_cmp)
+        (λ x y. then-first (nat_cmp (tlid x) (tlid y)) (nat_cmp (rtsq x) (rtsq y))) xs ordered)
+        (all_unmap (Known nat_cmp (chain_tlids records)) tlid xs known)
 
     twos_of : (r : Fields1) (link : FieldsI) → packed_twos (r.tlid, chain_of records r link) ≡ of_number two_tlid r.tlid (of_type_2 records)
     twos_of r link =
@@ -163,23 +172,12 @@ module _ (records : List Record) (linked : IsLinked records) where
         (λ q. refl) r.tlid 1 rs (of_number-all two_tlid r.tlid (of_type_2 records)) (full.two_rtsqs r.tlid)
 
     pub twos_back : flat_map packed_twos (chains_of records) ≡ of_type_2 records
-    unfolding chain_entries
-    twos_back =
-        ap (flat_map packed_twos) chains_are
-        ∙ each_chain_list packed_twos (λ r. of_number two_tlid r.tlid (of_type_2 records)) twos_of (of_type_1 records) ones_known
-        ∙ by_chain two_tlid (of_type_2 records) (in_order-weaker (then_cmp (on two_tlid nat_cmp) (on two_rtsq nat_cmp))
-        (on two_tlid nat_cmp) (λ x y. then-first (nat_cmp x.tlid y.tlid) (nat_cmp x.rtsq y.rtsq)) (of_type_2 records) order.of_type_2)
-        (all_unmap (Known nat_cmp (chain_tlids records)) two_tlid (of_type_2 records) (linked_known Two))
+    twos_back = lists_back packed_twos two_tlid two_rtsq (of_type_2 records) twos_of order.of_type_2 (linked_known Two)
 
     four_pieces : (n : ℕ) → in_pieces 5 (further_names records n) ≡ map (λ (r : Fields4). r.feats)
         (of_number four_tlid n (of_type_4 records))
-    four_pieces n =
-        let rs : List Fields4 = of_number four_tlid n (of_type_4 records) in
-        let e : further_names records n ≡ flat_map (λ l. l) (map (λ (r : Fields4). r.feats) rs) =
-        ap (flat_map (λ (r : Fields4). r.feats)) (rtsq_order four_rtsq rs (full.four_rtsqs n))
-        ∙ joined_pieces (λ (r : Fields4). r.feats) rs in
-        ap (in_pieces 5) e ∙ pieces-joined 5 (omega arith) (map (λ (r : Fields4). r.feats) rs) (full.feats n)
-        (length (flat_map (λ l. l) (map (λ (r : Fields4). r.feats) rs))) (omega arith)
+    four_pieces n = contents_back 5 (omega arith) four_rtsq (λ (r : Fields4). r.feats) (of_number four_tlid n (of_type_4 records))
+        (full.four_rtsqs n) (full.feats n)
 
     fours_of : (r : Fields1) (link : FieldsI) → packed_fours (r.tlid, chain_of records r link) ≡ of_number four_tlid r.tlid
         (of_type_4 records)
@@ -190,13 +188,7 @@ module _ (records : List Record) (linked : IsLinked records) where
         (λ q. refl) r.tlid 1 rs (of_number-all four_tlid r.tlid (of_type_4 records)) (full.four_rtsqs r.tlid)
 
     pub fours_back : flat_map packed_fours (chains_of records) ≡ of_type_4 records
-    unfolding chain_entries
-    fours_back =
-        ap (flat_map packed_fours) chains_are
-        ∙ each_chain_list packed_fours (λ r. of_number four_tlid r.tlid (of_type_4 records)) fours_of (of_type_1 records) ones_known
-        ∙ by_chain four_tlid (of_type_4 records) (in_order-weaker (then_cmp (on four_tlid nat_cmp) (on four_rtsq nat_cmp))
-        (on four_tlid nat_cmp) (λ x y. then-first (nat_cmp x.tlid y.tlid) (nat_cmp x.rtsq y.rtsq)) (of_type_4 records) order.of_type_4)
-        (all_unmap (Known nat_cmp (chain_tlids records)) four_tlid (of_type_4 records) (linked_known Four))
+    fours_back = lists_back packed_fours four_tlid four_rtsq (of_type_4 records) fours_of order.of_type_4 (linked_known Four)
 
     sixes_of : (r : Fields1) (link : FieldsI) → packed_sixes (r.tlid, chain_of records r link) ≡ of_number six_tlid r.tlid
         (of_type_6 records)
@@ -208,34 +200,13 @@ module _ (records : List Record) (linked : IsLinked records) where
         (λ q. refl) r.tlid 1 rs (of_number-all six_tlid r.tlid (of_type_6 records)) (full.six_rtsqs r.tlid)
 
     pub sixes_back : flat_map packed_sixes (chains_of records) ≡ of_type_6 records
-    unfolding chain_entries
-    sixes_back =
-        ap (flat_map packed_sixes) chains_are
-        ∙ each_chain_list packed_sixes (λ r. of_number six_tlid r.tlid (of_type_6 records)) sixes_of (of_type_1 records) ones_known
-        ∙ by_chain six_tlid (of_type_6 records) (in_order-weaker (then_cmp (on six_tlid nat_cmp) (on six_rtsq nat_cmp))
-        (on six_tlid nat_cmp) (λ x y. then-first (nat_cmp x.tlid y.tlid) (nat_cmp x.rtsq y.rtsq)) (of_type_6 records) order.of_type_6)
-        (all_unmap (Known nat_cmp (chain_tlids records)) six_tlid (of_type_6 records) (linked_known Six))
+    sixes_back = lists_back packed_sixes six_tlid six_rtsq (of_type_6 records) sixes_of order.of_type_6 (linked_known Six)
 
     pub fives_back : map packed_five (names_of records) ≡ of_type_5 records
     fives_back =
         map-map packed_five (λ (r : Fields5). (r.feat, r.body)) (in_order (on five_feat nat_cmp) (of_type_5 records))
         ∙ map-id (in_order (on five_feat nat_cmp) (of_type_5 records))
         ∙ in_order-itself (on five_feat nat_cmp) (of_type_5 records) order.of_type_5
-
-    -- the bodies of one landmark are in order
-    bodies_order : (n : ℕ) (xs : List Fields7) → AllByRecursion (λ r. r.land ≡ n) xs → IsInOrder seven_cmp xs
-        → IsInOrder landmark_body_cmp (map (λ (r : Fields7). r.body) xs)
-    bodies_order n [] a h = tt
-    bodies_order n (x ∷ xs) a h = (each xs a.1 h.0, bodies_order n xs a.1 h.1)
-      where
-        each : (ys : List Fields7) → AllByRecursion (λ r. r.land ≡ n) ys → AllByRecursion (λ y. is_gt (seven_cmp x y) ≡ false) ys
-            → AllByRecursion (λ b. is_gt (landmark_body_cmp x.body b) ≡ false) (map (λ (r : Fields7). r.body) ys)
-        each [] l g = tt
-        each (y ∷ ys) l g = (
-          then-second (nat_cmp x.land y.land) (landmark_body_cmp x.body y.body) (ap (nat_cmp x.land) (l.0 ∙ sym a.0)
-              ∙ tied_itself nat_cmp_total x.land) g.0,
-          each ys l.1 g.1,
-        )
 
     sevens_of : (n : ℕ) → packed_sevens (
       n,
@@ -247,7 +218,7 @@ module _ (records : List Record) (linked : IsLinked records) where
         let all : AllByRecursion (λ r. r.land ≡ n) rs = of_number-all seven_land n (of_type_7 records) in
         ap (map (λ body. record { land = n; body = body }))
         (in_order-itself landmark_body_cmp (map (λ (r : Fields7). r.body) rs)
-        (bodies_order n rs all (in_order-filter seven_cmp (λ r. r.land == n) (of_type_7 records) order.of_type_7)))
+        (parts_in_order seven_land (λ (r : Fields7). r.body) landmark_body_cmp n rs all (in_order-filter seven_cmp (λ r. r.land == n) (of_type_7 records) order.of_type_7)))
         ∙ map-map (λ body. record { land = n; body = body }) (λ (r : Fields7). r.body) rs
         ∙ map_agree_all (λ (r : Fields7). record { land = n; body = r.body }) (λ r. r) (λ r. r.land ≡ n)
         (λ r e i. record r { land = sym e i }) rs all

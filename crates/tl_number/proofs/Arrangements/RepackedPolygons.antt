@@ -1,13 +1,13 @@
 -- The type P records of an arranged list are its county's polygons, packed; so the whole list is the packing of its county.
-use Rattle.std.proofs.Common.{◌≡◌, ◌⊎◌, ◌≤◌, ℕ, suc, List, [], ◌∷◌, ◌++◌, map, flat_map, filter_map, false}
-use Rattle.std.proofs.Common.{Option, Some, None, IsTrue, Ordering, Less, Equal, Greater, is_gt, is_eq, sym, refl, ap, ◌∙◌}
-use Rattle.std.proofs.Common.{subst, inl, inr, arith, nat_cmp}
-use Rattle.tl_number.proofs.Common.{AllByRecursion, Among, BodyP, FieldsP, IsApart, IsArranged, IsArrangedList, IsInOrder, IsKeyOrder}
-use Rattle.tl_number.proofs.Common.{IsLinked, IsPacked, Known, PolygonKey, Record, StandsInOrder, all_among, among-map, among-unmap}
-use Rattle.tl_number.proofs.Common.{among_known, apart-distinct, apart_tail, cons_option, county_of, in_order, in_order-in_order, key_cmp}
-use Rattle.tl_number.proofs.Common.{key_keys, known-distinct, known-right, known_all, known_is_among, link_cmp, ltb-false, ltb-true}
-use Rattle.tl_number.proofs.Common.{nat_cmp_total, nat_keys, on, on_total, p_polyid, packed, packed_body, packed_by_type, packed_p}
-use Rattle.tl_number.proofs.Common.{polygon_keys, polygons_along, same_or_not, stands_in, times, times-no, times-yes, true≢false}
+use Rattle.tl_number.proofs.Common.{◌≡◌, ◌⊎◌, ◌≤◌, ℕ, suc, List, [], ◌∷◌, ◌++◌, map, flat_map, filter_map, false, Option, Some, None}
+use Rattle.tl_number.proofs.Common.{IsTrue, Ordering, Less, Equal, Greater, is_gt, is_eq, sym, refl, ap, ◌∙◌, subst, inl, inr, arith}
+use Rattle.tl_number.proofs.Common.{nat_cmp, AllByRecursion, Among, BodyP, FieldsP, IsApart, IsArranged, IsArrangedList, IsInOrder}
+use Rattle.tl_number.proofs.Common.{IsKeyOrder, IsLinked, IsPacked, Known, PolygonKey, Record, StandsInOrder, all_among, among-map}
+use Rattle.tl_number.proofs.Common.{among-unmap, among_known, apart-distinct, apart_tail, cons_option, county_of, in_order}
+use Rattle.tl_number.proofs.Common.{in_order-in_order, key_cmp, key_keys, known-distinct, known-right, known_all, known_is_among, link_cmp}
+use Rattle.tl_number.proofs.Common.{ltb-false, ltb-true, nat_cmp_total, nat_keys, on, on_total, p_polyid, packed, packed_body}
+use Rattle.tl_number.proofs.Common.{packed_by_type, packed_p, polygon_keys, polygons_along, same_or_not, stands_in, times, times-no}
+use Rattle.tl_number.proofs.Common.{times-yes, true≢false}
 use Rattle.std.specs.List.Sorted.{IsStrictlySortedBy}
 use Rattle.tl_layout.specs.ByType.{of_type_p, of_type_i, of_type_8}
 use Rattle.tl_county.specs.County.{p_key, side_keys, polygon_body, polygons_of}

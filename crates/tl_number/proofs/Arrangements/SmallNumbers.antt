@@ -1,12 +1,11 @@
 -- Numbers up to the greatest one of a canonical list: in a county, and in the records that it is packed into.
-use Rattle.std.proofs.Common.{◌≡◌, ◌+◌, ◌<◌, ◌≤◌, ℕ, List, map, flat_map, filter_map, length, Option, Some, None}
-use Rattle.std.proofs.Common.{option_to_list, subst, arith, nat_cmp}
-use Rattle.tl_number.proofs.Common.{AllByRecursion, Body5, Body7, BodyP, Chain, County, Eight, Fields2, Fields4, Fields6, Fields7, Fields8}
-use Rattle.tl_number.proofs.Common.{FieldsP, FitsNumbers, Five, Four, I, IsNumber, IsNumberOrNone, One, P, PolygonKey, Ranges, Record}
-use Rattle.tl_number.proofs.Common.{Seven, Six, Two, all-in_order, all_append, all_both, all_everywhere, all_joined, all_left, all_map}
-use Rattle.tl_number.proofs.Common.{all_right, all_weaker, chain_nodes, chain_polygons, in_order, in_pieces, inner_points, key_on}
-use Rattle.tl_number.proofs.Common.{key_under, numbered_from, on, p_polyid, packed, packed_body, packed_five, packed_fours, packed_i}
-use Rattle.tl_number.proofs.Common.{packed_one, packed_p, packed_sevens, packed_sixes, packed_twos}
+use Rattle.tl_number.proofs.Common.{◌≡◌, ◌+◌, ◌<◌, ◌≤◌, ℕ, List, map, flat_map, filter_map, length, Option, Some, None, option_to_list}
+use Rattle.tl_number.proofs.Common.{subst, arith, nat_cmp, AllByRecursion, Body5, Body7, BodyP, Chain, County, Eight, Fields2, Fields4}
+use Rattle.tl_number.proofs.Common.{Fields6, Fields7, Fields8, FieldsP, FitsNumbers, Five, Four, I, IsNumber, IsNumberOrNone, One, P}
+use Rattle.tl_number.proofs.Common.{PolygonKey, Ranges, Record, Seven, Six, Two, all-in_order, all_append, all_both, all_everywhere}
+use Rattle.tl_number.proofs.Common.{all_joined, all_left, all_map, all_right, all_weaker, chain_nodes, chain_polygons, in_order, in_pieces}
+use Rattle.tl_number.proofs.Common.{inner_points, key_on, key_under, numbered_from, on, p_polyid, packed, packed_body, packed_five}
+use Rattle.tl_number.proofs.Common.{packed_fours, packed_i, packed_one, packed_p, packed_sevens, packed_sixes, packed_twos}
 use Rattle.tl_county.specs.Limits.{NumbersFit}
 use Rattle.tl_county.proofs.Packing.Pieces.{all_in_pieces, all_numbered_from}
 use Rattle.ordered_lists.proofs.Lists.Counted.{all_selected}
@@ -102,57 +101,61 @@ p_low key (Some body) r e h =
     some_same : (x y : FieldsP) → Some x ≡ Some y → x ≡ y
     some_same x y e = cc
 
+-- records have small numbers if those of each entry do
+each_entry : {E X : Type 0} (Small : E → Type 0) (wrap : X → Record) (pack : E → List X)
+    → ((entry : E) → Small entry → AllByRecursion (λ x. IsLowRecord (wrap x)) (pack entry)) → (entries : List E) → AllByRecursion Small entries
+    → AllByRecursion IsLowRecord (map wrap (flat_map pack entries))
+each_entry Small wrap pack h entries small = all_map IsLowRecord wrap (flat_map pack entries)
+    (all_joined (λ x. IsLowRecord (wrap x)) pack entries
+    (all_weaker Small (λ entry. AllByRecursion (λ x. IsLowRecord (wrap x)) (pack entry)) h entries small))
+
+one_each : {E X : Type 0} (Small : E → Type 0) (wrap : X → Record) (pack : E → X) → ((entry : E) → Small entry → IsLowRecord (wrap (pack entry)))
+    → (entries : List E) → AllByRecursion Small entries → AllByRecursion IsLowRecord (map wrap (map pack entries))
+one_each Small wrap pack h entries small = all_map IsLowRecord wrap (map pack entries)
+    (all_map (λ x. IsLowRecord (wrap x)) pack entries (all_weaker Small (λ entry. IsLowRecord (wrap (pack entry))) h entries small))
+
 module _ (county : County) (small : NumbersSmall county) where
-  -- records of chains have small numbers if those of each chain do
-  each_chain : {X : Type 0} (wrap : X → Record) (pack : ℕ × Chain → List X)
-      → ((entry : ℕ × Chain) → IsSmall entry.0 → NamesSmall entry.1 → AllByRecursion (λ x. IsLowRecord (wrap x)) (pack entry))
-      → AllByRecursion IsLowRecord (map wrap (flat_map pack county.chains))
-  each_chain wrap pack h = all_map IsLowRecord wrap (flat_map pack county.chains)
-      (all_joined (λ x. IsLowRecord (wrap x)) pack county.chains
-      (all_weaker (λ (entry : ℕ × Chain). IsSmall entry.0 × NamesSmall entry.1)
-      (λ entry. AllByRecursion (λ x. IsLowRecord (wrap x)) (pack entry)) (λ entry s. h entry s.0 s.1) county.chains
-      (all_both (λ (entry : ℕ × Chain). IsSmall entry.0) (λ entry. NamesSmall entry.1) county.chains small.chains small.named)))
+  abbrev IsSmallChain : ℕ × Chain → Type 0
+  IsSmallChain entry = IsSmall entry.0 × NamesSmall entry.1
+
+  small_chains : AllByRecursion IsSmallChain county.chains
+  small_chains = all_both (λ (entry : ℕ × Chain). IsSmall entry.0) (λ entry. NamesSmall entry.1) county.chains small.chains small.named
 
   ones : AllByRecursion IsLowRecord (map One (map packed_one county.chains))
-  ones = all_map IsLowRecord One (map packed_one county.chains)
-      (all_map (λ r. IsLowRecord (One r)) packed_one county.chains
-      (all_weaker (λ (entry : ℕ × Chain). IsSmall entry.0) (λ entry. IsLowRecord (One (packed_one entry)))
-      (λ entry h. (h.1, tt)) county.chains small.chains))
+  ones = one_each (λ (entry : ℕ × Chain). IsSmall entry.0) One packed_one (λ entry h. (h.1, tt)) county.chains small.chains
 
   twos : AllByRecursion IsLowRecord (map Two (flat_map packed_twos county.chains))
-  twos = each_chain Two packed_twos (λ entry h names.
+  twos = each_entry (λ (entry : ℕ × Chain). IsSmall entry.0) Two packed_twos (λ entry h.
       all_map (λ (r : Fields2). IsLowRecord (Two r)) (λ piece. record { tlid = entry.0; rtsq = piece.0; points = piece.1 })
       (numbered_from 1 (in_pieces 10 (inner_points entry.1.points)))
       (all_everywhere (λ _. IsLow entry.0 × Unit {0}) (λ _. (h.1, tt)) (numbered_from 1 (in_pieces 10 (inner_points entry.1.points)))))
+      county.chains small.chains
 
   fours : AllByRecursion IsLowRecord (map Four (flat_map packed_fours county.chains))
-  fours = each_chain Four packed_fours (λ entry h names.
+  fours = each_entry IsSmallChain Four packed_fours (λ entry h.
       all_map (λ (r : Fields4). IsLowRecord (Four r)) (λ piece. record { tlid = entry.0; rtsq = piece.0; feats = piece.1 })
       (numbered_from 1 (in_pieces 5 entry.1.feats))
       (all_weaker (λ (piece : ℕ × List ℕ). (1 ≤ piece.0) × ((piece.0 < 1 + length (in_pieces 5 entry.1.feats)) × AllByRecursion IsLow piece.1))
-      (λ piece. IsLow entry.0 × AllByRecursion IsLow piece.1) (λ piece a. (h.1, a.1.1)) (numbered_from 1 (in_pieces 5 entry.1.feats))
+      (λ piece. IsLow entry.0 × AllByRecursion IsLow piece.1) (λ piece a. (h.0.1, a.1.1)) (numbered_from 1 (in_pieces 5 entry.1.feats))
       (all_numbered_from (AllByRecursion IsLow) 1 (in_pieces 5 entry.1.feats)
-      (all_in_pieces IsLow 5 (length entry.1.feats) entry.1.feats (all_low entry.1.feats names.0)))))
+      (all_in_pieces IsLow 5 (length entry.1.feats) entry.1.feats (all_low entry.1.feats h.1.0)))))
+      county.chains small_chains
 
   fives : AllByRecursion IsLowRecord (map Five (map packed_five county.names))
-  fives = all_map IsLowRecord Five (map packed_five county.names)
-      (all_map (λ r. IsLowRecord (Five r)) packed_five county.names
-      (all_weaker (λ (entry : ℕ × Body5). IsSmall entry.0) (λ entry. IsLowRecord (Five (packed_five entry)))
-      (λ entry h. (h.1, tt)) county.names small.names))
+  fives = one_each (λ (entry : ℕ × Body5). IsSmall entry.0) Five packed_five (λ entry h. (h.1, tt)) county.names small.names
 
   sixes : AllByRecursion IsLowRecord (map Six (flat_map packed_sixes county.chains))
-  sixes = each_chain Six packed_sixes (λ entry h names.
+  sixes = each_entry (λ (entry : ℕ × Chain). IsSmall entry.0) Six packed_sixes (λ entry h.
       all_map (λ (r : Fields6). IsLowRecord (Six r)) (λ (piece : ℕ × Ranges). record { tlid = entry.0; rtsq = piece.0; ranges = piece.1 })
       (numbered_from 1 entry.1.ranges)
       (all_everywhere (λ _. IsLow entry.0 × Unit {0}) (λ _. (h.1, tt)) (numbered_from 1 entry.1.ranges)))
+      county.chains small.chains
 
   sevens : AllByRecursion IsLowRecord (map Seven (flat_map packed_sevens county.landmarks))
-  sevens = all_map IsLowRecord Seven (flat_map packed_sevens county.landmarks)
-      (all_joined (λ (r : Fields7). IsLowRecord (Seven r)) packed_sevens county.landmarks
-      (all_weaker (λ (entry : ℕ × List Body7). IsSmall entry.0)
-      (λ entry. AllByRecursion (λ (r : Fields7). IsLowRecord (Seven r)) (packed_sevens entry))
-      (λ entry h. all_map (λ (r : Fields7). IsLowRecord (Seven r)) (λ body. record { land = entry.0; body = body }) entry.1
-      (all_everywhere (λ _. IsLow entry.0 × Unit {0}) (λ _. (h.1, tt)) entry.1)) county.landmarks small.landmarks))
+  sevens = each_entry (λ (entry : ℕ × List Body7). IsSmall entry.0) Seven packed_sevens (λ entry h.
+      all_map (λ (r : Fields7). IsLowRecord (Seven r)) (λ body. record { land = entry.0; body = body }) entry.1
+      (all_everywhere (λ _. IsLow entry.0 × Unit {0}) (λ _. (h.1, tt)) entry.1))
+      county.landmarks small.landmarks
 
   eights : AllByRecursion IsLowRecord (map Eight county.links)
   eights = all_map IsLowRecord Eight county.links
@@ -170,11 +173,7 @@ module _ (county : County) (small : NumbersSmall county) where
   )
 
   is : AllByRecursion IsLowRecord (map I (map packed_i county.chains))
-  is = all_map IsLowRecord I (map packed_i county.chains)
-      (all_map (λ r. IsLowRecord (I r)) packed_i county.chains
-      (all_weaker (λ (entry : ℕ × Chain). IsSmall entry.0 × NamesSmall entry.1) (λ entry. IsLowRecord (I (packed_i entry)))
-      (λ entry s. i_low entry s.0 s.1) county.chains
-      (all_both (λ (entry : ℕ × Chain). IsSmall entry.0) (λ entry. NamesSmall entry.1) county.chains small.chains small.named)))
+  is = one_each IsSmallChain I packed_i (λ entry s. i_low entry s.0 s.1) county.chains small_chains
 
   ps : AllByRecursion IsLowRecord (map P (in_order (on p_polyid nat_cmp) (filter_map packed_p county.polygons)))
   ps = all_map IsLowRecord P (in_order (on p_polyid nat_cmp) (filter_map packed_p county.polygons))

@@ -1,8 +1,8 @@
 -- Each list of records is accepted or has one refusal. Through each view the canonical lists of two accepted lists have the same
 -- text if the view shows the same map of both counties, and are equal only then.
-use Rattle.std.proofs.Common.{◌≡◌, ◌⊎◌, List, refl, sym, ap, subst, inl, inr}
-use Rattle.tl_number.proofs.Common.{AreSame, County, IsAccepted, IsCanonicalThrough, IsCounty, IsInProfile, IsLinked, IsSight, Record}
-use Rattle.tl_number.proofs.Common.{county-is_county, county_of, plain, same-reflexive, same-symmetric, same-transitive, text_of}
+use Rattle.tl_number.proofs.Common.{◌≡◌, ◌⊎◌, List, refl, sym, ap, subst, inl, inr, AreSame, County, IsAccepted, IsCanonicalThrough}
+use Rattle.tl_number.proofs.Common.{IsCounty, IsInProfile, IsLinked, IsSight, Record, county-is_county, county_of, plain, same-reflexive}
+use Rattle.tl_number.proofs.Common.{same-symmetric, same-transitive, text_of}
 use Rattle.tl_county.specs.LinkRules.{IsFirstBrokenRule}
 use Rattle.tl_county.specs.declared.fault.LinkFault.{LinkFault}
 use Rattle.tl_county.proofs.Rules.LinkFaults.{linked_or_first, linked_has_none, one_first_rule}

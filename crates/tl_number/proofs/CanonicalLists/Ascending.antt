@@ -1,14 +1,12 @@
 -- Counties in the profile: their polygons are on sides, and they have few choices. Each accepted list of records has a canonical
 -- list, the list of a choice of least text.
-use Rattle.std.proofs.Common.{◌≡◌, ◌⊎◌, ◌≤◌, ◌||◌, List, true, Option, IsTrue, is_some, sym, ap, ◌∙◌, subst, inl, inr}
-use Rattle.tl_number.proofs.Common.{AllKeysStandIn, Among, Arrangement, BodyP, County, HasShapesApart, IsAccepted, IsCanonicalThrough}
-use Rattle.tl_number.proofs.Common.{IsCounty, IsInProfile, IsLeastChoice, IsSight, PolygonKey, Record, TooSymmetric, all_among, among-unmap}
+use Rattle.tl_number.proofs.Common.{◌≡◌, ◌⊎◌, ◌≤◌, ◌||◌, List, true, Option, IsTrue, is_some, sym, ap, ◌∙◌, subst, inl, inr, AllKeysStandIn}
+use Rattle.tl_number.proofs.Common.{Among, Arrangement, BodyP, County, HasShapesApart, IsAccepted, IsCanonicalThrough, IsCounty}
+use Rattle.tl_number.proofs.Common.{IsInProfile, IsLeastChoice, IsSight, PolygonKey, Record, TooSymmetric, all_among, among-unmap, arranged}
 use Rattle.tl_number.proofs.Common.{arranged_list, ascending, choices, county-is_county, county_of, each_from, key_cmp, lt-ltb, ltb-false}
-use Rattle.tl_number.proofs.Common.{most_choices, polygon_keys, polygons_along, stands_in, times}
+use Rattle.tl_number.proofs.Common.{most_choices, numbered_choice, polygon_keys, polygons_along, renaming_of, stands_in, times}
 use Rattle.std.proofs.lemmas.Bool.{or_cases}
 use Rattle.tl_profile.proofs.SameProfile.{body_on_side}
-use Rattle.tl_number.specs.Arrangement.{arranged, renaming_of}
-use Rattle.tl_number.specs.Tidy.{numbered_choice}
 use Rattle.tl_number.proofs.Arrangements.Carrying.{arrangement_carries}
 use Rattle.tl_number.proofs.CanonicalLists.OneChoice.{only_choice}
 use Rattle.tl_number.proofs.CanonicalLists.TidyLists.{choice_is_same, least_choice, least_choice_is_canonical, canonical_is_choice, read_back}

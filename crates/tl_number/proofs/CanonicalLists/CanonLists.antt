@@ -1,9 +1,7 @@
 -- A county is canonical exactly if its packing is a canonical list.
-use Rattle.std.proofs.Common.{◌≡◌, sym, subst}
-use Rattle.tl_number.proofs.Common.{AllKeysStandIn, AreSame, Arrangement, County, IsArranged, IsCanonCounty, IsCanonical, IsCounty}
-use Rattle.tl_number.proofs.Common.{IsLeastChoice, IsNotAfter, IsTidy, IsTidyList, county-is_county, county_of, packed, packed_county}
-use Rattle.tl_number.proofs.Common.{polygon_keys, polygons_along}
-use Rattle.tl_number.specs.Arrangement.{arranged}
+use Rattle.tl_number.proofs.Common.{◌≡◌, sym, subst, AllKeysStandIn, AreSame, Arrangement, County, IsArranged, IsCanonCounty, IsCanonical}
+use Rattle.tl_number.proofs.Common.{IsCounty, IsLeastChoice, IsNotAfter, IsTidy, IsTidyList, arranged, county-is_county, county_of, packed}
+use Rattle.tl_number.proofs.Common.{packed_county, polygon_keys, polygons_along}
 use Rattle.tl_number.proofs.Arrangements.ArrangedCounties.{arranged_county}
 use Rattle.tl_number.proofs.Arrangements.ArrangedPacking.{packed_arranged}
 use Rattle.tl_number.proofs.Arrangements.RepackedPolygons.{arranged_list_is_packed}

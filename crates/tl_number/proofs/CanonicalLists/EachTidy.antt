@@ -1,17 +1,16 @@
 -- If a renaming carries a county onto an arranged county, that county is the first one under the arrangement read off the renaming.
-use Rattle.std.proofs.Common.{◌≡◌, ℕ, List, map, length, Bool, true, false, sym, refl, ap, ◌∙◌, subst, nat_cmp, IsPermutation, map-id}
+use Rattle.tl_number.proofs.Common.{◌≡◌, ℕ, List, map, length, Bool, true, false, sym, refl, ap, ◌∙◌, subst, nat_cmp, IsPermutation, map-id}
 use Rattle.tl_number.proofs.Common.{AllByRecursion, AllKeysStandIn, Arrangement, Arranges, Carries, County, IsApart, IsArranged, IsCounty}
 use Rattle.tl_number.proofs.Common.{IsPermutation-map, IsPermutation-sym, IsPermutation-trans, Known, Renumbering, all_unmap}
-use Rattle.tl_number.proofs.Common.{apart-permutation, apart_from_sorted, arranged_tlids, false≢true, image, images-lefts}
+use Rattle.tl_number.proofs.Common.{apart-permutation, apart_from_sorted, arranged, arranged_tlids, false≢true, image, images-lefts}
 use Rattle.tl_number.proofs.Common.{known-permutation, known-permutation_to, known_all, lefts, length-map, map-map, nat_keys, numbered}
-use Rattle.tl_number.proofs.Common.{polygon_keys, polygons_along, rights, stands_in, tlids, turns, up_to}
+use Rattle.tl_number.proofs.Common.{polygon_keys, polygons_along, renaming_of, rights, stands_in, tlids, turns, up_to}
 use Rattle.tl_county.specs.Renumbering.{inverse, then, exactly_one}
 use Rattle.ordered_lists.specs.Pairs.{swapped}
 use Rattle.ordered_lists.proofs.ByKey.Keys.{image-known}
 use Rattle.ordered_lists.proofs.Lists.Elements.{map_itself}
 use Rattle.tl_county.proofs.Sameness.Equivalence.{Follows, there_and_back, inverse_follows, inverse_carries, then_follows}
 use Rattle.tl_county.proofs.Sameness.Equivalence.{then_carries}
-use Rattle.tl_number.specs.Arrangement.{renaming_of, arranged}
 use Rattle.tl_number.proofs.Arrangements.ArrangedCounties.{arranged_county, is_arranged}
 use Rattle.tl_number.proofs.Arrangements.Carrying.{arrangement_carries, chains_renamed, turned_renamed, images-numbered}
 use Rattle.tl_number.proofs.Lists.Counting.{map-equal_all}

@@ -1,11 +1,12 @@
 -- The canonical form of the samples: which lists are canonical, and that the samples are carried onto them.
-use Rattle.std.proofs.Common.{◌≡◌, [], ◌∷◌, refl, ap, arith, lit≤, ◌==◌, slice_index, Bool, true, false, cond, map, length, List}
-use Rattle.tl_number.proofs.Common.{AreFull, AreSame, Fields2, IsArranged, IsCanonical, Renumbering, county_of, packed, true≢false, up_to}
+use Rattle.tl_number.proofs.Common.{◌≡◌, [], ◌∷◌, refl, ap, arith, lit≤, ◌==◌, slice_index, List, AreSame, IsArranged, IsArrangedList}
+use Rattle.tl_number.proofs.Common.{IsCanonical, IsLinked, Record, Renumbering, county-is_county, county_of, packed, subst, true≢false}
 use Rattle.std.proofs.lemmas.List.Sorted.{IsPermutation-refl}
 use Rattle.std.specs.List.Sorted.{IsStrictlySortedBy}
 use Rattle.tl_county.proofs.Rules.LinkFaults.{linked_computed}
 use Rattle.tl_county.proofs.Samples.Counties.{there, canonical_there, canonical_shaped, canonical_polygons, canonical_named}
-use Rattle.tl_county.proofs.Samples.Counties.{canonical_schools, canonical_meeting, points_up}
+use Rattle.tl_county.proofs.Samples.Counties.{canonical_schools, canonical_meeting}
+use Rattle.tl_number.proofs.Arrangements.ArrangedPacking.{packed_arranged}
 use Rattle.tl_number.proofs.CanonicalLists.OneChoice.{strict_is_canonical}
 
 -- the packing of these counties
@@ -24,39 +25,30 @@ packed_named = refl
 pub packed_meeting : packed (county_of canonical_meeting) ≡ canonical_meeting
 packed_meeting = refl
 
+pub packed_polygons : packed (county_of canonical_polygons) ≡ canonical_polygons
+packed_polygons = refl
+
+-- the packing of a county with canonical numbers is an arranged list
+of_numbers : (records : List Record) → IsLinked records → packed (county_of records) ≡ records → IsArranged (county_of records)
+    → IsArrangedList records
+of_numbers records linked same numbers =
+    subst IsArrangedList same (packed_arranged (county_of records) (county-is_county records linked) numbers)
+
 -- one chain
 pub there_is_canonical : IsCanonical canonical_there
 unfolding IsStrictlySortedBy
 there_is_canonical = strict_is_canonical canonical_there
-    (record {
-      linked = linked_computed canonical_there refl;
-      order = record {
-        types = refl;
-        of_type_1 = (tt, tt);
-        of_type_2 = tt;
-        of_type_4 = tt;
-        of_type_5 = tt;
-        of_type_6 = tt;
-        of_type_7 =
-            tt;
-        of_type_8 = tt;
-        of_type_i = (tt, tt);
-        of_type_p = tt;
-      };
-      packed = record { points = λ n. tt; feats = λ n. tt; two_rtsqs = λ n. refl; four_rtsqs = λ n. refl; six_rtsqs = λ n. refl };
-      numbers = record {
-        tlids = refl;
-        feats = refl;
-        lands = refl;
-        nodes = (lit≤ tt, lit≤ tt, (lit≤ tt, lit≤ tt, tt));
-        polygons =
-            tt;
-        one_cenid = tt;
-        on_sides = tt;
-        names = tt;
-        landmarks = tt;
-      };
-    }) (record { directions = (refl, tt); ascending = (tt, tt) })
+    (of_numbers canonical_there (linked_computed canonical_there refl) packed_there (record {
+      tlids = refl;
+      feats = refl;
+      lands = refl;
+      nodes = (lit≤ tt, lit≤ tt, (lit≤ tt, lit≤ tt, tt));
+      polygons = tt;
+      one_cenid = tt;
+      on_sides = tt;
+      names = tt;
+      landmarks = tt;
+    })) (record { directions = (refl, tt); ascending = (tt, tt) })
 
 -- its source isn't canonical: its TLID isn't 1
 pub source_is_not : IsCanonical there → ⊥
@@ -91,101 +83,49 @@ there_is_same = record {
 pub polygons_are_canonical : IsCanonical canonical_polygons
 unfolding IsStrictlySortedBy
 polygons_are_canonical = strict_is_canonical canonical_polygons
-    (record {
-      linked = linked_computed canonical_polygons refl;
-      order = record {
-        types = refl;
-        of_type_1 = (tt, tt);
-        of_type_2 = tt;
-        of_type_4 = tt;
-        of_type_5 = tt;
-        of_type_6 = tt;
-        of_type_7 =
-            tt;
-        of_type_8 = tt;
-        of_type_i = (tt, tt);
-        of_type_p = tt;
-      };
-      packed = record { points = λ n. tt; feats = λ n. tt; two_rtsqs = λ n. refl; four_rtsqs = λ n. refl; six_rtsqs = λ n. refl };
-      numbers = record {
-        tlids = refl;
-        feats = refl;
-        lands = refl;
-        nodes = (lit≤ tt, lit≤ tt, (lit≤ tt, lit≤ tt, tt));
-        polygons = (lit≤ tt, lit≤ tt, (lit≤ tt, lit≤ tt, tt));
-        one_cenid = ((λ e. refl, (λ e. absurd (omega (arith, e)), tt)), ((λ e. absurd (omega (arith, e)), (λ e. refl, tt)), tt));
-        on_sides = (refl, (refl, tt));
-        names = tt;
-        landmarks = tt;
-      };
-    }) (record { directions = (refl, tt); ascending = (tt, tt) })
+    (of_numbers canonical_polygons (linked_computed canonical_polygons refl) packed_polygons (record {
+      tlids = refl;
+      feats = refl;
+      lands = refl;
+      nodes = (lit≤ tt, lit≤ tt, (lit≤ tt, lit≤ tt, tt));
+      polygons = (lit≤ tt, lit≤ tt, (lit≤ tt, lit≤ tt, tt));
+      one_cenid = ((λ e. refl, (λ e. absurd (omega (arith, e)), tt)), ((λ e. absurd (omega (arith, e)), (λ e. refl, tt)), tt));
+      on_sides = (refl, (refl, tt));
+      names = tt;
+      landmarks = tt;
+    })) (record { directions = (refl, tt); ascending = (tt, tt) })
 
 -- two chains that meet
 pub meeting_is_canonical : IsCanonical canonical_meeting
 unfolding IsStrictlySortedBy
 meeting_is_canonical = strict_is_canonical canonical_meeting
-    (record {
-      linked = linked_computed canonical_meeting refl;
-      order = record {
-        types = refl;
-        of_type_1 = ((refl, tt), (tt, tt));
-        of_type_2 = tt;
-        of_type_4 = tt;
-        of_type_5 = tt;
-        of_type_6 =
-            tt;
-        of_type_7 = tt;
-        of_type_8 = tt;
-        of_type_i = ((refl, tt), (tt, tt));
-        of_type_p = tt;
-      };
-      packed = record { points = λ n. tt; feats = λ n. tt; two_rtsqs = λ n. refl; four_rtsqs = λ n. refl; six_rtsqs = λ n. refl };
-      numbers = record {
-        tlids = refl;
-        feats = refl;
-        lands = refl;
-        nodes = (lit≤ tt, lit≤ tt, (lit≤ tt, lit≤ tt, (lit≤ tt, lit≤ tt, (lit≤ tt, lit≤ tt, tt))));
-        polygons = (lit≤ tt, lit≤ tt, (lit≤ tt, lit≤ tt, tt));
-        one_cenid = ((λ e. refl, (λ e. refl, tt)), ((λ e. refl, (λ e. refl, tt)), tt));
-        on_sides = (refl, tt);
-        names = tt;
-        landmarks = tt;
-      };
-    }) (record { directions = (refl, (refl, tt)); ascending = ((refl, tt), (tt, tt)) })
+    (of_numbers canonical_meeting (linked_computed canonical_meeting refl) packed_meeting (record {
+      tlids = refl;
+      feats = refl;
+      lands = refl;
+      nodes = (lit≤ tt, lit≤ tt, (lit≤ tt, lit≤ tt, (lit≤ tt, lit≤ tt, (lit≤ tt, lit≤ tt, tt))));
+      polygons = (lit≤ tt, lit≤ tt, (lit≤ tt, lit≤ tt, tt));
+      one_cenid = ((λ e. refl, (λ e. refl, tt)), ((λ e. refl, (λ e. refl, tt)), tt));
+      on_sides = (refl, tt);
+      names = tt;
+      landmarks = tt;
+    })) (record { directions = (refl, (refl, tt)); ascending = ((refl, tt), (tt, tt)) })
 
 -- landmarks in the order of their bodies, one landmark with two
 pub schools_are_canonical : IsCanonical canonical_schools
 unfolding IsStrictlySortedBy
 schools_are_canonical = strict_is_canonical canonical_schools
-    (record {
-      linked = linked_computed canonical_schools refl;
-      order = record {
-        types = refl;
-        of_type_1 = (tt, tt);
-        of_type_2 = tt;
-        of_type_4 = tt;
-        of_type_5 = tt;
-        of_type_6 = tt;
-        of_type_7 =
-            ((refl, (refl, (refl, tt))), ((refl, (refl, tt)), ((refl, tt), (tt, tt))));
-        of_type_8 = ((refl, tt), (tt, tt));
-        of_type_i =
-            (tt, tt);
-        of_type_p = tt;
-      };
-      packed = record { points = λ n. tt; feats = λ n. tt; two_rtsqs = λ n. refl; four_rtsqs = λ n. refl; six_rtsqs = λ n. refl };
-      numbers = record {
-        tlids = refl;
-        feats = refl;
-        lands = refl;
-        nodes = (lit≤ tt, lit≤ tt, (lit≤ tt, lit≤ tt, tt));
-        polygons = (lit≤ tt, lit≤ tt, (lit≤ tt, lit≤ tt, tt));
-        one_cenid = ((λ e. refl, (λ e. absurd (omega (arith, e)), tt)), ((λ e. absurd (omega (arith, e)), (λ e. refl, tt)), tt));
-        on_sides = (refl, (refl, tt));
-        names = tt;
-        landmarks = ((refl, (refl, tt)), ((refl, tt), (tt, tt)));
-      };
-    }) (record { directions = (refl, tt); ascending = (tt, tt) })
+    (of_numbers canonical_schools (linked_computed canonical_schools refl) packed_schools (record {
+      tlids = refl;
+      feats = refl;
+      lands = refl;
+      nodes = (lit≤ tt, lit≤ tt, (lit≤ tt, lit≤ tt, tt));
+      polygons = (lit≤ tt, lit≤ tt, (lit≤ tt, lit≤ tt, tt));
+      one_cenid = ((λ e. refl, (λ e. absurd (omega (arith, e)), tt)), ((λ e. absurd (omega (arith, e)), (λ e. refl, tt)), tt));
+      on_sides = (refl, (refl, tt));
+      names = tt;
+      landmarks = ((refl, (refl, tt)), ((refl, tt), (tt, tt)));
+    })) (record { directions = (refl, tt); ascending = (tt, tt) })
 
 -- two names with the same content are in the order of their uses
 pub named_are_canonical : IsArranged (county_of (canonical_named (1 ∷ 2 ∷ [])))
@@ -216,59 +156,17 @@ unused_first = record {
 }
 
 -- eleven shape points: ten in the first record, one in the second
-abbrev first_two : Fields2
-first_two = record { tlid = 1; rtsq = 1; points = points_up (1 ∷ 2 ∷ 3 ∷ 4 ∷ 5 ∷ 6 ∷ 7 ∷ 8 ∷ 9 ∷ 10 ∷ []) }
-
-abbrev second_two : Fields2
-second_two = record { tlid = 1; rtsq = 2; points = points_up (11 ∷ []) }
-
-abbrev shaped_twos : Bool → List Fields2
-shaped_twos here = cond here (first_two ∷ cond here (second_two ∷ []) []) (cond here (second_two ∷ []) [])
-
-shaped_full : (here : Bool) → AreFull 10 (map (λ (r : Fields2). r.points) (shaped_twos here))
-shaped_full true = (refl, (lit≤ tt, lit≤ tt))
-shaped_full false = tt
-
-shaped_rtsqs : (here : Bool) → map (λ (r : Fields2). r.rtsq) (shaped_twos here) ≡ up_to (length (shaped_twos here))
-shaped_rtsqs true = refl
-shaped_rtsqs false = refl
-
 pub shaped_is_canonical : IsCanonical canonical_shaped
 unfolding IsStrictlySortedBy
 shaped_is_canonical = strict_is_canonical canonical_shaped
-    (record {
-      linked = linked_computed canonical_shaped refl;
-      order = record {
-        types = refl;
-        of_type_1 = (tt, tt);
-        of_type_2 = ((refl, tt), (tt, tt));
-        of_type_4 = tt;
-        of_type_5 = tt;
-        of_type_6 =
-            tt;
-        of_type_7 = tt;
-        of_type_8 = tt;
-        of_type_i = (tt, tt);
-        of_type_p = tt;
-      };
-      packed = record {
-        points = λ n. shaped_full (1 == n);
-        feats = λ n. tt;
-        two_rtsqs = λ n. shaped_rtsqs (1 == n);
-        four_rtsqs =
-            λ n. refl;
-        six_rtsqs = λ n. refl;
-      };
-      numbers = record {
-        tlids = refl;
-        feats = refl;
-        lands = refl;
-        nodes = (lit≤ tt, lit≤ tt, (lit≤ tt, lit≤ tt, tt));
-        polygons =
-            tt;
-        one_cenid = tt;
-        on_sides = tt;
-        names = tt;
-        landmarks = tt;
-      };
-    }) (record { directions = (refl, tt); ascending = (tt, tt) })
+    (of_numbers canonical_shaped (linked_computed canonical_shaped refl) packed_shaped (record {
+      tlids = refl;
+      feats = refl;
+      lands = refl;
+      nodes = (lit≤ tt, lit≤ tt, (lit≤ tt, lit≤ tt, tt));
+      polygons = tt;
+      one_cenid = tt;
+      on_sides = tt;
+      names = tt;
+      landmarks = tt;
+    })) (record { directions = (refl, tt); ascending = (tt, tt) })

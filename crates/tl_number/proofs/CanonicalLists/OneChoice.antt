@@ -1,20 +1,17 @@
 -- If the shapes of chains are distinct, and none is its own reverse, there is one choice: the ascending arrangement.
-use Rattle.std.proofs.Common.{◌≡◌, ◌<◌, ◌*◌, suc, List, [], ◌∷◌, map, reverse, Bool, false, cond, Ordering, Less, Equal, Greater}
-use Rattle.std.proofs.Common.{is_eq, is_gt, sym, refl, ap, ◌∙◌, subst, arith}
-use Rattle.tl_number.proofs.Common.{AllByRecursion, AreSame, Arrangement, County, HasShapesApart, IsApart, IsArrangedList, IsCanonical}
-use Rattle.tl_number.proofs.Common.{IsChoice, IsCounty, IsKeyOrder, IsLeastChoice, IsNotAfter, IsTidy, IsTidyList, Record, all_map}
-use Rattle.tl_number.proofs.Common.{all_weaker, apart_from_no_repeat, apart_from_sorted, apart_tail, arranged_list, ascending, choices}
-use Rattle.tl_number.proofs.Common.{choices_of_shapes, county-is_county, county_of, entry_points, entry_shape, has_repeat-apart}
-use Rattle.tl_number.proofs.Common.{is_either_way, map_agree_all, points_cmp, points_from, points_keys, running, same-reflexive, shapes}
-use Rattle.tl_number.proofs.Common.{times, times-yes}
-use Rattle.std.specs.List.Sorted.{IsStrictlySortedBy}
+use Rattle.tl_number.proofs.Common.{◌≡◌, ◌<◌, ◌*◌, suc, List, [], ◌∷◌, map, reverse, Bool, false, cond, Ordering, Less, Equal, Greater}
+use Rattle.tl_number.proofs.Common.{is_eq, is_gt, sym, refl, ap, ◌∙◌, subst, arith, AllByRecursion, AreSame, Arrangement, County}
+use Rattle.tl_number.proofs.Common.{HasShapesApart, IsApart, IsArrangedList, IsCanonical, IsChoice, IsCounty, IsKeyOrder, IsNotAfter}
+use Rattle.tl_number.proofs.Common.{IsStrictlySortedBy, IsTidy, IsTidyList, Record, all_map, all_weaker, apart_from_no_repeat}
+use Rattle.tl_number.proofs.Common.{apart_from_sorted, apart_tail, arranged_list, ascending, choices, choices_of_shapes, county-is_county}
+use Rattle.tl_number.proofs.Common.{county_of, entry_points, entry_shape, has_repeat-apart, is_either_way, map_agree_all, numbered_choice}
+use Rattle.tl_number.proofs.Common.{points_cmp, points_from, points_keys, running, same-reflexive, shapes, times, times-yes}
 use Rattle.ordered_lists.proofs.Lists.EntryLists.{in_order-strict}
 use Rattle.ordered_lists.proofs.Lists.InOrder.{strict-unmap}
 use Rattle.tl_number.specs.Strict.{IsStrict}
-use Rattle.tl_number.specs.Tidy.{numbered_choice}
 use Rattle.tl_number.proofs.Choices.AscendingArrangement.{turned_same}
 use Rattle.tl_number.proofs.Lists.SortedPlaces.{in_order-unmap}
-use Rattle.tl_number.proofs.Choices.TidyChoices.{choice_number, first_choice, numbered_is_choice}
+use Rattle.tl_number.proofs.Choices.TidyChoices.{choice_number, first_choice}
 use Rattle.tl_number.proofs.CanonicalLists.TidyLists.{tidy_is_choice, not_after_itself}
 
 running_one : {K : Type 0} {cmp : K → K → Ordering} (o : IsKeyOrder cmp) (either : K → Bool) (ks : List K) → IsApart cmp ks
@@ -36,14 +33,6 @@ only_choice county is h arrangement c =
     let below : found.0 < choices county = found.1 in
     let first : found.0 ≡ 0 = omega (arith, below, one_choice county h) in
     sym found.2 ∙ ap (numbered_choice county) first ∙ first_choice county is
-
--- It therefore has the least text.
-pub only_choice_is_least : (county : County) → IsCounty county → HasShapesApart county → IsLeastChoice county (ascending county)
-only_choice_is_least county is h = record {
-  choice = subst (IsChoice county) (first_choice county is) (numbered_is_choice county is 0);
-  least = λ other c. subst (λ arrangement. IsNotAfter (arranged_list county (ascending county)) (arranged_list county arrangement))
-      (sym (only_choice county is h other c)) (not_after_itself (arranged_list county (ascending county)));
-}
 
 -- points that come before their reverse
 less_cases : (o : Ordering) → o ≡ Less → (is_gt o ≡ false) × (is_eq o ≡ false)

@@ -1,16 +1,13 @@
 -- Tidy counties that are the same map have the same points, chain by chain, and so the same type 2 records.
-use Rattle.std.proofs.Common.{◌≡◌, ◌∙◌, ℕ, List, [], ◌∷◌, map, length, reverse, Bool, true, false, Ordering, Less, Equal, Greater, is_gt}
-use Rattle.std.proofs.Common.{sym, refl, ap, subst}
-use Rattle.tl_number.proofs.Common.{AllKeysStandIn, AreSame, Chain, Coordinates, County, Fields2, IsArranged, IsCounty, IsInOrder, IsTidy}
-use Rattle.tl_number.proofs.Common.{Renumbering, all_map, carried_chain, entry_points, entry_shape, false≢true, in_order-equal, in_pieces}
-use Rattle.tl_number.proofs.Common.{inner_points, least_points, length-map, map-map, map_agree_all, map_agree_everywhere, numbered_from, on}
-use Rattle.tl_number.proofs.Common.{ordering_reverse, packed_twos, points_cmp, points_from, points_keys, polygon_keys, polygons_along}
-use Rattle.tl_number.proofs.Common.{turned_if, turns, type_2_by_chain, up_to}
+use Rattle.tl_number.proofs.Common.{◌≡◌, ◌∙◌, ℕ, List, [], ◌∷◌, map, length, reverse, Bool, true, false, Ordering, Less, Equal, Greater}
+use Rattle.tl_number.proofs.Common.{is_gt, sym, refl, ap, subst, AllKeysStandIn, AreSame, Chain, Coordinates, County, Fields2, IsArranged}
+use Rattle.tl_number.proofs.Common.{IsCounty, IsInOrder, IsTidy, Renumbering, all_map, arranged, carried_chain, entry_points, entry_shape}
+use Rattle.tl_number.proofs.Common.{false≢true, in_order-equal, in_pieces, inner_points, least_points, length-map, map-map, map_agree_all}
+use Rattle.tl_number.proofs.Common.{map_agree_everywhere, numbered_choice, numbered_from, on, ordering_reverse, packed_twos, points_cmp}
+use Rattle.tl_number.proofs.Common.{points_from, points_keys, polygon_keys, polygons_along, turned_if, turns, type_2_by_chain, up_to}
 use Rattle.std.specs.Ordering.{is_lt}
 use Rattle.ordered_lists.proofs.Lists.Reordered.{SameElements, from_permutation, same-map, times-same}
 use Rattle.tl_profile.proofs.ShapePoints.{least_reverse}
-use Rattle.tl_number.specs.Arrangement.{arranged}
-use Rattle.tl_number.specs.Tidy.{numbered_choice}
 use Rattle.tl_number.proofs.Arrangements.ArrangedCounties.{is_arranged}
 use Rattle.tl_number.proofs.Choices.LeastNumbers.{choices_same}
 use Rattle.tl_number.proofs.Choices.TidyChoices.{numbered_is_choice}

@@ -1,10 +1,10 @@
 -- If the shapes of chains are distinct, and none is its own reverse, canonical lists are strict, and strict lists are canonical.
-use Rattle.std.proofs.Common.{◌≡◌, ℕ, List, map, reverse, false, Ordering, Less, Equal, Greater, is_eq, is_gt, nat_lt, sym, refl, ap, subst}
-use Rattle.tl_number.proofs.Common.{AllByRecursion, AreSame, Chain, Coordinates, County, HasShapesApart, IsAccepted, IsCanonicalThrough}
-use Rattle.tl_number.proofs.Common.{IsCounty, IsInProfile, IsSight, IsTidy, Mask, Record, TooSymmetric, all_among, all_both, all_unmap}
-use Rattle.tl_number.proofs.Common.{all_weaker, apart_from_no_repeat, county-is_county, county_of, each_from, entry_points, has_repeat}
+use Rattle.tl_number.proofs.Common.{◌≡◌, ℕ, List, map, reverse, false, Less, is_gt, nat_lt, sym, refl, ap, subst, AllByRecursion, AreSame}
+use Rattle.tl_number.proofs.Common.{Chain, Coordinates, County, HasShapesApart, IsAccepted, IsCanonicalThrough, IsCounty, IsInProfile}
+use Rattle.tl_number.proofs.Common.{IsSight, IsTidy, Mask, Record, TooSymmetric, all_among, all_both, all_unmap, all_weaker}
+use Rattle.tl_number.proofs.Common.{apart_from_no_repeat, county-is_county, county_of, each_from, entry_points, has_repeat}
 use Rattle.tl_number.proofs.Common.{has_repeat-apart, is_either_way, least_points, map-map, masked, most_choices, plain, points_cmp}
-use Rattle.tl_number.proofs.Common.{points_keys, same-symmetric, same-transitive, shapes, strict-map, strict_from_order, true≢false}
+use Rattle.tl_number.proofs.Common.{points_keys, same-symmetric, same-transitive, shapes, strict-map, strict_from_order}
 use Rattle.tl_county.specs.MaskedCounty.{masked_chain}
 use Rattle.ordered_lists.proofs.Lists.Reordered.{SameElements, apart-same}
 use Rattle.tl_profile.specs.Profile.{AreAllOnSides}
@@ -16,6 +16,7 @@ use Rattle.tl_number.proofs.Masks.MaskedSights.{masked_sight}
 use Rattle.tl_number.proofs.CanonicalLists.OneChoice.{one_choice, only_tidy, strict_is_canonical}
 use Rattle.tl_number.proofs.CanonicalLists.SameShapes.{points_in_order, shapes_carried, tidy_shapes}
 use Rattle.tl_number.proofs.CanonicalLists.TidyLists.{tidy_of}
+use Rattle.tl_number.proofs.Lists.Counting.{less_from}
 
 -- ---- lists that the stricter rules accept are accepted
 
@@ -56,11 +57,6 @@ apart_masked mask county h = record {
 }
 
 -- ---- a tidy county with distinct shapes is strict
-
-less_from : (o : Ordering) → is_gt o ≡ false → is_eq o ≡ false → o ≡ Less
-less_from Less g e = refl
-less_from Equal g e = absurd (true≢false e)
-less_from Greater g e = absurd (true≢false g)
 
 tidy_is_strict : (county : County) → IsTidy county → HasShapesApart county → IsStrict county
 tidy_is_strict county tidy apart =

@@ -1,14 +1,11 @@
 -- The tidy lists of a map are the lists of its choices. Some choice has the least text, its list is canonical, and all canonical
 -- lists of one map have the same text.
-use Rattle.std.proofs.Common.{◌≡◌, ◌<◌, ℕ, List, sym, ap, ◌∙◌, subst, arith}
-use Rattle.tl_number.proofs.Common.{AllKeysStandIn, AreSame, Arrangement, Carries, County, IsCanonical, IsChoice, IsCounty, IsLeastChoice}
-use Rattle.tl_number.proofs.Common.{IsNotAfter, IsTidy, IsTidyList, Record, arranged_list, choices, county-is_county, county_of}
-use Rattle.tl_number.proofs.Common.{order_antisymm, packed, packed_county, polygon_keys, polygons_along, same-symmetric, same-transitive}
-use Rattle.tl_number.proofs.Common.{text_of}
+use Rattle.tl_number.proofs.Common.{IsLeastBelow, ◌≡◌, ◌<◌, ℕ, List, sym, ap, ◌∙◌, subst, arith, AllKeysStandIn, AreSame, Arrangement, Carries, County}
+use Rattle.tl_number.proofs.Common.{IsCanonical, IsChoice, IsCounty, IsLeastChoice, IsNotAfter, IsTidy, IsTidyList, Record, arranged}
+use Rattle.tl_number.proofs.Common.{arranged_list, choices, county-is_county, county_of, numbered_choice, order_antisymm, packed}
+use Rattle.tl_number.proofs.Common.{packed_county, polygon_keys, polygons_along, renaming_of, same-symmetric, same-transitive, text_of}
 use Rattle.ordered_lists.proofs.ByKey.KeyOrders.{bytes_keys}
 use Rattle.ordered_lists.proofs.ByKey.Keys.{order_itself}
-use Rattle.tl_number.specs.Arrangement.{renaming_of, arranged}
-use Rattle.tl_number.specs.Tidy.{numbered_choice}
 use Rattle.tl_number.proofs.Arrangements.ArrangedCounties.{arranged_county, is_arranged}
 use Rattle.tl_number.proofs.Arrangements.ArrangedPacking.{packed_arranged}
 use Rattle.tl_number.proofs.Arrangements.Carrying.{arrangement_carries}
@@ -31,6 +28,16 @@ canonical_texts_equal xs ys h k s =
     let back : AreSame (county_of ys) (county_of xs) =
     same-symmetric (county_of xs) (county_of ys) (county-is_county xs h.in_form.linked) (county-is_county ys k.in_form.linked) s in
     order_antisymm bytes_keys (text_of xs) (text_of ys) (h.least ys (tidy_of ys k) s) (k.least xs (tidy_of xs h) back)
+
+module _ (county : County) (is : IsCounty county) where
+  -- the choice with the number that is least of all
+  pub least_of_all : (n : ℕ) → IsLeastBelow county (choices county) n → IsLeastChoice county (numbered_choice county n)
+  least_of_all n least = record {
+    choice = numbered_is_choice county is n;
+    least = λ other choice. (let m = choice_number county is other choice in
+        subst (λ arrangement. IsNotAfter (arranged_list county (numbered_choice county n)) (arranged_list county arrangement)) m.2
+        (least m.0 m.1));
+  }
 
 module _ (county : County) (is : IsCounty county) (sides : AllKeysStandIn (polygons_along county.chains) (polygon_keys county)) where
   -- The list of a choice is tidy and describes the same map.
@@ -84,16 +91,8 @@ module _ (county : County) (is : IsCounty county) (sides : AllKeysStandIn (polyg
   -- There is a choice with the least text.
   pub least_choice : (n : ℕ) × (n < choices county) × IsLeastChoice county (numbered_choice county n)
   least_choice =
-      let found = least_number bytes_keys.total text_at (choices county) some_choice in (
-        found.0,
-        found.1,
-        record {
-          choice = numbered_is_choice county is found.0;
-          least = λ other choice. (let m = choice_number county is other choice in
-              subst (λ arrangement. IsNotAfter (arranged_list county (numbered_choice county found.0)) (arranged_list county arrangement)) m.2
-              (found.2 m.0 m.1));
-        },
-      )
+      let found = least_number bytes_keys.total text_at (choices county) some_choice in
+      (found.0, found.1, least_of_all county is found.0 found.2)
 
   -- Its list is canonical.
   pub least_choice_is_canonical : (arrangement : Arrangement) → IsLeastChoice county arrangement → IsCanonical (arranged_list county arrangement)

@@ -1,12 +1,10 @@
 -- All chains in the order of their shapes and places are the ascending arrangement.
-use Rattle.std.proofs.Common.{◌≡◌, ◌<◌, ℕ, List, [], ◌∷◌, map, length, Bool, true, false, Less, Equal, Option}
-use Rattle.std.proofs.Common.{Some, None}
-use Rattle.std.proofs.Common.{option_map, slice_get, is_gt, is_lt, refl, sym, ap, ap₂, ◌∙◌, subst, nat_cmp}
-use Rattle.std.proofs.Common.{reverse, Ordering}
-use Rattle.tl_number.proofs.Common.{AllByRecursion, AreInShapeOrder, Chain, Coordinates, County, DirectedChain, HasChainsOf, IsTotalOrder}
-use Rattle.tl_number.proofs.Common.{all_unmap, arrangement_of, ascending, chain_at, entry_shape, in_order, least_points, on, on_total}
-use Rattle.tl_number.proofs.Common.{option_cmp, ordering_reverse, ordering_then, points_along, points_cmp, points_from, points_keys}
-use Rattle.tl_number.proofs.Common.{points_of, slice_get-map, tlid_at, tlids, turned_if}
+use Rattle.tl_number.proofs.Common.{◌≡◌, ◌<◌, ℕ, List, [], ◌∷◌, map, length, Bool, true, false, Less, Equal, Option, Some, None, option_map}
+use Rattle.tl_number.proofs.Common.{slice_get, is_gt, is_lt, refl, sym, ap, ap₂, ◌∙◌, subst, nat_cmp, reverse, Ordering, AllByRecursion}
+use Rattle.tl_number.proofs.Common.{AreInShapeOrder, Chain, Coordinates, County, DirectedChain, HasChainsOf, IsTotalOrder, all_unmap}
+use Rattle.tl_number.proofs.Common.{arrangement_of, ascending, chain_at, entry_shape, in_order, least_points, on, on_total, option_cmp}
+use Rattle.tl_number.proofs.Common.{ordering_reverse, ordering_then, points_along, points_cmp, points_from, points_keys, points_of}
+use Rattle.tl_number.proofs.Common.{slice_get-map, tlid_at, tlids, turned_if}
 use Rattle.std.proofs.lemmas.Option.{get_or_from_slice_get}
 use Rattle.ordered_lists.proofs.ByKey.KeyedLists.{lt_reversed}
 use Rattle.tl_profile.proofs.Places.{along_from}
@@ -70,21 +68,33 @@ module _ (county : County) where
   abbrev place_of : DirectedChain → ℕ
   place_of w = w.place
 
-  -- chains read in order, each in its lesser direction
-  arrangement_stated : (by_shape : List DirectedChain) (ordered : List (ℕ × Chain)) → AllByRecursion (λ w. w ≡ along_shape county (place_of w)) by_shape
-      → map (slice_get county.chains) (map place_of by_shape) ≡ map Some ordered
-      → arrangement_of county by_shape ≡ map (λ e. (e.0, comes_turned e.1)) ordered
-  arrangement_stated [] [] a e = refl
-  arrangement_stated [] (x ∷ xs) a e = cc
-  arrangement_stated (w ∷ ws) [] a e = cc
-  arrangement_stated (w ∷ ws) (x ∷ xs) a e =
+  -- what is read from chains in order, each in its lesser direction
+  each_stated : {Y : Type 0} (read : DirectedChain → Y) (stated : ℕ × Chain → Y)
+      → ((w : DirectedChain) (x : ℕ × Chain) → w ≡ along_shape county (place_of w) → slice_get county.chains w.place ≡ Some x → read w ≡ stated x)
+      → (by_shape : List DirectedChain) (ordered : List (ℕ × Chain)) → AllByRecursion (λ w. w ≡ along_shape county (place_of w)) by_shape
+      → map (slice_get county.chains) (map place_of by_shape) ≡ map Some ordered → map read by_shape ≡ map stated ordered
+  each_stated read stated same [] [] a e = refl
+  each_stated read stated same [] (x ∷ xs) a e = cc
+  each_stated read stated same (w ∷ ws) [] a e = cc
+  each_stated read stated same (w ∷ ws) (x ∷ xs) a e =
       let here : slice_get county.chains w.place ≡ Some x = cc in
       let rest : map (slice_get county.chains) (map place_of ws) ≡ map Some xs = cc in
+      λ i. same w x a.0 here i ∷ each_stated read stated same ws xs a.1 rest i
+
+  abbrev new_directed : DirectedChain → ℕ × Bool
+  new_directed w = (tlid_at county w.place, w.turned)
+
+  abbrev least_directed : ℕ × Chain → ℕ × Bool
+  least_directed x = (x.0, comes_turned x.1)
+
+  directed_stated : (w : DirectedChain) (x : ℕ × Chain) → w ≡ along_shape county (place_of w) → slice_get county.chains w.place ≡ Some x
+      → new_directed w ≡ least_directed x
+  directed_stated w x is here =
       let tlid : tlid_at county w.place ≡ x.0 =
       get_or_from_slice_get (tlids county) w.place x.0 0
       (slice_get-map (λ (d : ℕ × Chain). d.0) county.chains w.place ∙ ap (option_map (λ (d : ℕ × Chain). d.0)) here) in
-      let turned : w.turned ≡ comes_turned x.1 = ap (λ (v : DirectedChain). v.turned) a.0 ∙ turned_read w.place x here in
-      λ i. (tlid i, turned i) ∷ arrangement_stated ws xs a.1 rest i
+      let turned : w.turned ≡ comes_turned x.1 = ap (λ (v : DirectedChain). v.turned) is ∙ turned_read w.place x here in
+      λ i. (tlid i, turned i)
 
   module _ (by_shape : List DirectedChain) (order : AreInShapeOrder county by_shape) where
     read : map (slice_get county.chains) (map place_of by_shape) ≡ map Some (in_order (on entry_shape points_cmp) county.chains)
@@ -96,25 +106,15 @@ module _ (county : County) where
         agrees by_shape order.all order.in_order
 
     -- the points of the directed chains are the shapes in order
-    shapes_stated : (ws : List DirectedChain) (ordered : List (ℕ × Chain)) → AllByRecursion (λ w. w ≡ along_shape county (place_of w)) ws
-        → map (slice_get county.chains) (map place_of ws) ≡ map Some ordered
-        → map (points_along county) ws ≡ map entry_shape ordered
-    shapes_stated [] [] a e = refl
-    shapes_stated [] (x ∷ xs) a e = cc
-    shapes_stated (w ∷ ws) [] a e = cc
-    shapes_stated (w ∷ ws) (x ∷ xs) a e =
-        let here : slice_get county.chains w.place ≡ Some x = cc in
-        let rest : map (slice_get county.chains) (map place_of ws) ≡ map Some xs = cc in
-        let along : points_along county w ≡ entry_shape x = ap (points_along county) a.0 ∙ along_read w.place x here in
-        λ i. along i ∷ shapes_stated ws xs a.1 rest i
-
     pub shapes_of_order : map (points_along county) by_shape ≡ map entry_shape (in_order (on entry_shape points_cmp) county.chains)
-    shapes_of_order = shapes_stated by_shape (in_order (on entry_shape points_cmp) county.chains) each_directed read
+    shapes_of_order = each_stated (points_along county) entry_shape (λ w x is here. ap (points_along county) is ∙ along_read w.place x here) by_shape
+        (in_order (on entry_shape points_cmp) county.chains) each_directed read
 
     -- The chains in the order of their shapes are the ascending arrangement.
     pub arrangement_ascend : (arrangement : List DirectedChain) → arrangement ≡ by_shape → arrangement_of county arrangement ≡ ascending county
     arrangement_ascend arrangement e =
-        ap (arrangement_of county) e ∙ arrangement_stated by_shape (in_order (on entry_shape points_cmp) county.chains) each_directed read
+        ap (arrangement_of county) e ∙ each_stated new_directed least_directed directed_stated by_shape
+        (in_order (on entry_shape points_cmp) county.chains) each_directed read
 
     pub arrangement_there : (arrangement : List DirectedChain) → arrangement ≡ by_shape → HasChainsOf county arrangement
     arrangement_there arrangement e =

@@ -1,10 +1,9 @@
 -- Choices selected by numbers: each number selects a choice, and each choice has a number below the count of choices.
-use Rattle.std.proofs.Common.{◌≡◌, ◌⊎◌, ◌<◌, ◌≤◌, ◌+◌, ◌*◌, ◌/◌, ◌%◌, ℕ, zero, suc, nat_lt, List, [], ◌∷◌, map, take, drop, length}
-use Rattle.std.proofs.Common.{Bool, true, false, cond, Ordering, is_eq, is_gt, sym, refl, ap, ◌∙◌, subst, inl, inr, arith, nat_cmp}
-use Rattle.std.proofs.Common.{IsPermutation}
-use Rattle.tl_number.proofs.Common.{AllByRecursion, IsInOrder, IsKeyOrder, IsPermutation-insert, IsPermutation-map, IsPermutation-sym}
-use Rattle.tl_number.proofs.Common.{IsPermutation-trans, IsTotalOrder, Known, all_append, all_known, all_map, all_unmap, chosen, in_order}
-use Rattle.tl_number.proofs.Common.{in_order-equal, in_order-in_order, in_order-is_permutation, insert, known_all, ltb-false, ltb-true}
+use Rattle.tl_number.proofs.Common.{below_more, ◌≡◌, ◌⊎◌, ◌<◌, ◌≤◌, ◌+◌, ◌*◌, ◌/◌, ◌%◌, ℕ, zero, suc, List, [], ◌∷◌, map, take, drop}
+use Rattle.tl_number.proofs.Common.{length, Bool, true, false, cond, Ordering, is_eq, is_gt, sym, refl, ap, ◌∙◌, subst, inl, inr, arith}
+use Rattle.tl_number.proofs.Common.{nat_cmp, IsPermutation, AllByRecursion, IsInOrder, IsKeyOrder, IsPermutation-insert, IsPermutation-map}
+use Rattle.tl_number.proofs.Common.{IsPermutation-sym, IsPermutation-trans, IsTotalOrder, Known, all_append, all_known, all_map, all_unmap}
+use Rattle.tl_number.proofs.Common.{chosen, in_order, in_order-equal, in_order-in_order, in_order-is_permutation, insert, known_all}
 use Rattle.tl_number.proofs.Common.{map-map, nat_keys, not_greater, on, order_antisymm, running, same_or_not, stood, tied_itself, times}
 use Rattle.tl_number.proofs.Common.{times-no, times-permutation, times-yes, turned_by, upto}
 use Rattle.std.proofs.lemmas.Nat.{mod_below, mod-mul-add, div-mul-add, mul-add-lt, mul-le}
@@ -78,20 +77,18 @@ stood-digits turn g w x later i d q below_g below_w =
     let rest : ((q * w + d) * g + i) / g / w ≡ q = ap (λ n. n / w) left ∙ div-mul-add q w d below_w in
     λ j. (insert later (last j) (turned_by turn (next j) x), rest j)
 
+-- there are one or two digits
+some_digit : (b : Bool) → 0 < cond b 2 1
+some_digit true = omega arith
+some_digit false = omega arith
+
 -- of the values of the numbers below a bound, one comes after none of the others
 module _ {T : Type 0} {cmp : T → T → Ordering} (o : IsTotalOrder cmp) (f : ℕ → T) where
   abbrev IsLeastBelow : ℕ → ℕ → Type 0
   IsLeastBelow bound n = (m : ℕ) → m < bound → is_gt (cmp (f n) (f m)) ≡ false
 
-  pub one_more : (bound n : ℕ) → IsLeastBelow bound n → is_gt (cmp (f n) (f bound)) ≡ false → IsLeastBelow (suc bound) n
-  one_more bound n least last m below = go (nat_lt m bound) refl
-    where
-      go : (b : Bool) → nat_lt m bound ≡ b → is_gt (cmp (f n) (f m)) ≡ false
-      go true e = least m (ltb-true m bound e)
-      go false e =
-          let past : bound ≤ m = ltb-false m bound e in
-          let same : bound ≡ m = omega (arith, below, past) in
-          subst (λ k. is_gt (cmp (f n) (f k)) ≡ false) same last
+  pub one_more : (bound n : ℕ) → IsLeastBelow bound n → is_gt (cmp (f n) (f bound)) ≡ false → IsLeastBelow (bound + 1) n
+  one_more bound n = below_more (λ m. is_gt (cmp (f n) (f m)) ≡ false) bound
 
   itself : (n : ℕ) → is_gt (cmp (f n) (f n)) ≡ false
   itself n = ap is_gt (tied_itself o (f n))
@@ -103,13 +100,14 @@ module _ {T : Type 0} {cmp : T → T → Ordering} (o : IsTotalOrder cmp) (f : �
     where
       pick : (n : ℕ) → n < suc count → IsLeastBelow (suc count) n → (b : Bool) → is_gt (cmp (f n) (f (suc count))) ≡ b
           → (k : ℕ) × (k < suc (suc count)) × IsLeastBelow (suc (suc count)) k
-      pick n below least false e = (n, omega (arith, below), one_more (suc count) n least e)
+      pick n below least false e = (n, omega (arith, below), λ m l. one_more (suc count) n least e m (omega (arith, l)))
       pick n below least true e =
           let turned : is_gt (cmp (f (suc count)) (f n)) ≡ false =
           not_greater (cmp (f n) (f (suc count))) (cmp (f (suc count)) (f n)) (o.antisymm (f n) (f (suc count))) e in (
             suc count,
             omega arith,
-            one_more (suc count) (suc count) (λ m l. upto o (f (suc count)) (f n) (f m) turned (least m l)) (itself (suc count)),
+            (λ k under. one_more (suc count) (suc count) (λ m l. upto o (f (suc count)) (f n) (f m) turned (least m l)) (itself (suc count)) k
+                (omega (arith, under))),
           )
 
       go : (n : ℕ) × (n < suc count) × IsLeastBelow (suc count) n → (k : ℕ) × (k < suc (suc count)) × IsLeastBelow (suc (suc count)) k
@@ -232,11 +230,7 @@ module _ {X K : Type 0} {cmp : K → K → Ordering} (o : IsKeyOrder cmp) (eithe
     -- the digit that turns an element this way
     digit_of : (x y : X) → (y ≡ x) ⊎ ((either (key_of x) ≡ true) × (y ≡ turn x))
         → (d : ℕ) × (d < cond (either (key_of x)) 2 1) × (turned_by turn d x ≡ y)
-    digit_of x y (inl e) = (0, some (either (key_of x)), sym e)
-      where
-        some : (b : Bool) → 0 < cond b 2 1
-        some true = omega arith
-        some false = omega arith
+    digit_of x y (inl e) = (0, some_digit (either (key_of x)), sym e)
     digit_of x y (inr r) = (1, subst (λ b. 1 < cond b 2 1) (sym r.0) (omega arith), sym r.1)
 
     none_left : (ys : List X) → ((n : ℕ) → times nat_cmp n (map name ys) ≡ 0) → ys ≡ []
@@ -313,8 +307,4 @@ module _ {X K : Type 0} {cmp : K → K → Ordering} (o : IsKeyOrder cmp) (eithe
       let w : ℕ = cond (either (key_of x)) 2 1 in
       ap (stood turn g w x) (first_stated xs)
       ∙ ap (λ n. stood turn g w x (xs, n)) (let e : 0 ≡ (0 * w + 0) * g + 0 = omega arith in e)
-      ∙ stood-digits turn g w x xs 0 0 0 (omega arith) (some (either (key_of x)))
-    where
-      some : (b : Bool) → 0 < cond b 2 1
-      some true = omega arith
-      some false = omega arith
+      ∙ stood-digits turn g w x xs 0 0 0 (omega arith) (some_digit (either (key_of x)))

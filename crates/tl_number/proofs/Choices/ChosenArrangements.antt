@@ -1,19 +1,17 @@
 -- Chains in the order of their shapes, moved at their open places, are the choice with a number.
-use Rattle.std.proofs.Common.{◌≡◌, ◌<◌, ◌≤◌, ◌+◌, ◌/◌, ◌%◌, ℕ, zero, suc, List, [], ◌∷◌, ◌++◌, map, take, drop, length, Bool, true, false}
-use Rattle.std.proofs.Common.{cond}
-use Rattle.std.proofs.Common.{Ordering, sym, refl, ap, ◌∙◌, subst, arith}
-use Rattle.tl_number.proofs.Common.{AgreeApart, AllByRecursion, AreInShapeOrder, AreWithin, County, DirectedChain, HasChainsOf, IsCounty}
-use Rattle.tl_number.proofs.Common.{IsKeyOrder, IsMoved, IsPermutation-insert, NamesEachOnce, OpenPlace, OrderOfShapes, StandInOrder}
-use Rattle.tl_number.proofs.Common.{arranged_tlids, arrangement_of, chosen, insert, is_either_way, length-map, length_permutation}
-use Rattle.tl_number.proofs.Common.{map-append, moved, nat_keys, numbered_arrangement, open_places, other_way, points_along, points_cmp}
-use Rattle.tl_number.proofs.Common.{points_keys, stood, times, times-permutation, tlid_at, tlids, turned_by}
+use Rattle.tl_number.proofs.Common.{◌≡◌, ◌<◌, ◌≤◌, ◌+◌, ◌/◌, ◌%◌, ℕ, zero, suc, List, [], ◌∷◌, ◌++◌, map, take, drop, length, Bool, true}
+use Rattle.tl_number.proofs.Common.{false, cond, Ordering, sym, refl, ap, ◌∙◌, subst, arith, AgreeApart, AllByRecursion, AreInShapeOrder}
+use Rattle.tl_number.proofs.Common.{AreWithin, County, DirectedChain, HasChainsOf, IsCounty, IsKeyOrder, IsMoved, NamesEachOnce, OpenPlace}
+use Rattle.tl_number.proofs.Common.{OrderOfShapes, StandInOrder, arranged_tlids, arrangement_of, chosen, insert, is_either_way, length-map}
+use Rattle.tl_number.proofs.Common.{map-append, moved, nat_keys, numbered_arrangement, numbered_choice, open_places, other_way}
+use Rattle.tl_number.proofs.Common.{points_along, points_cmp, points_keys, stood, times, times-permutation, tlid_at, tlids, turned_by}
 use Rattle.std.proofs.lemmas.List.{drop-map, take-map}
 use Rattle.tl_profile.specs.Choices.{is_settled, open_place_at}
 use Rattle.tl_profile.proofs.CountedChoices.{alike_few}
-use Rattle.tl_number.specs.Tidy.{directed_shape, turned_directed, numbered_choice}
+use Rattle.tl_number.specs.Tidy.{directed_shape, turned_directed}
 use Rattle.tl_number.proofs.Choices.AscendingArrangement.{arrangement_ascend, arrangement_there, shapes_of_order}
 use Rattle.tl_number.proofs.Choices.Choosing.{all_insert}
-use Rattle.tl_number.proofs.Choices.FixedPlaces.{moved_apart, open_in_order}
+use Rattle.tl_number.proofs.Choices.FixedPlaces.{insert_count, moved_apart, open_in_order}
 use Rattle.tl_number.proofs.Choices.MovedChoice.{moved_is}
 use Rattle.tl_number.proofs.Choices.TidyChoices.{numbered_is_choice, shapes_ascending, stated_here}
 
@@ -34,11 +32,7 @@ chosen_count : {X K : Type 0} (cmp : K → K → Ordering) (either : K → Bool)
     → length (chosen cmp either key turn xs n).0 ≡ length xs
 chosen_count cmp either key turn [] n = refl
 chosen_count cmp either key turn (x ∷ xs) n =
-    length_inserted (chosen cmp either key turn xs n).0 _ _ ∙ ap suc (chosen_count cmp either key turn xs n)
-  where
-    length_inserted : {Z : Type 0} (zs : List Z) (i : ℕ) (z : Z) → length (insert zs i z) ≡ suc (length zs)
-    length_inserted zs i z =
-        let same = length_permutation (z ∷ zs) (insert zs i z) (IsPermutation-insert zs i z) in omega (arith, same)
+    insert_count _ (chosen cmp either key turn xs n).0 _ ∙ ap suc (chosen_count cmp either key turn xs n)
 
 -- images of elements, with the same keys and turned as the elements are
 module _ {X Y K : Type 0} (cmp : K → K → Ordering) (either : K → Bool) (key : X → K) (turn : X → X) (key_stated : Y → K) (turn_stated : Y → Y)

@@ -1,8 +1,8 @@
 -- Moves at open places leave the elements at all other places as they are.
-use Rattle.std.proofs.Common.{◌≡◌, ◌<◌, ◌≤◌, ◌+◌, ◌/◌, ◌%◌, ℕ, zero, suc, nat_lt, List, [], ◌∷◌, ◌++◌, take, drop, length, Bool, true, false, cond}
-use Rattle.std.proofs.Common.{Ordering, Some, None, slice_get, sym, refl, ap, ◌∙◌, arith}
-use Rattle.tl_number.proofs.Common.{AgreeApart, AllByRecursion, AreWithin, IsPermutation-insert, OpenPlace, StandInOrder, all_weaker}
-use Rattle.tl_number.proofs.Common.{first_stood, insert, length_permutation, ltb-false, ltb-true, moved, open_places, turned_by}
+use Rattle.tl_number.proofs.Common.{◌≡◌, ◌<◌, ◌≤◌, ◌+◌, ◌/◌, ◌%◌, ℕ, zero, suc, nat_lt, List, [], ◌∷◌, ◌++◌, take, drop, length, Bool, true}
+use Rattle.tl_number.proofs.Common.{false, cond, Ordering, Some, None, slice_get, sym, refl, ap, ◌∙◌, arith, AgreeApart, AllByRecursion}
+use Rattle.tl_number.proofs.Common.{AreWithin, IsPermutation-insert, OpenPlace, StandInOrder, all_weaker, first_stood, insert}
+use Rattle.tl_number.proofs.Common.{length_permutation, ltb-false, ltb-true, moved, open_places, turned_by}
 use Rattle.tl_profile.specs.Choices.{is_settled, open_place_at}
 use Rattle.tl_number.specs.MovedChains.{IsApart, IsWithin}
 
@@ -39,7 +39,7 @@ insert_kept zero later t x (suc place) l = refl
 insert_kept (suc j) [] t x (suc place) l = refl
 insert_kept (suc j) (y ∷ ys) t x (suc place) l = insert_kept j ys t y place (omega (arith, l))
 
-insert_count : {X : Type 0} (j : ℕ) (later : List X) (t : X) → length (insert later j t) ≡ suc (length later)
+pub insert_count : {X : Type 0} (j : ℕ) (later : List X) (t : X) → length (insert later j t) ≡ suc (length later)
 insert_count j later t = let same = length_permutation (t ∷ later) (insert later j t) (IsPermutation-insert later j t) in omega (arith, same)
 
 module _ {X : Type 0} (turn : X → X) (at : OpenPlace) (n : ℕ) (some : 0 < at.alike) where

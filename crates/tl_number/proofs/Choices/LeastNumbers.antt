@@ -1,16 +1,14 @@
 -- The least of the texts of numbered choices, number by number.
-use Rattle.std.proofs.Common.{◌≡◌, ◌≤◌, ◌+◌, ℕ, nat_lt, List, Bool, true, false, cond, Ordering, is_gt, nat_cmp, refl, sym, ap, ◌∙◌, subst}
-use Rattle.std.proofs.Common.{arith}
-use Rattle.tl_number.proofs.Common.{AllKeysStandIn, AreSame, Arrangement, County, IsChoice, IsCounty, IsLeastBelow, IsLeastChoice}
-use Rattle.tl_number.proofs.Common.{IsLeastFrom, IsNotAfter, arranged_list, choice_list, choices, ltb-false, ltb-true, not_greater, packed}
-use Rattle.tl_number.proofs.Common.{polygon_keys, polygons_along, same-symmetric, same-transitive, slice_cmp, text_of, upto}
+use Rattle.tl_number.proofs.Common.{◌≡◌, ◌≤◌, ◌+◌, ℕ, nat_lt, List, Bool, true, false, cond, Ordering, is_gt, nat_cmp, refl, sym, ap, ◌∙◌}
+use Rattle.tl_number.proofs.Common.{subst, arith, AllKeysStandIn, AreSame, Arrangement, County, IsChoice, IsCounty, IsLeastBelow}
+use Rattle.tl_number.proofs.Common.{IsLeastFrom, IsNotAfter, arranged, choice_list, choices, ltb-false, ltb-true, not_greater}
+use Rattle.tl_number.proofs.Common.{numbered_choice, packed, polygon_keys, polygons_along, renaming_of, same-symmetric, same-transitive}
+use Rattle.tl_number.proofs.Common.{slice_cmp, text_of, upto}
 use Rattle.ordered_lists.proofs.ByKey.KeyOrders.{bytes_keys}
-use Rattle.tl_number.specs.Arrangement.{arranged, renaming_of}
-use Rattle.tl_number.specs.Tidy.{numbered_choice}
 use Rattle.tl_number.proofs.Arrangements.ArrangedCounties.{arranged_county}
 use Rattle.tl_number.proofs.Arrangements.Carrying.{arrangement_carries}
 use Rattle.tl_number.proofs.Choices.Choosing.{one_more}
-use Rattle.tl_number.proofs.Choices.TidyChoices.{choice_number, numbered_is_choice}
+use Rattle.tl_number.proofs.Choices.TidyChoices.{numbered_is_choice}
 use Rattle.tl_number.proofs.CanonicalLists.TidyLists.{not_after_itself}
 
 module _ (county : County) where
@@ -74,25 +72,23 @@ module _ (county : County) where
       go true e = below m (ltb-true m from e)
       go false e = not_after_both old first m upper (among m (ltb-false m from e) l)
 
--- a property of two values is a property of either
-pub of_either : {X : Type 0} (P : X → Type 0) (b : Bool) (x y : X) → P x → P y → P (cond b x y)
-of_either P true x y p q = p
-of_either P false x y p q = q
+-- One of two values is kept: what both have, it has, and its number is that of one of them.
+module _ {X : Type 0} (b : Bool) (kept x y : X) (is : kept ≡ cond b x y) where
+  pub kept_has : (P : X → Type 0) → P x → P y → P kept
+  kept_has P p q = subst P (sym is) (either b)
+    where
+      either : (d : Bool) → P (cond d x y)
+      either true = p
+      either false = q
 
-pub stated_of_either : {X Y : Type 0} (state : X → Y) (P : Y → Type 0) (b : Bool) (x y : X) → P (cond b (state x) (state y))
-    → P (state (cond b x y))
-stated_of_either state P true x y p = p
-stated_of_either state P false x y p = p
+  pub kept_is : {Y : Type 0} (state : X → Y) → state kept ≡ cond b (state x) (state y)
+  kept_is {Y} state = ap state is ∙ either b
+    where
+      either : (d : Bool) → state (cond d x y) ≡ cond d (state x) (state y)
+      either true = refl
+      either false = refl
 
 module _ (county : County) (is : IsCounty county) where
-  -- the choice with the number that is least of all
-  pub least_of_all : (n : ℕ) → IsLeastBelow county (choices county) n → IsLeastChoice county (numbered_choice county n)
-  least_of_all n least = record {
-    choice = numbered_is_choice county is n;
-    least = λ other choice. (let m = choice_number county is other choice in
-        subst (λ arrangement. IsNotAfter (choice_list county n) (arranged_list county arrangement)) m.2 (least m.0 m.1));
-  }
-
   -- the counties of two choices are the same
   module _ (sides : AllKeysStandIn (polygons_along county.chains) (polygon_keys county)) where
     same_by : (arrangement : Arrangement) → IsChoice county arrangement → AreSame county (arranged county arrangement)

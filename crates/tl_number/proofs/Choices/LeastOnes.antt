@@ -1,15 +1,12 @@
 -- The least type 1 records of choices, number by number, and the consequence for texts.
-use Rattle.std.proofs.Common.{◌≡◌, ◌<◌, ◌≤◌, ◌+◌, ℕ, suc, nat_lt, List, Bool, true, false, Ordering, Less, Equal, Greater}
-use Rattle.std.proofs.Common.{is_eq, is_gt, length, map, sym, refl, ap, ◌∙◌, subst, arith}
-use Rattle.tl_number.proofs.Common.{AgreeApart, AllKeysStandIn, AreInShapeOrder, AreWhole, AreWithin, County, DirectedChain, IsCounty}
-use Rattle.tl_number.proofs.Common.{IsLeastFrom, IsNotAfter, IsWithinLimits, OpenPlace, Record, StandInOrder, choice_list, directed_chain}
-use Rattle.tl_number.proofs.Common.{false≢true, few_chains, is_either_way, ltb-false, ltb-true, most_records, moved, not_greater, ones_cmp}
-use Rattle.tl_number.proofs.Common.{ones_of, open_places, ordering_then, other_way, packed, points_along, points_cmp, polygon_keys}
-use Rattle.tl_number.proofs.Common.{polygons_along, tied_itself, upto}
+use Rattle.tl_number.proofs.Common.{below_more, ◌≡◌, ◌<◌, ◌≤◌, ◌+◌, ℕ, List, true, false, Ordering, Less, Equal, Greater, is_eq, is_gt}
+use Rattle.tl_number.proofs.Common.{length, map, sym, refl, ap, ◌∙◌, subst, arith, AgreeApart, AllKeysStandIn, AreInShapeOrder, AreWhole}
+use Rattle.tl_number.proofs.Common.{AreWithin, County, DirectedChain, IsCounty, IsLeastFrom, IsNotAfter, IsWithinLimits, OpenPlace, Record}
+use Rattle.tl_number.proofs.Common.{StandInOrder, arranged, choice_list, directed_chain, false≢true, few_chains, is_either_way}
+use Rattle.tl_number.proofs.Common.{most_records, moved, not_greater, numbered_choice, ones_cmp, ones_of, open_places, ordering_then}
+use Rattle.tl_number.proofs.Common.{other_way, packed, points_along, points_cmp, polygon_keys, polygons_along, tied_itself, upto}
 use Rattle.std.specs.Ordering.{is_le}
-use Rattle.tl_number.specs.Arrangement.{arranged}
 use Rattle.tl_number.specs.MovedChains.{AgreeButOpen}
-use Rattle.tl_number.specs.Tidy.{numbered_choice}
 use Rattle.tl_number.specs.TypeOneOrder.{IsLeastOne}
 use Rattle.tl_number.proofs.Arrangements.ArrangedCounties.{arranged_county}
 use Rattle.tl_number.proofs.Arrangements.ArrangedNumbers.{arrangement_within}
@@ -24,11 +21,7 @@ use Rattle.tl_number.proofs.Texts.SameChains.{arranged_by_same}
 use Rattle.tl_number.proofs.Choices.TidyChoices.{numbered_is_choice}
 use Rattle.tl_number.proofs.CanonicalLists.TidyLists.{not_after_itself}
 use Rattle.tl_number.proofs.Texts.TypeOrders.{texts_in_order}
-
-less_from_others : (o : Ordering) → is_gt o ≡ false → is_eq o ≡ false → o ≡ Less
-less_from_others Less e f = refl
-less_from_others Equal e f = absurd (false≢true (sym f))
-less_from_others Greater e f = absurd (false≢true (sym e))
+use Rattle.tl_number.proofs.Lists.Counting.{less_from}
 
 pub greater_from : (o : Ordering) → is_le o ≡ false → is_gt o ≡ true
 greater_from Less e = absurd (false≢true (sym e))
@@ -70,30 +63,22 @@ module _ (county : County) where
 
   -- the least so far stays if the next number has no lesser records
   pub one_stays : (bound n : ℕ) → IsLeastOne county bound n → is_gt (ones_cmp county n bound) ≡ false → IsLeastOne county (bound + 1) n
-  one_stays bound n least e =
-      subst (λ b. IsLeastOne county b n) (let s : suc bound ≡ bound + 1 = omega arith in s)
-      (one_more records_total ones_at bound n least e)
+  one_stays = one_more records_total ones_at
 
   -- and is replaced if it has
   pub one_gives_way : (bound n : ℕ) → IsLeastOne county bound n → is_gt (ones_cmp county n bound) ≡ true → IsLeastOne county (bound + 1) bound
   one_gives_way bound n least e =
       let turned : is_gt (ones_cmp county bound n) ≡ false =
       not_greater (ones_cmp county n bound) (ones_cmp county bound n) (records_total.antisymm (ones_at n) (ones_at bound)) e in
-      subst (λ b. IsLeastOne county b bound) (let s : suc bound ≡ bound + 1 = omega arith in s)
-      (one_more records_total ones_at bound bound
-      (λ m l. upto records_total (ones_at bound) (ones_at n) (ones_at m) turned (least m l)) (one_itself bound))
+      one_more records_total ones_at bound bound
+      (λ m l. upto records_total (ones_at bound) (ones_at n) (ones_at m) turned (least m l)) (one_itself bound)
 
   -- one more number whose text isn't before that of the number
   pub from_more : (first bound n : ℕ) → IsLeastFrom county first bound n → IsNotAfter (choice_list county n) (choice_list county bound)
       → IsLeastFrom county first (bound + 1) n
-  from_more first bound n among last m l k = go (nat_lt m bound) refl
-    where
-      go : (b : Bool) → nat_lt m bound ≡ b → IsNotAfter (choice_list county n) (choice_list county m)
-      go true e = among m l (ltb-true m bound e)
-      go false e =
-          let past : bound ≤ m = ltb-false m bound e in
-          let same : bound ≡ m = omega (arith, k, past) in
-          subst (λ j. IsNotAfter (choice_list county n) (choice_list county j)) same last
+  from_more first bound n among last m l k =
+      below_more (λ j. first ≤ j → IsNotAfter (choice_list county n) (choice_list county j)) bound (λ j below from. among j from below)
+      (λ from. last) m k l
 
 module _ (county : County) (is : IsCounty county) (within : IsWithinLimits most_records county)
     (sides : AllKeysStandIn (polygons_along county.chains) (polygon_keys county)) where
@@ -112,7 +97,7 @@ module _ (county : County) (is : IsCounty county) (within : IsWithinLimits most_
   -- so if the least of them doesn't tie
   pub least_one_first : (count n m : ℕ) → IsLeastOne county count n → m < count → is_eq (ones_cmp county n m) ≡ false
       → IsNotAfter (choice_list county n) (choice_list county m)
-  least_one_first count n m least l e = less_first n m (less_from_others (ones_cmp county n m) (least m l) e)
+  least_one_first count n m least l e = less_first n m (less_from (ones_cmp county n m) (least m l) e)
 
   pub whole_of_number : (by_shape : List DirectedChain) (order : AreInShapeOrder county by_shape) (places : List OpenPlace)
       → places ≡ open_places points_cmp is_either_way 0 (map (points_along county) by_shape) → (arrangement : List DirectedChain) (n : ℕ)

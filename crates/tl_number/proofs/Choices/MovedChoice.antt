@@ -1,7 +1,7 @@
 -- The choice with a number is reached by moving only the elements at open places, from the last place to the first.
-use Rattle.std.proofs.Common.{◌≡◌, ◌+◌, ◌*◌, ◌==◌, ℕ, suc, List, [], ◌∷◌, ◌++◌, map, take, drop, length}
-use Rattle.std.proofs.Common.{Bool, true, false, cond, not, ◌&&◌, Ordering, sym, refl, ap, ◌∙◌, arith}
-use Rattle.tl_number.proofs.Common.{OpenPlace, chosen, eqb-true, first_stood, moved, open_places, stood, take-append_seam, times}
+use Rattle.tl_number.proofs.Common.{◌≡◌, ◌+◌, ◌*◌, ◌==◌, ℕ, suc, List, [], ◌∷◌, ◌++◌, map, take, drop, length, Bool, true, false, cond, not}
+use Rattle.tl_number.proofs.Common.{◌&&◌, Ordering, sym, refl, ap, ◌∙◌, arith, OpenPlace, chosen, eqb-true, first_stood, moved, open_places}
+use Rattle.tl_number.proofs.Common.{stood, take-append_seam, times}
 use Rattle.std.proofs.lemmas.Bool.{and_parts, not-true}
 use Rattle.std.proofs.lemmas.List.{append_assoc, length-append}
 use Rattle.std.proofs.Math.Seq.{drop-append_seam}

@@ -1,25 +1,24 @@
 -- The choices that make a county tidy are those selected by numbers.
-use Rattle.std.proofs.Common.{◌≡◌, ◌⊎◌, ◌<◌, ◌==◌, ℕ, List, [], ◌∷◌, ◌++◌, map, flat_map, reverse, Bool, true, false, not, Ordering, Less}
-use Rattle.std.proofs.Common.{Equal, Greater, is_eq, is_gt, is_lt, sym, refl, ap, ◌∙◌, subst, inl, inr, nat_cmp, IsPermutation}
+use Rattle.tl_number.proofs.Common.{◌≡◌, ◌⊎◌, ◌<◌, ◌==◌, ℕ, List, [], ◌∷◌, ◌++◌, map, flat_map, reverse, Bool, true, false, not, Ordering}
+use Rattle.tl_number.proofs.Common.{Less, Equal, Greater, is_eq, is_gt, is_lt, sym, refl, ap, ◌∙◌, subst, inl, inr, nat_cmp, IsPermutation}
 use Rattle.tl_number.proofs.Common.{AllByRecursion, Among, Arrangement, Arranges, Chain, Coordinates, County, IsChoice, IsCounty, IsInOrder}
 use Rattle.tl_number.proofs.Common.{IsPermutation-map, IsPermutation-trans, IsTidy, Known, all_both, all_map, all_unmap, all_weaker}
-use Rattle.tl_number.proofs.Common.{among-map, among_known, arranged_tlids, ascending, choices, choices_of_shapes, chosen, each_from}
-use Rattle.tl_number.proofs.Common.{entries_of, entry_points, entry_shape, eq-eqb, false≢true, in_order, in_order-in_order}
-use Rattle.tl_number.proofs.Common.{in_order-is_permutation, in_order-map, is_either_way, keys_known, known-permutation_to, least_points}
-use Rattle.tl_number.proofs.Common.{map-map, map_agree_all, nat_keys, on, on_total, order_antisymm, placed, points_cmp, points_from}
-use Rattle.tl_number.proofs.Common.{points_keys, rights-numbered_from, running, same-itself, same-true, shapes, times-permutation, tlids}
-use Rattle.tl_number.proofs.Common.{to_filter, turned_if}
+use Rattle.tl_number.proofs.Common.{among-map, among_known, arranged, arranged_tlids, ascending, choices, choices_of_shapes, chosen}
+use Rattle.tl_number.proofs.Common.{each_from, entries_of, entry_points, entry_shape, eq-eqb, false≢true, in_order, in_order-in_order}
+use Rattle.tl_number.proofs.Common.{in_order-is_permutation, in_order-map, is_either_way, least_points, map-map, map_agree_all, nat_keys}
+use Rattle.tl_number.proofs.Common.{on, on_total, order_antisymm, placed, points_cmp, points_from, points_keys, renaming_of}
+use Rattle.tl_number.proofs.Common.{rights-numbered_from, running, same-itself, same-true, shapes, times-permutation, tlids, to_filter}
+use Rattle.tl_number.proofs.Common.{turned_if}
 use Rattle.std.proofs.lemmas.List.{append-nil, reverse-reverse}
 use Rattle.ordered_lists.proofs.ByKey.Numbers.{from_in_order}
 use Rattle.ordered_lists.proofs.Lists.Reordered.{from_permutation}
 use Rattle.tl_profile.proofs.Factorials.{running-same}
 use Rattle.tl_number.specs.Arrangement.{comes_turned}
-use Rattle.tl_number.specs.Arrangement.{renaming_of, arranged}
 use Rattle.tl_number.specs.Tidy.{directed_shape, turned_directed, numbered_choice}
 use Rattle.tl_number.proofs.Choices.AscendingArrangement.{shape_turned, turned_same}
 use Rattle.tl_number.proofs.Arrangements.Carrying.{chains_arranged}
 use Rattle.tl_number.proofs.Choices.Choosing.{IsChosen, permutation_of_times, chosen_is_choice, choice_has_number, first_stated}
-use Rattle.tl_number.proofs.Arrangements.Placed.{one_chain}
+use Rattle.tl_number.proofs.Arrangements.Placed.{arrangement_known, one_chain}
 use Rattle.tl_number.proofs.Unique.SameNumbers.{kept_entry}
 use Rattle.tl_number.proofs.Lists.SortedPlaces.{in_order-unmap}
 
@@ -172,10 +171,6 @@ module _ (county : County) (is : IsCounty county) where
 
   -- the chains of an arranged county have the points of the directed chains
   module _ (arrangement : Arrangement) (arranges : Arranges arrangement county) where
-    arrangement_known : AllByRecursion (λ (s : ℕ × Bool). Known nat_cmp (tlids county) s.0) arrangement
-    arrangement_known = all_weaker (λ (s : ℕ × Bool). Known nat_cmp (arranged_tlids arrangement) s.0) (λ s. Known nat_cmp (tlids county) s.0)
-        (λ s k. known-permutation_to nat_keys s.0 (arranged_tlids arrangement) (tlids county) arranges k) arrangement (keys_known nat_keys arrangement)
-
     bodies_points : (ss : Arrangement) → AllByRecursion (λ (s : ℕ × Bool). Known nat_cmp (tlids county) s.0) ss
         → map (λ (c : Chain). c.points)
         (flat_map (λ (s : ℕ × Bool). map (λ (e : ℕ × Chain). turned_if s.1 e.1) (entries_of county.chains s.0)) ss)
@@ -196,7 +191,7 @@ module _ (county : County) (is : IsCounty county) where
         ∙ ap (map (λ (c : Chain). c.points))
         (rights-numbered_from 1 (flat_map (λ (s : ℕ × Bool). map (λ (e : ℕ × Chain). turned_if s.1 e.1)
         (entries_of county.chains s.0)) arrangement))
-        ∙ bodies_points arrangement arrangement_known
+        ∙ bodies_points arrangement (arrangement_known county arrangement is arranges)
 
     abbrev IsNotAfterReverse : List Coordinates → Type 0
     IsNotAfterReverse ps = is_gt (points_cmp ps (reverse ps)) ≡ false
@@ -212,7 +207,8 @@ module _ (county : County) (is : IsCounty county) where
         (subst (AllByRecursion IsNotAfterReverse) points_of_arrangement
         (all_map IsNotAfterReverse entry_points (arranged county arrangement).chains tidy.directions)) in
         all_weaker (λ s. Known nat_cmp (tlids county) s.0 × IsNotAfterReverse (directed_points county s)) (IsLawful county) each arrangement
-        (all_both (λ s. Known nat_cmp (tlids county) s.0) (λ s. IsNotAfterReverse (directed_points county s)) arrangement arrangement_known directions)
+        (all_both (λ s. Known nat_cmp (tlids county) s.0) (λ s. IsNotAfterReverse (directed_points county s)) arrangement
+        (arrangement_known county arrangement is arranges) directions)
       where
         each : (s : ℕ × Bool) → Known nat_cmp (tlids county) s.0 × IsNotAfterReverse (directed_points county s) → IsLawful county s
         each s h =

@@ -1,9 +1,8 @@
 -- Links gathered landmark by landmark, and counted LAND by LAND.
-use Rattle.std.proofs.Common.{◌≡◌, ◌⊎◌, ◌<◌, ◌≤◌, ◌+◌, ◌-◌, ℕ, zero, suc, nat_le, List, [], ◌∷◌, ◌++◌, map, filter, flat_map, length}
-use Rattle.std.proofs.Common.{Bool, true, false, cond, not, Ordering, Less, Equal, Greater, is_gt, Some}
-use Rattle.std.proofs.Common.{slice_get}
-use Rattle.std.proofs.Common.{refl, sym, ap, ap₂, ◌∙◌, subst, inl, inr, arith, nat_cmp, append-nil, append_assoc, IsPermutation, IsTrue}
-use Rattle.tl_number.proofs.Common.{County, Fields8, IsCounty, IsInOrder, IsPermutation-map, IsPermutation-sym, IsPermutation-trans, Known}
+use Rattle.tl_number.proofs.Common.{◌&&◌, ◌≡◌, ◌⊎◌, ◌<◌, ◌≤◌, ◌+◌, ◌-◌, ℕ, zero, suc, nat_le, List, [], ◌∷◌, ◌++◌, map, filter, flat_map}
+use Rattle.tl_number.proofs.Common.{length, Bool, true, false, not, Ordering, Less, Equal, Greater, is_gt, Some, slice_get, refl, sym, ap}
+use Rattle.tl_number.proofs.Common.{ap₂, ◌∙◌, subst, inl, inr, arith, nat_cmp, append-nil, append_assoc, IsPermutation, IsTrue, County}
+use Rattle.tl_number.proofs.Common.{Fields8, IsCounty, IsInOrder, IsPermutation-map, IsPermutation-sym, IsPermutation-trans, Known}
 use Rattle.tl_number.proofs.Common.{MatchOrdering, all_weaker, apart_from_sorted, eight_land, in_order, in_order-in_order}
 use Rattle.tl_number.proofs.Common.{in_order-is_permutation, in_order-permutation, lands, length-map, link_cmp, link_keys, links_at}
 use Rattle.tl_number.proofs.Common.{links_up_to, links_with, ltb-true, map-append, nat_keys, of_number, range_with_len, ranked, stands_in}
@@ -11,7 +10,9 @@ use Rattle.tl_number.proofs.Common.{times, true≢false}
 use Rattle.std.proofs.lemmas.Bool.Decides.{leb_tells}
 use Rattle.std.proofs.lemmas.List.Filters.{length-filter_both}
 use Rattle.tl_county.proofs.Lists.OfNumber.{groups-permutation}
-use Rattle.tl_number.proofs.Views.DirectedChains.{flat_map-map}
+use Rattle.tl_number.proofs.Lists.Counting.{flat_map-map}
+use Rattle.ordered_lists.proofs.Lists.Counted.{filter-agree}
+use Rattle.tl_number.proofs.Lists.Filtered.{filter-filtered}
 
 -- one more piece
 piece_more : {Y : Type 0} (f : ℕ → List Y) (a n : ℕ) → flat_map f (range_with_len a (suc n)) ≡ flat_map f (range_with_len a n) ++ f (a + n)
@@ -86,16 +87,12 @@ above_or_not a b = go (leb_tells a b) (nat_cmp a b) (ranked a b (nat_cmp a b) re
     go (inr p) Greater m = sym (ap not p.0)
 
 filter_twice : {X : Type 0} (p q : X → Bool) → ((x : X) → p x ≡ true → q x ≡ true) → (xs : List X) → filter p (filter q xs) ≡ filter p xs
-filter_twice p q h [] = refl
-filter_twice {X} p q h (x ∷ xs) = go (q x) (p x) refl refl (filter_twice p q h xs)
+filter_twice p q h xs = filter-filtered q p xs ∙ filter-agree (λ x. q x && p x) p (λ x. both (q x) (p x) (h x)) xs
   where
-    go : (b c : Bool) → q x ≡ b → p x ≡ c → filter p (filter q xs) ≡ filter p xs
-        → filter p (cond (q x) (x ∷ filter q xs) (filter q xs)) ≡ cond (p x) (x ∷ filter p xs) (filter p xs)
-    go true c e f ih = ap (λ b. filter p (cond b (x ∷ filter q xs) (filter q xs))) e
-        ∙ ap (λ ys. cond (p x) (x ∷ ys) ys) ih
-    go false true e f ih = absurd (true≢false (sym (h x f) ∙ e))
-    go false false e f ih = ap (λ b. filter p (cond b (x ∷ filter q xs) (filter q xs))) e ∙ ih
-        ∙ sym (ap (λ b. cond b (x ∷ filter p xs) (filter p xs)) f)
+    both : (b c : Bool) → (c ≡ true → b ≡ true) → (b && c) ≡ c
+    both true c implied = refl
+    both false true implied = implied refl
+    both false false implied = refl
 
 -- the links with a greater LAND, and those up to it
 module _ (links rest later : List Fields8) (land : ℕ)

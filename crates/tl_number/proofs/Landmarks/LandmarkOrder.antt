@@ -1,7 +1,6 @@
 -- Landmarks sorted by their bodies, their links and their places are in their new order.
-use Rattle.std.proofs.Common.{◌≡◌, ◌≤◌, ℕ, suc, List, [], ◌∷◌, map, filter_map, length, Option, Some, None, arith}
-use Rattle.std.proofs.Common.{option_map}
-use Rattle.std.proofs.Common.{unwrap_or, slice_get, Ordering, refl, sym, ap, ap₂, ◌∙◌, subst, nat_cmp, IsPermutation, IsTrue, false}
+use Rattle.tl_number.proofs.Common.{◌≡◌, ◌≤◌, ℕ, suc, List, [], ◌∷◌, map, filter_map, length, Option, Some, None, arith, option_map}
+use Rattle.tl_number.proofs.Common.{unwrap_or, slice_get, Ordering, refl, sym, ap, ap₂, ◌∙◌, subst, nat_cmp, IsPermutation, IsTrue, false}
 use Rattle.tl_number.proofs.Common.{AllByRecursion, AreReadAt, AreWhole, Arrangement, Body7, County, DirectedChain, Fields8, IsApart}
 use Rattle.tl_number.proofs.Common.{IsCounty, IsInOrder, IsPermutation-map, IsPermutation-sym, IsTotalOrder, Known, PolygonKey, all_map}
 use Rattle.tl_number.proofs.Common.{all_weaker, among_known, apart-permutation, apart_from_sorted, arranged_by, arrangement_of, bodies_at}

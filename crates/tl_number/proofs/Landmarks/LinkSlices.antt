@@ -1,21 +1,12 @@
 -- In a list in the order of its numbers, the elements with one number are between two counts.
-use Rattle.std.proofs.Common.{◌≡◌, ◌⊎◌, ◌≢◌, ◌<◌, ◌≤◌, ◌+◌, ◌-◌, ◌==◌, ℕ, suc, nat_le, List, [], ◌∷◌, filter, length, take}
-use Rattle.std.proofs.Common.{drop, Bool, true, false, cond, Less, Equal, Greater, Ordering, is_gt, eqb, get_or, slice_get}
-use Rattle.std.proofs.Common.{nat_cmp, refl, sym, ap, ap₂, ◌∙◌, subst, inl, inr, arith}
-use Rattle.tl_number.proofs.Common.{AllByRecursion, Fields8, IsInOrder, MatchOrdering, all_weaker, eight_land, link_bounds, links_up_to}
-use Rattle.tl_number.proofs.Common.{links_with, on, ranked, true≢false, up_to}
+use Rattle.tl_number.proofs.Common.{◌≡◌, ◌⊎◌, ◌≢◌, ◌<◌, ◌≤◌, ◌+◌, ◌-◌, ◌==◌, ℕ, suc, nat_le, List, [], ◌∷◌, filter, length, take, drop}
+use Rattle.tl_number.proofs.Common.{Bool, true, false, cond, is_gt, eqb, get_or, slice_get, nat_cmp, refl, sym, ap, ap₂, ◌∙◌, subst, inl}
+use Rattle.tl_number.proofs.Common.{inr, arith, AllByRecursion, Fields8, IsInOrder, all_weaker, eight_land, link_bounds, links_up_to}
+use Rattle.tl_number.proofs.Common.{links_with, on, up_to}
 use Rattle.std.proofs.lemmas.Bool.Decides.{leb_tells, eqb_tells}
 use Rattle.std.proofs.lemmas.List.FromFn.{get_or-map-range_with_len}
 use Rattle.tl_number.proofs.Views.ViewNumbers.{get_up_to}
-
--- a number that doesn't compare as greater isn't greater
-pub not_above : (a b : ℕ) → is_gt (nat_cmp a b) ≡ false → a ≤ b
-not_above a b e = go (nat_cmp a b) (ranked a b (nat_cmp a b) refl) e
-  where
-    go : (o : Ordering) → MatchOrdering o (a < b) (a ≡ b) (b < a) → is_gt o ≡ false → a ≤ b
-    go Less m f = omega (arith, m)
-    go Equal m f = omega (arith, m)
-    go Greater m f = absurd (true≢false f)
+use Rattle.tl_number.proofs.Lists.Grouping.{at_most}
 
 module _ {X : Type 0} (number : X → ℕ) where
   -- how many elements have a number up to this one
@@ -95,7 +86,7 @@ module _ {X : Type 0} (number : X → ℕ) where
   between n [] h = refl
   between n (x ∷ xs) h =
       cut n x xs (all_weaker (λ y. is_gt (nat_cmp (number x) (number y)) ≡ false) (λ y. number x ≤ number y)
-      (λ y e. not_above (number x) (number y) e) xs h.0) (between n xs h.1)
+      (λ y e. at_most (number x) (number y) e) xs h.0) (between n xs h.1)
 
   counted : (m : ℕ) (x : X) (xs : List X) (b : Bool) → nat_le (number x) m ≡ b → upto m (x ∷ xs) ≡ length
       (cond b (x ∷ filter (λ y. nat_le (number y) m) xs) (filter (λ y. nat_le (number y) m) xs))

@@ -1,10 +1,17 @@
 -- Lists that count from a number: they ascend, and lists with the same length are equal.
-use Rattle.std.proofs.Common.{◌≡◌, ◌<◌, ◌+◌, ℕ, zero, suc, List, [], ◌∷◌, map, Less, Equal, Greater, refl, ap, arith, nat_cmp, cond, ◌==◌}
-use Rattle.tl_number.proofs.Common.{AllByRecursion, lt-ltb, range_with_len, up_to}
+use Rattle.tl_number.proofs.Common.{Ordering, is_gt, is_eq, false, true≢false, ◌≡◌, ◌<◌, ◌+◌, ℕ, zero, suc, List, [], ◌∷◌, ◌++◌, map, flat_map, Less, Equal, Greater, refl, ap, arith}
+use Rattle.tl_number.proofs.Common.{nat_cmp, cond, ◌==◌, AllByRecursion, lt-ltb, range_with_len, up_to}
+use Rattle.tl_number.proofs.Common.{all_weaker, ◌≤◌}
 use Rattle.std.specs.List.Sorted.{IsStrictlySortedBy}
 
 pub less : (m n : ℕ) → m < n → nat_cmp m n ≡ Less
 less m n h = ap (λ b. cond b Less (cond (m == n) Equal Greater)) (lt-ltb m n h)
+
+-- a comparison that finds neither greater nor equal
+pub less_from : (o : Ordering) → is_gt o ≡ false → is_eq o ≡ false → o ≡ Less
+less_from Less g e = refl
+less_from Equal g e = absurd (true≢false e)
+less_from Greater g e = absurd (true≢false g)
 
 above : (m a n : ℕ) → m < a → AllByRecursion (λ y. nat_cmp m y ≡ Less) (range_with_len a n)
 above m a zero h = tt
@@ -17,6 +24,16 @@ range_strict a (suc n) = (above a (a + 1) n (omega arith), range_strict (a + 1) 
 
 pub up_to-strict : (n : ℕ) → IsStrictlySortedBy nat_cmp (up_to n)
 up_to-strict n = range_strict 1 n
+
+-- and are within their bounds
+pub range_bounds : (a n : ℕ) → AllByRecursion (λ j. (a ≤ j) × (j < a + n)) (range_with_len a n)
+range_bounds a zero = tt
+range_bounds a (suc n) = (
+  (omega arith, omega arith),
+  all_weaker (λ j. (a + 1 ≤ j) × (j < (a + 1) + n)) (λ j. (a ≤ j) × (j < a + suc n))
+      (λ j h. (let low = h.0 in omega (arith, low), let high = h.1 in omega (arith, high))) (range_with_len (a + 1) n) (range_bounds
+      (a + 1) n),
+)
 
 -- entries with equal left parts and equal right parts are equal
 pub entries_equal : {A B : Type 0} (xs ys : List (A × B)) → map (λ e. e.0) xs ≡ map (λ e. e.0) ys → map (λ e. e.1) xs ≡ map (λ e. e.1) ys
@@ -34,3 +51,8 @@ entries_equal {A} {B} (x ∷ xs) (y ∷ ys) p q =
 pub map-equal_all : {X Y : Type 0} (f g : X → Y) (xs : List X) → map f xs ≡ map g xs → AllByRecursion (λ x. f x ≡ g x) xs
 map-equal_all f g [] e = tt
 map-equal_all f g (x ∷ xs) e = ((let t : f x ≡ g x = cc in t), map-equal_all f g xs (cc))
+
+-- lists joined after a map
+pub flat_map-map : {X Y Z : Type 0} (f : Y → List Z) (g : X → Y) (xs : List X) → flat_map f (map g xs) ≡ flat_map (λ x. f (g x)) xs
+flat_map-map f g [] = refl
+flat_map-map f g (x ∷ xs) = ap (λ zs. f (g x) ++ zs) (flat_map-map f g xs)

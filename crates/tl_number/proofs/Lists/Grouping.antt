@@ -1,10 +1,10 @@
 -- A list that ascends by a number is its elements number by number; and a list in pieces is joined again.
-use Rattle.std.proofs.Common.{◌≡◌, ◌⊎◌, ◌<◌, ◌≤◌, ◌+◌, ℕ, zero, suc, List, [], ◌∷◌, ◌++◌, map, flat_map, filter, length}
-use Rattle.std.proofs.Common.{length-append, take, drop, Bool, true, false, cond, Ordering, Less, Equal, Greater, is_gt, is_eq}
-use Rattle.std.proofs.Common.{sym, refl, ap, ap₂, ◌∙◌, subst, inl, inr, arith, nat_cmp, add-one, append-nil}
-use Rattle.tl_number.proofs.Common.{AllByRecursion, AreFull, IsInOrder, Known, MatchOrdering, all_weaker, eq-eqb, false≢true, known_all}
-use Rattle.tl_number.proofs.Common.{known_cases, nat_keys, ne_eqb, numbered_from, of_number, on, ordering_then, pieces, range_with_len}
-use Rattle.tl_number.proofs.Common.{ranked}
+use Rattle.tl_number.proofs.Common.{take-append_seam, drop_all, nat_cmp_total, take_all, tied_itself, ◌≡◌, ◌⊎◌, ◌<◌, ◌≤◌, ◌+◌, ℕ, zero, suc, List, [], ◌∷◌, ◌++◌, map, flat_map, filter, length}
+use Rattle.tl_number.proofs.Common.{length-append, take, drop, Bool, true, false, cond, Ordering, Less, Equal, Greater, is_gt, is_eq, sym}
+use Rattle.tl_number.proofs.Common.{refl, ap, ap₂, ◌∙◌, subst, inl, inr, arith, nat_cmp, add-one, append-nil, AllByRecursion, AreFull}
+use Rattle.tl_number.proofs.Common.{IsInOrder, Known, MatchOrdering, all_weaker, eq-eqb, false≢true, known_all, known_cases, nat_keys}
+use Rattle.tl_number.proofs.Common.{ne_eqb, numbered_from, of_number, on, ordering_then, pieces, range_with_len, ranked}
+use Rattle.std.proofs.Math.Seq.{drop-append_seam}
 use Rattle.std.specs.List.Sorted.{IsStrictlySortedBy}
 use Rattle.ordered_lists.proofs.Lists.Elements.{all_filter}
 
@@ -16,7 +16,8 @@ at_most_by m n Less h g = omega arith
 at_most_by m n Equal h g = omega arith
 at_most_by m n Greater h g = absurd (false≢true (sym g))
 
-at_most : (m n : ℕ) → is_gt (nat_cmp m n) ≡ false → m ≤ n
+-- a number that doesn't compare as greater isn't greater
+pub at_most : (m n : ℕ) → is_gt (nat_cmp m n) ≡ false → m ≤ n
 at_most m n g = at_most_by m n (nat_cmp m n) (ranked m n (nat_cmp m n) refl) g
 
 pub in_order-weaker : {X : Type 0} (by to : X → X → Ordering) → ((x y : X) → is_gt (by x y) ≡ false → is_gt (to x y) ≡ false)
@@ -32,6 +33,23 @@ then-first Greater b e = e
 
 pub then-second : (a b : Ordering) → a ≡ Equal → is_gt (ordering_then a b) ≡ false → is_gt b ≡ false
 then-second a b f e = sym (ap (λ o. is_gt (ordering_then o b)) f) ∙ e
+
+-- items that have one number, in the order of their numbers and then of their parts, are in the order of their parts
+pub parts_in_order : {X K : Type 0} (number : X → ℕ) (part : X → K) (cmp : K → K → Ordering) (n : ℕ) (xs : List X)
+    → AllByRecursion (λ x. number x ≡ n) xs → IsInOrder (λ x y. ordering_then (nat_cmp (number x) (number y)) (cmp (part x) (part y))) xs
+    → IsInOrder cmp (map part xs)
+parts_in_order number part cmp n [] a h = tt
+parts_in_order {X} number part cmp n (x ∷ xs) a h = (each xs a.1 h.0, parts_in_order number part cmp n xs a.1 h.1)
+  where
+    each : (ys : List X) → AllByRecursion (λ y. number y ≡ n) ys
+        → AllByRecursion (λ y. is_gt (ordering_then (nat_cmp (number x) (number y)) (cmp (part x) (part y))) ≡ false) ys
+        → AllByRecursion (λ k. is_gt (cmp (part x) k) ≡ false) (map part ys)
+    each [] l g = tt
+    each (y ∷ ys) l g = (
+      then-second (nat_cmp (number x) (number y)) (cmp (part x) (part y)) (ap (nat_cmp (number x)) (l.0 ∙ sym a.0)
+          ∙ tied_itself nat_cmp_total (number x)) g.0,
+      each ys l.1 g.1,
+    )
 
 pub in_order-filter : {X : Type 0} (by : X → X → Ordering) (p : X → Bool) (xs : List X) → IsInOrder by xs → IsInOrder by (filter p xs)
 in_order-filter by p [] h = tt
@@ -87,26 +105,6 @@ module _ {X : Type 0} (key : X → ℕ) where
   grouped (x ∷ xs) h ks s a = first_group x xs h.0 ks s a.0 ∙ ap (λ ys. x ∷ ys) (grouped xs h.1 ks s a.1)
 
 -- pieces
-take_front : {X : Type 0} (l rest : List X) → take (length l) (l ++ rest) ≡ l
-take_front [] rest = refl
-take_front (x ∷ l) rest = ap (λ ys. x ∷ ys) (take_front l rest)
-
-drop_front : {X : Type 0} (l rest : List X) → drop (length l) (l ++ rest) ≡ rest
-drop_front [] rest = refl
-drop_front (x ∷ l) rest = drop_front l rest
-
-take_whole : {X : Type 0} (n : ℕ) (l : List X) → length l ≤ n → take n l ≡ l
-take_whole zero [] h = refl
-take_whole (suc n) [] h = refl
-take_whole zero (x ∷ l) h = absurd (omega arith)
-take_whole (suc n) (x ∷ l) h = ap (λ ys. x ∷ ys) (take_whole n l (omega arith))
-
-drop_whole : {X : Type 0} (n : ℕ) (l : List X) → length l ≤ n → drop n l ≡ []
-drop_whole zero [] h = refl
-drop_whole (suc n) [] h = refl
-drop_whole zero (x ∷ l) h = absurd (omega arith)
-drop_whole (suc n) (x ∷ l) h = drop_whole n l (omega arith)
-
 pieces-nil : {X : Type 0} (n most : ℕ) → pieces {X = X} n most [] ≡ []
 pieces-nil n zero = refl
 pieces-nil n (suc most) = refl
@@ -120,7 +118,7 @@ pieces-joined n one ((x ∷ l) ∷ []) f (suc most) h =
     let whole : l ++ [] ≡ l = append-nil l in
     let le : length (x ∷ l) ≤ n = f.1 in
     ap (λ ys. take n (x ∷ ys) ∷ pieces n most (drop n (x ∷ ys))) whole
-    ∙ ap₂ (λ ys zs. ys ∷ pieces n most zs) (take_whole n (x ∷ l) le) (drop_whole n (x ∷ l) le)
+    ∙ ap₂ (λ ys zs. ys ∷ pieces n most zs) (take_all n (x ∷ l) le) (drop_all n (x ∷ l) le)
     ∙ ap (λ ys. (x ∷ l) ∷ ys) (pieces-nil n most)
 pieces-joined n one ([] ∷ m ∷ ls) f most h = absurd (let t : 0 ≡ n = f.0 in omega arith)
 pieces-joined n one ((x ∷ l) ∷ m ∷ ls) f zero h = absurd (omega arith)
@@ -128,8 +126,8 @@ pieces-joined n one ((x ∷ l) ∷ m ∷ ls) f (suc most) h =
     let rest : List _ = flat_map (λ l. l) (m ∷ ls) in
     let full : length (x ∷ l) ≡ n = f.0 in
     ap₂ (λ ys zs. ys ∷ pieces n most zs)
-    (subst (λ k. take k ((x ∷ l) ++ rest) ≡ x ∷ l) full (take_front (x ∷ l) rest))
-    (subst (λ k. drop k ((x ∷ l) ++ rest) ≡ rest) full (drop_front (x ∷ l) rest))
+    (subst (λ k. take k ((x ∷ l) ++ rest) ≡ x ∷ l) full (take-append_seam (x ∷ l) rest))
+    (subst (λ k. drop k ((x ∷ l) ++ rest) ≡ rest) full (drop-append_seam (x ∷ l) rest))
     ∙ ap (λ ys. (x ∷ l) ∷ ys) (pieces-joined n one (m ∷ ls) f.1 most (let t : length (l ++ rest) ≡ length l + length rest =
     length-append l rest in omega (arith, h)))
 

@@ -1,8 +1,6 @@
 -- Two lists compared item by item.
-use Rattle.std.proofs.Common.{◌≡◌, ◌≢◌, ◌<◌, ◌≤◌, ℕ, zero, suc, List, [], ◌∷◌, length, drop, Ordering}
-use Rattle.std.proofs.Common.{Less, Equal}
-use Rattle.std.proofs.Common.{Greater, None, slice_get, sym, refl, ap, ◌∙◌, arith}
-use Rattle.tl_number.proofs.Common.{drop_all, option_cmp, ordering_then, slice_cmp}
+use Rattle.tl_number.proofs.Common.{◌≡◌, ◌≢◌, ◌<◌, ◌≤◌, ℕ, zero, suc, List, [], ◌∷◌, length, drop, Ordering, Less, Equal, Greater, None}
+use Rattle.tl_number.proofs.Common.{slice_get, sym, refl, ap, ◌∙◌, arith, drop_all, option_cmp, ordering_then, slice_cmp}
 
 module _ {X : Type 0} (R : X → X → Ordering) where
   rest_greater : (i : ℕ) (xs : List X) → i < length xs → slice_cmp R (drop i xs) [] ≡ Greater

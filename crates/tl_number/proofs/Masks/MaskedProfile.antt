@@ -1,9 +1,8 @@
 -- The profile and the order of chains by their shapes don't depend on anything that a mask leaves out.
-use Rattle.std.proofs.Common.{◌≡◌, ◌&&◌, ℕ, List, map, reverse, not, refl, sym, ap, ◌∙◌, subst}
-use Rattle.std.proofs.Common.{nat_cmp, length, min, suc, ◌≤◌, IsPermutation}
-use Rattle.tl_number.proofs.Common.{AreInShapeOrder, Chain, Coordinates, County, DirectedChain, IsInOrder, IsInProfile, Mask, OrderOfShapes}
-use Rattle.tl_number.proofs.Common.{TooSymmetric, choices, choices_of_shapes, is_either_way, key_cmp, least_points, map-map, masked}
-use Rattle.tl_number.proofs.Common.{most_choices, open_places, ordering_then, points_along, points_cmp, points_from, range_with_len}
+use Rattle.tl_number.proofs.Common.{◌≡◌, ◌&&◌, ℕ, List, map, reverse, not, refl, sym, ap, ◌∙◌, subst, nat_cmp, length, min, suc, ◌≤◌}
+use Rattle.tl_number.proofs.Common.{IsPermutation, AreInShapeOrder, Chain, Coordinates, County, DirectedChain, IsInOrder, IsInProfile, Mask}
+use Rattle.tl_number.proofs.Common.{OrderOfShapes, TooSymmetric, choices, choices_of_shapes, is_either_way, key_cmp, least_points, map-map}
+use Rattle.tl_number.proofs.Common.{masked, most_choices, open_places, ordering_then, points_along, points_cmp, points_from, range_with_len}
 use Rattle.tl_number.proofs.Common.{running, stands_in}
 use Rattle.std.specs.Prelude.{nat_lt}
 use Rattle.std.specs.Ordering.{is_lt}

@@ -1,6 +1,5 @@
 -- Each mask is a view, and never takes more records than the whole county.
-use Rattle.std.proofs.Common.{ℕ, arith, subst}
-use Rattle.tl_number.proofs.Common.{IsSight, Mask, by_type_of, masked, packed, packed_by_type}
+use Rattle.tl_number.proofs.Common.{ℕ, arith, subst, IsSight, Mask, by_type_of, masked, packed, packed_by_type}
 use Rattle.tl_layout.specs.Limits.{count_of_type}
 use Rattle.tl_county.specs.Laws.MaskedCounties.{masked_is_county}
 use Rattle.tl_county.specs.Laws.MaskedLimits.{counts_masked, masked_within_limits}

@@ -1,26 +1,22 @@
 -- Names sorted by their bytes, the ranks of their first uses and their places are in their new order.
-use Rattle.std.proofs.Common.{◌≡◌, ◌<◌, ◌≤◌, ◌+◌, ℕ, suc, nat_lt, List, [], ◌∷◌, ◌++◌, map, flat_map, filter_map, length, Bool}
-use Rattle.std.proofs.Common.{true, false}
-use Rattle.std.proofs.Common.{cond, not, Ordering, Less, Equal, Greater, Option, Some, None, option_map, slice_get, is_eq, sym, refl, ap}
-use Rattle.std.proofs.Common.{ap₂}
-use Rattle.std.proofs.Common.{◌∙◌, subst, arith, nat_cmp, IsPermutation, append-nil, append_assoc}
-use Rattle.tl_number.proofs.Common.{AreReadAt, AreWhole, Arrangement, Body5, Chain, County, DirectedChain, IsApart, IsCounty, IsInOrder}
-use Rattle.tl_number.proofs.Common.{IsKeyOrder, IsPermutation-map, IsTotalOrder, Use, all_uses, apart-permutation, apart_from_sorted}
-use Rattle.tl_number.proofs.Common.{arranged_tlids, arrangement_of, cons_option, entry_keys, feats, feats_along_arrangement, first_seen}
-use Rattle.tl_number.proofs.Common.{first_seen_after, has_repeat, has_repeat-apart, length-map, length_permutation, ltb-false, ltb-true}
-use Rattle.tl_number.proofs.Common.{map-append, name_key, name_key_cmp, names_in_order, nat_cmp_total, nat_keys, on_total, option_cmp}
-use Rattle.tl_number.proofs.Common.{ordering_then, placed, position_or_len, range_with_len, slice_cmp, slice_get-map, stands_in, then_total}
-use Rattle.tl_number.proofs.Common.{times-append, times-yes, use_cmp, uses_from, uses_of_name}
-use Rattle.std.specs.List.Sorted.{IsStrictlySortedBy}
+use Rattle.tl_number.proofs.Common.{◌≡◌, ◌+◌, ℕ, suc, List, [], ◌∷◌, ◌++◌, map, flat_map, filter_map, length, Bool, true, false, cond}
+use Rattle.tl_number.proofs.Common.{Ordering, Less, Equal, Greater, Option, Some, option_map, slice_get, sym, refl, ap, ap₂, ◌∙◌, subst}
+use Rattle.tl_number.proofs.Common.{arith, nat_cmp, IsPermutation, append-nil, append_assoc, AreReadAt, AreWhole, Arrangement, Body5, Chain}
+use Rattle.tl_number.proofs.Common.{County, DirectedChain, IsApart, IsCounty, IsInOrder, IsKeyOrder, IsPermutation-map, IsStrictlySortedBy}
+use Rattle.tl_number.proofs.Common.{IsTotalOrder, Use, all_uses, apart-permutation, apart_from_sorted, arranged_tlids, arrangement_of}
+use Rattle.tl_number.proofs.Common.{cons_option, entry_keys, feats, feats_along_arrangement, first_seen, first_seen_after, has_repeat}
+use Rattle.tl_number.proofs.Common.{has_repeat-apart, length-map, length_permutation, ltb-true, map-append, name_key, name_key_cmp}
+use Rattle.tl_number.proofs.Common.{names_in_order, nat_cmp_total, nat_keys, on_total, option_cmp, ordering_then, placed, range_with_len}
+use Rattle.tl_number.proofs.Common.{slice_cmp, slice_get-map, stands_in, then_total, times-append, times-yes, use_cmp, uses_from}
+use Rattle.tl_number.proofs.Common.{uses_of_name}
 use Rattle.tl_county.specs.BodyOrder.{name_body_cmp}
 use Rattle.tl_county.specs.ChartWords.{name_at}
 use Rattle.tl_county.specs.Laws.KeyOrders.{name_body_keys}
-use Rattle.tl_number.specs.NameItems.{from_one, rank_of, ranked_at, ranked_cmp, ranked_place}
+use Rattle.tl_number.specs.NameItems.{rank_of, ranked_at, ranked_cmp, ranked_place}
 use Rattle.tl_number.specs.declared.name_order.RankedName.{RankedName}
 use Rattle.tl_number.proofs.Choices.AscendingArrangement.{options_total}
 use Rattle.tl_number.proofs.Arrangements.Carrying.{names_permutation}
 use Rattle.tl_number.proofs.Lists.Counting.{up_to-strict}
-use Rattle.tl_number.proofs.Numbering.FirstSeen.{place_from}
 use Rattle.tl_number.proofs.Names.NameRanks.{ranks_decide}
 use Rattle.tl_number.proofs.Arrangements.Placed.{placed_tlids}
 use Rattle.tl_number.proofs.Polygons.PolygonOrder.{read_mapped}
@@ -56,39 +52,6 @@ filter_map_all {X} {Y} f (x ∷ xs) (y ∷ ys) e =
     let rest : map f xs ≡ map Some ys = cc in
     ap (λ o. cons_option o (filter_map f xs)) here ∙ ap (λ zs. y ∷ zs) (filter_map_all f xs ys rest)
 
--- the rank of a FEAT is its place among those first seen
-found_rank : (i : ℕ) (ks : List ℕ) (f : ℕ) → position_or_len (λ k. is_eq (nat_cmp f k)) ks < length ks
-    → place_from nat_keys i ks f ≡ i + position_or_len (λ k. is_eq (nat_cmp f k)) ks
-found_rank i [] f h = absurd (omega (arith, h))
-found_rank i (x ∷ xs) f h = go (is_eq (nat_cmp f x)) h (found_rank (suc i) xs f)
-  where
-    go : (b : Bool) → cond (not b) (1 + position_or_len (λ k. is_eq (nat_cmp f k)) xs) 0 < suc (length xs)
-        → (position_or_len (λ k. is_eq (nat_cmp f k)) xs < length xs
-        → place_from nat_keys (suc i) xs f ≡ suc i + position_or_len (λ k. is_eq (nat_cmp f k)) xs)
-        → cond b i (place_from nat_keys (suc i) xs f) ≡ i + cond (not b) (1 + position_or_len (λ k. is_eq (nat_cmp f k)) xs) 0
-    go true l ih = (let t : i ≡ i + 0 = omega arith in t)
-    go false l ih = (let e = ih (omega (arith, l)) in omega (arith, e))
-
-missing_rank : (i : ℕ) (ks : List ℕ) (f : ℕ) → length ks ≤ position_or_len (λ k. is_eq (nat_cmp f k)) ks → place_from nat_keys i ks f ≡ 0
-missing_rank i [] f h = refl
-missing_rank i (x ∷ xs) f h = go (is_eq (nat_cmp f x)) h (missing_rank (suc i) xs f)
-  where
-    go : (b : Bool) → suc (length xs) ≤ cond (not b) (1 + position_or_len (λ k. is_eq (nat_cmp f k)) xs) 0
-        → (length xs ≤ position_or_len (λ k. is_eq (nat_cmp f k)) xs → place_from nat_keys (suc i) xs f ≡ 0)
-        → cond b i (place_from nat_keys (suc i) xs f) ≡ 0
-    go true l ih = absurd (omega (arith, l))
-    go false l ih = ih (omega (arith, l))
-
-rank_stated : (ks : List ℕ) (f : ℕ) → rank_of ks (Some f) ≡ place_from nat_keys 1 ks f
-rank_stated ks f = go (nat_lt (position_or_len (λ k. is_eq (nat_cmp f k)) ks) (length ks)) refl
-  where
-    go : (b : Bool) → nat_lt (position_or_len (λ k. is_eq (nat_cmp f k)) ks) (length ks) ≡ b
-        → from_one (cond b (Some (position_or_len (λ k. is_eq (nat_cmp f k)) ks)) None) ≡ place_from nat_keys 1 ks f
-    go true e = (let t : position_or_len (λ k. is_eq (nat_cmp f k)) ks + 1 ≡ 1 + position_or_len (λ k. is_eq
-        (nat_cmp f k)) ks = omega arith in t)
-        ∙ sym (found_rank 1 ks f (ltb-true (position_or_len (λ k. is_eq (nat_cmp f k)) ks) (length ks) e))
-    go false e = sym (missing_rank 1 ks f (ltb-false (position_or_len (λ k. is_eq (nat_cmp f k)) ks) (length ks) e))
-
 -- the FEATs of all uses, along the chains
 named_from : (t i : ℕ) (fs : List ℕ) → map (λ (u : Use × ℕ). u.1) (uses_from t i fs) ≡ fs
 named_from t i [] = refl
@@ -122,13 +85,10 @@ module _ (county : County) (arrangement : List DirectedChain) (is : IsCounty cou
   seen_uses : seen ≡ first_seen_after nat_cmp [] (map (λ (u : Use × ℕ). u.1) used)
   seen_uses = uses ∙ ap (first_seen nat_cmp) (sym (named (placed county order) ∙ feats_placed county is arrangement whole.there))
 
-  ranked : (f : ℕ) → rank_of seen (Some f) ≡ place_from nat_keys 1 (first_seen_after nat_cmp [] (map (λ (u : Use × ℕ). u.1) used)) f
-  ranked f = rank_stated seen f ∙ ap (λ ks. place_from nat_keys 1 ks f) seen_uses
-
   by_uses : (f g : ℕ) → nat_cmp (rank_of seen (Some f)) (rank_of seen (Some g)) ≡ slice_cmp use_cmp (uses_of_name used f)
       (uses_of_name used g)
   by_uses f g =
-      ap₂ nat_cmp (ranked f) (ranked g)
+      (λ j. nat_cmp (rank_of (seen_uses j) (Some f)) (rank_of (seen_uses j) (Some g)))
       ∙ sym (ranks_decide [] used (all_uses-strict (placed county order)
       (subst (IsStrictlySortedBy nat_cmp) (sym (placed_tlids county order is (arranges county arrangement is whole)))
       (up_to-strict (length (arranged_tlids order))))) f g refl refl)

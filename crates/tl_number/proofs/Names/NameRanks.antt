@@ -1,48 +1,42 @@
 -- The first uses of two names along the chains decide as all their uses do.
-use Rattle.std.proofs.Common.{◌≡◌, ◌⊎◌, ◌<◌, ◌≤◌, ◌+◌, ◌==◌, ℕ, zero, suc, List, [], ◌∷◌, ◌++◌, map, filter, length, Bool, true}
-use Rattle.std.proofs.Common.{false, cond, Less, Greater, is_eq, sym, refl, ap, ap₂, ◌∙◌, subst, inl}
-use Rattle.std.proofs.Common.{inr}
-use Rattle.std.proofs.Common.{arith, nat_cmp, nat_lt, length-append}
-use Rattle.tl_number.proofs.Common.{AllByRecursion, Among, IsTotalOrder, Known, Use, all_among, among-map, eq-eqb, first_seen_after}
-use Rattle.tl_number.proofs.Common.{known-here, known-right, length-map, lists_keys, nat_cmp_total, nat_keys, ne_eqb, ordering_reverse}
-use Rattle.tl_number.proofs.Common.{ordering_then, same_or_not, slice_cmp, stands_in, tied_itself, times, times-append, times-no}
-use Rattle.tl_number.proofs.Common.{times-of_number, times-yes, use_cmp, uses_of_name}
+use Rattle.tl_number.proofs.Common.{◌≡◌, ◌⊎◌, ◌<◌, ◌≤◌, ◌+◌, ◌==◌, ℕ, zero, suc, List, [], ◌∷◌, ◌++◌, map, filter, length, Bool, true}
+use Rattle.tl_number.proofs.Common.{false, cond, Less, Greater, is_eq, sym, refl, ap, ap₂, ◌∙◌, subst, inl, inr, arith, nat_cmp, nat_lt}
+use Rattle.tl_number.proofs.Common.{length-append, AllByRecursion, Among, IsTotalOrder, Known, Use, all_among, among-map, eq-eqb}
+use Rattle.tl_number.proofs.Common.{first_seen_after, known-here, known-right, length-map, lists_keys, nat_cmp_total, nat_keys, ne_eqb}
+use Rattle.tl_number.proofs.Common.{ordering_reverse, ordering_then, same_or_not, slice_cmp, stands_in, tied_itself, times, times-append}
+use Rattle.tl_number.proofs.Common.{times-no, times-of_number, use_cmp, uses_of_name, None, Some, ltb-true, position_or_len}
 use Rattle.std.specs.List.Sorted.{IsStrictlySortedBy}
-use Rattle.ordered_lists.proofs.ByKey.Keys.{differ_apart}
+use Rattle.ordered_lists.proofs.ByKey.Keys.{differ_apart, known-left}
 use Rattle.tl_number.proofs.Lists.Counting.{less}
-use Rattle.tl_number.proofs.Numbering.FirstSeen.{place_from, place_bounds, place-append, place-new, seen_stays}
+use Rattle.tl_number.proofs.Numbering.FirstSeen.{known_within, place_from, place-append, place-new, seen_stays, unknown_at_end}
+use Rattle.tl_number.proofs.Numbering.FoundPlaces.{place_behind, to_position}
+use Rattle.tl_number.specs.NameItems.{from_one, rank_of}
+use Rattle.std.proofs.lemmas.Bool.{false_from_ne_true}
 use Rattle.tl_number.proofs.Numbering.FirstSeen.{known_after, all_after}
 use Rattle.tl_number.proofs.Names.UsesOrder.{use_keys, under_use}
 
 -- the number of a FEAT among those seen, or 0
 abbrev rank : List ℕ → ℕ → ℕ
-rank seen f = place_from nat_keys 1 seen f
+rank seen f = rank_of seen (Some f)
+
+-- a FEAT that was seen has its place, counted from 1
+ranked_there : (seen : List ℕ) (f : ℕ) → Known nat_cmp seen f → rank seen f ≡ place_from nat_keys 1 seen f
+ranked_there seen f h = ap from_one (sym (to_position (λ k. is_eq (nat_cmp f k)) seen (known_within nat_keys seen f h)))
+    ∙ (let t : position_or_len (λ k. is_eq (nat_cmp f k)) seen + 1 ≡ 1 + position_or_len (λ k. is_eq (nat_cmp f k)) seen = omega arith in t)
 
 -- a FEAT that wasn't seen has no number
-unranked : (i : ℕ) (seen : List ℕ) (f : ℕ) → times nat_cmp f seen ≡ 0 → place_from nat_keys i seen f ≡ 0
-unranked i [] f h = refl
-unranked i (x ∷ xs) f h = go (same_or_not nat_keys f x) (unranked (suc i) xs f)
-  where
-    go : (f ≡ x) ⊎ (is_eq (nat_cmp f x) ≡ false) → (times nat_cmp f xs ≡ 0 → place_from nat_keys (suc i) xs f ≡ 0)
-        → place_from nat_keys i (x ∷ xs) f ≡ 0
-    go (inl e) ih = absurd (let t = times-yes nat_keys f x xs e in omega (arith, h, t))
-    go (inr ne) ih = ap (λ b. cond b i (place_from nat_keys (suc i) xs f)) ne ∙ ih (sym (times-no nat_keys f x xs ne) ∙ h)
+unranked : (seen : List ℕ) (f : ℕ) → times nat_cmp f seen ≡ 0 → rank seen f ≡ 0
+unranked seen f h = ap (λ n. from_one (cond (nat_lt n (length seen)) (Some n) None)) (unknown_at_end nat_keys seen f h)
+    ∙ ap (λ b. from_one (cond b (Some (length seen)) None))
+    (false_from_ne_true (nat_lt (length seen) (length seen)) (λ e. let l = ltb-true (length seen) (length seen) e in omega (arith, l)))
 
 -- a FEAT seen later has a greater number than all that were there
-beyond : (i : ℕ) (seen more : List ℕ) (g : ℕ) → times nat_cmp g seen ≡ 0 → Known nat_cmp more g
-    → i + length seen ≤ place_from nat_keys i (seen ++ more) g
-beyond i [] more g h k = let b = place_bounds nat_keys i more g k in let low = b.0 in omega (arith, low)
-beyond i (x ∷ xs) more g h k = go (same_or_not nat_keys g x) (beyond (suc i) xs more g)
-  where
-    go : (g ≡ x) ⊎ (is_eq (nat_cmp g x) ≡ false)
-        → (times nat_cmp g xs ≡ 0 → Known nat_cmp more g → suc i + length xs ≤ place_from nat_keys (suc i) (xs ++ more) g)
-        → i + suc (length xs) ≤ place_from nat_keys i (x ∷ (xs ++ more)) g
-    go (inl e) ih = absurd (let t = times-yes nat_keys g x xs e in omega (arith, h, t))
-    go (inr ne) ih =
-        let later : place_from nat_keys i (x ∷ (xs ++ more)) g ≡ place_from nat_keys (suc i) (xs ++ more) g =
-        ap (λ b. cond b i (place_from nat_keys (suc i) (xs ++ more) g)) ne in
-        let rest = ih (sym (times-no nat_keys g x xs ne) ∙ h) k in
-        omega (arith, later, rest)
+beyond : (seen more : List ℕ) (g : ℕ) → times nat_cmp g seen ≡ 0 → Known nat_cmp more g → 1 + length seen ≤ rank (seen ++ more) g
+beyond seen more g h k =
+    let end = unknown_at_end nat_keys seen g h in
+    let behind = place_behind (λ j. is_eq (nat_cmp g j)) seen more (omega (arith, end)) in
+    let there = ranked_there (seen ++ more) g (known-right nat_keys g seen more k) in
+    omega (arith, behind, there)
 
 -- a new FEAT is seen next, and others are seen after it or never
 module _ (seen feats : List ℕ) (f g : ℕ) (new : times nat_cmp f seen ≡ 0) (unseen : times nat_cmp g seen ≡ 0)
@@ -60,7 +54,8 @@ module _ (seen feats : List ℕ) (f g : ℕ) (new : times nat_cmp f seen ≡ 0) 
   there = known-right nat_keys f seen (f ∷ []) (known-here nat_keys f [])
 
   first_rank : rank final f ≡ suc (length seen)
-  first_rank = ap (λ ks. rank ks f) stays ∙ place-append nat_keys 1 (seen ++ (f ∷ [])) more f there ∙ place-new nat_keys 1 seen f new
+  first_rank = ap (λ ks. rank ks f) stays ∙ ranked_there ((seen ++ (f ∷ [])) ++ more) f (known-left nat_keys f (seen ++ (f ∷ [])) more there)
+      ∙ place-append nat_keys 1 (seen ++ (f ∷ [])) more f there ∙ place-new nat_keys 1 seen f new
       ∙ (let t : 1 + length seen ≡ suc (length seen) = omega arith in t)
 
   still_unseen : times nat_cmp g (seen ++ (f ∷ [])) ≡ 0
@@ -70,7 +65,7 @@ module _ (seen feats : List ℕ) (f g : ℕ) (new : times nat_cmp f seen ≡ 0) 
   longer = let l = length-append seen (f ∷ []) in omega (arith, l)
 
   never_ranked : times nat_cmp g feats ≡ 0 → rank final g ≡ 0
-  never_ranked none = unranked 1 final g (count (times nat_cmp g final) refl)
+  never_ranked none = unranked final g (count (times nat_cmp g final) refl)
     where
       out : Known nat_cmp (seen ++ (f ∷ [])) g ⊎ Known nat_cmp feats g → ⊥
       out (inl k) = omega (arith, k, still_unseen)
@@ -85,7 +80,7 @@ module _ (seen feats : List ℕ) (f g : ℕ) (new : times nat_cmp f seen ≡ 0) 
       let known : Known nat_cmp final g = all_after nat_keys (seen ++ (f ∷ [])) feats g k in
       let split : times nat_cmp g final ≡ times nat_cmp g (seen ++ (f ∷ [])) + times nat_cmp g more =
       ap (times nat_cmp g) stays ∙ times-append nat_keys g (seen ++ (f ∷ [])) more in
-      let b = beyond 1 (seen ++ (f ∷ [])) more g still_unseen (omega (arith, known, split, still_unseen)) in
+      let b = beyond (seen ++ (f ∷ [])) more g still_unseen (omega (arith, known, split, still_unseen)) in
       let same : rank final g ≡ rank ((seen ++ (f ∷ [])) ++ more) g = ap (λ ks. rank ks g) stays in
       omega (arith, first_rank, longer, b, same)
 
@@ -143,7 +138,7 @@ pub ranks_decide : (seen : List ℕ) (us : List (Use × ℕ)) → IsStrictlySort
     (rank (first_seen_after nat_cmp seen (map (λ (w : Use × ℕ). w.1) us)) f)
     (rank (first_seen_after nat_cmp seen (map (λ (w : Use × ℕ). w.1) us)) g)
 unfolding IsStrictlySortedBy
-ranks_decide seen [] strict f g nf ng = ap₂ nat_cmp (sym (unranked 1 seen f nf)) (sym (unranked 1 seen g ng))
+ranks_decide seen [] strict f g nf ng = ap₂ nat_cmp (sym (unranked seen f nf)) (sym (unranked seen g ng))
 ranks_decide seen (u ∷ us) strict f g nf ng =
     go (same_or_not nat_keys f u.1) (same_or_not nat_keys g u.1) (ranks_decide seen us strict.1 f g nf ng)
     (λ a b. ranks_decide (seen ++ (u.1 ∷ [])) us strict.1 f g a b)

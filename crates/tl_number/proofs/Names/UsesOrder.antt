@@ -1,8 +1,8 @@
 -- Uses of names: each occurs once in the list of all uses, and a name's uses are those under its FEAT.
-use Rattle.std.proofs.Common.{◌≡◌, ◌<◌, ℕ, suc, ◌==◌, List, [], ◌∷◌, ◌++◌, map, filter, Bool, true, false, cond, Less}
-use Rattle.std.proofs.Common.{sym, refl, ap, ◌∙◌, subst, inl, inr, arith, nat_cmp}
-use Rattle.tl_number.proofs.Common.{AllByRecursion, Among, Chain, IsKeyOrder, Use, all_uses, eq-eqb, eqb-true, nat_cmp_total, nat_keys}
-use Rattle.tl_number.proofs.Common.{ordering_then, pair_keys, tied_itself, use_cmp, uses_from, uses_of_name}
+use Rattle.tl_number.proofs.Common.{◌≡◌, ◌<◌, ℕ, suc, ◌==◌, List, [], ◌∷◌, ◌++◌, map, filter, Bool, true, false, cond, Less, sym, refl, ap}
+use Rattle.tl_number.proofs.Common.{◌∙◌, subst, inl, inr, arith, nat_cmp, AllByRecursion, Among, Chain, IsKeyOrder, Use, all_uses, eq-eqb}
+use Rattle.tl_number.proofs.Common.{eqb-true, nat_cmp_total, nat_keys, ordering_then, pair_keys, tied_itself, use_cmp, uses_from}
+use Rattle.tl_number.proofs.Common.{uses_of_name}
 use Rattle.std.specs.List.Sorted.{IsStrictlySortedBy}
 use Rattle.tl_number.proofs.Lists.Counting.{less}
 

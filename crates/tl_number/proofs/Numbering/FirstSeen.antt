@@ -1,64 +1,39 @@
 -- Keys in the order of their first occurrence: each occurs once, the members are the same, and the numbers grow along the keys.
-use Rattle.std.proofs.Common.{◌≡◌, ◌⊎◌, ◌<◌, ◌≤◌, ◌+◌, ℕ, suc, max, List, [], ◌∷◌, ◌++◌, map, length, Bool, true, false}
-use Rattle.std.proofs.Common.{cond, Ordering, is_eq, sym, refl, ap, ◌∙◌, subst, inl, inr, arith, append_assoc, append-nil}
-use Rattle.std.proofs.Common.{length-append}
-use Rattle.tl_number.proofs.Common.{Grows, GrowsFrom, IsApart, IsKeyOrder, Known, first_seen, first_seen_after, known-here, known-right}
+use Rattle.tl_number.proofs.Common.{◌≡◌, ◌⊎◌, ◌<◌, ◌≤◌, ◌+◌, ℕ, max, List, [], ◌∷◌, ◌++◌, map, length, Bool, true, false, cond, Ordering}
+use Rattle.tl_number.proofs.Common.{is_eq, sym, refl, ap, ◌∙◌, subst, inl, inr, arith, append_assoc, append-nil, length-append, Grows}
+use Rattle.tl_number.proofs.Common.{GrowsFrom, IsApart, IsKeyOrder, Known, first_seen, first_seen_after, known-here, known-right}
 use Rattle.tl_number.proofs.Common.{known_cases, ltb-false, ltb-true, same_or_not, stands_in, times, times-append, times-no, times-yes}
-use Rattle.ordered_lists.proofs.ByKey.Keys.{known-left}
-use Rattle.ordered_lists.proofs.ByKey.Keys.{known-append, known-later}
+use Rattle.tl_number.proofs.Common.{any-stands_in, lt-ltb, nat_lt, not, position_or_len, same-itself}
+use Rattle.ordered_lists.proofs.ByKey.Keys.{known-append, known-later, known-left}
+use Rattle.tl_number.proofs.Numbering.FoundPlaces.{any_within, first_stays, none_at_end, place_behind}
 
 module _ {K : Type 0} {cmp : K → K → Ordering} (o : IsKeyOrder cmp) where
   -- the place of a key in a list whose first place is i
   abbrev pub place_from : ℕ → List K → K → ℕ
-  place_from i [] k = 0
-  place_from i (x ∷ xs) k = cond (is_eq (cmp k x)) i (place_from (suc i) xs k)
+  place_from i xs k = i + position_or_len (λ other. is_eq (cmp k other)) xs
 
-  pub place-here : (i : ℕ) (x : K) (xs : List K) (k : K) → k ≡ x → place_from i (x ∷ xs) k ≡ i
-  place-here i x xs k e = go (is_eq (cmp k x)) refl (times-yes o k x xs e)
-    where
-      go : (b : Bool) → is_eq (cmp k x) ≡ b → times cmp k (x ∷ xs) ≡ suc (times cmp k xs) → cond b i (place_from (suc i) xs k) ≡ i
-      go true f h = refl
-      go false f h = absurd (omega (arith, h, times-no o k x xs f))
+  pub known_within : (xs : List K) (k : K) → Known cmp xs k → position_or_len (λ other. is_eq (cmp k other)) xs < length xs
+  known_within xs k h = any_within (λ other. is_eq (cmp k other)) xs
+      (any-stands_in (λ x y. is_eq (cmp x y)) cmp (λ x y. refl) k xs ∙ lt-ltb 0 (times cmp k xs) h)
 
-  pub place-later : (i : ℕ) (x : K) (xs : List K) (k : K) → is_eq (cmp k x) ≡ false → place_from i (x ∷ xs) k ≡ place_from (suc i) xs k
-  place-later i x xs k ne = ap (λ b. cond b i (place_from (suc i) xs k)) ne
+  pub unknown_at_end : (xs : List K) (k : K) → times cmp k xs ≡ 0 → position_or_len (λ other. is_eq (cmp k other)) xs ≡ length xs
+  unknown_at_end xs k h = none_at_end (λ other. is_eq (cmp k other)) xs
+      (any-stands_in (λ x y. is_eq (cmp x y)) cmp (λ x y. refl) k xs ∙ ap (nat_lt 0) h)
 
   -- a known key has a place in the list
   pub place_bounds : (i : ℕ) (xs : List K) (k : K) → Known cmp xs k → (i ≤ place_from i xs k) × (place_from i xs k < i + length xs)
-  place_bounds i [] k h = absurd (omega (arith, h))
-  place_bounds i (x ∷ xs) k h = go (known_cases o k x xs h) (place_bounds (suc i) xs k)
-    where
-      go : (k ≡ x) ⊎ (Known cmp xs k × (is_eq (cmp k x) ≡ false))
-          → (Known cmp xs k → (suc i ≤ place_from (suc i) xs k) × (place_from (suc i) xs k < suc i + length xs))
-          → (i ≤ place_from i (x ∷ xs) k) × (place_from i (x ∷ xs) k < i + suc (length xs))
-      go (inl e) ih = let t : place_from i (x ∷ xs) k ≡ i = place-here i x xs k e in (omega (arith, t), omega (arith, t))
-      go (inr h) ih =
-          let t : place_from i (x ∷ xs) k ≡ place_from (suc i) xs k = place-later i x xs k h.1 in
-          let low : suc i ≤ place_from (suc i) xs k = (ih h.0).0 in
-          let high : place_from (suc i) xs k < suc i + length xs = (ih h.0).1 in
-          (omega (arith, t, low), omega (arith, t, high))
+  place_bounds i xs k h = let within = known_within xs k h in (omega arith, omega (arith, within))
 
   -- a key has the same place in a longer list
   pub place-append : (i : ℕ) (xs ys : List K) (k : K) → Known cmp xs k → place_from i (xs ++ ys) k ≡ place_from i xs k
-  place-append i [] ys k h = absurd (omega (arith, h))
-  place-append i (x ∷ xs) ys k h = go (known_cases o k x xs h) (place-append (suc i) xs ys k)
-    where
-      go : (k ≡ x) ⊎ (Known cmp xs k × (is_eq (cmp k x) ≡ false))
-          → (Known cmp xs k → place_from (suc i) (xs ++ ys) k ≡ place_from (suc i) xs k)
-          → place_from i (x ∷ (xs ++ ys)) k ≡ place_from i (x ∷ xs) k
-      go (inl e) ih = place-here i x (xs ++ ys) k e ∙ sym (place-here i x xs k e)
-      go (inr h) ih = place-later i x (xs ++ ys) k h.1 ∙ ih h.0 ∙ sym (place-later i x xs k h.1)
+  place-append i xs ys k h = ap (λ n. i + n) (first_stays (λ other. is_eq (cmp k other)) xs ys (known_within xs k h))
 
   -- a new key comes after all others
   pub place-new : (i : ℕ) (xs : List K) (k : K) → times cmp k xs ≡ 0 → place_from i (xs ++ (k ∷ [])) k ≡ i + length xs
-  place-new i [] k h = place-here i k [] k refl ∙ (let t : i ≡ i + 0 = omega arith in t)
-  place-new i (x ∷ xs) k h = go (same_or_not o k x) (place-new (suc i) xs k)
-    where
-      go : (k ≡ x) ⊎ (is_eq (cmp k x) ≡ false) → (times cmp k xs ≡ 0 → place_from (suc i) (xs ++ (k ∷ [])) k ≡ suc i + length xs)
-          → place_from i (x ∷ (xs ++ (k ∷ []))) k ≡ i + suc (length xs)
-      go (inl e) ih = absurd (omega (arith, h, times-yes o k x xs e))
-      go (inr ne) ih = place-later i x (xs ++ (k ∷ [])) k ne ∙ ih (sym (times-no o k x xs ne) ∙ h)
-          ∙ (let t : suc i + length xs ≡ i + suc (length xs) = omega arith in t)
+  place-new i xs k h =
+      let end = unknown_at_end xs k h in
+      ap (λ n. i + n) (place_behind (λ other. is_eq (cmp k other)) xs (k ∷ []) (omega (arith, end))
+      ∙ ap (λ b. length xs + cond (not b) (1 + 0) 0) (same-itself o k) ∙ (let t : length xs + 0 ≡ length xs = omega arith in t))
 
   -- keys that were seen stay at the beginning
   pub seen_stays : (seen keys : List K) → (more : List K) × (first_seen_after cmp seen keys ≡ seen ++ more)

@@ -1,6 +1,6 @@
 -- Numbers by first appearance are determined: two such numberings of one list of keys are equal if they distinguish the same keys.
-use Rattle.std.proofs.Common.{◌≡◌, ◌⊎◌, ◌<◌, ◌≤◌, ◌+◌, ℕ, max, List, [], ◌∷◌, map, sym, ◌∙◌, subst, inl, inr, arith}
-use Rattle.tl_number.proofs.Common.{AllByRecursion, Grows, GrowsFrom}
+use Rattle.tl_number.proofs.Common.{◌≡◌, ◌⊎◌, ◌<◌, ◌≤◌, ◌+◌, ℕ, max, List, [], ◌∷◌, map, sym, ◌∙◌, subst, inl, inr, arith, AllByRecursion}
+use Rattle.tl_number.proofs.Common.{Grows, GrowsFrom}
 use Rattle.std.proofs.lemmas.Bool.{cases_lt}
 
 module _ {K : Type 0} (f g : K → ℕ) (Dom : K → Type 0)

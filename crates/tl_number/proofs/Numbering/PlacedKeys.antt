@@ -1,15 +1,15 @@
 -- Keys in a list that are found by marks or in a table of others: that one more key is found too, and where a key stands.
-use Rattle.std.proofs.Common.{◌≡◌, ◌⊎◌, ◌<◌, ◌+◌, ◌%◌, ℕ, zero, suc, List, [], ◌∷◌, ◌++◌, length, length-set, set, get_or, slice_get, Bool, true, false}
-use Rattle.std.proofs.Common.{Ordering, Option, Some, None, IfSome, is_eq, is_some, refl, sym, ap, ◌∙◌, subst, inl, inr, arith, length-append}
-use Rattle.std.proofs.Common.{Result, Ok, Err, IfOk}
-use Rattle.tl_number.proofs.Common.{IsKeyOrder, any-stands_in, false≢true, list_any, lt-ltb, position, same-itself, stands_in, times}
+use Rattle.tl_number.proofs.Common.{◌≡◌, ◌⊎◌, ◌<◌, ◌+◌, ◌%◌, ℕ, zero, suc, List, [], ◌∷◌, ◌++◌, length, length-set, set, get_or, slice_get}
+use Rattle.tl_number.proofs.Common.{Bool, true, false, Ordering, Option, Some, None, IfSome, is_eq, is_some, refl, sym, ap, ◌∙◌, subst, inl}
+use Rattle.tl_number.proofs.Common.{inr, arith, length-append, Result, Ok, Err, IfOk, IsKeyOrder, any-stands_in, false≢true, list_any}
+use Rattle.tl_number.proofs.Common.{lt-ltb, position, same-itself, stands_in, times}
 use Rattle.std.specs.Prelude.{OnOk}
 use Rattle.std.proofs.lemmas.List.{get_or-set_other, get_or-set_same}
 use Rattle.std.proofs.lemmas.Option.{none-some, same_Some}
 use Rattle.tl_county.proofs.ByKey.PlacesOfCenids.{known_at}
 use Rattle.tl_number.specs.PlacedKeys.{AreApart, ArePlaced}
 use Rattle.tl_number.proofs.Numbering.SeenKeys.{place_found}
-use Rattle.tl_number.proofs.Numbering.SeenPlaces.{any_within, none_within, to_position}
+use Rattle.tl_number.proofs.Numbering.FoundPlaces.{any_within, none_within, to_position}
 
 module _ {K : Type 0} where
   -- an element of a list with one more key is that key, or was in the list before

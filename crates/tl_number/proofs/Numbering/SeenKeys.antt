@@ -1,7 +1,7 @@
 -- A set of keys in the order of insertion has the keys in the order they were first seen, and finds their places.
-use Rattle.std.proofs.Common.{◌≡◌, ◌<◌, ◌+◌, suc, nat_lt, List, [], ◌∷◌, ◌++◌, length, Bool, true, false, cond, not}
-use Rattle.std.proofs.Common.{Ordering, Some, None, IfSome, is_eq, refl, sym, ap, ◌∙◌, arith, slice_get}
-use Rattle.tl_number.proofs.Common.{IsKeyOrder, any-stands_in, first_seen_after, ltb-true, position, position_or_len, same-true}
+use Rattle.tl_number.proofs.Common.{◌≡◌, ◌<◌, ◌+◌, suc, nat_lt, List, [], ◌∷◌, ◌++◌, length, Bool, true, false, cond, not, Ordering, Some}
+use Rattle.tl_number.proofs.Common.{None, IfSome, is_eq, refl, sym, ap, ◌∙◌, arith, slice_get, IsKeyOrder, any-stands_in, first_seen_after}
+use Rattle.tl_number.proofs.Common.{ltb-true, position, position_or_len, same-true}
 use Rattle.indexmap.specs.IndexSet.{insert_key}
 
 module _ {K : Type 0} (eq : K → K → Bool) (cmp : K → K → Ordering) (same : (x y : K) → eq x y ≡ is_eq (cmp x y)) where
@@ -10,7 +10,7 @@ module _ {K : Type 0} (eq : K → K → Bool) (cmp : K → K → Ordering) (same
   inserted-seen k ks = ap (λ b. cond b ks (ks ++ (k ∷ []))) (any-stands_in eq cmp same k ks)
 
   module _ (o : IsKeyOrder cmp) where
-    found_key : (k : K) (ks : List K) → position_or_len (eq k) ks < length ks → slice_get ks (position_or_len (eq k) ks) ≡ Some k
+    pub found_key : (k : K) (ks : List K) → position_or_len (eq k) ks < length ks → slice_get ks (position_or_len (eq k) ks) ≡ Some k
     found_key k [] h = absurd (omega (arith, h))
     found_key k (x ∷ xs) h = go (eq k x) refl h (found_key k xs)
       where

@@ -1,8 +1,6 @@
 -- The keys first seen along a list that is walked piece by piece.
-use Rattle.std.proofs.Common.{◌≡◌, ◌+◌, ℕ, zero, suc, List, [], ◌∷◌, ◌++◌, drop, Bool, true, false, cond}
-use Rattle.std.proofs.Common.{Ordering}
-use Rattle.std.proofs.Common.{Option, option_to_list, slice_get, sym, refl, ap, ap₂, ◌∙◌, arith}
-use Rattle.tl_number.proofs.Common.{drop_all, first_seen_after, stands_in}
+use Rattle.tl_number.proofs.Common.{◌≡◌, ◌+◌, ℕ, zero, suc, List, [], ◌∷◌, ◌++◌, drop, Bool, true, false, cond, Ordering, Option}
+use Rattle.tl_number.proofs.Common.{option_to_list, slice_get, sym, refl, ap, ap₂, ◌∙◌, arith, drop_all, first_seen_after, stands_in}
 
 module _ {K : Type 0} (cmp : K → K → Ordering) where
   -- one list after another

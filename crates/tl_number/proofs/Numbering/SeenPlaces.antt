@@ -1,60 +1,10 @@
 -- The place of a key among those that were seen, and that it stays there.
-use Rattle.std.proofs.Common.{◌≡◌, ◌<◌, ◌≤◌, ◌+◌, ◌||◌, ℕ, suc, nat_lt, List, [], ◌∷◌, ◌++◌, length, Bool, true, false, cond, not}
-use Rattle.std.proofs.Common.{Ordering, Some, None, is_eq, refl, sym, ap, ◌∙◌, arith, length-append}
-use Rattle.tl_number.proofs.Common.{IsKeyOrder, first_seen_after, list_any, lt-ltb, ltb-true, position, position_or_len, same-itself}
-use Rattle.std.proofs.lemmas.Option.{cond_some}
+use Rattle.tl_number.proofs.Common.{◌≡◌, ◌≤◌, ◌+◌, ℕ, List, [], ◌∷◌, ◌++◌, length, Bool, true, false, cond, Ordering, Some, is_eq, refl}
+use Rattle.tl_number.proofs.Common.{sym, ap, ◌∙◌, arith, length-append, IsKeyOrder, first_seen_after, list_any, position, position_or_len}
+use Rattle.tl_number.proofs.Common.{same-itself}
 use Rattle.indexmap.specs.IndexSet.{insert_key}
 use Rattle.tl_number.proofs.Numbering.FirstSeen.{seen_stays}
-
-module _ {X : Type 0} (p : X → Bool) where
-  pub first_stays : (xs ys : List X) → position_or_len p xs < length xs → position_or_len p (xs ++ ys) ≡ position_or_len p xs
-  first_stays [] ys h = absurd (omega (arith, h))
-  first_stays (x ∷ xs) ys h = go (p x) h (first_stays xs ys)
-    where
-      go : (b : Bool) → cond (not b) (1 + position_or_len p xs) 0 < suc (length xs)
-          → (position_or_len p xs < length xs → position_or_len p (xs ++ ys) ≡ position_or_len p xs)
-          → cond (not b) (1 + position_or_len p (xs ++ ys)) 0 ≡ cond (not b) (1 + position_or_len p xs) 0
-      go true l ih = refl
-      go false l ih = ap (λ n. 1 + n) (ih (omega (arith, l)))
-
-  -- an element that is found is found at the same place in a longer list
-  pub place_stays : (xs ys : List X) (i : ℕ) → Some i ≡ position p xs → Some i ≡ position p (xs ++ ys)
-  place_stays xs ys i e =
-      let found = cond_some (nat_lt (position_or_len p xs) (length xs)) (position_or_len p xs) i (sym e) in
-      let here : position_or_len p xs < length xs = ltb-true (position_or_len p xs) (length xs) found.0 in
-      let stays : position_or_len p (xs ++ ys) ≡ position_or_len p xs = first_stays xs ys here in
-      let within : position_or_len p (xs ++ ys) < length (xs ++ ys) = (let l = length-append xs ys in omega (arith, here, stays, l)) in
-      ap Some (sym found.1 ∙ sym stays)
-      ∙ sym (ap (λ b. cond b (Some (position_or_len p (xs ++ ys))) None) (lt-ltb (position_or_len p (xs ++ ys)) (length (xs ++ ys)) within))
-
-  pub to_position : (xs : List X) → position_or_len p xs < length xs → Some (position_or_len p xs) ≡ position p xs
-  to_position xs h = sym (ap (λ b. cond b (Some (position_or_len p xs)) None) (lt-ltb (position_or_len p xs) (length xs) h))
-
-  pub any_within : (xs : List X) → list_any p xs ≡ true → position_or_len p xs < length xs
-  any_within [] e = cc
-  any_within (x ∷ xs) e = go (p x) e (any_within xs)
-    where
-      go : (b : Bool) → (b || list_any p xs) ≡ true → (list_any p xs ≡ true → position_or_len p xs < length xs)
-          → cond (not b) (1 + position_or_len p xs) 0 < suc (length xs)
-      go true e ih = omega arith
-      go false e ih = let h = ih e in omega (arith, h)
-
-  -- an element that isn't found would be at the end
-  pub none_within : (xs : List X) (x : X) → list_any p xs ≡ false → p x ≡ true
-      → (position_or_len p xs ≡ length xs) × (position_or_len p (xs ++ (x ∷ [])) ≡ length xs)
-  none_within [] x e y = (refl, ap (λ b. cond (not b) 1 0) y)
-  none_within (z ∷ xs) x e y = go (p z) e (λ h. none_within xs x h y)
-    where
-      go : (b : Bool) → (b || list_any p xs) ≡ false
-          → (list_any p xs ≡ false → (position_or_len p xs ≡ length xs) × (position_or_len p (xs ++ (x ∷ [])) ≡ length xs))
-          → (cond (not b) (1 + position_or_len p xs) 0 ≡ suc (length xs)) ×
-          (cond (not b) (1 + position_or_len p (xs ++ (x ∷ []))) 0 ≡ suc (length xs))
-      go true e ih = cc
-      go false e ih =
-          let h = ih e in
-          let old = h.0 in
-          let last = h.1 in
-          (omega (arith, old), omega (arith, last))
+use Rattle.tl_number.proofs.Numbering.FoundPlaces.{any_within, none_within, place_stays, to_position}
 
 module _ {K : Type 0} (eq : K → K → Bool) (cmp : K → K → Ordering) (same : (x y : K) → eq x y ≡ is_eq (cmp x y)) (o : IsKeyOrder cmp) where
   -- a key is found at the place of its insertion

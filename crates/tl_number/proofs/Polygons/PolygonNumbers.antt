@@ -1,13 +1,12 @@
 -- Polygons in the order of first appearance are the polygons of the arranged county by number.
-use Rattle.std.proofs.Common.{◌≡◌, ℕ, List, [], ◌∷◌, map, length, Option, Some, sym, refl, ap, ◌∙◌, subst, nat_cmp}
-use Rattle.std.proofs.Common.{IsPermutation, IfSome, zero, suc, slice_get, option_map, None, arith, ◌+◌}
-use Rattle.tl_number.proofs.Common.{AllByRecursion, AllKeysStandIn, Arrangement, Arranges, BodyP, County, IsApart, IsCounty}
-use Rattle.tl_number.proofs.Common.{IsPermutation-map, IsPermutation-sym, IsPermutation-trans, PolygonKey, carried_polygon, entry_keys}
-use Rattle.tl_number.proofs.Common.{entry_polyid, entry_values, image, images-lefts, in_order, in_order-in_order, in_order-is_permutation}
-use Rattle.tl_number.proofs.Common.{in_order-map, in_order-permutation, key_cmp, key_keys, lefts, map-map, nat_cmp_total, nat_keys}
-use Rattle.tl_number.proofs.Common.{numbered, numbered_from, on, on_total, placed, polygon_keys, polygons_along, polygons_by_number}
-use Rattle.tl_number.proofs.Common.{polygons_in_order, rights, slice_get-map, strict-map, under_cenid, under_number, up_to}
-use Rattle.std.specs.List.Sorted.{IsStrictlySortedBy}
+use Rattle.tl_number.proofs.Common.{map_agree_all, ◌≡◌, ℕ, List, [], ◌∷◌, map, length, Option, Some, sym, refl, ap, ◌∙◌, subst, nat_cmp, IsPermutation}
+use Rattle.tl_number.proofs.Common.{IfSome, zero, suc, slice_get, option_map, None, arith, ◌+◌, AllByRecursion, AllKeysStandIn, Arrangement}
+use Rattle.tl_number.proofs.Common.{Arranges, BodyP, County, IsApart, IsCounty, IsPermutation-map, IsPermutation-sym, IsPermutation-trans}
+use Rattle.tl_number.proofs.Common.{IsStrictlySortedBy, PolygonKey, arranged, carried_polygon, entry_keys, entry_polyid, entry_values}
+use Rattle.tl_number.proofs.Common.{image, images-lefts, in_order, in_order-in_order, in_order-is_permutation, in_order-map}
+use Rattle.tl_number.proofs.Common.{in_order-permutation, key_cmp, key_keys, lefts, map-map, nat_cmp_total, nat_keys, numbered}
+use Rattle.tl_number.proofs.Common.{numbered_from, on, on_total, placed, polygon_keys, polygons_along, polygons_by_number}
+use Rattle.tl_number.proofs.Common.{polygons_in_order, renaming_of, rights, slice_get-map, strict-map, under_cenid, under_number, up_to}
 use Rattle.std.specs.Option.{option_and_then}
 use Rattle.tl_county.specs.ChartWords.{polygon_under}
 use Rattle.ordered_lists.specs.Entries.{value_under}
@@ -15,9 +14,8 @@ use Rattle.ordered_lists.proofs.Lists.InOrder.{strict-permutation}
 use Rattle.ordered_lists.proofs.Lists.EntryLists.{in_order-strict, value-at_place}
 use Rattle.ordered_lists.proofs.Lists.ByPlace.{all_at}
 use Rattle.tl_profile.proofs.PlacedOrder.{all_permuted}
-use Rattle.tl_number.specs.Arrangement.{renaming_of, arranged}
 use Rattle.tl_number.proofs.Arrangements.Carrying.{polygon_lefts, polygons_permutation, polygons_renamed, polygons_arranged}
-use Rattle.tl_number.proofs.Lists.Counting.{up_to-strict}
+use Rattle.tl_number.proofs.Lists.Counting.{map-equal_all, up_to-strict}
 use Rattle.tl_number.proofs.Numbering.FirstSeen.{first_seen-apart}
 use Rattle.tl_number.proofs.Arrangements.Placed.{lefts-numbered, rights-numbered}
 
@@ -39,15 +37,6 @@ key_numbered {K} keys i = slice_get-map (λ (pair : ℕ × K). (pair.1, pair.0))
         ≡ option_map {U = K × ℕ} (λ key. (key, i + 1)) o
     go None = refl
     go (Some x) = ap (λ j. Some (x, j)) (let e : 1 + i ≡ i + 1 = omega arith in e)
-
--- if two functions have equal lists of values, they have equal values
-pointwise : {X Y : Type 0} (f g : X → Y) (xs : List X) → map f xs ≡ map g xs → AllByRecursion (λ x. f x ≡ g x) xs
-pointwise f g [] e = tt
-pointwise f g (x ∷ xs) e = (cc, pointwise f g xs cc)
-
-map_agree : {X Y : Type 0} (f g : X → Y) (xs : List X) → AllByRecursion (λ x. f x ≡ g x) xs → map f xs ≡ map g xs
-map_agree f g [] a = refl
-map_agree f g (x ∷ xs) a = λ i. a.0 i ∷ map_agree f g xs a.1 i
 
 -- a property of the element at each place is a property of all elements
 all_places : {X : Type 0} (P : X → Type 0) (xs : List X) → ((i : ℕ) (x : X) → slice_get xs i ≡ Some x → P x) → AllByRecursion P xs
@@ -86,16 +75,10 @@ module _ (county : County) (arrangement : Arrangement) (is : IsCounty county) (a
 
   renewed_entries : map renewed (polygon_keys county) ≡ map (carried_polygon (renaming_of county arrangement)) county.polygons
   renewed_entries = map-map renewed (λ (e : PolygonKey × Option BodyP). e.0) county.polygons
-      ∙ map_agree (λ e. renewed e.0) (carried_polygon (renaming_of county arrangement)) county.polygons
-      (each county.polygons (all_under county.polygons is.ascending.polygons))
-    where
-      each : (es : List (PolygonKey × Option BodyP)) → AllByRecursion (λ e. value_under key_cmp e.0 county.polygons ≡ Some e.1) es
-          → AllByRecursion (λ e. renewed e.0 ≡ carried_polygon (renaming_of county arrangement) e) es
-      each [] a = tt
-      each (e ∷ es) a = (
-        ap (λ (o : Option (Option BodyP)). (image key_cmp (renaming_of county arrangement).polygons e.0, option_and_then (λ body. body) o)) a.0,
-        each es a.1,
-      )
+      ∙ map_agree_all (λ (e : PolygonKey × Option BodyP). renewed e.0) (carried_polygon (renaming_of county arrangement))
+      (λ e. value_under key_cmp e.0 county.polygons ≡ Some e.1)
+      (λ e is. ap (λ (o : Option (Option BodyP)). (image key_cmp (renaming_of county arrangement).polygons e.0, option_and_then (λ body. body) o)) is)
+      county.polygons (all_under county.polygons is.ascending.polygons)
 
   -- the new keys have the numbers of first appearance
   renewed_numbers : map renewed seen ≡ map (under_number county) (numbered seen)
@@ -109,16 +92,11 @@ module _ (county : County) (arrangement : Arrangement) (is : IsCounty county) (a
       ∙ map-map (λ (q : PolygonKey × PolygonKey). q.1) under_cenid (numbered seen) in
       ap (map renewed) (sym (lefts-numbered seen))
       ∙ map-map renewed (λ (p : PolygonKey × ℕ). p.0) (numbered seen)
-      ∙ map_agree (λ p. renewed p.0) (under_number county) (numbered seen)
-      (each (numbered seen) (pointwise (λ (p : PolygonKey × ℕ). image key_cmp pairs p.0) (λ p. (p.0.0, p.1)) (numbered seen)
+      ∙ map_agree_all (λ (p : PolygonKey × ℕ). renewed p.0) (under_number county) (λ p. image key_cmp pairs p.0 ≡ (p.0.0, p.1))
+      (λ p is. ap (λ k. (k, option_and_then (λ body. body) (polygon_under county p.0))) is) (numbered seen)
+      (map-equal_all (λ (p : PolygonKey × ℕ). image key_cmp pairs p.0) (λ p. (p.0.0, p.1)) (numbered seen)
       (sym (map-map (image key_cmp pairs) (λ (p : PolygonKey × ℕ). p.0) (numbered seen))
-      ∙ ap (map (image key_cmp pairs)) (lefts-numbered seen) ∙ images)))
-    where
-      each : (ps : List (PolygonKey × ℕ))
-          → AllByRecursion (λ p. image key_cmp (renaming_of county arrangement).polygons p.0 ≡ (p.0.0, p.1)) ps
-          → AllByRecursion (λ p. renewed p.0 ≡ under_number county p) ps
-      each [] a = tt
-      each (p ∷ ps) a = (ap (λ k. (k, option_and_then (λ body. body) (polygon_under county p.0))) a.0, each ps a.1)
+      ∙ ap (map (image key_cmp pairs)) (lefts-numbered seen) ∙ images))
 
   -- The order of first appearance is the order of numbers.
   pub by_number : map (under_number county) (numbered seen) ≡ polygons_by_number (arranged county arrangement)

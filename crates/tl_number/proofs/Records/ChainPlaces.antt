@@ -1,8 +1,8 @@
 -- The chain at a place of a county within its limits.
-use Rattle.std.proofs.Common.{◌≡◌, ◌+◌, ◌-◌, ◌<◌, ◌≤◌, ℕ, zero, suc, List, [], ◌∷◌, length, Option, Some, None, option_map}
-use Rattle.std.proofs.Common.{slice_get, refl, ap, ◌∙◌, subst, arith}
-use Rattle.tl_number.proofs.Common.{AllByRecursion, Chain, Coordinates, County, FitsNumbers, IsCounty, IsNumber, IsWithinLimits, chain_at}
-use Rattle.tl_number.proofs.Common.{first_point, inner_points, last_point, most_records, points_of, slice_get-map, tlids}
+use Rattle.tl_number.proofs.Common.{◌≡◌, ◌+◌, ◌-◌, ◌<◌, ◌≤◌, ℕ, zero, suc, List, [], ◌∷◌, length, Option, Some, None, option_map, slice_get}
+use Rattle.tl_number.proofs.Common.{refl, ap, ◌∙◌, subst, arith, AllByRecursion, Chain, Coordinates, County, FitsNumbers, IsCounty}
+use Rattle.tl_number.proofs.Common.{IsNumber, IsWithinLimits, chain_at, first_point, inner_points, last_point, most_records, points_of}
+use Rattle.tl_number.proofs.Common.{slice_get-map, tlids}
 use Rattle.tl_county.specs.Limits.{ListsFit, most_shape_points}
 use Rattle.tl_county.specs.Packing.{without_last}
 use Rattle.tl_number.proofs.Records.Grouped.{some-same}

@@ -1,52 +1,40 @@
 -- The name, the landmark and the polygon at a place of a county within its limits.
-use Rattle.std.proofs.Common.{◌≡◌, ◌<◌, ℕ, List, [], length, map, Option, Some, None, option_map, option_to_list, unwrap_or, slice_get}
-use Rattle.std.proofs.Common.{IsSome, sym, refl, ap, ◌∙◌, subst, nat_cmp, arith}
-use Rattle.tl_number.proofs.Common.{Body5, Body7, BodyP, County, IsNumber, IsWithinLimits, PolygonKey, all-in_order, bodies_at}
-use Rattle.tl_number.proofs.Common.{entry_polyid, feats, group_at, lands, length-map, most_records, on, packed_body, packed_p}
-use Rattle.tl_number.proofs.Common.{polygons_by_number, slice_get-map, type_p_by_number}
+use Rattle.tl_number.proofs.Common.{AllByRecursion, entry_values, ◌≡◌, ◌<◌, ℕ, List, length, map, Option, Some, None, option_map}
+use Rattle.tl_number.proofs.Common.{option_to_list, slice_get, IsSome, sym, refl, ap, ◌∙◌, subst, nat_cmp, arith, Body5, Body7, BodyP}
+use Rattle.tl_number.proofs.Common.{County, IsNumber, IsWithinLimits, PolygonKey, all-in_order, entry_polyid, group_at, length-map}
+use Rattle.tl_number.proofs.Common.{most_records, on, packed_body, packed_p, polygons_by_number, slice_get-map, type_p_by_number}
 use Rattle.tl_layout.specs.Bytes.{IsText}
-use Rattle.tl_county.specs.ChartWords.{name_at}
 use Rattle.ordered_lists.proofs.ByKey.Numbers.{length-in_order}
 use Rattle.tl_number.proofs.Records.ChainPlaces.{all_at, some_at}
 use Rattle.tl_number.proofs.Records.Grouped.{group_of}
 
+-- the entry at a place, with its number and its value
+pub record EntryThere {V : Type 0} (entries : List (ℕ × V)) (width place : ℕ) : Type 0 where
+  pub entry : ℕ × V
+  pub get : slice_get entries place ≡ Some entry
+  pub number : slice_get (map (λ (e : ℕ × V). e.0) entries) place ≡ Some entry.0
+  pub value : slice_get (entry_values entries) place ≡ Some entry.1
+  pub is_number : IsNumber width entry.0
+
+entry_of_group : {V Y : Type 0} (width : ℕ) (entries : List (ℕ × V)) → AllByRecursion (λ (e : ℕ × V). IsNumber width e.0) entries → (place : ℕ)
+    (f : ℕ × V → List Y) → place < length (map f entries) → EntryThere entries width place
+entry_of_group {V} width entries fit place f h =
+    let at = some_at entries place (subst (λ n. place < n) (length-map entries f) h) in
+    record {
+      entry = at.0;
+      get = at.1;
+      number = slice_get-map (λ (e : ℕ × V). e.0) entries place ∙ ap (option_map (λ (e : ℕ × V). e.0)) at.1;
+      value = slice_get-map (λ (e : ℕ × V). e.1) entries place ∙ ap (option_map (λ (e : ℕ × V). e.1)) at.1;
+      is_number = all_at (λ (e : ℕ × V). IsNumber width e.0) entries place at.0 fit at.1;
+    }
+
 module _ (county : County) (within : IsWithinLimits most_records county) (place : ℕ) where
-  pub record NameThere : Type 0 where
-    pub entry : ℕ × Body5
-    pub get : slice_get county.names place ≡ Some entry
-    pub feat : slice_get (feats county) place ≡ Some entry.0
-    pub name : name_at county place ≡ Some entry.1
-    pub is_number : IsNumber 8 entry.0
+  pub name_of_group : {Y : Type 0} (f : ℕ × Body5 → List Y) → place < length (map f county.names) → EntryThere county.names 8 place
+  name_of_group = entry_of_group 8 county.names within.numbers.names place
 
-  pub name_of_group : {Y : Type 0} (f : ℕ × Body5 → List Y) → place < length (map f county.names) → NameThere
-  name_of_group f h =
-      let at = some_at county.names place (subst (λ n. place < n) (length-map county.names f) h) in
-      record {
-        entry = at.0;
-        get = at.1;
-        feat = slice_get-map (λ (e : ℕ × Body5). e.0) county.names place ∙ ap (option_map (λ (e : ℕ × Body5). e.0)) at.1;
-        name = slice_get-map (λ (e : ℕ × Body5). e.1) county.names place ∙ ap (option_map (λ (e : ℕ × Body5). e.1)) at.1;
-        is_number = all_at (λ (e : ℕ × Body5). IsNumber 8 e.0) county.names place at.0 within.numbers.names at.1;
-      }
-
-  pub record LandmarkThere : Type 0 where
-    pub entry : ℕ × List Body7
-    pub get : slice_get county.landmarks place ≡ Some entry
-    pub land : slice_get (lands county) place ≡ Some entry.0
-    pub bodies : bodies_at county place ≡ entry.1
-    pub is_number : IsNumber 10 entry.0
-
-  pub landmark_of_group : {Y : Type 0} (f : ℕ × List Body7 → List Y) → place < length (map f county.landmarks) → LandmarkThere
-  landmark_of_group f h =
-      let at = some_at county.landmarks place (subst (λ n. place < n) (length-map county.landmarks f) h) in
-      record {
-        entry = at.0;
-        get = at.1;
-        land = slice_get-map (λ (e : ℕ × List Body7). e.0) county.landmarks place ∙ ap (option_map (λ (e : ℕ × List Body7). e.0)) at.1;
-        bodies = ap (λ (o : Option (List Body7)). unwrap_or o [])
-            (slice_get-map (λ (e : ℕ × List Body7). e.1) county.landmarks place ∙ ap (option_map (λ (e : ℕ × List Body7). e.1)) at.1);
-        is_number = all_at (λ (e : ℕ × List Body7). IsNumber 10 e.0) county.landmarks place at.0 within.numbers.landmarks at.1;
-      }
+  pub landmark_of_group : {Y : Type 0} (f : ℕ × List Body7 → List Y) → place < length (map f county.landmarks)
+      → EntryThere county.landmarks 10 place
+  landmark_of_group = entry_of_group 10 county.landmarks within.numbers.landmarks place
 
   -- the polygon at a place by number
   pub polygon_fits : (entry : PolygonKey × Option BodyP) → slice_get (polygons_by_number county) place ≡ Some entry

@@ -1,6 +1,6 @@
 -- The records of groups that were passed so far, and the rest.
-use Rattle.std.proofs.Common.{◌≡◌, ◌+◌, ◌<◌, ◌≤◌, ◌++◌, ◌∙◌, ℕ, suc, List, length, map, take, drop, ap, arith, add-one}
-use Rattle.tl_number.proofs.Common.{group_at, grouped}
+use Rattle.tl_number.proofs.Common.{◌≡◌, ◌+◌, ◌<◌, ◌≤◌, ◌++◌, ◌∙◌, ℕ, suc, List, length, map, take, drop, ap, arith, add-one, group_at}
+use Rattle.tl_number.proofs.Common.{grouped}
 use Rattle.tl_number.proofs.Records.Grouped.{group_headed, grouped_around, grouped_parted, grouped_up_to, length_headed, map-append, next_grouped}
 
 module _ {X Y : Type 0} (f : X → Y) (groups : List (List X)) where

@@ -1,7 +1,7 @@
 -- The rest of records in groups, from a place.
-use Rattle.std.proofs.Common.{◌≡◌, ◌≤◌, ◌+◌, ◌∙◌, ℕ, zero, suc, List, [], ◌∷◌, ◌++◌, length, drop, Some, Option}
-use Rattle.std.proofs.Common.{Bool, true, false, nat_lt, slice_get, unwrap_or, sym, refl, ap, ap₂, add-one, arith}
-use Rattle.tl_number.proofs.Common.{drop_all, group_at, grouped, ltb-false, rest_of, slice_get_past}
+use Rattle.tl_number.proofs.Common.{◌≡◌, ◌≤◌, ◌+◌, ◌∙◌, ℕ, zero, suc, List, [], ◌∷◌, ◌++◌, length, drop, Some, Option, Bool, true, false}
+use Rattle.tl_number.proofs.Common.{nat_lt, slice_get, unwrap_or, sym, refl, ap, ap₂, add-one, arith, drop_all, group_at, grouped}
+use Rattle.tl_number.proofs.Common.{ltb-false, rest_of, slice_get_past}
 use Rattle.std.specs.Bool.{if◌then◌else◌}
 
 -- an element, then the rest after it

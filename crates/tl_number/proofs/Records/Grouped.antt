@@ -1,7 +1,7 @@
 -- Groups made from the entries of a list, and lists read by place.
-use Rattle.std.proofs.Common.{◌≡◌, ◌+◌, ◌<◌, ◌≤◌, ℕ, zero, suc, List, [], ◌∷◌, ◌++◌, length, take, drop, map, flat_map, Option, Some, None}
-use Rattle.std.proofs.Common.{option_map, unwrap_or, slice_get, length-drop, min, append-nil, append_assoc, sym, refl, ap, ◌∙◌, arith}
-use Rattle.tl_number.proofs.Common.{group_at, grouped, length-take, slice_get-map}
+use Rattle.tl_number.proofs.Common.{◌≡◌, ◌+◌, ◌<◌, ◌≤◌, ℕ, zero, suc, List, [], ◌∷◌, ◌++◌, length, take, drop, map, flat_map, Option, Some}
+use Rattle.tl_number.proofs.Common.{None, option_map, unwrap_or, slice_get, length-drop, min, append-nil, append_assoc, sym, refl, ap, ◌∙◌}
+use Rattle.tl_number.proofs.Common.{arith, group_at, grouped, length-take, slice_get-map}
 use Rattle.std.proofs.Math.Seq.{take-add}
 use Rattle.std.proofs.lemmas.Grind.{flat_map-append}
 use Rattle.std.proofs.lemmas.List.{take-append-drop}

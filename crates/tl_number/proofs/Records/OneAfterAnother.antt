@@ -1,6 +1,5 @@
 -- Three lists of records passed to a visitor one after the other.
-use Rattle.std.proofs.Common.{List, ◌++◌, Result, Ok, Err}
-use Rattle.tl_number.proofs.Common.{Record}
+use Rattle.tl_number.proofs.Common.{List, ◌++◌, Result, Ok, Err, Record}
 
 -- given what it means to take records from one state to another, and two facts about it
 module _ {Visitor Device Fault : Type 0} (Takes : List Record → Visitor → Device → Result (Unit {0}) Fault → Visitor → Device → Type 0)

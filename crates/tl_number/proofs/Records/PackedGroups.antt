@@ -1,9 +1,8 @@
 -- The groups of a county's records, joined, are its packing.
-use Rattle.std.proofs.Common.{◌≡◌, List, ◌++◌, map, flat_map, filter_map, Option, Some, None, ap, ◌∙◌, nat_cmp}
-use Rattle.std.proofs.Common.{append-nil, append_assoc}
-use Rattle.tl_number.proofs.Common.{BodyP, County, Eight, FieldsP, Five, Four, I, One, P, PolygonKey, Seven, Six, Two, entry_polyid}
-use Rattle.tl_number.proofs.Common.{grouped, in_order, on, p_polyid, packed, packed_body, packed_five, packed_fours, packed_i, packed_one}
-use Rattle.tl_number.proofs.Common.{packed_p, packed_sevens, packed_sixes, packed_twos, polygons_by_number, type_1_by_chain}
+use Rattle.tl_number.proofs.Common.{◌≡◌, List, ◌++◌, map, flat_map, filter_map, Option, Some, None, ap, ◌∙◌, nat_cmp, append-nil}
+use Rattle.tl_number.proofs.Common.{append_assoc, BodyP, County, Eight, FieldsP, Five, Four, I, One, P, PolygonKey, Seven, Six, Two}
+use Rattle.tl_number.proofs.Common.{entry_polyid, grouped, in_order, on, p_polyid, packed, packed_body, packed_five, packed_fours, packed_i}
+use Rattle.tl_number.proofs.Common.{packed_one, packed_p, packed_sevens, packed_sixes, packed_twos, polygons_by_number, type_1_by_chain}
 use Rattle.tl_number.proofs.Common.{type_2_by_chain, type_4_by_chain, type_5_by_name, type_6_by_chain, type_7_by_landmark, type_8_together}
 use Rattle.tl_number.proofs.Common.{type_i_by_chain, type_p_by_number, types_1_to_4, types_5_to_7, types_8_to_p}
 use Rattle.tl_number.proofs.Records.Grouped.{grouped_map, grouped_lone}

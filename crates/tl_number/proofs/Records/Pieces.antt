@@ -1,7 +1,7 @@
 -- Pieces of a list, read by place.
-use Rattle.std.proofs.Common.{◌≡◌, ◌+◌, ◌*◌, ◌-◌, ◌<◌, ◌≤◌, ◌/◌, ◌%◌, ℕ, zero, suc, List, [], ◌∷◌, length, take, drop, min}
-use Rattle.std.proofs.Common.{Some, option_map, slice_get, map, refl, ap, ◌∙◌, arith}
-use Rattle.tl_number.proofs.Common.{in_pieces, length-map, numbered_from, pieces, slice_get-map}
+use Rattle.tl_number.proofs.Common.{◌≡◌, ◌+◌, ◌*◌, ◌-◌, ◌<◌, ◌≤◌, ◌/◌, ◌%◌, ℕ, zero, suc, List, [], ◌∷◌, length, take, drop, min, Some}
+use Rattle.tl_number.proofs.Common.{option_map, slice_get, map, refl, ap, ◌∙◌, arith, in_pieces, length-map, numbered_from, pieces}
+use Rattle.tl_number.proofs.Common.{slice_get-map}
 use Rattle.std.proofs.lemmas.Grind.{div_ceil_times}
 use Rattle.std.proofs.lemmas.List.{length-drop, drop-drop}
 use Rattle.tl_county.proofs.Packing.Pieces.{length-numbered_from}

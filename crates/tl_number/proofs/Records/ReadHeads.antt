@@ -1,5 +1,5 @@
 -- The heads of consecutive groups.
-use Rattle.std.proofs.Common.{◌≡◌, ◌+◌, ℕ, zero, suc, List, [], ◌∷◌, ◌++◌, length, Some, slice_get, ◌⊎◌, inl, inr, refl, ap, subst}
+use Rattle.tl_number.proofs.Common.{◌≡◌, ◌+◌, ℕ, zero, suc, List, [], ◌∷◌, ◌++◌, length, Some, slice_get, ◌⊎◌, inl, inr, refl, ap, subst}
 use Rattle.tl_number.proofs.Common.{AreHeads}
 
 -- reading a list with one more element at its end

@@ -1,6 +1,5 @@
 -- Comparing the fields of records.
-use Rattle.std.proofs.Common.{◌≡◌, ◌&&◌, Bool, true, false, refl, ap}
-use Rattle.tl_number.proofs.Common.{Coordinates, Decides}
+use Rattle.tl_number.proofs.Common.{◌≡◌, ◌&&◌, Bool, true, false, refl, ap, Coordinates, Decides}
 use Rattle.std.proofs.lemmas.Bool.Decides.{Decides-int_eq}
 use Rattle.std.specs.Ordering.{int_eq}
 

@@ -1,9 +1,8 @@
 -- A record at a place among those of a chain.
-use Rattle.std.proofs.Common.{◌≡◌, ◌+◌, ◌*◌, ◌/◌, ◌%◌, ◌<◌, ◌≤◌, ◌∙◌, ℕ, suc, List, [], ◌∷◌, Option, Some, None, IfSome, length, map, min, take, drop}
-use Rattle.std.proofs.Common.{slice_get, option_map, sym, ap, subst}
-use Rattle.tl_number.proofs.Common.{Chain, Coordinates, County, Fields2, Fields4, Fields6, FieldsI, FitsNumbers, IsCounty, IsNumberOrNone}
-use Rattle.tl_number.proofs.Common.{IsWithinLimits, Ranges, chain_at, group_at, in_pieces, length-map, most_records, numbered_from}
-use Rattle.tl_number.proofs.Common.{packed_i, points_of, tlids}
+use Rattle.tl_number.proofs.Common.{◌≡◌, ◌+◌, ◌*◌, ◌/◌, ◌%◌, ◌<◌, ◌≤◌, ◌∙◌, ℕ, suc, List, [], ◌∷◌, Option, Some, None, IfSome, length, map}
+use Rattle.tl_number.proofs.Common.{min, take, drop, slice_get, option_map, sym, ap, subst, Chain, Coordinates, County, Fields2, Fields4}
+use Rattle.tl_number.proofs.Common.{Fields6, FieldsI, FitsNumbers, IsCounty, IsNumberOrNone, IsWithinLimits, Ranges, chain_at, group_at}
+use Rattle.tl_number.proofs.Common.{in_pieces, length-map, most_records, numbered_from, packed_i, points_of, tlids}
 use Rattle.tl_number.proofs.Records.ChainPlaces.{ChainThere, chain_there}
 use Rattle.tl_number.proofs.Records.Grouped.{group_of, lone, some-same}
 use Rattle.tl_number.proofs.Records.Pieces.{numbered_list_at, numbered_list_length, piece_begins, pieces_at, pieces_counted}

@@ -1,43 +1,12 @@
 -- Lists that are compared place by place, and tests that decide whether they are the same.
-use Rattle.std.proofs.Common.{◌≡◌, ◌<◌, ◌≤◌, ◌+◌, ℕ, zero, suc, List, [], ◌∷◌, length, take, Bool, true, false, Some}
-use Rattle.std.proofs.Common.{slice_get, map, ◌++◌, refl, sym, ap, ◌∙◌, add-one, arith}
-use Rattle.tl_number.proofs.Common.{County, Decides, Eight, Five, Four, I, IsCounty, One, P, Seven, Six, Two, county_of, false≢true}
+use Rattle.tl_number.proofs.Common.{◌≡◌, ◌<◌, ◌≤◌, ◌+◌, ℕ, zero, suc, List, [], ◌∷◌, length, take, Bool, Some, slice_get, map, ◌++◌, sym}
+use Rattle.tl_number.proofs.Common.{ap, ◌∙◌, arith, County, Decides, Eight, Five, Four, I, IsCounty, One, P, Seven, Six, Two, county_of}
 use Rattle.tl_number.proofs.Common.{group_at, grouped, packed, packed_county, take_all, type_1_by_chain, type_2_by_chain, type_4_by_chain}
 use Rattle.tl_number.proofs.Common.{type_5_by_name, type_6_by_chain, type_7_by_landmark, type_8_together, type_i_by_chain, type_p_by_number}
 use Rattle.tl_number.specs.SharedGroups.{HaveSameCounts, HaveSameChains, HaveSameEntries}
 use Rattle.tl_number.proofs.Records.PackedGroups.{all_groups}
 
--- if a necessary condition fails, so does what it is necessary for
-pub decides_no : {P Q : Type 0} (b : Bool) → b ≡ false → Decides b P → (Q → P) → Decides false Q
-decides_no b fails d f = (λ t. absurd (false≢true t), λ q. absurd (false≢true (sym fails ∙ d.1 (f q))))
-
--- one test, and then another one only if the first passes
-pub also : {P Q : Type 0} (v w r : Bool) → v ≡ true → w ≡ r → Decides v P → Decides r Q → Decides w (P × Q)
-also v w r passes is d e = (λ t. (d.0 passes, e.0 (sym is ∙ t)), λ h. is ∙ e.1 h.1)
-
-pub not_also : {P Q : Type 0} (v w : Bool) → v ≡ false → w ≡ v → Decides v P → Decides w (P × Q)
-not_also v w fails is d =
-    (λ t. absurd (false≢true (sym fails ∙ sym is ∙ t)), λ h. absurd (false≢true (sym fails ∙ d.1 h.0)))
-
 module _ {X : Type 0} where
-  one_more : (xs ys : List X) (place : ℕ) → take place xs ≡ take place ys → slice_get xs place ≡ slice_get ys place
-      → take (suc place) xs ≡ take (suc place) ys
-  one_more [] [] place e f = refl
-  one_more [] (y ∷ ys) zero e f = cc
-  one_more [] (y ∷ ys) (suc place) e f = cc
-  one_more (x ∷ xs) [] zero e f = cc
-  one_more (x ∷ xs) [] (suc place) e f = cc
-  one_more (x ∷ xs) (y ∷ ys) zero e f = let same : x ≡ y = cc in ap (λ z. z ∷ []) same
-  one_more (x ∷ xs) (y ∷ ys) (suc place) e f =
-      let first : x ≡ y = cc in
-      let rest : take place xs ≡ take place ys = cc in
-      λ i. first i ∷ one_more xs ys place rest f i
-
-  -- lists that agree up to a place, and at it
-  pub same_next : (xs ys : List X) (place : ℕ) → take place xs ≡ take place ys → slice_get xs place ≡ slice_get ys place
-      → take (place + 1) xs ≡ take (place + 1) ys
-  same_next xs ys place e f = rw add-one (one_more xs ys place e f)
-
   -- lists that agree up to the end of both
   pub same_whole : (xs ys : List X) (place : ℕ) → take place xs ≡ take place ys → length xs ≤ place → length ys ≤ place → xs ≡ ys
   same_whole xs ys place e h k = sym (take_all place xs h) ∙ e ∙ take_all place ys k

@@ -1,8 +1,7 @@
 -- Selecting from a list that is put in order.
-use Rattle.std.proofs.Common.{◌≡◌, ℕ, List, [], ◌∷◌, ◌++◌, map, filter_map, Bool, true, false, cond, Option, Some, None, option_to_list}
-use Rattle.std.proofs.Common.{Ordering, is_gt, sym, refl, ap, ◌∙◌, nat_cmp}
-use Rattle.tl_number.proofs.Common.{AllByRecursion, IsInOrder, all_weaker, cons_option, grouped, in_order, in_order-in_order, nat_cmp_total}
-use Rattle.tl_number.proofs.Common.{on, on_total, upto}
+use Rattle.tl_number.proofs.Common.{◌≡◌, ℕ, List, [], ◌∷◌, ◌++◌, map, filter_map, Bool, true, false, cond, Option, Some, None}
+use Rattle.tl_number.proofs.Common.{option_to_list, Ordering, is_gt, sym, refl, ap, ◌∙◌, nat_cmp, AllByRecursion, IsInOrder, all_weaker}
+use Rattle.tl_number.proofs.Common.{cons_option, grouped, in_order, in_order-in_order, nat_cmp_total, on, on_total, upto}
 use Rattle.ordered_lists.specs.Orders.{put_in_order}
 
 pub grouped_selected : {X Y : Type 0} (h : X → Option Y) (xs : List X) → grouped (map (λ x. option_to_list (h x)) xs) ≡ filter_map h xs

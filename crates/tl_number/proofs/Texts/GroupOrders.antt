@@ -1,9 +1,8 @@
 -- Records in groups, compared one by one.
-use Rattle.std.proofs.Common.{◌≡◌, ◌∙◌, List, map, Ordering, Less, Equal, Greater, sym, ap, refl}
-use Rattle.tl_number.proofs.Common.{IsTotalOrder, Record, grouped, groups_cmp, nat_list_cmp_total, on_total, ordering_then, records_cmp}
-use Rattle.tl_number.proofs.Common.{spelling_cmp, tied_itself}
+use Rattle.tl_number.proofs.Common.{◌≡◌, ◌∙◌, List, map, Ordering, Less, Equal, Greater, sym, ap, refl, IsTotalOrder, Record, grouped}
+use Rattle.tl_number.proofs.Common.{groups_cmp, nat_list_cmp_total, on_total, ordering_then, records_cmp, spelling_cmp, spelling_of}
+use Rattle.tl_number.proofs.Common.{tied_itself}
 use Rattle.std.proofs.lemmas.Cmp.{lists_total}
-use Rattle.tl_layout.specs.RecordText.{spelling_of}
 
 pub records_total : IsTotalOrder records_cmp
 records_total = lists_total (on_total spelling_of nat_list_cmp_total)

@@ -1,16 +1,16 @@
 -- The records of types I and P of a county in two arrangements.
-use Rattle.std.proofs.Common.{◌≡◌, ◌<◌, ◌≤◌, ◌+◌, ℕ, nat_lt, List, map, length, Bool, true, false, Option, Some, None}
-use Rattle.std.proofs.Common.{option_map, slice_get, Equal, sym, refl, ap, ap₂, ◌∙◌, subst, arith}
-use Rattle.tl_number.proofs.Common.{AreTiedAt, AreTiedBelow, AreWhole, Chain, County, DirectedChain, I, IsCounty, arranged_by}
-use Rattle.tl_number.proofs.Common.{arrangement_of, chain_at, directed_chain, ends_of, links_of, ltb-false, ltb-true, option_cmp, packed_i}
-use Rattle.tl_number.proofs.Common.{placed, records_cmp, renumbered, sides_of, slice_get-map, slice_get_past, spelling_cmp}
-use Rattle.tl_number.specs.Arrangement.{renaming_of}
+use Rattle.tl_number.proofs.Common.{◌≡◌, ◌≤◌, ◌+◌, ℕ, nat_lt, List, map, length, Bool, true, false, Option, Some, None, option_map}
+use Rattle.tl_number.proofs.Common.{slice_get, Equal, sym, refl, ap, ap₂, ◌∙◌, subst, arith, AreTiedAt, AreTiedBelow, AreWhole, Chain}
+use Rattle.tl_number.proofs.Common.{County, DirectedChain, I, IsCounty, arranged_by, arrangement_of, chain_at, directed_chain, ends_of}
+use Rattle.tl_number.proofs.Common.{links_of, ltb-false, ltb-true, option_cmp, packed_i, placed, records_cmp, renaming_of, renumbered}
+use Rattle.tl_number.proofs.Common.{sides_of, slice_get-map, slice_get_past, spelling_cmp}
 use Rattle.tl_number.proofs.Arrangements.Carrying.{chains_arranged}
 use Rattle.tl_number.proofs.Records.PackedGroups.{is}
 use Rattle.tl_number.proofs.Unique.SameNumbers.{kept_entry}
 use Rattle.tl_number.proofs.Texts.TiedOnes.{all_tied}
-use Rattle.tl_number.proofs.Texts.TypeOnes.{length_whole, numbered_at}
+use Rattle.tl_number.proofs.Texts.TypeOnes.{length_whole}
 use Rattle.tl_number.proofs.Views.ViewChains.{arranges, bodies_read, chains, chains_arranged_by, read_nowhere, read_there}
+use Rattle.tl_number.proofs.Polygons.PolygonNumbers.{numbered_at}
 
 -- the type I record of a chain
 pub link_there : (county : County) (place : ℕ) → slice_get (links_of county) place ≡ option_map (λ entry. I (packed_i entry))
@@ -110,18 +110,6 @@ module _ (county : County) (is_county : IsCounty county) (one other : List Direc
             right = (e2 i).1;
           })))
           ∙ sym (link_there (arranged_by county other) place ∙ ap (option_map (λ entry. I (packed_i entry))) b.entry)
-
--- lists that agree up to a place, and at it
-pub same_further : {X : Type 0} (xs ys : List X) (end : ℕ) → ((place : ℕ) → place < end → slice_get xs place ≡ slice_get ys place)
-    → slice_get xs end ≡ slice_get ys end → (place : ℕ) → place < end + 1 → slice_get xs place ≡ slice_get ys place
-same_further xs ys end below here place l = go (nat_lt place end) refl
-  where
-    go : (b : Bool) → nat_lt place end ≡ b → slice_get xs place ≡ slice_get ys place
-    go true e = below place (ltb-true place end e)
-    go false e =
-        let past : end ≤ place = ltb-false place end e in
-        let same : end ≡ place = omega (arith, l, past) in
-        subst (λ k. slice_get xs k ≡ slice_get ys k) same here
 
 -- type I records that are tied up to the last chain of both counties
 pub all_links_tied : (a b : County) (end : ℕ) → length a.chains ≤ end → length b.chains ≤ end

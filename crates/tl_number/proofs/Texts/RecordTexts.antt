@@ -1,11 +1,10 @@
 -- Texts are ordered by the spellings of their records, one after the other.
-use Rattle.std.proofs.Common.{◌≡◌, ◌==◌, ◌+◌, ℕ, List, [], ◌∷◌, ◌++◌, length, cond, Ordering, Less, Equal, Greater, nat_cmp}
-use Rattle.std.proofs.Common.{◌⊎◌, inl, inr, refl, sym, ap, ◌∙◌, subst, length-append, arith}
-use Rattle.tl_number.proofs.Common.{AllByRecursion, Eight, Five, Four, I, One, P, Record, Seven, Six, Two, exact_unsigned, ordering_then}
-use Rattle.tl_number.proofs.Common.{records_cmp, slice_cmp, text_of}
+use Rattle.tl_number.proofs.Common.{◌≡◌, ◌==◌, ◌+◌, ℕ, List, [], ◌∷◌, ◌++◌, length, cond, Ordering, Less, Equal, Greater, nat_cmp, ◌⊎◌, inl}
+use Rattle.tl_number.proofs.Common.{inr, refl, sym, ap, ◌∙◌, subst, length-append, arith, AllByRecursion, Eight, Five, Four, I, One, P}
+use Rattle.tl_number.proofs.Common.{Record, Seven, Six, Two, exact_unsigned, ordering_then, records_cmp, slice_cmp, spelling_of, text_of}
 use Rattle.tl_layout.specs.Bytes.{IsLine}
 use Rattle.tl_layout.specs.Laws.RecordLaws.{spelling_is_line}
-use Rattle.tl_layout.specs.RecordText.{FitsRecord, len_of, spelling_of, type_of}
+use Rattle.tl_layout.specs.RecordText.{FitsRecord, len_of, type_of}
 use Rattle.tl_number.proofs.Names.NameOrder.{then_assoc}
 
 -- a second comparison that finds both equal decides nothing

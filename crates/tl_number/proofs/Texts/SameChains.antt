@@ -1,13 +1,11 @@
 -- Two arrangements of a county that have the same chains in the same order make the same county, whatever TLIDs these have.
-use Rattle.std.proofs.Common.{◌≤◌, Bool, true, nat_lt, arith}
-use Rattle.std.proofs.Common.{◌≡◌, ◌<◌, ◌∙◌, ℕ, List, get_or, length, map, Option, None, Some, option_map, slice_get, false, sym, refl, ap, nat_cmp}
-use Rattle.tl_number.proofs.Common.{AreWhole, Arrangement, Arranges, Body5, Chain, County, Decides, DirectedChain, IsCounty, Renumbering}
-use Rattle.tl_number.proofs.Common.{all_uses, arranged_by, arrangement_of, directed_chain, first_seen, image, in_order, key_cmp, length-map}
-use Rattle.tl_number.proofs.Common.{ltb-false, ltb-true, map_agree_everywhere, name_key, name_key_cmp, names_in_order, new_keys}
-use Rattle.tl_number.proofs.Common.{nodes_along, nodes_in_order, numbered, numbered_from, on, parts_along, placed, polygons_along}
-use Rattle.tl_number.proofs.Common.{renumbered, renumbered_polygon, side_of, slice_get-get_or, slice_get-map, slice_get_past, under_cenid}
-use Rattle.tl_number.specs.Arrangement.{arranged}
-use Rattle.tl_number.specs.Arrangement.{renaming_of}
+use Rattle.tl_number.proofs.Common.{◌≤◌, Bool, true, nat_lt, arith, ◌≡◌, ◌<◌, ◌∙◌, ℕ, List, get_or, length, map, Option, None, Some}
+use Rattle.tl_number.proofs.Common.{option_map, slice_get, false, sym, refl, ap, nat_cmp, AreWhole, Arrangement, Arranges, Body5, Chain}
+use Rattle.tl_number.proofs.Common.{County, Decides, DirectedChain, IsCounty, Renumbering, all_uses, arranged, arranged_by, arrangement_of}
+use Rattle.tl_number.proofs.Common.{directed_chain, first_seen, image, in_order, key_cmp, length-map, ltb-false, ltb-true}
+use Rattle.tl_number.proofs.Common.{map_agree_everywhere, name_key, name_key_cmp, names_in_order, new_keys, nodes_along, nodes_in_order}
+use Rattle.tl_number.proofs.Common.{numbered, numbered_from, on, parts_along, placed, polygons_along, renaming_of, renumbered}
+use Rattle.tl_number.proofs.Common.{renumbered_polygon, side_of, slice_get-get_or, slice_get-map, slice_get_past, under_cenid}
 use Rattle.tl_number.specs.MovedChains.{HaveSamePartsBelow}
 use Rattle.tl_number.proofs.Arrangements.Carrying.{chains_arranged, names_arranged, names_renamed}
 use Rattle.tl_number.proofs.Arrangements.Carrying.{nodes_renamed}

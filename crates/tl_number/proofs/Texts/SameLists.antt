@@ -1,11 +1,10 @@
 -- Arrangements of chains with the same further names have the same records of types 4 and 5, and those of chains with the same
 -- further address ranges have the same records of type 6.
-use Rattle.std.proofs.Common.{◌≡◌, ◌∙◌, ℕ, suc, List, [], ◌∷◌, map, Option, Some, sym, refl, ap, nat_cmp, subst}
-use Rattle.tl_number.proofs.Common.{AreWhole, Body5, Chain, County, DirectedChain, Fields4, Fields6, IsCounty, Ranges, Renumbering}
-use Rattle.tl_number.proofs.Common.{all_uses, arranged_by, arrangement_of, directed_chain, feats_of, grouped, image, in_order, in_pieces}
-use Rattle.tl_number.proofs.Common.{map-map, name_key, name_key_cmp, names_in_order, numbered, numbered_from, on, packed_five, packed_fours}
-use Rattle.tl_number.proofs.Common.{packed_sixes, parts_along, ranges_of, type_4_by_chain, type_5_by_name, type_6_by_chain, uses_from}
-use Rattle.tl_number.specs.Arrangement.{renaming_of}
+use Rattle.tl_number.proofs.Common.{◌≡◌, ◌∙◌, ℕ, suc, List, [], ◌∷◌, map, Option, Some, sym, refl, ap, nat_cmp, subst, AreWhole, Body5}
+use Rattle.tl_number.proofs.Common.{Chain, County, DirectedChain, Fields4, Fields6, IsCounty, Ranges, Renumbering, all_uses, arranged_by}
+use Rattle.tl_number.proofs.Common.{arrangement_of, directed_chain, feats_of, grouped, image, in_order, in_pieces, map-map, name_key}
+use Rattle.tl_number.proofs.Common.{name_key_cmp, names_in_order, numbered, numbered_from, on, packed_five, packed_fours, packed_sixes}
+use Rattle.tl_number.proofs.Common.{parts_along, ranges_of, renaming_of, type_4_by_chain, type_5_by_name, type_6_by_chain, uses_from}
 use Rattle.tl_number.proofs.Arrangements.Carrying.{chains_arranged, names_arranged, names_renamed}
 use Rattle.tl_number.proofs.Records.Grouped.{grouped_map}
 use Rattle.tl_number.proofs.Unique.SameNumbers.{kept_entry}
@@ -51,17 +50,18 @@ module _ (r s : Renumbering) where
   same_sixes cs ds e n = map-map packed_sixes (kept_entry r) (numbered_from n cs)
       ∙ same_parts (λ c. c.ranges) sixes cs ds e n ∙ sym (map-map packed_sixes (kept_entry s) (numbered_from n ds))
 
+-- values read from each directed chain are read from the chains in their new order
+pub read_along : (county : County) (is : IsCounty county) {X : Type 0} (part : Option Chain → X) (arrangement : List DirectedChain)
+    (w : AreWhole county arrangement)
+    → map (λ directed. part (directed_chain county directed)) arrangement ≡ map (λ c. part (Some c)) (chains county arrangement is w)
+read_along county is part arrangement w = sym (map-map part (directed_chain county) arrangement)
+    ∙ ap (map part) (bodies_read county arrangement is w arrangement w.there) ∙ map-map part Some (chains county arrangement is w)
+
 module _ (county : County) (is : IsCounty county) (one other : List DirectedChain) (whole : AreWhole county one) (other_whole : AreWhole county other)
   where
-    -- values read from each directed chain are read from the chains in their new order
-    pub read_along : {X : Type 0} (part : Option Chain → X) (arrangement : List DirectedChain) (w : AreWhole county arrangement)
-        → map (λ directed. part (directed_chain county directed)) arrangement ≡ map (λ c. part (Some c)) (chains county arrangement is w)
-    read_along part arrangement w = sym (map-map part (directed_chain county) arrangement) ∙ ap (map part) (bodies_read county arrangement is w arrangement w.there)
-        ∙ map-map part Some (chains county arrangement is w)
-
     module _ (same : parts_along feats_of county one ≡ parts_along feats_of county other) where
       feats_same : map (λ (c : Chain). c.feats) (chains county one is whole) ≡ map (λ (c : Chain). c.feats) (chains county other is other_whole)
-      feats_same = sym (read_along feats_of one whole) ∙ same ∙ read_along feats_of other other_whole
+      feats_same = sym (read_along county is feats_of one whole) ∙ same ∙ read_along county is feats_of other other_whole
 
       names_ordered : names_in_order county (arrangement_of county one) ≡ names_in_order county (arrangement_of county other)
       names_ordered = ap (λ uses. in_order (on (name_key uses) name_key_cmp) county.names)
@@ -89,7 +89,7 @@ module _ (county : County) (is : IsCounty county) (one other : List DirectedChai
     type_6_same same = ap (map packed_sixes) (chains_arranged county (arrangement_of county one) is (arranges county one is whole))
         ∙ same_sixes (renaming_of county (arrangement_of county one)) (renaming_of county (arrangement_of county other))
         (chains county one is whole) (chains county other is other_whole)
-        (sym (read_along ranges_of one whole) ∙ same ∙ read_along ranges_of other other_whole) 1
+        (sym (read_along county is ranges_of one whole) ∙ same ∙ read_along county is ranges_of other other_whole) 1
         ∙ sym (ap (map packed_sixes) (chains_arranged county (arrangement_of county other) is (arranges county other is other_whole)))
 
 -- The same if two names denote the county.

@@ -1,9 +1,7 @@
 -- Two arrangements of a county that number its polygons alike have the same polygons, landmarks and links.
-use Rattle.std.proofs.Common.{◌≡◌, ◌∙◌, ℕ, List, map, Option, sym, ap, nat_cmp}
-use Rattle.tl_number.proofs.Common.{Arrangement, Arranges, Body7, BodyP, County, Fields8, IsCounty, PolygonKey, Renumbering, image}
-use Rattle.tl_number.proofs.Common.{in_order, key_cmp, landmark_key, landmark_key_cmp, landmarks_in_order, link_cmp, link_key, new_keys}
-use Rattle.tl_number.proofs.Common.{numbered, on, relinked}
-use Rattle.tl_number.specs.Arrangement.{arranged, renaming_of}
+use Rattle.tl_number.proofs.Common.{◌≡◌, ◌∙◌, ℕ, List, map, Option, sym, ap, nat_cmp, Arrangement, Arranges, Body7, BodyP, County, Fields8}
+use Rattle.tl_number.proofs.Common.{IsCounty, PolygonKey, Renumbering, arranged, image, in_order, key_cmp, landmark_key, landmark_key_cmp}
+use Rattle.tl_number.proofs.Common.{landmarks_in_order, link_cmp, link_key, new_keys, numbered, on, relinked, renaming_of}
 use Rattle.tl_number.proofs.Arrangements.Carrying.{lands_renamed, landmarks_arranged, links_arranged, polygons_arranged, polygons_renamed}
 
 module _ (county : County) (is : IsCounty county) (one other : Arrangement) (arranges_one : Arranges one county)

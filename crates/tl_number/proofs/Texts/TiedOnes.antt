@@ -1,22 +1,10 @@
 -- The type 1 records of two arrangements, compared only at open places.
-use Rattle.std.proofs.Common.{◌≡◌, ◌≢◌, ◌≤◌, ◌+◌, ℕ, zero, suc, nat_lt, List, [], ◌∷◌, length, get_or, Bool, true, false, Less}
-use Rattle.std.proofs.Common.{Equal, Greater, Some, slice_get, sym, refl, ap, ap₂, ◌∙◌, subst, arith}
-use Rattle.tl_number.proofs.Common.{AreTiedAt, AreTiedBelow, AreWhole, County, DirectedChain, IsCounty, Record, arranged_by, ltb-false}
-use Rattle.tl_number.proofs.Common.{ltb-true, one_at, ones_of, option_cmp, ordering_then, records_cmp, slice_get-get_or, slice_get_past}
-use Rattle.tl_number.proofs.Common.{spelling_cmp}
+use Rattle.tl_number.proofs.Common.{◌≡◌, ◌≢◌, ◌≤◌, ℕ, zero, suc, nat_lt, List, [], ◌∷◌, length, get_or, Bool, true, false, Less, Equal}
+use Rattle.tl_number.proofs.Common.{Greater, Some, slice_get, sym, refl, ap, ap₂, ◌∙◌, arith, AreTiedAt, AreTiedBelow, AreWhole, County}
+use Rattle.tl_number.proofs.Common.{DirectedChain, IsCounty, Record, arranged_by, ltb-false, ltb-true, one_at, ones_of, option_cmp}
+use Rattle.tl_number.proofs.Common.{ordering_then, records_cmp, slice_get-get_or, slice_get_past, spelling_cmp}
 use Rattle.tl_number.proofs.Texts.GroupOrders.{decided}
 use Rattle.tl_number.proofs.Texts.TypeOnes.{length-ones_arranged_by, ones_arranged_by, same_one}
-
--- with one more place
-pub tied_more : (rs ss : List Record) (end : ℕ) → AreTiedBelow end rs ss → AreTiedAt rs ss end → AreTiedBelow (end + 1) rs ss
-tied_more rs ss end below here place l = go (nat_lt place end) refl
-  where
-    go : (b : Bool) → nat_lt place end ≡ b → AreTiedAt rs ss place
-    go true e = below place (ltb-true place end e)
-    go false e =
-        let past : end ≤ place = ltb-false place end e in
-        let same : end ≡ place = omega (arith, l, past) in
-        subst (AreTiedAt rs ss) same here
 
 -- the first place where two lists aren't tied decides
 pub first_untied : (rs ss : List Record) (place : ℕ) → AreTiedBelow place rs ss

@@ -1,18 +1,16 @@
 -- The type 1 records of a county in an arrangement.
-use Rattle.std.proofs.Common.{◌≡◌, ◌<◌, ◌≤◌, ◌+◌, ℕ, zero, suc, List, [], ◌∷◌, map, length, Bool, true, false, Option, Some, None}
-use Rattle.std.proofs.Common.{option_map, slice_get, Equal, sym, refl, ap, ◌∙◌, subst, arith}
-use Rattle.tl_number.proofs.Common.{AreWhole, Chain, County, DirectedChain, IsCounty, IsWithinLimits, One, Record, arranged_by}
-use Rattle.tl_number.proofs.Common.{arranged_tlids, arrangement_of, directed_chain, length-map, length_permutation, most_records}
-use Rattle.tl_number.proofs.Common.{nat_list_cmp_total, numbered_from, one_at, ones_of, option_cmp, packed_one, placed, slice_get-map}
-use Rattle.tl_number.proofs.Common.{spelling_cmp, tied_itself, tlid_at, tlids, turned_if}
+use Rattle.tl_number.proofs.Common.{◌≡◌, ◌<◌, ◌≤◌, ◌+◌, ℕ, List, map, length, Bool, true, false, Option, Some, None, option_map, slice_get}
+use Rattle.tl_number.proofs.Common.{Equal, sym, refl, ap, ◌∙◌, subst, arith, AreWhole, Chain, County, DirectedChain, IsCounty}
+use Rattle.tl_number.proofs.Common.{IsWithinLimits, One, Record, arranged_by, arranged_tlids, arrangement_of, directed_chain, length-map}
+use Rattle.tl_number.proofs.Common.{length_permutation, most_records, nat_list_cmp_total, one_at, ones_of, option_cmp, packed_one, placed}
+use Rattle.tl_number.proofs.Common.{renaming_of, slice_get-map, spelling_cmp, spelling_of, tied_itself, tlid_at, tlids, turned_if}
 use Rattle.std.proofs.lemmas.List.{length-reverse}
-use Rattle.tl_layout.specs.RecordText.{spelling_of}
-use Rattle.tl_number.specs.Arrangement.{renaming_of}
 use Rattle.tl_number.proofs.Arrangements.Carrying.{chains_arranged}
 use Rattle.tl_number.proofs.Records.ChainPlaces.{chain_there}
 use Rattle.tl_number.proofs.Records.PackedGroups.{ones}
 use Rattle.tl_number.proofs.Unique.SameNumbers.{kept_entry}
 use Rattle.tl_number.proofs.Views.ViewChains.{arranges, bodies_read, chains, chains_arranged_by, read_there}
+use Rattle.tl_number.proofs.Polygons.PolygonNumbers.{numbered_at}
 
 -- a record compared with itself, if there is one
 pub same_one : (r : Option Record) → Equal ≡ option_cmp spelling_cmp r r
@@ -39,12 +37,6 @@ directed_there county is within directed h =
     either : (turned : Bool) (chain : Chain) → 2 ≤ length chain.points → 2 ≤ length (turned_if turned chain).points
     either true chain two = subst (λ n. 2 ≤ n) (sym (length-reverse chain.points)) two
     either false chain two = two
-
-pub numbered_at : {X : Type 0} (n : ℕ) (xs : List X) (i : ℕ) → slice_get (numbered_from n xs) i ≡ option_map (λ x. (n + i, x)) (slice_get xs i)
-numbered_at n [] i = refl
-numbered_at n (x ∷ xs) zero = ap (λ m. Some (m, x)) (let e : n ≡ n + zero = omega arith in e)
-numbered_at n (x ∷ xs) (suc i) = numbered_at (suc n) xs i
-    ∙ ap (λ m. option_map (λ y. (m, y)) (slice_get xs i)) (let e : suc n + i ≡ n + suc i = omega arith in e)
 
 pub length-ones : (county : County) → length (ones_of county) ≡ length county.chains
 length-ones county = ap length (ones county) ∙ length-map (map packed_one county.chains) One ∙ length-map county.chains packed_one

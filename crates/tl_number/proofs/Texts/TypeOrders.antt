@@ -1,9 +1,8 @@
 -- For two packings with equally many records of each type, the first type that differs decides the order.
-use Rattle.std.proofs.Common.{◌≡◌, ◌∙◌, ◌+◌, List, ◌++◌, length, map, length-append, nat_cmp, Equal, sym, ap, ap₂}
-use Rattle.tl_number.proofs.Common.{AreSame, County, Eight, Five, Four, I, IsCounty, IsWithinLimits, One, Record, Seven, Six, Two, grouped}
-use Rattle.tl_number.proofs.Common.{groups_cmp, length-map, most_records, ordering_then, packed, packed_by_type, records_cmp, slice_cmp}
-use Rattle.tl_number.proofs.Common.{spelling_cmp, text_of, tied_itself, type_1_by_chain, type_2_by_chain, type_4_by_chain, type_5_by_name}
-use Rattle.tl_number.proofs.Common.{type_6_by_chain, type_7_by_landmark, type_8_together, type_i_by_chain, types_1_to_4, types_5_to_7}
+use Rattle.tl_number.proofs.Common.{◌≡◌, ◌∙◌, ◌+◌, List, ◌++◌, length, map, length-append, nat_cmp, Equal, sym, ap, ap₂, AreSame, County}
+use Rattle.tl_number.proofs.Common.{Eight, Five, Four, I, IsCounty, IsWithinLimits, One, Record, Seven, Six, Two, grouped, groups_cmp}
+use Rattle.tl_number.proofs.Common.{length-map, most_records, ordering_then, packed, packed_by_type, records_cmp, slice_cmp, spelling_cmp}
+use Rattle.tl_number.proofs.Common.{text_of, tied_itself, type_1_by_chain, type_2_by_chain, type_4_by_chain, types_1_to_4, types_5_to_7}
 use Rattle.tl_number.proofs.Common.{types_8_to_p}
 use Rattle.tl_county.proofs.Limits.CarriedLimits.{carried_many}
 use Rattle.tl_county.proofs.Limits.FitsPacked.{packed-fits}
@@ -31,38 +30,22 @@ of_type : {X : Type 0} (record_of : X → Record) (xs ys : List X) (rs ss : List
 of_type record_of xs ys rs ss e f many = ap length e ∙ length-map xs record_of ∙ many ∙ sym (length-map ys record_of) ∙ sym (ap length f)
 
 module _ (a b : County) (many : HasAsMany (packed_by_type a) (packed_by_type b)) where
-  types_1_to_4_many : (length (map One (grouped (type_1_by_chain a))) ≡ length (map One (grouped (type_1_by_chain b))))
-      × ((length (map Two (grouped (type_2_by_chain a))) ≡ length (map Two (grouped (type_2_by_chain b))))
-      × (length (map Four (grouped (type_4_by_chain a))) ≡ length (map Four (grouped (type_4_by_chain b)))))
-  types_1_to_4_many = (
-    of_type One _ _ _ _ (ones a) (ones b) many.of_type_1,
-    (of_type Two _ _ _ _ (twos a) (twos b) many.of_type_2, of_type Four _ _ _ _ (fours a) (fours b) many.of_type_4),
-  )
-
-  types_5_to_7_many : (length (map Five (grouped (type_5_by_name a))) ≡ length (map Five (grouped (type_5_by_name b))))
-      × ((length (map Six (grouped (type_6_by_chain a))) ≡ length (map Six (grouped (type_6_by_chain b))))
-      × (length (map Seven (grouped (type_7_by_landmark a))) ≡ length (map Seven (grouped (type_7_by_landmark b)))))
-  types_5_to_7_many = (
-    of_type Five _ _ _ _ (fives a) (fives b) many.of_type_5,
-    (of_type Six _ _ _ _ (sixes a) (sixes b) many.of_type_6, of_type Seven _ _ _ _ (sevens a) (sevens b) many.of_type_7),
-  )
-
-  eights_many : length (map Eight (grouped (type_8_together a))) ≡ length (map Eight (grouped (type_8_together b)))
-  eights_many = of_type Eight _ _ _ _ (eights a) (eights b) many.of_type_8
-
-  is_many : length (map I (grouped (type_i_by_chain a))) ≡ length (map I (grouped (type_i_by_chain b)))
-  is_many = of_type I _ _ _ _ (is a) (is b) many.of_type_i
-
   types_in_order : records_cmp (packed a) (packed b)
       ≡ ordering_then (types_1_to_4_cmp a b) (ordering_then (types_5_to_7_cmp a b) (types_8_to_p_cmp a b))
   types_in_order =
-      let m = types_1_to_4_many in
-      let n = types_5_to_7_many in
+      let one = of_type One _ _ _ _ (ones a) (ones b) many.of_type_1 in
+      let two = of_type Two _ _ _ _ (twos a) (twos b) many.of_type_2 in
+      let four = of_type Four _ _ _ _ (fours a) (fours b) many.of_type_4 in
+      let five = of_type Five _ _ _ _ (fives a) (fives b) many.of_type_5 in
+      let six = of_type Six _ _ _ _ (sixes a) (sixes b) many.of_type_6 in
+      let seven = of_type Seven _ _ _ _ (sevens a) (sevens b) many.of_type_7 in
+      let eight = of_type Eight _ _ _ _ (eights a) (eights b) many.of_type_8 in
+      let link = of_type I _ _ _ _ (is a) (is b) many.of_type_i in
       ap₂ records_cmp (sym (all_groups a)) (sym (all_groups b))
       ∙ three_lists (types_1_to_4 a) (types_5_to_7 a) (types_8_to_p a) (types_1_to_4 b) (types_5_to_7 b) (types_8_to_p b)
-      (three_lengths _ _ _ _ _ _ m.0 m.1.0 m.1.1) (three_lengths _ _ _ _ _ _ n.0 n.1.0 n.1.1)
-      ∙ ap₂ ordering_then (three_lists _ _ _ _ _ _ m.0 m.1.0)
-      (ap₂ ordering_then (three_lists _ _ _ _ _ _ n.0 n.1.0) (three_lists _ _ _ _ _ _ eights_many is_many))
+      (three_lengths _ _ _ _ _ _ one two four) (three_lengths _ _ _ _ _ _ five six seven)
+      ∙ ap₂ ordering_then (three_lists _ _ _ _ _ _ one two)
+      (ap₂ ordering_then (three_lists _ _ _ _ _ _ five six) (three_lists _ _ _ _ _ _ eight link))
 
 -- The texts of counties that are the same map are in that order.
 pub texts_in_order : (a b : County) → IsCounty a → IsCounty b → IsWithinLimits most_records a → IsWithinLimits most_records b → AreSame a b

@@ -1,9 +1,9 @@
 -- Collecting the nodes of open chains and the critical ends.
-use Rattle.std.proofs.Common.{◌≡◌, ◌<◌, ◌≤◌, ◌+◌, nat_lt, Bool, true, false, arith, ℕ, zero, suc, List, [], ◌∷◌, map, drop, get_or, length, slice_get, Option, Some, None, option_map, option_to_list}
-use Rattle.std.proofs.Common.{IsTrue, nat_cmp, refl, sym, ap, ◌∙◌, subst}
-use Rattle.tl_number.proofs.Common.{Chain, County, DirectedChain, HasChainsOf, HasNodes, OpenPlace, all_known, all_weaker, directed_chain}
-use Rattle.tl_number.proofs.Common.{ends_along, ends_of, ends_or_none, first_seen_after, is_open, lt-ltb, ltb-false, ltb-true, nat_keys}
-use Rattle.tl_number.proofs.Common.{nodes_at, slice_get-get_or, stands_in, times}
+use Rattle.tl_number.proofs.Common.{below_more, ◌≡◌, ◌<◌, ◌+◌, true, ℕ, zero, suc, List, [], ◌∷◌, map, drop, get_or, length, slice_get}
+use Rattle.tl_number.proofs.Common.{Option, Some, None, option_map, option_to_list, IsTrue, nat_cmp, refl, sym, ap, ◌∙◌, subst, Chain}
+use Rattle.tl_number.proofs.Common.{County, DirectedChain, HasNodes, OpenPlace, all_known, all_weaker, directed_chain, ends_along, ends_of}
+use Rattle.tl_number.proofs.Common.{ends_or_none, first_seen_after, is_open, lt-ltb, ltb-true, nat_keys, nodes_at, slice_get-get_or}
+use Rattle.tl_number.proofs.Common.{stands_in, times}
 use Rattle.std.proofs.lemmas.List.{drop_more}
 use Rattle.tl_number.specs.CriticalPlaces.{met_after_both}
 use Rattle.tl_number.proofs.Numbering.FirstSeen.{all_after, seen_after}
@@ -39,20 +39,19 @@ has_still old new nodes grown has =
 -- the nodes of the chains at the open places up to one more
 pub one_more_open : (places : List OpenPlace) (ends : List (Option ℕ × Option ℕ)) (old new : List ℕ) (place : ℕ) (here : Option ℕ × Option ℕ)
     → slice_get ends place ≡ Some here
-    → ((k : ℕ) (pair : Option ℕ × Option ℕ) → k < place → is_open k places ≡ true → slice_get ends k ≡ Some pair → HasNodes old (nodes_at pair))
+    → ((k : ℕ) → k < place → (pair : Option ℕ × Option ℕ) → is_open k places ≡ true → slice_get ends k ≡ Some pair → HasNodes old (nodes_at pair))
     → ((node : ℕ) → IsTrue (stands_in nat_cmp node old) → IsTrue (stands_in nat_cmp node new))
     → (is_open place places ≡ true → HasNodes new (nodes_at here))
-    → (k : ℕ) (pair : Option ℕ × Option ℕ) → k < place + 1 → is_open k places ≡ true → slice_get ends k ≡ Some pair → HasNodes new (nodes_at pair)
-one_more_open places ends old new place here there before grown seen k pair l e f = go (nat_lt k place) refl
+    → (k : ℕ) → k < place + 1 → (pair : Option ℕ × Option ℕ) → is_open k places ≡ true → slice_get ends k ≡ Some pair → HasNodes new (nodes_at pair)
+one_more_open places ends old new place here there before grown seen =
+    below_more (λ k. (pair : Option ℕ × Option ℕ) → is_open k places ≡ true → slice_get ends k ≡ Some pair → HasNodes new (nodes_at pair)) place
+    (λ k l pair e f. has_still old new (nodes_at pair) grown (before k l pair e f)) last
   where
-    go : (b : Bool) → nat_lt k place ≡ b → HasNodes new (nodes_at pair)
-    go true h = has_still old new (nodes_at pair) grown (before k pair (ltb-true k place h) e f)
-    go false h =
-        let past : place ≤ k = ltb-false k place h in
-        let same : place ≡ k = omega (arith, l, past) in
-        let both : Some here ≡ Some pair = sym there ∙ ap (slice_get ends) same ∙ f in
+    last : (pair : Option ℕ × Option ℕ) → is_open place places ≡ true → slice_get ends place ≡ Some pair → HasNodes new (nodes_at pair)
+    last pair e f =
+        let both : Some here ≡ Some pair = sym there ∙ f in
         let one : here ≡ pair = cc in
-        subst (λ p. HasNodes new (nodes_at p)) one (seen (ap (λ j. is_open j places) same ∙ e))
+        subst (λ p. HasNodes new (nodes_at p)) one (seen e)
 
 -- ends read from each directed chain
 end_read : (o : Option Chain) (ends : Option ℕ × Option ℕ) → Some ends ≡ option_map ends_of o → ends ≡ ends_or_none o
@@ -84,9 +83,3 @@ pub no_end_there : (county : County) (arrangement : List DirectedChain) (place :
 no_end_there county [] place e = refl
 no_end_there county (d ∷ ds) zero e = cc
 no_end_there county (d ∷ ds) (suc place) e = no_end_there county ds place e
-
-pub chain_at_place : (county : County) (arrangement : List DirectedChain) → HasChainsOf county arrangement → (place : ℕ) (directed : DirectedChain)
-    → slice_get arrangement place ≡ Some directed → directed.place < length county.chains
-chain_at_place county [] has place directed e = cc
-chain_at_place county (d ∷ ds) has zero directed e = let same : d ≡ directed = cc in subst (λ x. x.place < length county.chains) same has.0
-chain_at_place county (d ∷ ds) has (suc place) directed e = chain_at_place county ds has.1 place directed e

@@ -1,22 +1,20 @@
 -- Choices that differ only in the nodes of their chains are in the order of the numbers of their critical ends.
-use Rattle.std.proofs.Common.{◌≡◌, ◌∙◌, ℕ, List, ◌++◌, flat_map, length, map, slice_get, Bool, true, false, not, cond, Option, Some, None, option_map, option_to_list}
-use Rattle.std.proofs.Common.{Ordering, nat_cmp, is_gt, refl, sym, ap, subst}
-use Rattle.tl_number.proofs.Common.{AreNodeTies, AreSame, AreWhole, Chain, County, DirectedChain, HasChainsOf, HasNodes, IsCounty}
-use Rattle.tl_number.proofs.Common.{IsNotAfter, IsWithinLimits, One, OrderOfShapes, arrangement_of, chain_at, choice_list, critical_numbers}
-use Rattle.tl_number.proofs.Common.{directed_chain, ends_along, ends_among, ends_at, ends_cmp, ends_or_none, first_seen, groups_cmp}
-use Rattle.tl_number.proofs.Common.{is_open, length-map, most_records, nodes_at, numbered_arrangement, other_way, packed, renumbered_ends}
-use Rattle.tl_number.proofs.Common.{slice_cmp, slice_get-map, text_of, turned_if, type_1_by_chain, type_2_by_chain}
-use Rattle.tl_number.specs.Arrangement.{arranged}
+use Rattle.tl_number.proofs.Common.{◌≡◌, ◌∙◌, ℕ, List, ◌++◌, length, map, slice_get, Bool, true, false, not, cond, Option, Some, None}
+use Rattle.tl_number.proofs.Common.{option_map, option_to_list, Ordering, nat_cmp, is_gt, refl, sym, ap, subst, AreNodeTies, AreSame}
+use Rattle.tl_number.proofs.Common.{AreWhole, Chain, County, DirectedChain, HasChainsOf, HasNodes, IsCounty, IsNotAfter, IsWithinLimits}
+use Rattle.tl_number.proofs.Common.{One, OrderOfShapes, arranged, arrangement_of, chain_at, choice_list, critical_numbers, directed_chain}
+use Rattle.tl_number.proofs.Common.{ends_along, ends_at, ends_cmp, ends_or_none, groups_cmp, is_open, length-map, most_records, nodes_at}
+use Rattle.tl_number.proofs.Common.{numbered_arrangement, numbered_choice, other_way, packed, renumbered_ends, slice_cmp, slice_get-map}
+use Rattle.tl_number.proofs.Common.{text_of, turned_if, type_1_by_chain, type_2_by_chain}
 use Rattle.tl_number.specs.ChoiceSearch.{LeavesChoices}
 use Rattle.tl_number.specs.CriticalPlaces.{AreCritical, HasOpenNodes}
-use Rattle.tl_number.specs.Tidy.{numbered_choice}
 use Rattle.tl_number.specs.declared.critical_places.CriticalEnds.{CriticalEnds}
 use Rattle.tl_number.proofs.CanonicalLists.SameShapes.{twos_of_numbers}
 use Rattle.tl_number.proofs.Choices.AscendingArrangement.{arrangement_there}
 use Rattle.tl_number.proofs.Choices.ChosenArrangements.{arrangement_of_number, arrangement_of_number_apart, arrangement_of_number_count, arrangement_of_number_there, places_within}
 use Rattle.tl_number.proofs.Choices.LeastNumbers.{choices_same, lesser_of}
 use Rattle.tl_number.proofs.Choices.LeastOnes.{both_tied, tied_along, tied_with_itself, whole_of_number}
-use Rattle.tl_number.proofs.Ties.CriticalSlots.{agree_all, critical_decide}
+use Rattle.tl_number.proofs.Ties.CriticalSlots.{critical_decide}
 use Rattle.tl_number.proofs.Ties.NodeOrder.{nodes_decide}
 use Rattle.tl_number.proofs.Ties.OpenChains.{closed_apart, moved_has}
 
@@ -99,13 +97,11 @@ module _ (county : County) (shapes : OrderOfShapes) (known : LeavesChoices count
         ≡ slice_cmp ends_cmp (critical_numbers county critical (numbered_arrangement shapes n))
         (critical_numbers county critical (numbered_arrangement shapes m))
     numbers_decide n m =
-        let shape = ends_along county shapes.by_shape in
-        let left = ends_along county (numbered_arrangement shapes n) in
-        let right = ends_along county (numbered_arrangement shapes m) in
-        critical_decide are.nodes shapes.places left right shape
-        (agree_all are.nodes shapes.places left right shape (fixed_ends_same n) (fixed_ends_same m)
-        (open_ends are.nodes are.open_nodes n) (open_ends are.nodes are.open_nodes m) (as_many n) (as_many m))
-        ∙ ap (λ all. slice_cmp ends_cmp (renumbered_ends (map (ends_at left) all)) (renumbered_ends (map (ends_at right) all))) (sym are.all)
+        let whole : Bool → List (Option ℕ × Option ℕ) = λ first. ends_along county (numbered_arrangement shapes (cond first n m)) in
+        critical_decide are.nodes shapes.places whole (ends_along county shapes.by_shape) (λ first. as_many (cond first n m))
+        (λ first. fixed_ends_same (cond first n m)) (λ first. open_ends are.nodes are.open_nodes (cond first n m))
+        ∙ ap (λ all. slice_cmp ends_cmp (renumbered_ends (map (ends_at (whole true)) all)) (renumbered_ends (map (ends_at (whole false)) all)))
+        (sym are.all)
       where
         as_many : (k : ℕ) → length (ends_along county shapes.by_shape) ≡ length (ends_along county (numbered_arrangement shapes k))
         as_many k = length-map shapes.by_shape (λ (d : DirectedChain). ends_or_none (directed_chain county d)) ∙ sym (length_numbered k)
@@ -146,13 +142,3 @@ module _ (county : County) (shapes : OrderOfShapes) where
 
   pub tie_of_both : (first n m : ℕ) → AreNodeTies county shapes first n → AreNodeTies county shapes first m → AreNodeTies county shapes n m
   tie_of_both first n m a b = record { ones = both_tied county first n m a.ones b.ones; rest = sym a.rest ∙ b.rest }
-
--- the numbers of critical ends are as many as these, whatever the arrangement
-pub as_many_numbers : (county : County) (critical : List CriticalEnds) (one other : List DirectedChain)
-    → length (critical_numbers county critical one) ≡ length (critical_numbers county critical other)
-as_many_numbers county critical one other = all one ∙ sym (all other)
-  where
-    all : (arrangement : List DirectedChain) → length (critical_numbers county critical arrangement) ≡ length critical
-    all arrangement =
-        let ends = map (ends_at (ends_along county arrangement)) critical in
-        length-map ends (ends_among (first_seen nat_cmp (flat_map nodes_at ends))) ∙ length-map critical (ends_at (ends_along county arrangement))

@@ -1,16 +1,17 @@
 -- The numbers of the nodes in two arrangements are in the order of their numbers at critical ends.
-use Rattle.std.proofs.Common.{◌≡◌, ◌+◌, ◌&&◌, ℕ, zero, suc, List, [], ◌∷◌, ◌++◌, map, flat_map, length, get_or, slice_get, Bool, true, false, cond, not}
-use Rattle.std.proofs.Common.{Option, Some, None, option_to_list, IfSome, IsTrue, nat_cmp, refl, sym, ap, ap₂, ◌∙◌, inl, inr, arith, append_assoc}
-use Rattle.tl_number.proofs.Common.{HasNodes, OpenPlace, critical_from, ends_among, ends_at, ends_cmp, false≢true, first_seen, is_open}
-use Rattle.tl_number.proofs.Common.{map-append, node_among, node_cmp, nodes_at, ordering_then, renumbered_ends, slice_cmp, stands_in}
+use Rattle.tl_number.proofs.Common.{◌≡◌, ◌+◌, ◌&&◌, ℕ, zero, suc, List, [], ◌∷◌, ◌++◌, map, flat_map, length, get_or, slice_get, Bool, true}
+use Rattle.tl_number.proofs.Common.{false, cond, not, Option, Some, None, option_to_list, IfSome, IsTrue, nat_cmp, refl, sym, ap, ap₂, ◌∙◌}
+use Rattle.tl_number.proofs.Common.{inl, inr, arith, append_assoc, HasNodes, OpenPlace, critical_from, ends_among, ends_at, ends_cmp}
+use Rattle.tl_number.proofs.Common.{false≢true, first_seen, is_open, length-map, map-append, node_among, node_cmp, nodes_at, ordering_then}
+use Rattle.tl_number.proofs.Common.{renumbered_ends, slice_cmp, stands_in}
 use Rattle.std.proofs.lemmas.Grind.{flat_map-append}
 use Rattle.tl_number.specs.CriticalPlaces.{fixed_ends, met_after, met_after_both, newly_met, newly_met_ends}
 use Rattle.tl_number.specs.declared.critical_places.CriticalEnds.{CriticalEnds}
 use Rattle.tl_number.specs.declared.critical_places.CriticalEnds.TheVariants.{Open}
 use Rattle.tl_number.proofs.Names.NameOrder.{then_assoc}
 use Rattle.tl_number.proofs.Texts.SameChains.{the_same}
-use Rattle.tl_number.proofs.Ties.SmallNumbers.{AreSound, AtOpen, FirstFixed, LeftOut, Slot, agree_first, left_of, nodes_in, none_met, numbers_after}
-use Rattle.tl_number.proofs.Ties.SmallNumbers.{right_of, short_left, short_right, slots_order}
+use Rattle.tl_number.proofs.Ties.SmallNumbers.{AreSound, AtOpen, FirstFixed, LeftOut, Slot, agree_first, end_of, nodes_in, none_met, numbers_after}
+use Rattle.tl_number.proofs.Ties.SmallNumbers.{short_of, slots_order}
 
 -- the ends of chains, one after another
 abbrev Ends : Type 0
@@ -54,19 +55,25 @@ has_entry (Some x) o = true
 abbrev two_slots : Ends → Ends → List Slot
 two_slots ends kept = one_slot (has_entry kept.0 kept.1) ends.0 kept.0 ∷ one_slot (has_entry kept.0 kept.1) ends.1 kept.1 ∷ []
 
-fixed_left : (whole : List Ends) (ends : Ends) (k l : Option ℕ)
-    → flat_map short_left (two_slots ends (k, l)) ≡ one_by_one (map (ends_at whole) (fixed_ends k l))
-fixed_left whole ends None None = refl
-fixed_left whole ends None (Some y) = refl
-fixed_left whole ends (Some x) None = refl
-fixed_left whole ends (Some x) (Some y) = refl
+fixed_short : (first : Bool) (whole : List Ends) (ends : Ends) (k l : Option ℕ)
+    → flat_map (short_of first) (two_slots ends (k, l)) ≡ one_by_one (map (ends_at whole) (fixed_ends k l))
+fixed_short first whole ends None None = refl
+fixed_short first whole ends None (Some y) = refl
+fixed_short first whole ends (Some x) None = refl
+fixed_short first whole ends (Some x) (Some y) = refl
 
-fixed_right : (whole : List Ends) (ends : Ends) (k l : Option ℕ)
-    → flat_map short_right (two_slots ends (k, l)) ≡ one_by_one (map (ends_at whole) (fixed_ends k l))
-fixed_right whole ends None None = refl
-fixed_right whole ends None (Some y) = refl
-fixed_right whole ends (Some x) None = refl
-fixed_right whole ends (Some x) (Some y) = refl
+-- two lists of one length, place by place; `true` reads the first one
+abbrev side_by_side : List Ends → List Ends → List (Bool → Ends)
+side_by_side (x ∷ xs) (y ∷ ys) = (λ first. cond first x y) ∷ side_by_side xs ys
+side_by_side _ _ = []
+
+each_side : (first : Bool) (xs ys : List Ends) → length xs ≡ length ys → map (λ (ends : Bool → Ends). ends first) (side_by_side xs ys) ≡ cond first xs ys
+each_side true [] [] e = refl
+each_side false [] [] e = refl
+each_side first [] (y ∷ ys) e = absurd (omega (arith, e))
+each_side first (x ∷ xs) [] e = absurd (omega (arith, e))
+each_side true (x ∷ xs) (y ∷ ys) e = ap (λ l. x ∷ l) (each_side true xs ys (omega (arith, e)))
+each_side false (x ∷ xs) (y ∷ ys) e = ap (λ l. y ∷ l) (each_side false xs ys (omega (arith, e)))
 
 module _ (nodes : List ℕ) (places : List OpenPlace) where
   abbrev In : ℕ → Type 0
@@ -75,20 +82,15 @@ module _ (nodes : List ℕ) (places : List OpenPlace) where
   abbrev kept_of : List ℕ → Ends → Ends
   kept_of met shape = newly_met_ends nodes met shape
 
-  -- a kept node is the node at the end
-  left_kept : (met : List ℕ) (entry : Bool) (o : Option ℕ) → left_of (one_slot entry o (newly_met nodes met o)) ≡ o
-  left_kept met entry None = refl
-  left_kept met entry (Some x) = go (stands_in nat_cmp x nodes && not (stands_in nat_cmp x met))
-    where
-      go : (b : Bool) → left_of (one_slot entry (Some x) (cond b (Some x) None)) ≡ Some x
-      go true = refl
-      go false = refl
+  abbrev next_met : List ℕ → Ends → List ℕ
+  next_met met shape = met_after_both met (kept_of met shape)
 
-  right_kept : (met : List ℕ) (entry : Bool) (o : Option ℕ) → right_of (one_slot entry o (newly_met nodes met o)) ≡ o
-  right_kept met entry None = refl
-  right_kept met entry (Some x) = go (stands_in nat_cmp x nodes && not (stands_in nat_cmp x met))
+  -- a kept node is the node at the end
+  end_kept : (first : Bool) (met : List ℕ) (entry : Bool) (o : Option ℕ) → end_of first (one_slot entry o (newly_met nodes met o)) ≡ o
+  end_kept first met entry None = refl
+  end_kept first met entry (Some x) = go (stands_in nat_cmp x nodes && not (stands_in nat_cmp x met))
     where
-      go : (b : Bool) → right_of (one_slot entry (Some x) (cond b (Some x) None)) ≡ Some x
+      go : (b : Bool) → end_of first (one_slot entry (Some x) (cond b (Some x) None)) ≡ Some x
       go true = refl
       go false = refl
 
@@ -103,217 +105,174 @@ module _ (nodes : List ℕ) (places : List OpenPlace) where
       go true e false f sound = (e, sound)
       go false e d f sound = (inl (λ h. false≢true (sym e ∙ h)), sound)
 
-  module _ (left right : List Ends) where
-    -- two arrangements and the order of shapes at one place
-    pub record AgreeAt (place : ℕ) (shape one other : Ends) : Type 0 where
-      pub fixed_one : is_open place places ≡ false → shape ≡ one
-      pub fixed_other : is_open place places ≡ false → shape ≡ other
-      pub open_one : is_open place places ≡ true → HasNodes nodes (nodes_at one)
-      pub open_other : is_open place places ≡ true → HasNodes nodes (nodes_at other)
-      pub read_one : get_or left place (None, None) ≡ one
-      pub read_other : get_or right place (None, None) ≡ other
+  -- nodes at an end that has nodes of the list
+  first_in : (e : Ends) → HasNodes nodes (nodes_at e) → IfSome e.0 In × IfSome e.1 In
+  first_in e h = go e.0 e.1 h
+    where
+      go : (a b : Option ℕ) → HasNodes nodes (option_to_list a ++ option_to_list b) → IfSome a In × IfSome b In
+      go None None h = (tt, tt)
+      go None (Some y) h = (tt, h.0)
+      go (Some x) None h = (h.0, tt)
+      go (Some x) (Some y) h = (h.0, h.1.0)
+
+  -- The ends of two arrangements, of which `true` is the first.
+  module _ (whole : Bool → List Ends) where
+    -- the arrangements and the order of shapes at one place
+    record AgreeAt (place : ℕ) (shape : Ends) (ends : Bool → Ends) : Type 0 where
+      fixed : (first : Bool) → is_open place places ≡ false → shape ≡ ends first
+      opened : (first : Bool) → is_open place places ≡ true → HasNodes nodes (nodes_at (ends first))
+      read : (first : Bool) → get_or (whole first) place (None, None) ≡ ends first
 
     -- and at each place from one on
-    abbrev pub AgreeFrom : ℕ → List Ends → List Ends → List Ends → Type 0
-    AgreeFrom place [] [] [] = Unit {0}
-    AgreeFrom place (shape ∷ shapes) (one ∷ ones) (other ∷ others) = AgreeAt place shape one other × AgreeFrom (suc place) shapes ones others
-    AgreeFrom place _ _ _ = ⊥
+    abbrev AgreeFrom : ℕ → List Ends → List (Bool → Ends) → Type 0
+    AgreeFrom place [] [] = Unit {0}
+    AgreeFrom place (shape ∷ shapes) (ends ∷ rest) = AgreeAt place shape ends × AgreeFrom (suc place) shapes rest
+    AgreeFrom place _ _ = ⊥
 
-    abbrev slots_from : List ℕ → ℕ → List Ends → List Ends → List Ends → List Slot
-    slots_from met place (shape ∷ shapes) (one ∷ ones) (other ∷ others) = cond (is_open place places)
-        (AtOpen one.0 other.0 ∷ AtOpen one.1 other.1 ∷ slots_from met (suc place) shapes ones others)
-        (two_slots shape (newly_met_ends nodes met shape)
-        ++ slots_from (met_after_both met (newly_met_ends nodes met shape)) (suc place) shapes ones others)
-    slots_from met place _ _ _ = []
+    -- the slots of one place, and those behind it if it is open or fixed
+    abbrev slots_at : Bool → List ℕ → Ends → (Bool → Ends) → List Slot → List Slot → List Slot
+    slots_at open_here met shape ends open_rest fixed_rest = cond open_here
+        (AtOpen (λ first. (ends first).0) ∷ AtOpen (λ first. (ends first).1) ∷ open_rest)
+        (two_slots shape (kept_of met shape) ++ fixed_rest)
 
-    abbrev IsLeft : List ℕ → ℕ → List Ends → List Ends → List Ends → Type 0
-    IsLeft met place shapes ones others = map left_of (slots_from met place shapes ones others) ≡ one_by_one ones
+    abbrev slots_from : List ℕ → ℕ → List Ends → List (Bool → Ends) → List Slot
+    slots_from met place (shape ∷ shapes) (ends ∷ rest) = slots_at (is_open place places) met shape ends
+        (slots_from met (suc place) shapes rest) (slots_from (next_met met shape) (suc place) shapes rest)
+    slots_from met place _ _ = []
 
-    whole_left : (met : List ℕ) (place : ℕ) (shapes ones others : List Ends) → AgreeFrom place shapes ones others → IsLeft met place shapes ones others
-    whole_left met place [] [] [] agree = refl
-    whole_left met place (shape ∷ shapes) (one ∷ ones) (other ∷ others) agree = go (is_open place places) refl
-        (whole_left met (suc place) shapes ones others agree.1) (whole_left (met_after_both met (kept_of met shape)) (suc place) shapes ones others agree.1)
-      where
-        go : (b : Bool) → is_open place places ≡ b → IsLeft met (suc place) shapes ones others
-            → IsLeft (met_after_both met (kept_of met shape)) (suc place) shapes ones others
-            → map left_of (cond b (AtOpen one.0 other.0 ∷ AtOpen one.1 other.1 ∷ slots_from met (suc place) shapes ones others)
-            (two_slots shape (kept_of met shape) ++ slots_from (met_after_both met (kept_of met shape)) (suc place) shapes ones others)) ≡ one_by_one (one ∷ ones)
-        go true e open_rest fixed_rest = ap (λ l. one.0 ∷ one.1 ∷ l) open_rest
-        go false e open_rest fixed_rest =
-            let same : shape ≡ one = agree.0.fixed_one e in
-            let rest = fixed_rest in
-            (λ i. left_kept met (has_entry (kept_of met shape).0 (kept_of met shape).1) shape.0 i
-            ∷ left_kept (met_after met (kept_of met shape).0) (has_entry (kept_of met shape).0 (kept_of met shape).1) shape.1 i ∷ rest i)
-            ∙ (λ i. (same i).0 ∷ (same i).1 ∷ one_by_one ones)
-    whole_left met place _ _ _ agree = absurd agree
+    -- all ends of an arrangement are those of the slots
+    abbrev AreWhole : Bool → List Slot → List Ends → Type 0
+    AreWhole first slots ends = map (end_of first) slots ≡ one_by_one ends
 
-    abbrev IsRight : List ℕ → ℕ → List Ends → List Ends → List Ends → Type 0
-    IsRight met place shapes ones others = map right_of (slots_from met place shapes ones others) ≡ one_by_one others
+    whole_at : (first b : Bool) (met : List ℕ) (place : ℕ) (shape : Ends) (ends : Bool → Ends) → AgreeAt place shape ends → is_open place places ≡ b
+        → (open_rest fixed_rest : List Slot) (rest : List Ends) → AreWhole first open_rest rest → AreWhole first fixed_rest rest
+        → AreWhole first (slots_at b met shape ends open_rest fixed_rest) (ends first ∷ rest)
+    whole_at first true met place shape ends agree e open_rest fixed_rest rest h k = ap (λ l. (ends first).0 ∷ (ends first).1 ∷ l) h
+    whole_at first false met place shape ends agree e open_rest fixed_rest rest h k =
+        let entry : Bool = has_entry (kept_of met shape).0 (kept_of met shape).1 in
+        (λ i. end_kept first met entry shape.0 i ∷ end_kept first (met_after met (kept_of met shape).0) entry shape.1 i ∷ k i)
+        ∙ (λ i. (agree.fixed first e i).0 ∷ (agree.fixed first e i).1 ∷ one_by_one rest)
 
-    whole_right : (met : List ℕ) (place : ℕ) (shapes ones others : List Ends) → AgreeFrom place shapes ones others → IsRight met place shapes ones others
-    whole_right met place [] [] [] agree = refl
-    whole_right met place (shape ∷ shapes) (one ∷ ones) (other ∷ others) agree = go (is_open place places) refl
-        (whole_right met (suc place) shapes ones others agree.1) (whole_right (met_after_both met (kept_of met shape)) (suc place) shapes ones others agree.1)
-      where
-        go : (b : Bool) → is_open place places ≡ b → IsRight met (suc place) shapes ones others
-            → IsRight (met_after_both met (kept_of met shape)) (suc place) shapes ones others
-            → map right_of (cond b (AtOpen one.0 other.0 ∷ AtOpen one.1 other.1 ∷ slots_from met (suc place) shapes ones others)
-            (two_slots shape (kept_of met shape) ++ slots_from (met_after_both met (kept_of met shape)) (suc place) shapes ones others)) ≡ one_by_one (other ∷ others)
-        go true e open_rest fixed_rest = ap (λ l. other.0 ∷ other.1 ∷ l) open_rest
-        go false e open_rest fixed_rest =
-            let same : shape ≡ other = agree.0.fixed_other e in
-            let rest = fixed_rest in
-            (λ i. right_kept met (has_entry (kept_of met shape).0 (kept_of met shape).1) shape.0 i
-            ∷ right_kept (met_after met (kept_of met shape).0) (has_entry (kept_of met shape).0 (kept_of met shape).1) shape.1 i ∷ rest i)
-            ∙ (λ i. (same i).0 ∷ (same i).1 ∷ one_by_one others)
-    whole_right met place _ _ _ agree = absurd agree
+    whole_from : (first : Bool) (met : List ℕ) (place : ℕ) (shapes : List Ends) (both : List (Bool → Ends)) → AgreeFrom place shapes both
+        → AreWhole first (slots_from met place shapes both) (map (λ (ends : Bool → Ends). ends first) both)
+    whole_from first met place [] [] agree = refl
+    whole_from first met place (shape ∷ shapes) (ends ∷ rest) agree =
+        whole_at first (is_open place places) met place shape ends agree.0 refl (slots_from met (suc place) shapes rest)
+        (slots_from (next_met met shape) (suc place) shapes rest) (map (λ (e : Bool → Ends). e first) rest)
+        (whole_from first met (suc place) shapes rest agree.1) (whole_from first (next_met met shape) (suc place) shapes rest agree.1)
+    whole_from first met place _ _ agree = absurd agree
 
     -- the short lists belong to the critical ends
-    abbrev IsShortLeft : List ℕ → ℕ → List Ends → List Ends → List Ends → Type 0
-    IsShortLeft met place shapes ones others = flat_map short_left (slots_from met place shapes ones others) ≡ one_by_one (map (ends_at left) (critical_from nodes places met place shapes))
+    abbrev AreShort : Bool → List Slot → List CriticalEnds → Type 0
+    AreShort first slots critical = flat_map (short_of first) slots ≡ one_by_one (map (ends_at (whole first)) critical)
 
-    critical_left : (met : List ℕ) (place : ℕ) (shapes ones others : List Ends) → AgreeFrom place shapes ones others → IsShortLeft met place shapes ones others
-    critical_left met place [] [] [] agree = refl
-    critical_left met place (shape ∷ shapes) (one ∷ ones) (other ∷ others) agree = go (is_open place places) refl
-        (critical_left met (suc place) shapes ones others agree.1) (critical_left (met_after_both met (kept_of met shape)) (suc place) shapes ones others agree.1)
-      where
-        go : (b : Bool) → is_open place places ≡ b → IsShortLeft met (suc place) shapes ones others
-            → IsShortLeft (met_after_both met (kept_of met shape)) (suc place) shapes ones others
-            → flat_map short_left (cond b (AtOpen one.0 other.0 ∷ AtOpen one.1 other.1 ∷ slots_from met (suc place) shapes ones others)
-            (two_slots shape (kept_of met shape) ++ slots_from (met_after_both met (kept_of met shape)) (suc place) shapes ones others))
-            ≡ one_by_one (map (ends_at left) (cond b (Open place ∷ critical_from nodes places met (suc place) shapes)
-            (fixed_ends (kept_of met shape).0 (kept_of met shape).1 ++ critical_from nodes places (met_after_both met (kept_of met shape)) (suc place) shapes)))
-        go true e open_rest fixed_rest =
-            ap (λ l. one.0 ∷ one.1 ∷ l) open_rest
-            ∙ (λ i. (sym agree.0.read_one i).0 ∷ (sym agree.0.read_one i).1
-            ∷ one_by_one (map (ends_at left) (critical_from nodes places met (suc place) shapes)))
-        go false e open_rest fixed_rest =
-            let rest : List CriticalEnds = critical_from nodes places (met_after_both met (kept_of met shape)) (suc place) shapes in
-            flat_map-append short_left (two_slots shape (kept_of met shape)) (slots_from (met_after_both met (kept_of met shape)) (suc place) shapes ones others)
-            ∙ ap₂ (λ k l. k ++ l) (fixed_left left shape (kept_of met shape).0 (kept_of met shape).1)
-            fixed_rest
-            ∙ sym (flat_map-append (λ (e : Ends). e.0 ∷ e.1 ∷ []) (map (ends_at left) (fixed_ends (kept_of met shape).0 (kept_of met shape).1)) (map (ends_at left) rest))
-            ∙ ap one_by_one (sym (map-append (ends_at left) (fixed_ends (kept_of met shape).0 (kept_of met shape).1) rest))
-    critical_left met place _ _ _ agree = absurd agree
+    short_at : (first b : Bool) (met : List ℕ) (place : ℕ) (shape : Ends) (ends : Bool → Ends) → AgreeAt place shape ends
+        → (open_rest fixed_rest : List Slot) (open_ends fixed : List CriticalEnds) → AreShort first open_rest open_ends → AreShort first fixed_rest fixed
+        → AreShort first (slots_at b met shape ends open_rest fixed_rest)
+        (cond b (Open place ∷ open_ends) (fixed_ends (kept_of met shape).0 (kept_of met shape).1 ++ fixed))
+    short_at first true met place shape ends agree open_rest fixed_rest open_ends fixed h k =
+        ap (λ l. (ends first).0 ∷ (ends first).1 ∷ l) h
+        ∙ (λ i. (sym (agree.read first) i).0 ∷ (sym (agree.read first) i).1 ∷ one_by_one (map (ends_at (whole first)) open_ends))
+    short_at first false met place shape ends agree open_rest fixed_rest open_ends fixed h k =
+        let here : List CriticalEnds = fixed_ends (kept_of met shape).0 (kept_of met shape).1 in
+        flat_map-append (short_of first) (two_slots shape (kept_of met shape)) fixed_rest
+        ∙ ap₂ (λ k l. k ++ l) (fixed_short first (whole first) shape (kept_of met shape).0 (kept_of met shape).1) k
+        ∙ sym (flat_map-append (λ (e : Ends). e.0 ∷ e.1 ∷ []) (map (ends_at (whole first)) here) (map (ends_at (whole first)) fixed))
+        ∙ ap one_by_one (sym (map-append (ends_at (whole first)) here fixed))
 
-    abbrev IsShortRight : List ℕ → ℕ → List Ends → List Ends → List Ends → Type 0
-    IsShortRight met place shapes ones others = flat_map short_right (slots_from met place shapes ones others) ≡ one_by_one (map (ends_at right) (critical_from nodes places met place shapes))
+    short_from : (first : Bool) (met : List ℕ) (place : ℕ) (shapes : List Ends) (both : List (Bool → Ends)) → AgreeFrom place shapes both
+        → AreShort first (slots_from met place shapes both) (critical_from nodes places met place shapes)
+    short_from first met place [] [] agree = refl
+    short_from first met place (shape ∷ shapes) (ends ∷ rest) agree =
+        short_at first (is_open place places) met place shape ends agree.0 (slots_from met (suc place) shapes rest)
+        (slots_from (next_met met shape) (suc place) shapes rest) (critical_from nodes places met (suc place) shapes)
+        (critical_from nodes places (next_met met shape) (suc place) shapes)
+        (short_from first met (suc place) shapes rest agree.1) (short_from first (next_met met shape) (suc place) shapes rest agree.1)
+    short_from first met place _ _ agree = absurd agree
 
-    critical_right : (met : List ℕ) (place : ℕ) (shapes ones others : List Ends) → AgreeFrom place shapes ones others → IsShortRight met place shapes ones others
-    critical_right met place [] [] [] agree = refl
-    critical_right met place (shape ∷ shapes) (one ∷ ones) (other ∷ others) agree = go (is_open place places) refl
-        (critical_right met (suc place) shapes ones others agree.1) (critical_right (met_after_both met (kept_of met shape)) (suc place) shapes ones others agree.1)
-      where
-        go : (b : Bool) → is_open place places ≡ b → IsShortRight met (suc place) shapes ones others
-            → IsShortRight (met_after_both met (kept_of met shape)) (suc place) shapes ones others
-            → flat_map short_right (cond b (AtOpen one.0 other.0 ∷ AtOpen one.1 other.1 ∷ slots_from met (suc place) shapes ones others)
-            (two_slots shape (kept_of met shape) ++ slots_from (met_after_both met (kept_of met shape)) (suc place) shapes ones others))
-            ≡ one_by_one (map (ends_at right) (cond b (Open place ∷ critical_from nodes places met (suc place) shapes)
-            (fixed_ends (kept_of met shape).0 (kept_of met shape).1 ++ critical_from nodes places (met_after_both met (kept_of met shape)) (suc place) shapes)))
-        go true e open_rest fixed_rest =
-            ap (λ l. other.0 ∷ other.1 ∷ l) open_rest
-            ∙ (λ i. (sym agree.0.read_other i).0 ∷ (sym agree.0.read_other i).1
-            ∷ one_by_one (map (ends_at right) (critical_from nodes places met (suc place) shapes)))
-        go false e open_rest fixed_rest =
-            let rest : List CriticalEnds = critical_from nodes places (met_after_both met (kept_of met shape)) (suc place) shapes in
-            flat_map-append short_right (two_slots shape (kept_of met shape)) (slots_from (met_after_both met (kept_of met shape)) (suc place) shapes ones others)
-            ∙ ap₂ (λ k l. k ++ l) (fixed_right right shape (kept_of met shape).0 (kept_of met shape).1)
-            fixed_rest
-            ∙ sym (flat_map-append (λ (e : Ends). e.0 ∷ e.1 ∷ []) (map (ends_at right) (fixed_ends (kept_of met shape).0 (kept_of met shape).1)) (map (ends_at right) rest))
-            ∙ ap one_by_one (sym (map-append (ends_at right) (fixed_ends (kept_of met shape).0 (kept_of met shape).1) rest))
-    critical_right met place _ _ _ agree = absurd agree
+    -- and the slots are sound
+    sound_at : (b : Bool) (met : List ℕ) (place : ℕ) (shape : Ends) (ends : Bool → Ends) → AgreeAt place shape ends → is_open place places ≡ b
+        → (open_rest fixed_rest : List Slot) → AreSound In met open_rest → AreSound In (next_met met shape) fixed_rest
+        → AreSound In met (slots_at b met shape ends open_rest fixed_rest)
+    sound_at true met place shape ends agree e open_rest fixed_rest h k =
+        ((λ first. (first_in (ends first) (agree.opened first e)).0), ((λ first. (first_in (ends first) (agree.opened first e)).1), h))
+    sound_at false met place shape ends agree e open_rest fixed_rest h k =
+        let entry : Bool = has_entry (kept_of met shape).0 (kept_of met shape).1 in
+        sound_slot met entry shape.0 _ (sound_slot (met_after met (kept_of met shape).0) entry shape.1 _ k)
 
-    -- nodes at an end that has nodes of the list
-    first_in : (e : Ends) → HasNodes nodes (nodes_at e) → IfSome e.0 In × IfSome e.1 In
-    first_in e h = go e.0 e.1 h
-      where
-        go : (a b : Option ℕ) → HasNodes nodes (option_to_list a ++ option_to_list b) → IfSome a In × IfSome b In
-        go None None h = (tt, tt)
-        go None (Some y) h = (tt, h.0)
-        go (Some x) None h = (h.0, tt)
-        go (Some x) (Some y) h = (h.0, h.1.0)
-
-    abbrev IsSound : List ℕ → ℕ → List Ends → List Ends → List Ends → Type 0
-    IsSound met place shapes ones others = AreSound In met (slots_from met place shapes ones others)
-
-    sound_from : (met : List ℕ) (place : ℕ) (shapes ones others : List Ends) → AgreeFrom place shapes ones others → IsSound met place shapes ones others
-    sound_from met place [] [] [] agree = tt
-    sound_from met place (shape ∷ shapes) (one ∷ ones) (other ∷ others) agree = go (is_open place places) refl
-        (sound_from met (suc place) shapes ones others agree.1) (sound_from (met_after_both met (kept_of met shape)) (suc place) shapes ones others agree.1)
-      where
-        go : (b : Bool) → is_open place places ≡ b → IsSound met (suc place) shapes ones others
-            → IsSound (met_after_both met (kept_of met shape)) (suc place) shapes ones others
-            → AreSound In met (cond b (AtOpen one.0 other.0 ∷ AtOpen one.1 other.1 ∷ slots_from met (suc place) shapes ones others)
-            (two_slots shape (kept_of met shape) ++ slots_from (met_after_both met (kept_of met shape)) (suc place) shapes ones others))
-        go true e open_rest fixed_rest =
-            let first = first_in one (agree.0.open_one e) in
-            let second = first_in other (agree.0.open_other e) in
-            (first.0, second.0, (first.1, second.1, open_rest))
-        go false e open_rest fixed_rest = sound_slot met (has_entry (kept_of met shape).0 (kept_of met shape).1) shape.0 _
-            (sound_slot (met_after met (kept_of met shape).0) (has_entry (kept_of met shape).0 (kept_of met shape).1) shape.1 _
-            fixed_rest)
-    sound_from met place _ _ _ agree = absurd agree
-
-    -- So the numbers of all ends and the numbers of the critical ones have the same order.
-    pub critical_decide : (shapes : List Ends) → AgreeFrom 0 shapes left right
-        → slice_cmp ends_cmp (renumbered_ends left) (renumbered_ends right)
-        ≡ slice_cmp ends_cmp (renumbered_ends (map (ends_at left) (critical_from nodes places [] 0 shapes)))
-        (renumbered_ends (map (ends_at right) (critical_from nodes places [] 0 shapes)))
-    critical_decide shapes agree =
-        let slots = slots_from [] 0 shapes left right in
-        let critical = critical_from nodes places [] 0 shapes in
-        renumbered_cmp left right
-        ∙ ap₂ (λ k l. slice_cmp node_cmp (numbers_after [] k) (numbers_after [] l)) (sym (whole_left [] 0 shapes left right agree))
-        (sym (whole_right [] 0 shapes left right agree))
-        ∙ slots_order In slots [] [] [] [] [] (agree_first In) (none_met In) (sound_from [] 0 shapes left right agree)
-        ∙ ap₂ (λ k l. slice_cmp node_cmp (numbers_after [] k) (numbers_after [] l)) (critical_left [] 0 shapes left right agree)
-        (critical_right [] 0 shapes left right agree)
-        ∙ sym (renumbered_cmp (map (ends_at left) critical) (map (ends_at right) critical))
+    sound_from : (met : List ℕ) (place : ℕ) (shapes : List Ends) (both : List (Bool → Ends)) → AgreeFrom place shapes both
+        → AreSound In met (slots_from met place shapes both)
+    sound_from met place [] [] agree = tt
+    sound_from met place (shape ∷ shapes) (ends ∷ rest) agree =
+        sound_at (is_open place places) met place shape ends agree.0 refl (slots_from met (suc place) shapes rest)
+        (slots_from (next_met met shape) (suc place) shapes rest)
+        (sound_from met (suc place) shapes rest agree.1) (sound_from (next_met met shape) (suc place) shapes rest agree.1)
+    sound_from met place _ _ agree = absurd agree
 
     -- Lists that are read place by place.
-    there : (whole : List Ends) (place : ℕ) (e : Ends) → slice_get whole place ≡ Some e → get_or whole place (None, None) ≡ e
+    there : (ends : List Ends) (place : ℕ) (e : Ends) → slice_get ends place ≡ Some e → get_or ends place (None, None) ≡ e
     there [] place e h = cc
     there (x ∷ xs) zero e h = let same : x ≡ e = cc in same
     there (x ∷ xs) (suc place) e h = there xs place e h
 
-    module _ (shape : List Ends)
-        (fixed_one : (place : ℕ) → is_open place places ≡ false → slice_get shape place ≡ slice_get left place)
-        (fixed_other : (place : ℕ) → is_open place places ≡ false → slice_get shape place ≡ slice_get right place)
-        (open_one : (place : ℕ) (e : Ends) → is_open place places ≡ true → slice_get left place ≡ Some e → HasNodes nodes (nodes_at e))
-        (open_other : (place : ℕ) (e : Ends) → is_open place places ≡ true → slice_get right place ≡ Some e → HasNodes nodes (nodes_at e))
+    module _ (shape : List Ends) (as_many : (first : Bool) → length shape ≡ length (whole first))
+        (fixed : (first : Bool) (place : ℕ) → is_open place places ≡ false → slice_get shape place ≡ slice_get (whole first) place)
+        (opened : (first : Bool) (place : ℕ) (e : Ends) → is_open place places ≡ true → slice_get (whole first) place ≡ Some e
+        → HasNodes nodes (nodes_at e))
       where
         abbrev IsRest : ℕ → List Ends → List Ends → Type 0
-        IsRest place rest whole = (k : ℕ) → slice_get rest k ≡ slice_get whole (place + k)
+        IsRest place rest all = (k : ℕ) → slice_get rest k ≡ slice_get all (place + k)
 
-        first_of_rest : (place : ℕ) (e : Ends) (rest whole : List Ends) → IsRest place (e ∷ rest) whole → slice_get whole place ≡ Some e
-        first_of_rest place e rest whole is = ap (slice_get whole) (let t : place ≡ place + 0 = omega arith in t) ∙ sym (is 0)
+        first_of_rest : (place : ℕ) (e : Ends) (rest all : List Ends) → IsRest place (e ∷ rest) all → slice_get all place ≡ Some e
+        first_of_rest place e rest all is = ap (slice_get all) (let t : place ≡ place + 0 = omega arith in t) ∙ sym (is 0)
 
-        next_rest : (place : ℕ) (e : Ends) (rest whole : List Ends) → IsRest place (e ∷ rest) whole → IsRest (suc place) rest whole
-        next_rest place e rest whole is k = is (suc k) ∙ ap (slice_get whole) (let t : place + suc k ≡ suc place + k = omega arith in t)
+        next_rest : (place : ℕ) (e : Ends) (rest all : List Ends) → IsRest place (e ∷ rest) all → IsRest (suc place) rest all
+        next_rest place e rest all is k = is (suc k) ∙ ap (slice_get all) (let t : place + suc k ≡ suc place + k = omega arith in t)
 
-        agree_from : (place : ℕ) (shapes ones others : List Ends) → length shapes ≡ length ones → length shapes ≡ length others
-            → IsRest place shapes shape → IsRest place ones left → IsRest place others right → AgreeFrom place shapes ones others
-        agree_from place [] [] [] e f is is_one is_other = tt
-        agree_from place [] [] (z ∷ zs) e f is is_one is_other = absurd (omega (arith, f))
-        agree_from place [] (y ∷ ys) zs e f is is_one is_other = absurd (omega (arith, e))
-        agree_from place (x ∷ xs) [] zs e f is is_one is_other = absurd (omega (arith, e))
-        agree_from place (x ∷ xs) (y ∷ ys) [] e f is is_one is_other = absurd (omega (arith, f))
-        agree_from place (x ∷ xs) (y ∷ ys) (z ∷ zs) e f is is_one is_other =
-            let at_x = first_of_rest place x xs shape is in
-            let at_y = first_of_rest place y ys left is_one in
-            let at_z = first_of_rest place z zs right is_other in (
+        all_rest : (all : List Ends) → IsRest 0 all all
+        all_rest all k = ap (slice_get all) (let t : k ≡ 0 + k = omega arith in t)
+
+        agree_from : (place : ℕ) (shapes : List Ends) (both : List (Bool → Ends)) → length shapes ≡ length both → IsRest place shapes shape
+            → ((first : Bool) → IsRest place (map (λ (ends : Bool → Ends). ends first) both) (whole first)) → AgreeFrom place shapes both
+        agree_from place [] [] e is are = tt
+        agree_from place [] (ends ∷ rest) e is are = absurd (omega (arith, e))
+        agree_from place (x ∷ xs) [] e is are = absurd (omega (arith, e))
+        agree_from place (x ∷ xs) (ends ∷ rest) e is are =
+            let at : (first : Bool) → slice_get (whole first) place ≡ Some (ends first) =
+            λ first. first_of_rest place (ends first) (map (λ (d : Bool → Ends). d first) rest) (whole first) (are first) in (
               record {
-                fixed_one = λ fixed. the_same x y (sym at_x ∙ fixed_one place fixed ∙ at_y);
-                fixed_other = λ fixed. the_same x z (sym at_x ∙ fixed_other place fixed ∙ at_z);
-                open_one = λ open_here. open_one place y open_here at_y;
-                open_other = λ open_here. open_other place z open_here at_z;
-                read_one = there left place y at_y;
-                read_other = there right place z at_z;
+                fixed = λ first h. the_same x (ends first) (sym (first_of_rest place x xs shape is) ∙ fixed first place h ∙ at first);
+                opened = λ first h. opened first place (ends first) h (at first);
+                read = λ first. there (whole first) place (ends first) (at first);
               },
-              agree_from (suc place) xs ys zs (omega (arith, e)) (omega (arith, f)) (next_rest place x xs shape is)
-                  (next_rest place y ys left is_one) (next_rest place z zs right is_other),
+              agree_from (suc place) xs rest (omega (arith, e)) (next_rest place x xs shape is)
+                  (λ first. next_rest place (ends first) (map (λ (d : Bool → Ends). d first) rest) (whole first) (are first)),
             )
 
-        pub agree_all : length shape ≡ length left → length shape ≡ length right → AgreeFrom 0 shape left right
-        agree_all e f = agree_from 0 shape left right e f (λ k. ap (slice_get shape) (let t : k ≡ 0 + k = omega arith in t))
-            (λ k. ap (slice_get left) (let t : k ≡ 0 + k = omega arith in t)) (λ k. ap (slice_get right) (let t : k ≡ 0 + k = omega arith in t))
+        abbrev both : List (Bool → Ends)
+        both = side_by_side (whole true) (whole false)
+
+        both_are : (first : Bool) → map (λ (ends : Bool → Ends). ends first) both ≡ whole first
+        both_are true = each_side true (whole true) (whole false) (sym (as_many true) ∙ as_many false)
+        both_are false = each_side false (whole true) (whole false) (sym (as_many true) ∙ as_many false)
+
+        agree_all : AgreeFrom 0 shape both
+        agree_all = agree_from 0 shape both
+            (as_many true ∙ ap length (sym (both_are true)) ∙ length-map both (λ (ends : Bool → Ends). ends true)) (all_rest shape)
+            (λ first k. ap (λ l. slice_get l k) (both_are first) ∙ all_rest (whole first) k)
+
+        -- The numbers of all ends and the numbers of the critical ones have the same order.
+        pub critical_decide : slice_cmp ends_cmp (renumbered_ends (whole true)) (renumbered_ends (whole false))
+            ≡ slice_cmp ends_cmp (renumbered_ends (map (ends_at (whole true)) (critical_from nodes places [] 0 shape)))
+            (renumbered_ends (map (ends_at (whole false)) (critical_from nodes places [] 0 shape)))
+        critical_decide =
+            let critical = critical_from nodes places [] 0 shape in
+            renumbered_cmp (whole true) (whole false)
+            ∙ ap₂ (λ k l. slice_cmp node_cmp (numbers_after [] k) (numbers_after [] l)) (sym (all_ends true)) (sym (all_ends false))
+            ∙ slots_order In (slots_from [] 0 shape both) [] [] [] [] [] (agree_first In) (none_met In) (sound_from [] 0 shape both agree_all)
+            ∙ ap₂ (λ k l. slice_cmp node_cmp (numbers_after [] k) (numbers_after [] l)) (short_from true [] 0 shape both agree_all)
+            (short_from false [] 0 shape both agree_all)
+            ∙ sym (renumbered_cmp (map (ends_at (whole true)) critical) (map (ends_at (whole false)) critical))
+          where
+            all_ends : (first : Bool) → map (end_of first) (slots_from [] 0 shape both) ≡ one_by_one (whole first)
+            all_ends first = whole_from first [] 0 shape both agree_all ∙ ap one_by_one (both_are first)

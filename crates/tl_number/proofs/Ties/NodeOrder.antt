@@ -1,16 +1,15 @@
 -- The texts of two arrangements whose chains differ only in their nodes are in the order of the numbers of these.
-use Rattle.std.proofs.Common.{◌≡◌, ◌∙◌, ℕ, suc, List, [], ◌∷◌, map, flat_map, Option, Some, None, option_map, option_to_list, Equal, nat_cmp}
-use Rattle.std.proofs.Common.{refl, sym, ap, ap₂, subst}
-use Rattle.tl_number.proofs.Common.{AllByRecursion, AreSame, AreWhole, Body7, BodyP, Chain, County, DirectedChain, Eight, Fields8}
-use Rattle.tl_number.proofs.Common.{FitsNumbers, Five, Four, I, IsCounty, One, P, PolygonKey, PolygonSide, Renumbering, Seven, Six, all_map}
-use Rattle.tl_number.proofs.Common.{all_weaker, arranged_by, arrangement_of, but_nodes_list, directed_chain, ends_along, ends_cmp, ends_of}
-use Rattle.tl_number.proofs.Common.{ends_or_none, entry_polyid, feats_of, first_seen, groups_cmp, image, in_order, key_cmp, map-map}
-use Rattle.tl_number.proofs.Common.{new_keys, numbered, numbered_from, on, ordering_then, packed, packed_i, packed_p, packed_sevens}
-use Rattle.tl_number.proofs.Common.{parts_along, ranges_of, records_cmp, renumbered, renumbered_ends, renumbered_polygon, side_of, sides_of}
-use Rattle.tl_number.proofs.Common.{slice_cmp, text_of, type_1_by_chain, type_2_by_chain, type_4_by_chain, type_5_by_name, type_6_by_chain}
-use Rattle.tl_number.proofs.Common.{type_7_by_landmark, type_8_together, type_i_by_chain, type_p_by_number, under_cenid}
+use Rattle.tl_number.proofs.Common.{◌≡◌, ◌∙◌, ℕ, suc, List, [], ◌∷◌, map, flat_map, Option, Some, None, option_map, option_to_list, Equal}
+use Rattle.tl_number.proofs.Common.{nat_cmp, refl, sym, ap, ap₂, subst, AllByRecursion, AreSame, AreWhole, Body7, BodyP, Chain, County}
+use Rattle.tl_number.proofs.Common.{DirectedChain, Eight, Fields8, FitsNumbers, Five, Four, I, IsCounty, One, P, PolygonKey, PolygonSide}
+use Rattle.tl_number.proofs.Common.{Renumbering, Seven, Six, all_map, all_weaker, arranged_by, arrangement_of, but_nodes_list}
+use Rattle.tl_number.proofs.Common.{directed_chain, ends_along, ends_cmp, ends_of, ends_or_none, entry_polyid, feats_of, first_seen}
+use Rattle.tl_number.proofs.Common.{groups_cmp, image, in_order, key_cmp, map-map, new_keys, numbered, numbered_from, on, ordering_then}
+use Rattle.tl_number.proofs.Common.{packed, packed_i, packed_p, packed_sevens, parts_along, ranges_of, records_cmp, renaming_of, renumbered}
+use Rattle.tl_number.proofs.Common.{renumbered_ends, renumbered_polygon, side_of, sides_of, slice_cmp, text_of, type_1_by_chain}
+use Rattle.tl_number.proofs.Common.{type_2_by_chain, type_4_by_chain, type_5_by_name, type_6_by_chain, type_7_by_landmark, type_8_together}
+use Rattle.tl_number.proofs.Common.{type_i_by_chain, type_p_by_number, under_cenid}
 use Rattle.tl_county.specs.Renumbering.{renumbered_side}
-use Rattle.tl_number.specs.Arrangement.{renaming_of}
 use Rattle.tl_number.specs.CriticalPlaces.{AreSameButNodes, ButNodes, but_nodes}
 use Rattle.tl_number.specs.EndsAndSides.{polygons_at}
 use Rattle.tl_number.proofs.Arrangements.Carrying.{chains_arranged}
@@ -76,16 +75,16 @@ module _ (county : County) (is_county : IsCounty county) (one other : List Direc
   others = chains county other is_county other_whole
 
   alike : AreAlike ones others
-  alike = sym (read_along county is_county one other whole other_whole but_nodes_list one whole) ∙ same
-      ∙ read_along county is_county one other whole other_whole but_nodes_list other other_whole
+  alike = sym (read_along county is_county but_nodes_list one whole) ∙ same
+      ∙ read_along county is_county but_nodes_list other other_whole
 
   -- a part of the chains is the same
   along_same : {X : Type 0} (part : Option Chain → X) (f : ButNodes → X) → ((c : Chain) → part (Some c) ≡ f (but_nodes c))
       → parts_along part county one ≡ parts_along part county other
   along_same part f stated =
-      read_along county is_county one other whole other_whole part one whole
+      read_along county is_county part one whole
       ∙ (λ i. map (λ c. stated c i) ones) ∙ part_same f ones others alike ∙ sym (λ i. map (λ c. stated c i) others)
-      ∙ sym (read_along county is_county one other whole other_whole part other other_whole)
+      ∙ sym (read_along county is_county part other other_whole)
 
   feats_same : parts_along feats_of county one ≡ parts_along feats_of county other
   feats_same = along_same feats_of (λ b. b.feats) (λ c. refl)
@@ -97,7 +96,7 @@ module _ (county : County) (is_county : IsCounty county) (one other : List Direc
   sides_read : (arrangement : List DirectedChain) (w : AreWhole county arrangement)
       → map Some (map sides_of (chains county arrangement is_county w)) ≡ map (λ directed. option_map sides_of (directed_chain county directed)) arrangement
   sides_read arrangement w = map-map Some sides_of (chains county arrangement is_county w)
-      ∙ sym (read_along county is_county one other whole other_whole (option_map sides_of) arrangement w)
+      ∙ sym (read_along county is_county (option_map sides_of) arrangement w)
 
   sides_same : map sides_of ones ≡ map sides_of others
   sides_same = part_same (λ b. (b.left, b.right)) ones others alike
@@ -130,9 +129,9 @@ module _ (county : County) (is_county : IsCounty county) (one other : List Direc
   ends_read arrangement w =
       ap (map ends_of) (sym (values county arrangement is_county w))
       ∙ sym (ends_met county arrangement is_county w (ends_along county arrangement)
-      (ap (map Some) (read_along county is_county one other whole other_whole ends_or_none arrangement w)
+      (ap (map Some) (read_along county is_county ends_or_none arrangement w)
       ∙ map-map Some ends_of (chains county arrangement is_county w)
-      ∙ sym (read_along county is_county one other whole other_whole (option_map ends_of) arrangement w)))
+      ∙ sym (read_along county is_county (option_map ends_of) arrangement w)))
 
   nodes_fit : (arrangement : List DirectedChain) (w : AreWhole county arrangement)
       → AllByRecursion NodesFit (map (renumbered (renaming_of county (arrangement_of county arrangement))) (chains county arrangement is_county w))
@@ -171,18 +170,12 @@ module _ (county : County) (is_county : IsCounty county) (one other : List Direc
       let a = arranged_by county one in
       let b = arranged_by county other in
       let links = groups_cmp I (type_i_by_chain a) (type_i_by_chain b) in
-      let fours : groups_cmp Four (type_4_by_chain a) (type_4_by_chain b) ≡ Equal =
-      sym (same_groups Four (type_4_by_chain a) (type_4_by_chain b) (type_4_same county is_county one other whole other_whole feats_same)) in
-      let fives : groups_cmp Five (type_5_by_name a) (type_5_by_name b) ≡ Equal =
-      sym (same_groups Five (type_5_by_name a) (type_5_by_name b) (type_5_same county is_county one other whole other_whole feats_same)) in
-      let sixes : groups_cmp Six (type_6_by_chain a) (type_6_by_chain b) ≡ Equal =
-      sym (same_groups Six (type_6_by_chain a) (type_6_by_chain b) (type_6_same county is_county one other whole other_whole ranges_same)) in
-      let sevens : groups_cmp Seven (type_7_by_landmark a) (type_7_by_landmark b) ≡ Equal =
-      sym (same_groups Seven (type_7_by_landmark a) (type_7_by_landmark b) type_7_same) in
-      let eights : groups_cmp Eight (type_8_together a) (type_8_together b) ≡ Equal =
-      sym (same_groups Eight (type_8_together a) (type_8_together b) type_8_same) in
-      let ps : groups_cmp P (type_p_by_number a) (type_p_by_number b) ≡ Equal =
-      sym (same_groups P (type_p_by_number a) (type_p_by_number b) type_p_same) in
+      let fours = sym (same_groups Four (type_4_by_chain a) (type_4_by_chain b) (type_4_same county is_county one other whole other_whole feats_same)) in
+      let fives = sym (same_groups Five (type_5_by_name a) (type_5_by_name b) (type_5_same county is_county one other whole other_whole feats_same)) in
+      let sixes = sym (same_groups Six (type_6_by_chain a) (type_6_by_chain b) (type_6_same county is_county one other whole other_whole ranges_same)) in
+      let sevens = sym (same_groups Seven (type_7_by_landmark a) (type_7_by_landmark b) type_7_same) in
+      let eights = sym (same_groups Eight (type_8_together a) (type_8_together b) type_8_same) in
+      let ps = sym (same_groups P (type_p_by_number a) (type_p_by_number b) type_p_same) in
       tied_texts_in_order a b whole.is_county other_whole.is_county whole.within_limits other_whole.within_limits one_map ones_tied twos
       ∙ (λ i. ordering_then (fours i) (ordering_then (ordering_then (fives i) (ordering_then (sixes i) (sevens i)))
       (ordering_then (eights i) (ordering_then links (ps i)))))

@@ -1,7 +1,7 @@
 -- Numbers are in the order of their canonical texts of one width.
-use Rattle.std.proofs.Common.{◌≡◌, ◌==◌, ◌<◌, ◌+◌, ◌/◌, ◌%◌, ◌^◌, ℕ, zero, suc, [], ◌∷◌, nat_eq, Bool, true, false, cond}
-use Rattle.std.proofs.Common.{Ordering, Less, Equal, Greater, Option, Some, None, nat_cmp, refl, sym, ◌∙◌, arith}
-use Rattle.tl_number.proofs.Common.{IsNumberOrNone, MatchOrdering, eqb-true, node_cmp, ordering_then, ranked, slice_cmp, unwrap_or}
+use Rattle.tl_number.proofs.Common.{◌≡◌, ◌==◌, ◌<◌, ◌+◌, ◌/◌, ◌%◌, ◌^◌, ℕ, zero, suc, [], ◌∷◌, nat_eq, Bool, true, false, cond, Ordering}
+use Rattle.tl_number.proofs.Common.{Less, Equal, Greater, Option, Some, None, nat_cmp, refl, sym, ◌∙◌, arith, IsNumberOrNone, MatchOrdering}
+use Rattle.tl_number.proofs.Common.{eqb-true, node_cmp, ordering_then, ranked, slice_cmp, unwrap_or}
 use Rattle.std.proofs.lemmas.Bool.{eqb-false}
 use Rattle.std.specs.Cmp.{nat_cmp_is}
 use Rattle.tl_layout.specs.FieldTexts.{number_text}

@@ -1,8 +1,8 @@
 -- A move at open places puts chains of open places at open places.
-use Rattle.std.proofs.Common.{◌≡◌, ◌<◌, ◌≤◌, ◌+◌, ◌/◌, ◌%◌, ◌&&◌, ◌||◌, ℕ, zero, suc, nat_le, nat_lt, List, [], ◌∷◌, ◌++◌, take, drop, length, Bool, true, false, cond}
-use Rattle.std.proofs.Common.{Some, slice_get, sym, refl, ap, ◌∙◌, subst, arith}
-use Rattle.tl_number.proofs.Common.{AllByRecursion, AreWithin, OpenPlace, false≢true, first_stood, insert, is_open, lt-ltb, ltb-false}
-use Rattle.tl_number.proofs.Common.{ltb-true, moved, turned_by}
+use Rattle.tl_number.proofs.Common.{◌≡◌, ◌<◌, ◌≤◌, ◌+◌, ◌/◌, ◌%◌, ◌&&◌, ◌||◌, ℕ, zero, suc, nat_le, nat_lt, List, [], ◌∷◌, ◌++◌, take, drop}
+use Rattle.tl_number.proofs.Common.{length, Bool, true, false, cond, Some, slice_get, sym, refl, ap, ◌∙◌, subst, arith, AllByRecursion}
+use Rattle.tl_number.proofs.Common.{AreWithin, OpenPlace, false≢true, first_stood, insert, is_open, lt-ltb, ltb-false, ltb-true, moved}
+use Rattle.tl_number.proofs.Common.{turned_by}
 use Rattle.std.proofs.lemmas.Bool.{and_from, and_parts, le-leb, leb-true}
 use Rattle.tl_number.specs.MovedChains.{IsApart}
 use Rattle.tl_number.proofs.Choices.FixedPlaces.{moved_count, stood_kept}

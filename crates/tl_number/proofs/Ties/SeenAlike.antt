@@ -1,11 +1,10 @@
 -- Nodes seen along two whole lists and along two shorter ones: as long as the numbers agree, nodes of open chains are in one order in
 -- both, and all other nodes are at one place in both whole lists.
-use Rattle.std.proofs.Common.{◌≡◌, ◌⊎◌, ◌<◌, ◌≤◌, ◌+◌, ℕ, suc, List, [], ◌∷◌, ◌++◌, length, Bool, true, false, cond, not}
-use Rattle.std.proofs.Common.{is_eq, nat_cmp, refl, sym, ap, ◌∙◌}
-use Rattle.std.proofs.Common.{subst, inl, inr, arith, length-append}
-use Rattle.tl_number.proofs.Common.{any-stands_in, first_seen_after, list_any, nat_keys, position_or_len, same-itself, same-true}
-use Rattle.tl_number.proofs.Common.{same_or_not}
-use Rattle.tl_number.proofs.Numbering.SeenPlaces.{any_within, first_stays, none_within}
+use Rattle.tl_number.proofs.Common.{◌≡◌, ◌⊎◌, ◌<◌, ◌≤◌, ◌+◌, ℕ, List, [], ◌∷◌, ◌++◌, length, Bool, true, false, cond, not, is_eq, nat_cmp}
+use Rattle.tl_number.proofs.Common.{refl, sym, ap, ◌∙◌, subst, inl, inr, arith, length-append, any-stands_in, first_seen_after, list_any}
+use Rattle.tl_number.proofs.Common.{nat_keys, position_or_len, same-itself, same-true}
+use Rattle.ordered_lists.proofs.ByKey.Keys.{differ}
+use Rattle.tl_number.proofs.Numbering.FoundPlaces.{any_within, first_stays, none_at_end, place_behind, place_bound}
 use Rattle.tl_number.proofs.Ties.NumberTexts.{InOneOrder}
 
 -- whether two nodes are the same
@@ -20,29 +19,14 @@ at seen x = position_or_len (alike x) seen
 abbrev pub and_then : List ℕ → ℕ → List ℕ
 and_then seen x = first_seen_after nat_cmp seen (x ∷ [])
 
-place_bound : (p : ℕ → Bool) (xs : List ℕ) → position_or_len p xs ≤ length xs
-place_bound p [] = omega arith
-place_bound p (x ∷ xs) = go (p x) (place_bound p xs)
-  where
-    go : (b : Bool) → position_or_len p xs ≤ length xs → cond (not b) (1 + position_or_len p xs) 0 ≤ suc (length xs)
-    go true h = omega arith
-    go false h = omega (arith, h)
-
 -- the place of an element that isn't found before the last one
 place_pushed : (p : ℕ → Bool) (xs : List ℕ) (x : ℕ) → length xs ≤ position_or_len p xs
     → position_or_len p (xs ++ (x ∷ [])) ≡ length xs + cond (p x) 0 1
-place_pushed p [] x h = go (p x)
+place_pushed p xs x h = place_behind p xs (x ∷ []) h ∙ ap (λ n. length xs + n) (go (p x))
   where
-    go : (b : Bool) → cond (not b) (1 + 0) 0 ≡ 0 + cond b 0 1
+    go : (b : Bool) → cond (not b) (1 + 0) 0 ≡ cond b 0 1
     go true = refl
     go false = refl
-place_pushed p (y ∷ ys) x h = go (p y) h (place_pushed p ys x)
-  where
-    go : (b : Bool) → suc (length ys) ≤ cond (not b) (1 + position_or_len p ys) 0
-        → (length ys ≤ position_or_len p ys → position_or_len p (ys ++ (x ∷ [])) ≡ length ys + cond (p x) 0 1)
-        → cond (not b) (1 + position_or_len p (ys ++ (x ∷ []))) 0 ≡ suc (length ys) + cond (p x) 0 1
-    go true l ih = absurd (omega (arith, l))
-    go false l ih = let e = ih (omega (arith, l)) in omega (arith, e)
 
 -- a node that was seen changes nothing, and any other is appended
 pub already_seen : (seen : List ℕ) (x : ℕ) → at seen x < length seen → and_then seen x ≡ seen
@@ -50,7 +34,7 @@ already_seen seen x h = go (list_any (alike x) seen) refl
   where
     go : (b : Bool) → list_any (alike x) seen ≡ b → and_then seen x ≡ seen
     go true e = ap (λ b. cond b seen (seen ++ (x ∷ []))) (sym (any-stands_in alike nat_cmp (λ i j. refl) x seen) ∙ e)
-    go false e = let none = (none_within (alike x) seen x e (same-itself nat_keys x)).0 in absurd (omega (arith, h, none))
+    go false e = let none = none_at_end (alike x) seen e in absurd (omega (arith, h, none))
 
 pub newly_seen : (seen : List ℕ) (x : ℕ) → length seen ≤ at seen x → and_then seen x ≡ seen ++ (x ∷ [])
 newly_seen seen x h = go (list_any (alike x) seen) refl
@@ -64,7 +48,7 @@ cases_at seen x = go (list_any (alike x) seen) refl
   where
     go : (b : Bool) → list_any (alike x) seen ≡ b → (at seen x < length seen) ⊎ (at seen x ≡ length seen)
     go true e = inl (any_within (alike x) seen e)
-    go false e = inr (none_within (alike x) seen x e (same-itself nat_keys x)).0
+    go false e = inr (none_at_end (alike x) seen e)
 
 -- the place of a node after another one was appended
 pub record IsPushed (same : Bool) (n p q : ℕ) : Type 0 where
@@ -91,90 +75,34 @@ pub record Agree (In : ℕ → Type 0) (S T s t : List ℕ) : Type 0 where
 
 -- The places of a node in a whole list and in a short one, before and after another was appended to both: it is that node, it was
 -- seen before, or it is unseen.
-data Moved (n m p p' u u' : ℕ) : Type 0 where
-  Appended : p' ≡ n → u' ≡ m → Moved n m p p' u u'
-  Before : p < n → p' ≡ p → u < m → u' ≡ u → Moved n m p p' u u'
-  Unseen : p' ≡ n + 1 → u' ≡ m + 1 → Moved n m p p' u u'
+abbrev Moved : ℕ → ℕ → ℕ → ℕ → ℕ → ℕ → Type 0
+Moved n m p p' u u' = ((p' ≡ n) × (u' ≡ m)) ⊎ (((p < n) × ((p' ≡ p) × ((u < m) × (u' ≡ u)))) ⊎ ((p' ≡ n + 1) × (u' ≡ m + 1)))
 
 moved_of : (b : Bool) (n m p p' u u' : ℕ) → InOneOrder p n u m → (p < n) ⊎ (p ≡ n) → (b ≡ true → n ≤ p) → IsPushed b n p p'
     → IsPushed b m u u' → Moved n m p p' u u'
-moved_of b n m p p' u u' order (inl old) new at_p at_u = go b new at_p at_u
-  where
-    go : (b : Bool) → (b ≡ true → n ≤ p) → IsPushed b n p p' → IsPushed b m u u' → Moved n m p p' u u'
-    go true new at_p at_u = let there = new refl in absurd (omega (arith, old, there))
-    go false new at_p at_u = Before old (at_p.old old) (order.less old) (at_u.old (order.less old))
-moved_of b n m p p' u u' order (inr unseen) new at_p at_u = go b at_p at_u
-  where
-    p_new : n ≤ p
-    p_new = omega (arith, unseen)
-
-    u_new : m ≤ u
-    u_new = let same = order.same unseen in omega (arith, same)
-
-    go : (b : Bool) → IsPushed b n p p' → IsPushed b m u u' → Moved n m p p' u u'
-    go true at_p at_u =
-        let e : p' ≡ n + 0 = at_p.new p_new in
-        let f : u' ≡ m + 0 = at_u.new u_new in
-        Appended (omega (arith, e)) (omega (arith, f))
-    go false at_p at_u = Unseen (at_p.new p_new) (at_u.new u_new)
+moved_of true n m p p' u u' order (inl old) new at_p at_u = let there = new refl in absurd (omega (arith, old, there))
+moved_of false n m p p' u u' order (inl old) new at_p at_u = inr (inl (old, (at_p.old old, (order.less old, at_u.old (order.less old)))))
+moved_of true n m p p' u u' order (inr unseen) new at_p at_u = inl (omega arith, omega arith)
+moved_of false n m p p' u u' order (inr unseen) new at_p at_u = inr (inr (omega arith, omega arith))
 
 -- two nodes are in one order after that, too
 both_moved : (n m p p' u u' q q' v v' : ℕ) → InOneOrder p q u v → Moved n m p p' u u' → Moved n m q q' v v' → InOneOrder p' q' u' v'
-both_moved n m p p' u u' q q' v v' order (Appended a b) (Appended c d) =
-    record { less = λ l. absurd (omega (arith, l)); same = λ e. omega arith; more = λ l. absurd (omega (arith, l)) }
-both_moved n m p p' u u' q q' v v' order (Appended a b) (Before c d e f) =
-    record { less = λ l. absurd (omega (arith, l)); same = λ g. absurd (omega (arith, g)); more = λ l. omega arith }
-both_moved n m p p' u u' q q' v v' order (Appended a b) (Unseen c d) =
-    record { less = λ l. omega arith; same = λ g. absurd (omega (arith, g)); more = λ l. absurd (omega (arith, l)) }
-both_moved n m p p' u u' q q' v v' order (Before a b c d) (Appended e f) =
-    record { less = λ l. omega arith; same = λ g. absurd (omega (arith, g)); more = λ l. absurd (omega (arith, l)) }
-both_moved n m p p' u u' q q' v v' order (Before a b c d) (Before e f g h) =
-    record {
-      less = λ l. (let k = order.less (omega (arith, l)) in omega (arith, k));
-      same = λ l. (let k = order.same (omega (arith, l)) in omega (arith, k));
-      more = λ l. (let k = order.more (omega (arith, l)) in omega (arith, k));
-    }
-both_moved n m p p' u u' q q' v v' order (Before a b c d) (Unseen e f) =
-    record { less = λ l. omega arith; same = λ g. absurd (omega (arith, g)); more = λ l. absurd (omega (arith, l)) }
-both_moved n m p p' u u' q q' v v' order (Unseen a b) (Appended c d) =
-    record { less = λ l. absurd (omega (arith, l)); same = λ g. absurd (omega (arith, g)); more = λ l. omega arith }
-both_moved n m p p' u u' q q' v v' order (Unseen a b) (Before c d e f) =
-    record { less = λ l. absurd (omega (arith, l)); same = λ g. absurd (omega (arith, g)); more = λ l. omega arith }
-both_moved n m p p' u u' q q' v v' order (Unseen a b) (Unseen c d) =
-    record { less = λ l. absurd (omega (arith, l)); same = λ e. omega arith; more = λ l. absurd (omega (arith, l)) }
+both_moved n m p p' u u' q q' v v' order here there = record { less = λ l. grind arith; same = λ e. grind arith; more = λ l. grind arith }
 
 -- and so are a node and the end of the lists
 moved_within : (n m p p' u u' : ℕ) → Moved n m p p' u u' → InOneOrder p' (n + 1) u' (m + 1)
-moved_within n m p p' u u' (Appended a b) =
-    record { less = λ l. omega arith; same = λ e. absurd (omega (arith, e)); more = λ l. absurd (omega (arith, l)) }
-moved_within n m p p' u u' (Before a b c d) =
-    record { less = λ l. omega arith; same = λ e. absurd (omega (arith, e)); more = λ l. absurd (omega (arith, l)) }
-moved_within n m p p' u u' (Unseen a b) =
-    record { less = λ l. absurd (omega (arith, l)); same = λ e. omega arith; more = λ l. absurd (omega (arith, l)) }
+moved_within n m p p' u u' here = record { less = λ l. grind arith; same = λ e. grind arith; more = λ l. grind arith }
 
 -- a node outside keeps one place in both whole lists
-outside_pushed : (n p p' q q' : ℕ) → p ≡ q → (p < n) ⊎ (p ≡ n) → IsPushed false n p p' → IsPushed false n q q' → p' ≡ q'
-outside_pushed n p p' q q' e (inl old) at_p at_q =
-    let a = at_p.old old in
-    let b = at_q.old (omega (arith, old, e)) in
-    omega (arith, a, b, e)
-outside_pushed n p p' q q' e (inr unseen) at_p at_q =
-    let a : p' ≡ n + 1 = at_p.new (omega (arith, unseen)) in
-    let b : q' ≡ n + 1 = at_q.new (omega (arith, unseen, e)) in
-    omega (arith, a, b)
+outside_pushed : (same : Bool) (n p p' q q' : ℕ) → p ≡ q → (p < n) ⊎ (p ≡ n) → IsPushed same n p p' → IsPushed same n q q' → p' ≡ q'
+outside_pushed same n p p' q q' e (inl old) at_p at_q = at_p.old old ∙ e ∙ sym (at_q.old (omega arith))
+outside_pushed same n p p' q q' e (inr unseen) at_p at_q = at_p.new (omega arith) ∙ sym (at_q.new (omega arith))
 
 module _ (In : ℕ → Type 0) where
   -- the same for equal lists
   pub restated : (S S' T T' s s' t t' : List ℕ) → S ≡ S' → T ≡ T' → s ≡ s' → t ≡ t' → Agree In S T s t → Agree In S' T' s' t'
   restated S S' T T' s s' t t' e f g h agree =
       subst (λ l. Agree In S' T' s' l) h (subst (λ l. Agree In S' T' l t) g (subst (λ l. Agree In S' l s t) f (subst (λ l. Agree In l T s t) e agree)))
-
-  distinct_out : (x y : ℕ) → In x → (In y → ⊥) → alike y x ≡ false
-  distinct_out x y h out = go (same_or_not nat_keys y x)
-    where
-      go : (y ≡ x) ⊎ (alike y x ≡ false) → alike y x ≡ false
-      go (inl e) = absurd (out (subst In (sym e) h))
-      go (inr ne) = ne
 
   -- a node appended to a list that doesn't have it
   unseen_here : (S : List ℕ) (a x : ℕ) → length S ≤ at S a → alike x a ≡ true → length S ≤ at S x
@@ -193,10 +121,10 @@ module _ (In : ℕ → Type 0) where
         (subst (λ n. Moved n (length s) (at T y) (at (T ++ (b ∷ [])) y) (at t y) (at (t ++ (b ∷ [])) y)) (sym agree.many)
         (subst (λ m. Moved (length T) m (at T y) (at (T ++ (b ∷ [])) y) (at t y) (at (t ++ (b ∷ [])) y)) (sym agree.few)
         (moved_right y in_y)));
-    outside = λ y out. outside_pushed (length S) (at S y) (at (S ++ (a ∷ [])) y) (at T y) (at (T ++ (b ∷ [])) y) (agree.outside y out)
-        (cases_at S y) (subst (λ d. IsPushed d (length S) (at S y) (at (S ++ (a ∷ [])) y)) (distinct_out a y in_a out) (pushed S a y))
+    outside = λ y out. outside_pushed false (length S) (at S y) (at (S ++ (a ∷ [])) y) (at T y) (at (T ++ (b ∷ [])) y) (agree.outside y out)
+        (cases_at S y) (subst (λ d. IsPushed d (length S) (at S y) (at (S ++ (a ∷ [])) y)) (differ nat_keys y a (λ e. out (subst In (sym e) in_a))) (pushed S a y))
         (subst (λ n. IsPushed false n (at T y) (at (T ++ (b ∷ [])) y)) (sym agree.many)
-        (subst (λ d. IsPushed d (length T) (at T y) (at (T ++ (b ∷ [])) y)) (distinct_out b y in_b out) (pushed T b y)));
+        (subst (λ d. IsPushed d (length T) (at T y) (at (T ++ (b ∷ [])) y)) (differ nat_keys y b (λ e. out (subst In (sym e) in_b))) (pushed T b y)));
   }
     where
       moved_left : (x : ℕ) → In x → Moved (length S) (length s) (at S x) (at (S ++ (a ∷ [])) x) (at s x) (at (s ++ (a ∷ [])) x)
@@ -232,46 +160,11 @@ module _ (In : ℕ → Type 0) where
   -- places of a node with the property after one without it was appended to the whole lists
   order_outside : (n p p' q q' u v : ℕ) → InOneOrder p q u v → (p < n) ⊎ (p ≡ n) → (q < n) ⊎ (q ≡ n)
       → IsPushed false n p p' → IsPushed false n q q' → InOneOrder p' q' u v
-  order_outside n p p' q q' u v order (inl i) (inl j) at_p at_q =
-      let e = at_p.old i in
-      let f = at_q.old j in
-      record {
-        less = λ l. order.less (omega (arith, l, e, f));
-        same = λ l. order.same (omega (arith, l, e, f));
-        more = λ l. order.more (omega (arith, l, e, f));
-      }
-  order_outside n p p' q q' u v order (inl i) (inr j) at_p at_q =
-      let e = at_p.old i in
-      let f : q' ≡ n + 1 = at_q.new (omega (arith, j)) in
-      record {
-        less = λ l. order.less (omega (arith, i, j));
-        same = λ l. absurd (omega (arith, l, e, f, i));
-        more = λ l. absurd (omega (arith, l, e, f, i));
-      }
-  order_outside n p p' q q' u v order (inr i) (inl j) at_p at_q =
-      let e : p' ≡ n + 1 = at_p.new (omega (arith, i)) in
-      let f = at_q.old j in
-      record {
-        less = λ l. absurd (omega (arith, l, e, f, j));
-        same = λ l. absurd (omega (arith, l, e, f, j));
-        more = λ l. order.more (omega (arith, i, j));
-      }
-  order_outside n p p' q q' u v order (inr i) (inr j) at_p at_q =
-      let e : p' ≡ n + 1 = at_p.new (omega (arith, i)) in
-      let f : q' ≡ n + 1 = at_q.new (omega (arith, j)) in
-      record {
-        less = λ l. absurd (omega (arith, l, e, f));
-        same = λ l. order.same (omega (arith, i, j));
-        more = λ l. absurd (omega (arith, l, e, f));
-      }
+  order_outside n p p' q q' u v order at_n at_m at_p at_q =
+      record { less = λ l. grind arith; same = λ e. grind arith; more = λ l. grind arith }
 
   within_outside : (n p p' u m : ℕ) → InOneOrder p n u m → (p < n) ⊎ (p ≡ n) → IsPushed false n p p' → InOneOrder p' (n + 1) u m
-  within_outside n p p' u m order (inl i) at_p =
-      let e = at_p.old i in
-      record { less = λ l. order.less i; same = λ l. absurd (omega (arith, l, e, i)); more = λ l. absurd (omega (arith, l, e, i)) }
-  within_outside n p p' u m order (inr i) at_p =
-      let e : p' ≡ n + 1 = at_p.new (omega (arith, i)) in
-      record { less = λ l. absurd (omega (arith, l, e)); same = λ l. order.same i; more = λ l. absurd (omega (arith, l, e)) }
+  within_outside n p p' u m order at_n at_p = record { less = λ l. grind arith; same = λ e. grind arith; more = λ l. grind arith }
 
   -- a node without the property seen in both whole lists, at one place
   outside_appended : (S T s t : List ℕ) (y : ℕ) → (In y → ⊥) → Agree In S T s t → Agree In (S ++ (y ∷ [])) (T ++ (y ∷ [])) s t
@@ -286,32 +179,16 @@ module _ (In : ℕ → Type 0) where
         (agree.order x z in_x in_z) (cases_at S x)
         (subst (λ n. (at T z < n) ⊎ (at T z ≡ n)) (sym agree.many) (cases_at T z)) (in_left x in_x)
         (subst (λ n. IsPushed false n (at T z) (at (T ++ (y ∷ [])) z)) (sym agree.many) (in_right z in_z));
-    outside = λ z out_z. either z (alike z y) (agree.outside z out_z) (cases_at S z) (pushed S y z)
+    outside = λ z out_z. outside_pushed (alike z y) (length S) (at S z) (at (S ++ (y ∷ [])) z) (at T z) (at (T ++ (y ∷ [])) z)
+        (agree.outside z out_z) (cases_at S z) (pushed S y z)
         (subst (λ n. IsPushed (alike z y) n (at T z) (at (T ++ (y ∷ [])) z)) (sym agree.many) (pushed T y z));
   }
     where
-      apart : (x : ℕ) → In x → alike x y ≡ false
-      apart x in_x = go (same_or_not nat_keys x y)
-        where
-          go : (x ≡ y) ⊎ (alike x y ≡ false) → alike x y ≡ false
-          go (inl e) = absurd (out (subst In e in_x))
-          go (inr ne) = ne
-
       in_left : (x : ℕ) → In x → IsPushed false (length S) (at S x) (at (S ++ (y ∷ [])) x)
-      in_left x in_x = subst (λ d. IsPushed d (length S) (at S x) (at (S ++ (y ∷ [])) x)) (apart x in_x) (pushed S y x)
+      in_left x in_x = subst (λ d. IsPushed d (length S) (at S x) (at (S ++ (y ∷ [])) x)) (differ nat_keys x y (λ e. out (subst In e in_x))) (pushed S y x)
 
       in_right : (x : ℕ) → In x → IsPushed false (length T) (at T x) (at (T ++ (y ∷ [])) x)
-      in_right x in_x = subst (λ d. IsPushed d (length T) (at T x) (at (T ++ (y ∷ [])) x)) (apart x in_x) (pushed T y x)
-
-      either : (z : ℕ) (d : Bool) → at S z ≡ at T z → (at S z < length S) ⊎ (at S z ≡ length S)
-          → IsPushed d (length S) (at S z) (at (S ++ (y ∷ [])) z) → IsPushed d (length S) (at T z) (at (T ++ (y ∷ [])) z)
-          → at (S ++ (y ∷ [])) z ≡ at (T ++ (y ∷ [])) z
-      either z d e (inl old) at_p at_q =
-          let f = at_p.old old in
-          let g = at_q.old (omega (arith, old, e)) in
-          omega (arith, e, f, g)
-      either z d e (inr new) at_p at_q =
-          at_p.new (omega (arith, new)) ∙ sym (at_q.new (omega (arith, new, e)))
+      in_right x in_x = subst (λ d. IsPushed d (length T) (at T x) (at (T ++ (y ∷ [])) x)) (differ nat_keys x y (λ e. out (subst In e in_x))) (pushed T y x)
 
   pub outside_seen : (S T s t : List ℕ) (y : ℕ) → (In y → ⊥) → Agree In S T s t → Agree In (and_then S y) (and_then T y) s t
   outside_seen S T s t y out agree = go (cases_at S y)

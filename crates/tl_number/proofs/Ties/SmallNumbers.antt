@@ -1,10 +1,9 @@
 -- Numbers by first appearance along two lists that differ at some places are in the order of those along shorter lists.
-use Rattle.std.proofs.Common.{◌≡◌, ◌⊎◌, ◌<◌, ◌+◌, ℕ, List, [], ◌∷◌, ◌++◌, map, flat_map, length, Bool, true, false, cond}
-use Rattle.std.proofs.Common.{Ordering, Less, Equal, Greater, Option, Some, None, option_to_list, IfSome, IsTrue, is_eq, nat_cmp, refl, sym, ap, ap₂, ◌∙◌}
-use Rattle.std.proofs.Common.{subst, inl, inr, arith}
-use Rattle.tl_number.proofs.Common.{Known, exact_unsigned, false≢true, first_seen_after, lt-ltb, ltb-true, nat_cmp_total, nat_keys}
-use Rattle.tl_number.proofs.Common.{node_among, node_cmp, ordering_then, position, same_or_not, slice_cmp, stands_in, tied_itself, times}
-use Rattle.tl_number.proofs.Common.{times-no, unwrap_or}
+use Rattle.tl_number.proofs.Common.{◌≡◌, ◌⊎◌, ◌<◌, ◌+◌, ℕ, List, [], ◌∷◌, ◌++◌, map, flat_map, length, Bool, true, false, cond, Ordering}
+use Rattle.tl_number.proofs.Common.{Less, Equal, Greater, Option, Some, None, option_to_list, IfSome, IsTrue, is_eq, nat_cmp, refl, sym, ap}
+use Rattle.tl_number.proofs.Common.{ap₂, ◌∙◌, subst, inl, inr, arith, Known, exact_unsigned, false≢true, first_seen_after, lt-ltb, ltb-true}
+use Rattle.tl_number.proofs.Common.{nat_cmp_total, nat_keys, node_among, node_cmp, ordering_then, position, same_or_not, slice_cmp}
+use Rattle.tl_number.proofs.Common.{stands_in, tied_itself, times, times-no, unwrap_or}
 use Rattle.tl_number.proofs.Numbering.FirstSeen.{known_after}
 use Rattle.tl_number.proofs.Numbering.SeenKeys.{inserted-seen}
 use Rattle.tl_number.proofs.Numbering.SeenLists.{seen_append}
@@ -57,31 +56,23 @@ then_alike Equal p q r e h = h refl ∙ ap (λ o. ordering_then o r) e
 then_alike Greater p q r e h = ap (λ o. ordering_then o r) e
 
 -- An end of a chain at one place of two arrangements, and whether it is critical: it is left out, with or without an entry
--- for none in the short lists; it is the first fixed one of a node; or it is at an open place.
+-- for none in the short lists; it is the first fixed one of a node; or it is at an open place, where `true` reads the first arrangement.
 pub data Slot : Type 0 where
   LeftOut : Bool → Option ℕ → Slot
   FirstFixed : ℕ → Slot
-  AtOpen : Option ℕ → Option ℕ → Slot
+  AtOpen : (Bool → Option ℕ) → Slot
 
-abbrev pub left_of : Slot → Option ℕ
-left_of (LeftOut entry o) = o
-left_of (FirstFixed x) = Some x
-left_of (AtOpen o p) = o
+-- the node of a slot in an arrangement
+abbrev pub end_of : Bool → Slot → Option ℕ
+end_of first (LeftOut entry o) = o
+end_of first (FirstFixed x) = Some x
+end_of first (AtOpen ends) = ends first
 
-abbrev pub right_of : Slot → Option ℕ
-right_of (LeftOut entry o) = o
-right_of (FirstFixed x) = Some x
-right_of (AtOpen o p) = p
-
-abbrev pub short_left : Slot → List (Option ℕ)
-short_left (LeftOut entry o) = cond entry (None ∷ []) []
-short_left (FirstFixed x) = Some x ∷ []
-short_left (AtOpen o p) = o ∷ []
-
-abbrev pub short_right : Slot → List (Option ℕ)
-short_right (LeftOut entry o) = cond entry (None ∷ []) []
-short_right (FirstFixed x) = Some x ∷ []
-short_right (AtOpen o p) = p ∷ []
+-- and its entries in the short list
+abbrev pub short_of : Bool → Slot → List (Option ℕ)
+short_of first (LeftOut entry o) = cond entry (None ∷ []) []
+short_of first (FirstFixed x) = Some x ∷ []
+short_of first (AtOpen ends) = ends first ∷ []
 
 -- A node that is left out doesn't have the property, or was met at a fixed place; all critical nodes have it.
 abbrev pub IsOut : (ℕ → Type 0) → List ℕ → Option ℕ → Type 0
@@ -92,7 +83,7 @@ abbrev pub AreSound : (ℕ → Type 0) → List ℕ → List Slot → Type 0
 AreSound In met [] = Unit {0}
 AreSound In met (LeftOut entry o ∷ slots) = IsOut In met o × AreSound In met slots
 AreSound In met (FirstFixed x ∷ slots) = In x × AreSound In (first_seen_after nat_cmp met (x ∷ [])) slots
-AreSound In met (AtOpen o p ∷ slots) = IfSome o In × IfSome p In × AreSound In met slots
+AreSound In met (AtOpen ends ∷ slots) = ((first : Bool) → IfSome (ends first) In) × AreSound In met slots
 
 -- the nodes met at fixed places were seen along both whole lists, at one place
 abbrev pub AreMet : List ℕ → List ℕ → List ℕ → Type 0
@@ -173,34 +164,36 @@ module _ (In : ℕ → Type 0) where
 
   -- The whole lists are in the order of the short ones, by their numbers.
   pub slots_order : (slots : List Slot) (met S T s t : List ℕ) → Agree In S T s t → AreMet met S T → AreSound In met slots
-      → slice_cmp node_cmp (numbers_after S (map left_of slots)) (numbers_after T (map right_of slots))
-      ≡ slice_cmp node_cmp (numbers_after s (flat_map short_left slots)) (numbers_after t (flat_map short_right slots))
+      → slice_cmp node_cmp (numbers_after S (map (end_of true) slots)) (numbers_after T (map (end_of false) slots))
+      ≡ slice_cmp node_cmp (numbers_after s (flat_map (short_of true) slots)) (numbers_after t (flat_map (short_of false) slots))
   slots_order [] met S T s t agree are sound = refl
   slots_order (LeftOut entry None ∷ slots) met S T s t agree are sound =
-      slots_order slots met S T s t agree are sound.1 ∙ sym (no_end entry s t (flat_map short_left slots) (flat_map short_right slots))
+      slots_order slots met S T s t agree are sound.1 ∙ sym (no_end entry s t (flat_map (short_of true) slots) (flat_map (short_of false) slots))
   slots_order (LeftOut entry (Some x) ∷ slots) met S T s t agree are sound =
-      first_numbers S T (Some x) (Some x) (map left_of slots) (map right_of slots)
-      ∙ ap (λ n. ordering_then (nat_cmp (n + 1) (at T x + 1)) (slice_cmp node_cmp (numbers_after (and_then S x) (map left_of slots))
-      (numbers_after (and_then T x) (map right_of slots)))) (one_place met S T s t x sound.0 are agree)
-      ∙ ap (λ o. ordering_then o (slice_cmp node_cmp (numbers_after (and_then S x) (map left_of slots))
-      (numbers_after (and_then T x) (map right_of slots)))) (tied_itself nat_cmp_total (at T x + 1))
+      first_numbers S T (Some x) (Some x) (map (end_of true) slots) (map (end_of false) slots)
+      ∙ ap (λ n. ordering_then (nat_cmp (n + 1) (at T x + 1)) (slice_cmp node_cmp (numbers_after (and_then S x) (map (end_of true) slots))
+      (numbers_after (and_then T x) (map (end_of false) slots)))) (one_place met S T s t x sound.0 are agree)
+      ∙ ap (λ o. ordering_then o (slice_cmp node_cmp (numbers_after (and_then S x) (map (end_of true) slots))
+      (numbers_after (and_then T x) (map (end_of false) slots)))) (tied_itself nat_cmp_total (at T x + 1))
       ∙ slots_order slots met (and_then S x) (and_then T x) s t (agree_without met S T s t x sound.0 are agree) (still_met met S T x x are) sound.1
-      ∙ sym (no_end entry s t (flat_map short_left slots) (flat_map short_right slots))
+      ∙ sym (no_end entry s t (flat_map (short_of true) slots) (flat_map (short_of false) slots))
   slots_order (FirstFixed x ∷ slots) met S T s t agree are sound =
-      first_numbers S T (Some x) (Some x) (map left_of slots) (map right_of slots)
+      first_numbers S T (Some x) (Some x) (map (end_of true) slots) (map (end_of false) slots)
       ∙ then_alike (nat_cmp (at S x + 1) (at T x + 1)) (nat_cmp (at s x + 1) (at t x + 1)) _ _
       (number_order S T s t (Some x) (Some x) sound.0 sound.0 agree)
       (λ e. slots_order slots (and_then met x) (and_then S x) (and_then T x) (and_then s x) (and_then t x)
       (agree_after S T s t (Some x) (Some x) sound.0 sound.0 agree e)
       (met_too met S T x (let n = exact_unsigned (at S x + 1) (at T x + 1) e in omega (arith, n)) are) sound.1)
-      ∙ sym (first_numbers s t (Some x) (Some x) (flat_map short_left slots) (flat_map short_right slots))
-  slots_order (AtOpen o p ∷ slots) met S T s t agree are sound =
-      first_numbers S T o p (map left_of slots) (map right_of slots)
+      ∙ sym (first_numbers s t (Some x) (Some x) (flat_map (short_of true) slots) (flat_map (short_of false) slots))
+  slots_order (AtOpen ends ∷ slots) met S T s t agree are sound =
+      let o = ends true in
+      let p = ends false in
+      first_numbers S T o p (map (end_of true) slots) (map (end_of false) slots)
       ∙ then_alike (nat_cmp (number_after S o) (number_after T p)) (nat_cmp (number_after s o) (number_after t p)) _ _
-      (number_order S T s t o p sound.0 sound.1 agree)
+      (number_order S T s t o p (sound.0 true) (sound.0 false) agree)
       (λ e. slots_order slots met (after_one S o) (after_one T p) (after_one s o) (after_one t p)
-      (agree_after S T s t o p sound.0 sound.1 agree e) (met_after_open met S T o p are) sound.2)
-      ∙ sym (first_numbers s t o p (flat_map short_left slots) (flat_map short_right slots))
+      (agree_after S T s t o p (sound.0 true) (sound.0 false) agree e) (met_after_open met S T o p are) sound.1)
+      ∙ sym (first_numbers s t o p (flat_map (short_of true) slots) (flat_map (short_of false) slots))
 
   -- before anything was seen
   pub agree_first : Agree In [] [] [] []

@@ -1,5 +1,5 @@
 -- Records of type I that differ only in their nodes are in the order of these.
-use Rattle.std.proofs.Common.{◌≡◌, ◌+◌, ℕ, suc, List, [], ◌∷◌, ◌++◌, length, map, nat_cmp, refl, sym, ap, ap₂, ◌∙◌, length-append}
+use Rattle.tl_number.proofs.Common.{◌≡◌, ◌+◌, ℕ, suc, List, [], ◌∷◌, ◌++◌, length, map, nat_cmp, refl, sym, ap, ap₂, ◌∙◌, length-append}
 use Rattle.tl_number.proofs.Common.{AllByRecursion, Chain, FieldsI, I, IsNumberOrNone, PolygonSide, ends_cmp, ends_of, joined}
 use Rattle.tl_number.proofs.Common.{nat_list_cmp_total, numbered_from, ordering_then, packed_i, records_cmp, slice_cmp, spelling_cmp}
 use Rattle.tl_number.proofs.Common.{tied_itself, unwrap_or}

@@ -1,13 +1,11 @@
 -- Two arranged counties are equal if a renaming carries one onto another, keeps every TLID and turns nothing.
-use Rattle.std.proofs.Common.{◌≡◌, ℕ, List, map, false, Option, Some, None, option_map}
-use Rattle.std.proofs.Common.{option_to_list, IsTrue, sym, refl, ap, ◌∙◌, subst, nat_cmp}
-use Rattle.std.proofs.Common.{IsPermutation, map-id}
-use Rattle.tl_number.proofs.Common.{AllByRecursion, BodyP, Carries, Chain, County, IsArranged, IsCounty, Known, PolygonKey, Renumbering}
-use Rattle.tl_number.proofs.Common.{all_both, all_left, all_right, carried_chain, carried_polygon, chain_nodes, chain_polygons, image}
-use Rattle.tl_number.proofs.Common.{key_cmp, key_keys, key_on, key_under, keys_known, known_all, ltb-true, map-map, map_agree_all}
-use Rattle.tl_number.proofs.Common.{nat_cmp_total, nat_keys, polygon_keys, polygons_along, renumbered, renumbered_polygon, stands_in}
-use Rattle.tl_number.proofs.Common.{strict-map, times, tlids, turned_if, turns}
-use Rattle.std.specs.List.Sorted.{IsStrictlySortedBy}
+use Rattle.tl_number.proofs.Common.{◌≡◌, ℕ, List, map, false, Option, Some, None, option_map, option_to_list, IsTrue, sym, refl, ap, ◌∙◌}
+use Rattle.tl_number.proofs.Common.{subst, nat_cmp, IsPermutation, map-id, AllByRecursion, BodyP, Carries, Chain, County, IsArranged}
+use Rattle.tl_number.proofs.Common.{IsCounty, IsStrictlySortedBy, Known, PolygonKey, Renumbering, all_both, all_left, all_right}
+use Rattle.tl_number.proofs.Common.{carried_chain, carried_polygon, chain_nodes, chain_polygons, image, key_cmp, key_keys, key_on}
+use Rattle.tl_number.proofs.Common.{key_under, keys_known, known_all, ltb-true, map-map, map_agree_all, nat_cmp_total, nat_keys}
+use Rattle.tl_number.proofs.Common.{polygon_keys, polygons_along, renumbered, renumbered_polygon, stands_in, strict-map, times, tlids}
+use Rattle.tl_number.proofs.Common.{turned_if, turns}
 use Rattle.ordered_lists.proofs.Lists.InOrder.{strict-permutation}
 use Rattle.ordered_lists.proofs.Lists.Elements.{all_pieces}
 use Rattle.tl_number.proofs.Unique.SameNumbers.{kept_entry, KeepsChains, nodes_kept, polygons_kept}

@@ -1,24 +1,25 @@
 -- If a renaming carries one arranged county onto another, keeps each TLID and turns no chain, the landmarks and their links are
 -- equal: landmarks are in the order of their bodies and links.
-use Rattle.std.proofs.Common.{◌≡◌, ◌⊎◌, ◌<◌, ℕ, zero, suc, ◌==◌, List, [], ◌∷◌, map, filter, length, Bool, true, false, cond}
-use Rattle.std.proofs.Common.{◌&&◌, IsTrue, Ordering, Less, Equal, Greater, is_eq, is_gt, sym, refl, ap, ◌∙◌, subst, inl, inr}
-use Rattle.std.proofs.Common.{arith, nat_cmp, IsPermutation}
-use Rattle.tl_number.proofs.Common.{AllByRecursion, Body7, Carries, County, Fields8, IsArranged, IsAscending, IsClosed, IsInOrder}
-use Rattle.tl_number.proofs.Common.{IsKeyOrder, IsPermutation-map, Known, PolygonKey, Renumbering, all_map, all_weaker, carried_landmark}
-use Rattle.tl_number.proofs.Common.{carried_link, eq-eqb, eqb-true, false≢true, image, in_order-equal, in_order-map, in_order-permutation}
-use Rattle.tl_number.proofs.Common.{key_cmp, keys_known, known_all, landmark_key, landmark_key_cmp, lands, length-map, link_cmp, link_key}
-use Rattle.tl_number.proofs.Common.{link_keys, link_part, link_part_cmp, link_part_keys, lists_keys, ltb-true, map-map, map_agree_all}
+use Rattle.tl_number.proofs.Common.{eight_land, ◌≡◌, ◌⊎◌, ◌<◌, ℕ, zero, suc, ◌==◌, List, [], ◌∷◌, map, filter, length, Bool, false, cond}
+use Rattle.tl_number.proofs.Common.{◌&&◌, IsTrue, Ordering, Less, Equal, Greater, is_eq, sym, refl, ap, ◌∙◌, subst, inl, inr, arith}
+use Rattle.tl_number.proofs.Common.{nat_cmp, IsPermutation, AllByRecursion, Body7, Carries, County, Fields8, IsArranged, IsAscending}
+use Rattle.tl_number.proofs.Common.{IsClosed, IsInOrder, IsKeyOrder, Known, PolygonKey, Renumbering, all_weaker, carried_link, eq-eqb}
+use Rattle.tl_number.proofs.Common.{false≢true, image, in_order-equal, key_cmp, landmark_key, landmark_key_cmp, lands, length-map, link_cmp}
+use Rattle.tl_number.proofs.Common.{link_key, link_keys, link_part, link_part_cmp, link_part_keys, lists_keys, ltb-true, map_agree_all}
 use Rattle.tl_number.proofs.Common.{nat_cmp_total, nat_keys, ne_eqb, ordering_then, pair_keys, polygon_keys, stands_in, tied_itself, times}
-use Rattle.tl_number.proofs.Common.{up_to}
 use Rattle.std.proofs.lemmas.Bool.{cases_eq}
+use Rattle.ordered_lists.proofs.Lists.Counted.{filter-agree}
+use Rattle.tl_county.proofs.Lists.OfNumber.{of_number-all}
+use Rattle.tl_number.proofs.Lists.Grouping.{in_order-filter, parts_in_order}
+use Rattle.tl_number.proofs.Lists.Filtered.{filter-agree_all, filter-filtered, filter-mapped, same_after}
 use Rattle.std.proofs.lemmas.List.Sums.{length-filter}
 use Rattle.std.proofs.lemmas.List.Sorted.{sum_by-IsPermutation}
 use Rattle.tl_county.specs.BodyOrder.{LinkPart}
 use Rattle.tl_county.specs.Laws.KeyOrders.{landmark_body_keys}
 use Rattle.ordered_lists.proofs.ByKey.Keys.{differ}
-use Rattle.tl_number.specs.Uses.{links_of, LandmarkKey}
+use Rattle.tl_number.specs.Uses.{links_of}
 use Rattle.tl_number.proofs.Unique.SameNumbers.{counted_injective}
-use Rattle.tl_number.proofs.Lists.Counting.{entries_equal, map-equal_all}
+use Rattle.tl_number.proofs.Unique.SameKeys.{entries_same, parts_same}
 
 pub landmark_key_keys : IsKeyOrder landmark_key_cmp
 landmark_key_keys = pair_keys (lists_keys landmark_body_keys) (lists_keys link_part_keys)
@@ -37,107 +38,43 @@ is_link land part link = (link.land == land) && is_eq (link_part_cmp part (link_
 
 pub times-links : (links : List Fields8) (y : ℕ) (k : LinkPart)
     → times link_part_cmp k (links_of links y) ≡ length (filter (is_link y k) links)
-times-links [] y k = refl
-times-links (x ∷ xs) y k = go (x.land == y) (is_eq (link_part_cmp k (link_part x))) (times-links xs y k)
-  where
-    go : (b c : Bool) → times link_part_cmp k (links_of xs y) ≡ length (filter (is_link y k) xs)
-        → length (filter (λ p. is_eq (link_part_cmp k p))
-        (map link_part (cond b (x ∷ filter (λ l. l.land == y) xs) (filter (λ l. l.land == y) xs)))) ≡ length
-        (cond (b && is_eq (link_part_cmp k (link_part x))) (x ∷ filter (is_link y k) xs) (filter (is_link y k) xs))
-    go true c ih = yes (is_eq (link_part_cmp k (link_part x))) ih
-      where
-        yes : (d : Bool) → times link_part_cmp k (links_of xs y) ≡ length (filter (is_link y k) xs)
-            → length (cond d (link_part x ∷ filter (λ p. is_eq (link_part_cmp k p)) (links_of xs y))
-            (filter (λ p. is_eq (link_part_cmp k p)) (links_of xs y))) ≡ length
-            (cond d (x ∷ filter (is_link y k) xs) (filter (is_link y k) xs))
-        yes true ih = ap suc ih
-        yes false ih = ih
-    go false c ih = ih
+times-links links y k =
+    ap length (filter-mapped (λ p. is_eq (link_part_cmp k p)) link_part (filter (λ l. l.land == y) links))
+    ∙ length-map (filter (λ l. is_eq (link_part_cmp k (link_part l))) (filter (λ l. l.land == y) links)) link_part
+    ∙ ap length (filter-filtered (λ (l : Fields8). l.land == y) (λ l. is_eq (link_part_cmp k (link_part l))) links)
 
 -- the links of one landmark are in order
 pub links_of-in_order : (links : List Fields8) → IsInOrder link_cmp links → (y : ℕ) → IsInOrder link_part_cmp (links_of links y)
-links_of-in_order [] h y = tt
-links_of-in_order (x ∷ xs) h y = go (x.land == y) refl (links_of-in_order xs h.1 y)
-  where
-    below : (o : Ordering) (z : Fields8) → o ≡ Equal → is_gt (ordering_then o (link_part_cmp (link_part x) (link_part z))) ≡ false
-        → is_gt (link_part_cmp (link_part x) (link_part z)) ≡ false
-    below o z e f = sym (ap (λ q. is_gt (ordering_then q (link_part_cmp (link_part x) (link_part z)))) e) ∙ f
-
-    each : x.land ≡ y → (zs : List Fields8) → AllByRecursion (λ z. is_gt (link_cmp x z) ≡ false) zs
-        → AllByRecursion (λ p. is_gt (link_part_cmp (link_part x) p) ≡ false) (links_of zs y)
-    each e [] a = tt
-    each e (z ∷ zs) a = at (z.land == y) refl (each e zs a.1)
-      where
-        at : (b : Bool) → (z.land == y) ≡ b → AllByRecursion (λ p. is_gt (link_part_cmp (link_part x) p) ≡ false) (links_of zs y)
-            → AllByRecursion (λ p. is_gt (link_part_cmp (link_part x) p) ≡ false)
-            (map link_part (cond b (z ∷ filter (λ l. l.land == y) zs) (filter (λ l. l.land == y) zs)))
-        at true f ih = (
-          below (nat_cmp x.land z.land) z (ap (nat_cmp x.land) (eqb-true z.land y f ∙ sym e)
-              ∙ tied_itself nat_cmp_total x.land) a.0,
-          ih,
-        )
-        at false f ih = ih
-
-    go : (b : Bool) → (x.land == y) ≡ b → IsInOrder link_part_cmp (links_of xs y)
-        → IsInOrder link_part_cmp (map link_part (cond b (x ∷ filter (λ l. l.land == y) xs) (filter (λ l. l.land == y) xs)))
-    go true e ih = (each (eqb-true x.land y e) xs h.0, ih)
-    go false e ih = ih
+links_of-in_order links h y = parts_in_order eight_land link_part link_part_cmp y (filter (λ l. l.land == y) links) (of_number-all eight_land y links)
+    (in_order-filter link_cmp (λ l. l.land == y) links h)
 
 -- links that each have one LAND, counted by landmark
 times-land : (links : List Fields8) (k : Fields8) → times link_cmp k links ≡ length (filter (is_link k.land (link_part k)) links)
-times-land [] k = refl
-times-land (x ∷ xs) k = go (cases_eq x.land k.land) (times-land xs k)
+times-land links k = ap length (filter-agree (λ l. is_eq (link_cmp k l)) (is_link k.land (link_part k)) (λ l. go l (cases_eq l.land k.land)) links)
   where
-    directed : (b c : Bool) → b ≡ c → times link_cmp k xs ≡ length (filter (is_link k.land (link_part k)) xs)
-        → length (cond b (x ∷ filter (λ l. is_eq (link_cmp k l)) xs) (filter (λ l. is_eq (link_cmp k l)) xs)) ≡ length
-        (cond c (x ∷ filter (is_link k.land (link_part k)) xs) (filter (is_link k.land (link_part k)) xs))
-    directed true true e ih = ap suc ih
-    directed true false e ih = cc
-    directed false true e ih = cc
-    directed false false e ih = ih
+    other : (o p : Ordering) → is_eq o ≡ false → is_eq (ordering_then o p) ≡ false
+    other Less p e = refl
+    other Equal p e = absurd (false≢true (sym e))
+    other Greater p e = refl
 
-    other : (o : Ordering) → is_eq o ≡ false → is_eq (ordering_then o (link_part_cmp (link_part k) (link_part x))) ≡ false
-    other Less e = refl
-    other Equal e = absurd (false≢true (sym e))
-    other Greater e = refl
-
-    go : (x.land ≡ k.land) ⊎ (x.land ≡ k.land → ⊥) → times link_cmp k xs ≡ length (filter (is_link k.land (link_part k)) xs)
-        → times link_cmp k (x ∷ xs) ≡ length (filter (is_link k.land (link_part k)) (x ∷ xs))
-    go (inl e) ih = directed (is_eq (link_cmp k x)) (is_link k.land (link_part k) x)
-        (ap (λ o. is_eq (ordering_then o (link_part_cmp (link_part k) (link_part x)))) (ap (nat_cmp k.land) e
-        ∙ tied_itself nat_cmp_total k.land)
-        ∙ ap (λ b. b && is_eq (link_part_cmp (link_part k) (link_part x))) (sym (eq-eqb x.land k.land e))) ih
-    go (inr ne) ih = directed (is_eq (link_cmp k x)) (is_link k.land (link_part k) x)
-        (other (nat_cmp k.land x.land) (differ nat_keys k.land x.land (λ e. ne (sym e)))
-        ∙ ap (λ b. b && is_eq (link_part_cmp (link_part k) (link_part x))) (sym (ne_eqb x.land k.land ne))) ih
+    go : (l : Fields8) → (l.land ≡ k.land) ⊎ (l.land ≡ k.land → ⊥) → is_eq (link_cmp k l) ≡ is_link k.land (link_part k) l
+    go l (inl e) =
+        ap (λ o. is_eq (ordering_then o (link_part_cmp (link_part k) (link_part l)))) (ap (nat_cmp k.land) e ∙ tied_itself nat_cmp_total k.land)
+        ∙ ap (λ b. b && is_eq (link_part_cmp (link_part k) (link_part l))) (sym (eq-eqb l.land k.land e))
+    go l (inr ne) =
+        other (nat_cmp k.land l.land) _ (differ nat_keys k.land l.land (λ e. ne (sym e)))
+        ∙ ap (λ b. b && is_eq (link_part_cmp (link_part k) (link_part l))) (sym (ne_eqb l.land k.land ne))
 
 -- if renaming keeps LANDs distinct, a renamed landmark has the same links as before
 pub count-relanded : (f : ℕ → ℕ) (Dom : ℕ → Type 0) → ((n m : ℕ) → Dom n → Dom m → f n ≡ f m → n ≡ m) → (links : List Fields8)
     → AllByRecursion (λ l. Dom l.land) links → (y : ℕ) → Dom y → (k : LinkPart)
     → length (filter (is_link (f y) k) (map (relanded f) links)) ≡ length (filter (is_link y k) links)
-count-relanded f Dom inj [] a y d k = refl
-count-relanded f Dom inj (x ∷ xs) a y d k = go (cases_eq x.land y) (count-relanded f Dom inj xs a.1 y d k)
-  where
-    directed : (b c : Bool) → b ≡ c → length (filter (is_link (f y) k) (map (relanded f) xs)) ≡ length (filter (is_link y k) xs)
-        → length (cond (b && is_eq (link_part_cmp k (link_part x))) (relanded f x ∷ filter (is_link (f y) k) (map (relanded f) xs))
-        (filter (is_link (f y) k) (map (relanded f) xs))) ≡ length
-        (cond (c && is_eq (link_part_cmp k (link_part x))) (x ∷ filter (is_link y k) xs) (filter (is_link y k) xs))
-    directed true true e ih = yes (is_eq (link_part_cmp k (link_part x))) ih
-      where
-        yes : (v : Bool) → length (filter (is_link (f y) k) (map (relanded f) xs)) ≡ length (filter (is_link y k) xs)
-            → length (cond v (relanded f x ∷ filter (is_link (f y) k) (map (relanded f) xs))
-            (filter (is_link (f y) k) (map (relanded f) xs))) ≡ length (cond v (x ∷ filter (is_link y k) xs) (filter (is_link y k) xs))
-        yes true ih = ap suc ih
-        yes false ih = ih
-    directed true false e ih = cc
-    directed false true e ih = cc
-    directed false false e ih = ih
-
-    go : (x.land ≡ y) ⊎ (x.land ≡ y → ⊥) → length (filter (is_link (f y) k) (map (relanded f) xs)) ≡ length (filter (is_link y k) xs)
-        → length (filter (is_link (f y) k) (map (relanded f) (x ∷ xs))) ≡ length (filter (is_link y k) (x ∷ xs))
-    go (inl e) ih = directed (f x.land == f y) (x.land == y) (eq-eqb (f x.land) (f y) (ap f e) ∙ sym (eq-eqb x.land y e)) ih
-    go (inr ne) ih = directed (f x.land == f y) (x.land == y) (ne_eqb (f x.land) (f y) (λ e. ne (inj x.land y a.0 d e))
-        ∙ sym (ne_eqb x.land y ne)) ih
+count-relanded f Dom inj links a y d k =
+    ap length (filter-mapped (is_link (f y) k) (relanded f) links)
+    ∙ length-map (filter (λ l. is_link (f y) k (relanded f l)) links) (relanded f)
+    ∙ ap length (filter-agree_all (λ l. is_link (f y) k (relanded f l)) (is_link y k) links
+    (all_weaker (λ (l : Fields8). Dom l.land) (λ l. is_link (f y) k (relanded f l) ≡ is_link y k l)
+    (λ l known. ap (λ b. b && is_eq (link_part_cmp k (link_part l))) (same_after f Dom inj l.land y known d)) links a))
 
 -- a LAND without a landmark has no link
 no_links : (known : List ℕ) (links : List Fields8) → AllByRecursion (λ l. IsTrue (stands_in nat_cmp l.land known)) links → (y : ℕ)
@@ -188,42 +125,15 @@ module _ (r : Renumbering) (a b : County) (h : Carries r a b) (aa : IsAscending 
       ∙ count-relanded f_land (Known nat_cmp (lands a)) land_injective a.links lands_known y d k
       ∙ sym (times-links a.links y k))
 
-  keys_same : map (landmark_key a.links) a.landmarks ≡ map (landmark_key b.links) b.landmarks
-  unfolding f_land
-  keys_same =
-      let carried : map (landmark_key b.links) (map (carried_landmark r) a.landmarks) ≡ map (landmark_key a.links) a.landmarks =
-      map-map (landmark_key b.links) (carried_landmark r) a.landmarks
-      ∙ map_agree_all (λ d. landmark_key b.links (carried_landmark r d)) (landmark_key a.links) (λ d. Known nat_cmp (lands a) d.0)
-      (λ d k i. (d.1, links_kept d.0 k i)) a.landmarks (keys_known nat_keys a.landmarks) in
-      in_order-permutation landmark_key_keys (map (landmark_key a.links) a.landmarks) (map (landmark_key b.links) b.landmarks)
-      (in_order-map landmark_key_cmp (landmark_key a.links) a.landmarks ta.landmarks)
-      (in_order-map landmark_key_cmp (landmark_key b.links) b.landmarks tb.landmarks)
-      (subst (λ ks. IsPermutation ks (map (landmark_key b.links) b.landmarks)) carried
-      (IsPermutation-map (landmark_key b.links) (map (carried_landmark r) a.landmarks) b.landmarks h.landmarks))
-
   pub landmarks_equal : a.landmarks ≡ b.landmarks
-  landmarks_equal =
-      let len : length a.landmarks ≡ length b.landmarks = sym (length-map a.landmarks (landmark_key a.links)) ∙ ap length keys_same
-      ∙ length-map b.landmarks (landmark_key b.links) in
-      let left : map (λ (d : ℕ × List Body7). d.0) a.landmarks ≡ map (λ (d : ℕ × List Body7). d.0) b.landmarks = ta.lands ∙ ap up_to len
-      ∙ sym tb.lands in
-      let right : map (λ (d : ℕ × List Body7). d.1) a.landmarks ≡ map (λ (d : ℕ × List Body7). d.1) b.landmarks =
-      sym (map-map (λ (k : LandmarkKey). k.0) (landmark_key a.links) a.landmarks)
-      ∙ ap (map (λ (k : LandmarkKey). k.0)) keys_same
-      ∙ map-map (λ (k : LandmarkKey). k.0) (landmark_key b.links) b.landmarks in
-      entries_equal a.landmarks b.landmarks left right
+  unfolding f_land
+  landmarks_equal = entries_same landmark_key_keys f_land (links_of a.links) (links_of b.links) a.landmarks b.landmarks
+      links_kept h.landmarks ta.landmarks tb.landmarks ta.lands tb.lands
 
   same_links : (y : ℕ) → Known nat_cmp (lands a) y → links_of a.links y ≡ links_of b.links y
-  same_links y k =
-      let keys : map (landmark_key a.links) a.landmarks ≡ map (landmark_key b.links) a.landmarks = keys_same
-      ∙ ap (map (landmark_key b.links)) (sym landmarks_equal) in
-      let each : AllByRecursion (λ d. landmark_key a.links d ≡ landmark_key b.links d) a.landmarks =
-      map-equal_all (landmark_key a.links) (landmark_key b.links) a.landmarks keys in
-      let all : AllByRecursion (λ n. links_of a.links n ≡ links_of b.links n) (lands a) =
-      all_map (λ n. links_of a.links n ≡ links_of b.links n) (λ (d : ℕ × List Body7). d.0) a.landmarks
-      (all_weaker (λ d. landmark_key a.links d ≡ landmark_key b.links d) (λ d. links_of a.links d.0 ≡ links_of b.links d.0)
-      (λ d same. ap (λ (key : LandmarkKey). key.1) same) a.landmarks each) in
-      known_all nat_keys (λ n. links_of a.links n ≡ links_of b.links n) (lands a) all y k
+  unfolding f_land
+  same_links = parts_same landmark_key_keys f_land (links_of a.links) (links_of b.links) a.landmarks b.landmarks
+      links_kept h.landmarks ta.landmarks tb.landmarks ta.lands tb.lands
 
   links_count : (k : Fields8) (n : ℕ) → times nat_cmp k.land (lands a) ≡ n
       → length (filter (is_link k.land (link_part k)) a.links) ≡ length (filter (is_link k.land (link_part k)) b.links)

@@ -1,19 +1,15 @@
 -- If a renaming carries one arranged county onto another, keeps each TLID and turns no chain, the names and the FEATs of chains are
 -- equal: names are in the order of content and uses, and their uses determine the chains' lists.
-use Rattle.std.proofs.Common.{◌≡◌, ◌⊎◌, ℕ, suc, ◌==◌, List, [], ◌∷◌, ◌++◌, map, filter, length, Bool, true, false, cond, IsTrue}
-use Rattle.std.proofs.Common.{sym, refl, ap, ap₂, ◌∙◌, subst, inl, inr, nat_cmp, IsPermutation}
-use Rattle.tl_number.proofs.Common.{AllByRecursion, AllStandIn, Among, Body5, Carries, Chain, County, IsApart, IsArranged, IsClosed}
-use Rattle.tl_number.proofs.Common.{IsKeyOrder, IsPermutation-map, Known, Renumbering, Use, all_append, all_left, all_map, all_right}
-use Rattle.tl_number.proofs.Common.{all_uses, all_weaker, among-unmap, apart_from_sorted, carried_name, eq-eqb, feats, image, in_order-map}
-use Rattle.tl_number.proofs.Common.{in_order-permutation, keys_known, known_all, length-map, lists_keys, ltb-true, map-append, map-map}
-use Rattle.tl_number.proofs.Common.{map_agree_all, name_key, name_key_cmp, nat_keys, ne_eqb, pair_keys, stands_in, times, up_to, use_cmp}
-use Rattle.tl_number.proofs.Common.{uses_from, uses_of_name}
-use Rattle.std.proofs.lemmas.Bool.{cases_eq}
-use Rattle.std.specs.List.Sorted.{IsStrictlySortedBy}
+use Rattle.tl_number.proofs.Common.{◌≡◌, ℕ, suc, ◌==◌, List, [], ◌∷◌, ◌++◌, map, filter, length, IsTrue, sym, refl, ap, ap₂, ◌∙◌, subst}
+use Rattle.tl_number.proofs.Common.{nat_cmp, AllByRecursion, AllStandIn, Among, Carries, Chain, County, IsApart, IsArranged, IsClosed}
+use Rattle.tl_number.proofs.Common.{IsKeyOrder, IsStrictlySortedBy, Known, Renumbering, Use, all_append, all_left, all_right, all_uses}
+use Rattle.tl_number.proofs.Common.{all_weaker, among-unmap, apart_from_sorted, feats, image, lists_keys, ltb-true, map-append, map-map}
+use Rattle.tl_number.proofs.Common.{name_key, name_key_cmp, pair_keys, stands_in, times, use_cmp, uses_from, uses_of_name}
+use Rattle.tl_number.proofs.Lists.Filtered.{filter-agree_all, filter-mapped, same_after}
 use Rattle.tl_county.specs.Laws.KeyOrders.{name_body_keys}
 use Rattle.ordered_lists.proofs.Lists.Members.{one_entry}
-use Rattle.tl_number.specs.Uses.{NameKey}
-use Rattle.tl_number.proofs.Lists.Counting.{entries_equal, map-equal_all, up_to-strict}
+use Rattle.tl_number.proofs.Lists.Counting.{up_to-strict}
+use Rattle.tl_number.proofs.Unique.SameKeys.{entries_same, parts_same}
 use Rattle.tl_number.proofs.Unique.SameNumbers.{counted_injective, kept_entry, KeepsChains, all_themselves}
 use Rattle.tl_number.proofs.Names.UsesOrder.{use_keys, all_uses-strict, use_under, under_use}
 
@@ -60,22 +56,11 @@ from_all_uses P (c ∷ cs) a = (
 -- if renaming keeps FEATs distinct, a renamed name has the same uses as before
 pub uses_of-renamed : (f : ℕ → ℕ) (Dom : ℕ → Type 0) → ((n m : ℕ) → Dom n → Dom m → f n ≡ f m → n ≡ m) → (us : List (Use × ℕ))
     → AllByRecursion (λ u. Dom u.1) us → (y : ℕ) → Dom y → uses_of_name (map (renamed_use f) us) (f y) ≡ uses_of_name us y
-uses_of-renamed f Dom inj [] a y d = refl
-uses_of-renamed f Dom inj (u ∷ us) a y d = go (cases_eq u.1 y) (uses_of-renamed f Dom inj us a.1 y d)
-  where
-    directed : (b c : Bool) → b ≡ c → uses_of_name (map (renamed_use f) us) (f y) ≡ uses_of_name us y
-        → map (λ (v : Use × ℕ). v.0)
-        (cond b ((u.0, f u.1) ∷ filter (λ v. v.1 == f y) (map (renamed_use f) us)) (filter (λ v. v.1 == f y) (map (renamed_use f) us)))
-        ≡ map (λ (v : Use × ℕ). v.0) (cond c (u ∷ filter (λ v. v.1 == y) us) (filter (λ v. v.1 == y) us))
-    directed true true e ih = ap (λ vs. u.0 ∷ vs) ih
-    directed true false e ih = cc
-    directed false true e ih = cc
-    directed false false e ih = ih
-
-    go : (u.1 ≡ y) ⊎ (u.1 ≡ y → ⊥) → uses_of_name (map (renamed_use f) us) (f y) ≡ uses_of_name us y
-        → uses_of_name (map (renamed_use f) (u ∷ us)) (f y) ≡ uses_of_name (u ∷ us) y
-    go (inl e) ih = directed (f u.1 == f y) (u.1 == y) (eq-eqb (f u.1) (f y) (ap f e) ∙ sym (eq-eqb u.1 y e)) ih
-    go (inr ne) ih = directed (f u.1 == f y) (u.1 == y) (ne_eqb (f u.1) (f y) (λ e. ne (inj u.1 y a.0 d e)) ∙ sym (ne_eqb u.1 y ne)) ih
+uses_of-renamed f Dom inj us a y d =
+    ap (map (λ (v : Use × ℕ). v.0)) (filter-mapped (λ (v : Use × ℕ). v.1 == f y) (renamed_use f) us)
+    ∙ map-map (λ (v : Use × ℕ). v.0) (renamed_use f) (filter (λ (u : Use × ℕ). f u.1 == f y) us)
+    ∙ ap (map (λ (u : Use × ℕ). u.0)) (filter-agree_all (λ (u : Use × ℕ). f u.1 == f y) (λ u. u.1 == y) us
+    (all_weaker (λ (u : Use × ℕ). Dom u.1) (λ u. (f u.1 == f y) ≡ (u.1 == y)) (λ u known. same_after f Dom inj u.1 y known d) us a))
 
 module _ (r : Renumbering) (a b : County) (h : Carries r a b) (ca : IsClosed a) (ta : IsArranged a) (tb : IsArranged b)
     (e : KeepsChains r a b) where
@@ -101,52 +86,16 @@ module _ (r : Renumbering) (a b : County) (h : Carries r a b) (ca : IsClosed a) 
   uses_kept y d = ap (λ us. uses_of_name us (f_name y)) uses_b
       ∙ uses_of-renamed f_name (Known nat_cmp (feats a)) name_injective (all_uses a.chains) uses_known y d
 
-  -- the keys of names, list by list
-  keys_a : List NameKey
-  keys_a = map (name_key (all_uses a.chains)) a.names
-
-  keys_b : List NameKey
-  keys_b = map (name_key (all_uses b.chains)) b.names
-
-  keys_same : keys_a ≡ keys_b
-  unfolding keys_a keys_b f_name
-  keys_same =
-      let carried : map (name_key (all_uses b.chains)) (map (carried_name r) a.names) ≡ map (name_key (all_uses a.chains)) a.names =
-      map-map (name_key (all_uses b.chains)) (carried_name r) a.names
-      ∙ map_agree_all (λ d. name_key (all_uses b.chains) (carried_name r d)) (name_key (all_uses a.chains))
-      (λ d. Known nat_cmp (feats a) d.0) (λ d k i. (d.1, uses_kept d.0 k i)) a.names (keys_known nat_keys a.names) in
-      in_order-permutation name_key_keys (map (name_key (all_uses a.chains)) a.names) (map (name_key (all_uses b.chains)) b.names)
-      (in_order-map name_key_cmp (name_key (all_uses a.chains)) a.names ta.names)
-      (in_order-map name_key_cmp (name_key (all_uses b.chains)) b.names tb.names)
-      (subst (λ ks. IsPermutation ks (map (name_key (all_uses b.chains)) b.names)) carried
-      (IsPermutation-map (name_key (all_uses b.chains)) (map (carried_name r) a.names) b.names h.names))
-
   pub names_equal : a.names ≡ b.names
-  unfolding keys_a keys_b
-  names_equal =
-      let len : length a.names ≡ length b.names = sym (length-map a.names (name_key (all_uses a.chains))) ∙ ap length keys_same
-      ∙ length-map b.names (name_key (all_uses b.chains)) in
-      let left : map (λ (d : ℕ × Body5). d.0) a.names ≡ map (λ (d : ℕ × Body5). d.0) b.names = ta.feats ∙ ap up_to len ∙ sym tb.feats in
-      let right : map (λ (d : ℕ × Body5). d.1) a.names ≡ map (λ (d : ℕ × Body5). d.1) b.names =
-      sym (map-map (λ (k : NameKey). k.0) (name_key (all_uses a.chains)) a.names)
-      ∙ ap (map (λ (k : NameKey). k.0)) keys_same
-      ∙ map-map (λ (k : NameKey). k.0) (name_key (all_uses b.chains)) b.names in
-      entries_equal a.names b.names left right
+  unfolding f_name
+  names_equal = entries_same name_key_keys f_name (uses_of_name (all_uses a.chains)) (uses_of_name (all_uses b.chains)) a.names b.names
+      uses_kept h.names ta.names tb.names ta.feats tb.feats
 
   -- each FEAT therefore has the same uses in both
   same_uses : (y : ℕ) → Known nat_cmp (feats a) y → uses_of_name (all_uses a.chains) y ≡ uses_of_name (all_uses b.chains) y
-  unfolding keys_a keys_b
-  same_uses y k =
-      let keys : map (name_key (all_uses a.chains)) a.names ≡ map (name_key (all_uses b.chains)) a.names = keys_same
-      ∙ ap (map (name_key (all_uses b.chains))) (sym names_equal) in
-      let each : AllByRecursion (λ d. name_key (all_uses a.chains) d ≡ name_key (all_uses b.chains) d) a.names =
-      map-equal_all (name_key (all_uses a.chains)) (name_key (all_uses b.chains)) a.names keys in
-      let uses : AllByRecursion (λ n. uses_of_name (all_uses a.chains) n ≡ uses_of_name (all_uses b.chains) n) (feats a) =
-      all_map (λ n. uses_of_name (all_uses a.chains) n ≡ uses_of_name (all_uses b.chains) n) (λ (d : ℕ × Body5). d.0) a.names
-      (all_weaker (λ d. name_key (all_uses a.chains) d ≡ name_key (all_uses b.chains) d)
-      (λ d. uses_of_name (all_uses a.chains) d.0 ≡ uses_of_name (all_uses b.chains) d.0)
-      (λ d same. ap (λ (key : NameKey). key.1) same) a.names each) in
-      known_all nat_keys (λ n. uses_of_name (all_uses a.chains) n ≡ uses_of_name (all_uses b.chains) n) (feats a) uses y k
+  unfolding f_name
+  same_uses = parts_same name_key_keys f_name (uses_of_name (all_uses a.chains)) (uses_of_name (all_uses b.chains)) a.names b.names
+      uses_kept h.names ta.names tb.names ta.feats tb.feats
 
   uses_apart : IsApart use_cmp (map (λ u. u.0) (all_uses a.chains))
   uses_apart = apart_from_sorted use_keys (map (λ u. u.0) (all_uses a.chains))

@@ -1,12 +1,11 @@
 -- If a renaming carries one arranged county onto another, keeps each TLID and turns no chain, the nodes and the polygons on sides
 -- have equal numbers: they are numbered by first appearance along the same chains.
-use Rattle.std.proofs.Common.{◌≡◌, ℕ, List, [], ◌∷◌, ◌++◌, map, IsTrue, sym, refl, ap, ap₂, ◌∙◌, subst, inl, inr, nat_cmp, map-id}
-use Rattle.std.proofs.Common.{IsPermutation}
-use Rattle.tl_number.proofs.Common.{AllByRecursion, Among, Carries, Chain, County, Grows, IsApart, IsArranged, IsAscending, IsClosed, Known}
-use Rattle.tl_number.proofs.Common.{PolygonKey, Renumbering, all_among, all_joined, all_known, all_weaker, among-map, apart-distinct}
-use Rattle.tl_number.proofs.Common.{apart-permutation, apart_from_sorted, chain_nodes, chain_polygons, image, key_cmp, key_keys}
-use Rattle.tl_number.proofs.Common.{known-distinct, known-permutation, lefts, ltb-true, map-append, map-map, nat_keys, nodes, nodes_along}
-use Rattle.tl_number.proofs.Common.{polygon_keys, polygons_along, renumbered, rights, stands_in, times, up_to}
+use Rattle.tl_number.proofs.Common.{◌≡◌, ℕ, List, [], ◌∷◌, ◌++◌, map, IsTrue, sym, refl, ap, ap₂, ◌∙◌, subst, inl, inr, nat_cmp, map-id}
+use Rattle.tl_number.proofs.Common.{IsPermutation, AllByRecursion, Among, Carries, Chain, County, Grows, IsApart, IsArranged, IsAscending}
+use Rattle.tl_number.proofs.Common.{IsClosed, Known, PolygonKey, Renumbering, all_among, all_joined, all_known, all_weaker, among-map}
+use Rattle.tl_number.proofs.Common.{apart-distinct, apart-permutation, apart_from_sorted, chain_nodes, chain_polygons, image, key_cmp}
+use Rattle.tl_number.proofs.Common.{key_keys, known-distinct, known-permutation, lefts, ltb-true, map-append, map-map, nat_keys, nodes}
+use Rattle.tl_number.proofs.Common.{nodes_along, polygon_keys, polygons_along, renumbered, rights, stands_in, times, up_to}
 use Rattle.tl_county.proofs.Sameness.Carried.{chain_nodes-renumbered, chain_polygons-renumbered}
 use Rattle.ordered_lists.proofs.ByKey.Keys.{image-injective}
 use Rattle.tl_county.proofs.Sameness.Equivalence.{image-keeps}

@@ -1,7 +1,6 @@
 -- Two lists in the canonical order, packing and numbering are equal if a renaming keeps the choice of TLIDs and directions.
-use Rattle.std.proofs.Common.{◌≡◌, List, sym, ap, ◌∙◌, nat_cmp}
-use Rattle.tl_number.proofs.Common.{Carries, IsArrangedList, Record, Renumbering, county-is_county, county_of, image, known_all, nat_keys}
-use Rattle.tl_number.proofs.Common.{packed, stands_in, tlids}
+use Rattle.tl_number.proofs.Common.{◌≡◌, List, sym, ap, ◌∙◌, nat_cmp, Carries, IsArrangedList, Record, Renumbering, county-is_county}
+use Rattle.tl_number.proofs.Common.{county_of, image, known_all, nat_keys, packed, stands_in, tlids}
 use Rattle.tl_number.specs.Canonical.{KeepsChainNumbers}
 use Rattle.tl_number.proofs.Arrangements.RepackedPolygons.{arranged_list_is_packed}
 use Rattle.tl_number.proofs.Unique.Rigid.{rigid}

@@ -1,9 +1,8 @@
 -- The ends and the sides of chains, numbered in order of appearance.
-use Rattle.std.proofs.Common.{◌≡◌, ◌≤◌, ℕ, zero, suc, List, [], ◌∷◌, ◌++◌, map, flat_map, drop, take, length}
-use Rattle.std.proofs.Common.{Ordering, Option, Some, slice_get, sym, ap, ◌∙◌, arith, ◌+◌}
-use Rattle.std.proofs.Common.{Equal, ◌<◌, ◌^◌, get_or, is_eq, nat_cmp, set}
-use Rattle.tl_number.proofs.Common.{IsKeyOrder, IsTotalOrder, PolygonKey, PolygonSide, changed_both, first_seen_after, key_cmp, key_keys}
-use Rattle.tl_number.proofs.Common.{key_on, key_under, keys_at, map-append, nat_keys, node_among, position, side_of}
+use Rattle.tl_number.proofs.Common.{◌≡◌, ◌≤◌, ℕ, zero, suc, List, [], ◌∷◌, ◌++◌, map, flat_map, drop, take, length, Ordering, Option, Some}
+use Rattle.tl_number.proofs.Common.{slice_get, sym, ap, ◌∙◌, arith, ◌+◌, Equal, ◌<◌, ◌^◌, get_or, is_eq, nat_cmp, set, IsKeyOrder}
+use Rattle.tl_number.proofs.Common.{IsTotalOrder, PolygonKey, PolygonSide, changed_both, first_seen_after, key_cmp, key_keys, key_on}
+use Rattle.tl_number.proofs.Common.{key_under, keys_at, map-append, nat_keys, node_among, position, side_of}
 use Rattle.std.proofs.lemmas.Grind.{drop_more_same}
 use Rattle.std.proofs.lemmas.List.{drop_more, drop-set-lt}
 use Rattle.tl_number.specs.EndsAndSides.{polygon_among, side_among}
@@ -11,7 +10,7 @@ use Rattle.ordered_lists.proofs.Lists.Places.{one_more_taken}
 use Rattle.tl_number.proofs.Records.Grouped.{get_dropped}
 use Rattle.tl_number.proofs.Numbering.SeenLists.{seen_append}
 use Rattle.tl_number.proofs.Numbering.SeenPlaces.{seen_fewer, seen_keeps}
-use Rattle.tl_number.proofs.Views.ViewNumbers.{number_seen, key_seen, seen_within}
+use Rattle.tl_number.proofs.Numbering.NewNumbers.{number_seen, key_seen, seen_within}
 
 -- the element at a place comes before those after it
 next_dropped : {X : Type 0} (xs : List X) (i : ℕ) (x : X) → Some x ≡ slice_get xs i → drop i xs ≡ x ∷ drop (suc i) xs

@@ -1,15 +1,13 @@
 -- Going along the directed chains meets the nodes and the polygons of the arrangement, and gives the ends and the sides under
 -- their numbers.
-use Rattle.std.proofs.Common.{◌≡◌, ◌<◌, ◌^◌, ℕ, List, [], ◌∷◌, map, flat_map, length, Option, Some, None, option_map}
-use Rattle.std.proofs.Common.{Ordering, nat_cmp, sym, refl, ap, ◌∙◌}
-use Rattle.tl_number.proofs.Common.{AreWhole, Arrangement, Chain, County, DirectedChain, IsCounty, PolygonSide, arranged_by, arrangement_of}
-use Rattle.tl_number.proofs.Common.{directed_chain, ends_among, ends_of, entry_values, first_seen, image, key_cmp, map-map, nodes_at}
-use Rattle.tl_number.proofs.Common.{nodes_in_order, numbered_from, placed, polygons_in_order, renumbered, renumbered_polygon}
-use Rattle.tl_number.proofs.Common.{rights-numbered_from, side_of, sides_of}
-use Rattle.tl_number.specs.Arrangement.{renaming_of}
+use Rattle.tl_number.proofs.Common.{◌≡◌, ◌<◌, ◌^◌, ℕ, List, [], ◌∷◌, map, flat_map, length, Option, Some, None, option_map, Ordering}
+use Rattle.tl_number.proofs.Common.{nat_cmp, sym, refl, ap, ◌∙◌, AreWhole, Arrangement, Chain, County, DirectedChain, IsCounty, PolygonSide}
+use Rattle.tl_number.proofs.Common.{arranged_by, arrangement_of, directed_chain, ends_among, ends_of, entry_values, first_seen, image}
+use Rattle.tl_number.proofs.Common.{key_cmp, map-map, nodes_at, nodes_in_order, numbered_from, placed, polygons_in_order, renaming_of}
+use Rattle.tl_number.proofs.Common.{renumbered, renumbered_polygon, rights-numbered_from, side_of, sides_of}
 use Rattle.tl_number.specs.EndsAndSides.{polygon_among, polygons_at, sides_among}
 use Rattle.tl_number.proofs.Polygons.PolygonOrder.{few_polygons}
-use Rattle.tl_number.proofs.Views.DirectedChains.{flat_map-map}
+use Rattle.tl_number.proofs.Lists.Counting.{flat_map-map}
 use Rattle.tl_number.proofs.Views.ViewChains.{bodies_read, chains, values}
 use Rattle.tl_number.proofs.Views.ViewTables.{keys_paired, nodes_paired}
 

@@ -1,11 +1,10 @@
 -- Directed chains that name each chain once turn a county into a county.
-use Rattle.std.proofs.Common.{◌<◌, ◌^◌, length, arith, nat_cmp}
+use Rattle.tl_number.proofs.Common.{◌<◌, ◌^◌, length, arith, nat_cmp, List, AllKeysStandIn, AreWhole, Arrangement, Arranges, County}
+use Rattle.tl_number.proofs.Common.{DirectedChain, HasChainsOf, IsApart, IsCounty, IsWithinLimits, NamesEachOnce, apart-permutation_of}
+use Rattle.tl_number.proofs.Common.{apart_from_sorted, arranged_tlids, arrangement_of, most_records, nat_keys, polygon_keys, polygons_along}
+use Rattle.tl_number.proofs.Common.{tlids}
 use Rattle.tl_number.proofs.Arrangements.ArrangedCounties.{arranged_county}
 use Rattle.tl_number.proofs.Arrangements.ArrangedNumbers.{arrangement_within}
-use Rattle.std.proofs.Common.{List}
-use Rattle.tl_number.proofs.Common.{AllKeysStandIn, AreWhole, Arrangement, Arranges, County, DirectedChain, HasChainsOf, IsApart, IsCounty}
-use Rattle.tl_number.proofs.Common.{IsWithinLimits, NamesEachOnce, apart-permutation_of, apart_from_sorted, arranged_tlids, arrangement_of}
-use Rattle.tl_number.proofs.Common.{most_records, nat_keys, polygon_keys, polygons_along, tlids}
 
 pub arranges_once : (county : County) (order : Arrangement) → IsCounty county → NamesEachOnce county order → Arranges order county
 arranges_once county order is once =

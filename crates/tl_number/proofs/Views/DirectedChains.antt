@@ -1,24 +1,20 @@
 -- The chains of an arrangement given by directed chains are those at their places.
-use Rattle.std.proofs.Common.{◌≡◌, ◌⊎◌, ◌<◌, ◌≤◌, ◌==◌, ℕ, zero, suc, List, [], ◌∷◌, ◌++◌, map, flat_map, length, Option, Some, None}
-use Rattle.std.proofs.Common.{option_map, slice_get, sym, refl, ap, ap₂, ◌∙◌, inl, inr, arith, append-nil, append_assoc}
-use Rattle.tl_number.proofs.Common.{Among, Arrangement, Chain, County, DirectedChain, HasChainsOf, IsCounty, apart_from_sorted}
-use Rattle.tl_number.proofs.Common.{arrangement_of, chain_at, chains_in_order, directed_chain, entries_of, eq-eqb, feats_of, nat_keys}
-use Rattle.tl_number.proofs.Common.{numbered_from, placed, rights-numbered_from, slice_get-map, times-of_number, tlid_at, tlids, to_filter}
-use Rattle.tl_number.proofs.Common.{turned_if}
+use Rattle.tl_number.proofs.Common.{◌≡◌, ◌⊎◌, ◌<◌, ◌≤◌, ◌==◌, ℕ, zero, suc, List, [], ◌∷◌, ◌++◌, map, flat_map, length, Option, Some, None}
+use Rattle.tl_number.proofs.Common.{option_map, slice_get, sym, refl, ap, ap₂, ◌∙◌, inl, inr, arith, append-nil, Among, Arrangement, Chain}
+use Rattle.tl_number.proofs.Common.{County, DirectedChain, HasChainsOf, IsCounty, apart_from_sorted, arrangement_of, chain_at}
+use Rattle.tl_number.proofs.Common.{chains_in_order, directed_chain, entries_of, eq-eqb, feats_of, nat_keys, numbered_from, placed}
+use Rattle.tl_number.proofs.Common.{rights-numbered_from, slice_get-map, times-of_number, tlid_at, tlids, to_filter, turned_if}
 use Rattle.std.proofs.lemmas.Option.{get_or_from_slice_get}
 use Rattle.ordered_lists.proofs.Lists.Elements.{flat_map_agree}
+use Rattle.std.proofs.lemmas.Grind.{flat_map-append}
+use Rattle.tl_number.proofs.Lists.Counting.{flat_map-map}
+use Rattle.tl_number.proofs.Records.ChainPlaces.{some_at}
 
 -- the element at a place is in the list
 pub among-get : {X : Type 0} (xs : List X) (i : ℕ) (x : X) → slice_get xs i ≡ Some x → Among x xs
 among-get [] i x e = cc
 among-get (y ∷ ys) zero x e = let t : x ≡ y = cc in inl t
 among-get (y ∷ ys) (suc i) x e = inr (among-get ys i x e)
-
--- there is an element at each place
-pub at_place : {X : Type 0} (xs : List X) (i : ℕ) → i < length xs → (x : X) × (slice_get xs i ≡ Some x)
-at_place [] i h = absurd (omega (arith, h))
-at_place (x ∷ xs) zero h = (x, refl)
-at_place (x ∷ xs) (suc i) h = at_place xs i (omega (arith, h))
 
 alone : {X : Type 0} (x : X) (xs : List X) → Among x xs → length xs ≤ 1 → xs ≡ x ∷ []
 alone x [] m h = absurd m
@@ -28,15 +24,6 @@ alone x (y ∷ []) m h = go m
     go (inl e) = ap (λ z. z ∷ []) (sym e)
     go (inr n) = absurd n
 alone x (y ∷ z ∷ zs) m h = absurd (omega (arith, h))
-
-pub flat_map-append : {X Y : Type 0} (f : X → List Y) (xs ys : List X) → flat_map f (xs ++ ys) ≡ flat_map f xs ++ flat_map f ys
-flat_map-append f [] ys = refl
-flat_map-append f (x ∷ xs) ys = ap (λ zs. f x ++ zs) (flat_map-append f xs ys) ∙ (let t : f x ++ (flat_map f xs ++ flat_map f ys) ≡
-    (f x ++ flat_map f xs) ++ flat_map f ys = simp append_assoc in t)
-
-pub flat_map-map : {X Y Z : Type 0} (f : Y → List Z) (g : X → Y) (xs : List X) → flat_map f (map g xs) ≡ flat_map (λ x. f (g x)) xs
-flat_map-map f g [] = refl
-flat_map-map f g (x ∷ xs) = ap (λ zs. f (g x) ++ zs) (flat_map-map f g xs)
 
 -- a list read from a chain, or an empty list without a chain
 abbrev of_chain : {X : Type 0} → (Chain → List X) → Option Chain → List X
@@ -49,7 +36,7 @@ module _ (county : County) (is : IsCounty county) where
       → (e : ℕ × Chain) × (slice_get county.chains p ≡ Some e) × (entries_of county.chains (tlid_at county p) ≡ e ∷ []) ×
       (tlid_at county p ≡ e.0)
   one_here p h =
-      let e = at_place county.chains p h in
+      let e = some_at county.chains p h in
       let tlid : tlid_at county p ≡ e.0.0 =
       get_or_from_slice_get (tlids county) p e.0.0 0
       (slice_get-map (λ (d : ℕ × Chain). d.0) county.chains p ∙ ap (option_map (λ (d : ℕ × Chain). d.0)) e.1) in

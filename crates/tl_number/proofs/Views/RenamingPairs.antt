@@ -1,9 +1,8 @@
 -- The pairs of a renaming, one after another.
-use Rattle.std.proofs.Common.{◌≡◌, ◌<◌, ◌+◌, ℕ, suc, List, [], ◌∷◌, filter, filter_map, length, map, cond, zip}
-use Rattle.std.proofs.Common.{Some, slice_get, refl, ap, ap₂, ◌∙◌, arith, Bool, true, false}
-use Rattle.tl_number.proofs.Common.{AreReadAt, Body7, County, DirectedChain, HasChainsOf, arranged_tlids, arrangement_of, cons_option}
-use Rattle.tl_number.proofs.Common.{entry_keys, lands, lands_at, length-map, numbered, numbered_from, range_with_len, slice_get-get_or}
-use Rattle.tl_number.proofs.Common.{tlid_at, tlids, turned_tlids}
+use Rattle.tl_number.proofs.Common.{◌≡◌, ◌<◌, ◌+◌, ℕ, suc, List, [], ◌∷◌, filter, filter_map, length, map, cond, zip, Some, slice_get, refl}
+use Rattle.tl_number.proofs.Common.{ap, ap₂, ◌∙◌, arith, Bool, true, false, AreReadAt, Body7, County, DirectedChain, HasChainsOf}
+use Rattle.tl_number.proofs.Common.{arranged_tlids, arrangement_of, cons_option, entry_keys, lands, lands_at, length-map, numbered}
+use Rattle.tl_number.proofs.Common.{numbered_from, range_with_len, slice_get-get_or, tlid_at, tlids, turned_tlids}
 use Rattle.std.specs.List.{enumerate_from}
 use Rattle.tl_number.proofs.Names.NameOrder.{filter_map_all}
 use Rattle.tl_number.proofs.Polygons.PolygonOrder.{read_mapped}

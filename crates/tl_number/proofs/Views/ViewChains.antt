@@ -1,11 +1,10 @@
 -- The chains of a county in an arrangement, read at the places of its directed chains.
-use Rattle.std.proofs.Common.{◌≡◌, ◌≤◌, ℕ, zero, suc, List, [], ◌∷◌, ◌++◌, map, flat_map, length, Option, Some, None, option_map}
-use Rattle.std.proofs.Common.{slice_get, sym, refl, ap, ◌∙◌, arith, nat_cmp}
-use Rattle.tl_number.proofs.Common.{AreWhole, Arrangement, Arranges, Chain, County, DirectedChain, HasChainsOf, IsApart, IsCounty}
-use Rattle.tl_number.proofs.Common.{Renumbering, apart-permutation_of, apart_from_sorted, arranged_by, arranged_tlids, arrangement_of}
-use Rattle.tl_number.proofs.Common.{chain_at, directed_chain, entries_of, entry_values, length-map, map-map, nat_keys, placed, renumbered}
-use Rattle.tl_number.proofs.Common.{rights-numbered_from, slice_get-map, slice_get_past, tlid_at, tlids, turned_if, up_to}
-use Rattle.tl_number.specs.Arrangement.{renaming_of}
+use Rattle.tl_number.proofs.Common.{◌≡◌, ◌≤◌, ℕ, zero, suc, List, [], ◌∷◌, ◌++◌, map, flat_map, length, Option, Some, None, option_map}
+use Rattle.tl_number.proofs.Common.{slice_get, sym, refl, ap, ◌∙◌, arith, nat_cmp, AreWhole, Arrangement, Arranges, Chain, County}
+use Rattle.tl_number.proofs.Common.{DirectedChain, HasChainsOf, IsApart, IsCounty, Renumbering, apart-permutation_of, apart_from_sorted}
+use Rattle.tl_number.proofs.Common.{arranged_by, arranged_tlids, arrangement_of, chain_at, directed_chain, entries_of, entry_values}
+use Rattle.tl_number.proofs.Common.{length-map, map-map, nat_keys, placed, renaming_of, renumbered, rights-numbered_from, slice_get-map}
+use Rattle.tl_number.proofs.Common.{slice_get_past, tlid_at, tlids, turned_if, up_to}
 use Rattle.tl_number.proofs.Arrangements.Carrying.{chains_arranged, tlids_arranged}
 use Rattle.tl_number.proofs.Unique.SameNumbers.{kept_entry}
 use Rattle.tl_number.proofs.Views.DirectedChains.{one_here}

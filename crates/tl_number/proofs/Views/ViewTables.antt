@@ -1,22 +1,20 @@
 -- Nodes, names, polygons and landmarks of a county in an arrangement, read from its tables.
-use Rattle.std.proofs.Common.{◌≡◌, ℕ, suc, List, [], ◌∷◌, map, length, Option, Some, None, option_map, Less, Equal}
-use Rattle.std.proofs.Common.{Greater, is_gt, false, ◌+◌, ◌-◌, ap₂}
-use Rattle.std.proofs.Common.{Ordering, slice_get, unwrap_or, sym, refl, ap, ◌∙◌, subst, arith, nat_cmp, IsPermutation}
-use Rattle.tl_number.proofs.Common.{AreReadAt, AreWhole, Arrangement, Body5, Body7, County, DirectedChain, Fields8, IsCounty, IsInOrder}
-use Rattle.tl_number.proofs.Common.{PolygonKey, all_weaker, arranged_by, arrangement_of, carried_landmark, carried_name, eight_land}
-use Rattle.tl_number.proofs.Common.{entry_values, feats, in_order-permutation, landmarks_in_order, lands, length-map, link_bounds, link_cmp}
-use Rattle.tl_number.proofs.Common.{link_part, link_part_cmp, links_at, links_up_to, links_with, map-map, names_in_order, nat_keys, nodes}
-use Rattle.tl_number.proofs.Common.{nodes_along, nodes_in_order, numbered, on, ordering_then, polygons_in_order, slice_get-map, under_cenid}
-use Rattle.tl_number.proofs.Common.{up_to}
+use Rattle.tl_number.proofs.Common.{◌≡◌, ℕ, suc, List, [], ◌∷◌, map, length, Option, Some, None, option_map, Less, is_gt, false, ◌+◌, ◌-◌}
+use Rattle.tl_number.proofs.Common.{ap₂, Ordering, slice_get, unwrap_or, sym, ap, ◌∙◌, subst, arith, nat_cmp, IsPermutation, AreReadAt}
+use Rattle.tl_number.proofs.Common.{AreWhole, Arrangement, Body5, Body7, County, DirectedChain, Fields8, IsCounty, IsInOrder, PolygonKey}
+use Rattle.tl_number.proofs.Common.{all_weaker, arranged_by, arrangement_of, carried_landmark, carried_name, eight_land, entry_values}
+use Rattle.tl_number.proofs.Common.{feats, in_order-permutation, landmarks_in_order, lands, length-map, link_bounds, link_cmp, link_part}
+use Rattle.tl_number.proofs.Common.{link_part_cmp, links_at, links_up_to, links_with, map-map, names_in_order, nat_keys, nodes, nodes_along}
+use Rattle.tl_number.proofs.Common.{nodes_in_order, numbered, on, polygons_in_order, renaming_of, slice_get-map, under_cenid, up_to}
 use Rattle.std.proofs.lemmas.List.FromFn.{length-map-range_with_len}
 use Rattle.std.specs.List.Sorted.{IsStrictlySortedBy}
 use Rattle.ordered_lists.proofs.ByKey.Numbers.{distinct-in_order}
-use Rattle.tl_number.specs.Arrangement.{renaming_of}
 use Rattle.tl_number.specs.ViewFacts.{MatchesNames, MatchesLandmarks}
 use Rattle.tl_number.specs.declared.arranged_tables.LandmarkTables.{LandmarkTables}
 use Rattle.tl_number.specs.declared.arranged_tables.NameTables.{NameTables}
 use Rattle.tl_number.proofs.Arrangements.Carrying.{names_arranged, landmarks_arranged, feats_arranged, lands_arranged, paired_nodes, node_rights}
 use Rattle.tl_number.proofs.Arrangements.Carrying.{nodes_renamed, names_renamed, polygons_renamed}
+use Rattle.tl_number.proofs.Lists.Grouping.{in_order-weaker, then-first}
 use Rattle.tl_number.proofs.Lists.Counting.{up_to-strict}
 use Rattle.tl_number.proofs.Views.ViewChains.{arranges, read_there, read_nowhere, read_length}
 
@@ -29,17 +27,7 @@ order_from_strict cmp (k ∷ ks) h =
 
 -- links in order are in the order of their LANDs
 pub by_land : (links : List Fields8) → IsInOrder link_cmp links → IsInOrder (on eight_land nat_cmp) links
-by_land [] h = tt
-by_land (l ∷ ls) h = (
-  all_weaker (λ m. is_gt (link_cmp l m) ≡ false) (λ m. is_gt (nat_cmp l.land m.land) ≡ false) (λ m e. first m (nat_cmp l.land m.land) e)
-      ls h.0,
-  by_land ls h.1,
-)
-  where
-    first : (m : Fields8) (o : Ordering) → is_gt (ordering_then o (link_part_cmp (link_part l) (link_part m))) ≡ false → is_gt o ≡ false
-    first m Less e = refl
-    first m Equal e = refl
-    first m Greater e = e
+by_land = in_order-weaker link_cmp (on eight_land nat_cmp) (λ l m. then-first (nat_cmp l.land m.land) (link_part_cmp (link_part l) (link_part m)))
 
 -- an element read at its old place
 pub read_at : {X : Type 0} (xs ys : List X) (places : List ℕ) → AreReadAt xs places ys → (i p : ℕ) → Some p ≡ slice_get places i

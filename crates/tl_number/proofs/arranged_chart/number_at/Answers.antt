@@ -1,4 +1,4 @@
-use Rattle.std.proofs.Common.{sym}
+use Rattle.tl_number.proofs.Common.{sym}
 use Rattle.tl_number.proofs.Views.ViewNumbers.{get_up_to, none_up_to}
 use Rattle.tl_number.proofs.arranged_chart.number_at.Goals as goal
 

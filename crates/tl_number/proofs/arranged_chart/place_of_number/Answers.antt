@@ -1,4 +1,4 @@
-use Rattle.std.proofs.Common.{◌≡◌, ◌+◌, ◌-◌, Some, sym, ap, ◌∙◌, inl, inr, arith}
+use Rattle.tl_number.proofs.Common.{◌≡◌, ◌+◌, ◌-◌, Some, sym, ap, ◌∙◌, inl, inr, arith}
 use Rattle.tl_number.proofs.Views.ViewNumbers.{get_up_to, known_up_to, unknown_up_to}
 use Rattle.tl_number.proofs.arranged_chart.place_of_number.Goals as goal
 

@@ -1,5 +1,4 @@
-use Rattle.std.proofs.Common.{sym, subst}
-use Rattle.tl_number.proofs.Common.{AreWhole}
+use Rattle.tl_number.proofs.Common.{sym, subst, AreWhole}
 use Rattle.tl_number.specs.ViewFacts.{MatchesNodes, MatchesPolygons, MatchesNames, MatchesLandmarks}
 use Rattle.tl_number.proofs.Views.ArrangedViews.{whole_arrangement}
 use Rattle.tl_number.proofs.Arrangements.PlacesFit.{FitsPlaces, places_fit}

@@ -1,7 +1,6 @@
-use Rattle.std.proofs.Common.{◌≡◌, ◌∙◌, Result, Ok, Err, IfOk, ap, sym, subst}
-use Rattle.tl_number.proofs.Common.{Carries, County, IfOk-weaker, IsCanonCounty, IsLeastChoice, arranged_county}
+use Rattle.tl_number.proofs.Common.{◌≡◌, ◌∙◌, Result, Ok, Err, IfOk, ap, sym, subst, Carries, County, IfOk-weaker, IsCanonCounty}
+use Rattle.tl_number.proofs.Common.{IsLeastChoice, arranged, arranged_county, renaming_of}
 use Rattle.std.specs.Prelude.{MatchResult}
-use Rattle.tl_number.specs.Arrangement.{arranged, renaming_of}
 use Rattle.tl_number.specs.Views.{arrangement_in}
 use Rattle.tl_number.proofs.arranging.canonise.Goals as goal
 

@@ -1,5 +1,4 @@
-use Rattle.std.proofs.Common.{◌≡◌}
-use Rattle.tl_number.proofs.Common.{HasChainsOf, IfOk-weaker, arrangement_of, ascending}
+use Rattle.tl_number.proofs.Common.{◌≡◌, HasChainsOf, IfOk-weaker, arrangement_of, ascending}
 use Rattle.tl_number.proofs.Choices.AscendingArrangement.{arrangement_ascend, arrangement_there}
 use Rattle.tl_number.proofs.ascending_order.ascending_arrangement.Goals as goal
 

@@ -1,5 +1,4 @@
-use Rattle.std.proofs.Common.{subst, sym}
-use Rattle.tl_number.proofs.Common.{IsNumber}
+use Rattle.tl_number.proofs.Common.{subst, sym, IsNumber}
 use Rattle.tl_number.proofs.Lemmas.{chain_there, tlid_of}
 use Rattle.tl_number.proofs.chain_records.chain_tlid.Goals as goal
 

@@ -1,4 +1,4 @@
-use Rattle.std.proofs.Common.{◌≡◌, drop, take}
+use Rattle.tl_number.proofs.Common.{◌≡◌, drop, take}
 use Rattle.tl_number.proofs.chain_records.items_from.Given as goal
 
 -- the items from the first one up to this one

@@ -1,35 +1,23 @@
-use Rattle.std.proofs.Common.{◌<◌, ◌≤◌, ◌+◌, drop, length, sym, ap, ap₂, ◌∙◌, arith}
-use Rattle.tl_number.proofs.Common.{drop_all, ends_cmp, ordering_then, slice_cmp}
-use Rattle.tl_number.proofs.Texts.GroupOrders.{decided}
-use Rattle.tl_number.proofs.Ties.CollectedEnds.{item_dropped}
+use Rattle.tl_number.proofs.Common.{◌≡◌, ◌∙◌, ℕ, Option, Ordering, ap, nat_cmp, refl, rules, YieldsList-from_map, YieldsList-from_slice}
+use Rattle.tl_number.proofs.Common.{ordering_then, unwrap_or}
+use Rattle.std.proofs.lemmas.Iterator.Search.{cmp_from_yields_List}
+use Rattle.std.specs.Iterator.Adapters.{map_callee}
+use Rattle.tl_number.proofs.Landmarks.LandmarkOrder.{cmp_mapped}
 use Rattle.tl_number.proofs.critical_places.compare_critical.Goals as goal
 
-pub returns-in_default : goal.returns-in_default
-returns-in_default c =
-    let i = c.loop-place.place in
-    let first : i < length c.args.one.now = omega (arith, c.loop-place-test.true) in
-    let second : i < length c.args.other.now = omega (arith, first, c.requires) in
-    sym (c.loop-place.invariant
-    ∙ ap₂ (slice_cmp ends_cmp) (item_dropped c.args.one.now i c.index-one-place.result first c.index-one-place.is)
-    (item_dropped c.args.other.now i c.index-other-place.result second c.index-other-place.is)
-    ∙ ap (λ o. ordering_then o (slice_cmp ends_cmp (drop (i + 1) c.args.one.now) (drop (i + 1) c.args.other.now))) (sym c.compare_ends.ensures)
-    ∙ decided c.compare_ends.result _ c.in_default.not-Equal)
+abbrev numbers : Option ℕ × Option ℕ → ℕ × ℕ
+numbers ends = (unwrap_or ends.0 0, unwrap_or ends.1 0)
 
-pub loop-place-preserved : goal.loop-place-preserved
-loop-place-preserved c =
-    let i = c.loop-place.place in
-    let first : i < length c.args.one.now = omega (arith, c.loop-place-test.true) in
-    let second : i < length c.args.other.now = omega (arith, first, c.requires) in
-    c.loop-place.invariant
-    ∙ ap₂ (slice_cmp ends_cmp) (item_dropped c.args.one.now i c.index-one-place.result first c.index-one-place.is)
-    (item_dropped c.args.other.now i c.index-other-place.result second c.index-other-place.is)
-    ∙ ap (λ o. ordering_then o (slice_cmp ends_cmp (drop (i + 1) c.args.one.now) (drop (i + 1) c.args.other.now)))
-    (sym c.compare_ends.ensures ∙ c.in-Equal.is)
+abbrev numbers_cmp : ℕ × ℕ → ℕ × ℕ → Ordering
+numbers_cmp p q = ordering_then (nat_cmp p.0 q.0) (nat_cmp p.1 q.1)
 
 pub returns : goal.returns
 returns c =
-    let i = c.loop-place.place in
-    let first : length c.args.one.now ≤ i = omega (arith, c.loop-place-test.false) in
-    let second : length c.args.other.now ≤ i = omega (arith, first, c.requires) in
-    sym (c.loop-place.invariant
-    ∙ ap₂ (slice_cmp ends_cmp) (drop_all i c.args.one.now first) (drop_all i c.args.other.now second))
+    let xs = c.args.one.now in
+    let ys = c.args.other.now in
+    cmp_from_yields_List (λ x y. y ≡ x) _ numbers_cmp _ c.cmp.ensures.ran
+    (YieldsList-from_map _ numbers (YieldsList-from_slice xs (cc)) c.map.ensures.closure (λ x r q k. search rules))
+    (λ it e. YieldsList-from_map _ numbers (YieldsList-from_slice ys (cc)) (ap map_callee e ∙ c.map-others.ensures.closure)
+    (λ x r q k. search rules))
+    (λ x y. refl)
+    ∙ cmp_mapped numbers numbers_cmp xs ys

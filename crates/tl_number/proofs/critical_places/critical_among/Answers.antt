@@ -1,5 +1,4 @@
-use Rattle.std.proofs.Common.{◌≡◌, ◌<◌, ◌≤◌, ◌+◌, ◌++◌, suc, drop, length, sym, ap, ◌∙◌, arith, append-nil}
-use Rattle.tl_number.proofs.Common.{critical_from, drop_all}
+use Rattle.tl_number.proofs.Common.{◌≡◌, ◌<◌, ◌+◌, ◌++◌, suc, drop, length, sym, ap, ◌∙◌, arith, critical_from}
 use Rattle.tl_number.proofs.Ties.CollectedEnds.{item_dropped}
 use Rattle.tl_number.proofs.critical_places.critical_among.Goals as goal
 
@@ -13,13 +12,4 @@ loop-place-preserved c =
     ap (λ j. c.push_critical.new.critical.items ++ all c.push_critical.new.met j (drop (i + 1) ends)) (sym next)
     ∙ c.in_ok-push_critical.ensures (drop (i + 1) ends)
     ∙ ap (λ l. c.loop-place.critical.items ++ all c.loop-place.met i l) (sym (item_dropped ends i c.index-ends-place.result within c.index-ends-place.is))
-    ∙ c.loop-place.invariant
-
-pub returns : goal.returns
-returns c =
-    let i = c.loop-place.place in
-    let ends = c.args.ends.now in
-    let past : length ends ≤ i = omega (arith, c.loop-place-test.false) in
-    sym (append-nil c.loop-place.critical.items)
-    ∙ ap (λ l. c.loop-place.critical.items ++ critical_from c.args.nodes.now c.args.places.now c.loop-place.met i l) (sym (drop_all i ends past))
     ∙ c.loop-place.invariant

@@ -1,6 +1,5 @@
 -- the critical ends so far, and then those of the rest, are all
-use Rattle.std.proofs.Common.{◌≡◌, ◌++◌, [], drop}
-use Rattle.tl_number.proofs.Common.{critical_from}
+use Rattle.tl_number.proofs.Common.{◌≡◌, ◌++◌, [], drop, critical_from}
 use Rattle.tl_number.proofs.critical_places.critical_among.Given as goal
 
 abbrev pub invariant-loop-place : goal.invariant-loop-place

@@ -1,5 +1,4 @@
-use Rattle.std.proofs.Common.{◌≡◌, ◌∙◌, [], ap, ap₂, subst}
-use Rattle.tl_number.proofs.Common.{critical_from, ends_along}
+use Rattle.tl_number.proofs.Common.{◌≡◌, ◌∙◌, [], ap, ap₂, subst, critical_from, ends_along}
 use Rattle.tl_number.specs.CriticalPlaces.{HasOpenNodes}
 use Rattle.tl_number.proofs.Ties.CollectedEnds.{ends_read_along}
 use Rattle.tl_number.proofs.critical_places.critical_ends.Goals as goal

@@ -1,10 +1,7 @@
-use Rattle.std.proofs.Common.{◌<◌, length, arith}
+use Rattle.tl_number.proofs.Common.{◌<◌, length, arith}
 use Rattle.std.proofs.lemmas.Option.{slice_get_within}
 use Rattle.tl_number.proofs.Ties.CollectedEnds.{item_there, one_more_open}
 use Rattle.tl_number.proofs.critical_places.open_nodes.Goals as goal
-
-pub loop-place-init : goal.loop-place-init
-loop-place-init c = λ place pair l. absurd (omega (arith, l))
 
 pub loop-place-preserved : goal.loop-place-preserved
 loop-place-preserved c =
@@ -16,4 +13,4 @@ loop-place-preserved c =
 pub returns : goal.returns
 returns c = λ place pair e there.
     let within = slice_get_within c.args.ends.now place pair there in
-    c.loop-place.invariant place pair (omega (arith, within, c.loop-place-test.false)) e there
+    c.loop-place.invariant place (omega (arith, within, c.loop-place-test.false)) pair e there

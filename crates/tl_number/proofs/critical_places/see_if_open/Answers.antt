@@ -1,12 +1,6 @@
-use Rattle.std.proofs.Common.{◌≡◌, ◌∙◌, false, sym, subst, IsTrue, nat_cmp, rules}
-use Rattle.tl_number.proofs.Common.{HasNodes, false≢true, nodes_at, stands_in}
+use Rattle.tl_number.proofs.Common.{sym, subst, IsTrue, nat_cmp, HasNodes, nodes_at, stands_in}
 use Rattle.tl_number.proofs.Ties.CollectedEnds.{both_seen_now, still_seen}
 use Rattle.tl_number.proofs.critical_places.see_if_open.Goals as goal
-
-pub returns-then-not-opened-clause-seen : goal.returns-then-not-opened-clause-seen
-returns-then-not-opened-clause-seen c = λ e.
-    let closed : c.is_open_at-opened.result ≡ false = search rules in
-    absurd (false≢true (sym closed ∙ c.is_open_at-opened.ensures ∙ e))
 
 pub returns-clause-grown : goal.returns-clause-grown
 returns-clause-grown c = λ node h.

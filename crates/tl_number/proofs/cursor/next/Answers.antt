@@ -1,4 +1,4 @@
-use Rattle.std.proofs.Common.{◌∙◌, ◌+◌, ◌∷◌, sym, ap, arith}
+use Rattle.tl_number.proofs.Common.{◌∙◌, ◌+◌, ◌∷◌, sym, ap, arith}
 use Rattle.tl_number.proofs.Records.GroupRests.{rest_before, rest_goes_on, rest_none, rest_passed}
 use Rattle.tl_number.proofs.cursor.next.Goals as goal
 

@@ -1,5 +1,4 @@
-use Rattle.std.proofs.Common.{◌≡◌, ◌-◌}
-use Rattle.tl_number.proofs.Common.{rest_of}
+use Rattle.tl_number.proofs.Common.{◌≡◌, ◌-◌, rest_of}
 use Rattle.tl_number.proofs.cursor.next.Given as goal
 
 -- the rest is the same as at the beginning of the call

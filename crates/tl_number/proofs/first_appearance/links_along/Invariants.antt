@@ -1,5 +1,4 @@
-use Rattle.std.proofs.Common.{◌≡◌, Some, map, option_map, take}
-use Rattle.tl_number.proofs.Common.{directed_chain, ends_of, sides_of}
+use Rattle.tl_number.proofs.Common.{◌≡◌, Some, map, option_map, take, directed_chain, ends_of, sides_of}
 use Rattle.tl_number.proofs.first_appearance.links_along.Given as goal
 
 abbrev pub invariant-loop-directed : goal.invariant-loop-directed

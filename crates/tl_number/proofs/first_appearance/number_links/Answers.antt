@@ -1,4 +1,4 @@
-use Rattle.std.proofs.Common.{◌∙◌}
+use Rattle.tl_number.proofs.Common.{◌∙◌}
 use Rattle.tl_number.proofs.Views.ArrangedTables.{ends_met, few_met, nodes_met, polygons_met, sides_met}
 use Rattle.tl_number.proofs.first_appearance.number_links.Goals as goal
 

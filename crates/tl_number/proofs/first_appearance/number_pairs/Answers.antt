@@ -1,5 +1,4 @@
-use Rattle.std.proofs.Common.{◌≡◌, ◌∙◌, flat_map, length, map, ap, arith}
-use Rattle.tl_number.proofs.Common.{changed_both, first_seen, keys_at, take-append_seam}
+use Rattle.tl_number.proofs.Common.{◌≡◌, ◌∙◌, flat_map, length, map, ap, arith, changed_both, first_seen, keys_at, take-append_seam}
 use Rattle.tl_number.proofs.first_appearance.number_pairs.Goals as goal
 
 pub returns-clause-pairs : goal.returns-clause-pairs

@@ -1,4 +1,4 @@
-use Rattle.std.proofs.Common.{◌<◌, ◌∙◌, length, arith}
+use Rattle.tl_number.proofs.Common.{◌<◌, ◌∙◌, length, arith}
 use Rattle.std.proofs.lemmas.List.{take_more_set}
 use Rattle.tl_number.proofs.Views.ArrangedPairs.{first_few, left_later, pair_numbered, pair_seen, second_few}
 use Rattle.tl_number.proofs.first_appearance.see_pairs.Goals as goal

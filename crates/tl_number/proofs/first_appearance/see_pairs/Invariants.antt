@@ -1,7 +1,6 @@
 -- The keys seen so far and those of the remaining pairs together are the keys of all pairs. The pairs so far have their final numbers,
 -- and the remaining ones are unchanged.
-use Rattle.std.proofs.Common.{◌≡◌, drop, flat_map, map, take}
-use Rattle.tl_number.proofs.Common.{changed_both, first_seen, first_seen_after, keys_at}
+use Rattle.tl_number.proofs.Common.{◌≡◌, drop, flat_map, map, take, changed_both, first_seen, first_seen_after, keys_at}
 use Rattle.tl_number.proofs.first_appearance.see_pairs.Given as goal
 
 abbrev pub invariant-loop-pair : goal.invariant-loop-pair

@@ -1,5 +1,4 @@
-use Rattle.std.proofs.Common.{◌≡◌, length, map}
-use Rattle.tl_number.proofs.Common.{groups_cmp, records_cmp, rest_of}
+use Rattle.tl_number.proofs.Common.{◌≡◌, length, map, groups_cmp, records_cmp, rest_of}
 use Rattle.tl_number.proofs.group_order.compare_groups.Given as goal
 
 -- the rest decides

@@ -1,4 +1,4 @@
-use Rattle.std.proofs.Common.{ap}
+use Rattle.tl_number.proofs.Common.{ap}
 use Rattle.tl_number.proofs.Texts.GroupOrders.{same_spelling}
 use Rattle.tl_number.proofs.group_order.compare_records.Goals as goal
 

@@ -1,5 +1,4 @@
-use Rattle.std.proofs.Common.{◌≡◌, ◌<◌, ◌∙◌, length, take, sym, subst, refl, arith}
-use Rattle.tl_number.proofs.Common.{AreHeads, length-take}
+use Rattle.tl_number.proofs.Common.{◌≡◌, ◌<◌, ◌∙◌, length, take, sym, subst, refl, arith, AreHeads, length-take}
 use Rattle.std.proofs.lemmas.List.{length-set, take_more_set}
 use Rattle.tl_number.proofs.Records.ReadHeads.{no_heads, one_more_head}
 use Rattle.tl_number.proofs.groups.read_heads.Goals as goal

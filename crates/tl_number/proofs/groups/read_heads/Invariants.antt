@@ -1,5 +1,4 @@
-use Rattle.std.proofs.Common.{◌≡◌, length, take}
-use Rattle.tl_number.proofs.Common.{AreHeads}
+use Rattle.tl_number.proofs.Common.{◌≡◌, length, take, AreHeads}
 use Rattle.tl_number.proofs.groups.read_heads.Given as goal
 
 -- the heads up to this one were read

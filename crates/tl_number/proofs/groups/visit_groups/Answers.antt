@@ -1,16 +1,7 @@
-use Rattle.std.proofs.Common.{◌∙◌, Ok, Err, map, take, drop, subst, sym, refl, arith}
-use Rattle.tl_number.proofs.Common.{err_from_is_err_and, grouped, length-take, take_all}
+use Rattle.tl_number.proofs.Common.{◌∙◌, Ok, Err, map, take, drop, subst, sym, arith, err_from_is_err_and, grouped, length-take}
 use Rattle.tl_number.proofs.Lemmas.{second_stops}
 use Rattle.tl_number.proofs.Records.GivenGroups.{around_groups, with_groups}
 use Rattle.tl_number.proofs.groups.visit_groups.Goals as goal
-
-pub loop-first-init : goal.loop-first-init
-loop-first-init g c = record {
-  buffer = refl;
-  within = omega arith;
-  taken = g.met.T.RecordVisitor.none c.args.visitor.now c.args.device.now;
-  ready = c.requires.ready;
-}
 
 pub returns-in_err-visit_headed-clause-given : goal.returns-in_err-visit_headed-clause-given
 returns-in_err-visit_headed-clause-given g c =
@@ -49,14 +40,3 @@ loop-first-preserved g c =
           c.in_ok-visit_headed.ensures.given));
       ready = c.in_ok-visit_headed.ensures.ready;
     }
-
-pub returns-clause-given : goal.returns-clause-given
-returns-clause-given g c =
-    let f = g.G.Item.Tabled.as_record in
-    let gs = g.G.RecordGroups.groups c.args.groups.now in
-    subst (λ hs. g.T.RecordVisitor.Takes (map f (grouped hs))
-    c.args.visitor.now c.args.device.now (Ok tt) c.loop-first.visitor c.loop-first.device)
-    (take_all c.loop-first.first gs (omega (arith, c.count-count.ensures, c.loop-first-test.false))) c.loop-first.invariant.taken
-
-pub returns-clause-ready : goal.returns-clause-ready
-returns-clause-ready g c = c.loop-first.invariant.ready

@@ -1,5 +1,4 @@
-use Rattle.std.proofs.Common.{◌≡◌, ◌≤◌, ◌-◌, length, map, take, Ok}
-use Rattle.tl_number.proofs.Common.{grouped}
+use Rattle.tl_number.proofs.Common.{◌≡◌, ◌≤◌, ◌-◌, length, map, take, Ok, grouped}
 use Rattle.tl_number.proofs.groups.visit_groups.Given as goal
 
 -- the records of the groups before `first` were taken

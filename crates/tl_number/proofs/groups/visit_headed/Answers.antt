@@ -1,18 +1,9 @@
-use Rattle.std.proofs.Common.{◌+◌, Ok, length, map, take, drop, suc, subst, sym, refl, arith}
-use Rattle.tl_number.proofs.Common.{err_from_is_err_and, group_at, grouped, slice_get_read, take_all}
+use Rattle.tl_number.proofs.Common.{◌+◌, Ok, length, map, take, drop, suc, subst, sym, arith, err_from_is_err_and, group_at, grouped}
+use Rattle.tl_number.proofs.Common.{take_all}
 use Rattle.tl_number.proofs.Lemmas.{second_stops}
 use Rattle.tl_number.proofs.Records.GivenGroups.{around_group, with_group}
 use Rattle.tl_number.proofs.Records.Grouped.{length_headed}
 use Rattle.tl_number.proofs.groups.visit_headed.Goals as goal
-
-pub loop-ahead-init : goal.loop-ahead-init
-loop-ahead-init g c = record {
-  taken = g.met.T.RecordVisitor.none c.args.visitor.now c.args.device.now;
-  ready = c.requires.ready;
-}
-
-pub visit_whole_group-requires-clause-ready : goal.visit_whole_group-requires-clause-ready
-visit_whole_group-requires-clause-ready g c = c.loop-ahead.invariant.ready
 
 pub returns-in_err-visit_whole_group-clause-given : goal.returns-in_err-visit_whole_group-clause-given
 returns-in_err-visit_whole_group-clause-given g c =
@@ -52,12 +43,3 @@ returns-clause-given g c =
     c.args.visitor.now c.args.device.now (Ok tt) c.loop-ahead.visitor c.loop-ahead.device)
     (take_all c.loop-ahead.ahead gs
     (omega (arith, length_headed all_groups c.args.first count c.requires.within, c.loop-ahead-test.false))) c.loop-ahead.invariant.taken
-
-pub returns-clause-ready : goal.returns-clause-ready
-returns-clause-ready g c = c.loop-ahead.invariant.ready
-
-pub visit_whole_group-requires-clause-head : goal.visit_whole_group-requires-clause-head
-visit_whole_group-requires-clause-head g c =
-    c.requires.heads c.loop-ahead.ahead c.index-heads-ahead.result
-    (slice_get_read c.args.heads.now (length c.args.heads.now) c.loop-ahead.ahead c.index-heads-ahead.result refl c.loop-ahead-test.true
-    c.index-heads-ahead.is)

@@ -1,5 +1,4 @@
-use Rattle.std.proofs.Common.{drop, length, map, take, Ok}
-use Rattle.tl_number.proofs.Common.{grouped}
+use Rattle.tl_number.proofs.Common.{drop, length, map, take, Ok, grouped}
 use Rattle.tl_number.proofs.groups.visit_headed.Given as goal
 
 -- the records of the first `ahead` groups were taken

@@ -1,18 +1,10 @@
-use Rattle.std.proofs.Common.{◌≡◌, ◌+◌, ◌++◌, ◌∷◌, ◌∙◌, [], Ok, Err, map, take, drop, suc, subst, sym, ap, arith, add-one}
-use Rattle.tl_number.proofs.Common.{err_from_is_err_and, group_at, take_all}
+use Rattle.tl_number.proofs.Common.{◌≡◌, ◌+◌, ◌++◌, ◌∷◌, ◌∙◌, [], Ok, map, take, drop, suc, subst, sym, ap, arith, add-one}
+use Rattle.tl_number.proofs.Common.{err_from_is_err_and, group_at}
+use Rattle.tl_number.proofs.Lemmas.{second_stops}
 use Rattle.ordered_lists.proofs.Lists.Places.{next_taken}
 use Rattle.tl_number.proofs.Records.ChainPlaces.{some_at}
 use Rattle.tl_number.proofs.Records.Grouped.{map-append, parted}
 use Rattle.tl_number.proofs.groups.visit_whole_group.Goals as goal
-
-pub loop-place-init : goal.loop-place-init
-loop-place-init g c = record {
-  taken = g.met.T.RecordVisitor.none c.args.visitor.now c.args.device.now;
-  ready = c.requires.ready;
-}
-
-pub visit_group-requires-clause-ready : goal.visit_group-requires-clause-ready
-visit_group-requires-clause-ready g c = c.loop-place.invariant.ready
 
 pub returns-in_err-visit_group-clause-given : goal.returns-in_err-visit_group-clause-given
 returns-in_err-visit_group-clause-given g c =
@@ -26,11 +18,8 @@ returns-in_err-visit_group-clause-given g c =
     ap (map f) (parted xs i x (sym found.1)) ∙ map-append f (take i xs) (x ∷ drop (suc i) xs) in
     subst (λ rs. g.T.RecordVisitor.Takes rs c.args.visitor.now c.args.device.now c.from_residual.result c.visit_group.new.self c.visit_group.new.device)
     (sym all)
-    (rw (p.1, p.2) (g.met.T.RecordVisitor.then (map f (take i xs)) ((f x ∷ []) ++ map f (drop (suc i) xs)) c.args.visitor.now c.loop-place.visitor
-    c.visit_group.new.self
-    c.args.device.now c.loop-place.device c.visit_group.new.device (Err c.in_err-visit_group.field-0.0) c.loop-place.invariant.taken
-    (g.met.T.RecordVisitor.stops (f x ∷ []) (map f (drop (suc i) xs)) c.loop-place.visitor c.visit_group.new.self c.loop-place.device c.visit_group.new.device
-    c.in_err-visit_group.field-0.0 (c.in_err-visit_group.ensures.takes x found.1))))
+    (rw (p.1, p.2) (second_stops g.T.RecordVisitor.Takes g.met.T.RecordVisitor.then g.met.T.RecordVisitor.stops (map f (take i xs)) (f x ∷ [])
+    (map f (drop (suc i) xs)) c.loop-place.invariant.taken (c.in_err-visit_group.ensures.takes x found.1)))
 
 pub loop-place-preserved : goal.loop-place-preserved
 loop-place-preserved g c =
@@ -47,13 +36,3 @@ loop-place-preserved g c =
           c.args.device.now c.loop-place.device c.visit_group.new.device (Ok tt) c.loop-place.invariant.taken (c.in_ok-visit_group.ensures.takes x found.1));
       ready = c.in_ok-visit_group.ensures.ready;
     }
-
-pub returns-clause-given : goal.returns-clause-given
-returns-clause-given g c =
-    let f = g.G.Item.Tabled.as_record in
-    let xs = group_at (g.G.RecordGroups.groups c.args.groups.now) c.args.group in
-    subst (λ ys. g.T.RecordVisitor.Takes (map f ys) c.args.visitor.now c.args.device.now (Ok tt) c.loop-place.visitor c.loop-place.device)
-    (take_all c.loop-place.place xs (omega (arith, c.count_in-place-end.ensures, c.loop-place-test.false))) c.loop-place.invariant.taken
-
-pub returns-clause-ready : goal.returns-clause-ready
-returns-clause-ready g c = c.loop-place.invariant.ready

@@ -1,5 +1,4 @@
-use Rattle.std.proofs.Common.{map, take, Ok}
-use Rattle.tl_number.proofs.Common.{group_at}
+use Rattle.tl_number.proofs.Common.{map, take, Ok, group_at}
 use Rattle.tl_number.proofs.groups.visit_whole_group.Given as goal
 
 -- the records up to the place were taken

@@ -1,5 +1,4 @@
-use Rattle.std.proofs.Common.{◌∷◌, [], ◌++◌, sym, ap₂, ◌∙◌, subst, arith, is_gt, nat_cmp}
-use Rattle.tl_number.proofs.Common.{IsInOrder, eight_land, links_up_to, on}
+use Rattle.tl_number.proofs.Common.{◌∷◌, [], ◌++◌, sym, ap₂, ◌∙◌, subst, arith, is_gt, nat_cmp, IsInOrder, eight_land, links_up_to, on}
 use Rattle.std.proofs.lemmas.List.FromFn.{map-range_with_len_more}
 use Rattle.ordered_lists.proofs.ByKey.KeyedLists.{in_order-filter}
 use Rattle.tl_number.proofs.Landmarks.LandmarkLinks.{fewer_later, bound_stated, later_next}

@@ -1,5 +1,4 @@
-use Rattle.std.proofs.Common.{◌≡◌, ◌≤◌, ℕ, map, filter, is_gt, nat_cmp}
-use Rattle.tl_number.proofs.Common.{IsInOrder, eight_land, links_up_to, on, range_with_len}
+use Rattle.tl_number.proofs.Common.{◌≡◌, ◌≤◌, ℕ, map, filter, is_gt, nat_cmp, IsInOrder, eight_land, links_up_to, on, range_with_len}
 use Rattle.tl_number.proofs.landmark_links.bounds_of.Given as goal
 
 abbrev pub invariant-loop-land : goal.invariant-loop-land

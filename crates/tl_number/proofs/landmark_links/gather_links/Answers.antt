@@ -1,5 +1,4 @@
-use Rattle.std.proofs.Common.{◌++◌, map, ap, ◌∙◌}
-use Rattle.tl_number.proofs.Common.{link_under, links_at}
+use Rattle.tl_number.proofs.Common.{◌++◌, map, ap, ◌∙◌, link_under, links_at}
 use Rattle.tl_number.proofs.Landmarks.LandmarkLinks.{pieces_next}
 use Rattle.tl_number.proofs.landmark_links.gather_links.Goals as goal
 

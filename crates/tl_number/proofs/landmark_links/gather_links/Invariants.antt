@@ -1,5 +1,4 @@
-use Rattle.std.proofs.Common.{◌≡◌, map, flat_map}
-use Rattle.tl_number.proofs.Common.{link_under, links_at, range_with_len}
+use Rattle.tl_number.proofs.Common.{◌≡◌, map, flat_map, link_under, links_at, range_with_len}
 use Rattle.tl_number.proofs.landmark_links.gather_links.Given as goal
 
 abbrev pub invariant-loop-place : goal.invariant-loop-place

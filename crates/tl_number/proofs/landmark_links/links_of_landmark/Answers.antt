@@ -1,4 +1,4 @@
-use Rattle.std.proofs.Common.{◌+◌, ◌-◌, get_or, take, ap, ◌∙◌, arith}
+use Rattle.tl_number.proofs.Common.{◌+◌, ◌-◌, get_or, take, ap, ◌∙◌, arith}
 use Rattle.tl_number.proofs.Landmarks.LinkSlices.{bounds_rise, bounds_within, slice_stated}
 use Rattle.tl_number.proofs.landmark_links.links_of_landmark.Goals as goal
 

@@ -1,5 +1,4 @@
-use Rattle.std.proofs.Common.{subst, IsPermutation}
-use Rattle.tl_number.proofs.Common.{link_under}
+use Rattle.tl_number.proofs.Common.{subst, IsPermutation, link_under}
 use Rattle.tl_number.proofs.Landmarks.LandmarkLinks.{links_sorted}
 use Rattle.tl_number.proofs.landmark_links.links_under.Goals as goal
 

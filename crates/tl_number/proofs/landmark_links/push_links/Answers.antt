@@ -1,6 +1,6 @@
-use Rattle.std.proofs.Common.{◌≡◌, ◌++◌, OnOk, arith, length, map, rules, slice_get, subst, tests}
-use Rattle.tl_number.proofs.Common.{YieldsList-at, YieldsList-from_filter_map, YieldsList-from_map, YieldsList-from_range, link_under}
-use Rattle.tl_number.proofs.Common.{links_at, range_with_len}
+use Rattle.tl_number.proofs.Common.{◌≡◌, ◌++◌, OnOk, arith, length, map, rules, slice_get, subst, tests, YieldsList-at}
+use Rattle.tl_number.proofs.Common.{YieldsList-from_filter_map, YieldsList-from_map, YieldsList-from_range, link_under, links_at}
+use Rattle.tl_number.proofs.Common.{range_with_len}
 use Rattle.std.proofs.lemmas.Iterator.Adapters.{items_from_extend}
 use Rattle.tl_number.proofs.Landmarks.LandmarkLinks.{listed}
 use Rattle.tl_number.proofs.Names.NameOrder.{filter_map_all}

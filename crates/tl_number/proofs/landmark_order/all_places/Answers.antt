@@ -1,5 +1,4 @@
-use Rattle.std.proofs.Common.{arith, length}
-use Rattle.tl_number.proofs.Common.{YieldsList-from_range, items_from_collect}
+use Rattle.tl_number.proofs.Common.{arith, length, YieldsList-from_range, items_from_collect}
 use Rattle.tl_number.proofs.landmark_order.all_places.Goals as goal
 
 pub returns : goal.returns

@@ -1,5 +1,5 @@
-use Rattle.std.proofs.Common.{◌≡◌, length, nat_cmp, false, refl, sym, ap, ap₂, ◌∙◌, subst, arith}
-use Rattle.tl_number.proofs.Common.{arranged_by, has_repeat, lands, lands_at, link_bounds, numbered_links}
+use Rattle.tl_number.proofs.Common.{◌≡◌, length, nat_cmp, false, refl, sym, ap, ap₂, ◌∙◌, subst, arith, arranged_by, has_repeat, lands}
+use Rattle.tl_number.proofs.Common.{lands_at, link_bounds, numbered_links}
 use Rattle.tl_number.proofs.Landmarks.LandmarkOrder.{landmarks_stated, lands_once, places_counted, new_links}
 use Rattle.tl_number.proofs.landmark_order.arrange_landmarks.Goals as goal
 

@@ -1,5 +1,4 @@
-use Rattle.std.proofs.Common.{◌≡◌, drop}
-use Rattle.tl_number.proofs.Common.{bodies_at, landmark_body_cmp, slice_cmp}
+use Rattle.tl_number.proofs.Common.{◌≡◌, drop, bodies_at, landmark_body_cmp, slice_cmp}
 use Rattle.tl_number.proofs.landmark_order.cmp_bodies.Given as goal
 
 abbrev pub invariant-loop-body : goal.invariant-loop-body

@@ -1,5 +1,5 @@
-use Rattle.std.proofs.Common.{◌≡◌, ◌∙◌, ℕ, List, Ordering, ap, nat_cmp, refl, rules, sym}
-use Rattle.tl_number.proofs.Common.{Fields8, YieldsList-from_map, YieldsList-from_slice, link_part, link_part_cmp, ordering_then, slice_cmp}
+use Rattle.tl_number.proofs.Common.{◌≡◌, ◌∙◌, ℕ, List, Ordering, ap, nat_cmp, refl, rules, sym, Fields8, YieldsList-from_map}
+use Rattle.tl_number.proofs.Common.{YieldsList-from_slice, link_part, link_part_cmp, ordering_then, slice_cmp}
 use Rattle.std.proofs.lemmas.Iterator.Search.{cmp_from_yields_List}
 use Rattle.std.specs.Iterator.Adapters.{map_callee}
 use Rattle.tl_number.proofs.Landmarks.LandmarkOrder.{cmp_mapped}

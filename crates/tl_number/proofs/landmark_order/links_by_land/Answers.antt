@@ -1,5 +1,4 @@
-use Rattle.std.proofs.Common.{length, nat_cmp, sym, ap, ◌∙◌, subst, slice_get, arith}
-use Rattle.tl_number.proofs.Common.{IsInOrder, eight_land, lands, link_bounds, numbered_links, on}
+use Rattle.tl_number.proofs.Common.{length, nat_cmp, sym, ap, ◌∙◌, subst, slice_get, arith, IsInOrder, eight_land, lands, on}
 use Rattle.tl_number.proofs.Landmarks.LandmarkOrder.{few_lands, numbered_by_land}
 use Rattle.tl_number.proofs.landmark_order.links_by_land.Goals as goal
 
@@ -14,10 +13,3 @@ pub bounds_of-requires-clause-in_order : goal.bounds_of-requires-clause-in_order
 bounds_of-requires-clause-in_order g c =
     subst (IsInOrder (on eight_land nat_cmp)) (sym (c.deref.ensures.value ∙ c.in_ok-links.ensures))
     (numbered_by_land (g.C.Chart.county c.args.chart.now) c.args.polygons.now c.in_ok-lands.lands)
-
-pub returns-clause-links : goal.returns-clause-links
-returns-clause-links g c = c.in_ok-links.ensures
-    ∙ ap (numbered_links (g.C.Chart.county c.args.chart.now) c.args.polygons.now) c.in_ok-lands.ensures
-
-pub returns-clause-bounds : goal.returns-clause-bounds
-returns-clause-bounds g c = c.in_ok-bounds.ensures ∙ ap (λ links. link_bounds links (length c.args.places.now)) c.deref.ensures.value

@@ -1,6 +1,6 @@
-use Rattle.std.proofs.Common.{◌≡◌, ◌+◌, ◌-◌, ℕ, List, length, nat_cmp, false, sym, ap, ◌∙◌, subst, arith}
-use Rattle.tl_number.proofs.Common.{County, Fields8, IfOk-weaker, IsInOrder, PolygonKey, eight_land, has_repeat, landmark_place_cmp, lands}
-use Rattle.tl_number.proofs.Common.{lands_at, length-range_with_len, link_bounds, links_up_to, numbered_links, on, range_with_len}
+use Rattle.tl_number.proofs.Common.{◌≡◌, ◌+◌, ◌-◌, ℕ, List, length, nat_cmp, false, sym, ap, ◌∙◌, subst, arith, County, Fields8}
+use Rattle.tl_number.proofs.Common.{IfOk-weaker, IsInOrder, PolygonKey, eight_land, has_repeat, landmark_place_cmp, lands, lands_at}
+use Rattle.tl_number.proofs.Common.{length-range_with_len, link_bounds, links_up_to, numbered_links, on, range_with_len}
 use Rattle.std.proofs.lemmas.List.FromFn.{length-map-range_with_len}
 use Rattle.tl_number.specs.LandmarkItems.{place_cmp_under}
 use Rattle.tl_number.proofs.Landmarks.LandmarkOrder.{all_lands, all_lands_once, numbered_by_land}

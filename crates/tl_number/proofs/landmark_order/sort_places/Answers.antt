@@ -1,5 +1,4 @@
-use Rattle.std.proofs.Common.{is_lt, rules, length, ◌-◌}
-use Rattle.tl_number.proofs.Common.{landmark_place_cmp}
+use Rattle.tl_number.proofs.Common.{is_lt, rules, length, ◌-◌, landmark_place_cmp}
 use Rattle.std.proofs.lemmas.Fn.{always_returns_same}
 use Rattle.std.proofs.lemmas.List.Sorted.{ranks_by}
 use Rattle.ordered_lists.proofs.ByKey.KeyedLists.{in_order-from_sorted}

@@ -1,5 +1,4 @@
-use Rattle.std.proofs.Common.{arith}
-use Rattle.tl_number.proofs.Common.{most_records}
+use Rattle.tl_number.proofs.Common.{arith, most_records}
 use Rattle.tl_number.proofs.Lemmas.{canonical_counts, canonical_low, canonical_within}
 use Rattle.tl_number.proofs.laws.canonical_lists_keep_the_limits_through_each_sight.Goals as goal
 

@@ -1,5 +1,4 @@
-use Rattle.std.proofs.Common.{arith}
-use Rattle.tl_number.proofs.Common.{masked, most_records}
+use Rattle.tl_number.proofs.Common.{arith, masked, most_records}
 use Rattle.tl_number.proofs.Lemmas.{canonical_counts, canonical_low, canonical_within}
 use Rattle.tl_number.proofs.Masks.MaskedSights.{masked_shows_no_more, masked_sight}
 use Rattle.tl_number.proofs.laws.canonical_lists_keep_the_limits_under_each_mask.Goals as goal

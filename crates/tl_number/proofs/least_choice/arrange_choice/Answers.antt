@@ -1,8 +1,6 @@
-use Rattle.std.proofs.Common.{◌≡◌, ap, ◌∙◌, sym, subst}
-use Rattle.tl_number.proofs.Common.{HasChainsOf, IfOk-weaker, NamesEachOnce, arranged_county, arrangement_of}
+use Rattle.tl_number.proofs.Common.{◌≡◌, ap, ◌∙◌, sym, subst, HasChainsOf, IfOk-weaker, NamesEachOnce, arranged, arranged_county}
+use Rattle.tl_number.proofs.Common.{arrangement_of, numbered_choice}
 use Rattle.tl_number.proofs.Lemmas.{arrangement_of_number, places_within}
-use Rattle.tl_number.specs.Arrangement.{arranged}
-use Rattle.tl_number.specs.Tidy.{numbered_choice}
 use Rattle.tl_number.proofs.Choices.ChosenArrangements.{arrangement_of_number_there, arrangement_of_number_once}
 use Rattle.tl_number.proofs.least_choice.arrange_choice.Goals as goal
 
@@ -24,12 +22,6 @@ arrange-requires-clause-once g c =
     (arrangement_of_number_once (g.C.Chart.county c.args.chart.now) (g.met.C.Chart.is_county c.args.chart.now) c.args.order.now.by_shape
     c.requires.order.by_shape c.args.order.now.places (c.requires.order.places c.requires.few) c.in_ok-arrangement.arrangement.items c.args.number
     c.in_ok-arrangement.ensures)
-
-pub returns-clause-source : goal.returns-clause-source
-returns-clause-source g c =
-    let county = g.C.Chart.county c.args.chart.now in
-    IfOk-weaker c.arrange.result (λ view. view.chart ≡ c.new.result) (λ view. g.C.Chart.county view.chart.chart.now ≡ county)
-    (λ view e. ap (λ lent. g.C.Chart.county lent.chart.now) e ∙ c.new.ensures) c.arrange.ensures.source
 
 pub returns-clause-county : goal.returns-clause-county
 returns-clause-county g c =

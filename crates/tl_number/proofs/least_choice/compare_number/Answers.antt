@@ -1,7 +1,6 @@
-use Rattle.std.proofs.Common.{length, sym, ap, ap₂, ◌∙◌, subst}
-use Rattle.tl_number.proofs.Common.{AgreeApart, AreWithin, One, arranged_by, groups_cmp, moved, other_way, type_1_by_chain}
+use Rattle.tl_number.proofs.Common.{length, sym, ap, ap₂, ◌∙◌, subst, AreWithin, One, arranged, arranged_by, groups_cmp, moved, other_way}
+use Rattle.tl_number.proofs.Common.{type_1_by_chain}
 use Rattle.tl_number.proofs.Lemmas.{agree_of_numbers, arrangement_of_number, places_within}
-use Rattle.tl_number.specs.Arrangement.{arranged}
 use Rattle.tl_number.proofs.Choices.ChosenArrangements.{moved_of_number}
 use Rattle.tl_number.proofs.least_choice.compare_number.Goals as goal
 
@@ -11,11 +10,6 @@ put_back-requires-clause-within g c =
     (subst (AreWithin (length c.args.order.now.by_shape)) (sym c.open_places-places.ensures)
     (places_within (g.C.Chart.county c.args.chart.now) (g.met.C.Chart.is_county c.args.chart.now) c.args.order.now.by_shape
     c.requires.known.order.by_shape c.args.order.now.places (c.requires.known.order.places c.requires.known.few)))
-
-pub put_back-requires-clause-apart : goal.put_back-requires-clause-apart
-put_back-requires-clause-apart g c =
-    subst (λ by_shape. AgreeApart c.open_places-places.result.now c.args.arrangement.now by_shape) (sym c.by_shape.ensures)
-    (subst (λ places. AgreeApart places c.args.arrangement.now c.args.order.now.by_shape) (sym c.open_places-places.ensures) c.requires.moved.apart)
 
 pub choose-requires : goal.choose-requires
 choose-requires g c =

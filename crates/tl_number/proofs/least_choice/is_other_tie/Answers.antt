@@ -1,5 +1,4 @@
-use Rattle.std.proofs.Common.{◌≡◌, ◌∙◌, Bool, true, false, not, is_eq, sym, ap, refl}
-use Rattle.tl_number.proofs.Common.{choices, false≢true, ones_cmp}
+use Rattle.tl_number.proofs.Common.{◌≡◌, ◌∙◌, Bool, true, false, not, is_eq, sym, ap, refl, choices, false≢true, ones_cmp}
 use Rattle.tl_number.proofs.Lemmas.{agree_of_numbers}
 use Rattle.tl_number.proofs.Choices.LeastOnes.{equal_from, least_one_first, one_list}
 use Rattle.tl_number.proofs.least_choice.is_other_tie.Goals as goal

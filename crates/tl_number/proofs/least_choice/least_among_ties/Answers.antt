@@ -1,4 +1,4 @@
-use Rattle.std.proofs.Common.{◌∙◌}
+use Rattle.tl_number.proofs.Common.{◌∙◌}
 use Rattle.tl_number.proofs.Lemmas.{agree_of_numbers}
 use Rattle.tl_number.proofs.least_choice.least_among_ties.Goals as goal
 

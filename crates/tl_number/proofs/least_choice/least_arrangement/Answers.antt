@@ -1,8 +1,7 @@
-use Rattle.std.proofs.Common.{sym, subst}
-use Rattle.tl_number.proofs.Common.{IsLeastChoice}
+use Rattle.tl_number.proofs.Common.{sym, subst, IsLeastChoice}
 use Rattle.tl_number.proofs.Lemmas.{arrangement_of_number, places_within}
 use Rattle.tl_number.proofs.Choices.ChosenArrangements.{arrangement_of_number_there, arrangement_of_number_once}
-use Rattle.tl_number.proofs.Choices.LeastNumbers.{least_of_all}
+use Rattle.tl_number.proofs.CanonicalLists.TidyLists.{least_of_all}
 use Rattle.tl_number.proofs.least_choice.least_arrangement.Goals as goal
 
 pub arrangement_of_number-requires : goal.arrangement_of_number-requires

@@ -1,5 +1,4 @@
-use Rattle.std.proofs.Common.{sym, subst, arith}
-use Rattle.tl_number.proofs.Common.{IsLeastBelow, choice_list, choices}
+use Rattle.tl_number.proofs.Common.{sym, subst, arith, IsLeastBelow, choice_list, choices}
 use Rattle.tl_number.proofs.Choices.LeastNumbers.{not_after_both, tie_least, ties_least}
 use Rattle.tl_number.proofs.Choices.LeastOnes.{both_tied, tied_along, tied_with_itself}
 use Rattle.tl_number.proofs.CanonicalLists.TidyLists.{not_after_itself}

@@ -1,8 +1,6 @@
 -- The least choice so far is arranged, and it is the least below the number where the search goes on.
-use Rattle.std.proofs.Common.{◌≡◌, ◌-◌, Equal}
-use Rattle.tl_number.proofs.Common.{IsLeastBelow, IsMoved, IsNotAfter, arranged_county, choice_list, choices, ones_cmp}
-use Rattle.tl_number.specs.Arrangement.{arranged}
-use Rattle.tl_number.specs.Tidy.{numbered_choice}
+use Rattle.tl_number.proofs.Common.{◌≡◌, ◌-◌, Equal, IsLeastBelow, IsMoved, IsNotAfter, arranged, arranged_county, choice_list, choices}
+use Rattle.tl_number.proofs.Common.{numbered_choice, ones_cmp}
 use Rattle.tl_number.proofs.least_choice.least_of_ties.Given as goal
 
 abbrev pub invariant-loop-next : goal.invariant-loop-next

@@ -1,5 +1,4 @@
-use Rattle.std.proofs.Common.{◌≡◌, is_gt, length, sym, ap, ◌∙◌, true, false}
-use Rattle.tl_number.proofs.Common.{ones_cmp}
+use Rattle.tl_number.proofs.Common.{◌≡◌, is_gt, length, sym, ap, ◌∙◌, true, false, ones_cmp}
 use Rattle.tl_number.proofs.Lemmas.{places_within}
 use Rattle.tl_number.proofs.Choices.ChosenArrangements.{moved_of_number}
 use Rattle.tl_number.proofs.Choices.FixedPlaces.{agree_itself}

@@ -1,6 +1,5 @@
 -- The arrangement of the least number so far, which has the least records of type 1 among the numbers so far.
-use Rattle.std.proofs.Common.{◌≡◌}
-use Rattle.tl_number.proofs.Common.{IsMoved, numbered_arrangement}
+use Rattle.tl_number.proofs.Common.{◌≡◌, IsMoved, numbered_arrangement}
 use Rattle.tl_number.specs.TypeOneOrder.{IsLeastOne}
 use Rattle.tl_number.proofs.least_choice.least_of_type_1.Given as goal
 

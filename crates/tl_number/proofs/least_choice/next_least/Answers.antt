@@ -1,16 +1,9 @@
-use Rattle.std.proofs.Common.{◌≡◌, ◌∙◌, Equal, is_gt, ap, ap₂, sym, subst}
-use Rattle.tl_number.proofs.Common.{AreSame, IsNotAfter, One, arranged_county, choice_list, groups_cmp, ones_cmp, type_1_by_chain}
-use Rattle.tl_number.proofs.Common.{type_2_by_chain}
-use Rattle.tl_number.specs.Arrangement.{arranged}
-use Rattle.tl_number.specs.Tidy.{numbered_choice}
-use Rattle.tl_number.proofs.Choices.LeastNumbers.{choices_same, of_either, text_compared, stated_of_either}
+use Rattle.tl_number.proofs.Common.{◌≡◌, ◌∙◌, Equal, is_gt, ap, sym, subst, AreSame, IsNotAfter, arranged, arranged_county, choice_list}
+use Rattle.tl_number.proofs.Common.{numbered_choice, ones_cmp, type_2_by_chain}
+use Rattle.tl_number.proofs.Choices.LeastNumbers.{choices_same, kept_has, kept_is, text_compared}
 use Rattle.tl_number.proofs.Choices.LeastOnes.{tied_with_itself}
 use Rattle.tl_number.proofs.CanonicalLists.SameShapes.{twos_of_numbers}
 use Rattle.tl_number.proofs.least_choice.next_least.Goals as goal
-
-pub compare_texts-ordering-requires-clause-ones : goal.compare_texts-ordering-requires-clause-ones
-compare_texts-ordering-requires-clause-ones g c =
-    ap₂ (λ one other. groups_cmp One (type_1_by_chain one) (type_1_by_chain other)) c.requires.choice c.in-Ok.ensures.county ∙ c.requires.tied
 
 pub compare_texts-ordering-requires-clause-twos : goal.compare_texts-ordering-requires-clause-twos
 compare_texts-ordering-requires-clause-twos g c =
@@ -18,9 +11,6 @@ compare_texts-ordering-requires-clause-twos g c =
     ap type_2_by_chain c.requires.choice
     ∙ twos_of_numbers county (g.met.C.Chart.is_county c.args.chart.now) c.requires.known.sides c.args.least.number c.args.number
     ∙ sym (ap type_2_by_chain c.in-Ok.ensures.county)
-
-pub compare_texts-ordering-requires-clause-county : goal.compare_texts-ordering-requires-clause-county
-compare_texts-ordering-requires-clause-county g c = c.requires.source ∙ sym c.in-Ok.ensures.source
 
 pub compare_texts-ordering-requires-clause-same : goal.compare_texts-ordering-requires-clause-same
 compare_texts-ordering-requires-clause-same g c =
@@ -34,24 +24,17 @@ pub returns-in-Ok : goal.returns-in-Ok
 returns-in-Ok g c =
     let county = g.C.Chart.county c.args.chart.now in
     let least = c.args.least.number in
-    let o = c.compare_texts-ordering.result in
-    let kept = sym c.lesser.ensures in
-    let compared = text_compared county least c.args.number o (arranged_county c.args.least.choice) (arranged_county c.in-Ok.choice)
-    c.requires.choice c.in-Ok.ensures.county c.compare_texts-ordering.ensures in
+    let compared = text_compared county least c.args.number c.compare_texts-ordering.result (arranged_county c.args.least.choice)
+    (arranged_county c.in-Ok.choice) c.requires.choice c.in-Ok.ensures.county c.compare_texts-ordering.ensures in
+    let both = kept_has (is_gt c.compare_texts-ordering.result) c.lesser.result (record { number = c.args.number; choice = c.in-Ok.choice })
+    c.args.least c.lesser.ensures in
+    let number = sym (kept_is (is_gt c.compare_texts-ordering.result) c.lesser.result (record { number = c.args.number; choice = c.in-Ok.choice }) c.args.least
+    c.lesser.ensures (λ kept. kept.number)) in
     record {
-      choice = subst (λ kept. arranged_county kept.choice ≡ arranged county (numbered_choice county kept.number)) kept
-          (of_either (λ kept. arranged_county kept.choice ≡ arranged county (numbered_choice county kept.number)) (is_gt o)
-          (record { number = c.args.number; choice = c.in-Ok.choice }) c.args.least c.in-Ok.ensures.county c.requires.choice);
-      source = subst (λ kept. g.C.Chart.county kept.choice.chart.chart.now ≡ county) kept
-          (of_either (λ kept. g.C.Chart.county kept.choice.chart.chart.now ≡ county) (is_gt o)
-          (record { number = c.args.number; choice = c.in-Ok.choice }) c.args.least c.in-Ok.ensures.source c.requires.source);
-      least = subst (λ kept. IsNotAfter (choice_list county kept.number) (choice_list county least)) kept
-          (stated_of_either (λ kept. kept.number) (λ n. IsNotAfter (choice_list county n) (choice_list county least)) (is_gt o)
-          (record { number = c.args.number; choice = c.in-Ok.choice }) c.args.least compared.0);
-      other = subst (λ kept. IsNotAfter (choice_list county kept.number) (choice_list county c.args.number)) kept
-          (stated_of_either (λ kept. kept.number) (λ n. IsNotAfter (choice_list county n) (choice_list county c.args.number)) (is_gt o)
-          (record { number = c.args.number; choice = c.in-Ok.choice }) c.args.least compared.1);
-      tied = subst (λ kept. ones_cmp county least kept.number ≡ Equal) kept
-          (of_either (λ kept. ones_cmp county least kept.number ≡ Equal) (is_gt o)
-          (record { number = c.args.number; choice = c.in-Ok.choice }) c.args.least c.requires.tied (tied_with_itself county least));
+      choice = both (λ kept. arranged_county kept.choice ≡ arranged county (numbered_choice county kept.number))
+          c.in-Ok.ensures.county c.requires.choice;
+      source = both (λ kept. g.C.Chart.county kept.choice.chart.chart.now ≡ county) c.in-Ok.ensures.source c.requires.source;
+      least = subst (λ n. IsNotAfter (choice_list county n) (choice_list county least)) number compared.0;
+      other = subst (λ n. IsNotAfter (choice_list county n) (choice_list county c.args.number)) number compared.1;
+      tied = both (λ kept. ones_cmp county least kept.number ≡ Equal) c.requires.tied (tied_with_itself county least);
     }

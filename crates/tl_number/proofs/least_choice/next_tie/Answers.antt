@@ -1,10 +1,6 @@
-use Rattle.std.proofs.Common.{◌≡◌, false, rules, arith}
+use Rattle.tl_number.proofs.Common.{◌≡◌, false, rules, arith}
 use Rattle.tl_number.proofs.Choices.LeastOnes.{from_more}
 use Rattle.tl_number.proofs.least_choice.next_tie.Goals as goal
-
-pub is_other_tie-tied-requires-clause-number : goal.is_other_tie-tied-requires-clause-number
-is_other_tie-tied-requires-clause-number g c =
-    omega (arith, c.loop-number-test.true, c.choices-number-end.ensures, c.requires.known.order.count, c.requires.known.few)
 
 pub loop-number-preserved : goal.loop-number-preserved
 loop-number-preserved g c =

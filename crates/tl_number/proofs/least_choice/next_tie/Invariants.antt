@@ -1,6 +1,5 @@
 -- No number so far ties.
-use Rattle.std.proofs.Common.{◌≤◌}
-use Rattle.tl_number.proofs.Common.{IsLeastFrom, IsMoved}
+use Rattle.tl_number.proofs.Common.{◌≤◌, IsLeastFrom, IsMoved}
 use Rattle.tl_number.proofs.least_choice.next_tie.Given as goal
 
 abbrev pub invariant-loop-number : goal.invariant-loop-number

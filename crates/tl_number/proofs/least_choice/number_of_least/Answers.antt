@@ -1,5 +1,4 @@
-use Rattle.std.proofs.Common.{◌<◌, arith}
-use Rattle.tl_number.proofs.Common.{choices}
+use Rattle.tl_number.proofs.Common.{◌<◌, arith, choices}
 use Rattle.tl_number.proofs.Choices.LeastNumbers.{first_least}
 use Rattle.tl_number.proofs.least_choice.number_of_least.Goals as goal
 

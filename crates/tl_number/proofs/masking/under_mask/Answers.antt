@@ -1,5 +1,4 @@
-use Rattle.std.proofs.Common.{sym, subst}
-use Rattle.tl_number.proofs.Common.{County, IsInProfile}
+use Rattle.tl_number.proofs.Common.{sym, subst, County, IsInProfile}
 use Rattle.tl_profile.specs.ShapeOrder.{IsShapeOrder}
 use Rattle.tl_number.proofs.Masks.MaskedProfile.{masked_in_profile, masked_shape_order}
 use Rattle.tl_number.proofs.masking.under_mask.Goals as goal

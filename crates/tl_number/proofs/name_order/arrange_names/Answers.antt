@@ -1,5 +1,4 @@
-use Rattle.std.proofs.Common.{◌≡◌, ◌<◌, ◌^◌, length, filter_map, slice_get, false, sym, ap, ◌∙◌, subst, nat_cmp}
-use Rattle.tl_number.proofs.Common.{feats, has_repeat}
+use Rattle.tl_number.proofs.Common.{◌≡◌, ◌<◌, ◌^◌, length, filter_map, slice_get, false, sym, ap, ◌∙◌, subst, nat_cmp, feats, has_repeat}
 use Rattle.tl_number.proofs.Names.NameOrder.{feats_stated, feats_once, few_feats}
 use Rattle.tl_number.proofs.name_order.arrange_names.Goals as goal
 

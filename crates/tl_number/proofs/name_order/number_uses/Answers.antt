@@ -1,5 +1,4 @@
-use Rattle.std.proofs.Common.{◌≡◌, ◌∷◌, sym, ap, ◌∙◌, nat_cmp}
-use Rattle.tl_number.proofs.Common.{directed_chain, feats_along_arrangement, feats_of, first_seen_after}
+use Rattle.tl_number.proofs.Common.{◌≡◌, ◌∷◌, sym, ap, ◌∙◌, nat_cmp, directed_chain, feats_along_arrangement, feats_of, first_seen_after}
 use Rattle.tl_number.proofs.Numbering.SeenLists.{seen_append}
 use Rattle.tl_number.proofs.name_order.number_uses.Goals as goal
 

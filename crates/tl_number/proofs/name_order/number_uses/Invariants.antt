@@ -1,5 +1,4 @@
-use Rattle.std.proofs.Common.{◌≡◌, length, nat_cmp}
-use Rattle.tl_number.proofs.Common.{feats_along_arrangement, first_seen, first_seen_after}
+use Rattle.tl_number.proofs.Common.{◌≡◌, length, nat_cmp, feats_along_arrangement, first_seen, first_seen_after}
 use Rattle.tl_number.proofs.name_order.number_uses.Given as goal
 
 abbrev pub invariant-loop-directed : goal.invariant-loop-directed

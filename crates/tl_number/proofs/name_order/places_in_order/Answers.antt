@@ -1,6 +1,5 @@
-use Rattle.std.proofs.Common.{◌≡◌, List, map, length, is_lt, rules, ap, ◌∙◌, subst, sym}
-use Rattle.std.proofs.Common.{IsPermutation}
-use Rattle.tl_number.proofs.Common.{AreReadAt, IfOk-weaker, IsInOrder, arrangement_of, names_in_order, range_with_len}
+use Rattle.tl_number.proofs.Common.{◌≡◌, List, map, length, is_lt, rules, ap, ◌∙◌, subst, sym, IsPermutation, AreReadAt, IfOk-weaker}
+use Rattle.tl_number.proofs.Common.{IsInOrder, arrangement_of, names_in_order, range_with_len}
 use Rattle.std.proofs.lemmas.Fn.{always_returns_same}
 use Rattle.std.proofs.lemmas.List.Sorted.{ranks_by}
 use Rattle.ordered_lists.proofs.ByKey.KeyedLists.{in_order-from_sorted}

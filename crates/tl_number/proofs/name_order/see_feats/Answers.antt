@@ -1,5 +1,4 @@
-use Rattle.std.proofs.Common.{Some, nat_cmp, slice_get, ap, ◌∙◌}
-use Rattle.tl_number.proofs.Common.{directed_chain, feats_of}
+use Rattle.tl_number.proofs.Common.{Some, nat_cmp, slice_get, ap, ◌∙◌, directed_chain, feats_of}
 use Rattle.tl_number.proofs.Numbering.SeenLists.{seen_next}
 use Rattle.tl_number.proofs.name_order.see_feats.Goals as goal
 

@@ -1,5 +1,4 @@
-use Rattle.std.proofs.Common.{◌≡◌, drop, nat_cmp}
-use Rattle.tl_number.proofs.Common.{directed_chain, feats_of, first_seen_after}
+use Rattle.tl_number.proofs.Common.{◌≡◌, drop, nat_cmp, directed_chain, feats_of, first_seen_after}
 use Rattle.tl_number.proofs.name_order.see_feats.Given as goal
 
 abbrev pub invariant-loop-name : goal.invariant-loop-name

@@ -1,5 +1,5 @@
-use Rattle.std.proofs.Common.{◌≡◌, ◌∙◌, true, sym, subst, arith, rules, ap, ap₂}
-use Rattle.tl_number.proofs.Common.{but_nodes_list, choice_list, choices, critical_numbers, numbered_arrangement, parts_along}
+use Rattle.tl_number.proofs.Common.{◌≡◌, ◌∙◌, true, sym, subst, arith, rules, ap, ap₂, but_nodes_list, choice_list, choices}
+use Rattle.tl_number.proofs.Common.{critical_numbers, numbered_arrangement, parts_along}
 use Rattle.tl_number.proofs.Lemmas.{agree_of_numbers}
 use Rattle.tl_number.specs.CriticalPlaces.{AreCritical}
 use Rattle.tl_number.proofs.CanonicalLists.TidyLists.{not_after_itself}
@@ -38,12 +38,6 @@ have_same_open_parts-same-requires g c =
 pub next_by_nodes-requires-clause-critical : goal.next_by_nodes-requires-clause-critical
 next_by_nodes-requires-clause-critical g c =
     subst (AreCritical (g.C.Chart.county c.args.chart.now) c.args.order.now) (sym c.deref-in-Some-2.ensures.value) c.in_ok-critical.ensures
-
-pub next_by_nodes-requires-clause-numbers : goal.next_by_nodes-requires-clause-numbers
-next_by_nodes-requires-clause-numbers g c =
-    let county = g.C.Chart.county c.args.chart.now in
-    c.loop-next.invariant.numbers
-    ∙ ap (λ all. critical_numbers county all (numbered_arrangement c.args.order.now c.loop-next.least.number)) (sym c.deref-in-Some-2.ensures.value)
 
 pub next_by_nodes-requires-clause-tied : goal.next_by_nodes-requires-clause-tied
 next_by_nodes-requires-clause-tied g c =

@@ -1,6 +1,5 @@
 -- The least choice so far, given by the numbers of its critical ends, is the least below the number where the search goes on.
-use Rattle.std.proofs.Common.{◌≡◌, ◌-◌}
-use Rattle.tl_number.proofs.Common.{AreNodeTies, IsLeastBelow, IsMoved, IsNotAfter, choice_list, choices, critical_numbers}
+use Rattle.tl_number.proofs.Common.{◌≡◌, ◌-◌, AreNodeTies, IsLeastBelow, IsMoved, IsNotAfter, choice_list, choices, critical_numbers}
 use Rattle.tl_number.proofs.Common.{numbered_arrangement}
 use Rattle.tl_number.proofs.node_ties.least_of_node_ties.Given as goal
 

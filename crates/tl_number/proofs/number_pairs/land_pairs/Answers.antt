@@ -1,5 +1,4 @@
-use Rattle.std.proofs.Common.{ap, ◌∙◌}
-use Rattle.tl_number.proofs.Common.{numbered}
+use Rattle.tl_number.proofs.Common.{ap, ◌∙◌, numbered}
 use Rattle.tl_number.proofs.Views.RenamingPairs.{lands_found}
 use Rattle.tl_number.proofs.number_pairs.land_pairs.Goals as goal
 

@@ -1,5 +1,5 @@
-use Rattle.std.proofs.Common.{◌≡◌, ◌+◌, ℕ, IfOk, rules, subst, tests}
-use Rattle.tl_number.proofs.Common.{YieldsList-at, YieldsList-from_map, YieldsList-from_slice, items_from_collect}
+use Rattle.tl_number.proofs.Common.{◌≡◌, ◌+◌, ℕ, IfOk, rules, subst, tests, YieldsList-at, YieldsList-from_map, YieldsList-from_slice}
+use Rattle.tl_number.proofs.Common.{items_from_collect}
 use Rattle.std.proofs.lemmas.Iterator.Consumers.{YieldsList-from_enumerate}
 use Rattle.tl_number.proofs.Views.RenamingPairs.{enumerated}
 use Rattle.tl_number.proofs.number_pairs.name_pairs.Goals as goal

@@ -1,5 +1,5 @@
-use Rattle.std.proofs.Common.{◌≡◌, ◌+◌, IfOk, arith, length, subst}
-use Rattle.tl_number.proofs.Common.{YieldsList-at, YieldsList-from_range, YieldsList-from_slice, items_from_collect}
+use Rattle.tl_number.proofs.Common.{◌≡◌, ◌+◌, IfOk, arith, length, subst, YieldsList-at, YieldsList-from_range, YieldsList-from_slice}
+use Rattle.tl_number.proofs.Common.{items_from_collect}
 use Rattle.std.proofs.lemmas.Iterator.{YieldsList-from_zip}
 use Rattle.std.proofs.lemmas.Iterator.Consumers.{YieldsList-from_copied}
 use Rattle.tl_number.proofs.Views.RenamingPairs.{zip_numbered}

@@ -1,6 +1,5 @@
-use Rattle.std.proofs.Common.{◌≡◌, ◌+◌, IfOk, ap, arith, length, map, rules, subst, tests}
-use Rattle.tl_number.proofs.Common.{YieldsList-at, YieldsList-from_map, YieldsList-from_range, YieldsList-from_slice, items_from_collect}
-use Rattle.tl_number.proofs.Common.{under_cenid}
+use Rattle.tl_number.proofs.Common.{◌≡◌, ◌+◌, IfOk, ap, arith, length, map, rules, subst, tests, YieldsList-at, YieldsList-from_map}
+use Rattle.tl_number.proofs.Common.{YieldsList-from_range, YieldsList-from_slice, items_from_collect, under_cenid}
 use Rattle.std.proofs.lemmas.Iterator.{YieldsList-from_zip}
 use Rattle.std.proofs.lemmas.Iterator.Consumers.{YieldsList-from_copied}
 use Rattle.tl_number.proofs.Views.RenamingPairs.{zip_numbered}

@@ -1,5 +1,5 @@
-use Rattle.std.proofs.Common.{◌≡◌, IfOk, rules, slice_get, subst, tests}
-use Rattle.tl_number.proofs.Common.{YieldsList-from_filter_map, YieldsList-from_slice, items_from_collect, tlids}
+use Rattle.tl_number.proofs.Common.{◌≡◌, IfOk, rules, slice_get, subst, tests, YieldsList-from_filter_map, YieldsList-from_slice}
+use Rattle.tl_number.proofs.Common.{items_from_collect, tlids}
 use Rattle.tl_number.proofs.Views.RenamingPairs.{tlids_found}
 use Rattle.tl_number.proofs.number_pairs.tlids_of.Goals as goal
 

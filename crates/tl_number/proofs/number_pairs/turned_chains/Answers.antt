@@ -1,5 +1,5 @@
-use Rattle.std.proofs.Common.{◌≡◌, IfOk, rules, slice_get, subst, tests}
-use Rattle.tl_number.proofs.Common.{YieldsList-at, YieldsList-from_filter_map, YieldsList-from_slice, items_from_collect, tlids}
+use Rattle.tl_number.proofs.Common.{◌≡◌, IfOk, rules, slice_get, subst, tests, YieldsList-at, YieldsList-from_filter_map}
+use Rattle.tl_number.proofs.Common.{YieldsList-from_slice, items_from_collect, tlids}
 use Rattle.std.proofs.lemmas.Iterator.Consumers.{YieldsList-from_filter}
 use Rattle.tl_number.proofs.Views.RenamingPairs.{turned_found}
 use Rattle.tl_number.proofs.number_pairs.turned_chains.Goals as goal

@@ -1,5 +1,4 @@
-use Rattle.std.proofs.Common.{◌∷◌, [], length, sym, ap, ◌∙◌, subst}
-use Rattle.tl_number.proofs.Common.{AreWithin, all_left, moved, other_way}
+use Rattle.tl_number.proofs.Common.{◌∷◌, [], length, sym, ap, ◌∙◌, subst, AreWithin, all_left, moved, other_way}
 use Rattle.tl_number.specs.MovedChains.{IsWithin}
 use Rattle.tl_number.proofs.Choices.MovedChoice.{moved-last}
 use Rattle.tl_number.proofs.numbered_arrangement.choose.Goals as goal

@@ -1,11 +1,7 @@
-use Rattle.std.proofs.Common.{length, sym, subst, ◌∙◌}
-use Rattle.tl_number.proofs.Common.{AgreeApart, AreWithin}
+use Rattle.tl_number.proofs.Common.{length, sym, subst, ◌∙◌, AgreeApart, AreWithin}
 use Rattle.tl_number.proofs.Lemmas.{nothing_left}
 use Rattle.tl_number.proofs.Choices.FixedPlaces.{agree_put, agree_same}
 use Rattle.tl_number.proofs.numbered_arrangement.put_back.Goals as goal
-
-pub put_back_at-requires-clause-within : goal.put_back_at-requires-clause-within
-put_back_at-requires-clause-within c = (subst (AreWithin (length c.loop-at.arrangement)) c.in-Some.ensures.cases.0 c.loop-at.invariant.within).0
 
 pub loop-at-preserved : goal.loop-at-preserved
 loop-at-preserved c =

@@ -1,5 +1,5 @@
-use Rattle.std.proofs.Common.{sym}
-use Rattle.tl_number.proofs.Views.ViewNumbers.{number_seen, number_unseen}
+use Rattle.tl_number.proofs.Common.{sym}
+use Rattle.tl_number.proofs.Numbering.NewNumbers.{number_seen, number_unseen}
 use Rattle.tl_number.proofs.renumbering.new_feat.Goals as goal
 
 pub returns-in-Some : goal.returns-in-Some

@@ -1,6 +1,5 @@
-use Rattle.std.proofs.Common.{◌<◌, sym, arith, length}
-use Rattle.tl_number.proofs.Common.{key_keys}
-use Rattle.tl_number.proofs.Views.ViewNumbers.{key_seen, key_unseen, seen_within}
+use Rattle.tl_number.proofs.Common.{◌<◌, sym, arith, length, key_keys}
+use Rattle.tl_number.proofs.Numbering.NewNumbers.{key_seen, key_unseen, seen_within}
 use Rattle.tl_number.proofs.renumbering.new_key.Goals as goal
 
 pub returns-in-Some-clause-image : goal.returns-in-Some-clause-image

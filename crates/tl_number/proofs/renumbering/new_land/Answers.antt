@@ -1,6 +1,5 @@
-use Rattle.std.proofs.Common.{◌<◌, sym, arith, length}
-use Rattle.tl_number.proofs.Common.{nat_keys}
-use Rattle.tl_number.proofs.Views.ViewNumbers.{number_seen, number_unseen, seen_within}
+use Rattle.tl_number.proofs.Common.{◌<◌, sym, arith, length, nat_keys}
+use Rattle.tl_number.proofs.Numbering.NewNumbers.{number_seen, number_unseen, seen_within}
 use Rattle.tl_number.proofs.renumbering.new_land.Goals as goal
 
 pub returns-in-Some-clause-image : goal.returns-in-Some-clause-image

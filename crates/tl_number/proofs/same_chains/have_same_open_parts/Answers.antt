@@ -1,5 +1,5 @@
-use Rattle.std.proofs.Common.{◌≡◌, ◌∙◌, length, map, option_map, slice_get, true, false, rules, refl, sym, ap, subst}
-use Rattle.tl_number.proofs.Common.{AllByRecursion, AreWithin, DirectedChain, StandInOrder, decides_no, directed_chain, slice_get-map}
+use Rattle.tl_number.proofs.Common.{◌≡◌, ◌∙◌, length, map, option_map, true, rules, refl, sym, ap, subst, AllByRecursion, AreWithin}
+use Rattle.tl_number.proofs.Common.{DirectedChain, StandInOrder, directed_chain, slice_get-map}
 use Rattle.tl_number.proofs.Lemmas.{nothing_left}
 use Rattle.tl_number.specs.MovedChains.{HaveSamePartAt, IsApart}
 use Rattle.tl_number.proofs.Choices.FixedPlaces.{before_apart, past_first, same_everywhere}
@@ -15,21 +15,11 @@ loop-at-init g c =
           ∙ sym (slice_get-map read c.args.other.now place);
     }
 
-pub have_same_parts_at-same-requires-clause-within : goal.have_same_parts_at-same-requires-clause-within
-have_same_parts_at-same-requires-clause-within g c =
-    (subst (AreWithin (length c.args.one.now)) c.in-Some.ensures.cases.0 c.loop-at.invariant.within).0
-
 pub have_same_parts_at-same-requires-clause-before : goal.have_same_parts_at-same-requires-clause-before
 have_same_parts_at-same-requires-clause-before g c =
     let cut = c.in-Some.ensures.cases.0 in
     λ place before. c.loop-at.invariant.same place (subst (AllByRecursion (IsApart place)) (sym cut)
     (before_apart c.in-Some.at.now c.in-Some.behind.now (subst StandInOrder cut c.loop-at.invariant.in_order) place before))
-
-pub returns-then-not-same : goal.returns-then-not-same
-returns-then-not-same g c =
-    let not_same : c.have_same_parts_at-same.result ≡ false = search rules in
-    decides_no c.have_same_parts_at-same.result not_same c.have_same_parts_at-same.ensures
-    (λ all place before. ap (λ lists. slice_get lists place) all)
 
 pub loop-at-preserved : goal.loop-at-preserved
 loop-at-preserved g c =

@@ -1,6 +1,5 @@
 -- The lists of the chains apart from the remaining open places are the same.
-use Rattle.std.proofs.Common.{ℕ, length}
-use Rattle.tl_number.proofs.Common.{AllByRecursion, AreWithin, StandInOrder}
+use Rattle.tl_number.proofs.Common.{ℕ, length, AllByRecursion, AreWithin, StandInOrder}
 use Rattle.tl_number.specs.MovedChains.{HaveSamePartAt, IsApart}
 use Rattle.tl_number.proofs.same_chains.have_same_open_parts.Given as goal
 

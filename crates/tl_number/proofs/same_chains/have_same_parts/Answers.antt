@@ -1,5 +1,4 @@
-use Rattle.std.proofs.Common.{◌≡◌, ◌∙◌, length, sym, ap, arith}
-use Rattle.tl_number.proofs.Common.{parts_along}
+use Rattle.tl_number.proofs.Common.{◌≡◌, ◌∙◌, length, sym, ap, arith, parts_along}
 use Rattle.ordered_lists.proofs.Lists.ByPlace.{decides_over}
 use Rattle.tl_number.proofs.Texts.SameChains.{all_parts}
 use Rattle.tl_number.proofs.Texts.TypeOnes.{as_many_chains}
@@ -24,9 +23,6 @@ have_same_parts_below-requires-clause-count g c = as_many g c
 
 pub have_same_parts_below-requires-clause-within : goal.have_same_parts_below-requires-clause-within
 have_same_parts_below-requires-clause-within g c = omega (arith, counted g c)
-
-pub have_same_parts_below-requires-clause-before : goal.have_same_parts_below-requires-clause-before
-have_same_parts_below-requires-clause-before g c = λ place l. absurd (omega (arith, l))
 
 pub returns : goal.returns
 returns g c =

@@ -1,6 +1,5 @@
-use Rattle.std.proofs.Common.{◌≡◌, ◌<◌, ◌∙◌, Some, length, true, false, rules, refl, sym, ap, arith}
-use Rattle.tl_number.proofs.Common.{decides_no, parts_along}
-use Rattle.tl_number.proofs.Texts.LinkOrder.{same_further}
+use Rattle.tl_number.proofs.Common.{below_more, slice_get, ◌≡◌, ◌<◌, ◌∙◌, Some, length, true, false, rules, sym, ap, arith, decides_no}
+use Rattle.tl_number.proofs.Common.{parts_along}
 use Rattle.tl_number.proofs.Texts.SameChains.{part_read, the_same}
 use Rattle.tl_number.proofs.same_chains.have_same_parts_below.Goals as goal
 
@@ -11,7 +10,8 @@ loop-place-preserved g c =
     let i = c.loop-place.place in
     let there : i < length c.args.one.now = omega (arith, c.loop-place-test.true, c.requires.within) in
     let yes : c.have_same_part_at-same.result ≡ true = search rules in
-    same_further (parts_along part county c.args.one.now) (parts_along part county c.args.other.now) i c.loop-place.invariant
+    below_more (λ place. slice_get (parts_along part county c.args.one.now) place ≡ slice_get (parts_along part county c.args.other.now) place) i
+    c.loop-place.invariant
     (part_read county part c.args.one.now i there ∙ ap Some (c.have_same_part_at-same.ensures.0 yes)
     ∙ sym (part_read county part c.args.other.now i (omega (arith, there, c.requires.count))))
 
@@ -25,9 +25,3 @@ returns-then-not-same g c =
     decides_no c.have_same_part_at-same.result not_same c.have_same_part_at-same.ensures
     (λ all. the_same _ _ (sym (part_read county part c.args.one.now i there) ∙ all i (omega (arith, c.loop-place-test.true))
     ∙ part_read county part c.args.other.now i (omega (arith, there, c.requires.count))))
-
-pub returns : goal.returns
-returns g c = (
-  λ e. λ place l. c.loop-place.invariant place (omega (arith, l, c.loop-place-test.false)),
-  λ all. refl,
-)

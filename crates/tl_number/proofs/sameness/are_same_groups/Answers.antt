@@ -1,12 +1,7 @@
-use Rattle.std.proofs.Common.{◌≡◌, ◌∙◌, ◌++◌, true, false, rules, drop, length, take, refl, sym, ap, arith}
-use Rattle.tl_number.proofs.Common.{length-take}
+use Rattle.tl_number.proofs.Common.{◌≡◌, ◌∙◌, ◌++◌, true, false, rules, drop, length, take, refl, sym, ap, arith, length-take}
 use Rattle.tl_number.proofs.Lemmas.{same_whole}
 use Rattle.std.proofs.Math.Seq.{take-add}
-use Rattle.tl_number.proofs.Records.SameGroups.{decides_no}
 use Rattle.tl_number.proofs.sameness.are_same_groups.Goals as goal
-
-pub loop-first-init : goal.loop-first-init
-loop-first-init g c = record { buffer = refl; other = refl; within = omega arith; same = refl }
 
 pub loop-first-preserved : goal.loop-first-preserved
 loop-first-preserved g c =
@@ -26,12 +21,6 @@ loop-first-preserved g c =
       within = omega (arith, c.read_heads-heads.ensures.count, c.loop-first.invariant.within);
       same = take-add i n xs ∙ (λ k. c.loop-first.invariant.same k ++ next k) ∙ sym (take-add i n ys);
     }
-
-pub returns-then-not-same : goal.returns-then-not-same
-returns-then-not-same g c =
-    let other : c.are_same_headed-same.result ≡ false = search rules in
-    decides_no c.are_same_headed-same.result other c.are_same_headed-same.ensures
-    (λ all. ap (λ gs. take (length (take c.read_heads-heads.result c.read_heads-heads.new.buffer)) (drop c.loop-first.first gs)) all)
 
 pub returns : goal.returns
 returns g c = (

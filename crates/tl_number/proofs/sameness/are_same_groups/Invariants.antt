@@ -1,4 +1,4 @@
-use Rattle.std.proofs.Common.{◌≡◌, ◌≤◌, ◌-◌, length, take}
+use Rattle.tl_number.proofs.Common.{◌≡◌, ◌≤◌, ◌-◌, length, take}
 use Rattle.tl_number.proofs.sameness.are_same_groups.Given as goal
 
 -- the groups up to the first remaining one are the same

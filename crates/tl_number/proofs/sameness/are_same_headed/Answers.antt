@@ -1,21 +1,8 @@
-use Rattle.std.proofs.Common.{◌≡◌, ◌∙◌, true, false, rules, drop, length, take, refl, sym, ap, arith}
-use Rattle.tl_number.proofs.Common.{group_at, slice_get_read}
+use Rattle.tl_number.proofs.Common.{decides_no, same_next, ◌≡◌, ◌∙◌, true, false, rules, drop, length, take, refl, sym, ap, arith, group_at}
 use Rattle.tl_number.proofs.Lemmas.{same_whole}
 use Rattle.tl_number.proofs.Records.Grouped.{group_headed, length_headed}
-use Rattle.tl_number.proofs.Records.SameGroups.{decides_no, same_next, same_group}
+use Rattle.tl_number.proofs.Records.SameGroups.{same_group}
 use Rattle.tl_number.proofs.sameness.are_same_headed.Goals as goal
-
-pub is_same_group-same-requires-clause-head : goal.is_same_group-same-requires-clause-head
-is_same_group-same-requires-clause-head g c =
-    c.requires.heads c.loop-ahead.ahead c.index-heads-ahead.result
-    (slice_get_read c.args.heads.now (length c.args.heads.now) c.loop-ahead.ahead c.index-heads-ahead.result refl c.loop-ahead-test.true
-    c.index-heads-ahead.is)
-
-pub is_same_group-same-requires-clause-other : goal.is_same_group-same-requires-clause-other
-is_same_group-same-requires-clause-other g c =
-    c.requires.others c.loop-ahead.ahead c.index-others-ahead.result
-    (slice_get_read c.args.others.now (length c.args.heads.now) c.loop-ahead.ahead c.index-others-ahead.result (sym c.requires.count)
-    c.loop-ahead-test.true c.index-others-ahead.is)
 
 pub loop-ahead-preserved : goal.loop-ahead-preserved
 loop-ahead-preserved g c =

@@ -1,4 +1,4 @@
-use Rattle.std.proofs.Common.{◌≡◌, drop, length, take}
+use Rattle.tl_number.proofs.Common.{◌≡◌, drop, length, take}
 use Rattle.tl_number.proofs.sameness.are_same_headed.Given as goal
 
 -- the groups up to the one ahead are the same

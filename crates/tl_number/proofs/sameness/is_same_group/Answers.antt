@@ -1,7 +1,5 @@
-use Rattle.std.proofs.Common.{◌≡◌, ◌∙◌, true, false, rules, refl, sym, ap, slice_get, Some, arith}
-use Rattle.tl_number.proofs.Common.{group_at}
+use Rattle.tl_number.proofs.Common.{same_next, ◌≡◌, ◌∙◌, true, false, rules, refl, sym, ap, Some, arith, group_at}
 use Rattle.tl_number.proofs.Lemmas.{same_whole}
-use Rattle.tl_number.proofs.Records.SameGroups.{decides_no, same_next}
 use Rattle.tl_number.proofs.sameness.is_same_group.Goals as goal
 
 pub loop-place-preserved : goal.loop-place-preserved
@@ -10,12 +8,6 @@ loop-place-preserved g c =
     same_next (group_at (g.G.RecordGroups.groups c.args.a.now) c.args.group) (group_at (g.H.RecordGroups.groups c.args.b.now) c.args.group)
     c.loop-place.place c.loop-place.invariant
     (sym c.record.ensures ∙ ap (λ x. Some x) (c.is_same-same.ensures.0 same) ∙ c.record-in-loop-place.ensures)
-
-pub returns-then-not-same : goal.returns-then-not-same
-returns-then-not-same g c =
-    let other : c.is_same-same.result ≡ false = search rules in
-    decides_no c.is_same-same.result other c.is_same-same.ensures
-    (λ all. let read = c.record.ensures ∙ ap (λ xs. slice_get xs c.loop-place.place) all ∙ sym c.record-in-loop-place.ensures in cc)
 
 pub returns : goal.returns
 returns g c =

@@ -1,5 +1,4 @@
-use Rattle.std.proofs.Common.{◌≡◌, take}
-use Rattle.tl_number.proofs.Common.{group_at}
+use Rattle.tl_number.proofs.Common.{◌≡◌, take, group_at}
 use Rattle.tl_number.proofs.sameness.is_same_group.Given as goal
 
 -- the records up to the place are the same

@@ -1,18 +1,9 @@
-use Rattle.std.proofs.Common.{refl}
 use Rattle.tl_number.proofs.Common.{arranged_by}
-use Rattle.tl_number.proofs.Records.SameGroups.{also, not_also, decides_packing}
+use Rattle.tl_number.proofs.Records.SameGroups.{decides_packing}
 use Rattle.tl_number.proofs.sameness.same_records.Goals as goal
 
-pub returns-then-have_same_chains : goal.returns-then-have_same_chains
-returns-then-have_same_chains g c =
-    let a = arranged_by (g.A.Chart.county c.args.a.now.chart) c.args.a.now.arrangement.items in
-    let b = arranged_by (g.B.Chart.county c.args.b.now.chart) c.args.b.now.arrangement.items in
-    decides_packing a b c.args.a.now.whole.is_county c.args.b.now.whole.is_county _
-    (also _ _ _ c.if-have_same_chains.true refl c.have_same_chains.ensures c.have_same_entries.ensures)
-
-pub returns-else-have_same_chains : goal.returns-else-have_same_chains
-returns-else-have_same_chains g c =
-    let a = arranged_by (g.A.Chart.county c.args.a.now.chart) c.args.a.now.arrangement.items in
-    let b = arranged_by (g.B.Chart.county c.args.b.now.chart) c.args.b.now.arrangement.items in
-    decides_packing a b c.args.a.now.whole.is_county c.args.b.now.whole.is_county _
-    (not_also _ _ c.if-have_same_chains.false refl c.have_same_chains.ensures)
+pub returns : goal.returns
+returns g c =
+    decides_packing (arranged_by (g.A.Chart.county c.args.a.now.chart) c.args.a.now.arrangement.items)
+    (arranged_by (g.B.Chart.county c.args.b.now.chart) c.args.b.now.arrangement.items) c.args.a.now.whole.is_county c.args.b.now.whole.is_county
+    c.have_same_groups.result c.have_same_groups.ensures

@@ -1,5 +1,4 @@
-use Rattle.std.proofs.Common.{◌≡◌, ◌∙◌, nat_cmp, sym, ap, ap₂}
-use Rattle.tl_number.proofs.Common.{arranged_by, ordering_then, packed, slice_cmp, text_of}
+use Rattle.tl_number.proofs.Common.{◌≡◌, ◌∙◌, nat_cmp, sym, ap, ap₂, arranged_by, ordering_then, packed, slice_cmp, text_of}
 use Rattle.tl_number.specs.RecordOrder.{types_5_to_7_cmp, types_8_to_p_cmp}
 use Rattle.tl_number.proofs.Texts.GroupOrders.{decided}
 use Rattle.tl_number.proofs.Texts.SameLists.{type_4_through}

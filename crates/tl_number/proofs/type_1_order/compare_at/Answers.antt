@@ -1,5 +1,4 @@
-use Rattle.std.proofs.Common.{ap, ◌∙◌}
-use Rattle.tl_number.proofs.Common.{one_at, option_cmp, spelling_cmp}
+use Rattle.tl_number.proofs.Common.{ap, ◌∙◌, one_at, option_cmp, spelling_cmp}
 use Rattle.tl_number.proofs.Texts.TypeOnes.{same_one}
 use Rattle.tl_number.proofs.type_1_order.compare_at.Goals as goal
 

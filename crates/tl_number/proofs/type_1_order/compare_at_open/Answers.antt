@@ -1,6 +1,6 @@
-use Rattle.std.proofs.Common.{◌≡◌, ◌<◌, length, get_or, slice_get, sym, ap₂, ◌∙◌, arith, false}
-use Rattle.tl_number.proofs.Common.{DirectedChain, arranged_by, ones_of, option_cmp, slice_get-get_or, spelling_cmp}
-use Rattle.tl_number.proofs.Texts.TiedOnes.{first_untied, tied_more}
+use Rattle.tl_number.proofs.Common.{AreTiedAt, List, below_more, ◌≡◌, ◌<◌, length, get_or, slice_get, sym, ap₂, ◌∙◌, arith, false, DirectedChain, arranged_by, ones_of}
+use Rattle.tl_number.proofs.Common.{option_cmp, slice_get-get_or, spelling_cmp}
+use Rattle.tl_number.proofs.Texts.TiedOnes.{first_untied}
 use Rattle.tl_number.proofs.Texts.TypeOnes.{length_whole, ones_arranged_by}
 use Rattle.tl_number.proofs.type_1_order.compare_at_open.Given.{Over}
 use Rattle.tl_number.proofs.type_1_order.compare_at_open.Goals.{After-compare_at}
@@ -39,5 +39,6 @@ returns-in_default-clause-untied g c =
 
 pub loop-place-preserved : goal.loop-place-preserved
 loop-place-preserved g c =
-    tied_more _ _ c.loop-place.place c.loop-place.invariant
+    let ones = λ (arrangement : List DirectedChain). ones_of (arranged_by (g.C.Chart.county c.args.chart.now) arrangement) in
+    below_more (AreTiedAt (ones c.args.one.now) (ones c.args.other.now)) c.loop-place.place c.loop-place.invariant
     (sym (compared g (goal.at.loop-place-preserved g c).After-compare_at) ∙ c.in-Equal.is)

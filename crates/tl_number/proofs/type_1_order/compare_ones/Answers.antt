@@ -1,5 +1,4 @@
-use Rattle.std.proofs.Common.{length, sym, subst}
-use Rattle.tl_number.proofs.Common.{AllByRecursion, AreTiedAt, AreWithin, StandInOrder, arranged_by, ones_of}
+use Rattle.tl_number.proofs.Common.{length, sym, subst, AllByRecursion, AreTiedAt, AreWithin, StandInOrder, arranged_by, ones_of}
 use Rattle.tl_number.proofs.Lemmas.{nothing_left}
 use Rattle.tl_number.specs.MovedChains.{IsApart}
 use Rattle.tl_number.proofs.Choices.FixedPlaces.{before_apart, past_first}
@@ -14,10 +13,6 @@ loop-at-init g c = record {
       c.args.other.now c.requires.whole c.requires.other_whole c.requires.count place (c.requires.apart place apart);
 }
 
-pub compare_at_open-requires-clause-within : goal.compare_at_open-requires-clause-within
-compare_at_open-requires-clause-within g c =
-    (subst (AreWithin (length c.args.one.now)) c.in-Some.ensures.cases.0 c.loop-at.invariant.within).0
-
 pub compare_at_open-requires-clause-before : goal.compare_at_open-requires-clause-before
 compare_at_open-requires-clause-before g c =
     let cut = c.in-Some.ensures.cases.0 in
@@ -25,9 +20,6 @@ compare_at_open-requires-clause-before g c =
     let behind = c.in-Some.behind.now in
     λ place before. c.loop-at.invariant.tied place (subst (AllByRecursion (IsApart place)) (sym cut)
     (before_apart at behind (subst StandInOrder cut c.loop-at.invariant.in_order) place before))
-
-pub returns-in_default-compare_at_open : goal.returns-in_default-compare_at_open
-returns-in_default-compare_at_open g c = c.compare_at_open.ensures.untied c.in_default-compare_at_open.not-Equal
 
 pub loop-at-preserved : goal.loop-at-preserved
 loop-at-preserved g c =

@@ -1,6 +1,5 @@
 -- The records apart from the remaining open places are tied.
-use Rattle.std.proofs.Common.{ℕ, length}
-use Rattle.tl_number.proofs.Common.{AllByRecursion, AreTiedAt, AreWithin, StandInOrder, arranged_by, ones_of}
+use Rattle.tl_number.proofs.Common.{ℕ, length, AllByRecursion, AreTiedAt, AreWithin, StandInOrder, arranged_by, ones_of}
 use Rattle.tl_number.specs.MovedChains.{IsApart}
 use Rattle.tl_number.proofs.type_1_order.compare_ones.Given as goal
 

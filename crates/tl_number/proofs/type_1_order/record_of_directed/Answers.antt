@@ -1,5 +1,5 @@
-use Rattle.std.proofs.Common.{◌≡◌, ◌+◌, ◌-◌, Some, is_some, length, option_map, slice_get, sym, ap, ◌∙◌, arith}
-use Rattle.tl_number.proofs.Common.{few_chains, first_point, last_point, packed_one, points_of}
+use Rattle.tl_number.proofs.Common.{◌≡◌, ◌+◌, ◌-◌, Some, is_some, length, option_map, slice_get, sym, ap, ◌∙◌, arith, few_chains}
+use Rattle.tl_number.proofs.Common.{first_point, last_point, packed_one, points_of}
 use Rattle.tl_number.proofs.Lemmas.{some-same}
 use Rattle.tl_number.proofs.Records.ChainPlaces.{first_at, last_at}
 use Rattle.tl_number.proofs.Texts.TypeOnes.{directed_there}

@@ -1,5 +1,4 @@
-use Rattle.std.proofs.Common.{◌∙◌, slice_get, ap, ap₂}
-use Rattle.tl_number.proofs.Common.{arranged_by, links_of, option_cmp, spelling_cmp}
+use Rattle.tl_number.proofs.Common.{◌∙◌, slice_get, ap, arranged_by, links_of, option_cmp, spelling_cmp}
 use Rattle.tl_number.proofs.Texts.TypeOnes.{same_one}
 use Rattle.tl_number.proofs.type_i_and_p_order.compare_link.Goals as goal
 
@@ -9,6 +8,3 @@ returns-then-is_same_link g c =
     let b = arranged_by (g.B.Chart.county c.args.b.now.chart) c.args.b.now.arrangement.items in
     same_one (slice_get (links_of a) c.args.place)
     ∙ ap (option_cmp spelling_cmp (slice_get (links_of a) c.args.place)) (c.is_same_link.ensures c.if-is_same_link.true)
-
-pub returns : goal.returns
-returns g c = c.compare_records.ensures ∙ ap₂ (option_cmp spelling_cmp) c.link_record.ensures c.link_record-2.ensures

@@ -1,11 +1,7 @@
-use Rattle.std.proofs.Common.{◌∙◌, sym, arith}
-use Rattle.tl_number.proofs.Common.{arranged_by, links_of}
+use Rattle.tl_number.proofs.Common.{◌∙◌, arith, arranged_by, links_of}
 use Rattle.tl_number.proofs.Texts.LinkOrder.{all_links_tied, as_many_through}
-use Rattle.tl_number.proofs.Texts.TiedOnes.{first_untied, tied_more}
+use Rattle.tl_number.proofs.Texts.TiedOnes.{first_untied}
 use Rattle.tl_number.proofs.type_i_and_p_order.compare_links.Goals as goal
-
-pub loop-place-init : goal.loop-place-init
-loop-place-init g c = λ place l. absurd (omega (arith, l))
 
 pub compare_link-requires-clause-other : goal.compare_link-requires-clause-other
 compare_link-requires-clause-other g c =
@@ -20,12 +16,6 @@ returns-in_default g c =
     c.compare_link.ensures
     ∙ first_untied (links_of a) (links_of b) c.loop-place.place c.loop-place.invariant
     (λ same. c.in_default.not-Equal (c.compare_link.ensures ∙ same))
-
-pub loop-place-preserved : goal.loop-place-preserved
-loop-place-preserved g c =
-    let a = arranged_by (g.A.Chart.county c.args.a.now.chart) c.args.a.now.arrangement.items in
-    let b = arranged_by (g.B.Chart.county c.args.b.now.chart) c.args.b.now.arrangement.items in
-    tied_more (links_of a) (links_of b) c.loop-place.place c.loop-place.invariant (sym c.compare_link.ensures ∙ c.in-Equal.is)
 
 pub returns : goal.returns
 returns g c =

@@ -1,4 +1,4 @@
-use Rattle.std.proofs.Common.{◌≡◌, ◌∙◌, true, rules, sym}
+use Rattle.tl_number.proofs.Common.{◌≡◌, ◌∙◌, true, rules, sym}
 use Rattle.tl_number.proofs.Texts.LinkOrder.{same_link_through}
 use Rattle.tl_number.proofs.type_i_and_p_order.is_same_link.Goals as goal
 

@@ -1,19 +1,8 @@
-use Rattle.std.proofs.Common.{◌<◌, ◌∙◌, ◌∷◌, [], length, option_map, slice_get, sym, ap, subst, arith}
-use Rattle.tl_number.proofs.Common.{I, arranged_by, length-map, packed_i}
+use Rattle.tl_number.proofs.Common.{◌<◌, ◌∙◌, ◌∷◌, [], length, option_map, slice_get, sym, ap, subst, arith, I, arranged_by, packed_i}
 use Rattle.tl_number.proofs.Lemmas.{group_of}
 use Rattle.tl_number.proofs.Records.ChainPlaces.{some_at}
 use Rattle.tl_number.proofs.Texts.LinkOrder.{link_there}
 use Rattle.tl_number.proofs.type_i_and_p_order.link_record.Goals as goal
-
-pub head-head-requires : goal.head-head-requires
-head-head-requires g c =
-    let county = arranged_by (g.C.Chart.county c.args.county.now.chart) c.args.county.now.arrangement.items in
-    subst (λ n. c.args.place < n) (sym (length-map county.chains (λ entry. packed_i entry ∷ []))) c.requires
-
-pub record-requires-clause-group : goal.record-requires-clause-group
-record-requires-clause-group g c =
-    let county = arranged_by (g.C.Chart.county c.args.county.now.chart) c.args.county.now.arrangement.items in
-    subst (λ n. c.args.place < n) (sym (length-map county.chains (λ entry. packed_i entry ∷ []))) c.requires
 
 pub record-requires-clause-place : goal.record-requires-clause-place
 record-requires-clause-place g c =

@@ -1,5 +1,4 @@
-use Rattle.std.proofs.Common.{◌++◌, subst}
-use Rattle.tl_number.proofs.Common.{arranged_by, err_from_is_err_and, types_1_to_4, types_5_to_7, types_8_to_p}
+use Rattle.tl_number.proofs.Common.{◌++◌, subst, arranged_by, err_from_is_err_and, types_1_to_4, types_5_to_7, types_8_to_p}
 use Rattle.tl_number.proofs.Lemmas.{second_stops}
 use Rattle.tl_number.proofs.Records.OneAfterAnother.{third_ends}
 use Rattle.tl_number.proofs.Records.PackedGroups.{all_groups}

@@ -1,16 +1,7 @@
-use Rattle.std.proofs.Common.{◌++◌, map}
-use Rattle.tl_number.proofs.Common.{err_from_is_err_and, grouped}
+use Rattle.tl_number.proofs.Common.{map, err_from_is_err_and, grouped}
 use Rattle.tl_number.proofs.Lemmas.{second_stops}
 use Rattle.tl_number.proofs.Records.OneAfterAnother.{third_ends}
 use Rattle.tl_number.proofs.visiting.visit_three.Goals as goal
-
-pub returns-in_err-visit_groups-clause-given : goal.returns-in_err-visit_groups-clause-given
-returns-in_err-visit_groups-clause-given g c =
-    let xs = map g.A.Item.Tabled.as_record (grouped (g.A.RecordGroups.groups c.args.first.now)) in
-    let ys = map g.B.Item.Tabled.as_record (grouped (g.B.RecordGroups.groups c.args.second.now)) in
-    let zs = map g.C.Item.Tabled.as_record (grouped (g.C.RecordGroups.groups c.args.third.now)) in
-    let p = err_from_is_err_and c.from_residual.result c.from_residual.ensures.1 in
-    rw (p.1, p.2) (g.met.T.RecordVisitor.stops xs (ys ++ zs) _ _ _ _ _ c.in_err-visit_groups.ensures.given)
 
 pub returns-in_err-visit_groups-2-clause-given : goal.returns-in_err-visit_groups-2-clause-given
 returns-in_err-visit_groups-2-clause-given g c =

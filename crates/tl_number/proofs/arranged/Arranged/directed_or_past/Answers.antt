@@ -1,5 +1,4 @@
-use Rattle.std.proofs.Common.{arith, false}
-use Rattle.tl_number.proofs.Common.{few_chains}
+use Rattle.tl_number.proofs.Common.{arith, false, few_chains}
 use Rattle.tl_number.proofs.Views.ViewChains.{numbered_past, numbered_there}
 use Rattle.tl_number.proofs.arranged.Arranged.directed_or_past.Goals as goal
 

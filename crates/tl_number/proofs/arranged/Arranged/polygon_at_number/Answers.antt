@@ -1,5 +1,4 @@
-use Rattle.std.proofs.Common.{◌+◌, ◌∙◌, Some, option_map, slice_get, sym, ap}
-use Rattle.tl_number.proofs.Common.{PolygonKey, numbered, slice_get-map, under_number}
+use Rattle.tl_number.proofs.Common.{◌+◌, ◌∙◌, Some, option_map, slice_get, sym, ap, PolygonKey, numbered, slice_get-map, under_number}
 use Rattle.tl_number.proofs.Polygons.PolygonNumbers.{key_numbered}
 use Rattle.tl_number.proofs.arranged.Arranged.polygon_at_number.Goals as goal
 

@@ -1,5 +1,4 @@
-use Rattle.std.proofs.Common.{slice_get, ap, ◌∙◌}
-use Rattle.tl_number.proofs.Common.{arranged_by, entry_values}
+use Rattle.tl_number.proofs.Common.{slice_get, ap, ◌∙◌, arranged_by, entry_values}
 use Rattle.tl_number.proofs.Views.ViewTables.{read_at, read_past}
 use Rattle.tl_number.proofs.arranged.Arranged.polygon_body_at_key.Goals as goal
 

@@ -1,5 +1,5 @@
-use Rattle.std.proofs.Common.{◌+◌, ◌∙◌, slice_get, option_map, sym, ap}
-use Rattle.tl_number.proofs.Common.{PolygonKey, arranged_by, numbered, slice_get-map, under_number}
+use Rattle.tl_number.proofs.Common.{◌+◌, ◌∙◌, slice_get, option_map, sym, ap, PolygonKey, arranged_by, numbered, slice_get-map}
+use Rattle.tl_number.proofs.Common.{under_number}
 use Rattle.std.specs.Option.{option_flatten}
 use Rattle.tl_number.proofs.Polygons.PolygonNumbers.{content_at_number, key_numbered}
 use Rattle.tl_number.proofs.arranged.Arranged.polygon_body_at_number.Goals as goal

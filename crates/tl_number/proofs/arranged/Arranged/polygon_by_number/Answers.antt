@@ -1,5 +1,4 @@
-use Rattle.std.proofs.Common.{◌<◌, ◌∙◌, sym, subst, nat_cmp}
-use Rattle.tl_number.proofs.Common.{arranged_by, entry_polyid, on, polygons_by_number}
+use Rattle.tl_number.proofs.Common.{◌<◌, ◌∙◌, sym, subst, nat_cmp, arranged_by, entry_polyid, on, polygons_by_number}
 use Rattle.ordered_lists.proofs.ByKey.Numbers.{length-in_order}
 use Rattle.tl_profile.proofs.Places.{stands_at, is_some_from}
 use Rattle.tl_number.proofs.arranged.Arranged.polygon_by_number.Goals as goal

@@ -1,5 +1,4 @@
-use Rattle.std.proofs.Common.{◌∙◌, ap, subst, sym}
-use Rattle.tl_number.proofs.Common.{Carries, arranged_by, arrangement_of, numbered}
+use Rattle.tl_number.proofs.Common.{◌∙◌, ap, subst, sym, Carries, arranged_by, arrangement_of, numbered}
 use Rattle.tl_number.proofs.Lemmas.{arrangement_carries}
 use Rattle.tl_number.specs.Arrangement.{renaming_of}
 use Rattle.tl_number.proofs.Views.ViewChains.{arranges}

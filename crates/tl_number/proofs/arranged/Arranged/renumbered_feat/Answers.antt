@@ -1,6 +1,4 @@
-use Rattle.std.proofs.Common.{Some, option_map, sym, ap, ◌∙◌, nat_cmp}
-use Rattle.tl_number.proofs.Common.{arrangement_of, image}
-use Rattle.tl_number.specs.Arrangement.{renaming_of}
+use Rattle.tl_number.proofs.Common.{Some, option_map, sym, ap, ◌∙◌, nat_cmp, arrangement_of, image, renaming_of}
 use Rattle.tl_number.proofs.Views.ViewTables.{feats_paired}
 use Rattle.tl_number.proofs.arranged.Arranged.renumbered_feat.Goals as goal
 

@@ -1,5 +1,4 @@
-use Rattle.std.proofs.Common.{◌∙◌, ap}
-use Rattle.tl_number.proofs.Common.{arranged_tlids, arrangement_of, numbered, turned_tlids}
+use Rattle.tl_number.proofs.Common.{◌∙◌, ap, arranged_tlids, arrangement_of, numbered, turned_tlids}
 use Rattle.tl_number.specs.Arrangement.{renaming_of}
 use Rattle.tl_number.proofs.arranged.Arranged.tlid_pairs.Goals as goal
 

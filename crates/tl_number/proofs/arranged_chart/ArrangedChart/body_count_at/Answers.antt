@@ -1,4 +1,4 @@
-use Rattle.std.proofs.Common.{slice_get, length, ap, ◌∙◌}
+use Rattle.tl_number.proofs.Common.{slice_get, length, ap, ◌∙◌}
 use Rattle.tl_number.proofs.Views.ViewTables.{landmark_there, landmark_missing}
 use Rattle.tl_number.proofs.arranged_chart.ArrangedChart.body_count_at.Goals as goal
 

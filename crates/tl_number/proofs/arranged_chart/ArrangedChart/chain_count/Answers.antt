@@ -1,4 +1,4 @@
-use Rattle.std.proofs.Common.{sym, ap, ◌∙◌, length}
+use Rattle.tl_number.proofs.Common.{sym, ap, ◌∙◌, length}
 use Rattle.tl_number.proofs.Views.ViewChains.{chains_arranged_by}
 use Rattle.tl_number.proofs.arranged_chart.ArrangedChart.chain_count.Goals as goal
 

@@ -1,6 +1,5 @@
-use Rattle.std.proofs.Common.{option_map, slice_get, refl, sym, ap, ◌∙◌, nat_cmp}
-use Rattle.tl_number.proofs.Common.{arrangement_of, feats_of, image, slice_get-map}
-use Rattle.tl_number.specs.Arrangement.{renaming_of}
+use Rattle.tl_number.proofs.Common.{option_map, slice_get, refl, sym, ap, ◌∙◌, nat_cmp, arrangement_of, feats_of, image, renaming_of}
+use Rattle.tl_number.proofs.Common.{slice_get-map}
 use Rattle.tl_number.proofs.Views.ViewChains.{renumbered_part}
 use Rattle.tl_number.proofs.arranged_chart.ArrangedChart.chain_feat_at.Goals as goal
 

@@ -1,5 +1,4 @@
-use Rattle.std.proofs.Common.{◌≡◌, ◌≤◌, slice_get, sym, ap, ◌∙◌, arith}
-use Rattle.tl_number.proofs.Common.{arranged_by, feats, up_to}
+use Rattle.tl_number.proofs.Common.{◌≡◌, ◌≤◌, slice_get, sym, ap, ◌∙◌, arith, arranged_by, feats, up_to}
 use Rattle.tl_number.proofs.Views.ViewNumbers.{within_up_to}
 use Rattle.tl_number.proofs.Views.ViewTables.{feats_arranged_by}
 use Rattle.tl_number.proofs.arranged_chart.ArrangedChart.feat_at.Given.{Over}

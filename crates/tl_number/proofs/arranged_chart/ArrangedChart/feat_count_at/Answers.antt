@@ -1,5 +1,4 @@
-use Rattle.std.proofs.Common.{sym, ap, ◌∙◌, length}
-use Rattle.tl_number.proofs.Common.{feats_of, length-map}
+use Rattle.tl_number.proofs.Common.{sym, ap, ◌∙◌, length, feats_of, length-map}
 use Rattle.tl_number.proofs.Lemmas.{unnumbered_part}
 use Rattle.tl_number.proofs.arranged_chart.ArrangedChart.feat_count_at.Goals as goal
 

@@ -1,4 +1,4 @@
-use Rattle.std.proofs.Common.{slice_get, ap, ◌∙◌}
+use Rattle.tl_number.proofs.Common.{slice_get, ap, ◌∙◌}
 use Rattle.tl_number.proofs.Views.ViewTables.{landmark_there, landmark_missing}
 use Rattle.tl_number.proofs.arranged_chart.ArrangedChart.landmark_body_at.Goals as goal
 

@@ -1,4 +1,4 @@
-use Rattle.std.proofs.Common.{length, slice_get, ap, ◌∙◌, arith}
+use Rattle.tl_number.proofs.Common.{length, slice_get, ap, ◌∙◌, arith}
 use Rattle.tl_number.proofs.Views.ViewTables.{bounds_counted, bounds_stated, links_stated, links_ordered}
 use Rattle.tl_number.proofs.arranged_chart.ArrangedChart.landmark_link_at.Goals as goal
 

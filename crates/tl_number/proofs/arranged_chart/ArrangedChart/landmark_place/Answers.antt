@@ -1,5 +1,4 @@
-use Rattle.std.proofs.Common.{◌≡◌, ℕ, List, Some, IfSome, slice_get, nat_cmp, sym, ap, ◌∙◌, subst, length}
-use Rattle.tl_number.proofs.Common.{stands_in, up_to}
+use Rattle.tl_number.proofs.Common.{◌≡◌, ℕ, List, Some, IfSome, slice_get, nat_cmp, sym, ap, ◌∙◌, subst, length, stands_in, up_to}
 use Rattle.tl_number.proofs.Views.ViewTables.{lands_arranged_by}
 use Rattle.tl_number.proofs.arranged_chart.ArrangedChart.landmark_place.Goals as goal
 

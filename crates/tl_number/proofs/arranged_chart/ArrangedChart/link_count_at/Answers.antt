@@ -1,4 +1,4 @@
-use Rattle.std.proofs.Common.{length, ap, ◌∙◌, arith}
+use Rattle.tl_number.proofs.Common.{length, ap, ◌∙◌, arith}
 use Rattle.tl_number.proofs.Views.ViewTables.{bounds_counted, bounds_stated, links_stated, links_ordered}
 use Rattle.tl_number.proofs.arranged_chart.ArrangedChart.link_count_at.Goals as goal
 

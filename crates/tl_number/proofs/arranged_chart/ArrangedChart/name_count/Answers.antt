@@ -1,4 +1,4 @@
-use Rattle.std.proofs.Common.{sym, ◌∙◌}
+use Rattle.tl_number.proofs.Common.{sym, ◌∙◌}
 use Rattle.tl_number.proofs.Views.ViewTables.{names_arranged_by}
 use Rattle.tl_number.proofs.arranged_chart.ArrangedChart.name_count.Goals as goal
 

@@ -1,5 +1,4 @@
-use Rattle.std.proofs.Common.{◌≡◌, ℕ, List, Some, IfSome, slice_get, nat_cmp, sym, ap, ◌∙◌, subst}
-use Rattle.tl_number.proofs.Common.{stands_in, up_to}
+use Rattle.tl_number.proofs.Common.{◌≡◌, ℕ, List, Some, IfSome, slice_get, nat_cmp, sym, ap, ◌∙◌, subst, stands_in, up_to}
 use Rattle.tl_number.proofs.Views.ViewTables.{feats_arranged_by}
 use Rattle.tl_number.proofs.arranged_chart.ArrangedChart.name_place.Goals as goal
 

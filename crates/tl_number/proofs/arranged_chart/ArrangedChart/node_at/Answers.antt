@@ -1,5 +1,4 @@
-use Rattle.std.proofs.Common.{slice_get, sym, ap, ◌∙◌}
-use Rattle.tl_number.proofs.Common.{up_to}
+use Rattle.tl_number.proofs.Common.{slice_get, sym, ap, ◌∙◌, up_to}
 use Rattle.tl_number.proofs.Lemmas.{nodes_arranged_by}
 use Rattle.tl_number.proofs.arranged_chart.ArrangedChart.node_at.Goals as goal
 

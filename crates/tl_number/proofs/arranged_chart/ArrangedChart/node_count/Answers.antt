@@ -1,5 +1,4 @@
-use Rattle.std.proofs.Common.{sym, ap, ◌∙◌, length}
-use Rattle.tl_number.proofs.Common.{length-range_with_len}
+use Rattle.tl_number.proofs.Common.{sym, ap, ◌∙◌, length, length-range_with_len}
 use Rattle.tl_number.proofs.Lemmas.{nodes_arranged_by}
 use Rattle.tl_number.proofs.arranged_chart.ArrangedChart.node_count.Goals as goal
 

@@ -1,5 +1,4 @@
-use Rattle.std.proofs.Common.{refl, ap, ◌∙◌, slice_get}
-use Rattle.tl_number.proofs.Common.{points_of}
+use Rattle.tl_number.proofs.Common.{refl, ap, ◌∙◌, slice_get, points_of}
 use Rattle.tl_number.proofs.Lemmas.{unnumbered_part}
 use Rattle.tl_number.proofs.arranged_chart.ArrangedChart.point_at.Goals as goal
 

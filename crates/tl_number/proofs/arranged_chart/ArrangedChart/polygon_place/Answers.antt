@@ -1,5 +1,4 @@
-use Rattle.std.proofs.Common.{sym, ◌∙◌, subst}
-use Rattle.tl_number.proofs.Common.{IsInOrder, key_cmp}
+use Rattle.tl_number.proofs.Common.{sym, ◌∙◌, subst, IsInOrder, key_cmp}
 use Rattle.tl_number.proofs.Views.ViewTables.{order_from_strict}
 use Rattle.tl_number.proofs.arranged_chart.ArrangedChart.polygon_place.Goals as goal
 

@@ -1,5 +1,5 @@
-use Rattle.std.proofs.Common.{◌≡◌, ◌<◌, ◌∙◌, List, ℕ, Option, Some, length, option_map, take, refl, sym, ap, is_some, false}
-use Rattle.tl_number.proofs.Common.{Chain, arranged_by, joined}
+use Rattle.tl_number.proofs.Common.{◌≡◌, ◌<◌, ◌∙◌, List, ℕ, Option, Some, length, option_map, take, refl, sym, ap, is_some, false, Chain}
+use Rattle.tl_number.proofs.Common.{arranged_by, joined}
 use Rattle.tl_number.proofs.Lemmas.{chain_there}
 use Rattle.tl_layout.specs.Turned.{body_towards}
 use Rattle.tl_layout.specs.Type1Groups.{body_1_texts}

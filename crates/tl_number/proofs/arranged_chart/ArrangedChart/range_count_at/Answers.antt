@@ -1,5 +1,4 @@
-use Rattle.std.proofs.Common.{refl, ap, ◌∙◌, length}
-use Rattle.tl_number.proofs.Common.{ranges_of}
+use Rattle.tl_number.proofs.Common.{refl, ap, ◌∙◌, length, ranges_of}
 use Rattle.tl_number.proofs.Lemmas.{unnumbered_part}
 use Rattle.tl_number.proofs.arranged_chart.ArrangedChart.range_count_at.Goals as goal
 

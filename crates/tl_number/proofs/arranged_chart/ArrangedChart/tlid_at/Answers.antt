@@ -1,5 +1,4 @@
-use Rattle.std.proofs.Common.{slice_get, sym, ap, ◌∙◌, length}
-use Rattle.tl_number.proofs.Common.{up_to}
+use Rattle.tl_number.proofs.Common.{slice_get, sym, ap, ◌∙◌, length, up_to}
 use Rattle.tl_number.proofs.Views.ViewChains.{tlids_arranged_by}
 use Rattle.tl_number.proofs.arranged_chart.ArrangedChart.tlid_at.Goals as goal
 

@@ -1,5 +1,4 @@
-use Rattle.std.proofs.Common.{refl, ◌∙◌, option_map}
-use Rattle.tl_number.proofs.Common.{Chain}
+use Rattle.tl_number.proofs.Common.{refl, ◌∙◌, option_map, Chain}
 use Rattle.tl_number.proofs.Lemmas.{unnumbered_part}
 use Rattle.tl_number.proofs.arranged_chart.ArrangedChart.topology_at.Goals as goal
 

@@ -1,5 +1,4 @@
-use Rattle.std.proofs.Common.{◌∷◌, [], arith}
-use Rattle.tl_number.proofs.Common.{packed_one}
+use Rattle.tl_number.proofs.Common.{◌∷◌, [], arith, packed_one}
 use Rattle.tl_number.proofs.Records.ChainPlaces.{ends_at}
 use Rattle.tl_number.proofs.Records.RecordPlaces.{two_points}
 use Rattle.tl_number.proofs.chain_records.ChainRecordsRecordGroups.head.Goals as goal

@@ -1,17 +1,11 @@
 -- The number, the content and the points are written one after another, as the record is spelled.
-use Rattle.std.proofs.Common.{◌<◌, ◌∙◌, ◌∷◌, ◌++◌, [], Some, option_map, codes, take, sym, ap, subst}
-use Rattle.tl_number.proofs.Common.{first_point, joined, last_point, length-map, packed_one}
+use Rattle.tl_number.proofs.Common.{◌∙◌, ◌∷◌, ◌++◌, [], Some, option_map, codes, take, sym, ap, first_point, joined, last_point, packed_one}
 use Rattle.tl_number.proofs.Lemmas.{chain_of_group, lone_of, part_of, tlid_of}
 use Rattle.tl_layout.specs.FieldTexts.{number_text}
 use Rattle.tl_layout.specs.RecordTables.{rtype_1}
 use Rattle.tl_layout.specs.RecordTypes.{Type1, fields_spelling}
 use Rattle.tl_layout.specs.Type1Groups.{body_1_texts, point_texts}
 use Rattle.tl_number.proofs.chain_records.ChainRecordsRecordGroups.put.Goals as goal
-
-pub put_chain_body-requires-clause-place : goal.put_chain_body-requires-clause-place
-put_chain_body-requires-clause-place g c =
-    let county = g.C.Chart.county c.args.self.now.chart.now in
-    subst (λ n. c.args.group < n) (length-map county.chains (λ entry. packed_one entry ∷ [])) c.requires.group
 
 pub returns : goal.returns
 unfolding fields_spelling

@@ -1,5 +1,4 @@
-use Rattle.std.proofs.Common.{◌∙◌, ◌∷◌, [], Some, sym, ap}
-use Rattle.tl_number.proofs.Common.{first_point, last_point, packed_one}
+use Rattle.tl_number.proofs.Common.{◌∙◌, ◌∷◌, [], Some, sym, ap, first_point, last_point, packed_one}
 use Rattle.tl_number.proofs.Lemmas.{chain_of_group, lone_of, part_of, tlid_of}
 use Rattle.tl_number.proofs.chain_records.ChainRecordsRecordGroups.record.Goals as goal
 

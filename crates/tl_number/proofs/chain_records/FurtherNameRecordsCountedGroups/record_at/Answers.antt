@@ -1,5 +1,4 @@
-use Rattle.std.proofs.Common.{◌*◌, ◌<◌, ◌∙◌, Some, drop, length, sym, ap, subst, arith}
-use Rattle.tl_number.proofs.Common.{AllByRecursion, IsNumber, chain_at, feats_of}
+use Rattle.tl_number.proofs.Common.{◌*◌, ◌<◌, ◌∙◌, Some, drop, length, sym, ap, subst, arith, AllByRecursion, IsNumber, chain_at, feats_of}
 use Rattle.tl_number.proofs.Lemmas.{tlid_of}
 use Rattle.ordered_lists.proofs.Lists.Counted.{all_take, all_drop}
 use Rattle.tl_number.proofs.Records.RecordPlaces.{PieceThere, four_of, piece_there}

@@ -1,5 +1,4 @@
-use Rattle.std.proofs.Common.{◌∙◌}
-use Rattle.tl_number.proofs.Common.{feats_of}
+use Rattle.tl_number.proofs.Common.{◌∙◌, feats_of}
 use Rattle.tl_number.proofs.Records.RecordPlaces.{four_of, pieces_in_group}
 use Rattle.tl_number.proofs.chain_records.FurtherNameRecordsCountedGroups.record_count.Goals as goal
 

@@ -1,5 +1,4 @@
-use Rattle.std.proofs.Common.{◌<◌, ◌∙◌, Some, length, sym, ap, arith}
-use Rattle.tl_number.proofs.Common.{ranges_of}
+use Rattle.tl_number.proofs.Common.{◌<◌, ◌∙◌, Some, length, sym, ap, arith, ranges_of}
 use Rattle.tl_number.proofs.Lemmas.{tlid_of}
 use Rattle.tl_number.proofs.Records.RecordPlaces.{ItemThere, item_there, six_of}
 use Rattle.tl_number.proofs.chain_records.RangeRecordsCountedGroups.record_at.Given.{Over}

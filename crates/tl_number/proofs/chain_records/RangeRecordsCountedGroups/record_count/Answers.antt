@@ -1,5 +1,4 @@
-use Rattle.std.proofs.Common.{◌∙◌}
-use Rattle.tl_number.proofs.Common.{ranges_of}
+use Rattle.tl_number.proofs.Common.{◌∙◌, ranges_of}
 use Rattle.tl_number.proofs.Records.RecordPlaces.{items_counted, six_of}
 use Rattle.tl_number.proofs.chain_records.RangeRecordsCountedGroups.record_count.Goals as goal
 

@@ -1,5 +1,4 @@
-use Rattle.std.proofs.Common.{◌<◌, ◌∙◌, Some, length, sym, ap, arith}
-use Rattle.tl_number.proofs.Common.{inner_points, points_of}
+use Rattle.tl_number.proofs.Common.{◌<◌, ◌∙◌, Some, length, sym, ap, arith, inner_points, points_of}
 use Rattle.tl_number.proofs.Lemmas.{tlid_of}
 use Rattle.tl_number.proofs.Records.RecordPlaces.{PieceThere, piece_there, two_of}
 use Rattle.tl_number.proofs.chain_records.ShapePointRecordsCountedGroups.record_at.Given.{Over}

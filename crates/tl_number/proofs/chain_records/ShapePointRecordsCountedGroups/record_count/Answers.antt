@@ -1,5 +1,4 @@
-use Rattle.std.proofs.Common.{◌∙◌}
-use Rattle.tl_number.proofs.Common.{inner_points, points_of}
+use Rattle.tl_number.proofs.Common.{◌∙◌, inner_points, points_of}
 use Rattle.tl_number.proofs.Records.RecordPlaces.{pieces_in_group, two_of}
 use Rattle.tl_number.proofs.chain_records.ShapePointRecordsCountedGroups.record_count.Goals as goal
 

@@ -1,6 +1,5 @@
 -- The written bytes are the spelling of the chain's record.
-use Rattle.std.proofs.Common.{◌∙◌, ◌∷◌, [], Some, option_map, sym, ap}
-use Rattle.tl_number.proofs.Common.{packed_i}
+use Rattle.tl_number.proofs.Common.{◌∙◌, ◌∷◌, [], Some, option_map, sym, ap, packed_i}
 use Rattle.tl_number.proofs.Lemmas.{chain_of_group, lone_of}
 use Rattle.tl_layout.specs.TypeI.{type_i_spelling}
 use Rattle.tl_number.proofs.Records.RecordPlaces.{topology_of}

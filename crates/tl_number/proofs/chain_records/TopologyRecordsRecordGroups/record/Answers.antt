@@ -1,5 +1,4 @@
-use Rattle.std.proofs.Common.{◌∙◌, ◌∷◌, [], Some, sym, ap, subst}
-use Rattle.tl_number.proofs.Common.{IsNumberOrNone, packed_i}
+use Rattle.tl_number.proofs.Common.{◌∙◌, ◌∷◌, [], Some, sym, ap, subst, IsNumberOrNone, packed_i}
 use Rattle.tl_number.proofs.Lemmas.{chain_of_group, lone_of, part_of}
 use Rattle.tl_number.proofs.Records.RecordPlaces.{topology_of}
 use Rattle.tl_number.proofs.chain_records.TopologyRecordsRecordGroups.record.Goals as goal

@@ -1,4 +1,4 @@
-use Rattle.std.proofs.Common.{◌∙◌, sym}
+use Rattle.tl_number.proofs.Common.{◌∙◌, sym}
 use Rattle.tl_number.proofs.Views.ArrangedPairs.{node_numbered}
 use Rattle.tl_number.proofs.first_appearance.NumberOrNoneHalf.number.Goals as goal
 

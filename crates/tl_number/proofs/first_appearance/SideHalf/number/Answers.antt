@@ -1,4 +1,4 @@
-use Rattle.std.proofs.Common.{arith, ◌∙◌}
+use Rattle.tl_number.proofs.Common.{arith, ◌∙◌}
 use Rattle.tl_number.proofs.Views.ArrangedPairs.{number_fits, side_numbered}
 use Rattle.tl_number.proofs.first_appearance.SideHalf.number.Goals as goal
 

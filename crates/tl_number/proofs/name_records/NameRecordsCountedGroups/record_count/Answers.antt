@@ -1,5 +1,4 @@
-use Rattle.std.proofs.Common.{◌∷◌, [], length, sym, ap}
-use Rattle.tl_number.proofs.Common.{packed_five}
+use Rattle.tl_number.proofs.Common.{◌∷◌, [], length, sym, ap, packed_five}
 use Rattle.tl_number.proofs.Lemmas.{group_of}
 use Rattle.tl_number.proofs.Records.EntryPlaces.{name_of_group}
 use Rattle.tl_number.proofs.name_records.NameRecordsCountedGroups.record_count.Goals as goal

@@ -1,4 +1,4 @@
-use Rattle.std.proofs.Common.{◌≡◌, ◌<◌, ◌^◌, ◌+◌, ◌∷◌, [], ◌++◌, Some, ◌%◌, get_or, length, length-append, ap, sym, subst, ◌∙◌, arith}
+use Rattle.tl_number.proofs.Common.{◌≡◌, ◌<◌, ◌^◌, ◌+◌, ◌∷◌, [], ◌++◌, Some, ◌%◌, get_or, length, length-append, ap, sym, subst, ◌∙◌, arith}
 use Rattle.tl_number.proofs.Common.{IsKeyOrder, stands_in}
 use Rattle.indexmap.specs.IndexMap.{get as found_by_hash}
 use Rattle.std.specs.BTreeMap.{get as found_in_order}

@@ -1,5 +1,4 @@
-use Rattle.std.proofs.Common.{◌∙◌, ap}
-use Rattle.tl_number.proofs.Common.{IsKeyOrder, apart_from_no_repeat, first_seen_after}
+use Rattle.tl_number.proofs.Common.{◌∙◌, ap, IsKeyOrder, apart_from_no_repeat, first_seen_after}
 use Rattle.tl_number.proofs.Names.NameOrder.{first_seen-itself}
 use Rattle.tl_number.proofs.numbers.Interner.of_distinct.Goals as goal
 

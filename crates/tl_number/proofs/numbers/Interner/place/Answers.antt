@@ -1,5 +1,4 @@
-use Rattle.std.proofs.Common.{is_eq, ap, ◌∙◌, arith}
-use Rattle.tl_number.proofs.Common.{IsKeyOrder, position, stands_in}
+use Rattle.tl_number.proofs.Common.{is_eq, ap, ◌∙◌, arith, IsKeyOrder, position, stands_in}
 use Rattle.std.proofs.lemmas.Option.{IfSome_then, slice_get_within}
 use Rattle.tl_number.proofs.Numbering.PlacedKeys.{stated_first}
 use Rattle.tl_number.proofs.numbers.Interner.place.Goals as goal

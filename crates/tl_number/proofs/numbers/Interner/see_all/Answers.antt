@@ -1,5 +1,4 @@
-use Rattle.std.proofs.Common.{◌∙◌, Some, ap, length, refl, sym}
-use Rattle.tl_number.proofs.Common.{drop_all, first_seen_after, slice_get_read}
+use Rattle.tl_number.proofs.Common.{Some, length, refl, sym, slice_get_read}
 use Rattle.tl_number.proofs.Numbering.SeenLists.{seen_next}
 use Rattle.tl_number.proofs.numbers.Interner.see_all.Goals as goal
 
@@ -10,8 +9,3 @@ loop-key-preserved g c =
     let key = c.key-item.result in
     seen_next g.K.Ord.cmp i c.loop-key.self c.see.new.self keys (Some key) _ c.in_ok-see.ensures.seen
     (sym (slice_get_read keys (length keys) i key refl c.loop-key-test.true c.key-item.is)) c.loop-key.invariant
-
-pub returns : goal.returns
-returns g c =
-    sym (ap (first_seen_after g.K.Ord.cmp c.loop-key.self) (drop_all c.loop-key.key-index c.args.keys.now c.loop-key-test.false))
-    ∙ c.loop-key.invariant

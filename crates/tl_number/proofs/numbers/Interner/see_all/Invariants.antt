@@ -1,5 +1,4 @@
-use Rattle.std.proofs.Common.{◌≡◌, drop}
-use Rattle.tl_number.proofs.Common.{first_seen_after}
+use Rattle.tl_number.proofs.Common.{◌≡◌, drop, first_seen_after}
 use Rattle.tl_number.proofs.numbers.Interner.see_all.Given as goal
 
 abbrev pub invariant-loop-key : goal.invariant-loop-key

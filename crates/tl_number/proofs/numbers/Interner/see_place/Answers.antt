@@ -1,5 +1,4 @@
-use Rattle.std.proofs.Common.{sym}
-use Rattle.tl_number.proofs.Common.{IsKeyOrder}
+use Rattle.tl_number.proofs.Common.{sym, IsKeyOrder}
 use Rattle.tl_number.proofs.Numbering.PlacedKeys.{added_first}
 use Rattle.tl_number.proofs.numbers.Interner.see_place.Goals as goal
 

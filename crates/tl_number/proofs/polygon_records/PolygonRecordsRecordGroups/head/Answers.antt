@@ -1,5 +1,4 @@
-use Rattle.std.proofs.Common.{◌<◌, option_to_list, subst}
-use Rattle.tl_number.proofs.Common.{arranged_by, packed_p}
+use Rattle.tl_number.proofs.Common.{◌<◌, option_to_list, subst, arranged_by, packed_p}
 use Rattle.tl_number.proofs.Records.EntryPlaces.{polygons_counted}
 use Rattle.tl_number.proofs.polygon_records.PolygonRecordsRecordGroups.head.Goals as goal
 

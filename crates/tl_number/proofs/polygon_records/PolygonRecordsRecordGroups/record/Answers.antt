@@ -1,5 +1,5 @@
-use Rattle.std.proofs.Common.{◌<◌, ◌∙◌, Some, length, option_to_list, sym, ap, subst}
-use Rattle.tl_number.proofs.Common.{arranged_by, group_at, packed_body, type_p_by_number}
+use Rattle.tl_number.proofs.Common.{◌<◌, ◌∙◌, Some, length, option_to_list, sym, ap, subst, arranged_by, group_at, packed_body}
+use Rattle.tl_number.proofs.Common.{type_p_by_number}
 use Rattle.tl_number.proofs.Records.EntryPlaces.{polygon_group, polygon_fits, body_there}
 use Rattle.tl_number.proofs.Records.Grouped.{lone}
 use Rattle.tl_number.proofs.polygon_records.PolygonRecordsRecordGroups.record.Goals as goal
