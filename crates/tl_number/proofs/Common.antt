@@ -74,7 +74,7 @@ pub use Rattle.tl_layout.specs.Coordinates.{Coordinates}
 pub use Rattle.tl_layout.specs.Fields.{Fields2, Fields4, Fields6, Fields7, Fields8, FieldsI, FieldsP}
 pub use Rattle.tl_layout.specs.Numbers.{IsNumber, IsNumberOrNone}
 pub use Rattle.tl_layout.specs.PolygonSide.{PolygonSide}
-pub use Rattle.tl_layout.specs.RecordText.{text_of}
+pub use Rattle.tl_layout.specs.RecordText.{text_of, spelling_of}
 pub use Rattle.tl_layout.specs.declared.mask.Mask.{Mask}
 pub use Rattle.tl_layout.specs.declared.ranges.Ranges.{Ranges}
 pub use Rattle.tl_layout.specs.declared.record_type.Record.{Record}
@@ -86,7 +86,7 @@ pub use Rattle.tl_number.specs.Accepted.{IsAccepted, IsCanonicalThrough}
 pub use Rattle.tl_number.specs.ArrangedCounty.{IsArranged, IsTidy, entry_points}
 pub use Rattle.tl_number.specs.Arrangement.{Arrangement, Arranges, arranged_tlids, ascending, chains_in_order, entries_of, entry_shape}
 pub use Rattle.tl_number.specs.Arrangement.{landmarks_in_order, links_relinked, names_in_order, new_keys, nodes_in_order, placed}
-pub use Rattle.tl_number.specs.Arrangement.{polygons_in_order, relinked, turned_tlids, under_cenid}
+pub use Rattle.tl_number.specs.Arrangement.{polygons_in_order, relinked, turned_tlids, under_cenid, arranged, renaming_of}
 pub use Rattle.tl_number.specs.ByNumber.{entry_polyid, polygons_by_number, under_number}
 pub use Rattle.tl_number.specs.CanonCounties.{IsCanonCounty}
 pub use Rattle.tl_number.specs.Canonical.{AreFull, IsArrangedList, IsCanonical, IsNotAfter, IsPacked, IsTidyList, StandsInOrder}
@@ -108,7 +108,7 @@ pub use Rattle.tl_number.specs.NodeTies.{AreNodeTies}
 pub use Rattle.tl_number.specs.NumberedChoices.{chosen, first_stood, moved, stood, turned_by}
 pub use Rattle.tl_number.specs.RecordOrder.{AreTiedAt, AreTiedBelow, groups_cmp, links_of, records_cmp, spelling_cmp}
 pub use Rattle.tl_number.specs.Sights.{IsSight, plain}
-pub use Rattle.tl_number.specs.Tidy.{HasShapesApart, IsChoice, IsLeastChoice, arranged_list}
+pub use Rattle.tl_number.specs.Tidy.{HasShapesApart, IsChoice, IsLeastChoice, arranged_list, numbered_choice}
 pub use Rattle.tl_number.specs.TypeOneOrder.{IsLeastFrom, one_at, ones_cmp, ones_of}
 pub use Rattle.tl_number.specs.Uses.{Use, all_uses, landmark_key, landmark_key_cmp, name_key, name_key_cmp, use_cmp, uses_from}
 pub use Rattle.tl_number.specs.Uses.{uses_of_name}
@@ -125,6 +125,3 @@ pub use Rattle.tl_shape.specs.Chain.{Chain}
 pub use Rattle.tl_shape.specs.PointOrder.{points_cmp}
 pub use Rattle.tl_shape.specs.Turned.{turned_if}
 pub use Rattle.std.specs.List.Sorted.{IsStrictlySortedBy}
-pub use Rattle.tl_layout.specs.RecordText.{spelling_of}
-pub use Rattle.tl_number.specs.Arrangement.{arranged, renaming_of}
-pub use Rattle.tl_number.specs.Tidy.{numbered_choice}

@@ -1,6 +1,6 @@
 -- Arrangements: an order and a direction for each chain of a county, and the renaming and the county that result from them.
 use Rattle.std.specs.Prelude.{ℕ, List, map, filter, flat_map, reverse, Bool, IsPermutation}
-use Rattle.std.specs.Ordering.{is_gt, on}
+use Rattle.std.specs.Ordering.{is_gt, on, nat_cmp}
 use Rattle.tl_layout.specs.ByType.{of_number}
 use Rattle.tl_layout.specs.Coordinates.{Coordinates}
 use Rattle.tl_layout.specs.Fields.{Fields8}
@@ -17,7 +17,6 @@ use Rattle.tl_county.specs.Packing.{numbered_from}
 use Rattle.tl_county.specs.PolygonKeys.{PolygonKey, key_cmp}
 use Rattle.tl_county.specs.Renumbering.{Renumbering, carried_chain, carried_name, carried_polygon, carried_landmark, carried_link}
 use Rattle.ordered_lists.specs.Pairs.{image}
-use Rattle.std.specs.Ordering.{nat_cmp}
 use Rattle.tl_profile.specs.Shapes.{least_points}
 use Rattle.tl_number.specs.Growth.{first_seen, numbered}
 use Rattle.tl_number.specs.Uses.{all_uses, name_key, name_key_cmp, landmark_key, landmark_key_cmp}

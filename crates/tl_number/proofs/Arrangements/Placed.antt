@@ -7,11 +7,9 @@ use Rattle.tl_number.proofs.Common.{entries_of, image, images-lefts, keys_known,
 use Rattle.tl_number.proofs.Common.{known_cases, length-map, lt-ltb, map-append, map-map, map_agree_all, nat_keys, numbered, numbered_from}
 use Rattle.tl_number.proofs.Common.{placed, renumbered, rights-numbered_from, same_or_not, stands_in, times, times-no, times-of_number}
 use Rattle.tl_number.proofs.Common.{times-yes, tlids, turned_if, turned_tlids, turns, up_to}
-use Rattle.ordered_lists.proofs.ByKey.Keys.{known-later}
-use Rattle.ordered_lists.proofs.ByKey.Keys.{differ}
-use Rattle.tl_county.proofs.Lists.OfNumber.{of_number-all}
+use Rattle.ordered_lists.proofs.ByKey.Keys.{known-later, differ}
+use Rattle.tl_county.proofs.Lists.OfNumber.{of_number-all, groups-permutation}
 use Rattle.ordered_lists.proofs.ByKey.Numbers.{only_one}
-use Rattle.tl_county.proofs.Lists.OfNumber.{groups-permutation}
 use Rattle.tl_number.proofs.Lists.Counting.{entries_equal, flat_map-map}
 use Rattle.tl_county.proofs.Packing.Pieces.{lefts-numbered_from}
 use Rattle.tl_number.proofs.Unique.SameNumbers.{kept_entry}

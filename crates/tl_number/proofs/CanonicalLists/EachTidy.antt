@@ -9,8 +9,7 @@ use Rattle.tl_county.specs.Renumbering.{inverse, then, exactly_one}
 use Rattle.ordered_lists.specs.Pairs.{swapped}
 use Rattle.ordered_lists.proofs.ByKey.Keys.{image-known}
 use Rattle.ordered_lists.proofs.Lists.Elements.{map_itself}
-use Rattle.tl_county.proofs.Sameness.Equivalence.{Follows, there_and_back, inverse_follows, inverse_carries, then_follows}
-use Rattle.tl_county.proofs.Sameness.Equivalence.{then_carries}
+use Rattle.tl_county.proofs.Sameness.Equivalence.{Follows, there_and_back, inverse_follows, inverse_carries, then_follows, then_carries}
 use Rattle.tl_number.proofs.Arrangements.ArrangedCounties.{arranged_county, is_arranged}
 use Rattle.tl_number.proofs.Arrangements.Carrying.{arrangement_carries, chains_renamed, turned_renamed, images-numbered}
 use Rattle.tl_number.proofs.Lists.Counting.{map-equal_all}

@@ -7,8 +7,7 @@ use Rattle.tl_number.proofs.Common.{map_agree_everywhere, name_key, name_key_cmp
 use Rattle.tl_number.proofs.Common.{numbered, numbered_from, on, parts_along, placed, polygons_along, renaming_of, renumbered}
 use Rattle.tl_number.proofs.Common.{renumbered_polygon, side_of, slice_get-get_or, slice_get-map, slice_get_past, under_cenid}
 use Rattle.tl_number.specs.MovedChains.{HaveSamePartsBelow}
-use Rattle.tl_number.proofs.Arrangements.Carrying.{chains_arranged, names_arranged, names_renamed}
-use Rattle.tl_number.proofs.Arrangements.Carrying.{nodes_renamed}
+use Rattle.tl_number.proofs.Arrangements.Carrying.{chains_arranged, names_arranged, names_renamed, nodes_renamed}
 use Rattle.tl_number.proofs.Choices.FixedPlaces.{same_everywhere}
 use Rattle.tl_number.proofs.Texts.SamePolygons.{new_polygons_same, same_landmarks, same_links, same_polygons}
 use Rattle.tl_number.proofs.Unique.SameNumbers.{kept_entry}

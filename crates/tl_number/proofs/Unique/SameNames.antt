@@ -4,7 +4,7 @@ use Rattle.tl_number.proofs.Common.{◌≡◌, ℕ, suc, ◌==◌, List, [], ◌
 use Rattle.tl_number.proofs.Common.{nat_cmp, AllByRecursion, AllStandIn, Among, Carries, Chain, County, IsApart, IsArranged, IsClosed}
 use Rattle.tl_number.proofs.Common.{IsKeyOrder, IsStrictlySortedBy, Known, Renumbering, Use, all_append, all_left, all_right, all_uses}
 use Rattle.tl_number.proofs.Common.{all_weaker, among-unmap, apart_from_sorted, feats, image, lists_keys, ltb-true, map-append, map-map}
-use Rattle.tl_number.proofs.Common.{name_key, name_key_cmp, pair_keys, stands_in, times, use_cmp, uses_from, uses_of_name}
+use Rattle.tl_number.proofs.Common.{name_key_cmp, pair_keys, stands_in, times, use_cmp, uses_from, uses_of_name}
 use Rattle.tl_number.proofs.Lists.Filtered.{filter-agree_all, filter-mapped, same_after}
 use Rattle.tl_county.specs.Laws.KeyOrders.{name_body_keys}
 use Rattle.ordered_lists.proofs.Lists.Members.{one_entry}

@@ -1,8 +1,6 @@
-use Rattle.tl_number.proofs.Common.{◌+◌, Ok, length, map, take, drop, suc, subst, sym, arith, err_from_is_err_and, group_at, grouped}
-use Rattle.tl_number.proofs.Common.{take_all}
+use Rattle.tl_number.proofs.Common.{◌+◌, Ok, length, map, take, drop, suc, subst, sym, err_from_is_err_and, group_at, grouped}
 use Rattle.tl_number.proofs.Lemmas.{second_stops}
 use Rattle.tl_number.proofs.Records.GivenGroups.{around_group, with_group}
-use Rattle.tl_number.proofs.Records.Grouped.{length_headed}
 use Rattle.tl_number.proofs.groups.visit_headed.Goals as goal
 
 pub returns-in_err-visit_whole_group-clause-given : goal.returns-in_err-visit_whole_group-clause-given
@@ -32,14 +30,3 @@ loop-ahead-preserved g c =
           c.args.device.now c.loop-ahead.device c.visit_whole_group.new.device (Ok tt) c.loop-ahead.invariant.taken c.in_ok-visit_whole_group.ensures.given);
       ready = c.in_ok-visit_whole_group.ensures.ready;
     }
-
-pub returns-clause-given : goal.returns-clause-given
-returns-clause-given g c =
-    let f = g.G.Item.Tabled.as_record in
-    let all_groups = g.G.RecordGroups.groups c.args.groups.now in
-    let count = length c.args.heads.now in
-    let gs = take count (drop c.args.first all_groups) in
-    subst (λ hs. g.T.RecordVisitor.Takes (map f (grouped hs))
-    c.args.visitor.now c.args.device.now (Ok tt) c.loop-ahead.visitor c.loop-ahead.device)
-    (take_all c.loop-ahead.ahead gs
-    (omega (arith, length_headed all_groups c.args.first count c.requires.within, c.loop-ahead-test.false))) c.loop-ahead.invariant.taken

@@ -1,6 +1,6 @@
 use Rattle.tl_number.proofs.Common.{◌≡◌, ◌∙◌, Bool, true, false, not, is_eq, sym, ap, refl, choices, false≢true, ones_cmp}
 use Rattle.tl_number.proofs.Lemmas.{agree_of_numbers}
-use Rattle.tl_number.proofs.Choices.LeastOnes.{equal_from, least_one_first, one_list}
+use Rattle.tl_number.proofs.Choices.LeastOnes.{least_one_first, one_list}
 use Rattle.tl_number.proofs.least_choice.is_other_tie.Goals as goal
 
 was_true : (b : Bool) → not b ≡ false → b ≡ true
@@ -13,11 +13,6 @@ have_same_chains-requires g c =
     (g.met.C.Chart.within_limits c.args.chart.now) c.requires.known.sides c.args.order.now.by_shape c.requires.known.order.by_shape c.args.order.now.places
     (c.requires.known.order.places c.requires.known.few) c.deref.result.now c.compare_number-ordering.new.arrangement c.args.least.now.number c.args.number
     (c.deref.ensures.value ∙ c.requires.arrangement) c.compare_number-ordering.ensures.arrangement c.open_places.result.now c.open_places.ensures
-
-pub returns-then-is_eq-clause-tied : goal.returns-then-is_eq-clause-tied
-returns-then-is_eq-clause-tied g c = λ e.
-    sym c.compare_number-ordering.ensures.order
-    ∙ equal_from c.compare_number-ordering.result (sym c.is_eq.ensures ∙ c.if-is_eq.true)
 
 pub returns-then-is_eq-clause-least : goal.returns-then-is_eq-clause-least
 returns-then-is_eq-clause-least g c = λ e.

@@ -2,7 +2,7 @@ use Rattle.tl_number.proofs.Common.{◌≡◌, is_gt, length, sym, ap, ◌∙◌
 use Rattle.tl_number.proofs.Lemmas.{places_within}
 use Rattle.tl_number.proofs.Choices.ChosenArrangements.{moved_of_number}
 use Rattle.tl_number.proofs.Choices.FixedPlaces.{agree_itself}
-use Rattle.tl_number.proofs.Choices.LeastOnes.{first_one, greater_from, not_greater_from, one_gives_way, one_stays}
+use Rattle.tl_number.proofs.Choices.LeastOnes.{first_one, greater_from, one_gives_way}
 use Rattle.tl_number.proofs.least_choice.least_of_type_1.Goals as goal
 
 pub arrangement_of_number-requires : goal.arrangement_of_number-requires
@@ -19,18 +19,6 @@ loop-number-init g c = record {
     apart = agree_itself c.args.order.now.places c.in_ok-arrangement.arrangement.items c.args.order.now.by_shape c.in_ok-arrangement.ensures;
   };
 }
-
-pub loop-number-preserved-then-is_le : goal.loop-number-preserved-then-is_le
-loop-number-preserved-then-is_le g c =
-    let county = g.C.Chart.county c.args.chart.now in
-    let stays : is_gt (ones_cmp county c.loop-number.least.number c.loop-number.number) ≡ false =
-    ap is_gt (sym c.compare_next-ordering.ensures.order)
-    ∙ not_greater_from c.compare_next-ordering.result (sym c.is_le.ensures ∙ c.if-is_le.true) in
-    record {
-      arrangement = c.loop-number.invariant.arrangement;
-      least = one_stays county c.loop-number.number c.loop-number.least.number c.loop-number.invariant.least stays;
-      moved = c.compare_next-ordering.ensures.moved;
-    }
 
 pub loop-number-preserved : goal.loop-number-preserved
 loop-number-preserved g c =

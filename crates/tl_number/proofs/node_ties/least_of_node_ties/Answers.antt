@@ -1,7 +1,6 @@
-use Rattle.tl_number.proofs.Common.{◌≡◌, ◌∙◌, true, sym, subst, arith, rules, ap, ap₂, but_nodes_list, choice_list, choices}
+use Rattle.tl_number.proofs.Common.{◌≡◌, ◌∙◌, true, sym, arith, rules, ap, ap₂, but_nodes_list, choice_list, choices}
 use Rattle.tl_number.proofs.Common.{critical_numbers, numbered_arrangement, parts_along}
 use Rattle.tl_number.proofs.Lemmas.{agree_of_numbers}
-use Rattle.tl_number.specs.CriticalPlaces.{AreCritical}
 use Rattle.tl_number.proofs.CanonicalLists.TidyLists.{not_after_itself}
 use Rattle.tl_number.proofs.Choices.LeastNumbers.{not_after_both, tie_least, ties_least}
 use Rattle.tl_number.proofs.Ties.CriticalOrder.{there_by_shape, there_numbered, tie_along, tie_of_both, tie_with_itself}
@@ -34,10 +33,6 @@ have_same_open_parts-same-requires g c =
     (g.met.C.Chart.within_limits c.args.chart.now) c.requires.known.sides c.args.order.now.by_shape c.requires.known.order.by_shape c.args.order.now.places
     (c.requires.known.order.places c.requires.known.few) _ _ c.args.first.now.number c.in-Some.next
     (c.deref-in-Some.ensures.value ∙ c.requires.arrangement) c.in-Some.ensures.arrangement _ c.open_places.ensures
-
-pub next_by_nodes-requires-clause-critical : goal.next_by_nodes-requires-clause-critical
-next_by_nodes-requires-clause-critical g c =
-    subst (AreCritical (g.C.Chart.county c.args.chart.now) c.args.order.now) (sym c.deref-in-Some-2.ensures.value) c.in_ok-critical.ensures
 
 pub next_by_nodes-requires-clause-tied : goal.next_by_nodes-requires-clause-tied
 next_by_nodes-requires-clause-tied g c =

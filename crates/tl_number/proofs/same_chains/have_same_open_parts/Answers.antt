@@ -1,8 +1,8 @@
-use Rattle.tl_number.proofs.Common.{◌≡◌, ◌∙◌, length, map, option_map, true, rules, refl, sym, ap, subst, AllByRecursion, AreWithin}
+use Rattle.tl_number.proofs.Common.{◌∙◌, map, option_map, refl, sym, ap, subst, AllByRecursion}
 use Rattle.tl_number.proofs.Common.{DirectedChain, StandInOrder, directed_chain, slice_get-map}
 use Rattle.tl_number.proofs.Lemmas.{nothing_left}
-use Rattle.tl_number.specs.MovedChains.{HaveSamePartAt, IsApart}
-use Rattle.tl_number.proofs.Choices.FixedPlaces.{before_apart, past_first, same_everywhere}
+use Rattle.tl_number.specs.MovedChains.{IsApart}
+use Rattle.tl_number.proofs.Choices.FixedPlaces.{before_apart, same_everywhere}
 use Rattle.tl_number.proofs.same_chains.have_same_open_parts.Goals as goal
 
 pub loop-at-init : goal.loop-at-init
@@ -20,19 +20,6 @@ have_same_parts_at-same-requires-clause-before g c =
     let cut = c.in-Some.ensures.cases.0 in
     λ place before. c.loop-at.invariant.same place (subst (AllByRecursion (IsApart place)) (sym cut)
     (before_apart c.in-Some.at.now c.in-Some.behind.now (subst StandInOrder cut c.loop-at.invariant.in_order) place before))
-
-pub loop-at-preserved : goal.loop-at-preserved
-loop-at-preserved g c =
-    let cut = c.in-Some.ensures.cases.0 in
-    let yes : c.have_same_parts_at-same.result ≡ true = search rules in
-    record {
-      within = (subst (AreWithin (length c.args.one.now)) cut c.loop-at.invariant.within).1;
-      in_order = (subst StandInOrder cut c.loop-at.invariant.in_order).1;
-      same = past_first (HaveSamePartAt g.P.ChainPart.part (g.C.Chart.county c.args.chart.now) c.args.one.now c.args.other.now) c.in-Some.at.now
-          c.in-Some.behind.now
-          (λ place apart. c.loop-at.invariant.same place (subst (AllByRecursion (IsApart place)) (sym cut) apart))
-          (c.have_same_parts_at-same.ensures.0 yes);
-    }
 
 pub returns : goal.returns
 returns g c =

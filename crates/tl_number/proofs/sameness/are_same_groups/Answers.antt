@@ -1,5 +1,4 @@
-use Rattle.tl_number.proofs.Common.{◌≡◌, ◌∙◌, ◌++◌, true, false, rules, drop, length, take, refl, sym, ap, arith, length-take}
-use Rattle.tl_number.proofs.Lemmas.{same_whole}
+use Rattle.tl_number.proofs.Common.{◌≡◌, ◌∙◌, ◌++◌, true, rules, drop, length, take, sym, ap, arith, length-take}
 use Rattle.std.proofs.Math.Seq.{take-add}
 use Rattle.tl_number.proofs.sameness.are_same_groups.Goals as goal
 
@@ -21,12 +20,3 @@ loop-first-preserved g c =
       within = omega (arith, c.read_heads-heads.ensures.count, c.loop-first.invariant.within);
       same = take-add i n xs ∙ (λ k. c.loop-first.invariant.same k ++ next k) ∙ sym (take-add i n ys);
     }
-
-pub returns : goal.returns
-returns g c = (
-  λ e. same_whole (g.G.RecordGroups.groups c.args.a.now) (g.H.RecordGroups.groups c.args.b.now) c.loop-first.first
-      c.loop-first.invariant.same
-      (omega (arith, c.count-count.ensures, c.loop-first-test.false))
-      (omega (arith, c.count.ensures, c.if-count.false, c.loop-first-test.false)),
-  λ all. refl,
-)

@@ -1,5 +1,4 @@
-use Rattle.tl_number.proofs.Common.{decides_no, same_next, ◌≡◌, ◌∙◌, true, false, rules, drop, length, take, refl, sym, ap, arith, group_at}
-use Rattle.tl_number.proofs.Lemmas.{same_whole}
+use Rattle.tl_number.proofs.Common.{same_next, ◌≡◌, ◌∙◌, true, rules, drop, length, take, sym, arith}
 use Rattle.tl_number.proofs.Records.Grouped.{group_headed, length_headed}
 use Rattle.tl_number.proofs.Records.SameGroups.{same_group}
 use Rattle.tl_number.proofs.sameness.are_same_headed.Goals as goal
@@ -19,27 +18,3 @@ loop-ahead-preserved g c =
     (omega (arith, length_headed all_ys first n c.requires.b, c.loop-ahead-test.true))
     (group_headed all_xs first n i c.loop-ahead-test.true ∙ c.is_same_group-same.ensures.0 same
     ∙ sym (group_headed all_ys first n i c.loop-ahead-test.true)))
-
-pub returns-then-not-same : goal.returns-then-not-same
-returns-then-not-same g c =
-    let other : c.is_same_group-same.result ≡ false = search rules in
-    let all_xs = g.G.RecordGroups.groups c.args.a.now in
-    let all_ys = g.H.RecordGroups.groups c.args.b.now in
-    let first = c.args.first in
-    let n = length c.args.heads.now in
-    let i = c.loop-ahead.ahead in
-    decides_no c.is_same_group-same.result other c.is_same_group-same.ensures
-    (λ all. sym (group_headed all_xs first n i c.loop-ahead-test.true) ∙ ap (λ gs. group_at gs i) all
-    ∙ group_headed all_ys first n i c.loop-ahead-test.true)
-
-pub returns : goal.returns
-returns g c =
-    let all_xs = g.G.RecordGroups.groups c.args.a.now in
-    let all_ys = g.H.RecordGroups.groups c.args.b.now in
-    let first = c.args.first in
-    let n = length c.args.heads.now in (
-      λ e. same_whole (take n (drop first all_xs)) (take n (drop first all_ys)) c.loop-ahead.ahead c.loop-ahead.invariant
-          (omega (arith, length_headed all_xs first n c.requires.a, c.loop-ahead-test.false))
-          (omega (arith, length_headed all_ys first n c.requires.b, c.loop-ahead-test.false)),
-      λ all. refl,
-    )

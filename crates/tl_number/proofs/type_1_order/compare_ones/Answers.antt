@@ -1,7 +1,7 @@
-use Rattle.tl_number.proofs.Common.{length, sym, subst, AllByRecursion, AreTiedAt, AreWithin, StandInOrder, arranged_by, ones_of}
+use Rattle.tl_number.proofs.Common.{sym, subst, AllByRecursion, StandInOrder, arranged_by, ones_of}
 use Rattle.tl_number.proofs.Lemmas.{nothing_left}
 use Rattle.tl_number.specs.MovedChains.{IsApart}
-use Rattle.tl_number.proofs.Choices.FixedPlaces.{before_apart, past_first}
+use Rattle.tl_number.proofs.Choices.FixedPlaces.{before_apart}
 use Rattle.tl_number.proofs.Texts.TiedOnes.{all_tied, same_tied}
 use Rattle.tl_number.proofs.type_1_order.compare_ones.Goals as goal
 
@@ -20,22 +20,6 @@ compare_at_open-requires-clause-before g c =
     let behind = c.in-Some.behind.now in
     λ place before. c.loop-at.invariant.tied place (subst (AllByRecursion (IsApart place)) (sym cut)
     (before_apart at behind (subst StandInOrder cut c.loop-at.invariant.in_order) place before))
-
-pub loop-at-preserved : goal.loop-at-preserved
-loop-at-preserved g c =
-    let county = g.C.Chart.county c.args.chart.now in
-    let rs = ones_of (arranged_by county c.args.one.now) in
-    let ss = ones_of (arranged_by county c.args.other.now) in
-    let cut = c.in-Some.ensures.cases.0 in
-    let at = c.in-Some.at.now in
-    let behind = c.in-Some.behind.now in
-    record {
-      within = (subst (AreWithin (length c.args.one.now)) cut c.loop-at.invariant.within).1;
-      in_order = (subst StandInOrder cut c.loop-at.invariant.in_order).1;
-      tied = past_first (AreTiedAt rs ss) at behind
-          (λ place apart. c.loop-at.invariant.tied place (subst (AllByRecursion (IsApart place)) (sym cut) apart))
-          (c.compare_at_open.ensures.tied c.in-Equal.is);
-    }
 
 pub returns : goal.returns
 returns g c =

@@ -23,12 +23,6 @@ item-requires g c =
     let there = directed_there (g.C.Chart.county chart) (g.met.C.Chart.is_county chart) (g.met.C.Chart.within_limits chart) c.args.directed c.requires.directed in
     omega (arith, ap length (c.points-points.ensures ∙ ap points_of there.there), there.two)
 
-pub item-requires-2 : goal.item-requires-2
-item-requires-2 g c =
-    let chart = c.args.chart.now in
-    let there = directed_there (g.C.Chart.county chart) (g.met.C.Chart.is_county chart) (g.met.C.Chart.within_limits chart) c.args.directed c.requires.directed in
-    omega (arith, c.count-last.ensures, ap length (c.points-points.ensures ∙ ap points_of there.there), there.two)
-
 pub overflow_add-place : goal.overflow_add-place
 overflow_add-place g c =
     let few = few_chains (g.C.Chart.county c.args.chart.now) (g.met.C.Chart.within_limits c.args.chart.now) in

@@ -1,5 +1,5 @@
-use Rattle.tl_number.proofs.Common.{length, slice_get, ap, ◌∙◌, arith}
-use Rattle.tl_number.proofs.Views.ViewTables.{bounds_counted, bounds_stated, links_stated, links_ordered}
+use Rattle.tl_number.proofs.Common.{slice_get, ap, ◌∙◌}
+use Rattle.tl_number.proofs.Views.ViewTables.{bounds_stated, links_stated, links_ordered}
 use Rattle.tl_number.proofs.arranged_chart.ArrangedChart.landmark_link_at.Goals as goal
 
 pub links_of_landmark-links-requires-clause-in_order : goal.links_of_landmark-links-requires-clause-in_order
@@ -7,14 +7,6 @@ links_of_landmark-links-requires-clause-in_order g c =
     links_ordered (g.C.Chart.county c.args.self.now.chart) c.args.self.now.arrangement.items
     (g.met.C.Chart.is_county c.args.self.now.chart) c.args.self.now.whole
     c.args.self.now.landmarks c.args.self.now.landmarks_stated c.deref.result.now c.deref.ensures.value
-
-pub links_of_landmark-links-requires-clause-some : goal.links_of_landmark-links-requires-clause-some
-links_of_landmark-links-requires-clause-some g c =
-    let count = bounds_counted (g.C.Chart.county c.args.self.now.chart) c.args.self.now.arrangement.items
-    (g.met.C.Chart.is_county c.args.self.now.chart) c.args.self.now.whole
-    c.args.self.now.landmarks c.args.self.now.landmarks_stated in
-    let same = ap length c.deref-2.ensures.value in
-    omega (arith, count, same)
 
 pub links_of_landmark-links-requires-clause-bounds : goal.links_of_landmark-links-requires-clause-bounds
 links_of_landmark-links-requires-clause-bounds g c =

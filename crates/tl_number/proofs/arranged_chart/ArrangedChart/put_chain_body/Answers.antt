@@ -1,17 +1,10 @@
-use Rattle.tl_number.proofs.Common.{◌≡◌, ◌<◌, ◌∙◌, List, ℕ, Option, Some, length, option_map, take, refl, sym, ap, is_some, false, Chain}
+use Rattle.tl_number.proofs.Common.{◌≡◌, ◌∙◌, List, ℕ, Option, Some, option_map, take, refl, ap, is_some, false, Chain}
 use Rattle.tl_number.proofs.Common.{arranged_by, joined}
 use Rattle.tl_number.proofs.Lemmas.{chain_there}
 use Rattle.tl_layout.specs.Turned.{body_towards}
 use Rattle.tl_layout.specs.Type1Groups.{body_1_texts}
-use Rattle.tl_number.proofs.Records.ChainPlaces.{all_at}
 use Rattle.tl_number.proofs.Views.ViewChains.{stated, unstated}
 use Rattle.tl_number.proofs.arranged_chart.ArrangedChart.put_chain_body.Goals as goal
-
-pub put_body-requires-clause-place : goal.put_body-requires-clause-place
-put_body-requires-clause-place g c =
-    let view = c.args.self.now in
-    all_at (λ directed. directed.place < length (g.C.Chart.county view.chart).chains) view.arrangement.items c.args.place c.in-Some.directed view.whole.there
-    (sym c.in-Some.ensures)
 
 pub returns-in-Some : goal.returns-in-Some
 returns-in-Some g c =

@@ -1,15 +1,7 @@
-use Rattle.tl_number.proofs.Common.{◌<◌, ◌∙◌, Some, length, option_to_list, sym, ap, subst, arranged_by, group_at, packed_body}
-use Rattle.tl_number.proofs.Common.{type_p_by_number}
-use Rattle.tl_number.proofs.Records.EntryPlaces.{polygon_group, polygon_fits, body_there}
+use Rattle.tl_number.proofs.Common.{◌∙◌, Some, option_to_list, sym, ap, arranged_by, group_at, packed_body, type_p_by_number}
+use Rattle.tl_number.proofs.Records.EntryPlaces.{polygon_group, polygon_fits}
 use Rattle.tl_number.proofs.Records.Grouped.{lone}
 use Rattle.tl_number.proofs.polygon_records.PolygonRecordsRecordGroups.record.Goals as goal
-
-pub unwrap-requires : goal.unwrap-requires
-unwrap-requires g c =
-    let county = arranged_by (g.C.Chart.county c.args.self.now.county.now.chart) c.args.self.now.county.now.arrangement.items in
-    let entry = c.args.head in
-    body_there entry.0 entry.1 c.args._place
-    (subst (λ rs. c.args._place < length rs) (polygon_group county c.args._group entry c.requires.head) c.requires.place)
 
 pub new-requires-clause-cenid : goal.new-requires-clause-cenid
 new-requires-clause-cenid g c =
