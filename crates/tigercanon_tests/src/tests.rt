@@ -13,7 +13,6 @@ mod long;
 mod made;
 mod many;
 mod masked;
-mod masked_counties;
 mod masks;
 mod refusals;
 mod renamings;
@@ -24,3 +23,10 @@ mod texts;
 mod twin_sets;
 mod whole_calls;
 mod worked_sets;
+
+use std::process::Abort;
+
+/// What tests need of the runtime: to end the process, to take memory and to print.
+trait Host: Abort + AllocGlobal + Print {}
+
+impl<R: Abort + AllocGlobal + Print> Host for R {}

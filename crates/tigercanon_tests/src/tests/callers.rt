@@ -1,9 +1,8 @@
 //! The three callers of `uses`, on lines of a county.
 
+use super::Host;
 use super::comparing::{same, same_items};
 use super::sets::{lines_of, spelled};
-use std::alloc::Global;
-use std::process::Abort;
 use tl_load::LoadFault;
 use uses::{cited_tlid, load_pieces, spell_alike};
 
@@ -16,13 +15,9 @@ const LINK_BY_ANOTHER_HAND: &[u8] = b"803060100100001000000001230\r\n";
 fn a_file_may_come_in_any_pieces(rt: HostRuntime) {
     let (front, back) = LINK.split_at(9);
     let records = load_pieces(rt.alloc(), &[front, b"", back]).expect(&rt, "three pieces");
-    let text = spelled(&rt, rt.alloc(), &records);
-    same_items(
-        &rt,
-        "three pieces",
-        &text,
-        b"820060100100001        12        30 \n",
-    );
+    let text = spelled(&rt, &records);
+    let wanted = b"820060100100001        12        30 \n";
+    same_items(&rt, "three pieces", &text, wanted);
     let refused = load_pieces(rt.alloc(), &[b"A", b"\n"]).err();
     let unknown = LoadFault::UnknownType { part: 1, line: 1 };
     same(&rt, "an unknown type", &refused, &Some(unknown));
@@ -55,38 +50,17 @@ const OTHER: &[&str] = &[
     "I{17}77",
 ];
 
-/// Another file, a TLID of the first file, and the TLID of the same chain in the other file.
-const CITED: &[(&'static [&'static str], u64, Option<u64>)] = &[
-    (BACK, 500, Some(77)),
-    (BACK, 77, None),
-    (OTHER, 500, None),
-];
-
-/// Those rows.
-fn cited() -> &'static [(&'static [&'static str], u64, Option<u64>)] {
-    CITED
-}
-
-/// The chain is cited as in the row.
-fn is_cited(rt: &impl Abort, alloc: Global, lines: &[&str], tlid: u64, wanted: Option<u64>) {
-    let file = lines_of(rt, alloc, CHAIN);
-    let other = lines_of(rt, alloc, lines);
-    let row = if wanted.is_some() {
-        "a chain that is there"
-    } else {
-        "no such chain"
-    };
-    same(
-        rt,
-        row,
-        &cited_tlid(alloc, &file, &other, tlid),
-        &Ok(wanted),
-    );
+/// A TLID of the file is this one in another file.
+fn is_cited(rt: &impl Host, tlid: u64, other: &[&str], wanted: Option<u64>) {
+    let file = lines_of(rt, CHAIN);
+    let other = lines_of(rt, other);
+    let found = cited_tlid(rt.alloc(), &file, &other, tlid);
+    same(rt, "a TLID", &(tlid, found), &(tlid, Ok(wanted)));
 }
 
 #[test]
 fn a_cited_chain_is_found_in_another_file(rt: HostRuntime) {
-    for (lines, tlid, wanted) in cited() {
-        is_cited(&rt, rt.alloc(), lines, *tlid, *wanted);
-    }
+    is_cited(&rt, 500, BACK, Some(77));
+    is_cited(&rt, 77, BACK, None);
+    is_cited(&rt, 500, OTHER, None);
 }

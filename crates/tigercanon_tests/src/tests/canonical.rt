@@ -1,32 +1,31 @@
 //! The canonical texts of sets and the renamings onto them.
 
+use super::Host;
 use super::comparing::{same, same_items};
 use super::counties::county_of;
 use super::renamings::{carries, has_lists, onto_the_text};
 use super::sets::{Set, lines_of};
 use super::worked_sets::{street_turned, two_chains, worked};
-use std::alloc::Global;
-use std::process::Abort;
 use tigercanon::{check, normalise, normalise_with_renaming};
 use tl_county::Chart;
 use tl_number::ascending_arrangement;
 use tl_profile::{Admitted, admit, order_by_shape};
 
 /// The set is accepted, its text is this one, and the renaming returned with it carries the set onto it.
-fn becomes(rt: &impl Abort, alloc: Global, set: &Set<'_>) {
-    let accepted = check(alloc, &[set.bytes]);
-    let found = normalise(alloc, &[set.bytes]).expect(rt, set.row);
+fn becomes(rt: &impl Host, set: &Set<'_>) {
+    let accepted = check(rt.alloc(), &[set.bytes]);
+    let found = normalise(rt.alloc(), &[set.bytes]).expect(rt, set.row);
     same_items(rt, set.row, &found, set.text);
-    let reported = normalise_with_renaming(alloc, &[set.bytes]).expect(rt, set.row);
-    let carried = carries(rt, alloc, set.row, set.bytes, set.text, &reported.1);
+    let reported = normalise_with_renaming(rt.alloc(), &[set.bytes]).expect(rt, set.row);
+    let carried = carries(rt, set.row, set.bytes, set.text, &reported.1);
     drop(reported);
     same(rt, set.row, &(accepted, carried), &(Ok(()), true));
 }
 
 /// The number of chains of an admitted county, by its chart, by its list of TLIDs, by its order of shapes and by its arrangement.
-fn has_chains(rt: &impl Abort, alloc: Global, row: &str, admitted: &Admitted, chains: usize) {
-    let shapes = order_by_shape(alloc, admitted.county()).expect(rt, row);
-    let arrangement = ascending_arrangement(alloc, admitted.county()).expect(rt, row);
+fn has_chains(rt: &impl Host, row: &str, admitted: &Admitted, chains: usize) {
+    let shapes = order_by_shape(rt.alloc(), admitted.county()).expect(rt, row);
+    let arrangement = ascending_arrangement(rt.alloc(), admitted.county()).expect(rt, row);
     let counts = [
         admitted.chart().chain_count(),
         admitted.county().tlids().len(),
@@ -38,24 +37,24 @@ fn has_chains(rt: &impl Abort, alloc: Global, row: &str, admitted: &Admitted, ch
 
 #[test]
 fn an_admitted_county_has_its_chains(rt: HostRuntime) {
-    let set = lines_of(&rt, rt.alloc(), two_chains());
-    let county = county_of(&rt, rt.alloc(), "two chains", &set);
+    let set = lines_of(&rt, two_chains());
+    let county = county_of(&rt, "two chains", &set);
     let admitted = admit(rt.alloc(), county).expect(&rt, "two chains");
-    has_chains(&rt, rt.alloc(), "two chains", &admitted, 2);
+    has_chains(&rt, "two chains", &admitted, 2);
     drop(admitted);
 }
 
 #[test]
 fn sets_become_their_texts(rt: HostRuntime) {
-    for lines in &worked(&rt, rt.alloc()) {
-        becomes(&rt, rt.alloc(), &lines.set());
+    for lines in &worked(&rt) {
+        becomes(&rt, &lines.set());
     }
 }
 
 /// The renaming onto the text names old numbers, those of the set.
 #[test]
 fn a_turned_chain_is_reported_by_its_old_number(rt: HostRuntime) {
-    let set = lines_of(&rt, rt.alloc(), street_turned());
+    let set = lines_of(&rt, street_turned());
     let reported = normalise_with_renaming(rt.alloc(), &[&set]).expect(&rt, "the street");
     has_lists(&rt, "the street", &reported.1, &onto_the_text());
 }

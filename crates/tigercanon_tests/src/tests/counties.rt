@@ -1,59 +1,51 @@
 //! Counties in memory of their own and in an arena, and the results of their getters.
 
+use super::Host;
 use super::comparing::{same, same_items};
 use super::sets::{lines_of, records_of};
 use super::worked_sets::record_of_each_type;
 use bumpalo::Bump;
-use std::alloc::Global;
-use std::process::Abort;
 use tl_county::{County, CountyIn, KeySet, PolygonKey, link, link_in};
 use tl_layout::Point;
 
 /// The county of this set.
-pub(super) fn county_of(rt: &impl Abort, alloc: Global, row: &str, set: &[u8]) -> County {
-    link(alloc, records_of(rt, alloc, row, set)).expect(rt, row)
+pub(super) fn county_of(rt: &impl Host, row: &str, set: &[u8]) -> County {
+    link(rt.alloc(), records_of(rt, row, set)).expect(rt, row)
 }
 
 /// The same in an arena.
 pub(super) fn county_in_of<'a>(
-    rt: &impl Abort,
-    alloc: Global,
+    rt: &impl Host,
     arena: &'a Bump,
     row: &str,
     set: &[u8],
 ) -> CountyIn<'a> {
-    link_in(alloc, arena, records_of(rt, alloc, row, set)).expect(rt, row)
+    link_in(rt.alloc(), arena, records_of(rt, row, set)).expect(rt, row)
 }
 
 /// The county has the numbers of its lines.
-fn has_the_numbers(rt: &impl Abort, county: &County) {
+fn has_the_numbers(rt: &impl Host, county: &County) {
     same_items(rt, "TLIDs", county.tlids(), &[500]);
     same_items(rt, "FEATs", county.feats(), &[8, 9]);
     same_items(rt, "LANDs", county.lands(), &[30, 40]);
     same_items(rt, "nodes", county.nodes(), &[11, 12]);
-    same_items(
-        rt,
-        "polygons",
-        county.polygons(),
-        &[(*b"00001", 12), (*b"00002", 12)],
-    );
+    let polygons = [(*b"00001", 12), (*b"00002", 12)];
+    same_items(rt, "polygons", county.polygons(), &polygons);
 }
 
 /// The county has the names and polygons of its lines, and no others.
-fn has_the_names_and_polygons(rt: &impl Abort, county: &County) {
+fn has_the_names_and_polygons(rt: &impl Host, county: &County) {
     let name = county.name(9).expect(rt, "FEAT 9");
     let found = (name.fetype(), county.name(7).is_some());
     same(rt, "FEAT 9, FEAT 7", &found, &(*b"Rd  ", false));
-    let body = county
-        .polygon_body((*b"00002", 12))
-        .expect(rt, "polygon 00002 12");
+    let body = county.polygon_body((*b"00002", 12));
     let other = county.polygon_body((*b"00001", 12));
-    let found = (body.water(), other.is_some());
+    let found = (body.expect(rt, "the first").water(), other.is_some());
     same(rt, "polygons 00002 12, 00001 12", &found, &(*b"1", false));
 }
 
 /// The county has the chain of its lines.
-fn has_the_chain(rt: &impl Abort, county: &County) {
+fn has_the_chain(rt: &impl Host, county: &County) {
     let chain = county.chain(500).expect(rt, "TLID 500");
     let points = [
         Point::new(-86468669, 32424914),
@@ -73,36 +65,23 @@ fn has_the_chain(rt: &impl Abort, county: &County) {
 }
 
 /// The county has the landmarks of its lines. LAND 40 has two contents, in order.
-fn has_the_landmarks(rt: &impl Abort, county: &County) {
+fn has_the_landmarks(rt: &impl Host, county: &County) {
     let bodies = county.landmark_bodies(40);
     let first = bodies.first().expect(rt, "LAND 40");
     let found = (bodies.len(), first.laname());
     let wanted = (2, *b"Annex                         ");
-    same(
-        rt,
-        "contents of LAND 40, the first of them",
-        &found,
-        &wanted,
-    );
-    let found = (
-        county.landmark_bodies(41).len(),
-        (
-            county.landmark_links(30).len(),
-            county.landmark_links(40).len(),
-        ),
-    );
-    same(
-        rt,
-        "contents of LAND 41, links of LAND 30 and 40",
-        &found,
-        &(0, (1, 0)),
-    );
+    same(rt, "contents of LAND 40, the first", &found, &wanted);
+    let bodies = county.landmark_bodies(41).len();
+    let links = county.landmark_links(30).len();
+    let others = county.landmark_links(40).len();
+    let row = "contents of LAND 41, links of LAND 30 and 40";
+    same(rt, row, &(bodies, links, others), &(0, 1, 0));
 }
 
 #[test]
 fn getters_report_what_the_lines_say(rt: HostRuntime) {
-    let set = lines_of(&rt, rt.alloc(), record_of_each_type());
-    let county = county_of(&rt, rt.alloc(), "a record of each type", &set);
+    let set = lines_of(&rt, record_of_each_type());
+    let county = county_of(&rt, "a record of each type", &set);
     has_the_numbers(&rt, &county);
     has_the_names_and_polygons(&rt, &county);
     has_the_chain(&rt, &county);
@@ -117,8 +96,8 @@ const A10: PolygonKey = (*b"A4701", 10);
 const A2: PolygonKey = (*b"A4701", 2);
 
 /// The set of these polygons.
-fn set_of(rt: &impl Abort, alloc: Global, polygons: &[PolygonKey]) -> KeySet<PolygonKey> {
-    let mut set = KeySet::new(alloc);
+fn set_of(rt: &impl Host, polygons: &[PolygonKey]) -> KeySet<PolygonKey> {
+    let mut set = KeySet::new(rt.alloc());
     for key in polygons {
         set.insert(*key).expect(rt, "there is memory");
     }
@@ -129,7 +108,7 @@ fn set_of(rt: &impl Abort, alloc: Global, polygons: &[PolygonKey]) -> KeySet<Pol
 /// number.
 #[test]
 fn polygons_of_a_set_stand_once_and_in_order(rt: HostRuntime) {
-    let set = set_of(&rt, rt.alloc(), &[B9, A10, B9, A2, A10]);
+    let set = set_of(&rt, &[B9, A10, B9, A2, A10]);
     same_items(&rt, "as they came", set.as_slice(), &[B9, A10, A2]);
     let in_order = set.in_order(rt.alloc()).expect(&rt, "there is memory");
     same_items(&rt, "in order", &in_order, &[A2, A10, B9]);

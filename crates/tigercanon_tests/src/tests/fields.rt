@@ -1,14 +1,14 @@
 //! The fields of a loaded record, each by its name.
 
+use super::Host;
 use super::comparing::{same, same_items};
 use super::sets::{lines_of, records_of};
-use std::process::Abort;
 use tl_layout::{
     Body1, Body5, Body7, Point, Ranges, Rec1, Rec2, Rec4, Rec6, Rec8, RecI, RecP, Record,
 };
 
 /// Checks the kind of a chain, and the name of its feature.
-fn reports_feature(rt: &impl Abort, body: &Body1) {
+fn reports_feature(rt: &impl Host, body: &Body1) {
     let found = (
         (body.side1(), body.source(), body.cfcc()),
         (body.fedirp(), body.fename(), body.fetype(), body.fedirs()),
@@ -24,67 +24,51 @@ fn reports_feature(rt: &impl Abort, body: &Body1) {
 }
 
 /// Checks the native areas beside a chain, the reserved fields, and the states and counties with their parts.
-fn reports_entities(rt: &impl Abort, body: &Body1) {
-    let found = (
-        (body.aianhhfpl(), body.aianhhfpr()),
-        (body.aihhtlil(), body.aihhtlir()),
-        (body.census1(), body.census2()),
-        (body.statel(), body.stater()),
-        (body.countyl(), body.countyr()),
-    );
-    let wanted = (
-        (*b"70001", *b"70002"),
-        (*b"L", *b"R"),
-        (*b"4", *b"5"),
-        (*b"01", *b"28"),
-        (*b"001", *b"051"),
-    );
-    let row = "AIANHHFPL, ..R, AIHHTLIL, ..R, CENSUS1, 2, STATEL, ..R, COUNTYL, ..R";
-    same(rt, row, &found, &wanted);
+fn reports_entities(rt: &impl Host, body: &Body1) {
+    let found = [body.aianhhfpl(), body.aianhhfpr()];
+    same(rt, "AIANHHFPL, ..R", &found, &[*b"70001", *b"70002"]);
+    let found = [body.aihhtlil(), body.aihhtlir()];
+    same(rt, "AIHHTLIL, ..R", &found, &[*b"L", *b"R"]);
+    let found = [body.census1(), body.census2()];
+    same(rt, "CENSUS1, 2", &found, &[*b"4", *b"5"]);
+    let found = [body.statel(), body.stater()];
+    same(rt, "STATEL, ..R", &found, &[*b"01", *b"28"]);
+    let found = [body.countyl(), body.countyr()];
+    same(rt, "COUNTYL, ..R", &found, &[*b"001", *b"051"]);
 }
 
 /// Checks the subdivisions, places, census tracts and census blocks beside a chain.
-fn reports_blocks(rt: &impl Abort, body: &Body1) {
-    let found = (
-        (body.cousubl(), body.cousubr()),
-        (body.submcdl(), body.submcdr()),
-        (body.placel(), body.placer()),
-        (body.tractl(), body.tractr()),
-        (body.blockl(), body.blockr()),
-    );
-    let wanted = (
-        (*b"90001", *b"90002"),
-        (*b"80001", *b"80002"),
-        (*b"60001", *b"60002"),
-        (*b"020200", *b"020300"),
-        (*b"1001", *b"2002"),
-    );
-    let row = "COUSUBL, ..R, SUBMCDL, ..R, PLACEL, ..R, TRACTL, ..R, BLOCKL, ..R";
-    same(rt, row, &found, &wanted);
+fn reports_blocks(rt: &impl Host, body: &Body1) {
+    let found = [body.cousubl(), body.cousubr()];
+    same(rt, "COUSUBL, ..R", &found, &[*b"90001", *b"90002"]);
+    let found = [body.submcdl(), body.submcdr()];
+    same(rt, "SUBMCDL, ..R", &found, &[*b"80001", *b"80002"]);
+    let found = [body.placel(), body.placer()];
+    same(rt, "PLACEL, ..R", &found, &[*b"60001", *b"60002"]);
+    let found = [body.tractl(), body.tractr()];
+    same(rt, "TRACTL, ..R", &found, &[*b"020200", *b"020300"]);
+    let found = [body.blockl(), body.blockr()];
+    same(rt, "BLOCKL, ..R", &found, &[*b"1001", *b"2002"]);
 }
 
 /// Checks address ranges and ZIP codes.
-fn reports_ranges(rt: &impl Abort, ranges: &Ranges) {
-    let found = (
-        (ranges.fraddl(), ranges.toaddl()),
-        (ranges.fraddr(), ranges.toaddr()),
-        (ranges.friaddl(), ranges.toiaddl()),
-        (ranges.friaddr(), ranges.toiaddr()),
-        (ranges.zipl(), ranges.zipr()),
-    );
-    let wanted = (
-        (*b"        101", *b"        199"),
-        (*b"        100", *b"        198"),
-        (*b"6", *b"7"),
-        (*b"8", *b"9"),
-        (*b"36003", *b"36006"),
-    );
-    let row = "FRADDL, TOADDL, ..R, FRIADDL, TOIADDL, ..R, ZIPL, ZIPR";
-    same(rt, row, &found, &wanted);
+fn reports_ranges(rt: &impl Host, ranges: &Ranges) {
+    let found = [ranges.fraddl(), ranges.toaddl()];
+    let wanted = [*b"        101", *b"        199"];
+    same(rt, "FRADDL, TOADDL", &found, &wanted);
+    let found = [ranges.fraddr(), ranges.toaddr()];
+    let wanted = [*b"        100", *b"        198"];
+    same(rt, "FRADDR, TOADDR", &found, &wanted);
+    let found = [ranges.friaddl(), ranges.toiaddl()];
+    same(rt, "FRIADDL, TOIADDL", &found, &[*b"6", *b"7"]);
+    let found = [ranges.friaddr(), ranges.toiaddr()];
+    same(rt, "FRIADDR, TOIADDR", &found, &[*b"8", *b"9"]);
+    let found = [ranges.zipl(), ranges.zipr()];
+    same(rt, "ZIPL, ZIPR", &found, &[*b"36003", *b"36006"]);
 }
 
 /// Checks the number, the ends and the content of a chain.
-fn reports_1(rt: &impl Abort, record: &Rec1) {
+fn reports_1(rt: &impl Host, record: &Rec1) {
     let found = (record.tlid(), record.start(), record.end());
     let start = Point::new(-86468669, 32424914);
     let end = Point::new(-86468545, 32424948);
@@ -96,20 +80,20 @@ fn reports_1(rt: &impl Abort, record: &Rec1) {
 }
 
 /// Checks shape points.
-fn reports_2(rt: &impl Abort, record: &Rec2) {
+fn reports_2(rt: &impl Host, record: &Rec2) {
     same(rt, "TLID, RTSQ", &(record.tlid(), record.rtsq()), &(500, 2));
     let points = [Point::new(-86468650, 32424920)];
     same_items(rt, "points", record.points(), &points);
 }
 
 /// Checks the further names of a chain.
-fn reports_4(rt: &impl Abort, record: &Rec4) {
+fn reports_4(rt: &impl Host, record: &Rec4) {
     same(rt, "TLID, RTSQ", &(record.tlid(), record.rtsq()), &(500, 1));
     same_items(rt, "FEATs", record.feats(), &[9, 8]);
 }
 
 /// Checks a name.
-fn reports_5(rt: &impl Abort, body: &Body5) {
+fn reports_5(rt: &impl Host, body: &Body5) {
     let found = (
         body.file(),
         (body.fedirp(), body.fename(), body.fetype(), body.fedirs()),
@@ -123,84 +107,65 @@ fn reports_5(rt: &impl Abort, body: &Body5) {
 }
 
 /// Checks further address ranges of a chain.
-fn reports_6(rt: &impl Abort, record: &Rec6) {
+fn reports_6(rt: &impl Host, record: &Rec6) {
     same(rt, "TLID, RTSQ", &(record.tlid(), record.rtsq()), &(500, 3));
     reports_ranges(rt, record.ranges());
 }
 
 /// Checks the content of a landmark.
-fn reports_7(rt: &impl Abort, body: &Body7) {
-    let found = (
-        (body.file(), body.source(), body.cfcc()),
-        (body.laname(), body.point()),
-    );
-    let wanted = (
-        (*b"01001", *b"A", *b"D43"),
-        (
-            *b"Barn                          ",
-            Some(Point::new(-86468669, 32424914)),
-        ),
-    );
-    same(rt, "FILE, SOURCE, CFCC, LANAME, point", &found, &wanted);
+fn reports_7(rt: &impl Host, body: &Body7) {
+    let found = (body.file(), body.source(), body.cfcc());
+    let wanted = (*b"01001", *b"A", *b"D43");
+    same(rt, "FILE, SOURCE, CFCC", &found, &wanted);
+    let found = (body.laname(), body.point());
+    let point = Point::new(-86468669, 32424914);
+    let wanted = (*b"Barn                          ", Some(point));
+    same(rt, "LANAME, point", &found, &wanted);
 }
 
 /// Checks the polygon of a landmark.
-fn reports_8(rt: &impl Abort, record: &Rec8) {
-    let found = (
-        (record.file(), record.cenid()),
-        (record.polyid(), record.land()),
-    );
-    let wanted = ((*b"01001", *b"00001"), (12, 30));
-    same(rt, "FILE, CENID, POLYID, LAND", &found, &wanted);
+fn reports_8(rt: &impl Host, record: &Rec8) {
+    let found = (record.file(), record.cenid());
+    same(rt, "FILE, CENID", &found, &(*b"01001", *b"00001"));
+    let found = (record.polyid(), record.land());
+    same(rt, "POLYID, LAND", &found, &(12, 30));
 }
 
 /// Checks the nodes and the polygons of a chain.
-fn reports_between(rt: &impl Abort, record: &RecI) {
-    let found = (
-        (record.start_node(), record.end_node()),
-        (record.left().cenid(), record.left().polyid()),
-        (record.right().cenid(), record.right().polyid()),
-    );
-    let wanted = (
-        (Some(11), Some(12)),
-        (*b"00001", Some(13)),
-        (*b"00002", Some(14)),
-    );
-    let row = "TZIDS, TZIDE, CENIDL, POLYIDL, CENIDR, POLYIDR";
-    same(rt, row, &found, &wanted);
+fn reports_between(rt: &impl Host, record: &RecI) {
+    let found = [record.start_node(), record.end_node()];
+    same(rt, "TZIDS, TZIDE", &found, &[Some(11), Some(12)]);
+    let found = (record.left().cenid(), record.left().polyid());
+    same(rt, "CENIDL, POLYIDL", &found, &(*b"00001", Some(13)));
+    let found = (record.right().cenid(), record.right().polyid());
+    same(rt, "CENIDR, POLYIDR", &found, &(*b"00002", Some(14)));
 }
 
 /// Checks the other fields of a type I record.
-fn reports_i(rt: &impl Abort, record: &RecI) {
+fn reports_i(rt: &impl Host, record: &RecI) {
     reports_between(rt, record);
     let body = record.body();
-    let found = (
-        (body.file(), body.source(), body.ftseg()),
-        (body.rs_i1(), body.rs_i2(), body.rs_i3()),
-    );
-    let wanted = (
-        (*b"01001", *b"Bureau    ", *b"                9"),
-        (*b"         6", *b"         7", *b"         8"),
-    );
-    same(rt, "FILE, SOURCE, FTSEG, RS_I1 to 3", &found, &wanted);
+    let found = (body.file(), body.source(), body.ftseg());
+    let wanted = (*b"01001", *b"Bureau    ", *b"                9");
+    same(rt, "FILE, SOURCE, FTSEG", &found, &wanted);
+    let found = [body.rs_i1(), body.rs_i2(), body.rs_i3()];
+    let wanted = [*b"         6", *b"         7", *b"         8"];
+    same(rt, "RS_I1 to 3", &found, &wanted);
 }
 
 /// Checks a polygon.
-fn reports_p(rt: &impl Abort, record: &RecP) {
+fn reports_p(rt: &impl Host, record: &RecP) {
     let body = record.body();
-    let found = (
-        (record.cenid(), record.polyid()),
-        (body.file(), body.water(), body.point()),
-    );
-    let wanted = (
-        (*b"00001", 12),
-        (*b"01001", *b"1", Some(Point::new(-86468669, 32424914))),
-    );
-    same(rt, "CENID, POLYID, FILE, WATER, point", &found, &wanted);
+    let found = (record.cenid(), record.polyid());
+    same(rt, "CENID, POLYID", &found, &(*b"00001", 12));
+    let found = (body.file(), body.water(), body.point());
+    let point = Point::new(-86468669, 32424914);
+    let wanted = (*b"01001", *b"1", Some(point));
+    same(rt, "FILE, WATER, point", &found, &wanted);
 }
 
 /// Checks the fields of one record.
-fn reports_record(rt: &impl Abort, record: &Record) {
+fn reports_record(rt: &impl Host, record: &Record) {
     match record {
         Record::One(record) => reports_1(rt, record),
         Record::Two(record) => reports_2(rt, record),
@@ -215,27 +180,24 @@ fn reports_record(rt: &impl Abort, record: &Record) {
 }
 
 /// A record of each type, in which no two fields of the same width have the same value.
-const LINES: &[&str] = &[
-    "12006{7}5001AN Main{26}St{2}SWA41{8}101{8}199{8}100{8}198678936003360067000170002LR45012800105190001900028000180002600016000202020002030010012002-086468669+32424914-086468545+32424948",
-    "22006{7}500{2}2-086468650+32424920",
-    "42006{7}500{2}1{7}9{7}8",
-    "5200601001{7}8N Old Mill{22}Rd{2}SW",
-    "62006{7}500{2}3{8}101{8}199{8}100{8}19867893600336006",
-    "7200601001{8}40AD43Barn{26}-086468669+32424914",
-    "820060100100001{8}12{8}30",
-    "I200601001{7}500{8}11{8}1200001{8}1300002{8}14Bureau{20}9{9}6{9}7{9}8",
-    "P20060100100001{8}12-086468669+324249141",
-];
-
-/// Those lines.
 fn lines() -> &'static [&'static str] {
-    LINES
+    &[
+        "12006{7}5001AN Main{26}St{2}SWA41{8}101{8}199{8}100{8}198678936003360067000170002LR45012800105190001900028000180002600016000202020002030010012002-086468669+32424914-086468545+32424948",
+        "22006{7}500{2}2-086468650+32424920",
+        "42006{7}500{2}1{7}9{7}8",
+        "5200601001{7}8N Old Mill{22}Rd{2}SW",
+        "62006{7}500{2}3{8}101{8}199{8}100{8}19867893600336006",
+        "7200601001{8}40AD43Barn{26}-086468669+32424914",
+        "820060100100001{8}12{8}30",
+        "I200601001{7}500{8}11{8}1200001{8}1300002{8}14Bureau{20}9{9}6{9}7{9}8",
+        "P20060100100001{8}12-086468669+324249141",
+    ]
 }
 
 #[test]
 fn fields_are_reported_by_their_names(rt: HostRuntime) {
-    let set = lines_of(&rt, rt.alloc(), lines());
-    let records = records_of(&rt, rt.alloc(), "a record of each type", &set);
+    let set = lines_of(&rt, lines());
+    let records = records_of(&rt, "a record of each type", &set);
     same(&rt, "records", &records.len(), &9);
     for record in &records {
         reports_record(&rt, record);

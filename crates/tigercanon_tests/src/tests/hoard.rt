@@ -4,25 +4,22 @@
 
 ghost use Rattle.std.specs.Prelude.{◌≡◌};
 
-use super::comparing::{same, same_items};
+use super::Host;
+use super::comparing::same;
 use super::counties::{county_in_of, county_of};
 use super::masks::{BOTH, are_masked, plain, without_either};
-use super::refusals::{is_memory, normalise_slowly};
-use super::sets::{lines_of, records_of};
+use super::refusals::{NONE, is_memory, whole};
+use super::sets::{Set, SetLines, lines_of, records_of};
 use super::worked_sets::{chain_of_each_type_turned, record_of_each_type, street, street_text};
 use bumpalo::Bump;
 use std::alloc::Global;
 use std::cmp::Ordering;
-use std::process::Abort;
-use tigercanon::{
-    CompareFault, Fault, Verdict, check, compare, fingerprint, normalise, normalise_with_renaming,
-    respell,
-};
+use tigercanon::normalise_to;
 use tl_county::Chart;
-use tl_layout::{Layout, Point, Record, Side, Turn};
-use tl_load::{LoadFault, Loader, first_bad};
+use tl_layout::{Layout, Point, Record, Turn};
+use tl_load::{LoadFault, Loader, SlowSource, first_bad};
 use tl_number::{CanonCounty, canonise_alone};
-use tl_profile::{admit, admit_in};
+use tl_profile::{Admitted, admit, admit_in};
 use tl_shape::{Chain, Shape, Surroundings};
 use tl_write::{SlowSink, write_in, write_to};
 
@@ -50,13 +47,13 @@ fn take_all(alloc: Global, pieces: &mut Vec<Vec<u8>>, size: usize) {
 }
 
 /// All memory that is left, in pieces that are never used.
-fn all_memory(rt: &impl Abort, alloc: Global) -> Vec<Vec<u8>> {
-    let mut pieces = Vec::with_capacity(alloc, MANY).expect(rt, "there is memory");
+fn all_memory(rt: &impl Host) -> Vec<Vec<u8>> {
+    let mut pieces = Vec::with_capacity(rt.alloc(), MANY).expect(rt, "there is memory");
     for halved in 0..36u32 {
-        take_all(alloc, &mut pieces, LARGEST >> halved);
+        take_all(rt.alloc(), &mut pieces, LARGEST >> halved);
     }
     for less in 0..128 {
-        take_all(alloc, &mut pieces, SMALL - 16 * less);
+        take_all(rt.alloc(), &mut pieces, SMALL - 16 * less);
     }
     pieces
 }
@@ -116,9 +113,9 @@ fn is_record_turned_back(record: &Record) -> bool {
 /// Records of each type are read, written and turned.
 #[test]
 fn records_are_read_and_written(rt: HostRuntime) {
-    let set = lines_of(&rt, rt.alloc(), record_of_each_type());
-    let records = records_of(&rt, rt.alloc(), "a record of each type", &set);
-    let pieces = all_memory(&rt, rt.alloc());
+    let set = lines_of(&rt, record_of_each_type());
+    let records = records_of(&rt, "a record of each type", &set);
+    let pieces = all_memory(&rt);
     let is_taken = is_all_taken(rt.alloc());
     let are_read = records.iter().all(is_record_read_again);
     let are_turned = records.iter().all(is_record_turned_back);
@@ -131,17 +128,15 @@ fn records_are_read_and_written(rt: HostRuntime) {
 /// Contents are blanked.
 #[test]
 fn contents_are_blanked(rt: HostRuntime) {
-    let set = lines_of(&rt, rt.alloc(), plain());
-    let records = records_of(&rt, rt.alloc(), "plain", &set);
-    let set = lines_of(&rt, rt.alloc(), without_either());
-    let others = records_of(&rt, rt.alloc(), "without either", &set);
-    let pieces = all_memory(&rt, rt.alloc());
-    let found = (
-        is_all_taken(rt.alloc()),
-        are_masked(&records, &others, BOTH),
-    );
+    let set = lines_of(&rt, plain());
+    let records = records_of(&rt, "plain", &set);
+    let set = lines_of(&rt, without_either());
+    let others = records_of(&rt, "without either", &set);
+    let pieces = all_memory(&rt);
+    let is_taken = is_all_taken(rt.alloc());
+    let are_masked = are_masked(&records, &others, BOTH);
     drop(pieces);
-    same(&rt, "contents", &found, &(true, true));
+    same(&rt, "contents", &[is_taken, are_masked], &[true, true]);
 }
 
 /// The results of the calls on a shape, with another shape.
@@ -162,7 +157,7 @@ fn shapes_are_compared_and_reversed(rt: HostRuntime) {
     let third = Point::new(2, 1);
     let mut shape = Shape::new(rt.alloc(), third, &[second], first).expect(&rt, "a shape");
     let other = Shape::new(rt.alloc(), first, &[second], third).expect(&rt, "its reverse");
-    let pieces = all_memory(&rt, rt.alloc());
+    let pieces = all_memory(&rt);
     let is_refused = Shape::new(rt.alloc(), first, &[second; 30], third).is_err();
     let found = shapes_answer(&mut shape, &other);
     drop(pieces);
@@ -171,10 +166,10 @@ fn shapes_are_compared_and_reversed(rt: HostRuntime) {
 }
 
 /// A chain of its own with the same parts.
-fn copy_of(rt: &impl Abort, alloc: Global, chain: &Chain) -> Chain {
+fn copy_of(rt: &impl Host, chain: &Chain) -> Chain {
     let points = chain.shape().points();
     let last = points.len() - 1;
-    let shape = Shape::new(alloc, points[0], &points[1..last], points[last]);
+    let shape = Shape::new(rt.alloc(), points[0], &points[1..last], points[last]);
     let surroundings = Surroundings {
         start_node: chain.start_node(),
         end_node: chain.end_node(),
@@ -184,49 +179,37 @@ fn copy_of(rt: &impl Abort, alloc: Global, chain: &Chain) -> Chain {
     Chain::new(
         *chain.body(),
         shape.expect(rt, "there is memory"),
-        Vec::from_slice(alloc, chain.feats()).expect(rt, "there is memory"),
-        Vec::from_slice(alloc, chain.ranges()).expect(rt, "there is memory"),
+        Vec::from_slice(rt.alloc(), chain.feats()).expect(rt, "there is memory"),
+        Vec::from_slice(rt.alloc(), chain.ranges()).expect(rt, "there is memory"),
         *chain.topology(),
         surroundings,
     )
 }
 
 /// The chain of this TLID in the county of these lines.
-fn chain_of(rt: &impl Abort, alloc: Global, lines: &[&str], tlid: u64) -> Chain {
-    let county = county_of(rt, alloc, "a chain", &lines_of(rt, alloc, lines));
-    let chain = copy_of(rt, alloc, county.chain(tlid).expect(rt, "a chain"));
+fn chain_of(rt: &impl Host, lines: &[&str], tlid: u64) -> Chain {
+    let county = county_of(rt, "a chain", &lines_of(rt, lines));
+    let chain = copy_of(rt, county.chain(tlid).expect(rt, "a chain"));
     drop(county);
     chain
 }
 
-/// The surroundings of a chain: the nodes where it starts and ends, and its left and its right side.
-fn around(chain: &Chain) -> ((Option<u64>, Option<u64>), (Side, Side)) {
-    (
-        (chain.start_node(), chain.end_node()),
-        (*chain.left(), *chain.right()),
-    )
-}
-
-/// The chains have the same parts.
-fn are_alike(rt: &impl Abort, chain: &Chain, other: &Chain) {
-    same(rt, "content", chain.body(), other.body());
-    same_items(rt, "points", chain.shape().points(), other.shape().points());
-    same_items(rt, "further names", chain.feats(), other.feats());
-    same_items(rt, "further ranges", chain.ranges(), other.ranges());
-    same(rt, "type I", chain.topology(), other.topology());
-    same(rt, "nodes and sides", &around(chain), &around(other));
+/// The chain with all its parts, as `Debug` prints them.
+fn shown(rt: &impl Host, chain: &Chain) -> String {
+    format!(in rt.alloc(); "{chain:?}").expect(rt, "there is memory")
 }
 
 /// A whole chain is turned.
 #[test]
 fn chains_are_turned(rt: HostRuntime) {
-    let mut chain = chain_of(&rt, rt.alloc(), record_of_each_type(), 500);
-    let other = chain_of(&rt, rt.alloc(), chain_of_each_type_turned(), 77);
-    let pieces = all_memory(&rt, rt.alloc());
+    let mut chain = chain_of(&rt, record_of_each_type(), 500);
+    let other = chain_of(&rt, chain_of_each_type_turned(), 77);
+    let pieces = all_memory(&rt);
     let is_taken = is_all_taken(rt.alloc());
     chain.turn();
     drop(pieces);
-    are_alike(&rt, &chain, &other);
+    let (found, wanted) = (shown(&rt, &chain), shown(&rt, &other));
+    same(&rt, "parts", &found.as_str(), &wanted.as_str());
     same(&rt, "memory", &is_taken, &true);
 }
 
@@ -243,122 +226,88 @@ fn loader_answers(mut loader: Loader) -> (u64, Result<(), LoadFault>, Result<(),
 /// A loader is made, and reports out of memory at the first record and ever after.
 #[test]
 fn loaders_are_made(rt: HostRuntime) {
-    let pieces = all_memory(&rt, rt.alloc());
+    let pieces = all_memory(&rt);
     let found = loader_answers(Loader::new(rt.alloc()));
     let limited = loader_answers(Loader::with_limit(rt.alloc(), 2));
     drop(pieces);
     let memory = Err(LoadFault::Memory);
     let reported = (0, memory, memory, 0);
-    same(
-        &rt,
-        "a loader, and one with a limit",
-        &(found, limited),
-        &(reported, reported),
-    );
+    let row = "a loader, and one with a limit";
+    same(&rt, row, &(found, limited), &(reported, reported));
 }
 
-/// Whether a canonical county is written as this text.
-fn is_written<C: Chart>(county: &CanonCounty<C>, text: &[u8]) -> bool {
+/// Whether both calls that write a canonical county write this text.
+fn are_written<C: Chart>(county: &CanonCounty<C>, text: &[u8]) -> [bool; 2] {
     let mut buffer = [0; 400];
+    let len = text.len() as u64;
     let mut sink = SlowSink::new(&mut buffer, 100);
-    let answer = write_to(county, &mut sink);
-    answer == Ok(text.len() as u64) && sink.held() == text
+    let is_written = write_to(county, &mut sink) == Ok(len) && sink.held() == text;
+    let mut sink = SlowSink::new(&mut buffer, 100);
+    let is_written_in = write_in(county, &mut sink) == Ok(len) && sink.held() == text;
+    [is_written, is_written_in]
 }
 
-/// The same by the call for counties in an arena.
-fn is_written_in<C: Chart>(county: &CanonCounty<C>, text: &[u8]) -> bool {
-    let mut buffer = [0; 400];
-    let mut sink = SlowSink::new(&mut buffer, 100);
-    let answer = write_in(county, &mut sink);
-    answer == Ok(text.len() as u64) && sink.held() == text
-}
-
-/// A canonical county is written as this text by both calls, with ample memory and with none left.
-fn is_written_anyhow<C: Chart>(
-    rt: &impl Abort,
-    alloc: Global,
-    county: &CanonCounty<C>,
-    text: &[u8],
-) {
-    let before = (is_written(county, text), is_written_in(county, text));
-    let pieces = all_memory(rt, alloc);
-    let is_taken = is_all_taken(alloc);
-    let found = (is_written(county, text), is_written_in(county, text));
+/// The canonical county of Main St is written as its text by both calls, with ample memory and with none left.
+fn are_written_anyhow<C: Chart + Drop>(rt: &impl Host, admitted: Admitted<C>) {
+    let text = lines_of(rt, street_text());
+    let county = canonise_alone(rt.alloc(), admitted).expect(rt, "the street");
+    let before = are_written(&county, &text);
+    let pieces = all_memory(rt);
+    let is_taken = is_all_taken(rt.alloc());
+    let found = are_written(&county, &text);
     drop(pieces);
+    drop(county);
     let found = (before, is_taken, found);
-    same(
-        rt,
-        "the street",
-        &found,
-        &((true, true), true, (true, true)),
-    );
+    same(rt, "the street", &found, &([true; 2], true, [true; 2]));
 }
 
 /// A canonical county is written.
 #[test]
 fn counties_are_written(rt: HostRuntime) {
-    let set = lines_of(&rt, rt.alloc(), street());
-    let text = lines_of(&rt, rt.alloc(), street_text());
-    let county = county_of(&rt, rt.alloc(), "the street", &set);
+    let county = county_of(&rt, "the street", &lines_of(&rt, street()));
     let admitted = admit(rt.alloc(), county).expect(&rt, "the street");
-    let county = canonise_alone(rt.alloc(), admitted).expect(&rt, "the street");
-    is_written_anyhow(&rt, rt.alloc(), &county, &text);
-    drop(county);
+    are_written_anyhow(&rt, admitted);
 }
 
 /// A county in an arena is written too.
 #[test]
 fn counties_in_an_arena_are_written(rt: HostRuntime) {
     let arena = Bump::new(rt.alloc());
-    let set = lines_of(&rt, rt.alloc(), street());
-    let text = lines_of(&rt, rt.alloc(), street_text());
-    let county = county_in_of(&rt, rt.alloc(), &arena, "the street", &set);
+    let county = county_in_of(&rt, &arena, "the street", &lines_of(&rt, street()));
     let admitted = admit_in(rt.alloc(), county).expect(&rt, "the street");
-    let county = canonise_alone(rt.alloc(), admitted).expect(&rt, "the street");
-    is_written_anyhow(&rt, rt.alloc(), &county, &text);
-    drop(county);
+    are_written_anyhow(&rt, admitted);
 }
 
-/// Whether a whole call reported out of memory.
-fn reports<T: Drop>(outcome: Result<T, Fault>) -> bool {
-    match outcome {
-        Ok(_) => false,
-        Err(fault) => is_memory(fault),
-    }
-}
-
-/// Whether a comparison did.
-fn comparison_reports(outcome: Result<Verdict, CompareFault>) -> bool {
-    match outcome {
-        Ok(_) => false,
-        Err(CompareFault::In { fault, .. }) => is_memory(fault),
-        Err(CompareFault::Memory) => true,
-    }
-}
-
-/// The whole calls that report out of memory.
-fn whole_calls_report(alloc: Global, set: &[u8]) -> [bool; 7] {
+/// Whether writing a set's text to a sink reports out of memory, and writes nothing.
+fn writes_nothing(rt: &impl Host, set: &[u8]) -> bool {
     let mut buffer = [0; 400];
     let mut sink = SlowSink::new(&mut buffer, 100);
-    let is_reported = reports(normalise_slowly(alloc, set, &mut sink));
+    let mut sources = [SlowSource::new(set, 100, None)];
+    let fault = normalise_to(rt.alloc(), &mut sources, &mut sink).err();
+    fault.is_some_and(is_memory) && sink.held().is_empty()
+}
+
+/// Whether each whole call reports out of memory.
+fn whole_calls_report(rt: &impl Host, set: &Set<'_>) -> [bool; 7] {
     [
-        is_reported && sink.held().is_empty(),
-        reports(respell(alloc, &[set])),
-        reports(normalise(alloc, &[set])),
-        reports(normalise_with_renaming(alloc, &[set])),
-        reports(fingerprint(alloc, &[set])),
-        reports(check(alloc, &[set])),
-        comparison_reports(compare(alloc, &[set], &[set])),
+        writes_nothing(rt, set.bytes),
+        whole::respell(rt, set, NONE).is_out_of_memory(),
+        whole::normalise(rt, set, NONE).is_out_of_memory(),
+        whole::normalise_with_renaming(rt, set, NONE).is_out_of_memory(),
+        whole::fingerprint(rt, set, NONE).is_out_of_memory(),
+        whole::check(rt, set, NONE).is_out_of_memory(),
+        whole::compare_with_itself(rt, set, NONE).is_out_of_memory(),
     ]
 }
 
 /// The whole calls report out of memory, and write nothing. With ample memory, none reports it.
 #[test]
 fn whole_calls_report_want_of_memory(rt: HostRuntime) {
-    let set = lines_of(&rt, rt.alloc(), street());
-    let before = whole_calls_report(rt.alloc(), &set);
-    let pieces = all_memory(&rt, rt.alloc());
-    let found = whole_calls_report(rt.alloc(), &set);
+    let lines = SetLines::of(&rt, &("the street", street(), street_text()));
+    let set = lines.set();
+    let before = whole_calls_report(&rt, &set);
+    let pieces = all_memory(&rt);
+    let found = whole_calls_report(&rt, &set);
     drop(pieces);
     let wanted = ([false; 7], [true; 7]);
     same(&rt, "ample memory, and none", &(before, found), &wanted);

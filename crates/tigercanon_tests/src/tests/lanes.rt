@@ -1,7 +1,7 @@
 //! The place of the first byte that no line may hold, in texts of every length around that of the lanes.
 
+use super::Host;
 use super::comparing::same;
-use std::process::Abort;
 use tl_load::first_bad;
 
 /// The first and the last bytes of the ranges that no line may hold, and of the ranges that a line may hold, each with whether it
@@ -23,7 +23,7 @@ const MOST: usize = 100;
 
 /// In a text of `len` letters with `byte` at `place`, the first bad byte is at `place` if `byte` is forbidden, and otherwise at
 /// `other`.
-fn is_found(rt: &impl Abort, len: usize, place: usize, byte: (u8, bool), other: Option<usize>) {
+fn is_found(rt: &impl Host, len: usize, place: usize, byte: (u8, bool), other: Option<usize>) {
     let mut text = [b'A'; MOST];
     assert!(rt; len <= MOST && place < len, "the place is in the text");
     if let Some(later) = other {
@@ -38,14 +38,14 @@ fn is_found(rt: &impl Abort, len: usize, place: usize, byte: (u8, bool), other: 
 }
 
 /// Each byte is classified correctly at this place, with a bad byte at `other` if there is one.
-fn are_distinguished(rt: &impl Abort, len: usize, place: usize, other: Option<usize>) {
+fn are_distinguished(rt: &impl Host, len: usize, place: usize, other: Option<usize>) {
     for byte in BYTES {
         is_found(rt, len, place, byte, other);
     }
 }
 
 /// The same at each place of a text of this length.
-fn are_distinguished_everywhere(rt: &impl Abort, len: usize) {
+fn are_distinguished_everywhere(rt: &impl Host, len: usize) {
     let none = first_bad(&[b'A'; MOST][..len.min(MOST)]);
     same(rt, "no bad byte", &none, &None);
     for place in 0..len {

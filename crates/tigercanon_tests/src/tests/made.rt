@@ -4,9 +4,8 @@
 
 ghost use Rattle.std.specs.Prelude.{◌<◌};
 
+use super::Host;
 use super::sets::lines_of;
-use std::alloc::Global;
-use std::process::Abort;
 
 /// How many chains there are.
 const CHAINS: u64 = 2000;
@@ -112,19 +111,45 @@ fn put(line: &mut [u8], last: usize, number: u64) {
     }
 }
 
-/// Appends the line of this pattern, with numbers in the columns that end with these.
-pub(super) fn add(
-    rt: &impl Abort,
-    alloc: Global,
-    text: &mut Vec<u8>,
-    pattern: &str,
-    fields: &[(usize, u64)],
-) {
-    let mut line = lines_of(rt, alloc, &[pattern]);
+/// The lines of a map that is being made, in one spelling or the other.
+#[derive(Drop)]
+pub(super) struct Spelling<'a, R> {
+    rt: &'a R,
+    other: bool,
+    text: Vec<u8>,
+}
+
+/// A line, terminated by LF, into which numbers are put.
+fn line_of(rt: &impl Host, pattern: &str, fields: &[(usize, u64)]) -> Vec<u8> {
+    let mut line = lines_of(rt, &[pattern]);
     for (last, number) in fields {
         put(&mut line, *last, *number);
     }
-    text.extend_from_slice(&line).expect(rt, "there is memory");
+    line
+}
+
+impl<'a, R: Host> Spelling<'a, R> {
+    /// No lines so far.
+    pub(super) fn new(rt: &'a R, other: bool) -> Self {
+        let text = Vec::new(rt.alloc());
+        Spelling { rt, other, text }
+    }
+
+    /// The lines as they are.
+    pub(super) fn into_text(self) -> Vec<u8> {
+        self.text
+    }
+
+    /// Appends the line of this pattern, with numbers in the columns that end with these.
+    pub(super) fn add(&mut self, pattern: &str, fields: &[(usize, u64)]) {
+        let line = line_of(self.rt, pattern, fields);
+        self.put_line(&line);
+    }
+
+    fn put_line(&mut self, line: &[u8]) {
+        let answer = self.text.extend_from_slice(line);
+        answer.expect(self.rt, "there is memory");
+    }
 }
 
 /// A chain between two states, and the same from its other end.
@@ -132,220 +157,174 @@ const CHAIN: &str = "12006{125}0102{56}+000000000+00000000+000000000+00000000";
 
 const TURNED: &str = "12006{125}0201{56}+000000000+00000000+000000000+00000000";
 
-/// Appends the ends of a chain.
-fn add_ends(rt: &impl Abort, alloc: Global, text: &mut Vec<u8>, other: bool, chain: u64)
-    requires { chain < 5000 }
-{
-    let start = point(chain, 0);
-    let end = point(chain, inner(chain) + 1);
-    let (start, end, line) = if is_turned(other, chain) {
-        (end, start, TURNED)
-    } else {
-        (start, end, CHAIN)
-    };
-    let fields = [
-        (15, tlid(other, chain)),
-        (49, chain),
-        (200, start.0),
-        (209, start.1),
-        (219, end.0),
-        (228, end.1),
-    ];
-    add(rt, alloc, text, line, &fields);
-}
-
 /// Ten places for points, all unused.
 const SHAPE: &str =
     "22006{13}+000000000+00000000+000000000+00000000+000000000+00000000+000000000+00000000+000000000+00000000+000000000+00000000+000000000+00000000+000000000+00000000+000000000+00000000+000000000+00000000";
 
-/// The rest of a chain's points or names, after the first `first`.
-#[derive(Clone, Copy)]
-struct Rest {
-    chain: u64,
-    first: u64,
-}
-
-/// Appends points of a chain, at most ten, in the direction of this spelling.
-fn add_points(rt: &impl Abort, alloc: Global, text: &mut Vec<u8>, other: bool, rest: Rest)
-    requires { (rest.chain < 5000) × (rest.first < 30) }
-{
-    let Rest { chain, first } = rest;
-    let mut line = lines_of(rt, alloc, &[SHAPE]);
-    put(&mut line, 15, tlid(other, chain));
-    put(&mut line, 18, first + 3);
-    let inner = inner(chain);
-    for place in 0..10u64 {
-        let seen = first + place + 1;
-        if seen <= inner {
-            let point = point(
-                chain,
-                if is_turned(other, chain) {
-                    inner + 1 - seen
-                } else {
-                    seen
-                },
-            );
-            put(&mut line, 28 + 19 * place as usize, point.0);
-            put(&mut line, 37 + 19 * place as usize, point.1);
-        }
-    }
-    text.extend_from_slice(&line).expect(rt, "there is memory");
-}
-
-/// Appends names of a chain, at most five.
-fn add_names(rt: &impl Abort, alloc: Global, text: &mut Vec<u8>, other: bool, rest: Rest)
-    requires { (rest.chain < 5000) × (rest.first < 30) }
-{
-    let Rest { chain, first } = rest;
-    let mut line = lines_of(rt, alloc, &["42006{53}"]);
-    put(&mut line, 15, tlid(other, chain));
-    put(&mut line, 18, first + 1);
-    for place in 0..5u64 {
-        if first + place < names(chain) {
-            let name = 1 + chance(13 * chain + first + place, 450);
-            put(
-                &mut line,
-                26 + 8 * place as usize,
-                number(other, name, 99_999_999),
-            );
-        }
-    }
-    text.extend_from_slice(&line).expect(rt, "there is memory");
-}
-
 /// A line of record type I.
 const LINK: &str = "I200601001{30}00000{10}00000{67}";
 
-/// Appends the nodes and the polygons of a chain.
-fn add_link(rt: &impl Abort, alloc: Global, text: &mut Vec<u8>, other: bool, chain: u64)
-    requires { chain < 5000 }
-{
-    let mut nodes = [
-        number(other, chain, 1_000_000),
-        number(other, chain + 1, 1_000_000),
-    ];
-    let mut sides = [polygon(other, left(chain)), polygon(other, right(chain))];
-    if is_turned(other, chain) {
-        nodes.swap(0, 1);
-        sides.swap(0, 1);
+impl<R: Host> Spelling<'_, R> {
+    /// Appends the ends of a chain.
+    fn add_ends(&mut self, chain: u64)
+        requires { chain < 5000 }
+    {
+        let start = point(chain, 0);
+        let end = point(chain, inner(chain) + 1);
+        let (start, end, line) = if is_turned(self.other, chain) {
+            (end, start, TURNED)
+        } else {
+            (start, end, CHAIN)
+        };
+        let fields = [
+            (15, tlid(self.other, chain)),
+            (49, chain),
+            (200, start.0),
+            (209, start.1),
+            (219, end.0),
+            (228, end.1),
+        ];
+        self.add(line, &fields);
     }
-    let fields = [
-        (20, tlid(other, chain)),
-        (30, nodes[0]),
-        (40, nodes[1]),
-        (45, sides[0].0),
-        (55, sides[0].1),
-        (60, sides[1].0),
-        (70, sides[1].1),
-    ];
-    add(rt, alloc, text, LINK, &fields);
-}
 
-/// Appends further addresses of a chain.
-fn add_addresses(rt: &impl Abort, alloc: Global, text: &mut Vec<u8>, other: bool, chain: u64)
-    requires { chain < 5000 }
-{
-    let (from, to) = if is_turned(other, chain) {
-        (62, 29)
-    } else {
-        (29, 62)
-    };
-    let fields = [
-        (15, tlid(other, chain)),
-        (18, 7),
-        (from, 10 * chain),
-        (to, 10 * chain + 9),
-    ];
-    add(rt, alloc, text, "62006{71}", &fields);
-}
-
-/// Appends the inner point of the polygon on the left of a chain.
-fn add_polygon(rt: &impl Abort, alloc: Global, text: &mut Vec<u8>, other: bool, chain: u64)
-    requires { chain < 5000 }
-{
-    let (cenid, polyid) = polygon(other, left(chain));
-    add(
-        rt,
-        alloc,
-        text,
-        "P20060100100000{29}1",
-        &[(15, cenid), (25, polyid)],
-    );
-}
-
-/// Appends all records of a chain.
-fn add_chain(rt: &impl Abort, alloc: Global, text: &mut Vec<u8>, other: bool, chain: u64)
-    requires { chain < 5000 }
-{
-    add_link(rt, alloc, text, other, chain);
-    for first in [10, 0, 20] {
-        if first <= inner(chain) {
-            add_points(rt, alloc, text, other, Rest { chain, first });
+    /// Appends points of a chain after the first `first`, at most ten, in the direction of this spelling.
+    fn add_points(&mut self, chain: u64, first: u64)
+        requires { (chain < 5000) × (first < 30) }
+    {
+        let fields = [(15, tlid(self.other, chain)), (18, first + 3)];
+        let mut line = line_of(self.rt, SHAPE, &fields);
+        let inner = inner(chain);
+        for place in 0..10u64 {
+            let seen = first + place + 1;
+            if seen <= inner {
+                let point = if is_turned(self.other, chain) {
+                    point(chain, inner + 1 - seen)
+                } else {
+                    point(chain, seen)
+                };
+                put(&mut line, 28 + 19 * place as usize, point.0);
+                put(&mut line, 37 + 19 * place as usize, point.1);
+            }
         }
-        if first / 2 <= names(chain) {
-            let first = first / 2;
-            add_names(rt, alloc, text, other, Rest { chain, first });
+        self.put_line(&line);
+    }
+
+    /// Appends names of a chain after the first `first`, at most five.
+    fn add_names(&mut self, chain: u64, first: u64)
+        requires { (chain < 5000) × (first < 30) }
+    {
+        let fields = [(15, tlid(self.other, chain)), (18, first + 1)];
+        let mut line = line_of(self.rt, "42006{53}", &fields);
+        for place in 0..5u64 {
+            if first + place < names(chain) {
+                let name = 1 + chance(13 * chain + first + place, 450);
+                let feat = number(self.other, name, 99_999_999);
+                put(&mut line, 26 + 8 * place as usize, feat);
+            }
+        }
+        self.put_line(&line);
+    }
+
+    /// Appends the nodes and the polygons of a chain.
+    fn add_link(&mut self, chain: u64)
+        requires { chain < 5000 }
+    {
+        let other = self.other;
+        let mut nodes = [
+            number(other, chain, 1_000_000),
+            number(other, chain + 1, 1_000_000),
+        ];
+        let mut sides = [polygon(other, left(chain)), polygon(other, right(chain))];
+        if is_turned(other, chain) {
+            nodes.swap(0, 1);
+            sides.swap(0, 1);
+        }
+        let fields = [
+            (20, tlid(other, chain)),
+            (30, nodes[0]),
+            (40, nodes[1]),
+            (45, sides[0].0),
+            (55, sides[0].1),
+            (60, sides[1].0),
+            (70, sides[1].1),
+        ];
+        self.add(LINK, &fields);
+    }
+
+    /// Appends further addresses of a chain.
+    fn add_addresses(&mut self, chain: u64)
+        requires { chain < 5000 }
+    {
+        let is_turned = is_turned(self.other, chain);
+        let (from, to) = if is_turned { (62, 29) } else { (29, 62) };
+        let fields = [
+            (15, tlid(self.other, chain)),
+            (18, 7),
+            (from, 10 * chain),
+            (to, 10 * chain + 9),
+        ];
+        self.add("62006{71}", &fields);
+    }
+
+    /// Appends the inner point of the polygon on the left of a chain.
+    fn add_polygon(&mut self, chain: u64)
+        requires { chain < 5000 }
+    {
+        let (cenid, polyid) = polygon(self.other, left(chain));
+        self.add("P20060100100000{29}1", &[(15, cenid), (25, polyid)]);
+    }
+
+    /// Appends all records of a chain.
+    fn add_chain(&mut self, chain: u64)
+        requires { chain < 5000 }
+    {
+        self.add_link(chain);
+        for first in [10, 0, 20] {
+            if first <= inner(chain) {
+                self.add_points(chain, first);
+            }
+            if first / 2 <= names(chain) {
+                self.add_names(chain, first / 2);
+            }
+        }
+        self.add_ends(chain);
+        if chain % 5 == 0 {
+            self.add_addresses(chain);
+        }
+        if chain % 4 == 0 {
+            self.add_polygon(chain);
         }
     }
-    add_ends(rt, alloc, text, other, chain);
-    if chain % 5 == 0 {
-        add_addresses(rt, alloc, text, other, chain);
-    }
-    if chain % 4 == 0 {
-        add_polygon(rt, alloc, text, other, chain);
-    }
-}
 
-/// Appends a landmark: up to three contents, and up to six polygons that are beside chains.
-fn add_landmark(rt: &impl Abort, alloc: Global, text: &mut Vec<u8>, other: bool, landmark: u64)
-    requires { landmark < 100 }
-{
-    let land = number(other, landmark, 3_000_000_000);
-    for content in 0..1 + landmark % 3 {
-        add(
-            rt,
-            alloc,
-            text,
-            "7200601001{64}",
-            &[(20, land), (54, 10 * landmark + content)],
-        );
-    }
-    for link in 0..landmark % 7 {
-        let (cenid, polyid) = polygon(other, left(17 * landmark + link));
-        add(
-            rt,
-            alloc,
-            text,
-            "820060100100000{21}",
-            &[(15, cenid), (25, polyid), (35, land)],
-        );
+    /// Appends a landmark: up to three contents, and up to six polygons that are beside chains.
+    fn add_landmark(&mut self, landmark: u64)
+        requires { landmark < 100 }
+    {
+        let land = number(self.other, landmark, 3_000_000_000);
+        for content in 0..1 + landmark % 3 {
+            let fields = [(20, land), (54, 10 * landmark + content)];
+            self.add("7200601001{64}", &fields);
+        }
+        for link in 0..landmark % 7 {
+            let (cenid, polyid) = polygon(self.other, left(17 * landmark + link));
+            let fields = [(15, cenid), (25, polyid), (35, land)];
+            self.add("820060100100000{21}", &fields);
+        }
     }
 }
 
 /// The map in one spelling or the other.
-pub(super) fn made(rt: &impl Abort, alloc: Global, other: bool) -> Vec<u8> {
-    let mut text = Vec::new(alloc);
+pub(super) fn made(rt: &impl Host, other: bool) -> Vec<u8> {
+    let mut map = Spelling::new(rt, other);
     for n in 0..CHAINS {
-        add_chain(
-            rt,
-            alloc,
-            &mut text,
-            other,
-            if other { CHAINS - n } else { n + 1 },
-        );
+        map.add_chain(if other { CHAINS - n } else { n + 1 });
     }
     for name in 1..NAMES + 1 {
         let feat = number(other, name, 99_999_999);
-        add(
-            rt,
-            alloc,
-            &mut text,
-            "5200601001{46}",
-            &[(18, feat), (50, name)],
-        );
+        map.add("5200601001{46}", &[(18, feat), (50, name)]);
     }
     for landmark in 1..LANDMARKS + 1 {
-        add_landmark(rt, alloc, &mut text, other, landmark);
+        map.add_landmark(landmark);
     }
-    text
+    map.into_text()
 }

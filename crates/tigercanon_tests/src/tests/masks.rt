@@ -1,17 +1,18 @@
 //! The contents of records under masks.
 
+use super::Host;
 use super::comparing::same;
 use super::sets::{lines_of, records_of};
-use std::alloc::Global;
-use std::process::Abort;
 use tl_layout::{Blank, Mask, Record};
 
 /// Records of the types with fields that masks leave out: first as they are, and then without these fields.
-const PLAIN: &[&str] = &[
-    "12006{7}5001AN Main{26}St{2}SWA41{8}101{8}199{8}100{8}198678936003360067000170002LR45012800105190001900028000180002600016000202020002030010012002-086468669+32424914-086468545+32424948",
-    "7200601001{8}40AD43Barn{26}-086468669+32424914",
-    "I200601001{7}500{8}11{8}1200001{8}1300002{8}14Bureau{20}9{9}6{9}7{9}8",
-];
+pub(super) fn plain() -> &'static [&'static str] {
+    &[
+        "12006{7}5001AN Main{26}St{2}SWA41{8}101{8}199{8}100{8}198678936003360067000170002LR45012800105190001900028000180002600016000202020002030010012002-086468669+32424914-086468545+32424948",
+        "7200601001{8}40AD43Barn{26}-086468669+32424914",
+        "I200601001{7}500{8}11{8}1200001{8}1300002{8}14Bureau{20}9{9}6{9}7{9}8",
+    ]
+}
 
 const NO_SOURCES: &[&str] = &[
     "12006{7}5001{1}N Main{26}St{2}SWA41{8}101{8}199{8}100{8}198678936003360067000170002LR45012800105190001900028000180002600016000202020002030010012002-086468669+32424914-086468545+32424948",
@@ -25,11 +26,13 @@ const NO_RESERVED: &[&str] = &[
     "I200601001{7}500{8}11{8}1200001{8}1300002{8}14Bureau{20}9",
 ];
 
-const NEITHER: &[&str] = &[
-    "12006{7}5001{1}N Main{26}St{2}SWA41{8}101{8}199{8}100{8}198678936003360067000170002LR{2}012800105190001900028000180002600016000202020002030010012002-086468669+32424914-086468545+32424948",
-    "7200601001{8}40{1}D43Barn{26}-086468669+32424914",
-    "I200601001{7}500{8}11{8}1200001{8}1300002{8}14{26}9",
-];
+pub(super) fn without_either() -> &'static [&'static str] {
+    &[
+        "12006{7}5001{1}N Main{26}St{2}SWA41{8}101{8}199{8}100{8}198678936003360067000170002LR{2}012800105190001900028000180002600016000202020002030010012002-086468669+32424914-086468545+32424948",
+        "7200601001{8}40{1}D43Barn{26}-086468669+32424914",
+        "I200601001{7}500{8}11{8}1200001{8}1300002{8}14{26}9",
+    ]
+}
 
 /// The masks that leave out something.
 pub(super) const SOURCES: Mask = Mask {
@@ -47,33 +50,21 @@ pub(super) const BOTH: Mask = Mask {
     reserved: true,
 };
 
-/// The plain records, and these without the fields of either kind.
-pub(super) fn plain() -> &'static [&'static str] {
-    PLAIN
-}
-
-pub(super) fn without_either() -> &'static [&'static str] {
-    NEITHER
+/// Whether the first content under the mask is the second one.
+fn is_blanked<B: Blank + PartialEq + Copy>(body: &B, mask: Mask, other: &B) -> bool {
+    let mut body = *body;
+    body.blank(mask);
+    body == *other
 }
 
 /// Whether the first record's content under the mask is the second record's content.
 fn is_masked(record: &Record, mask: Mask, other: &Record) -> bool {
     match (record, other) {
-        (Record::One(record), Record::One(other)) => {
-            let mut body = *record.body();
-            body.blank(mask);
-            body == *other.body()
-        }
+        (Record::One(record), Record::One(other)) => is_blanked(record.body(), mask, other.body()),
         (Record::Seven(record), Record::Seven(other)) => {
-            let mut body = *record.body();
-            body.blank(mask);
-            body == *other.body()
+            is_blanked(record.body(), mask, other.body())
         }
-        (Record::I(record), Record::I(other)) => {
-            let mut body = *record.body();
-            body.blank(mask);
-            body == *other.body()
-        }
+        (Record::I(record), Record::I(other)) => is_blanked(record.body(), mask, other.body()),
         _ => false,
     }
 }
@@ -87,9 +78,9 @@ pub(super) fn are_masked(records: &[Record], others: &[Record], mask: Mask) -> b
 }
 
 /// Under this mask the plain records have the contents of these.
-fn become_these(rt: &impl Abort, alloc: Global, row: &str, mask: Mask, wanted: &[&str]) {
-    let plain = records_of(rt, alloc, row, &lines_of(rt, alloc, PLAIN));
-    let masked = records_of(rt, alloc, row, &lines_of(rt, alloc, wanted));
+fn become_these(rt: &impl Host, row: &str, mask: Mask, wanted: &[&str]) {
+    let plain = records_of(rt, row, &lines_of(rt, plain()));
+    let masked = records_of(rt, row, &lines_of(rt, wanted));
     let found = (masked.len(), are_masked(&plain, &masked, mask));
     drop(plain);
     drop(masked);
@@ -100,8 +91,8 @@ fn become_these(rt: &impl Abort, alloc: Global, row: &str, mask: Mask, wanted: &
 
 #[test]
 fn a_mask_leaves_out_its_fields(rt: HostRuntime) {
-    become_these(&rt, rt.alloc(), "none", Mask::NONE, PLAIN);
-    become_these(&rt, rt.alloc(), "sources", SOURCES, NO_SOURCES);
-    become_these(&rt, rt.alloc(), "reserved", RESERVED, NO_RESERVED);
-    become_these(&rt, rt.alloc(), "both", BOTH, NEITHER);
+    become_these(&rt, "none", Mask::NONE, plain());
+    become_these(&rt, "sources", SOURCES, NO_SOURCES);
+    become_these(&rt, "reserved", RESERVED, NO_RESERVED);
+    become_these(&rt, "both", BOTH, without_either());
 }

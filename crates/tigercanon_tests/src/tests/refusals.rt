@@ -12,7 +12,7 @@
 //!   that leaves out something. All others are swept under the mask that leaves out everything
 //! - a made map of 2,000 chains (`many.rt`), by all calls
 //!
-//! Each call is a type whose run names that call alone. A function that named all calls would take long to prove, and so would each
+//! Each call has a function that runs that call alone. A function that named all calls would take long to prove, and so would each
 //! function above it.
 
 mod canonising;
@@ -24,34 +24,23 @@ mod pieces;
 mod reading;
 mod refused;
 mod under_masks;
-mod whole;
+pub(super) mod whole;
 
+use super::Host;
 use super::comparing::same;
 use super::masks::BOTH;
 use super::sets::{Set, SetLines};
 use super::worked_sets::worked;
 pub(super) use canonising::{
-    Canonise, CanoniseIn, CanoniseInMasked, CanoniseMasked, RecordsOf, RecordsOfIn,
+    canonise, canonise_in, canonise_in_masked, canonise_masked, records_of, records_of_in,
 };
-use carrying::{CheckMasked, CheckRenaming, Inverse, NewShape, Then};
-use linking::{Admit, AdmitIn, Link, LinkIn, LinkInOrder, OrderByShape};
-use over_linked::AdmitLinked;
-use pieces::{ArrangeChains, WriteAdmitted};
-use reading::{EndPart, Feed, ReadPart, TablesOf};
-use std::alloc::Global;
 use std::fmt::Debug;
-use std::process::Abort;
 use tigercanon::{Fault, check};
 use tl_county::LinkFault;
 use tl_layout::Mask;
 use tl_load::LoadFault;
 use tl_profile::ProfileFault;
-pub(super) use whole::{NormaliseWithRenaming, normalise_slowly};
-use whole::{
-    AreOneMap, AreOneMapMasked, Check, CompareMasked, CompareStreetWith, CompareWithItself,
-    CompareWithStreet, Fingerprint, FingerprintMasked, Normalise, NormaliseMasked, NormaliseTo,
-    NormaliseToMasked, NormaliseWithRenamingMasked, Respell,
-};
+pub(super) use whole::normalise_with_renaming;
 
 /// A request of this size plus n bytes refuses the n-th growth from here.
 const ALONE: usize = 70_368_744_177_664;
@@ -60,7 +49,7 @@ const ALONE: usize = 70_368_744_177_664;
 const WITH_LATER_ONES: usize = 140_737_488_355_328;
 
 /// A request of this size refuses a growth that no call reaches.
-const NONE: usize = 70_373_039_144_959;
+pub(super) const NONE: usize = 70_373_039_144_959;
 
 /// A request of this size ends the refusals. It succeeds exactly if no growth was refused.
 const NO_MORE: usize = 40_961;
@@ -69,22 +58,38 @@ const NO_MORE: usize = 40_961;
 const MANY: usize = 1000;
 
 /// From here growths are refused as requested.
-fn refuse(alloc: Global, asked: usize) {
-    let _ = Vec::<u8>::with_capacity(alloc, asked);
+fn refuse(rt: &impl Host, asked: usize) {
+    let _ = Vec::<u8>::with_capacity(rt.alloc(), asked);
 }
 
 /// From here no growth is refused. Returns whether one was.
-fn has_refused(alloc: Global) -> bool {
-    Vec::<u8>::with_capacity(alloc, NO_MORE).is_err()
+fn has_refused(rt: &impl Host) -> bool {
+    Vec::<u8>::with_capacity(rt.alloc(), NO_MORE).is_err()
 }
 
-/// A run of a call: its whole result as a text, or nothing if it was out of memory; the set that it named as the one out of memory,
-/// if any; and whether a growth was refused.
+/// A run of a call: its whole result as a text, or nothing if it was out of memory; the place where a report of out of memory is
+/// counted; and whether a growth was refused. The place is 0 if a comparison named set 1, 1 if it named set 2, and 3 if nothing was
+/// named. `layers.rt` counts by layers.
+///
+/// A function that makes one takes a set and the size that is requested to refuse growths. It makes the call's input before growths
+/// are refused, and turns the result into text after refusals end. Where one call alone has no visible result, it makes two.
 #[derive(Drop)]
 pub(super) struct Run {
     answer: Option<String>,
-    set: Option<u8>,
+    place: usize,
     refused: bool,
+}
+
+impl Run {
+    pub(super) fn is_out_of_memory(&self) -> bool {
+        self.answer.is_none()
+    }
+
+    /// The same run, counted at this place.
+    fn counted_at(mut self, place: usize) -> Run {
+        self.place = place;
+        self
+    }
 }
 
 /// Whether the fault is out of memory.
@@ -98,40 +103,38 @@ pub(super) fn is_memory(fault: Fault) -> bool {
     )
 }
 
-/// The run with this outcome.
-fn ended<T: Debug + Drop>(
-    rt: &impl Abort,
-    alloc: Global,
-    refused: bool,
-    outcome: Result<T, Fault>,
-) -> Run {
+/// The run that ends with this outcome of its call.
+fn ended<T: Debug + Drop, E: Into<Fault>>(rt: &impl Host, outcome: Result<T, E>) -> Run {
+    let refused = has_refused(rt);
+    answered(rt, refused, outcome.map_err(E::into))
+}
+
+/// The run with this result, made after growths were refused or not.
+fn answered<T: Debug + Drop>(rt: &impl Host, refused: bool, outcome: Result<T, Fault>) -> Run {
     let answer = match &outcome {
         Err(fault) if is_memory(*fault) => None,
-        _ => Some(format!(in alloc; "{outcome:?}").expect(rt, "there is memory")),
+        _ => Some(format!(in rt.alloc(); "{outcome:?}").expect(rt, "there is memory")),
     };
     Run {
         answer,
-        set: None,
+        place: 3,
         refused,
     }
 }
 
-/// A public call that allocates memory, or two calls if one alone has no visible result.
-pub(super) trait Call {
-    /// Runs the call on a set, with growths refused as requested. Its input is made before growths are refused, and its result is
-    /// turned into text after refusals end.
-    fn run(rt: &impl Abort, alloc: Global, set: &Set<'_>, asked: usize) -> Run;
-}
-
 /// The result of a call on a set with ample memory.
-pub(super) fn ample_answer<C: Call>(rt: &impl Abort, alloc: Global, set: &Set<'_>) -> String {
-    C::run(rt, alloc, set, NONE)
-        .answer
-        .expect(rt, "memory is ample")
+fn ample_answer<R: Host, F: Fn(&R, &Set<'_>, usize) -> Run>(
+    rt: &R,
+    set: &Set<'_>,
+    call: &F,
+) -> String
+    requires { F.IsAlwaysCallable call.now }
+{
+    call(rt, set, NONE).answer.expect(rt, "memory is ample")
 }
 
 /// A run has the same result as with ample memory, or reports out of memory after a growth was refused.
-fn is_right(rt: &impl Abort, set: &Set<'_>, growth: usize, run: &Run, ample: &str) {
+fn is_right(rt: &impl Host, set: &Set<'_>, growth: usize, run: &Run, ample: &str) {
     let is_right = match &run.answer {
         Some(answer) => answer.as_str() == ample,
         None => run.refused,
@@ -143,44 +146,42 @@ fn is_right(rt: &impl Abort, set: &Set<'_>, growth: usize, run: &Run, ample: &st
     );
 }
 
-/// The growths of a call on a set: how many there are, and for how many of them out of memory was reported for set 1, for set 2,
-/// and for neither. A growth that the call can do without is reported for none.
+/// The growths of a call on a set: how many there are, and for how many of them out of memory was reported, by the places of runs.
+/// A growth that the call can do without is reported for none.
 #[derive(Clone, Copy)]
 struct Growths {
     count: usize,
-    reported: [usize; 3],
+    reported: [usize; 4],
 }
 
-/// Counts the set that a run reported. The growths for set 1 come before those for set 2, and the growths for neither come last.
-fn count_run(rt: &impl Abort, row: &str, reported: &mut [usize; 3], run: &Run) {
-    let place = match run.set {
-        Some(1) => 0usize,
-        Some(2) => 1,
-        _ => 2,
-    };
-    let behind = reported
+/// Counts a run at its place. No run is reported at a place after one was at a later place: the growths for set 1 come before those
+/// for set 2, and the growths for neither come last.
+fn count_run(rt: &impl Host, row: &str, reported: &mut [usize; 4], run: &Run) {
+    let behind: usize = reported
         .iter()
-        .skip(place.saturating_add(1))
+        .skip(run.place.saturating_add(1))
         .copied()
         .max()
         .unwrap_or(0);
     same(rt, row, &behind, &0);
-    if let Some(count) = reported.get_mut(place) {
+    if let Some(count) = reported.get_mut(run.place) {
         *count = count.saturating_add(usize::from(run.answer.is_none()));
     }
 }
 
 /// Refuses each growth of a call on a set in turn, until a run meets no refusal.
-fn count_growths<C: Call>(
-    rt: &impl Abort,
-    alloc: Global,
+fn count_growths<R: Host, F: Fn(&R, &Set<'_>, usize) -> Run>(
+    rt: &R,
     set: &Set<'_>,
     ample: &str,
     first: usize,
-) -> Growths {
-    let mut reported = [0; 3];
+    call: &F,
+) -> Growths
+    requires { F.IsAlwaysCallable call.now }
+{
+    let mut reported = [0; 4];
     for growth in 1..MANY {
-        let run = C::run(rt, alloc, set, first.saturating_add(growth));
+        let run = call(rt, set, first.saturating_add(growth));
         is_right(rt, set, growth, &run, ample);
         if !run.refused {
             let count = growth - 1;
@@ -209,134 +210,161 @@ pub(super) fn on_sets<'a>(what: &'a str, sets: &'a [SetLines]) -> Swept<'a> {
 }
 
 /// Refuses each growth of a call on a set, alone and then with all later ones.
-fn growths_on<C: Call>(rt: &impl Abort, alloc: Global, set: &Set<'_>) -> Growths {
-    let ample = ample_answer::<C>(rt, alloc, set);
-    let found = count_growths::<C>(rt, alloc, set, &ample, ALONE);
-    let again = count_growths::<C>(rt, alloc, set, &ample, WITH_LATER_ONES);
+fn growths_on<R: Host, F: Fn(&R, &Set<'_>, usize) -> Run>(
+    rt: &R,
+    set: &Set<'_>,
+    call: &F,
+) -> Growths
+    requires { F.IsAlwaysCallable call.now }
+{
+    let ample = ample_answer(rt, set, call);
+    let found = count_growths(rt, set, &ample, ALONE, call);
+    let again = count_growths(rt, set, &ample, WITH_LATER_ONES, call);
     same(rt, set.row, &again.count, &found.count);
     found
 }
 
-/// Refuses each growth of a call on each set. Prints how many there are: if a test fails, the call at fault is the one after the
-/// last printed.
-fn sweep<C: Call>(rt: &(impl Abort + Print), alloc: Global, call: &str, of: Swept<'_>) {
+/// Prints how many growths of a call were refused: if a test fails, the call at fault is the one after the last printed.
+fn print_growths(rt: &impl Host, call: &str, what: &str, count: usize) {
+    println!(rt; "{call}{what}: {count} growths refused").expect(rt, "a line goes out");
+}
+
+/// Refuses each growth of a call on each set, and prints how many there are.
+fn sweep<R: Host, F: Fn(&R, &Set<'_>, usize) -> Run>(rt: &R, name: &str, of: Swept<'_>, call: F)
+    requires { F.IsAlwaysCallable call }
+{
     let mut count = 0usize;
     for lines in of.sets {
-        let found = growths_on::<C>(rt, alloc, &lines.under(of.mask));
+        let found = growths_on(rt, &lines.under(of.mask), &call);
         count = count.saturating_add(found.count);
     }
-    println!(rt; "{call}{}: {count} growths refused", of.what).expect(rt, "a line goes out");
+    print_growths(rt, name, of.what, count);
 }
 
 /// The same for a call that compares a set with itself. If the set is accepted, as many faults are reported for set 2 as for set 1;
 /// if it is rejected, set 2 is never reached.
-fn sweep_twice<C: Call>(rt: &(impl Abort + Print), alloc: Global, call: &str, of: Swept<'_>) {
+fn sweep_twice<R: Host, F: Fn(&R, &Set<'_>, usize) -> Run>(
+    rt: &R,
+    name: &str,
+    of: Swept<'_>,
+    call: F,
+)
+    requires { F.IsAlwaysCallable call }
+{
     let mut count = 0usize;
     for lines in of.sets {
-        let found = growths_on::<C>(rt, alloc, &lines.under(of.mask));
-        let accepted = usize::from(check(alloc, &[&lines.bytes]).is_ok());
+        let found = growths_on(rt, &lines.under(of.mask), &call);
+        let accepted = usize::from(check(rt.alloc(), &[&lines.bytes]).is_ok());
         let wanted = found.reported[0].saturating_mul(accepted);
         same(rt, lines.row, &found.reported[1], &wanted);
         count = count.saturating_add(found.count);
     }
-    println!(rt; "{call}{}: {count} growths refused", of.what).expect(rt, "a line goes out");
+    print_growths(rt, name, of.what, count);
 }
 
 /// Two calls have the same result on a set with ample memory.
-pub(super) fn answer_alike<C: Call, D: Call>(rt: &impl Abort, alloc: Global, set: &Set<'_>) {
-    let one = ample_answer::<C>(rt, alloc, set);
-    let other = ample_answer::<D>(rt, alloc, set);
-    same(rt, set.row, &other.as_str(), &one.as_str());
+pub(super) fn answer_alike<
+    R: Host,
+    C: Fn(&R, &Set<'_>, usize) -> Run,
+    D: Fn(&R, &Set<'_>, usize) -> Run,
+>(rt: &R, set: &Set<'_>, one: C, other: D)
+    requires one { C.IsAlwaysCallable one }
+    requires other { D.IsAlwaysCallable other }
+{
+    let wanted = ample_answer(rt, set, &one);
+    let found = ample_answer(rt, set, &other);
+    same(rt, set.row, &found.as_str(), &wanted.as_str());
 }
 
 /// The renaming onto the text is the same, whether a call returns it with the text or with the county, which may be in an arena.
-fn answer_one_renaming(rt: &impl Abort, alloc: Global, sets: &[SetLines]) {
+fn answer_one_renaming(rt: &impl Host, sets: &[SetLines]) {
     for lines in sets {
         let set = lines.set();
-        answer_alike::<NormaliseWithRenaming, Canonise>(rt, alloc, &set);
-        answer_alike::<Canonise, CanoniseIn>(rt, alloc, &set);
-        answer_alike::<CanoniseMasked, CanoniseInMasked>(rt, alloc, &set);
+        answer_alike(rt, &set, normalise_with_renaming, canonise);
+        answer_alike(rt, &set, canonise, canonise_in);
+        answer_alike(rt, &set, canonise_masked, canonise_in_masked);
     }
 }
 
 /// Sweeps the whole calls.
-pub(super) fn sweep_whole_calls(rt: &(impl Abort + Print), alloc: Global, of: Swept<'_>) {
-    sweep::<Respell>(rt, alloc, "Respell", of);
-    sweep::<Normalise>(rt, alloc, "Normalise", of);
-    sweep::<NormaliseWithRenaming>(rt, alloc, "NormaliseWithRenaming", of);
-    sweep::<NormaliseTo>(rt, alloc, "NormaliseTo", of);
-    sweep::<Fingerprint>(rt, alloc, "Fingerprint", of);
-    sweep::<Check>(rt, alloc, "Check", of);
-    sweep_twice::<CompareWithItself>(rt, alloc, "CompareWithItself", of);
-    sweep::<CompareWithStreet>(rt, alloc, "CompareWithStreet", of);
-    sweep::<CompareStreetWith>(rt, alloc, "CompareStreetWith", of);
-    sweep_twice::<AreOneMap>(rt, alloc, "AreOneMap", of);
-    sweep_masked_calls(rt, alloc, of);
+pub(super) fn sweep_whole_calls(rt: &impl Host, of: Swept<'_>) {
+    sweep(rt, "Respell", of, whole::respell);
+    sweep(rt, "Normalise", of, whole::normalise);
+    sweep(rt, "NormaliseWithRenaming", of, normalise_with_renaming);
+    sweep(rt, "NormaliseTo", of, whole::normalise_to);
+    sweep(rt, "Fingerprint", of, whole::fingerprint);
+    sweep(rt, "Check", of, whole::check);
+    sweep_twice(rt, "CompareWithItself", of, whole::compare_with_itself);
+    sweep(rt, "CompareWithStreet", of, whole::compare_with_street);
+    sweep(rt, "CompareStreetWith", of, whole::compare_street_with);
+    sweep_twice(rt, "AreOneMap", of, whole::are_one_map);
+    sweep_masked_calls(rt, of);
 }
 
 /// Sweeps the whole calls that take a mask.
-fn sweep_masked_calls(rt: &(impl Abort + Print), alloc: Global, of: Swept<'_>) {
-    sweep::<NormaliseMasked>(rt, alloc, "NormaliseMasked", of);
-    sweep::<NormaliseWithRenamingMasked>(rt, alloc, "NormaliseWithRenamingMasked", of);
-    sweep::<NormaliseToMasked>(rt, alloc, "NormaliseToMasked", of);
-    sweep::<FingerprintMasked>(rt, alloc, "FingerprintMasked", of);
-    sweep_twice::<CompareMasked>(rt, alloc, "CompareMasked", of);
-    sweep_twice::<AreOneMapMasked>(rt, alloc, "AreOneMapMasked", of);
+fn sweep_masked_calls(rt: &impl Host, of: Swept<'_>) {
+    sweep(rt, "NormaliseMasked", of, whole::normalise_masked);
+    let with_renaming = whole::normalise_with_renaming_masked;
+    sweep(rt, "NormaliseWithRenamingMasked", of, with_renaming);
+    sweep(rt, "NormaliseToMasked", of, whole::normalise_to_masked);
+    sweep(rt, "FingerprintMasked", of, whole::fingerprint_masked);
+    sweep_twice(rt, "CompareMasked", of, whole::compare_masked);
+    sweep_twice(rt, "AreOneMapMasked", of, whole::are_one_map_masked);
 }
 
 /// Sweeps the calls of a loader.
-pub(super) fn sweep_reading(rt: &(impl Abort + Print), alloc: Global, of: Swept<'_>) {
-    sweep::<Feed>(rt, alloc, "Feed", of);
-    sweep::<EndPart>(rt, alloc, "EndPart", of);
-    sweep::<ReadPart>(rt, alloc, "ReadPart", of);
+pub(super) fn sweep_reading(rt: &impl Host, of: Swept<'_>) {
+    sweep(rt, "Feed", of, reading::feed);
+    sweep(rt, "EndPart", of, reading::end_part);
+    sweep(rt, "ReadPart", of, reading::read_part);
 }
 
 /// Sweeps the calls that link records.
-pub(super) fn sweep_linking(rt: &(impl Abort + Print), alloc: Global, of: Swept<'_>) {
-    sweep::<Link>(rt, alloc, "Link", of);
-    sweep::<LinkIn>(rt, alloc, "LinkIn", of);
-    sweep::<LinkInOrder>(rt, alloc, "LinkInOrder", of);
+pub(super) fn sweep_linking(rt: &impl Host, of: Swept<'_>) {
+    sweep(rt, "Link", of, linking::link);
+    sweep(rt, "LinkIn", of, linking::link_in);
+    sweep(rt, "LinkInOrder", of, linking::link_in_order);
 }
 
 /// Sweeps the calls that admit a county.
-pub(super) fn sweep_admitting(rt: &(impl Abort + Print), alloc: Global, of: Swept<'_>) {
-    sweep::<Admit>(rt, alloc, "Admit", of);
-    sweep::<AdmitIn>(rt, alloc, "AdmitIn", of);
-    sweep::<AdmitLinked>(rt, alloc, "AdmitLinked", of);
+pub(super) fn sweep_admitting(rt: &impl Host, of: Swept<'_>) {
+    sweep(rt, "Admit", of, linking::admit);
+    sweep(rt, "AdmitIn", of, linking::admit_in);
+    sweep(rt, "AdmitLinked", of, over_linked::admit_linked);
 }
 
 /// Sweeps the other calls of the layers, which reject nothing.
-pub(super) fn sweep_others(rt: &(impl Abort + Print), alloc: Global, of: Swept<'_>) {
-    sweep::<NewShape>(rt, alloc, "NewShape", of);
-    sweep::<TablesOf>(rt, alloc, "TablesOf", of);
-    sweep::<OrderByShape>(rt, alloc, "OrderByShape", of);
-    sweep::<ArrangeChains>(rt, alloc, "Arrange", of);
-    sweep::<Canonise>(rt, alloc, "Canonise", of);
-    sweep::<CanoniseIn>(rt, alloc, "CanoniseIn", of);
-    sweep::<CanoniseMasked>(rt, alloc, "CanoniseMasked", of);
-    sweep::<CanoniseInMasked>(rt, alloc, "CanoniseInMasked", of);
-    sweep::<RecordsOf>(rt, alloc, "RecordsOf", of);
-    sweep::<RecordsOfIn>(rt, alloc, "RecordsOfIn", of);
-    sweep::<WriteAdmitted>(rt, alloc, "WriteAdmitted", of);
-    sweep::<CheckRenaming>(rt, alloc, "CheckRenaming", of);
-    sweep::<CheckMasked>(rt, alloc, "CheckMasked", of);
-    sweep::<Inverse>(rt, alloc, "Inverse", of);
-    sweep::<Then>(rt, alloc, "Then", of);
-    answer_one_renaming(rt, alloc, of.sets);
+pub(super) fn sweep_others(rt: &impl Host, of: Swept<'_>) {
+    sweep(rt, "NewShape", of, carrying::new_shape);
+    sweep(rt, "TablesOf", of, reading::tables);
+    sweep(rt, "OrderByShape", of, linking::order_by_shape);
+    sweep(rt, "Arrange", of, pieces::arrange_chains);
+    sweep(rt, "Canonise", of, canonise);
+    sweep(rt, "CanoniseIn", of, canonise_in);
+    sweep(rt, "CanoniseMasked", of, canonise_masked);
+    sweep(rt, "CanoniseInMasked", of, canonise_in_masked);
+    sweep(rt, "RecordsOf", of, records_of);
+    sweep(rt, "RecordsOfIn", of, records_of_in);
+    sweep(rt, "WriteAdmitted", of, pieces::write_admitted);
+    sweep(rt, "CheckRenaming", of, carrying::check_renaming);
+    sweep(rt, "CheckMasked", of, carrying::check_masked);
+    sweep(rt, "Inverse", of, carrying::inverse);
+    sweep(rt, "Then", of, carrying::then);
+    answer_one_renaming(rt, of.sets);
 }
 
 #[test]
 fn whole_calls_report_refused_growths(rt: HostRuntime) {
-    let sets = worked(&rt, rt.alloc());
-    sweep_whole_calls(&rt, rt.alloc(), on_sets("", &sets));
+    let sets = worked(&rt);
+    sweep_whole_calls(&rt, on_sets("", &sets));
 }
 
 #[test]
 fn calls_of_layers_report_refused_growths(rt: HostRuntime) {
-    let sets = worked(&rt, rt.alloc());
+    let sets = worked(&rt);
     let of = on_sets("", &sets);
-    sweep_reading(&rt, rt.alloc(), of);
-    sweep_linking(&rt, rt.alloc(), of);
-    sweep_admitting(&rt, rt.alloc(), of);
-    sweep_others(&rt, rt.alloc(), of);
+    sweep_reading(&rt, of);
+    sweep_linking(&rt, of);
+    sweep_admitting(&rt, of);
+    sweep_others(&rt, of);
 }

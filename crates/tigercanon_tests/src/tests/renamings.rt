@@ -1,11 +1,10 @@
 //! Renamings as values: inverses, compositions, and whether one carries a county onto another.
 
+use super::Host;
 use super::comparing::{same, same_items};
 use super::counties::county_of;
 use super::sets::lines_of;
 use super::worked_sets::{MAIN, MAIN_TURNED, NAMED, NAMED_BACKWARDS, SIDED};
-use std::alloc::Global;
-use std::process::Abort;
 use tl_cert::{PolygonKey, Renaming, check};
 
 /// The lists of a renaming.
@@ -20,7 +19,7 @@ pub(super) struct Lists<'a> {
 }
 
 /// The renaming has these lists.
-pub(super) fn has_lists(rt: &impl Abort, row: &str, renaming: &Renaming, lists: &Lists<'_>) {
+pub(super) fn has_lists(rt: &impl Host, row: &str, renaming: &Renaming, lists: &Lists<'_>) {
     same_items(rt, row, renaming.chains(), lists.chains);
     same_items(rt, row, renaming.names(), lists.names);
     same_items(rt, row, renaming.polygons(), lists.polygons);
@@ -30,14 +29,14 @@ pub(super) fn has_lists(rt: &impl Abort, row: &str, renaming: &Renaming, lists: 
 }
 
 /// The renaming of these lists.
-fn renaming(rt: &impl Abort, alloc: Global, lists: &Lists<'_>) -> Renaming {
+fn renaming(rt: &impl Host, lists: &Lists<'_>) -> Renaming {
     Renaming::new(
-        Vec::from_slice(alloc, lists.chains).expect(rt, "there is memory"),
-        Vec::from_slice(alloc, lists.names).expect(rt, "there is memory"),
-        Vec::from_slice(alloc, lists.polygons).expect(rt, "there is memory"),
-        Vec::from_slice(alloc, lists.lands).expect(rt, "there is memory"),
-        Vec::from_slice(alloc, lists.nodes).expect(rt, "there is memory"),
-        Vec::from_slice(alloc, lists.turned).expect(rt, "there is memory"),
+        Vec::from_slice(rt.alloc(), lists.chains).expect(rt, "there is memory"),
+        Vec::from_slice(rt.alloc(), lists.names).expect(rt, "there is memory"),
+        Vec::from_slice(rt.alloc(), lists.polygons).expect(rt, "there is memory"),
+        Vec::from_slice(rt.alloc(), lists.lands).expect(rt, "there is memory"),
+        Vec::from_slice(rt.alloc(), lists.nodes).expect(rt, "there is memory"),
+        Vec::from_slice(rt.alloc(), lists.turned).expect(rt, "there is memory"),
     )
 }
 
@@ -111,11 +110,9 @@ const NEXT: Lists<'static> = Lists {
 /// The odd one and then the next one, which leaves out the numbers that it doesn't name.
 const ODD_AND_NEXT: Lists<'static> = Lists {
     chains: &[(1, 7), (1, 8), (4, 7)],
-    names: &[],
-    polygons: &[],
     lands: &[(1, 8)],
     nodes: &[(7, 1)],
-    turned: &[],
+    ..NOTHING
 };
 
 const STAY: Lists<'static> = Lists {
@@ -137,59 +134,37 @@ const NEXT_AND_STAY: Lists<'static> = Lists {
 };
 
 /// The purpose of a row, a renaming, and its inverse.
-type WayBack = (&'static str, Lists<'static>, Lists<'static>);
-
-const WAYS_BACK: &[WayBack] = &[
-    ("all kinds of numbers", THERE, BACK),
-    ("pairs of one number", ODD, ODD_BACK),
-    ("no numbers", NOTHING, NOTHING),
-];
-
-/// The purpose of a row, a renaming, another one, and both one after the other.
-type WayOn = (&'static str, Lists<'static>, Lists<'static>, Lists<'static>);
-
-const WAYS_ON: &[WayOn] = &[
-    ("there and back", THERE, BACK, THERE_AND_BACK),
-    ("the first pair counts", ODD, NEXT, ODD_AND_NEXT),
-    ("turned and turned back", NEXT, STAY, NEXT_AND_STAY),
-];
-
-/// The rows of inverses.
-fn ways_back() -> &'static [WayBack] {
-    WAYS_BACK
-}
-
-/// The rows of compositions.
-fn ways_on() -> &'static [WayOn] {
-    WAYS_ON
-}
-
-/// The inverse of a renaming is as in its row.
-fn goes_back(rt: &impl Abort, alloc: Global, row: &WayBack) {
-    let (name, there, wanted) = row;
-    let back = renaming(rt, alloc, there).inverse().expect(rt, name);
-    has_lists(rt, name, &back, wanted);
-}
-
-/// Two renamings one after the other are as in their row.
-fn goes_on(rt: &impl Abort, alloc: Global, row: &WayOn) {
-    let (name, first, second, wanted) = row;
-    let second = renaming(rt, alloc, second);
-    let both = renaming(rt, alloc, first).then(&second).expect(rt, name);
-    has_lists(rt, name, &both, wanted);
+fn ways_back() -> [(&'static str, Lists<'static>, Lists<'static>); 3] {
+    [
+        ("all kinds of numbers", THERE, BACK),
+        ("pairs of one number", ODD, ODD_BACK),
+        ("no numbers", NOTHING, NOTHING),
+    ]
 }
 
 #[test]
 fn renamings_go_back(rt: HostRuntime) {
-    for row in ways_back() {
-        goes_back(&rt, rt.alloc(), row);
+    for (row, there, wanted) in ways_back() {
+        let back = renaming(&rt, &there).inverse().expect(&rt, row);
+        has_lists(&rt, row, &back, &wanted);
     }
+}
+
+/// The purpose of a row, two renamings, and both one after the other.
+fn ways_on() -> [(&'static str, [Lists<'static>; 2], Lists<'static>); 3] {
+    [
+        ("there and back", [THERE, BACK], THERE_AND_BACK),
+        ("the first pair counts", [ODD, NEXT], ODD_AND_NEXT),
+        ("turned and turned back", [NEXT, STAY], NEXT_AND_STAY),
+    ]
 }
 
 #[test]
 fn renamings_go_on(rt: HostRuntime) {
-    for row in ways_on() {
-        goes_on(&rt, rt.alloc(), row);
+    for (row, [first, second], wanted) in ways_on() {
+        let second = renaming(&rt, &second);
+        let both = renaming(&rt, &first).then(&second).expect(&rt, row);
+        has_lists(&rt, row, &both, &wanted);
     }
 }
 
@@ -220,139 +195,70 @@ const LEFT: PolygonKey = (*b"00001", 12);
 
 const RIGHT: PolygonKey = (*b"00002", 12);
 
-/// The purpose of a row, a set, another set, a renaming, and whether it carries the first set onto the second.
-type CarriedRow = (
-    &'static str,
-    &'static [&'static str],
-    &'static [&'static str],
-    Lists<'static>,
-    bool,
-);
+/// Main St onto Main St from its other end, with these nodes, and with these chains turned.
+fn with_nodes(nodes: &'static [(u64, u64)]) -> Lists<'static> {
+    Lists { nodes, ..TURN }
+}
 
-const CARRIED: &[CarriedRow] = &[
-    ("the street", MAIN, MAIN_TURNED, TURN, true),
-    (
-        "another order",
-        MAIN,
-        MAIN_TURNED,
-        Lists {
-            nodes: &[(12, 6), (11, 5)],
-            ..TURN
-        },
-        true,
-    ),
-    (
-        "not turned",
-        MAIN,
-        MAIN_TURNED,
-        Lists {
-            turned: &[],
-            ..TURN
-        },
-        false,
-    ),
-    (
-        "turned twice",
-        MAIN,
-        MAIN_TURNED,
-        Lists {
-            turned: &[500, 500],
-            ..TURN
-        },
-        false,
-    ),
-    (
-        "no node 11",
-        MAIN,
-        MAIN_TURNED,
-        Lists {
-            nodes: &[(12, 6)],
-            ..TURN
-        },
-        false,
-    ),
-    (
-        "node 11 twice",
-        MAIN,
-        MAIN_TURNED,
-        Lists {
-            nodes: &[(11, 5), (11, 5), (12, 6)],
-            ..TURN
-        },
-        false,
-    ),
-    (
-        "nodes exchanged",
-        MAIN,
-        MAIN_TURNED,
-        Lists {
-            nodes: &[(11, 6), (12, 5)],
-            ..TURN
-        },
-        false,
-    ),
-    (
-        "one name more",
-        MAIN,
-        MAIN_TURNED,
-        Lists {
-            names: &[(1, 1)],
-            ..TURN
-        },
-        false,
-    ),
-    ("nothing", &[], &[], NOTHING, true),
-    (
-        "names exchanged",
-        NAMED,
-        NAMED_BACKWARDS,
-        Lists {
-            names: &[(8, 9), (9, 8)],
-            ..SAME
-        },
-        true,
-    ),
-    (
-        "names kept",
-        NAMED,
-        NAMED_BACKWARDS,
-        Lists {
-            names: &[(8, 8), (9, 9)],
-            ..SAME
-        },
-        false,
-    ),
-    (
-        "polygons kept",
-        SIDED,
-        SIDED,
-        Lists {
-            polygons: &[(LEFT, LEFT), (RIGHT, RIGHT)],
-            ..SAME
-        },
-        true,
-    ),
-    (
-        "polygons exchanged",
-        SIDED,
-        SIDED,
-        Lists {
-            polygons: &[(LEFT, RIGHT), (RIGHT, LEFT)],
-            ..SAME
-        },
-        false,
-    ),
-    (
-        "polygons joined",
-        SIDED,
-        SIDED,
-        Lists {
-            polygons: &[(LEFT, RIGHT), (RIGHT, RIGHT)],
-            ..SAME
-        },
-        false,
-    ),
-];
+fn with_turned(turned: &'static [u64]) -> Lists<'static> {
+    Lists { turned, ..TURN }
+}
+
+/// Main St onto itself, with these names, and with these polygons.
+fn with_names(names: &'static [(u32, u32)]) -> Lists<'static> {
+    Lists { names, ..SAME }
+}
+
+fn with_polygons(polygons: &'static [(PolygonKey, PolygonKey)]) -> Lists<'static> {
+    Lists { polygons, ..SAME }
+}
+
+/// A renaming of the numbers of a set, and whether it carries the set onto another one.
+type Carried = (&'static str, Lists<'static>, bool);
+
+/// From Main St to Main St from its other end.
+fn of_the_street() -> [Carried; 8] {
+    let names = &[(1, 1)];
+    [
+        ("the street", TURN, true),
+        ("another order", with_nodes(&[(12, 6), (11, 5)]), true),
+        ("not turned", with_turned(&[]), false),
+        ("turned twice", with_turned(&[500, 500]), false),
+        ("no node 11", with_nodes(&[(12, 6)]), false),
+        (
+            "node 11 twice",
+            with_nodes(&[(11, 5), (11, 5), (12, 6)]),
+            false,
+        ),
+        ("nodes exchanged", with_nodes(&[(11, 6), (12, 5)]), false),
+        ("one name more", Lists { names, ..TURN }, false),
+    ]
+}
+
+/// From one order of two names to the other.
+fn of_names() -> [Carried; 2] {
+    [
+        ("names exchanged", with_names(&[(8, 9), (9, 8)]), true),
+        ("names kept", with_names(&[(8, 8), (9, 9)]), false),
+    ]
+}
+
+/// From a chain between two polygons to itself.
+fn of_polygons() -> [Carried; 3] {
+    [
+        ("kept", with_polygons(&[(LEFT, LEFT), (RIGHT, RIGHT)]), true),
+        (
+            "exchanged",
+            with_polygons(&[(LEFT, RIGHT), (RIGHT, LEFT)]),
+            false,
+        ),
+        (
+            "joined",
+            with_polygons(&[(LEFT, RIGHT), (RIGHT, RIGHT)]),
+            false,
+        ),
+    ]
+}
 
 /// From Main St to Main St from its other end.
 pub(super) fn turn_of_the_street() -> Lists<'static> {
@@ -364,41 +270,36 @@ pub(super) fn onto_the_text() -> Lists<'static> {
     ONTO_THE_TEXT
 }
 
-/// The rows of renamings that carry or don't.
-fn carried() -> &'static [CarriedRow] {
-    CARRIED
-}
-
 /// Whether the renaming carries the county of one set onto that of another.
 pub(super) fn carries(
-    rt: &impl Abort,
-    alloc: Global,
+    rt: &impl Host,
     row: &str,
     here: &[u8],
     there: &[u8],
     renaming: &Renaming,
 ) -> bool {
-    let here = county_of(rt, alloc, row, here);
-    let there = county_of(rt, alloc, row, there);
-    let carried = check(alloc, &here, &there, renaming).expect(rt, row);
+    let here = county_of(rt, row, here);
+    let there = county_of(rt, row, there);
+    let carried = check(rt.alloc(), &here, &there, renaming).expect(rt, row);
     drop(here);
     drop(there);
     carried
 }
 
-/// The renaming carries the first set onto the second, or doesn't, as in its row.
-fn is_carried(rt: &impl Abort, alloc: Global, row: &CarriedRow) {
-    let (name, here, there, lists, wanted) = row;
-    let renaming = renaming(rt, alloc, lists);
-    let here = lines_of(rt, alloc, here);
-    let there = lines_of(rt, alloc, there);
-    let found = carries(rt, alloc, name, &here, &there, &renaming);
-    same(rt, name, &found, wanted);
+/// Each renaming carries the first set onto the second, or doesn't, as in its row.
+fn are_carried(rt: &impl Host, here: &[&str], there: &[&str], rows: &[Carried]) {
+    let here = lines_of(rt, here);
+    let there = lines_of(rt, there);
+    for (row, lists, wanted) in rows {
+        let found = carries(rt, row, &here, &there, &renaming(rt, lists));
+        same(rt, row, &found, wanted);
+    }
 }
 
 #[test]
 fn a_renaming_carries_or_not(rt: HostRuntime) {
-    for row in carried() {
-        is_carried(&rt, rt.alloc(), row);
-    }
+    are_carried(&rt, MAIN, MAIN_TURNED, &of_the_street());
+    are_carried(&rt, &[], &[], &[("nothing", NOTHING, true)]);
+    are_carried(&rt, NAMED, NAMED_BACKWARDS, &of_names());
+    are_carried(&rt, SIDED, SIDED, &of_polygons());
 }

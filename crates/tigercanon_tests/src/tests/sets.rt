@@ -5,25 +5,19 @@ ghost use Rattle.tl_county.specs.Limits.{most_records};
 ghost use Rattle.tl_layout.specs.Limits.{IsWithinLimit};
 ghost use Rattle.tl_layout.specs.RecordText.{FitsRecord};
 
+use super::Host;
 use super::masks::BOTH;
-use std::alloc::Global;
-use std::process::Abort;
 use tl_layout::{Mask, Record};
 use tl_load::Loader;
 
 /// Appends this number of blanks.
-fn put_blanks(rt: &impl Abort, bytes: &mut Vec<u8>, count: usize) {
+fn put_blanks(rt: &impl Host, bytes: &mut Vec<u8>, count: usize) {
     let len = bytes.len().saturating_add(count);
     bytes.resize(len, b' ').expect(rt, "there is memory");
 }
 
 /// Appends the meaning of a byte of a pattern. After `{` it is part of a number, and the `}` turns the number into as many blanks.
-fn put_byte(
-    rt: &impl Abort,
-    bytes: &mut Vec<u8>,
-    blanks: Option<usize>,
-    byte: u8,
-) -> Option<usize> {
+fn put_byte(rt: &impl Host, bytes: &mut Vec<u8>, blanks: Option<usize>, byte: u8) -> Option<usize> {
     match (byte, blanks) {
         (b'{', _) => Some(0),
         (b'}', Some(count)) => {
@@ -42,7 +36,7 @@ fn put_byte(
 }
 
 /// Appends the line of a pattern, terminated by LF.
-fn put_line(rt: &impl Abort, bytes: &mut Vec<u8>, pattern: &str) {
+fn put_line(rt: &impl Host, bytes: &mut Vec<u8>, pattern: &str) {
     let mut blanks = None;
     for byte in pattern.bytes() {
         blanks = put_byte(rt, bytes, blanks, byte);
@@ -51,8 +45,8 @@ fn put_line(rt: &impl Abort, bytes: &mut Vec<u8>, pattern: &str) {
 }
 
 /// The lines of the patterns, each terminated by LF.
-pub(super) fn lines_of(rt: &impl Abort, alloc: Global, patterns: &[&str]) -> Vec<u8> {
-    let mut bytes = Vec::new(alloc);
+pub(super) fn lines_of(rt: &impl Host, patterns: &[&str]) -> Vec<u8> {
+    let mut bytes = Vec::new(rt.alloc());
     for pattern in patterns {
         put_line(rt, &mut bytes, pattern);
     }
@@ -84,6 +78,15 @@ pub(super) struct SetLines {
 }
 
 impl SetLines {
+    /// The set of this row.
+    pub(super) fn of(rt: &impl Host, row: &Row) -> SetLines {
+        SetLines {
+            row: row.0,
+            bytes: lines_of(rt, row.1),
+            text: lines_of(rt, row.2),
+        }
+    }
+
     /// The set with its text, borrowed, and a mask that leaves out everything that masks can leave out.
     pub(super) fn set(&self) -> Set<'_> {
         self.under(BOTH)
@@ -101,15 +104,11 @@ impl SetLines {
 }
 
 /// The sets of these tables.
-pub(super) fn sets_of(rt: &impl Abort, alloc: Global, tables: &[&'static [Row]]) -> Vec<SetLines> {
-    let mut sets = Vec::new(alloc);
+pub(super) fn sets_of(rt: &impl Host, tables: &[&[Row]]) -> Vec<SetLines> {
+    let mut sets = Vec::new(rt.alloc());
     for rows in tables {
         for row in *rows {
-            let lines = SetLines {
-                row: row.0,
-                bytes: lines_of(rt, alloc, row.1),
-                text: lines_of(rt, alloc, row.2),
-            };
+            let lines = SetLines::of(rt, row);
             sets.push(lines).expect(rt, "there is memory");
         }
     }
@@ -117,18 +116,18 @@ pub(super) fn sets_of(rt: &impl Abort, alloc: Global, tables: &[&'static [Row]])
 }
 
 /// The records of this set.
-pub(super) fn records_of(rt: &impl Abort, alloc: Global, row: &str, set: &[u8]) -> Vec<Record>
+pub(super) fn records_of(rt: &impl Host, row: &str, set: &[u8]) -> Vec<Record>
     ensures fits { All FitsRecord result.items }
     ensures few { IsWithinLimit most_records result.items }
 {
-    let mut loader = Loader::new(alloc);
+    let mut loader = Loader::new(rt.alloc());
     loader.feed(set).expect(rt, row);
     loader.finish().expect(rt, row)
 }
 
 /// The lines of records in canonical spelling, each terminated by LF.
-pub(super) fn spelled(rt: &impl Abort, alloc: Global, records: &[Record]) -> Vec<u8> {
-    let mut text = Vec::new(alloc);
+pub(super) fn spelled(rt: &impl Host, records: &[Record]) -> Vec<u8> {
+    let mut text = Vec::new(rt.alloc());
     for record in records {
         let mut line = [0; 228];
         let len = record.line_len();

@@ -1,47 +1,50 @@
 //! A text to sinks that take a few bytes at a time, and fail.
 
+use super::Host;
 use super::comparing::{same, same_items};
 use super::devices::{failing_writer, kinds, writer};
 use super::sets::lines_of;
 use super::worked_sets::street_text;
-use std::alloc::Global;
+use std::fmt::Debug;
 use std::io::ErrorKind;
-use std::process::Abort;
 use tl_write::{CountedOut, Sink, SlowSink, WriteFault, write_bytes};
+
+/// The sink took the whole text.
+pub(super) fn took_all<E: PartialEq + Debug + Drop>(
+    rt: &impl Host,
+    row: &str,
+    sink: &SlowSink<'_>,
+    answer: &Result<u64, E>,
+    text: &[u8],
+) {
+    same(rt, row, answer, &Ok(text.len() as u64));
+    same_items(rt, row, sink.held(), text);
+}
 
 /// Writes the text to a sink of this capacity, which takes at most `most` bytes a write. The result and the content of the sink are
 /// right.
-fn writes(rt: &impl Abort, text: &[u8], capacity: usize, most: usize) {
+fn writes(rt: &impl Host, text: &[u8], capacity: usize, most: usize) {
     let mut place = [0; 400];
     assert!(rt; capacity <= 400 && 0 < most);
     let mut sink = SlowSink::new(&mut place[..capacity], most);
     let answer = write_bytes(text, &mut sink);
+    let beginning = text.get(..capacity).unwrap_or(text);
+    let written = beginning.len() as u64;
     let is_whole = text.len() <= capacity;
     let wanted = if is_whole {
-        Ok(text.len() as u64)
+        Ok(written)
     } else {
-        Err(WriteFault {
-            written: capacity as u64,
-        })
+        Err(WriteFault { written })
     };
     let found = (capacity, most, answer, sink.failures());
-    same(
-        rt,
-        "answer",
-        &found,
-        &(capacity, most, wanted, u64::from(!is_whole)),
-    );
-    same_items(
-        rt,
-        "what is held",
-        sink.held(),
-        text.get(..capacity).unwrap_or(text),
-    );
+    let wanted = (capacity, most, wanted, u64::from(!is_whole));
+    same(rt, "answer", &found, &wanted);
+    same_items(rt, "what is held", sink.held(), beginning);
 }
 
 #[test]
 fn a_beginning_goes_out_before_a_failure(rt: HostRuntime) {
-    let text = lines_of(&rt, rt.alloc(), street_text());
+    let text = lines_of(&rt, street_text());
     same(&rt, "bytes", &text.len(), &357);
     for capacity in 0..=357 {
         writes(&rt, &text, capacity, 7);
@@ -53,29 +56,21 @@ fn a_beginning_goes_out_before_a_failure(rt: HostRuntime) {
 }
 
 /// How many bytes a writer takes at a time, its capacity, the result for two bytes, and how often it failed.
-const FEW: &[(usize, usize, Result<u64, WriteFault>, u64)] = &[
-    (0, 9, Err(WriteFault { written: 0 }), 1),
-    (9, 0, Err(WriteFault { written: 0 }), 1),
-    (1, 9, Ok(2), 0),
-];
-
-/// Those rows.
-fn few() -> &'static [(usize, usize, Result<u64, WriteFault>, u64)] {
-    FEW
+fn few() -> [(usize, usize, Result<u64, WriteFault>, u64); 3] {
+    [
+        (0, 9, Err(WriteFault { written: 0 }), 1),
+        (9, 0, Err(WriteFault { written: 0 }), 1),
+        (1, 9, Ok(2), 0),
+    ]
 }
 
 /// A write that takes nothing is a failure, unless there are no bytes to write.
 #[test]
 fn a_write_of_nothing_is_a_failure(rt: HostRuntime) {
     for (step, capacity, wanted, failures) in few() {
-        let mut sink = CountedOut::new(writer(rt.alloc(), *step, *capacity));
-        let answer = write_bytes(b"ab", &mut sink);
-        same(
-            &rt,
-            "two bytes",
-            &(*step, answer, sink.failures()),
-            &(*step, *wanted, *failures),
-        );
+        let mut sink = CountedOut::new(writer(rt.alloc(), step, capacity));
+        let found = (step, write_bytes(b"ab", &mut sink), sink.failures());
+        same(&rt, "two bytes", &found, &(step, wanted, failures));
     }
     let mut sink = CountedOut::new(writer(rt.alloc(), 0, 0));
     let found = (
@@ -87,8 +82,8 @@ fn a_write_of_nothing_is_a_failure(rt: HostRuntime) {
 }
 
 /// A writer that takes 7 bytes at a time and fails once it holds 300 was called 44 times, and not again.
-fn fails_once(rt: &impl Abort, alloc: Global, text: &[u8], kind: ErrorKind) {
-    let mut sink = CountedOut::new(failing_writer(alloc, 7, 300, kind));
+fn fails_once(rt: &impl Host, text: &[u8], kind: ErrorKind) {
+    let mut sink = CountedOut::new(failing_writer(rt.alloc(), 7, 300, kind));
     let answer = write_bytes(text, &mut sink);
     let failures = sink.failures();
     let writer = sink.into_inner();
@@ -99,8 +94,8 @@ fn fails_once(rt: &impl Abort, alloc: Global, text: &[u8], kind: ErrorKind) {
 
 #[test]
 fn no_write_is_tried_again(rt: HostRuntime) {
-    let text = lines_of(&rt, rt.alloc(), street_text());
+    let text = lines_of(&rt, street_text());
     for kind in kinds() {
-        fails_once(&rt, rt.alloc(), &text, *kind);
+        fails_once(&rt, &text, *kind);
     }
 }

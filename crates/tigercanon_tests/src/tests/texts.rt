@@ -1,15 +1,35 @@
-//! What `Display` shows of each fault: the line that the program prints.
+//! What `Display` shows of each fault: the line that the program prints; and the exit status of a refusal.
 
-use super::comparing::same_items;
-use std::alloc::Global;
+use super::Host;
+use super::comparing::{same, same_items};
 use std::fmt::{Debug, Display};
-use std::process::Abort;
-use tigercanon::{CompareFault, Fault, PlanFault};
-use tl_county::{LinkFault, LinkedType, SequencedType};
+use tigercanon::{CompareFault, Fault, PlanFault, Refusal};
+use tl_county::LinkFault::{
+    self, ChainTwice, LandUnknown, LinkMissing, LinkTwice, NameTwice, NameUnknown, NoChain,
+    PolygonTwice, PolygonUnknown, SequenceBroken,
+};
+use tl_county::{LinkedType, SequencedType};
 use tl_layout::{DeviceFault, FieldFault, FieldKind, NumberOrNone};
-use tl_load::{LineFault, LoadFault};
-use tl_profile::ProfileFault;
+use tl_load::LineFault;
+use tl_load::LoadFault::{
+    self, BadByte, BadNumber, BadPoint, GapInRecord, LineTooLong, TooManyRecords, UnknownType,
+};
+use tl_profile::ProfileFault::{self, PolygonWithoutChain, TooSymmetric};
 use tl_write::WriteFault;
+
+/// The message of the fault is exactly this.
+fn says<T: Display>(rt: &impl Host, fault: &T, text: &str) {
+    let said = format!(in rt.alloc(); "{fault}").expect(rt, text);
+    same_items(rt, text, said.as_bytes(), text.as_bytes());
+}
+
+/// The fault's line is `refused` and this text, for the library and for the program, which exits with this status.
+fn is_refused(rt: &impl Host, fault: Fault, text: &str, status: u8) {
+    let line = format!(in rt.alloc(); "refused {text}").expect(rt, text);
+    says(rt, &fault, &line);
+    says(rt, &Refusal(fault), &line);
+    same(rt, text, &Refusal(fault).status(), &status);
+}
 
 /// The message about a number that isn't valid.
 const NO_NUMBER: &str = "column 16: this is not a number of the field";
@@ -20,281 +40,180 @@ const NUMBER: FieldFault = FieldFault {
 };
 
 /// Faults of one line.
-const LINES: &[(LineFault, &'static str)] = &[
-    (
-        LineFault::UnknownType,
-        "the first byte is no known record type",
-    ),
-    (
-        LineFault::LineTooLong,
-        "the line is longer than its record type allows",
-    ),
-    (LineFault::BadByte(7), "column 7: this byte is not allowed"),
-    (LineFault::Field(NUMBER), NO_NUMBER),
-];
-
-/// The part of a fault of loading.
-const PART: u64 = 2;
-
-const LINE: u64 = 34;
-
-/// The TLID of a fault of linking.
-const TLID: u64 = 9_000_000_001;
-
-const CENID: [u8; 5] = *b"00012";
-
-/// Faults as whole calls report them.
-const FAULTS: &[(Fault, &'static str)] = &[
-    (
-        Fault::Load(LoadFault::UnknownType {
-            part: PART,
-            line: LINE,
-        }),
-        "refused 1 UnknownType 2 34",
-    ),
-    (
-        Fault::Load(LoadFault::LineTooLong {
-            part: PART,
-            line: LINE,
-        }),
-        "refused 2 LineTooLong 2 34",
-    ),
-    (
-        Fault::Load(LoadFault::BadByte {
-            part: PART,
-            line: LINE,
-            column: 156,
-        }),
-        "refused 3 BadByte 2 34 156",
-    ),
-    (
-        Fault::Load(LoadFault::BadNumber {
-            part: PART,
-            line: LINE,
-            column: 156,
-        }),
-        "refused 4 BadNumber 2 34 156",
-    ),
-    (
-        Fault::Load(LoadFault::BadPoint {
-            part: PART,
-            line: LINE,
-            column: 156,
-        }),
-        "refused 5 BadPoint 2 34 156",
-    ),
-    (
-        Fault::Load(LoadFault::GapInRecord {
-            part: PART,
-            line: LINE,
-            column: 156,
-        }),
-        "refused 6 GapInRecord 2 34 156",
-    ),
-    (
-        Fault::Load(LoadFault::TooManyRecords { rtype: b'8' }),
-        "refused 7 TooManyRecords 8",
-    ),
-    (Fault::Load(LoadFault::Device), "refused 8 Device"),
-    (Fault::Load(LoadFault::Memory), "refused 9 Memory"),
-    (
-        Fault::Link(LinkFault::ChainTwice { tlid: TLID }),
-        "refused 11 ChainTwice 9000000001",
-    ),
-    (
-        Fault::Link(LinkFault::NoChain {
-            rtype: LinkedType::I,
-            tlid: TLID,
-        }),
-        "refused 12 NoChain I 9000000001",
-    ),
-    (
-        Fault::Link(LinkFault::SequenceBroken {
-            rtype: SequencedType::Four,
-            tlid: TLID,
-        }),
-        "refused 13 SequenceBroken 4 9000000001",
-    ),
-    (
-        Fault::Link(LinkFault::LinkMissing { tlid: TLID }),
-        "refused 14 LinkMissing 9000000001",
-    ),
-    (
-        Fault::Link(LinkFault::LinkTwice { tlid: TLID }),
-        "refused 15 LinkTwice 9000000001",
-    ),
-    (
-        Fault::Link(LinkFault::NameTwice { feat: 8 }),
-        "refused 16 NameTwice 8",
-    ),
-    (
-        Fault::Link(LinkFault::NameUnknown {
-            tlid: TLID,
-            feat: 8,
-        }),
-        "refused 17 NameUnknown 9000000001 8",
-    ),
-    (
-        Fault::Link(LinkFault::PolygonTwice {
-            cenid: CENID,
-            polyid: 9,
-        }),
-        "refused 18 PolygonTwice 3030303132 9",
-    ),
-    (
-        Fault::Link(LinkFault::LandUnknown { land: 30 }),
-        "refused 19 LandUnknown 30",
-    ),
-    (
-        Fault::Link(LinkFault::PolygonUnknown {
-            cenid: CENID,
-            polyid: 9,
-        }),
-        "refused 20 PolygonUnknown 3030303132 9",
-    ),
-    (Fault::Link(LinkFault::Memory), "refused 9 Memory"),
-    (
-        Fault::Profile(ProfileFault::PolygonWithoutChain {
-            cenid: CENID,
-            polyid: 9,
-        }),
-        "refused 23 PolygonWithoutChain 3030303132 9",
-    ),
-    (
-        Fault::Profile(ProfileFault::TooSymmetric),
-        "refused 24 TooSymmetric",
-    ),
-    (Fault::Profile(ProfileFault::Memory), "refused 9 Memory"),
-    (
-        Fault::Write(WriteFault { written: 229 }),
-        "refused 10 WriteFault 229",
-    ),
-    (Fault::Memory, "refused 9 Memory"),
-];
-
-/// Those tables.
-fn lines() -> &'static [(LineFault, &'static str)] {
-    LINES
+fn of_a_line() -> [(LineFault, &'static str); 4] {
+    let no_type = "the first byte is no known record type";
+    let too_long = "the line is longer than its record type allows";
+    let no_byte = "column 7: this byte is not allowed";
+    [
+        (LineFault::UnknownType, no_type),
+        (LineFault::LineTooLong, too_long),
+        (LineFault::BadByte(7), no_byte),
+        (LineFault::Field(NUMBER), NO_NUMBER),
+    ]
 }
 
-fn faults() -> &'static [(Fault, &'static str)] {
-    FAULTS
-}
-
-/// The message of the fault is exactly this.
-fn says<T: Display>(rt: &impl Abort, alloc: Global, fault: &T, text: &str) {
-    let said = format!(in alloc; "{fault}").expect(rt, text);
-    same_items(rt, text, said.as_bytes(), text.as_bytes());
-}
-
-/// Each fault has the message beside it.
-fn each_says<T: Display>(rt: &impl Abort, alloc: Global, faults: &[(T, &str)]) {
-    for (fault, text) in faults {
-        says(rt, alloc, fault, text);
+#[test]
+fn faults_of_a_line_say_what_is_wrong(rt: HostRuntime) {
+    for (fault, text) in of_a_line() {
+        says(&rt, &fault, text);
     }
 }
 
-/// Faults of linking as `Debug` prints them, like a derived `Debug`.
-const SHOWN: &[(LinkFault, &'static str)] = &[
-    (
-        LinkFault::ChainTwice { tlid: TLID },
-        "ChainTwice { tlid: 9000000001 }",
-    ),
-    (
-        LinkFault::NoChain {
-            rtype: LinkedType::I,
-            tlid: TLID,
-        },
-        "NoChain { rtype: I, tlid: 9000000001 }",
-    ),
-    (
-        LinkFault::SequenceBroken {
-            rtype: SequencedType::Four,
-            tlid: TLID,
-        },
-        "SequenceBroken { rtype: Four, tlid: 9000000001 }",
-    ),
-    (
-        LinkFault::LinkMissing { tlid: TLID },
-        "LinkMissing { tlid: 9000000001 }",
-    ),
-    (
-        LinkFault::LinkTwice { tlid: TLID },
-        "LinkTwice { tlid: 9000000001 }",
-    ),
-    (LinkFault::NameTwice { feat: 8 }, "NameTwice { feat: 8 }"),
-    (
-        LinkFault::NameUnknown {
-            tlid: TLID,
-            feat: 8,
-        },
-        "NameUnknown { tlid: 9000000001, feat: 8 }",
-    ),
-    (
-        LinkFault::PolygonTwice {
-            cenid: CENID,
-            polyid: 9,
-        },
-        "PolygonTwice { cenid: [48, 48, 48, 49, 50], polyid: 9 }",
-    ),
-    (
-        LinkFault::LandUnknown { land: 30 },
-        "LandUnknown { land: 30 }",
-    ),
-    (
-        LinkFault::PolygonUnknown {
-            cenid: CENID,
-            polyid: 9,
-        },
-        "PolygonUnknown { cenid: [48, 48, 48, 49, 50], polyid: 9 }",
-    ),
-    (LinkFault::Memory, "Memory"),
-];
+/// Faulty lines, and a set of too many lines.
+fn of_loading() -> [(LoadFault, &'static str); 7] {
+    let (part, line, column) = (2, 34, 156);
+    [
+        (UnknownType { part, line }, "1 UnknownType 2 34"),
+        (LineTooLong { part, line }, "2 LineTooLong 2 34"),
+        (BadByte { part, line, column }, "3 BadByte 2 34 156"),
+        (BadNumber { part, line, column }, "4 BadNumber 2 34 156"),
+        (BadPoint { part, line, column }, "5 BadPoint 2 34 156"),
+        (GapInRecord { part, line, column }, "6 GapInRecord 2 34 156"),
+        (TooManyRecords { rtype: b'8' }, "7 TooManyRecords 8"),
+    ]
+}
 
-/// Those rows.
-fn shown() -> &'static [(LinkFault, &'static str)] {
-    SHOWN
+/// Broken rules, and how `Debug` prints them, like a derived `Debug`.
+fn of_linking() -> [(LinkFault, &'static str, &'static str); 10] {
+    let (tlid, feat, land) = (9_000_000_001, 8, 30);
+    let (cenid, polyid) = (*b"00012", 9);
+    let (link, names) = (LinkedType::I, SequencedType::Four);
+    [
+        (
+            ChainTwice { tlid },
+            "11 ChainTwice 9000000001",
+            "ChainTwice { tlid: 9000000001 }",
+        ),
+        (
+            NoChain { rtype: link, tlid },
+            "12 NoChain I 9000000001",
+            "NoChain { rtype: I, tlid: 9000000001 }",
+        ),
+        (
+            SequenceBroken { rtype: names, tlid },
+            "13 SequenceBroken 4 9000000001",
+            "SequenceBroken { rtype: Four, tlid: 9000000001 }",
+        ),
+        (
+            LinkMissing { tlid },
+            "14 LinkMissing 9000000001",
+            "LinkMissing { tlid: 9000000001 }",
+        ),
+        (
+            LinkTwice { tlid },
+            "15 LinkTwice 9000000001",
+            "LinkTwice { tlid: 9000000001 }",
+        ),
+        (
+            NameTwice { feat },
+            "16 NameTwice 8",
+            "NameTwice { feat: 8 }",
+        ),
+        (
+            NameUnknown { tlid, feat },
+            "17 NameUnknown 9000000001 8",
+            "NameUnknown { tlid: 9000000001, feat: 8 }",
+        ),
+        (
+            PolygonTwice { cenid, polyid },
+            "18 PolygonTwice 3030303132 9",
+            "PolygonTwice { cenid: [48, 48, 48, 49, 50], polyid: 9 }",
+        ),
+        (
+            LandUnknown { land },
+            "19 LandUnknown 30",
+            "LandUnknown { land: 30 }",
+        ),
+        (
+            PolygonUnknown { cenid, polyid },
+            "20 PolygonUnknown 3030303132 9",
+            "PolygonUnknown { cenid: [48, 48, 48, 49, 50], polyid: 9 }",
+        ),
+    ]
+}
+
+/// Broken clauses of the profile.
+fn of_the_profile() -> [(ProfileFault, &'static str); 2] {
+    let (cenid, polyid) = (*b"00012", 9);
+    let without_chain = PolygonWithoutChain { cenid, polyid };
+    [
+        (without_chain, "23 PolygonWithoutChain 3030303132 9"),
+        (TooSymmetric, "24 TooSymmetric"),
+    ]
+}
+
+#[test]
+fn faulty_lines_are_reported(rt: HostRuntime) {
+    for (fault, text) in of_loading() {
+        is_refused(&rt, Fault::Load(fault), text, 3);
+    }
+}
+
+#[test]
+fn broken_rules_are_reported(rt: HostRuntime) {
+    for (fault, text, shown) in of_linking() {
+        is_refused(&rt, Fault::Link(fault), text, 3);
+        shows(&rt, &fault, shown);
+    }
+}
+
+#[test]
+fn broken_clauses_are_reported(rt: HostRuntime) {
+    for (fault, text) in of_the_profile() {
+        is_refused(&rt, Fault::Profile(fault), text, 3);
+    }
+}
+
+/// Devices that fail, and want of memory in each layer.
+fn of_the_machine() -> [(Fault, &'static str, u8); 6] {
+    let written = 229;
+    let write = WriteFault { written };
+    [
+        (Fault::Load(LoadFault::Device), "8 Device", 4),
+        (Fault::Write(write), "10 WriteFault 229", 4),
+        (Fault::Load(LoadFault::Memory), "9 Memory", 5),
+        (Fault::Link(LinkFault::Memory), "9 Memory", 5),
+        (Fault::Profile(ProfileFault::Memory), "9 Memory", 5),
+        (Fault::Memory, "9 Memory", 5),
+    ]
+}
+
+#[test]
+fn failed_devices_and_want_of_memory_are_reported(rt: HostRuntime) {
+    for (fault, text, status) in of_the_machine() {
+        is_refused(&rt, fault, text, status);
+    }
 }
 
 /// `Debug` prints the value exactly like this.
-fn shows<T: Debug>(rt: &impl Abort, alloc: Global, value: &T, text: &str) {
-    let found = format!(in alloc; "{value:?}").expect(rt, text);
+fn shows<T: Debug>(rt: &impl Host, value: &T, text: &str) {
+    let found = format!(in rt.alloc(); "{value:?}").expect(rt, text);
     same_items(rt, text, found.as_bytes(), text.as_bytes());
 }
 
 /// Hand-written `Debug` prints like a derived one, and a number that can be none prints like an `Option`.
 #[test]
 fn values_are_shown_as_a_derive_would_show_them(rt: HostRuntime) {
-    let alloc = rt.alloc();
-    for (fault, text) in shown() {
-        shows(&rt, alloc, fault, text);
-    }
-    shows(&rt, alloc, &NumberOrNone::new(Some(9)), "Some(9)");
-    shows(&rt, alloc, &NumberOrNone::new(None), "None");
-    let fault = Fault::Link(LinkFault::LinkMissing { tlid: 7 });
+    shows(&rt, &LinkFault::Memory, "Memory");
+    shows(&rt, &NumberOrNone::new(Some(9)), "Some(9)");
+    shows(&rt, &NumberOrNone::new(None), "None");
+    let fault = Fault::Link(LinkMissing { tlid: 7 });
     let in_set = "In { set: 2, fault: Link(LinkMissing { tlid: 7 }) }";
-    shows(&rt, alloc, &CompareFault::In { set: 2, fault }, in_set);
-}
-
-#[test]
-fn faults_say_what_is_wrong_and_where(rt: HostRuntime) {
-    each_says(&rt, rt.alloc(), lines());
-    each_says(&rt, rt.alloc(), faults());
+    shows(&rt, &CompareFault::In { set: 2, fault }, in_set);
 }
 
 #[test]
 fn faults_beside_those_of_sets_say_what_they_are(rt: HostRuntime) {
-    let alloc = rt.alloc();
-    says(&rt, alloc, &FieldKind::BadPoint, "this is not a point");
-    says(&rt, alloc, &NUMBER, NO_NUMBER);
-    says(&rt, alloc, &DeviceFault, "the device failed");
+    says(&rt, &FieldKind::BadPoint, "this is not a point");
+    says(&rt, &NUMBER, NO_NUMBER);
+    says(&rt, &DeviceFault, "the device failed");
     let fault = Fault::Memory;
     let second = CompareFault::In { set: 2, fault };
-    says(&rt, alloc, &second, "refused 9 Memory in set 2");
-    says(&rt, alloc, &CompareFault::Memory, "refused 9 Memory");
-    says(&rt, alloc, &PlanFault::Memory, "refused 9 Memory");
+    says(&rt, &second, "refused 9 Memory in set 2");
+    says(&rt, &CompareFault::Memory, "refused 9 Memory");
+    says(&rt, &PlanFault::Memory, "refused 9 Memory");
     // For a command line without a plan, the message is the usage as it is.
     let text = "error: no such word\n\nUsage: tigercanon\n";
-    let usage = String::from_str(alloc, text).expect(&rt, text);
-    says(&rt, alloc, &PlanFault::Usage(usage), text);
+    let usage = String::from_str(rt.alloc(), text).expect(&rt, text);
+    says(&rt, &PlanFault::Usage(usage), text);
 }

@@ -1,14 +1,18 @@
 //! Worked sets whose points don't decide which of two chains comes first, or in which direction a chain runs. The texts were worked
 //! out manually: of all texts that the points leave open, the least.
 
+use super::masked::CHAIN_1_OF_NONE;
+use super::sets::Row;
+use super::worked_sets::{CHAIN_1, LINK_1};
+
 /// Main St from its other end, as a loop that comes back through no other point.
-pub(super) const CLOSED: &[&str] = &[
+const CLOSED: &[&str] = &[
     "10306{8}77{1}A{2}Main{26}St{4}A41{8}198{8}100{8}199{8}101{2}103600636003{14}0101001001{30}02030002020020021001{1}-86468669+32424914{1}-86468669+32424914",
     "I{4}01001{8}77{9}6{9}6",
 ];
 
 /// It is turned, as 101 comes before 198.
-pub(super) const CLOSED_TEXT: &[&str] = &[
+const CLOSED_TEXT: &[&str] = &[
     "12006{9}1{1}A{2}Main{26}St{4}A41{8}101{8}199{8}100{8}19801{2}3600336006{14}0101001001{30}02020002030010012002-086468669+32424914-086468669+32424914",
     "I200601001{9}1{9}1{9}1{87}",
 ];
@@ -23,17 +27,12 @@ const STREET_4: &str =
 const TURNED_4: &str =
     "10306{9}4{1}A{2}Main{26}St{4}A41{8}198{8}100{8}199{8}101{2}103600636003{14}0101001001{30}02030002020020021001{1}-86468545+32424948{1}-86468669+32424914";
 
-/// Its canonical lines as the first chain and as the second.
-const STREET_1: &str =
-    "12006{9}1{1}A{2}Main{26}St{4}A41{8}101{8}199{8}100{8}19801{2}3600336006{14}0101001001{30}02020002030010012002-086468669+32424914-086468545+32424948";
-
+/// Its canonical line as the second chain.
 const STREET_2: &str =
     "12006{9}2{1}A{2}Main{26}St{4}A41{8}101{8}199{8}100{8}19801{2}3600336006{14}0101001001{30}02020002030010012002-086468669+32424914-086468545+32424948";
 
-const LINK_1: &str = "I200601001{9}1{9}1{9}2{87}";
-
 /// Main St twice, without a common node.
-pub(super) const STREET_TWICE: &[&str] = &[
+const STREET_TWICE: &[&str] = &[
     STREET_9,
     "I{4}01001{9}9{8}11{8}12",
     TURNED_4,
@@ -41,15 +40,10 @@ pub(super) const STREET_TWICE: &[&str] = &[
 ];
 
 /// Either may come first.
-pub(super) const STREET_TWICE_TEXT: &[&str] = &[
-    STREET_1,
-    STREET_2,
-    LINK_1,
-    "I200601001{9}2{9}3{9}4{87}",
-];
+const STREET_TWICE_TEXT: &[&str] = &[CHAIN_1, STREET_2, LINK_1, "I200601001{9}2{9}3{9}4{87}"];
 
 /// Main St twice, the first one ending where the second begins.
-pub(super) const ON_END: &[&str] = &[
+const ON_END: &[&str] = &[
     STREET_9,
     "I{4}01001{9}9{8}11{8}12",
     STREET_4,
@@ -57,7 +51,7 @@ pub(super) const ON_END: &[&str] = &[
 ];
 
 /// The same with the TLIDs exchanged, and the chain that begins there given from its other end.
-pub(super) const ON_END_EXCHANGED: &[&str] = &[
+const ON_END_EXCHANGED: &[&str] = &[
     STREET_9,
     "I{4}01001{9}9{8}11{8}12",
     TURNED_4,
@@ -65,10 +59,10 @@ pub(super) const ON_END_EXCHANGED: &[&str] = &[
 ];
 
 /// The one that begins there comes first; otherwise the second line of type I would have 3 and 1.
-pub(super) const ON_END_TEXT: &[&str] = &[STREET_1, STREET_2, LINK_1, "I200601001{9}2{9}2{9}3{87}"];
+const ON_END_TEXT: &[&str] = &[CHAIN_1, STREET_2, LINK_1, "I200601001{9}2{9}2{9}3{87}"];
 
 /// Two chains from a point to the same point: two orders, with four directions each.
-pub(super) const CLOSED_TWICE: &[&str] = &[
+const CLOSED_TWICE: &[&str] = &[
     "1{13}1{51}300{30}200{89}-86468669+32424914{1}-86468669+32424914",
     "1{13}2{51}100{30}400{89}-86468669+32424914{1}-86468669+32424914",
     "I{4}01001{9}1{8}11{8}12",
@@ -76,7 +70,7 @@ pub(super) const CLOSED_TWICE: &[&str] = &[
 ];
 
 /// The second comes first and stays, for its 100; the first is turned, for its 200.
-pub(super) const CLOSED_TWICE_TEXT: &[&str] = &[
+const CLOSED_TWICE_TEXT: &[&str] = &[
     "12006{9}1{51}100{30}400{88}-086468669+32424914-086468669+32424914",
     "12006{9}2{51}200{30}300{88}-086468669+32424914-086468669+32424914",
     LINK_1,
@@ -93,7 +87,7 @@ const BARE_1: &str = "12006{9}1{175}-086468669+32424914-086468545+32424948";
 const BARE_2: &str = "12006{9}2{175}-086468669+32424914-086468545+32424948";
 
 /// Two chains with five and with seven names, the first five of them the same.
-pub(super) const NAMES_5_AND_7: &[&str] = &[
+const NAMES_5_AND_7: &[&str] = &[
     BARE_4,
     BARE_9,
     "4{13}4{2}1{7}1{7}2{7}3{7}4{7}5",
@@ -111,7 +105,7 @@ pub(super) const NAMES_5_AND_7: &[&str] = &[
 ];
 
 /// The one with seven comes first: its second record of type 4, with TLID 1, comes before one with TLID 2.
-pub(super) const NAMES_5_AND_7_TEXT: &[&str] = &[
+const NAMES_5_AND_7_TEXT: &[&str] = &[
     BARE_1,
     BARE_2,
     "42006{9}1{2}1{7}1{7}2{7}3{7}4{7}5",
@@ -129,7 +123,7 @@ pub(super) const NAMES_5_AND_7_TEXT: &[&str] = &[
 ];
 
 /// Two chains with a record of each type, which differ only in the polygons on their left.
-pub(super) const ALIKE: &[&str] = &[
+const ALIKE: &[&str] = &[
     BARE_4,
     BARE_9,
     "2{13}4{2}1{1}-86468600+32424930",
@@ -149,7 +143,7 @@ pub(super) const ALIKE: &[&str] = &[
 ];
 
 /// The one beside the polygon whose record ends with 0 comes first.
-pub(super) const ALIKE_TEXT: &[&str] = &[
+const ALIKE_TEXT: &[&str] = &[
     BARE_1,
     BARE_2,
     "22006{9}1{2}1-086468600+32424930+000000000+00000000+000000000+00000000+000000000+00000000+000000000+00000000+000000000+00000000+000000000+00000000+000000000+00000000+000000000+00000000+000000000+00000000",
@@ -178,7 +172,7 @@ pub(super) const OF_TWO_SOURCES: &[&str] = &[
 
 /// The source A comes before B.
 pub(super) const OF_TWO_SOURCES_TEXT: &[&str] = &[
-    STREET_1,
+    CHAIN_1,
     "12006{9}2{1}B{2}Main{26}St{4}A41{8}101{8}199{8}100{8}19801{2}3600336006{14}0101001001{30}02020002030010012002-086468669+32424914-086468545+32424948",
     "I200601001{9}1{9}1{9}200001{82}",
     "I200601001{9}2{9}3{9}1{87}",
@@ -186,14 +180,14 @@ pub(super) const OF_TWO_SOURCES_TEXT: &[&str] = &[
 
 /// If the sources are left out, the nodes decide.
 pub(super) const OF_NO_SOURCES_TEXT: &[&str] = &[
-    "12006{9}1{4}Main{26}St{4}A41{8}101{8}199{8}100{8}19801{2}3600336006{14}0101001001{30}02020002030010012002-086468669+32424914-086468545+32424948",
+    CHAIN_1_OF_NONE,
     "12006{9}2{4}Main{26}St{4}A41{8}101{8}199{8}100{8}19801{2}3600336006{14}0101001001{30}02020002030010012002-086468669+32424914-086468545+32424948",
     LINK_1,
     "I200601001{9}2{9}2{9}300001{82}",
 ];
 
 /// Two pairs of chains between the same points, which leave two orders each.
-pub(super) const TWO_PAIRS: &[&str] = &[
+const TWO_PAIRS: &[&str] = &[
     "1{13}1{176}-86468669+32424914{1}-86468545+32424948",
     "1{13}2{176}-86468669+32424914{1}-86468545+32424948",
     "1{13}3{183}+1{7}+1{8}+2{7}+1",
@@ -205,7 +199,7 @@ pub(super) const TWO_PAIRS: &[&str] = &[
 ];
 
 /// The order of the first pair is decided by the second: after 1 to 2 and 3 to 4 it can have 1 to 1, otherwise at best 3 to 3.
-pub(super) const TWO_PAIRS_TEXT: &[&str] = &[
+const TWO_PAIRS_TEXT: &[&str] = &[
     BARE_1,
     BARE_2,
     "12006{9}3{175}+000000001+00000001+000000002+00000001",
@@ -217,7 +211,7 @@ pub(super) const TWO_PAIRS_TEXT: &[&str] = &[
 ];
 
 /// Two streets with the same shape, one of them given from its other end, and a chain that is its own reverse.
-pub(super) const PAIR_AND_LOOP: &[&str] = &[
+const PAIR_AND_LOOP: &[&str] = &[
     "1{13}1{4}Oak{176}+1{7}+1{8}+2{7}+1",
     "1{13}2{4}Elm{176}+2{7}+1{8}+1{7}+1",
     "1{13}9{91}2{4}1{79}-86468669+32424914{1}-86468669+32424914",
@@ -227,7 +221,7 @@ pub(super) const PAIR_AND_LOOP: &[&str] = &[
 ];
 
 /// The loop's point comes first, and it is turned for its 1; Elm comes before Oak.
-pub(super) const PAIR_AND_LOOP_TEXT: &[&str] = &[
+const PAIR_AND_LOOP_TEXT: &[&str] = &[
     "12006{9}1{91}1{4}2{78}-086468669+32424914-086468669+32424914",
     "12006{9}2{4}Elm{168}+000000001+00000001+000000002+00000001",
     "12006{9}3{4}Oak{168}+000000001+00000001+000000002+00000001",
@@ -251,3 +245,35 @@ pub(super) const TOO_SYMMETRIC: &[&str] = &[
     "1{13}6{183}+2{7}+1{8}+2{7}+1",
     "I{18}6",
 ];
+
+pub(super) fn twins() -> [Row; 5] {
+    [
+        ("a chain that is its own reverse", CLOSED, CLOSED_TEXT),
+        ("a street twice", STREET_TWICE, STREET_TWICE_TEXT),
+        ("a street twice, on end", ON_END, ON_END_TEXT),
+        (
+            "a street twice, on end, with TLIDs exchanged",
+            ON_END_EXCHANGED,
+            ON_END_TEXT,
+        ),
+        (
+            "a chain that is its own reverse, twice",
+            CLOSED_TWICE,
+            CLOSED_TWICE_TEXT,
+        ),
+    ]
+}
+
+/// Chains that are nearly alike, and groups of chains of one shape.
+pub(super) fn groups() -> [Row; 4] {
+    [
+        ("five and seven names", NAMES_5_AND_7, NAMES_5_AND_7_TEXT),
+        ("two chains that are nearly alike", ALIKE, ALIKE_TEXT),
+        ("two pairs of one shape each", TWO_PAIRS, TWO_PAIRS_TEXT),
+        (
+            "a pair of one shape, and a loop",
+            PAIR_AND_LOOP,
+            PAIR_AND_LOOP_TEXT,
+        ),
+    ]
+}

@@ -1,13 +1,12 @@
 //! Worked sets, each a list of patterns of lines. The texts were worked out manually from the rules of the canonical form.
+//!
+//! Functions return the tables of tests. The prover knows the content of a constant wherever it is named, which makes the proof there
+//! long. The proof of a table grows as the square of its length, so several short tables are faster than one long one.
 
+use super::Host;
+use super::masks::plain;
 use super::sets::{Row, SetLines, sets_of};
-use super::twin_sets::{
-    ALIKE, ALIKE_TEXT, CLOSED, CLOSED_TEXT, CLOSED_TWICE, CLOSED_TWICE_TEXT, NAMES_5_AND_7,
-    NAMES_5_AND_7_TEXT, ON_END, ON_END_EXCHANGED, ON_END_TEXT, PAIR_AND_LOOP, PAIR_AND_LOOP_TEXT,
-    STREET_TWICE, STREET_TWICE_TEXT, TWO_PAIRS, TWO_PAIRS_TEXT,
-};
-use std::alloc::Global;
-use std::process::Abort;
+use super::twin_sets::{groups, twins};
 
 /// The chain of Main St: its line of record type 1.
 pub(super) const CHAIN: &str =
@@ -28,11 +27,11 @@ pub(super) const RESPELT: &[&str] = &[CHAIN_RESPELT, LINK_RESPELT];
 pub(super) const SIDES: &str = "I{4}01001{7}500{8}11{8}1200001{8}1200002{8}12";
 
 /// The chain of Main St seen from its other end, with the TLID 77.
-pub(super) const TURNED: &str =
+const TURNED: &str =
     "10306{8}77{1}A{2}Main{26}St{4}A41{8}198{8}100{8}199{8}101{2}103600636003{14}0101001001{30}02030002020020021001{1}-86468545+32424948{1}-86468669+32424914";
 
 /// The line of record type I of that chain.
-pub(super) const TURNED_LINK: &str = "I{4}01001{8}77{9}6{9}5";
+const TURNED_LINK: &str = "I{4}01001{8}77{9}6{9}5";
 
 /// Two names with the same content.
 const OLD_MILL_8: &str = "5{4}01001{7}8{2}Old{1}Mill{22}Rd";
@@ -46,10 +45,10 @@ pub(super) const MAIN: &[&str] = &[CHAIN, LINK];
 pub(super) const MAIN_TURNED: &[&str] = &[TURNED, TURNED_LINK];
 
 /// Main St from its other end with two of its addresses exchanged, so that the numbers on its right are exchanged.
-pub(super) const OTHER_CHAIN: &str =
+const OTHER_CHAIN: &str =
     "10306{8}77{1}A{2}Main{26}St{4}A41{8}100{8}198{8}199{8}101{2}103600636003{14}0101001001{30}02030002020020021001{1}-86468545+32424948{1}-86468669+32424914";
 
-const OTHER_ADDRESSES: &[&str] = &[OTHER_CHAIN, TURNED_LINK];
+pub(super) const OTHER_ADDRESSES: &[&str] = &[OTHER_CHAIN, TURNED_LINK];
 
 /// Eleven shape points in two records, the later one first.
 const SHAPED: &[&str] = &[
@@ -107,46 +106,52 @@ const LANDMARKS: &[&str] = &[
 const WITHOUT_A_POINT: &[&str] = &[CHAIN, LINK, "7{4}01001{8}30AD43Barn{26}+000000000+00000000"];
 
 /// Two chains that share a node and a polygon.
-const TWO_CHAINS: &[&str] = &[
-    "1{13}5{183}+2{7}+1{8}+3{7}+1",
-    "1{13}3{183}+1{7}+1{8}+2{7}+1",
-    "I{4}01001{9}5{8}71{8}72{15}00001{9}9",
-    "I{4}01001{9}3{8}70{8}7100001{9}9",
-];
+pub(super) fn two_chains() -> &'static [&'static str] {
+    &[
+        "1{13}5{183}+2{7}+1{8}+3{7}+1",
+        "1{13}3{183}+1{7}+1{8}+2{7}+1",
+        "I{4}01001{9}5{8}71{8}72{15}00001{9}9",
+        "I{4}01001{9}3{8}70{8}7100001{9}9",
+    ]
+}
 
 /// One chain, and a record of each other type that adds to it.
-const RICH: &[&str] = &[
-    "8{4}0100100001{8}12{8}30{1}",
-    "2{11}500{2}5{1}-86468600+32424930",
-    "7{4}01001{8}40AD43Barn{46}",
-    "P{4}0100100002{8}12{1}-86468600+324249001",
-    "I{4}01001{7}500{8}11{8}1200001{8}1200002{8}12{57}",
-    "5{4}01001{7}9{2}Old Mill{22}Rd{4}",
-    "4{11}500{2}1{7}9{7}8{24}",
-    CHAIN,
-    "7{4}01001{8}40AD43Annex{45}",
-    "2{11}500{2}2{1}-86468650+32424920",
-    "6{11}500{2}1{9}30{9}40{9}31{9}41{4}3600336006",
-    "7{4}01001{8}30AD43Barn{46}",
-    "5{4}01001{7}8{2}Elm{27}St{4}",
-];
+pub(super) fn record_of_each_type() -> &'static [&'static str] {
+    &[
+        "8{4}0100100001{8}12{8}30{1}",
+        "2{11}500{2}5{1}-86468600+32424930",
+        "7{4}01001{8}40AD43Barn{46}",
+        "P{4}0100100002{8}12{1}-86468600+324249001",
+        "I{4}01001{7}500{8}11{8}1200001{8}1200002{8}12{57}",
+        "5{4}01001{7}9{2}Old Mill{22}Rd{4}",
+        "4{11}500{2}1{7}9{7}8{24}",
+        CHAIN,
+        "7{4}01001{8}40AD43Annex{45}",
+        "2{11}500{2}2{1}-86468650+32424920",
+        "6{11}500{2}1{9}30{9}40{9}31{9}41{4}3600336006",
+        "7{4}01001{8}30AD43Barn{46}",
+        "5{4}01001{7}8{2}Elm{27}St{4}",
+    ]
+}
 
 /// The chain of that county as seen from its other end, and the names that it uses.
-const RICH_TURNED: &[&str] = &[
-    TURNED,
-    "I{4}01001{8}77{8}12{8}1100002{8}1200001{8}12",
-    "2{12}77{2}1{1}-86468600+32424930{1}-86468650+32424920",
-    "4{12}77{2}1{7}9{7}8",
-    "6{12}77{2}1{9}41{9}31{9}40{9}30{4}3600636003",
-    "5{4}01001{7}8{2}Elm{27}St",
-    "5{4}01001{7}9{2}Old Mill{22}Rd",
-];
+pub(super) fn chain_of_each_type_turned() -> &'static [&'static str] {
+    &[
+        TURNED,
+        "I{4}01001{8}77{8}12{8}1100002{8}1200001{8}12",
+        "2{12}77{2}1{1}-86468600+32424930{1}-86468650+32424920",
+        "4{12}77{2}1{7}9{7}8",
+        "6{12}77{2}1{9}41{9}31{9}40{9}30{4}3600636003",
+        "5{4}01001{7}8{2}Elm{27}St",
+        "5{4}01001{7}9{2}Old Mill{22}Rd",
+    ]
+}
 
 /// Main St in canonical numbers: its chain, and the line of type I without polygons and between two.
-const CHAIN_1: &str =
+pub(super) const CHAIN_1: &str =
     "12006{9}1{1}A{2}Main{26}St{4}A41{8}101{8}199{8}100{8}19801{2}3600336006{14}0101001001{30}02020002030010012002-086468669+32424914-086468545+32424948";
 
-const LINK_1: &str = "I200601001{9}1{9}1{9}2{87}";
+pub(super) const LINK_1: &str = "I200601001{9}1{9}1{9}2{87}";
 
 const SIDES_1: &str = "I200601001{9}1{9}1{9}200001{9}100002{9}2{57}";
 
@@ -227,113 +232,70 @@ const RICH_TEXT: &[&str] = &[
     "P20060100100002{9}2-086468600+324249001",
 ];
 
-const STREETS: &[Row] = &[
-    ("no records", &[], &[]),
-    ("a street", MAIN, MAIN_TEXT),
-    ("a street from its other end", MAIN_TURNED, MAIN_TEXT),
-    ("other addresses", OTHER_ADDRESSES, OTHER_ADDRESSES_TEXT),
-    ("two sides", SIDED, SIDED_TEXT),
-    ("two chains", TWO_CHAINS, TWO_CHAINS_TEXT),
+/// The text of a chain, a landmark and a record of type I in which all fields are filled that masks leave out.
+const FILLED_TEXT: &[&str] = &[
+    "12006{9}11AN Main{26}St{2}SWA41{8}101{8}199{8}100{8}198678936003360067000170002LR45012800105190001900028000180002600016000202020002030010012002-086468669+32424914-086468545+32424948",
+    "7200601001{9}1AD43Barn{26}-086468669+32424914{1}",
+    "I200601001{9}1{9}1{9}200001{9}100002{9}2Bureau{20}9{9}6{9}7{9}8",
 ];
 
-const POINTS: &[Row] = &[
-    ("shape points", SHAPED, SHAPED_TEXT),
-    (
-        "shape points in other records",
-        SHAPED_OTHERWISE,
-        SHAPED_TEXT,
-    ),
-    ("a loop", LOOP, LOOP_TEXT),
-    (
-        "a landmark without a point",
-        WITHOUT_A_POINT,
-        WITHOUT_A_POINT_TEXT,
-    ),
-];
-
-const NAMES: &[Row] = &[
-    ("names", NAMED, NAMED_TEXT),
-    ("names in the other order", NAMED_BACKWARDS, NAMED_TEXT),
-    ("a name twice", NAMED_TWICE, NAMED_TWICE_TEXT),
-];
-
-const TYPES: &[Row] = &[
-    ("landmarks", LANDMARKS, LANDMARKS_TEXT),
-    ("a record of each type", RICH, RICH_TEXT),
-];
-
-const TWINS: &[Row] = &[
-    ("a chain that is its own reverse", CLOSED, CLOSED_TEXT),
-    ("a street twice", STREET_TWICE, STREET_TWICE_TEXT),
-    ("a street twice, on end", ON_END, ON_END_TEXT),
-    (
-        "a street twice, on end, with TLIDs exchanged",
-        ON_END_EXCHANGED,
-        ON_END_TEXT,
-    ),
-    (
-        "a chain that is its own reverse, twice",
-        CLOSED_TWICE,
-        CLOSED_TWICE_TEXT,
-    ),
-];
-
-const NEARLY_ALIKE: &[Row] = &[
-    ("five and seven names", NAMES_5_AND_7, NAMES_5_AND_7_TEXT),
-    ("two chains that are nearly alike", ALIKE, ALIKE_TEXT),
-];
-
-const GROUPS: &[Row] = &[
-    ("two pairs of one shape each", TWO_PAIRS, TWO_PAIRS_TEXT),
-    (
-        "a pair of one shape, and a loop",
-        PAIR_AND_LOOP,
-        PAIR_AND_LOOP_TEXT,
-    ),
-];
-
-/// Functions return the tables of tests. The prover knows the content of a constant wherever it is named, which makes the proof
-/// there long. The proof of a table grows as the square of its length, so several short tables are faster than one long one.
-fn streets() -> &'static [Row] {
-    STREETS
+fn streets() -> [Row; 6] {
+    [
+        ("no records", &[], &[]),
+        ("a street", MAIN, MAIN_TEXT),
+        ("a street from its other end", MAIN_TURNED, MAIN_TEXT),
+        ("other addresses", OTHER_ADDRESSES, OTHER_ADDRESSES_TEXT),
+        ("two sides", SIDED, SIDED_TEXT),
+        ("two chains", two_chains(), TWO_CHAINS_TEXT),
+    ]
 }
 
-fn points() -> &'static [Row] {
-    POINTS
+fn points() -> [Row; 4] {
+    [
+        ("shape points", SHAPED, SHAPED_TEXT),
+        (
+            "shape points in other records",
+            SHAPED_OTHERWISE,
+            SHAPED_TEXT,
+        ),
+        ("a loop", LOOP, LOOP_TEXT),
+        (
+            "a landmark without a point",
+            WITHOUT_A_POINT,
+            WITHOUT_A_POINT_TEXT,
+        ),
+    ]
 }
 
-fn names() -> &'static [Row] {
-    NAMES
+fn names() -> [Row; 3] {
+    [
+        ("names", NAMED, NAMED_TEXT),
+        ("names in the other order", NAMED_BACKWARDS, NAMED_TEXT),
+        ("a name twice", NAMED_TWICE, NAMED_TWICE_TEXT),
+    ]
 }
 
-pub(super) fn types() -> &'static [Row] {
-    TYPES
-}
-
-pub(super) fn twins() -> &'static [Row] {
-    TWINS
-}
-
-fn nearly_alike() -> &'static [Row] {
-    NEARLY_ALIKE
-}
-
-fn groups() -> &'static [Row] {
-    GROUPS
+pub(super) fn types() -> [Row; 3] {
+    [
+        ("landmarks", LANDMARKS, LANDMARKS_TEXT),
+        ("a record of each type", record_of_each_type(), RICH_TEXT),
+        ("all that masks leave out", plain(), FILLED_TEXT),
+    ]
 }
 
 /// The sets that are accepted.
-pub(super) fn worked(rt: &impl Abort, alloc: Global) -> Vec<SetLines> {
-    let tables = [
-        streets(),
-        points(),
-        names(),
-        types(),
-        twins(),
-        nearly_alike(),
-        groups(),
-    ];
-    sets_of(rt, alloc, &tables)
+pub(super) fn worked(rt: &impl Host) -> Vec<SetLines> {
+    sets_of(
+        rt,
+        &[
+            &streets(),
+            &points(),
+            &names(),
+            &types(),
+            &twins(),
+            &groups(),
+        ],
+    )
 }
 
 /// Main St.
@@ -354,19 +316,4 @@ pub(super) fn street_text() -> &'static [&'static str] {
 /// Main St in canonical spelling, with its numbers.
 pub(super) fn street_respelt() -> &'static [&'static str] {
     RESPELT
-}
-
-/// One chain, and a record of each other type that adds to it.
-pub(super) fn record_of_each_type() -> &'static [&'static str] {
-    RICH
-}
-
-/// That chain as seen from its other end.
-pub(super) fn chain_of_each_type_turned() -> &'static [&'static str] {
-    RICH_TURNED
-}
-
-/// Two chains that share a node and a polygon.
-pub(super) fn two_chains() -> &'static [&'static str] {
-    TWO_CHAINS
 }

@@ -5,13 +5,12 @@ ghost use Rattle.tl_number.specs.Arrangement.{ascending};
 ghost use Rattle.tl_number.specs.DirectedChains.{HasChainsOf, arrangement_of};
 ghost use Rattle.tl_profile.specs.Profile.{IsInProfile};
 
+use super::super::Host;
 use super::super::comparing::same;
-use super::super::counties::county_of;
 use super::super::sets::Set;
-use super::linking::{admitted_of, carries};
-use super::{Call, Run, ended, has_refused, refuse};
+use super::linking::{admitted_of, carries_onto};
+use super::{Run, answered, ended, has_refused, refuse};
 use std::alloc::{AllocError, Global};
-use std::process::Abort;
 use tigercanon::Fault;
 use tl_cert::Renaming;
 use tl_county::{Chart, DirectedChain};
@@ -36,15 +35,10 @@ fn text_of_admitted<C: Chart + Drop>(
 }
 
 /// The canonical county, and its text in memory.
-pub(super) struct WriteAdmitted;
-
-impl Call for WriteAdmitted {
-    fn run(rt: &impl Abort, alloc: Global, set: &Set<'_>, asked: usize) -> Run {
-        let admitted = admitted_of(rt, alloc, set);
-        refuse(alloc, asked);
-        let outcome = text_of_admitted(alloc, admitted);
-        ended(rt, alloc, has_refused(alloc), outcome)
-    }
+pub(super) fn write_admitted(rt: &impl Host, set: &Set<'_>, asked: usize) -> Run {
+    let admitted = admitted_of(rt, set);
+    refuse(rt, asked);
+    ended(rt, text_of_admitted(rt.alloc(), admitted))
 }
 
 /// A county in the profile, in its ascending arrangement.
@@ -61,37 +55,26 @@ fn arrange_ascending<C: Chart + Drop>(
 }
 
 /// The renaming of the set's county onto an arranged one. It carries the one onto the other.
-fn renaming_onto<C: Chart>(
-    rt: &impl Abort,
-    alloc: Global,
-    set: &Set<'_>,
-    view: &Arranged<C>,
-) -> Renaming {
-    let county = county_of(rt, alloc, set.row, set.bytes);
-    let renaming = view.renaming(alloc).expect(rt, set.row);
-    let carried = carries(alloc, &county, view, &renaming);
-    drop(county);
+fn renaming_onto<C: Chart>(rt: &impl Host, set: &Set<'_>, view: &Arranged<C>) -> Renaming {
+    let renaming = view.renaming(rt.alloc()).expect(rt, set.row);
+    let carried = carries_onto(rt, set, view, &renaming);
     same(rt, set.row, &carried, &Ok(true));
     renaming
 }
 
 /// The arranged county. The answer is the renaming onto it.
-pub(super) struct ArrangeChains;
-
-impl Call for ArrangeChains {
-    fn run(rt: &impl Abort, alloc: Global, set: &Set<'_>, asked: usize) -> Run {
-        let chart = admitted_of(rt, alloc, set).into_chart();
-        let arrangement = ascending_arrangement(alloc, &chart).expect(rt, set.row);
-        refuse(alloc, asked);
-        let outcome = arrange_ascending(alloc, chart, arrangement);
-        let refused = has_refused(alloc);
-        match outcome {
-            Ok(view) => {
-                let renaming = renaming_onto(rt, alloc, set, &view);
-                drop(view);
-                ended(rt, alloc, refused, Ok(renaming))
-            }
-            Err(_) => ended::<()>(rt, alloc, refused, Err(Fault::Memory)),
+pub(super) fn arrange_chains(rt: &impl Host, set: &Set<'_>, asked: usize) -> Run {
+    let chart = admitted_of(rt, set).into_chart();
+    let arrangement = ascending_arrangement(rt.alloc(), &chart).expect(rt, set.row);
+    refuse(rt, asked);
+    let outcome = arrange_ascending(rt.alloc(), chart, arrangement);
+    let refused = has_refused(rt);
+    match outcome {
+        Ok(view) => {
+            let renaming = renaming_onto(rt, set, &view);
+            drop(view);
+            answered(rt, refused, Ok(renaming))
         }
+        Err(_) => answered::<()>(rt, refused, Err(Fault::Memory)),
     }
 }

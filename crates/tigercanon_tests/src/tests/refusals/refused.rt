@@ -1,14 +1,13 @@
 //! Rejected sets, by calls whose growths of memory are refused too: the reported fault is the same, or it is out of memory.
 
+use super::super::Host;
 use super::super::comparing::{same, same_items};
 use super::super::counties::{county_in_of, county_of};
-use super::super::sets::{Row, Set, SetLines, sets_of};
+use super::super::sets::{Set, SetLines};
 use super::super::twin_sets::TOO_SYMMETRIC;
 use super::super::worked_sets::{CHAIN, LINK, SIDES};
 use super::{on_sets, sweep_admitting, sweep_linking, sweep_reading, sweep_whole_calls};
 use bumpalo::Bump;
-use std::alloc::Global;
-use std::process::Abort;
 use tigercanon::{
     CompareFault, Fault, Refusal, check, compare, fingerprint, normalise, normalise_with_renaming,
 };
@@ -23,162 +22,139 @@ const POINT: &str = "P{4}0100100001{8}12";
 
 const POLYGON: &str = "8{4}0100100001{8}12{8}30";
 
-/// Sets with a faulty line, each with the reported fault as its name.
-const LINES: &[Row] = &[
-    ("refused 1 UnknownType 1 3", &[CHAIN, LINK, "A"], &[]),
-    (
-        "refused 2 LineTooLong 1 2",
-        &[CHAIN, "I{4}01001{7}500{8}11{8}1200001{8}1200002{8}12{58}"],
-        &[],
-    ),
-    ("refused 3 BadByte 1 1 3", &["1{1}\u{1a}{8}12 4", LINK], &[]),
-    ("refused 4 BadNumber 1 1 6", &["1{10}12 4", LINK], &[]),
-    (
-        "refused 4 BadNumber 1 3 16",
-        &[CHAIN, LINK, "4{11}500000{15}8"],
-        &[],
-    ),
-    ("refused 5 BadPoint 1 1 191", &[STARTLESS, LINK], &[]),
-    (
-        "refused 6 GapInRecord 1 3 27",
-        &[CHAIN, LINK, "4{11}500{2}1{15}8"],
-        &[],
-    ),
-];
+/// The fault that is reported, and a set with it.
+type Refused = (&'static str, &'static [&'static str]);
+
+/// Sets with a faulty line.
+fn of_lines() -> [Refused; 7] {
+    [
+        ("1 UnknownType 1 3", &[CHAIN, LINK, "A"]),
+        (
+            "2 LineTooLong 1 2",
+            &[CHAIN, "I{4}01001{7}500{8}11{8}1200001{8}1200002{8}12{58}"],
+        ),
+        ("3 BadByte 1 1 3", &["1{1}\u{1a}{8}12 4", LINK]),
+        ("4 BadNumber 1 1 6", &["1{10}12 4", LINK]),
+        ("4 BadNumber 1 3 16", &[CHAIN, LINK, "4{11}500000{15}8"]),
+        ("5 BadPoint 1 1 191", &[STARTLESS, LINK]),
+        ("6 GapInRecord 1 3 27", &[CHAIN, LINK, "4{11}500{2}1{15}8"]),
+    ]
+}
 
 /// Sets whose records don't fit together.
-const RULES: &[Row] = &[
-    ("refused 11 ChainTwice 500", &[CHAIN, CHAIN], &[]),
-    (
-        "refused 12 NoChain 2 600",
-        &[CHAIN, LINK, "6{11}501{2}1", "2{11}600{2}1"],
-        &[],
-    ),
-    (
-        "refused 13 SequenceBroken 2 500",
-        &[
-            CHAIN,
-            LINK,
-            "4{11}500{2}1{7}8",
-            "2{11}500{2}1{1}-86468659+32424915",
-            "2{11}500{2}1{1}-86468649+32424916",
-        ],
-        &[],
-    ),
-    ("refused 14 LinkMissing 500", &[CHAIN], &[]),
-    ("refused 15 LinkTwice 500", &[CHAIN, LINK, LINK], &[]),
-    (
-        "refused 16 NameTwice 8",
-        &[CHAIN, LINK, "5{16}8", "5{16}8"],
-        &[],
-    ),
-    (
-        "refused 17 NameUnknown 500 8",
-        &[CHAIN, LINK, "4{11}500{2}1{7}8"],
-        &[],
-    ),
-    (
-        "refused 18 PolygonTwice 3030303031 12",
-        &[CHAIN, SIDES, POINT, POINT],
-        &[],
-    ),
-    ("refused 19 LandUnknown 30", &[CHAIN, LINK, POLYGON], &[]),
-    (
-        "refused 20 PolygonUnknown 3030303031 12",
-        &[CHAIN, LINK, "7{4}01001{8}30", POLYGON],
-        &[],
-    ),
-];
+fn of_rules() -> [Refused; 10] {
+    [
+        ("11 ChainTwice 500", &[CHAIN, CHAIN]),
+        (
+            "12 NoChain 2 600",
+            &[CHAIN, LINK, "6{11}501{2}1", "2{11}600{2}1"],
+        ),
+        (
+            "13 SequenceBroken 2 500",
+            &[
+                CHAIN,
+                LINK,
+                "4{11}500{2}1{7}8",
+                "2{11}500{2}1{1}-86468659+32424915",
+                "2{11}500{2}1{1}-86468649+32424916",
+            ],
+        ),
+        ("14 LinkMissing 500", &[CHAIN]),
+        ("15 LinkTwice 500", &[CHAIN, LINK, LINK]),
+        ("16 NameTwice 8", &[CHAIN, LINK, "5{16}8", "5{16}8"]),
+        ("17 NameUnknown 500 8", &[CHAIN, LINK, "4{11}500{2}1{7}8"]),
+        (
+            "18 PolygonTwice 3030303031 12",
+            &[CHAIN, SIDES, POINT, POINT],
+        ),
+        ("19 LandUnknown 30", &[CHAIN, LINK, POLYGON]),
+        (
+            "20 PolygonUnknown 3030303031 12",
+            &[CHAIN, LINK, "7{4}01001{8}30", POLYGON],
+        ),
+    ]
+}
 
 /// Sets whose county is outside the profile.
-const CLAUSES: &[Row] = &[
-    (
-        "refused 23 PolygonWithoutChain 3030303031 12",
-        &[CHAIN, LINK, POINT, "7{4}01001{8}30", POLYGON],
-        &[],
-    ),
-    ("refused 24 TooSymmetric", TOO_SYMMETRIC, &[]),
-];
-
-/// Those sets.
-fn of_lines() -> &'static [Row] {
-    LINES
-}
-
-fn of_rules() -> &'static [Row] {
-    RULES
-}
-
-fn of_clauses() -> &'static [Row] {
-    CLAUSES
+fn of_clauses() -> [Refused; 2] {
+    [
+        (
+            "23 PolygonWithoutChain 3030303031 12",
+            &[CHAIN, LINK, POINT, "7{4}01001{8}30", POLYGON],
+        ),
+        ("24 TooSymmetric", TOO_SYMMETRIC),
+    ]
 }
 
 /// Each whole call reports this fault of the set, and comparing reports which set it is.
-fn each_reports(rt: &impl Abort, alloc: Global, set: &Set<'_>, fault: Fault) {
+fn each_reports(rt: &impl Host, set: &Set<'_>, fault: Fault) {
     let reported = Some(fault);
     let faults = [
-        normalise(alloc, &[set.bytes]).err(),
-        normalise_with_renaming(alloc, &[set.bytes]).err(),
-        fingerprint(alloc, &[set.bytes]).err(),
+        normalise(rt.alloc(), &[set.bytes]).err(),
+        normalise_with_renaming(rt.alloc(), &[set.bytes]).err(),
+        fingerprint(rt.alloc(), &[set.bytes]).err(),
     ];
     same(rt, set.row, &faults, &[reported; 3]);
     let in_set = Some(CompareFault::In { set: 2, fault });
-    let compared = compare(alloc, &[], &[set.bytes]).err();
+    let compared = compare(rt.alloc(), &[], &[set.bytes]).err();
     same(rt, set.row, &compared, &in_set);
 }
 
-/// Each whole call rejects the set as its name states.
-fn is_refused(rt: &impl Abort, alloc: Global, set: &Set<'_>) {
-    let fault = check(alloc, &[set.bytes]).expect_err(rt, set.row);
-    let line = format!(in alloc; "{}", Refusal(fault)).expect(rt, "there is memory");
-    same_items(rt, set.row, line.as_bytes(), set.row.as_bytes());
-    each_reports(rt, alloc, set, fault);
+/// Each whole call rejects the set as its row states.
+fn is_refused(rt: &impl Host, set: &Set<'_>) {
+    let fault = check(rt.alloc(), &[set.bytes]).expect_err(rt, set.row);
+    let line = format!(in rt.alloc(); "{}", Refusal(fault)).expect(rt, "there is memory");
+    let wanted = format!(in rt.alloc(); "refused {}", set.row).expect(rt, "there is memory");
+    same_items(rt, set.row, line.as_bytes(), wanted.as_bytes());
+    each_reports(rt, set, fault);
 }
 
 /// A stored county outside the profile is rejected as its set is.
-fn is_kept_out(rt: &impl Abort, alloc: Global, set: &Set<'_>) {
-    let reported = check(alloc, &[set.bytes]).err();
-    let county = county_of(rt, alloc, set.row, set.bytes);
-    let fault = admit(alloc, county).err().map(Fault::from);
+fn is_kept_out(rt: &impl Host, set: &Set<'_>) {
+    let reported = check(rt.alloc(), &[set.bytes]).err();
+    let county = county_of(rt, set.row, set.bytes);
+    let fault = admit(rt.alloc(), county).err().map(Fault::from);
     same(rt, set.row, &fault, &reported);
-    let arena = Bump::new(alloc);
-    let county = county_in_of(rt, alloc, &arena, set.row, set.bytes);
-    let fault = admit_in(alloc, county).err().map(Fault::from);
+    let arena = Bump::new(rt.alloc());
+    let county = county_in_of(rt, &arena, set.row, set.bytes);
+    let fault = admit_in(rt.alloc(), county).err().map(Fault::from);
     same(rt, set.row, &fault, &reported);
 }
 
-/// The sets of these tables. Each is rejected as its name states.
-fn refused_sets(rt: &impl Abort, alloc: Global, tables: &[&'static [Row]]) -> Vec<SetLines> {
-    let sets = sets_of(rt, alloc, tables);
-    for lines in &sets {
-        is_refused(rt, alloc, &lines.set());
+/// The sets of this table. Each is rejected as its row states.
+fn refused_sets(rt: &impl Host, rows: &[Refused]) -> Vec<SetLines> {
+    let mut sets = Vec::new(rt.alloc());
+    for (row, lines) in rows {
+        let lines = SetLines::of(rt, &(*row, *lines, &[]));
+        is_refused(rt, &lines.set());
+        sets.push(lines).expect(rt, "there is memory");
     }
     sets
 }
 
 #[test]
 fn faulty_lines_are_reported_where_growths_are_refused(rt: HostRuntime) {
-    let sets = refused_sets(&rt, rt.alloc(), &[of_lines()]);
+    let sets = refused_sets(&rt, &of_lines());
     let of = on_sets(" of faulty lines", &sets);
-    sweep_whole_calls(&rt, rt.alloc(), of);
-    sweep_reading(&rt, rt.alloc(), of);
+    sweep_whole_calls(&rt, of);
+    sweep_reading(&rt, of);
 }
 
 #[test]
 fn broken_rules_are_reported_where_growths_are_refused(rt: HostRuntime) {
-    let sets = refused_sets(&rt, rt.alloc(), &[of_rules()]);
+    let sets = refused_sets(&rt, &of_rules());
     let of = on_sets(" of broken rules", &sets);
-    sweep_whole_calls(&rt, rt.alloc(), of);
-    sweep_linking(&rt, rt.alloc(), of);
+    sweep_whole_calls(&rt, of);
+    sweep_linking(&rt, of);
 }
 
 #[test]
 fn broken_clauses_are_reported_where_growths_are_refused(rt: HostRuntime) {
-    let sets = refused_sets(&rt, rt.alloc(), &[of_clauses()]);
+    let sets = refused_sets(&rt, &of_clauses());
     let of = on_sets(" of broken clauses", &sets);
     for lines in &sets {
-        is_kept_out(&rt, rt.alloc(), &lines.set());
+        is_kept_out(&rt, &lines.set());
     }
-    sweep_whole_calls(&rt, rt.alloc(), of);
-    sweep_admitting(&rt, rt.alloc(), of);
+    sweep_whole_calls(&rt, of);
+    sweep_admitting(&rt, of);
 }

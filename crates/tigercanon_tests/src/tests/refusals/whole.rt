@@ -1,78 +1,48 @@
 //! The whole calls with growths refused as requested, without a mask and under the set's mask.
 
-ghost use Rattle.std.specs.Prelude.{◌<◌};
-
+use super::super::Host;
 use super::super::comparing::{same, same_items};
 use super::super::sets::{Set, lines_of};
 use super::super::worked_sets::street;
-use super::{Call, Run, ended, has_refused, is_memory, refuse};
-use std::alloc::Global;
+use super::{Run, answered, ended, has_refused, is_memory, refuse};
 use std::fmt::Debug;
-use std::process::Abort;
 use tigercanon::{CompareFault, Fault};
 use tl_load::SlowSource;
 use tl_write::SlowSink;
 
-pub(super) struct Respell;
-
-impl Call for Respell {
-    fn run(rt: &impl Abort, alloc: Global, set: &Set<'_>, asked: usize) -> Run {
-        refuse(alloc, asked);
-        let outcome = tigercanon::respell(alloc, &[set.bytes]);
-        ended(rt, alloc, has_refused(alloc), outcome)
-    }
+pub(crate) fn respell(rt: &impl Host, set: &Set<'_>, asked: usize) -> Run {
+    refuse(rt, asked);
+    ended(rt, tigercanon::respell(rt.alloc(), &[set.bytes]))
 }
 
-pub(super) struct Normalise;
-
-impl Call for Normalise {
-    fn run(rt: &impl Abort, alloc: Global, set: &Set<'_>, asked: usize) -> Run {
-        refuse(alloc, asked);
-        let outcome = tigercanon::normalise(alloc, &[set.bytes]);
-        ended(rt, alloc, has_refused(alloc), outcome)
-    }
+pub(crate) fn normalise(rt: &impl Host, set: &Set<'_>, asked: usize) -> Run {
+    refuse(rt, asked);
+    ended(rt, tigercanon::normalise(rt.alloc(), &[set.bytes]))
 }
 
-pub(crate) struct NormaliseWithRenaming;
-
-impl Call for NormaliseWithRenaming {
-    /// The result is the renaming.
-    fn run(rt: &impl Abort, alloc: Global, set: &Set<'_>, asked: usize) -> Run {
-        refuse(alloc, asked);
-        let outcome = tigercanon::normalise_with_renaming(alloc, &[set.bytes]);
-        let refused = has_refused(alloc);
-        match outcome {
-            Ok((text, renaming)) => {
-                same_items(rt, set.row, &text, set.text);
-                ended(rt, alloc, refused, Ok(renaming))
-            }
-            Err(fault) => ended::<()>(rt, alloc, refused, Err(fault)),
+/// The result is the renaming.
+pub(crate) fn normalise_with_renaming(rt: &impl Host, set: &Set<'_>, asked: usize) -> Run {
+    refuse(rt, asked);
+    let outcome = tigercanon::normalise_with_renaming(rt.alloc(), &[set.bytes]);
+    let refused = has_refused(rt);
+    match outcome {
+        Ok((text, renaming)) => {
+            same_items(rt, set.row, &text, set.text);
+            answered(rt, refused, Ok(renaming))
         }
+        Err(fault) => answered::<()>(rt, refused, Err(fault)),
     }
-}
-
-/// Reads a set and writes its text, at most a hundred bytes at a time.
-pub(crate) fn normalise_slowly(
-    alloc: Global,
-    set: &[u8],
-    sink: &mut SlowSink<'_>,
-) -> Result<u64, Fault>
-    requires { sink.old.failures < u64.MAX }
-{
-    let mut sources = [SlowSource::new(set, 100, None)];
-    tigercanon::normalise_to(alloc, &mut sources, sink)
 }
 
 /// The run with this outcome at a sink. The result is the content of the sink, which is empty if a growth was refused.
 fn written_by(
-    rt: &impl Abort,
-    alloc: Global,
+    rt: &impl Host,
     set: &Set<'_>,
     sink: &SlowSink<'_>,
     outcome: Result<u64, Fault>,
 ) -> Run {
-    let refused = has_refused(alloc);
-    let held = Vec::from_slice(alloc, sink.held()).expect(rt, "there is memory");
+    let refused = has_refused(rt);
+    let held = Vec::from_slice(rt.alloc(), sink.held()).expect(rt, "there is memory");
     let outcome = match outcome {
         Ok(count) => Ok((count, held)),
         Err(fault) => {
@@ -80,39 +50,26 @@ fn written_by(
             Err(fault)
         }
     };
-    ended(rt, alloc, refused, outcome)
+    answered(rt, refused, outcome)
 }
 
-pub(super) struct NormaliseTo;
-
-impl Call for NormaliseTo {
-    fn run(rt: &impl Abort, alloc: Global, set: &Set<'_>, asked: usize) -> Run {
-        let mut buffer = vec![in alloc; 0u8; set.text.len()].expect(rt, "there is memory");
-        let mut sink = SlowSink::new(&mut buffer, 100);
-        refuse(alloc, asked);
-        let outcome = normalise_slowly(alloc, set.bytes, &mut sink);
-        written_by(rt, alloc, set, &sink, outcome)
-    }
+pub(crate) fn normalise_to(rt: &impl Host, set: &Set<'_>, asked: usize) -> Run {
+    let mut buffer = vec![in rt.alloc(); 0u8; set.text.len()].expect(rt, "there is memory");
+    let mut sink = SlowSink::new(&mut buffer, 100);
+    let mut sources = [SlowSource::new(set.bytes, 100, None)];
+    refuse(rt, asked);
+    let outcome = tigercanon::normalise_to(rt.alloc(), &mut sources, &mut sink);
+    written_by(rt, set, &sink, outcome)
 }
 
-pub(super) struct Fingerprint;
-
-impl Call for Fingerprint {
-    fn run(rt: &impl Abort, alloc: Global, set: &Set<'_>, asked: usize) -> Run {
-        refuse(alloc, asked);
-        let outcome = tigercanon::fingerprint(alloc, &[set.bytes]);
-        ended(rt, alloc, has_refused(alloc), outcome)
-    }
+pub(crate) fn fingerprint(rt: &impl Host, set: &Set<'_>, asked: usize) -> Run {
+    refuse(rt, asked);
+    ended(rt, tigercanon::fingerprint(rt.alloc(), &[set.bytes]))
 }
 
-pub(super) struct Check;
-
-impl Call for Check {
-    fn run(rt: &impl Abort, alloc: Global, set: &Set<'_>, asked: usize) -> Run {
-        refuse(alloc, asked);
-        let outcome = tigercanon::check(alloc, &[set.bytes]);
-        ended(rt, alloc, has_refused(alloc), outcome)
-    }
+pub(crate) fn check(rt: &impl Host, set: &Set<'_>, asked: usize) -> Run {
+    refuse(rt, asked);
+    ended(rt, tigercanon::check(rt.alloc(), &[set.bytes]))
 }
 
 /// The result of a comparison, apart from out of memory.
@@ -127,134 +84,78 @@ fn reported<V: Drop>(outcome: Comparison<V>) -> Result<Comparison<V>, Fault> {
     }
 }
 
-/// The run with this outcome of a comparison, and the set that the fault names.
-fn compared<V: Debug + Drop>(rt: &impl Abort, alloc: Global, outcome: Comparison<V>) -> Run {
-    let refused = has_refused(alloc);
-    let set = match &outcome {
-        Err(CompareFault::In { set, .. }) => Some(*set),
-        _ => None,
+/// The run with this outcome of a comparison, counted by the set that the fault names.
+fn compared<V: Debug + Drop>(rt: &impl Host, outcome: Comparison<V>) -> Run {
+    let place = match &outcome {
+        Err(CompareFault::In { set: 1, .. }) => 0usize,
+        Err(CompareFault::In { set: 2, .. }) => 1,
+        _ => 3,
     };
-    let Run { answer, .. } = ended(rt, alloc, refused, reported(outcome));
-    Run {
-        answer,
-        set,
-        refused,
-    }
+    ended(rt, reported(outcome)).counted_at(place)
 }
 
-pub(super) struct CompareWithItself;
-
-impl Call for CompareWithItself {
-    fn run(rt: &impl Abort, alloc: Global, set: &Set<'_>, asked: usize) -> Run {
-        refuse(alloc, asked);
-        let outcome = tigercanon::compare(alloc, &[set.bytes], &[set.bytes]);
-        compared(rt, alloc, outcome)
-    }
+pub(crate) fn compare_with_itself(rt: &impl Host, set: &Set<'_>, asked: usize) -> Run {
+    refuse(rt, asked);
+    let outcome = tigercanon::compare(rt.alloc(), &[set.bytes], &[set.bytes]);
+    compared(rt, outcome)
 }
 
-pub(super) struct CompareWithStreet;
-
-impl Call for CompareWithStreet {
-    fn run(rt: &impl Abort, alloc: Global, set: &Set<'_>, asked: usize) -> Run {
-        let other = lines_of(rt, alloc, street());
-        refuse(alloc, asked);
-        let outcome = tigercanon::compare(alloc, &[set.bytes], &[&other]);
-        compared(rt, alloc, outcome)
-    }
+pub(crate) fn compare_with_street(rt: &impl Host, set: &Set<'_>, asked: usize) -> Run {
+    let other = lines_of(rt, street());
+    refuse(rt, asked);
+    let outcome = tigercanon::compare(rt.alloc(), &[set.bytes], &[&other]);
+    compared(rt, outcome)
 }
 
-pub(super) struct CompareStreetWith;
-
-impl Call for CompareStreetWith {
-    fn run(rt: &impl Abort, alloc: Global, set: &Set<'_>, asked: usize) -> Run {
-        let other = lines_of(rt, alloc, street());
-        refuse(alloc, asked);
-        let outcome = tigercanon::compare(alloc, &[&other], &[set.bytes]);
-        compared(rt, alloc, outcome)
-    }
+pub(crate) fn compare_street_with(rt: &impl Host, set: &Set<'_>, asked: usize) -> Run {
+    let other = lines_of(rt, street());
+    refuse(rt, asked);
+    let outcome = tigercanon::compare(rt.alloc(), &[&other], &[set.bytes]);
+    compared(rt, outcome)
 }
 
-pub(super) struct AreOneMap;
-
-impl Call for AreOneMap {
-    fn run(rt: &impl Abort, alloc: Global, set: &Set<'_>, asked: usize) -> Run {
-        refuse(alloc, asked);
-        let outcome = tigercanon::are_one_map(alloc, &[set.bytes], &[set.bytes]);
-        compared(rt, alloc, outcome)
-    }
+pub(crate) fn are_one_map(rt: &impl Host, set: &Set<'_>, asked: usize) -> Run {
+    refuse(rt, asked);
+    let outcome = tigercanon::are_one_map(rt.alloc(), &[set.bytes], &[set.bytes]);
+    compared(rt, outcome)
 }
 
-pub(super) struct NormaliseMasked;
-
-impl Call for NormaliseMasked {
-    fn run(rt: &impl Abort, alloc: Global, set: &Set<'_>, asked: usize) -> Run {
-        refuse(alloc, asked);
-        let outcome = tigercanon::normalise_masked(alloc, &[set.bytes], set.mask);
-        ended(rt, alloc, has_refused(alloc), outcome)
-    }
+pub(crate) fn normalise_masked(rt: &impl Host, set: &Set<'_>, asked: usize) -> Run {
+    refuse(rt, asked);
+    let outcome = tigercanon::normalise_masked(rt.alloc(), &[set.bytes], set.mask);
+    ended(rt, outcome)
 }
 
-pub(super) struct NormaliseWithRenamingMasked;
-
-impl Call for NormaliseWithRenamingMasked {
-    fn run(rt: &impl Abort, alloc: Global, set: &Set<'_>, asked: usize) -> Run {
-        refuse(alloc, asked);
-        let outcome = tigercanon::normalise_with_renaming_masked(alloc, &[set.bytes], set.mask);
-        ended(rt, alloc, has_refused(alloc), outcome)
-    }
+pub(crate) fn normalise_with_renaming_masked(rt: &impl Host, set: &Set<'_>, asked: usize) -> Run {
+    refuse(rt, asked);
+    let outcome = tigercanon::normalise_with_renaming_masked(rt.alloc(), &[set.bytes], set.mask);
+    ended(rt, outcome)
 }
 
-/// Reads a set and writes its text under the mask, at most a hundred bytes at a time.
-fn normalise_slowly_masked(
-    alloc: Global,
-    set: &Set<'_>,
-    sink: &mut SlowSink<'_>,
-) -> Result<u64, Fault>
-    requires { sink.old.failures < u64.MAX }
-{
+/// The text under the mask is as long as the text.
+pub(crate) fn normalise_to_masked(rt: &impl Host, set: &Set<'_>, asked: usize) -> Run {
+    let mut buffer = vec![in rt.alloc(); 0u8; set.text.len()].expect(rt, "there is memory");
+    let mut sink = SlowSink::new(&mut buffer, 100);
     let mut sources = [SlowSource::new(set.bytes, 100, None)];
-    tigercanon::normalise_to_masked(alloc, &mut sources, sink, set.mask)
+    refuse(rt, asked);
+    let outcome = tigercanon::normalise_to_masked(rt.alloc(), &mut sources, &mut sink, set.mask);
+    written_by(rt, set, &sink, outcome)
 }
 
-pub(super) struct NormaliseToMasked;
-
-impl Call for NormaliseToMasked {
-    /// The text under the mask is as long as the text.
-    fn run(rt: &impl Abort, alloc: Global, set: &Set<'_>, asked: usize) -> Run {
-        let mut buffer = vec![in alloc; 0u8; set.text.len()].expect(rt, "there is memory");
-        let mut sink = SlowSink::new(&mut buffer, 100);
-        refuse(alloc, asked);
-        let outcome = normalise_slowly_masked(alloc, set, &mut sink);
-        written_by(rt, alloc, set, &sink, outcome)
-    }
+pub(crate) fn fingerprint_masked(rt: &impl Host, set: &Set<'_>, asked: usize) -> Run {
+    refuse(rt, asked);
+    let outcome = tigercanon::fingerprint_masked(rt.alloc(), &[set.bytes], set.mask);
+    ended(rt, outcome)
 }
 
-pub(super) struct FingerprintMasked;
-
-impl Call for FingerprintMasked {
-    fn run(rt: &impl Abort, alloc: Global, set: &Set<'_>, asked: usize) -> Run {
-        refuse(alloc, asked);
-        let outcome = tigercanon::fingerprint_masked(alloc, &[set.bytes], set.mask);
-        ended(rt, alloc, has_refused(alloc), outcome)
-    }
+pub(crate) fn compare_masked(rt: &impl Host, set: &Set<'_>, asked: usize) -> Run {
+    refuse(rt, asked);
+    let outcome = tigercanon::compare_masked(rt.alloc(), &[set.bytes], &[set.bytes], set.mask);
+    compared(rt, outcome)
 }
 
-pub(super) struct CompareMasked;
-
-impl Call for CompareMasked {
-    fn run(rt: &impl Abort, alloc: Global, set: &Set<'_>, asked: usize) -> Run {
-        refuse(alloc, asked);
-        let outcome = tigercanon::compare_masked(alloc, &[set.bytes], &[set.bytes], set.mask);
-        compared(rt, alloc, outcome)
-    }
-}
-
-pub(super) struct AreOneMapMasked;
-
-impl Call for AreOneMapMasked {
-    fn run(rt: &impl Abort, alloc: Global, set: &Set<'_>, asked: usize) -> Run {
-        refuse(alloc, asked);
-        let outcome = tigercanon::are_one_map_masked(alloc, &[set.bytes], &[set.bytes], set.mask);
-        compared(rt, alloc, outcome)
-    }
+pub(crate) fn are_one_map_masked(rt: &impl Host, set: &Set<'_>, asked: usize) -> Run {
+    refuse(rt, asked);
+    let outcome = tigercanon::are_one_map_masked(rt.alloc(), &[set.bytes], &[set.bytes], set.mask);
+    compared(rt, outcome)
 }

@@ -1,55 +1,16 @@
-//! Messages: the lines of faults that files hardly cause, usages, and the exit status of the program.
+//! Messages: usages, and the exit status of the program.
 
+use super::super::Host;
 use super::super::comparing::{same, same_items};
 use super::super::devices::{failing_writer, kinds};
-use std::alloc::Global;
 use std::io::ErrorKind;
-use std::process::Abort;
-use tigercanon::{Fault, PlanFault, Refusal, exit_status, report};
-use tl_county::LinkFault;
-use tl_load::LoadFault;
-use tl_profile::ProfileFault;
+use tigercanon::{PlanFault, exit_status, report};
 use tl_write::{CountedOut, Sink};
 
-/// Faults that files can't cause, or hardly can, with their line and status.
-const RARE: &[(Fault, &'static str, u8)] = &[
-    (
-        Fault::Load(LoadFault::TooManyRecords { rtype: b'8' }),
-        "refused 7 TooManyRecords 8",
-        3,
-    ),
-    (Fault::Load(LoadFault::Memory), "refused 9 Memory", 5),
-    (Fault::Link(LinkFault::Memory), "refused 9 Memory", 5),
-    (Fault::Profile(ProfileFault::Memory), "refused 9 Memory", 5),
-    (Fault::Memory, "refused 9 Memory", 5),
-];
-
-/// Those rows.
-fn rare() -> &'static [(Fault, &'static str, u8)] {
-    RARE
-}
-
-#[test]
-fn rare_refusals_are_reported(rt: HostRuntime) {
-    for (fault, reported, status) in rare() {
-        let refusal = Refusal(*fault);
-        let line = format!(in rt.alloc(); "{refusal}").expect(&rt, reported);
-        same_items(&rt, reported, line.as_bytes(), reported.as_bytes());
-        same(&rt, reported, &refusal.status(), status);
-    }
-}
-
 /// As much of this text is written as the device takes, whatever the kind of failure, and the status is this one.
-fn is_reported(
-    rt: &impl Abort,
-    alloc: Global,
-    fault: &PlanFault,
-    text: &str,
-    status: u8,
-    capacity: usize,
-) {
+fn is_reported(rt: &impl Host, fault: &PlanFault, text: &str, status: u8, capacity: usize) {
     for kind in kinds() {
-        let mut err = CountedOut::new(failing_writer(alloc, 7, capacity, *kind));
+        let mut err = CountedOut::new(failing_writer(rt.alloc(), 7, capacity, *kind));
         same(rt, text, &report(fault, &mut err), &status);
         let failed = u64::from(capacity < text.len());
         same(rt, text, &err.failures(), &failed);
@@ -64,11 +25,10 @@ const USAGE: &str = "error: unexpected argument 'b' found\n\nUsage: tigercanon c
 
 #[test]
 fn a_usage_is_reported_whole(rt: HostRuntime) {
-    let alloc = rt.alloc();
-    let text = String::from_str(alloc, USAGE).expect(&rt, USAGE);
+    let text = String::from_str(rt.alloc(), USAGE).expect(&rt, USAGE);
     let fault = PlanFault::Usage(text);
     for capacity in [0, 37, 38, 61, 62, 100] {
-        is_reported(&rt, alloc, &fault, USAGE, 2, capacity);
+        is_reported(&rt, &fault, USAGE, 2, capacity);
     }
 }
 
@@ -76,7 +36,7 @@ fn a_usage_is_reported_whole(rt: HostRuntime) {
 fn want_of_memory_is_reported(rt: HostRuntime) {
     let line = "refused 9 Memory\n";
     for capacity in [0, 16, 17] {
-        is_reported(&rt, rt.alloc(), &PlanFault::Memory, line, 5, capacity);
+        is_reported(&rt, &PlanFault::Memory, line, 5, capacity);
     }
 }
 

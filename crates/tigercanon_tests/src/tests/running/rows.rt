@@ -1,15 +1,16 @@
-//! The rows of `running.rt`: jobs over the files of sets, and their outcomes.
+//! Jobs over the files of sets, and their outcomes.
 
 use super::super::worked_sets::{
-    CHAIN, LINK, MAIN_TEXT, OTHER_CHAIN, RESPELT, TURNED, TURNED_LINK,
+    CHAIN, LINK, MAIN, MAIN_TEXT, MAIN_TURNED, OTHER_ADDRESSES, RESPELT,
 };
-use super::{File, Row};
-use tigercanon::Job;
+use super::File::{Absent, Failed, Failing, Whole};
+use super::{File, Row, ends};
+use tigercanon::Job::{self, Check, Compare, Fingerprint, Normalise, Respell};
 
 /// A completed job that prints nothing.
 const DONE: Row = Row {
     name: "no files",
-    job: Job::Respell,
+    job: Respell,
     files: [&[], &[]],
     step: 100,
     capacity: [1000, 1000],
@@ -20,6 +21,16 @@ const DONE: Row = Row {
     reads: None,
 };
 
+/// The row of a job on one set.
+fn on_one(name: &'static str, job: Job, files: &'static [File], base: Row) -> Row {
+    Row {
+        name,
+        job,
+        files: [files, &[]],
+        ..base
+    }
+}
+
 /// A job that a device stops.
 const STOPPED: Row = Row {
     status: 4,
@@ -27,389 +38,258 @@ const STOPPED: Row = Row {
     ..DONE
 };
 
-const STREET: &[&str] = &[CHAIN, LINK];
+/// A faulty file, and a job that rejects it.
+const UNKNOWN: File = Whole(&["A"]);
 
-const CHAIN_FILE: File = File::Whole(&[CHAIN]);
+const REFUSED: Row = Row {
+    files: [&[UNKNOWN], &[]],
+    status: 3,
+    reported: "refused 1 UnknownType 1 1\n",
+    ..DONE
+};
 
-const LINK_FILE: File = File::Whole(&[LINK]);
+/// The file of Main St, and of Main St from its other end.
+const STREET: &[File] = &[Whole(MAIN)];
 
-const STREET_FILE: File = File::Whole(STREET);
-
-const TURNED_FILE: File = File::Whole(&[TURNED, TURNED_LINK]);
-
-const OTHER_FILE: File = File::Whole(&[OTHER_CHAIN, TURNED_LINK]);
-
-const UNKNOWN_FILE: File = File::Whole(&["A"]);
-
-const NO_FILE: File = File::Absent;
-
-const ONE_STREET: [&[File]; 2] = [&[STREET_FILE], &[]];
+const TURNED: &[File] = &[Whole(MAIN_TURNED)];
 
 /// The files of a stem: only chains and links.
 const STEM: &[File] = &[
-    CHAIN_FILE, NO_FILE, NO_FILE, NO_FILE, NO_FILE, NO_FILE, NO_FILE, LINK_FILE, NO_FILE,
+    Whole(&[CHAIN]),
+    Absent,
+    Absent,
+    Absent,
+    Absent,
+    Absent,
+    Absent,
+    Whole(&[LINK]),
+    Absent,
 ];
 
-/// Files with an absent one between them.
-const PARTED: &[File] = &[CHAIN_FILE, NO_FILE, LINK_FILE];
+/// Files with an absent one between them, and files with an absent one and an empty one behind.
+const PARTED: &[File] = &[Whole(&[CHAIN]), Absent, Whole(&[LINK])];
 
-const MAIN_STREET: &str = "06442d8d2f1e29f7c20b1ddfe1d6b4d983cc2685627d235e8417e7e9550975c9";
+const ENDED: &[File] = &[Whole(MAIN), Absent, Whole(&[])];
 
-const NOTHING: &str = "e3b0c44298fc1c149afbf4c8996fb92427ae41e4649b934ca495991b7852b855";
+/// The fingerprints of Main St and of no records, made by another program.
+const PRINT: &[&str] = &["06442d8d2f1e29f7c20b1ddfe1d6b4d983cc2685627d235e8417e7e9550975c9"];
 
-/// Absent files are empty parts, and no files are no records.
-const ABSENT: &[Row] = &[
-    Row {
-        name: "respell no files",
-        ..DONE
-    },
-    Row {
-        name: "respell the files of a stem",
-        files: [STEM, &[]],
-        lines: RESPELT,
-        ..DONE
-    },
-    Row {
-        name: "respell a file, an absent one and an empty one",
-        files: [&[STREET_FILE, NO_FILE, File::Whole(&[])], &[]],
-        lines: RESPELT,
-        ..DONE
-    },
-    Row {
-        name: "normalise no files",
-        job: Job::Normalise,
-        ..DONE
-    },
-    Row {
-        name: "normalise files between which one is absent",
-        job: Job::Normalise,
-        files: [PARTED, &[]],
-        lines: MAIN_TEXT,
-        ..DONE
-    },
-    Row {
-        name: "check no files",
-        job: Job::Check,
-        lines: &["accepted"],
-        ..DONE
-    },
-    Row {
-        name: "check files between which one is absent",
-        job: Job::Check,
-        files: [PARTED, &[]],
-        lines: &["accepted"],
-        ..DONE
-    },
-    Row {
-        name: "fingerprint no files",
-        job: Job::Fingerprint,
-        lines: &[NOTHING],
-        ..DONE
-    },
-    Row {
-        name: "fingerprint files between which one is absent",
-        job: Job::Fingerprint,
-        files: [PARTED, &[]],
-        lines: &[MAIN_STREET],
-        ..DONE
-    },
-];
+const NO_PRINT: &[&str] = &["e3b0c44298fc1c149afbf4c8996fb92427ae41e4649b934ca495991b7852b855"];
 
-/// A file that can't be opened is reported before anything is read, and a file that can't be read before any fault in the lines.
-/// Only normalising stops reading at the faulty line.
-const BROKEN: &[Row] = &[
-    Row {
-        name: "the first read fails",
-        files: [&[File::Failing(STREET, 0)], &[]],
-        ..STOPPED
-    },
-    Row {
-        name: "a read fails in the midst",
-        files: [&[File::Failing(STREET, 2)], &[]],
-        ..STOPPED
-    },
-    Row {
-        name: "the read at the end fails",
-        files: [&[File::Failing(STREET, 4)], &[]],
-        ..STOPPED
-    },
-    Row {
-        name: "a file that cannot be opened, behind a faulty one",
-        files: [&[UNKNOWN_FILE, File::Failed], &[]],
-        reads: Some(0),
-        ..STOPPED
-    },
-    Row {
-        name: "an absent first file",
-        files: [&[NO_FILE, UNKNOWN_FILE], &[]],
-        reads: Some(0),
-        ..STOPPED
-    },
-    Row {
-        name: "a read that fails behind a faulty file",
-        files: [&[UNKNOWN_FILE, File::Failing(&[], 0)], &[]],
-        ..STOPPED
-    },
-    Row {
-        name: "normalise a file that fails in the midst",
-        job: Job::Normalise,
-        files: [&[File::Failing(STREET, 2)], &[]],
-        ..STOPPED
-    },
-    Row {
-        name: "normalise a file that cannot be opened",
-        job: Job::Normalise,
-        files: [&[STREET_FILE, File::Failed], &[]],
-        reads: Some(0),
-        ..STOPPED
-    },
-    Row {
-        name: "normalise a faulty file, and one that fails",
-        job: Job::Normalise,
-        files: [&[UNKNOWN_FILE, File::Failing(STREET, 0)], &[]],
-        status: 3,
-        reported: "refused 1 UnknownType 1 1\n",
-        ..DONE
-    },
-    Row {
-        name: "check a file that fails behind a chain without a link",
-        job: Job::Check,
-        files: [&[File::Failing(&[CHAIN, CHAIN], 2)], &[]],
-        ..STOPPED
-    },
-    Row {
-        name: "check an absent first file",
-        job: Job::Check,
-        files: [&[NO_FILE, STREET_FILE], &[]],
-        ..STOPPED
-    },
-    Row {
-        name: "fingerprint a faulty file, and one that fails",
-        job: Job::Fingerprint,
-        files: [&[UNKNOWN_FILE, File::Failing(STREET, 0)], &[]],
-        ..STOPPED
-    },
-    Row {
-        name: "a faulty file is read to its end",
-        files: [&[UNKNOWN_FILE], &[]],
-        step: 1,
-        status: 3,
-        reported: "refused 1 UnknownType 1 1\n",
-        reads: Some(3),
-        ..DONE
-    },
-    Row {
-        name: "standard error fails",
-        files: [&[UNKNOWN_FILE], &[]],
-        capacity: [1000, 20],
-        status: 3,
-        reported: "refused 1 UnknownTyp",
-        ..DONE
-    },
-];
+const ACCEPTED: &[&str] = &["accepted"];
 
-/// All files are opened before one is read, and both sets are read before one is judged.
-const COMPARED: &[Row] = &[
-    Row {
-        name: "one map, and an output that takes just the answer",
-        job: Job::Compare,
-        files: [PARTED, &[TURNED_FILE]],
-        capacity: [5, 1000],
-        lines: &["same"],
-        ..DONE
-    },
-    Row {
-        name: "different maps, and an output that takes just the answer",
-        job: Job::Compare,
-        files: [STEM, &[OTHER_FILE]],
-        capacity: [10, 1000],
-        status: 1,
-        lines: &["different"],
-        ..DONE
-    },
-    Row {
-        name: "one map, and an output that takes less than the answer",
-        job: Job::Compare,
-        files: [&[STREET_FILE], &[TURNED_FILE]],
-        capacity: [4, 1000],
-        lines: &["same"],
-        written: 4,
-        reported: "refused 10 WriteFault 4\n",
-        ..STOPPED
-    },
-    Row {
-        name: "the first fails and the second cannot be opened",
-        job: Job::Compare,
-        files: [&[File::Failing(STREET, 0)], &[File::Failed]],
-        reported: "refused 8 Device in set 2\n",
-        ..STOPPED
-    },
-    Row {
-        name: "the first is absent and the second cannot be opened",
-        job: Job::Compare,
-        files: [&[NO_FILE], &[File::Failed]],
-        reported: "refused 8 Device in set 1\n",
-        ..STOPPED
-    },
-    Row {
-        name: "the first is faulty and the second fails",
-        job: Job::Compare,
-        files: [&[UNKNOWN_FILE], &[File::Failing(STREET, 1)]],
-        reported: "refused 8 Device in set 2\n",
-        ..STOPPED
-    },
-    Row {
-        name: "both fail",
-        job: Job::Compare,
-        files: [&[File::Failing(STREET, 1)], &[File::Failing(STREET, 1)]],
-        reported: "refused 8 Device in set 1\n",
-        ..STOPPED
-    },
-];
+/// The purpose of a row, a completed job, its files, and the lines that it prints.
+type Printed = (&'static str, Job, &'static [File], &'static [&'static str]);
 
-/// The output stops when the device is full.
-const FULL: &[Row] = &[
-    Row {
-        name: "an output that takes nothing",
-        files: ONE_STREET,
-        step: 7,
-        capacity: [0, 1000],
-        lines: RESPELT,
-        written: 0,
-        reported: "refused 10 WriteFault 0\n",
-        ..STOPPED
-    },
-    Row {
-        name: "an output that takes less than one write",
-        files: ONE_STREET,
-        step: 7,
-        capacity: [6, 1000],
-        lines: RESPELT,
-        written: 6,
-        reported: "refused 10 WriteFault 6\n",
-        ..STOPPED
-    },
-    Row {
-        name: "an output that takes some writes",
-        files: ONE_STREET,
-        step: 7,
-        capacity: [300, 1000],
-        lines: RESPELT,
-        written: 300,
-        reported: "refused 10 WriteFault 300\n",
-        ..STOPPED
-    },
-    Row {
-        name: "an output that takes all but the last byte",
-        files: ONE_STREET,
-        step: 1000,
-        capacity: [356, 1000],
-        lines: RESPELT,
-        written: 356,
-        reported: "refused 10 WriteFault 356\n",
-        ..STOPPED
-    },
-    Row {
-        name: "a writer that takes nothing",
-        files: ONE_STREET,
-        step: 0,
-        capacity: [1000, 1000],
-        lines: RESPELT,
-        written: 0,
-        reported: "refused 10 WriteFault 0\n",
-        ..STOPPED
-    },
-    Row {
-        name: "normalise, and an output that takes some writes",
-        job: Job::Normalise,
-        files: ONE_STREET,
-        step: 7,
-        capacity: [300, 1000],
-        lines: MAIN_TEXT,
-        written: 300,
-        reported: "refused 10 WriteFault 300\n",
-        ..STOPPED
-    },
-    Row {
-        name: "check, and an output that takes all but the last byte",
-        job: Job::Check,
-        files: ONE_STREET,
-        step: 4,
-        capacity: [8, 1000],
-        lines: &["accepted"],
-        written: 8,
-        reported: "refused 10 WriteFault 8\n",
-        ..STOPPED
-    },
-    Row {
-        name: "fingerprint, and an output that takes all but the last byte",
-        job: Job::Fingerprint,
-        files: ONE_STREET,
-        step: 7,
-        capacity: [64, 1000],
-        lines: &[MAIN_STREET],
-        written: 64,
-        reported: "refused 10 WriteFault 64\n",
-        ..STOPPED
-    },
-];
-
-/// The output is the same whatever the steps.
-const STEPS: &[Row] = &[
-    Row {
-        name: "steps of 1",
-        files: ONE_STREET,
-        step: 1,
-        lines: RESPELT,
-        ..DONE
-    },
-    Row {
-        name: "steps of 7",
-        files: ONE_STREET,
-        step: 7,
-        lines: RESPELT,
-        ..DONE
-    },
-    Row {
-        name: "steps of 356",
-        files: ONE_STREET,
-        step: 356,
-        lines: RESPELT,
-        ..DONE
-    },
-    Row {
-        name: "steps of 357",
-        files: ONE_STREET,
-        step: 357,
-        lines: RESPELT,
-        ..DONE
-    },
-    Row {
-        name: "steps of 4096",
-        files: ONE_STREET,
-        step: 4096,
-        lines: RESPELT,
-        ..DONE
-    },
-];
-
-/// Those tables.
-pub(super) fn absent() -> &'static [Row] {
-    ABSENT
+fn done() -> [Printed; 9] {
+    [
+        ("respell no files", Respell, &[], &[]),
+        ("respell the files of a stem", Respell, STEM, RESPELT),
+        ("respell three files", Respell, ENDED, RESPELT),
+        ("normalise no files", Normalise, &[], &[]),
+        ("normalise parted files", Normalise, PARTED, MAIN_TEXT),
+        ("check no files", Check, &[], ACCEPTED),
+        ("check parted files", Check, PARTED, ACCEPTED),
+        ("fingerprint no files", Fingerprint, &[], NO_PRINT),
+        ("fingerprint parted files", Fingerprint, PARTED, PRINT),
+    ]
 }
 
-pub(super) fn broken() -> &'static [Row] {
-    BROKEN
+#[test]
+fn absent_files_are_empty_parts_and_no_files_are_no_records(rt: HostRuntime) {
+    for (name, job, files, lines) in done() {
+        let row = on_one(name, job, files, DONE);
+        ends(&rt, &Row { lines, ..row });
+    }
 }
 
-pub(super) fn compared() -> &'static [Row] {
-    COMPARED
+/// The purpose of a row, a job that a device stops, and its files.
+type Stopped = (&'static str, Job, &'static [File]);
+
+/// Files that can't be opened.
+fn unopened() -> [Stopped; 4] {
+    [
+        ("a faulty file before", Respell, &[UNKNOWN, Failed]),
+        ("an absent first file", Respell, &[Absent, UNKNOWN]),
+        ("normalise", Normalise, &[Whole(MAIN), Failed]),
+        ("check an absent first file", Check, &[Absent, Whole(MAIN)]),
+    ]
 }
 
-pub(super) fn full() -> &'static [Row] {
-    FULL
+#[test]
+fn files_that_cannot_be_opened_are_reported_before_anything_is_read(rt: HostRuntime) {
+    for (name, job, files) in unopened() {
+        let row = on_one(name, job, files, STOPPED);
+        let reads = Some(0);
+        ends(&rt, &Row { reads, ..row });
+    }
 }
 
-pub(super) fn steps() -> &'static [Row] {
-    STEPS
+/// Files that can't be read. Such a file is reported before any fault in the lines.
+fn unread() -> [Stopped; 7] {
+    [
+        ("the first read fails", Respell, &[Failing(MAIN, 0)]),
+        ("a read fails in the midst", Respell, &[Failing(MAIN, 2)]),
+        ("the read at the end fails", Respell, &[Failing(MAIN, 4)]),
+        ("a faulty file before", Respell, &[UNKNOWN, Failing(&[], 0)]),
+        ("normalise", Normalise, &[Failing(MAIN, 2)]),
+        ("check, no link", Check, &[Failing(&[CHAIN, CHAIN], 2)]),
+        ("fingerprint", Fingerprint, &[UNKNOWN, Failing(MAIN, 0)]),
+    ]
+}
+
+#[test]
+fn files_that_cannot_be_read_are_reported(rt: HostRuntime) {
+    for (name, job, files) in unread() {
+        ends(&rt, &on_one(name, job, files, STOPPED));
+    }
+}
+
+/// A faulty file. Only normalising stops reading at the faulty line.
+fn refused() -> [Row; 3] {
+    [
+        Row {
+            name: "normalise a faulty file, and one that fails",
+            job: Normalise,
+            files: [&[UNKNOWN, Failing(MAIN, 0)], &[]],
+            ..REFUSED
+        },
+        Row {
+            name: "a faulty file is read to its end",
+            step: 1,
+            reads: Some(3),
+            ..REFUSED
+        },
+        Row {
+            name: "standard error fails",
+            capacity: [1000, 20],
+            reported: "refused 1 UnknownTyp",
+            ..REFUSED
+        },
+    ]
+}
+
+#[test]
+fn faulty_files_are_refused(rt: HostRuntime) {
+    for row in &refused() {
+        ends(&rt, row);
+    }
+}
+
+/// The files of two sets, and which of them is reported. All files are opened before one is read, and both sets are read before one
+/// is judged.
+fn unread_sets() -> [([&'static [File]; 2], &'static str); 4] {
+    [
+        ([&[Failing(MAIN, 0)], &[Failed]], IN_SET_2),
+        ([&[Absent], &[Failed]], IN_SET_1),
+        ([&[UNKNOWN], &[Failing(MAIN, 1)]], IN_SET_2),
+        ([&[Failing(MAIN, 1)], &[Failing(MAIN, 1)]], IN_SET_1),
+    ]
+}
+
+const IN_SET_1: &str = "refused 8 Device in set 1\n";
+
+const IN_SET_2: &str = "refused 8 Device in set 2\n";
+
+#[test]
+fn the_set_that_cannot_be_read_is_reported(rt: HostRuntime) {
+    for (files, reported) in unread_sets() {
+        let row = Row {
+            name: reported,
+            job: Compare,
+            files,
+            reported,
+            ..STOPPED
+        };
+        ends(&rt, &row);
+    }
+}
+
+/// Comparisons, and an output that takes just the answer, or less than that.
+fn compared() -> [Row; 3] {
+    [
+        Row {
+            name: "one map, and an output that takes just the answer",
+            job: Compare,
+            files: [PARTED, TURNED],
+            capacity: [5, 1000],
+            lines: &["same"],
+            ..DONE
+        },
+        Row {
+            name: "different maps, and an output that takes just the answer",
+            job: Compare,
+            files: [STEM, &[Whole(OTHER_ADDRESSES)]],
+            capacity: [10, 1000],
+            status: 1,
+            lines: &["different"],
+            ..DONE
+        },
+        Row {
+            name: "one map, and an output that takes less than the answer",
+            job: Compare,
+            files: [STREET, TURNED],
+            capacity: [4, 1000],
+            lines: &["same"],
+            written: 4,
+            reported: "refused 10 WriteFault 4\n",
+            ..STOPPED
+        },
+    ]
+}
+
+#[test]
+fn comparisons_print_one_line(rt: HostRuntime) {
+    for row in &compared() {
+        ends(&rt, row);
+    }
+}
+
+/// A job on Main St, how many bytes a write takes at most, how many the output takes, the whole output, and what is reported. Where
+/// a write takes nothing, nothing is written.
+type Limited = (Job, usize, usize, &'static [&'static str], &'static str);
+
+/// Outputs that take nothing, less than one write, some writes, and all but the last byte.
+fn full() -> [Limited; 8] {
+    [
+        (Respell, 7, 0, RESPELT, "refused 10 WriteFault 0\n"),
+        (Respell, 7, 6, RESPELT, "refused 10 WriteFault 6\n"),
+        (Respell, 7, 300, RESPELT, "refused 10 WriteFault 300\n"),
+        (Respell, 1000, 356, RESPELT, "refused 10 WriteFault 356\n"),
+        (Respell, 0, 1000, RESPELT, "refused 10 WriteFault 0\n"),
+        (Normalise, 7, 300, MAIN_TEXT, "refused 10 WriteFault 300\n"),
+        (Check, 4, 8, ACCEPTED, "refused 10 WriteFault 8\n"),
+        (Fingerprint, 7, 64, PRINT, "refused 10 WriteFault 64\n"),
+    ]
+}
+
+#[test]
+fn an_output_stops_when_its_device_is_full(rt: HostRuntime) {
+    for (job, step, capacity, lines, reported) in full() {
+        let row = Row {
+            name: reported,
+            job,
+            files: [STREET, &[]],
+            step,
+            capacity: [capacity, 1000],
+            lines,
+            written: if step == 0 { 0 } else { capacity },
+            reported,
+            ..STOPPED
+        };
+        ends(&rt, &row);
+    }
+}
+
+#[test]
+fn an_output_is_the_same_whatever_the_steps(rt: HostRuntime) {
+    for step in [1, 7, 356, 357, 4096] {
+        let row = Row {
+            files: [STREET, &[]],
+            step,
+            lines: RESPELT,
+            ..DONE
+        };
+        ends(&rt, &row);
+    }
 }
