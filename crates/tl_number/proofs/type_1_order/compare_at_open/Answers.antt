@@ -1,5 +1,6 @@
 use Rattle.tl_number.proofs.Common.{AreTiedAt, List, below_more, ◌≡◌, ◌<◌, length, get_or, slice_get, sym, ap₂, ◌∙◌, arith, false, DirectedChain, arranged_by, ones_of}
 use Rattle.tl_number.proofs.Common.{option_cmp, slice_get-get_or, spelling_cmp}
+use Rattle.tl_number.proofs.Texts.TiedOnes.{first_untied}
 use Rattle.tl_number.proofs.Texts.TypeOnes.{length_whole, ones_arranged_by}
 use Rattle.tl_number.proofs.type_1_order.compare_at_open.Given.{Over}
 use Rattle.tl_number.proofs.type_1_order.compare_at_open.Goals.{After-compare_at}
@@ -30,6 +31,11 @@ compare_at-requires-clause-place g c =
       c.requires.within.there,
       length_whole county c.args.one.now (g.met.C.Chart.is_county c.args.chart.now) c.requires.one,
     )
+
+pub returns-in_default-clause-untied : goal.returns-in_default-clause-untied
+returns-in_default-clause-untied g c =
+    let answer = compared g (goal.at.returns-in_default-clause-untied g c).After-compare_at in
+    λ differ. answer ∙ first_untied _ _ c.loop-place.place c.loop-place.invariant (λ same. c.in_default.not-Equal (answer ∙ same))
 
 pub loop-place-preserved : goal.loop-place-preserved
 loop-place-preserved g c =
