@@ -1,5 +1,7 @@
 //! Whole calls under masks, and the calls of the layers that take one.
 
+ghost use Rattle.std.specs.Prelude.{◌<◌};
+
 use super::Host;
 use super::comparing::{same, same_items};
 use super::counties::county_of;
@@ -10,8 +12,9 @@ use super::sets::{Set, SetLines, lines_of};
 use super::sinks::took_all;
 use super::twin_sets::{OF_NO_SOURCES_TEXT, OF_TWO_SOURCES, OF_TWO_SOURCES_TEXT};
 use super::worked_sets::{CHAIN, CHAIN_1, LINK, LINK_1, MAIN_TEXT, street, street_turned};
+use std::alloc::Global;
 use tigercanon::{
-    Verdict, are_one_map_masked, compare_masked, fingerprint_masked, normalise_masked,
+    Fault, Verdict, are_one_map_masked, compare_masked, fingerprint_masked, normalise_masked,
     normalise_to_masked, normalise_with_renaming_masked,
 };
 use tl_cert::{Renaming, check_masked};
@@ -111,12 +114,24 @@ fn street_rows() -> [StreetRow; 4] {
     ]
 }
 
+/// Writes the text of a set under a mask from a source to a sink.
+fn write_masked(
+    alloc: Global,
+    set: &[u8],
+    sink: &mut SlowSink<'_>,
+    mask: Mask,
+) -> Result<u64, Fault>
+    requires { sink.old.failures < u64.MAX }
+{
+    let mut sources = [SlowSource::new(set, 100, None)];
+    normalise_to_masked(alloc, &mut sources, sink, mask)
+}
+
 /// The text written from a source to a sink under the set's mask is the set's text.
 fn is_written(rt: &impl Host, set: &Set<'_>) {
     let mut buffer = vec![in rt.alloc(); 0u8; 400].expect(rt, set.row);
     let mut sink = SlowSink::new(&mut buffer, 7);
-    let mut sources = [SlowSource::new(set.bytes, 100, None)];
-    let answer = normalise_to_masked(rt.alloc(), &mut sources, &mut sink, set.mask);
+    let answer = write_masked(rt.alloc(), set.bytes, &mut sink, set.mask);
     took_all(rt, set.row, &sink, &answer, set.text);
 }
 
