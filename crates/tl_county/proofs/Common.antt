@@ -1,4 +1,4 @@
--- The names from below that most proofs of this crate cite, passed on from one place. Declares nothing.
+-- The names from below that several proofs of this crate cite, passed on from one place. Declares nothing.
 pub use Rattle.ordered_lists.proofs.ByKey.KeyOrders.{bytes_keys}
 pub use Rattle.ordered_lists.proofs.ByKey.KeyedLists.{empty_list, first_least, in_order-filter, least-same}
 pub use Rattle.ordered_lists.proofs.ByKey.Keys.{IsApart, IsKeyOrder, Known, all_known, apart_from_sorted, apart_tail, differ_apart}

@@ -1,4 +1,4 @@
--- The names from below that most proofs of this crate cite, passed on from one place. Declares nothing.
+-- The names from below that several proofs of this crate cite, passed on from one place. Declares nothing.
 pub use Rattle.std.proofs.Common.{IfSome, List, None, Option, Some, [], ap, arith, drop, false, get_or, length, refl, slice_get, subst, suc}
 pub use Rattle.std.proofs.Common.{sym, take, true, ℕ, ◌*◌, ◌++◌, ◌+◌, ◌-◌, ◌<◌, ◌^◌, ◌∙◌, ◌∷◌, ◌≡◌, ◌≤◌}
 pub use Rattle.std.proofs.lemmas.Bool.{le-leb}

@@ -1,4 +1,4 @@
--- The names from below that most proofs of this crate cite, passed on from one place. Declares nothing.
+-- The names from below that several proofs of this crate cite, passed on from one place. Declares nothing.
 pub use Rattle.std.proofs.lemmas.Bool.{cases_eq, cases_lt, eq-eqb, eqb-true, false_from_ne_true, le-leb, le-ltb, lt-leb, lt-ltb, ltb-false}
 pub use Rattle.std.proofs.lemmas.Bool.{ltb-true, ne_eqb, not-false}
 pub use Rattle.std.proofs.lemmas.Grind.{common_steps, flat_map-append}

@@ -1,4 +1,4 @@
--- The names from below that most proofs of this crate cite, passed on from one place. Declares nothing.
+-- The names from below that several proofs of this crate cite, passed on from one place. Declares nothing.
 pub use Rattle.ordered_lists.proofs.ByKey.KeyOrders.{lists_keys, pair_keys}
 pub use Rattle.ordered_lists.proofs.ByKey.Keys.{IsApart, IsKeyOrder, Known, all_known, apart-permutation, apart_from_sorted, apart_tail}
 pub use Rattle.ordered_lists.proofs.ByKey.Keys.{images-lefts, known-here, known-permutation, known-permutation_to, known-right, known_all}

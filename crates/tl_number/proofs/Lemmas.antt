@@ -1,4 +1,4 @@
--- The lemmas of this crate that most answers cite, passed on from one place. Declares nothing.
+-- The lemmas of this crate that several answers cite, passed on from one place. Declares nothing.
 pub use Rattle.tl_number.proofs.Arrangements.ArrangedNumbers.{canonical_counts, canonical_low, canonical_within}
 pub use Rattle.tl_number.proofs.Arrangements.Carrying.{arrangement_carries}
 pub use Rattle.tl_number.proofs.CanonicalLists.Accepted.{canonical_of_itself, one_canonical_same, plain_sight, same_canonical_text}

@@ -57,8 +57,8 @@ fn a_street_is_renamed_onto_the_street_from_its_other_end(rt: HostRuntime) {
     drop(verdict);
 }
 
-/// Reads a set and an empty source by 100 bytes, of which the named reads fail, and writes by 7 bytes to a sink of this capacity. The
-/// result and the sources that failed are these, and the sink has as much of the text as is reported.
+/// Reads a set and then an empty source, 100 bytes at a time, and writes to a sink of this capacity, 7 bytes at a time. The named reads
+/// fail. The result and the sources that failed are these, and the sink has as much of the text as is reported.
 fn passes(
     rt: &impl Host,
     [set, text]: [&[u8]; 2],

@@ -26,7 +26,7 @@ unfolding type_of
 type_of_record Type1 fields = refl
 type_of_record _ fields = refl
 
--- the canonical spelling of a record of a type is that of its fields
+-- a record has the canonical spelling of its fields
 pub spelling_of_record : (t : RecordType) (fields : FieldsOf t) → spelling_of (record_of t fields) ≡ fields_spelling t fields
 unfolding spelling_of
 spelling_of_record Type1 fields = refl

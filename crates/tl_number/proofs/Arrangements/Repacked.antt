@@ -136,7 +136,7 @@ module _ (records : List Record) (linked : IsLinked records) where
     joined_pieces : {X Y : Type 0} (f : X → List Y) (xs : List X) → flat_map f xs ≡ flat_map (λ l. l) (map f xs)
     joined_pieces f xs = sym (flat_map-map (λ l. l) f xs)
 
-    -- contents in pieces are those of the records with a TLID
+    -- the contents of full records, joined and cut into pieces again, are the contents of these records
     contents_back : {X Y : Type 0} (width : ℕ) → 1 ≤ width → (rtsq : X → ℕ) (content : X → List Y) (rs : List X)
         → map rtsq rs ≡ up_to (length rs) → AreFull width (map content rs)
         → in_pieces width (flat_map content (in_order (on rtsq nat_cmp) rs)) ≡ map content rs

@@ -72,7 +72,7 @@ module _ (county : County) where
       go true e = below m (ltb-true m from e)
       go false e = not_after_both old first m upper (among m (ltb-false m from e) l)
 
--- One of two values is kept: what both have, it has, and its number is that of one of them.
+-- One of two values is kept. It has each property that both have, and its number is that of one of them.
 module _ {X : Type 0} (b : Bool) (kept x y : X) (is : kept ≡ cond b x y) where
   pub kept_has : (P : X → Type 0) → P x → P y → P kept
   kept_has P p q = subst P (sym is) (either b)

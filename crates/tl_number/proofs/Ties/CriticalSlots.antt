@@ -115,7 +115,7 @@ module _ (nodes : List ℕ) (places : List OpenPlace) where
       go (Some x) None h = (h.0, tt)
       go (Some x) (Some y) h = (h.0, h.1.0)
 
-  -- The ends of two arrangements, of which `true` is the first.
+  -- The ends of two arrangements; `true` stands for the first.
   module _ (whole : Bool → List Ends) where
     -- the arrangements and the order of shapes at one place
     record AgreeAt (place : ℕ) (shape : Ends) (ends : Bool → Ends) : Type 0 where
@@ -140,7 +140,7 @@ module _ (nodes : List ℕ) (places : List OpenPlace) where
         (slots_from met (suc place) shapes rest) (slots_from (next_met met shape) (suc place) shapes rest)
     slots_from met place _ _ = []
 
-    -- all ends of an arrangement are those of the slots
+    -- the slots hold all ends of an arrangement
     abbrev AreWhole : Bool → List Slot → List Ends → Type 0
     AreWhole first slots ends = map (end_of first) slots ≡ one_by_one ends
 
