@@ -7,8 +7,9 @@ ghost use Rattle.tl_layout.specs.Numbers.{IsNumber};
 use crate::groups::{CountedGroups, RecordGroups};
 use crate::heads::HeadBuffers;
 use arrayvec::ArrayVec;
+use std::marker::PhantomData;
 use tl_county::{ChainFeats, Chart, Listed};
-use tl_layout::{Point, Rec1, Rec2, Rec4, Rec6, RecI};
+use tl_layout::{Point, Rec1, Rec2, Rec4, Rec6, RecI, Tabled};
 
 /// The number of shape points in a full record of type 2.
 const POINTS_A_RECORD: usize = 10;
@@ -128,104 +129,115 @@ impl<C: Chart> RecordGroups for ChainRecords<'_, C> {
     }
 }
 
-/// The type 2 records of each chain: its shape points.
-#[derive(Drop)]
-pub struct ShapePointRecords<'a, C: Chart> {
-    pub chart: &'a C,
+/// A type of record with a sequence number (RTSQ): 2, 4 or 6. A chain has as many of them as it needs for its shape points, further
+/// names or further address ranges.
+pub trait SequencedRecord: Tabled {
+    ghost use Rattle.std.specs.Prelude.{◌≡◌, ◌<◌, List, Some, length, slice_get};
+    ghost use Rattle.tl_county.specs.County.{County};
+    ghost use Rattle.tl_number.specs.Groups.{group_at};
+
+    /// The records of each chain of a county.
+    ghost by_chain: { County → List (List Self) };
+
+    /// Each chain has one list of records.
+    ghost one_a_chain: { (county : County) → length (by_chain county) ≡ length county.chains };
+
+    /// Returns the number of records of the chain at a place.
+    fn count_at<C: Chart>(chart: &C, chain: usize) -> usize
+        requires { chain < length (by_chain (C.county chart.now)) }
+        ensures { result ≡ length (group_at (by_chain (C.county chart.now)) chain) };
+
+    /// Makes a record of the chain at a place.
+    fn make<C: Chart>(chart: &C, chain: usize, place: usize) -> Self
+        requires chain { chain < length (by_chain (C.county chart.now)) }
+        requires place { place < length (group_at (by_chain (C.county chart.now)) chain) }
+        ensures { Some result ≡ slice_get (group_at (by_chain (C.county chart.now)) chain) place };
 }
 
-impl<C: Chart> CountedGroups for ShapePointRecords<'_, C> {
+/// Records of type 2: shape points.
+impl SequencedRecord for Rec2 {
+    ghost use Rattle.std.proofs.lemmas.List.{length-map};
+    ghost use Rattle.tl_county.specs.Packing.{packed_twos};
     ghost use Rattle.tl_number.specs.CountyGroups.{type_2_by_chain};
 
-    type Record = Rec2;
+    ghost by_chain = { type_2_by_chain };
 
-    ghost counted = { λ g. type_2_by_chain (C.county g.chart.now) };
+    ghost one_a_chain = { λ county. length-map county.chains packed_twos };
 
-    fn group_count(&self) -> usize {
-        self.chart.chain_count()
-    }
-
-    fn record_count(&self, group: usize) -> usize {
-        let points = ShapePoints {
-            chart: self.chart,
-            chain: group,
-        };
+    fn count_at<C: Chart>(chart: &C, chain: usize) -> usize {
+        let points = ShapePoints { chart, chain };
         points.count().div_ceil(POINTS_A_RECORD)
     }
 
-    fn record_at(&self, group: usize, place: usize) -> Rec2 {
-        let list = ShapePoints {
-            chart: self.chart,
-            chain: group,
-        };
-        let points = items_from(&list, place * POINTS_A_RECORD);
-        Rec2::new(
-            chain_tlid(self.chart, group),
-            sequence_number(place),
-            points,
-        )
+    fn make<C: Chart>(chart: &C, chain: usize, place: usize) -> Rec2 {
+        let points = items_from(&ShapePoints { chart, chain }, place * POINTS_A_RECORD);
+        Rec2::new(chain_tlid(chart, chain), sequence_number(place), points)
     }
 }
 
-/// The type 4 records of each chain: its further names.
-#[derive(Drop)]
-pub struct FurtherNameRecords<'a, C: Chart> {
-    pub chart: &'a C,
-}
-
-impl<C: Chart> CountedGroups for FurtherNameRecords<'_, C> {
+/// Records of type 4: further names.
+impl SequencedRecord for Rec4 {
+    ghost use Rattle.std.proofs.lemmas.List.{length-map};
+    ghost use Rattle.tl_county.specs.Packing.{packed_fours};
     ghost use Rattle.tl_number.specs.CountyGroups.{type_4_by_chain};
 
-    type Record = Rec4;
+    ghost by_chain = { type_4_by_chain };
 
-    ghost counted = { λ g. type_4_by_chain (C.county g.chart.now) };
+    ghost one_a_chain = { λ county. length-map county.chains packed_fours };
 
-    fn group_count(&self) -> usize {
-        self.chart.chain_count()
+    fn count_at<C: Chart>(chart: &C, chain: usize) -> usize {
+        chart.feat_count_at(chain).div_ceil(NAMES_A_RECORD)
     }
 
-    fn record_count(&self, group: usize) -> usize {
-        self.chart.feat_count_at(group).div_ceil(NAMES_A_RECORD)
-    }
-
-    fn record_at(&self, group: usize, place: usize) -> Rec4 {
+    fn make<C: Chart>(chart: &C, chain: usize, place: usize) -> Rec4 {
         let list = ChainFeats {
-            chart: self.chart,
-            place: group,
+            chart,
+            place: chain,
         };
         let names = items_from(&list, place * NAMES_A_RECORD);
-        Rec4::new(chain_tlid(self.chart, group), sequence_number(place), names)
+        Rec4::new(chain_tlid(chart, chain), sequence_number(place), names)
     }
 }
 
-/// The type 6 records of each chain: its further address ranges.
-#[derive(Drop)]
-pub struct RangeRecords<'a, C: Chart> {
-    pub chart: &'a C,
-}
-
-impl<C: Chart> CountedGroups for RangeRecords<'_, C> {
+/// Records of type 6: further address ranges.
+impl SequencedRecord for Rec6 {
+    ghost use Rattle.std.proofs.lemmas.List.{length-map};
+    ghost use Rattle.tl_county.specs.Packing.{packed_sixes};
     ghost use Rattle.tl_number.specs.CountyGroups.{type_6_by_chain};
 
-    type Record = Rec6;
+    ghost by_chain = { type_6_by_chain };
 
-    ghost counted = { λ g. type_6_by_chain (C.county g.chart.now) };
+    ghost one_a_chain = { λ county. length-map county.chains packed_sixes };
+
+    fn count_at<C: Chart>(chart: &C, chain: usize) -> usize {
+        chart.range_count_at(chain)
+    }
+
+    fn make<C: Chart>(chart: &C, chain: usize, place: usize) -> Rec6 {
+        let ranges = chart.range_there(chain, place);
+        Rec6::new(chain_tlid(chart, chain), sequence_number(place), ranges)
+    }
+}
+
+/// The records of each chain of one type with a sequence number.
+#[derive(Drop)]
+pub struct SequencedRecords<'a, C: Chart, R>(pub &'a C, pub PhantomData<R>);
+
+impl<C: Chart, R: SequencedRecord> CountedGroups for SequencedRecords<'_, C, R> {
+    type Record = R;
+
+    ghost counted = { λ g. R.by_chain (C.county g.0.now) };
 
     fn group_count(&self) -> usize {
-        self.chart.chain_count()
+        self.0.chain_count()
     }
 
     fn record_count(&self, group: usize) -> usize {
-        self.chart.range_count_at(group)
+        R::count_at(self.0, group)
     }
 
-    fn record_at(&self, group: usize, place: usize) -> Rec6 {
-        let ranges = self.chart.range_there(group, place);
-        Rec6::new(
-            chain_tlid(self.chart, group),
-            sequence_number(place),
-            ranges,
-        )
+    fn record_at(&self, group: usize, place: usize) -> R {
+        R::make(self.0, group, place)
     }
 }
 

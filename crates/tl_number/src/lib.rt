@@ -52,9 +52,7 @@ pub use arranged::{Arranged, Evidence, Unknown};
 pub use arranging::{arrange, canonise, canonise_alone, canonise_in};
 pub use ascending_order::ascending_arrangement;
 pub use canon_county::{CanonCounty, CanonCountyIn, Canonical};
-pub use chain_records::{
-    ChainRecords, FurtherNameRecords, RangeRecords, ShapePointRecords, TopologyRecords,
-};
+pub use chain_records::{ChainRecords, SequencedRecord, SequencedRecords, TopologyRecords};
 pub use groups::{CountedGroups, RecordGroups, read_heads};
 pub use heads::HeadBuffers;
 pub use laws::{

@@ -8,15 +8,15 @@ ghost use Rattle.tl_number.specs.SharedGroups.{HaveSameChains, HaveSameCounts, H
 ghost use Rattle.tl_number.specs.Views.{arranged_county};
 
 use crate::canon_county::CanonCounty;
-use crate::chain_records::{
-    ChainRecords, FurtherNameRecords, RangeRecords, ShapePointRecords, TopologyRecords,
-};
+use crate::chain_records::{ChainRecords, SequencedRecord, SequencedRecords, TopologyRecords};
 use crate::groups::{RecordGroups, read_heads};
 use crate::heads::HeadBuffers;
 use crate::name_records::{LandmarkLinkRecords, LandmarkRecords, NameRecords};
 use crate::polygon_records::PolygonRecords;
 use crate::record_eq::RecordEq;
+use std::marker::PhantomData;
 use tl_county::Chart;
+use tl_layout::{Rec2, Rec4, Rec6};
 
 /// Whether a group that both counties have is the same in both, record by record.
 fn is_same_group<L: RecordEq, G: RecordGroups<Item = L>, H: RecordGroups<Item = L>>(
@@ -133,6 +133,23 @@ fn have_same_heads<A: Chart, B: Chart>(
     )
 }
 
+/// Whether two counties have the same records of a type with a sequence number.
+fn have_same_sequenced<R: SequencedRecord + RecordEq, A: Chart, B: Chart>(
+    a: &A,
+    b: &B,
+    buffer: &mut HeadBuffers,
+    other: &mut HeadBuffers,
+) -> bool
+    ensures { Decides result (R.by_chain (A.county a.now) ≡ R.by_chain (B.county b.now)) }
+{
+    are_same_groups(
+        &SequencedRecords::<_, R>(a, PhantomData),
+        &SequencedRecords::<_, R>(b, PhantomData),
+        &mut buffer.counts,
+        &mut other.counts,
+    )
+}
+
 /// Whether two counties have the same records of types 2, 4 and 6.
 fn have_same_lists<A: Chart, B: Chart>(
     a: &A,
@@ -142,22 +159,9 @@ fn have_same_lists<A: Chart, B: Chart>(
 ) -> bool
     ensures { Decides result (HaveSameLists (A.county a.now) (B.county b.now)) }
 {
-    are_same_groups(
-        &ShapePointRecords { chart: a },
-        &ShapePointRecords { chart: b },
-        &mut buffer.counts,
-        &mut other.counts,
-    ) && are_same_groups(
-        &FurtherNameRecords { chart: a },
-        &FurtherNameRecords { chart: b },
-        &mut buffer.counts,
-        &mut other.counts,
-    ) && are_same_groups(
-        &RangeRecords { chart: a },
-        &RangeRecords { chart: b },
-        &mut buffer.counts,
-        &mut other.counts,
-    )
+    have_same_sequenced::<Rec2, A, B>(a, b, buffer, other)
+        && have_same_sequenced::<Rec4, A, B>(a, b, buffer, other)
+        && have_same_sequenced::<Rec6, A, B>(a, b, buffer, other)
 }
 
 /// Whether two counties have equally many chains, names, polygons and landmarks, and the same records for each chain. The heads

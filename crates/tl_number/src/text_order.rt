@@ -21,13 +21,15 @@ ghost use Rattle.tl_number.specs.RecordOrder.{groups_cmp, types_5_to_7_cmp, type
 ghost use Rattle.tl_number.specs.Views.{arranged_county};
 
 use crate::arranged::{Arranged, Evidence};
-use crate::chain_records::{FurtherNameRecords, RangeRecords};
+use crate::chain_records::SequencedRecords;
 use crate::group_order::{compare_groups, compare_unless};
 use crate::name_records::{LandmarkLinkRecords, LandmarkRecords, NameRecords};
 use crate::same_chains::{FurtherNames, FurtherRanges, have_same_parts};
 use crate::type_i_and_p_order::{compare_links, compare_polygons};
 use std::cmp::Ordering;
+use std::marker::PhantomData;
 use tl_county::Chart;
+use tl_layout::{Rec4, Rec6};
 
 /// Compares two arrangements of a county by their records of types 5, 6 and 7.
 fn compare_types_5_to_7<A: Chart, R: Evidence, B: Chart, S: Evidence>(
@@ -49,8 +51,8 @@ fn compare_types_5_to_7<A: Chart, R: Evidence, B: Chart, S: Evidence>(
     let same_ranges = have_same_parts(&FurtherRanges, a, b);
     match compare_unless(
         same_ranges,
-        &RangeRecords { chart: a },
-        &RangeRecords { chart: b },
+        &SequencedRecords::<_, Rec6>(a, PhantomData),
+        &SequencedRecords::<_, Rec6>(b, PhantomData),
     ) {
         Ordering::Equal => {}
         unequal => return unequal,
@@ -93,8 +95,12 @@ pub(crate) fn compare_texts<A: Chart, R: Evidence, B: Chart, S: Evidence>(
     ensures { result ≡ slice_cmp nat_cmp (text_of (packed (arranged_county a.now))) (text_of (packed (arranged_county b.now))) }
 {
     let same_names = have_same_parts(&FurtherNames, a, b);
-    let names = FurtherNameRecords { chart: a };
-    match compare_unless(same_names, &names, &FurtherNameRecords { chart: b }) {
+    let names = SequencedRecords::<_, Rec4>(a, PhantomData);
+    match compare_unless(
+        same_names,
+        &names,
+        &SequencedRecords::<_, Rec4>(b, PhantomData),
+    ) {
         Ordering::Equal => {}
         unequal => return unequal,
     }

@@ -6,15 +6,15 @@ ghost use Rattle.tl_number.specs.Groups.{grouped};
 ghost use Rattle.tl_number.specs.Views.{arranged_county};
 
 use crate::arranged::{Arranged, Evidence};
-use crate::chain_records::{
-    ChainRecords, FurtherNameRecords, RangeRecords, ShapePointRecords, TopologyRecords,
-};
+use crate::chain_records::{ChainRecords, SequencedRecords, TopologyRecords};
 use crate::groups::{RecordGroups, visit_groups};
 use crate::heads::HeadBuffers;
 use crate::name_records::{LandmarkLinkRecords, LandmarkRecords, NameRecords};
 use crate::polygon_records::PolygonRecords;
 use crate::visitor::RecordVisitor;
+use std::marker::PhantomData;
 use tl_county::Chart;
+use tl_layout::{Rec2, Rec4, Rec6};
 
 /// Passes on the records of three types, one type after another.
 fn visit_three<D, A: RecordGroups, B: RecordGroups, C: RecordGroups, T: RecordVisitor<D>>(
@@ -52,8 +52,8 @@ pub fn visit_records<D, C: Chart, S: Evidence, T: RecordVisitor<D>>(
 {
     let mut buffers = HeadBuffers::new();
     let chains = ChainRecords { chart: county };
-    let shape_points = ShapePointRecords { chart: county };
-    let feats = FurtherNameRecords { chart: county };
+    let shape_points = SequencedRecords::<_, Rec2>(county, PhantomData);
+    let feats = SequencedRecords::<_, Rec4>(county, PhantomData);
     visit_three(
         &chains,
         &shape_points,
@@ -63,7 +63,7 @@ pub fn visit_records<D, C: Chart, S: Evidence, T: RecordVisitor<D>>(
         device,
     )?;
     let names = NameRecords { chart: county };
-    let ranges = RangeRecords { chart: county };
+    let ranges = SequencedRecords::<_, Rec6>(county, PhantomData);
     let landmarks = LandmarkRecords { chart: county };
     visit_three(&names, &ranges, &landmarks, &mut buffers, visitor, device)?;
     let links = LandmarkLinkRecords { county };

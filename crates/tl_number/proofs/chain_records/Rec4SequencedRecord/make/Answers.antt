@@ -2,13 +2,13 @@ use Rattle.tl_number.proofs.Common.{◌*◌, ◌<◌, ◌∙◌, Some, drop, len
 use Rattle.tl_number.proofs.Lemmas.{tlid_of}
 use Rattle.ordered_lists.proofs.Lists.Counted.{all_take, all_drop}
 use Rattle.tl_number.proofs.Records.RecordPlaces.{PieceThere, four_of, piece_there}
-use Rattle.tl_number.proofs.chain_records.FurtherNameRecordsCountedGroups.record_at.Given.{Over}
-use Rattle.tl_number.proofs.chain_records.FurtherNameRecordsCountedGroups.record_at.Goals.{Start}
-use Rattle.tl_number.proofs.chain_records.FurtherNameRecordsCountedGroups.record_at.Goals as goal
+use Rattle.tl_number.proofs.chain_records.Rec4SequencedRecord.make.Given.{Over}
+use Rattle.tl_number.proofs.chain_records.Rec4SequencedRecord.make.Goals.{Start}
+use Rattle.tl_number.proofs.chain_records.Rec4SequencedRecord.make.Goals as goal
 
-here : (g : Over) (c : Start g) → PieceThere 4 feats_of four_of (g.C.Chart.county c.args.self.now.chart.now) c.args.group c.args.place
-here g c = piece_there 4 feats_of four_of (g.C.Chart.county c.args.self.now.chart.now) (g.met.C.Chart.is_county c.args.self.now.chart.now)
-    (g.met.C.Chart.within_limits c.args.self.now.chart.now) c.args.group c.requires.group c.args.place c.requires.place
+here : (g : Over) (c : Start g) → PieceThere 4 feats_of four_of (g.C.Chart.county c.args.chart.now) c.args.chain c.args.place
+here g c = piece_there 4 feats_of four_of (g.C.Chart.county c.args.chart.now) (g.met.C.Chart.is_county c.args.chart.now)
+    (g.met.C.Chart.within_limits c.args.chart.now) c.args.chain c.requires.chain c.args.place c.requires.place
 
 few : (g : Over) (c : Start g) → c.args.place < 999
 few g c =
@@ -27,7 +27,7 @@ sequence_number-requires g c = few g (goal.at.sequence_number-requires g c).Star
 pub new-requires-clause-feats : goal.new-requires-clause-feats
 new-requires-clause-feats g c =
     let there = (here g (goal.at.new-requires-clause-feats g c).Start).there in
-    let feats = feats_of (chain_at (g.C.Chart.county c.args.self.now.chart.now) c.args.group) in
+    let feats = feats_of (chain_at (g.C.Chart.county c.args.chart.now) c.args.chain) in
     subst (AllByRecursion (IsNumber 8)) (sym c.items_from-names.ensures)
     (all_take (IsNumber 8) 5 (drop (c.args.place * 5) feats) (all_drop (IsNumber 8) (c.args.place * 5) feats
     (subst (λ o. AllByRecursion (IsNumber 8) (feats_of o)) (sym there.chain) there.named.feats)))

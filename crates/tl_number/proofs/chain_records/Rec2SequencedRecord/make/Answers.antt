@@ -1,13 +1,13 @@
 use Rattle.tl_number.proofs.Common.{◌<◌, ◌∙◌, Some, length, sym, ap, arith, inner_points, points_of}
 use Rattle.tl_number.proofs.Lemmas.{tlid_of}
 use Rattle.tl_number.proofs.Records.RecordPlaces.{PieceThere, piece_there, two_of}
-use Rattle.tl_number.proofs.chain_records.ShapePointRecordsCountedGroups.record_at.Given.{Over}
-use Rattle.tl_number.proofs.chain_records.ShapePointRecordsCountedGroups.record_at.Goals.{Start}
-use Rattle.tl_number.proofs.chain_records.ShapePointRecordsCountedGroups.record_at.Goals as goal
+use Rattle.tl_number.proofs.chain_records.Rec2SequencedRecord.make.Given.{Over}
+use Rattle.tl_number.proofs.chain_records.Rec2SequencedRecord.make.Goals.{Start}
+use Rattle.tl_number.proofs.chain_records.Rec2SequencedRecord.make.Goals as goal
 
-here : (g : Over) (c : Start g) → PieceThere 9 (λ o. inner_points (points_of o)) two_of (g.C.Chart.county c.args.self.now.chart.now) c.args.group c.args.place
-here g c = piece_there 9 (λ o. inner_points (points_of o)) two_of (g.C.Chart.county c.args.self.now.chart.now) (g.met.C.Chart.is_county c.args.self.now.chart.now)
-    (g.met.C.Chart.within_limits c.args.self.now.chart.now) c.args.group c.requires.group c.args.place c.requires.place
+here : (g : Over) (c : Start g) → PieceThere 9 (λ o. inner_points (points_of o)) two_of (g.C.Chart.county c.args.chart.now) c.args.chain c.args.place
+here g c = piece_there 9 (λ o. inner_points (points_of o)) two_of (g.C.Chart.county c.args.chart.now) (g.met.C.Chart.is_county c.args.chart.now)
+    (g.met.C.Chart.within_limits c.args.chart.now) c.args.chain c.requires.chain c.args.place c.requires.place
 
 few : (g : Over) (c : Start g) → c.args.place < 999
 few g c =

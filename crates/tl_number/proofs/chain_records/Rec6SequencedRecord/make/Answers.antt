@@ -1,13 +1,13 @@
 use Rattle.tl_number.proofs.Common.{◌<◌, ◌∙◌, Some, length, sym, ap, arith, ranges_of}
 use Rattle.tl_number.proofs.Lemmas.{tlid_of}
 use Rattle.tl_number.proofs.Records.RecordPlaces.{ItemThere, item_there, six_of}
-use Rattle.tl_number.proofs.chain_records.RangeRecordsCountedGroups.record_at.Given.{Over}
-use Rattle.tl_number.proofs.chain_records.RangeRecordsCountedGroups.record_at.Goals.{Start}
-use Rattle.tl_number.proofs.chain_records.RangeRecordsCountedGroups.record_at.Goals as goal
+use Rattle.tl_number.proofs.chain_records.Rec6SequencedRecord.make.Given.{Over}
+use Rattle.tl_number.proofs.chain_records.Rec6SequencedRecord.make.Goals.{Start}
+use Rattle.tl_number.proofs.chain_records.Rec6SequencedRecord.make.Goals as goal
 
-here : (g : Over) (c : Start g) → ItemThere ranges_of six_of (g.C.Chart.county c.args.self.now.chart.now) c.args.group c.args.place
-here g c = item_there ranges_of six_of (g.C.Chart.county c.args.self.now.chart.now) (g.met.C.Chart.is_county c.args.self.now.chart.now)
-    (g.met.C.Chart.within_limits c.args.self.now.chart.now) c.args.group c.requires.group c.args.place c.requires.place
+here : (g : Over) (c : Start g) → ItemThere ranges_of six_of (g.C.Chart.county c.args.chart.now) c.args.chain c.args.place
+here g c = item_there ranges_of six_of (g.C.Chart.county c.args.chart.now) (g.met.C.Chart.is_county c.args.chart.now)
+    (g.met.C.Chart.within_limits c.args.chart.now) c.args.chain c.requires.chain c.args.place c.requires.place
 
 few : (g : Over) (c : Start g) → c.args.place < 999
 few g c =
