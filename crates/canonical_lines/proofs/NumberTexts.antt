@@ -1,17 +1,16 @@
 -- Columns with blanks and then digits without a leading zero are the canonical text of the digits' number.
 use Rattle.std.proofs.Common.{◌≡◌, ℕ, suc, ◌+◌, ◌-◌, ◌*◌, ◌/◌, ◌%◌, ◌<◌, ◌≤◌, List, [], ◌∷◌, ◌++◌, length, true, Some, None, refl, sym, ap}
-use Rattle.std.proofs.Common.{◌∙◌, arith, append_assoc, get_or, unwrap_or, Option, zero, inl, inr, slice_range, take, drop, subst, replicate}
+use Rattle.std.proofs.Common.{◌∙◌, arith, append_assoc, get_or, unwrap_or, Option, zero, inl, inr, slice_range, replicate}
 use Rattle.std.specs.List.{list_all}
 use Rattle.std.proofs.lemmas.Bool.{and_parts, and_from, eqb-true, ne_eqb, leb-true, le-leb}
 use Rattle.std.proofs.lemmas.List.Folds.{list_all-append}
-use Rattle.std.proofs.lemmas.List.{append-nil, length-append, take_all, length-drop, length-take-le}
-use Rattle.canonical_lines.proofs.PlaceSteps.{IsUsed}
+use Rattle.std.proofs.lemmas.List.{append-nil, length-append, take_all}
 use Rattle.canonical_lines.specs.Texts.{IsNumeral, IsNumeralOrNone, IsNumberText, IsNumberOrNoneText}
 use Rattle.tl_layout.specs.FieldTexts.{number_text, number_place_text}
 use Rattle.tl_layout.specs.Laws.NumberLaws.{splits_blanks}
 use Rattle.tl_layout.specs.Laws.NumberTextLaws.{number_below, length-number_text}
 use Rattle.tl_layout.specs.NumberField.{is_blank, is_digit, value_after}
-use Rattle.tl_layout.specs.Numbers.{IsNumber, IsNumberOrNone}
+use Rattle.tl_layout.specs.Numbers.{IsNumberOrNone}
 use Rattle.tl_layout.specs.NumberReading.{drop_blanks}
 
 -- a digit is between the bytes of 0 and of 9
@@ -123,22 +122,6 @@ only_blanks [] b = refl
 only_blanks (byte ∷ bytes) b =
     let parts = and_parts (is_blank byte) (list_all is_blank bytes) b in
     ap (λ (c : ℕ). c ∷ bytes) (eqb-true byte 32 parts.0) ∙ ap (λ (l : List ℕ). 32 ∷ l) (only_blanks bytes parts.1)
-
--- the columns of a place
-pub place_is_wide : (width place most : ℕ) (columns : List ℕ) → length columns ≡ width * most → 0 < place → place ≤ most
-    → length (slice_range columns (width * (place - 1)) (width * (place - 1) + width)) ≡ width
-place_is_wide width place most columns l some few =
-    let from = width * (place - 1) in
-    let dropped = length-drop from columns in
-    let wide : from + width - from ≡ width = omega arith in
-    let within : from + width ≤ length columns = rw l (grind arith) in
-    ap (λ (n : ℕ). length (take n (drop from columns))) wide ∙ length-take-le width (drop from columns) (omega arith)
-
--- a used place for a number
-pub number_used : (columns : List ℕ) → length columns ≡ 8 → IsNumberText columns → IsUsed (IsNumber 8) number_place_text columns
-number_used columns l t =
-    let P : ℕ → Type 0 = λ w. IsNumber w t.number in
-    record { item = t.number; fits = subst P l t.fits; is = t.text ∙ ap (λ (w : ℕ). number_text w t.number) l }
 
 -- an unused place for a number
 pub blank_unused : (columns : List ℕ) → length columns ≡ 8 → list_all is_blank columns ≡ true → columns ≡ number_place_text None

@@ -2,14 +2,8 @@
 use Rattle.std.proofs.Common.{◌≡◌, ◌≤◌, ◌<◌, ◌+◌, ◌-◌, ◌*◌, ℕ, suc, take, drop, slice_range, subst, Bool, true, false, List, [], ◌∷◌, ◌++◌}
 use Rattle.std.proofs.Common.{Option, Some, None, refl, sym, ap, ◌∙◌, arith}
 use Rattle.std.proofs.lemmas.List.{drop-drop, take-append-drop}
-use Rattle.canonical_lines.specs.Texts.{IsPlacesText}
+use Rattle.canonical_lines.specs.Texts.{IsPlacesText, IsUsedText}
 use Rattle.tl_layout.specs.FieldTexts.{places_text}
-
--- the canonical text of a used place
-pub record IsUsed {A : Type 0} (Fits : A → Type 0) (text : Option A → List ℕ) (columns : List ℕ) : Type 0 where
-  pub item : A
-  pub fits : Fits item
-  pub is : columns ≡ text (Some item)
 
 -- the columns hold that many places, and one of them is used only if used is true
 pub record ArePlaces {A : Type 0} (Fits : A → Type 0) (text : Option A → List ℕ) (count : ℕ) (used : Bool) (columns : List ℕ)
@@ -43,7 +37,7 @@ unused_before Fits text count place rest columns e p h =
 
 -- a used place
 used_before : {A : Type 0} (Fits : A → Type 0) (text : Option A → List ℕ) (count : ℕ) (used : Bool) (place rest columns : List ℕ)
-    → columns ≡ place ++ rest → IsUsed Fits text place → ArePlaces Fits text count used rest → ArePlaces Fits text (suc count) true columns
+    → columns ≡ place ++ rest → IsUsedText Fits text place → ArePlaces Fits text count used rest → ArePlaces Fits text (suc count) true columns
 unfolding places_text
 used_before Fits text count used place rest columns e p h =
     let few = h.places.few in
@@ -76,7 +70,7 @@ place_and_rest width place columns some =
 
 -- the next place to the left is used
 pub used_at : {A : Type 0} (Fits : A → Type 0) (text : Option A → List ℕ) (width most place : ℕ) (used : Bool) (columns : List ℕ)
-    → 0 < place → place ≤ most → IsUsed Fits text (slice_range columns (width * (place - 1)) (width * (place - 1) + width))
+    → 0 < place → place ≤ most → IsUsedText Fits text (slice_range columns (width * (place - 1)) (width * (place - 1) + width))
     → ArePlaces Fits text (most - place) used (drop (width * place) columns)
     → ArePlaces Fits text (most - (place - 1)) true (drop (width * (place - 1)) columns)
 used_at Fits text width most place used columns some few p h =

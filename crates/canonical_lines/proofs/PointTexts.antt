@@ -1,18 +1,15 @@
 -- A sign and digits are the canonical text of a coordinate.
 use Rattle.std.proofs.Common.{◌≡◌, ℕ, zero, suc, ◌+◌, ◌-◌, ◌*◌, ◌/◌, ◌%◌, ◌^◌, ◌<◌, ◌≤◌, ◌⊎◌, inl, inr, List, [], ◌∷◌, ◌++◌, length, true}
-use Rattle.std.proofs.Common.{refl, sym, ap, ◌∙◌, arith, append_assoc, subst, replicate, get_or, take, drop, slice_range, eqb, ℤ, pos, negsuc, unsigned_abs, Some, None}
+use Rattle.std.proofs.Common.{refl, sym, ap, ◌∙◌, arith, append_assoc, subst, replicate, get_or, take, drop, slice_range, ℤ, pos, negsuc, unsigned_abs, Some, None}
 use Rattle.std.specs.List.{list_all}
-use Rattle.std.proofs.lemmas.Bool.{and_parts, and_from, le-leb, eqb-true}
+use Rattle.std.proofs.lemmas.Bool.{and_parts, and_from, le-leb}
 use Rattle.std.proofs.lemmas.List.{append-nil, take_all, take-append-drop, length-drop}
 use Rattle.canonical_lines.specs.Texts.{IsCoordinateText, IsPointOrNoneText, IsPointText}
 use Rattle.canonical_lines.proofs.NumberTexts.{digit_bounds, only_blanks}
-use Rattle.canonical_lines.proofs.PlaceSteps.{IsUsed}
-use Rattle.tl_layout.specs.Coordinates.{IsOnMap}
 use Rattle.tl_layout.specs.FieldTexts.{digits_text, coordinate_text, point_place_text}
 use Rattle.tl_layout.specs.Laws.NumberTextLaws.{number_below}
 use Rattle.tl_layout.specs.NumberField.{is_blank, is_digit, value_after}
 use lib.Lanes.{chunk}
-use lib.Pointwise.{pointwise}
 
 -- bytes that are all digits
 pub all_at : (bytes : List ℕ) → ((k : ℕ) → k < length bytes → is_digit (get_or bytes k 0) ≡ true) → list_all is_digit bytes ≡ true
@@ -121,17 +118,6 @@ two_parts columns l =
     sym (take-append-drop 10 columns)
     ∙ ap (λ (t : List ℕ). take 10 columns ++ t) (sym (take_all (length columns - 10) (drop 10 columns) (omega arith)))
 
--- slices that compare equal have the same bytes
-pub same_bytes : (xs ys : List ℕ) → pointwise eqb xs ys ≡ true → xs ≡ ys
-same_bytes [] [] h = refl
-same_bytes [] (y ∷ ys) h = (cc)
-same_bytes (x ∷ xs) [] h = (cc)
-same_bytes (x ∷ xs) (y ∷ ys) h =
-    let parts = and_parts (eqb x y) (pointwise eqb xs ys) h in
-    let first = eqb-true x y parts.0 in
-    let rest = same_bytes xs ys parts.1 in
-    λ i. first i ∷ rest i
-
 -- only 0 has the magnitude 0
 zero_is : (value : ℤ) → unsigned_abs value ≡ 0 → value ≡ pos 0
 zero_is (pos n) h = ap pos h
@@ -158,10 +144,6 @@ point_text_of long lat columns e l m n =
       on_map = record { long = omega arith; lat = omega arith; somewhere = sum };
       text = text;
     }
-
--- a used place for a point
-pub point_used : {columns : List ℕ} → IsPointText columns → IsUsed IsOnMap point_place_text columns
-point_used t = record { item = t.point; fits = t.on_map; is = t.text }
 
 -- no point
 pub no_point_of : (columns : List ℕ) → length columns ≡ 19 → list_all is_blank columns ≡ true → IsPointOrNoneText columns

@@ -1,7 +1,7 @@
 -- By a column table: a line whose columns hold canonical texts is read as the record of their values, and is that record's
 -- canonical spelling, except for the version.
 use Rattle.std.proofs.Common.{◌≡◌, ℕ, zero, suc, ◌+◌, ◌-◌, ◌≤◌, List, [], ◌∷◌, ◌++◌, length, take, drop, true, Some, None, Option, refl, sym, ap}
-use Rattle.std.proofs.Common.{◌∙◌, subst, arith, append_assoc, codes, replicate, unwrap_or}
+use Rattle.std.proofs.Common.{◌∙◌, subst, arith, codes, replicate, unwrap_or}
 use Rattle.std.specs.List.{list_all}
 use Rattle.std.proofs.lemmas.Bool.{eqb-true}
 use Rattle.std.proofs.lemmas.List.{drop-drop, drop_all, take-append-drop}

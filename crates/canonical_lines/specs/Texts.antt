@@ -48,6 +48,12 @@ pub record IsPointOrNoneText (columns : List ℕ) : Type 0 where
   pub on_map : IfSome point IsOnMap
   pub text : columns ≡ long_text point ++ lat_text point
 
+-- the canonical text of a used place, whose item fits
+pub record IsUsedText {A : Type 0} (Fits : A → Type 0) (text : Option A → List ℕ) (columns : List ℕ) : Type 0 where
+  pub item : A
+  pub fits : Fits item
+  pub is : columns ≡ text (Some item)
+
 -- the canonical text of that many places: items that fit, and after them only unused places
 pub record IsPlacesText {A : Type 0} (Fits : A → Type 0) (text : Option A → List ℕ) (count : ℕ) (columns : List ℕ) : Type 0 where
   pub items : List A

@@ -5,7 +5,7 @@ ghost use Rattle.std.specs.Prelude.{◌<◌, IsTrue};
 ghost use Rattle.tl_layout.specs.Bytes.{IsLine};
 
 use crate::number::{are_numbers_or_none, is_blank, is_number};
-use crate::places::{are_number_places, are_point_places};
+use crate::places::{NumberPlaces, PointPlaces, are_places};
 use crate::point::{is_point, is_point_or_none};
 use tl_layout::{Rec1, Rec2, Rec4, Rec5, Rec6, Rec7, Rec8, RecI, RecP, Tabled};
 
@@ -42,7 +42,7 @@ impl Canonical for Rec2 {
         if !is_number(&line[5..15]) {
             return false;
         }
-        is_number(&line[15..18]) && are_point_places(&line[18..208])
+        is_number(&line[15..18]) && are_places::<PointPlaces>(&line[18..208])
     }
 
     ghost is_ascii = { lit< tt };
@@ -56,7 +56,7 @@ impl Canonical for Rec4 {
         if !is_number(&line[5..15]) {
             return false;
         }
-        is_number(&line[15..18]) && are_number_places(&line[18..58])
+        is_number(&line[15..18]) && are_places::<NumberPlaces>(&line[18..58])
     }
 
     ghost is_ascii = { lit< tt };

@@ -7,18 +7,7 @@ ghost use Rattle.tl_layout.specs.NumberField.{is_blank, is_digit};
 ghost use Rattle.tl_layout.specs.NumberReading.{drop_blanks};
 
 use std::simd::prelude::*;
-
-/// The columns without their leading blanks.
-#[inline(always)]
-fn without_blanks(columns: &[u8]) -> &[u8]
-    ensures { result.now ≡ drop_blanks columns.now }
-{
-    let mut rest = columns;
-    while let [b' ', after @ ..] = rest {
-        rest = after;
-    }
-    rest
-}
+use tl_layout::trim_start;
 
 /// Whether each of the bytes is a digit.
 #[inline(always)]
@@ -69,7 +58,7 @@ fn is_right_justified(bytes: u8x8) -> bool
 fn is_plain(columns: &[u8]) -> bool
     ensures { IsTrue result → IsNumberOrNoneText columns.now }
 {
-    match without_blanks(columns) {
+    match trim_start(columns) {
         [] => true,
         numeral => is_numeral(numeral),
     }

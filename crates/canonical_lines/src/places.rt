@@ -1,59 +1,124 @@
-//! Columns that hold the canonical text of places: used ones first, and after them only unused ones. The functions go through
-//! the places from the last one.
+//! Columns that hold the canonical text of places: used ones first, and after them only unused ones.
 
-ghost use Rattle.canonical_lines.specs.Texts.{IsPlacesText};
-ghost use Rattle.std.specs.Prelude.{◌≡◌, length, IsTrue};
-ghost use Rattle.tl_layout.specs.Coordinates.{IsOnMap};
-ghost use Rattle.tl_layout.specs.FieldTexts.{number_place_text, point_place_text};
-ghost use Rattle.tl_layout.specs.Numbers.{IsNumber};
+ghost use Rattle.canonical_lines.specs.Texts.{IsPlacesText, IsUsedText};
+ghost use Rattle.std.specs.Prelude.{◌≡◌, ◌*◌, ℕ, List, Option, None, length, IsTrue};
 
 use crate::number::{is_blank, is_number};
 use crate::point::{is_point, is_unused};
 
-/// The number of places for points.
-const POINTS: usize = 10;
+/// Places of one kind, side by side.
+pub(crate) trait Places {
+    /// The item of a used place.
+    ghost Item: { Type 0 };
 
-/// The width of a place for a point, in columns.
-const POINT_WIDTH: usize = 19;
+    /// The items that fit into a place.
+    ghost Fits: { Item → Type 0 };
 
-/// The number of places for numbers.
-const NUMBERS: usize = 5;
+    /// The canonical text of a place.
+    ghost text: { Option Item → List ℕ };
 
-/// The width of a place for a number, in columns.
-const NUMBER_WIDTH: usize = 8;
+    /// The number of places.
+    const COUNT: usize;
 
-/// Whether the columns hold the canonical text of ten places for points.
-pub(crate) fn are_point_places(columns: &[u8]) -> bool
-    requires { length columns.now ≡ 190 }
-    ensures { IsTrue result → IsPlacesText IsOnMap point_place_text 10 columns.now }
-{
-    let mut used = false;
-    let mut place = POINTS;
-    while place > 0 {
-        place -= 1;
-        let pair = &columns[POINT_WIDTH * place..POINT_WIDTH * place + POINT_WIDTH];
-        if used || !is_unused(pair) {
-            if !is_point(pair) {
-                return false;
-            }
-            used = true;
-        }
-    }
-    true
+    ghost COUNT: { ℕ };
+
+    /// The width of a place, in columns.
+    const WIDTH: usize;
+
+    ghost WIDTH: { ℕ };
+
+    /// Whether the columns hold the canonical text of an unused place.
+    fn is_unused(columns: &[u8]) -> bool
+        requires { length columns.now ≡ WIDTH }
+        ensures { IsTrue result → columns.now ≡ text None };
+
+    /// Whether the columns hold the canonical text of a used place.
+    fn is_used(columns: &[u8]) -> bool
+        requires { length columns.now ≡ WIDTH }
+        ensures { IsTrue result → IsUsedText Fits text columns.now };
 }
 
-/// Whether the columns hold the canonical text of five places for numbers.
-pub(crate) fn are_number_places(columns: &[u8]) -> bool
-    requires { length columns.now ≡ 40 }
-    ensures { IsTrue result → IsPlacesText (IsNumber 8) number_place_text 5 columns.now }
+/// Ten places for points.
+#[derive(Drop)]
+pub(crate) struct PointPlaces;
+
+impl Places for PointPlaces {
+    ghost use Rattle.tl_layout.specs.Coordinates.{Coordinates, IsOnMap};
+    ghost use Rattle.tl_layout.specs.FieldTexts.{point_place_text};
+
+    ghost Item = { Coordinates };
+
+    ghost Fits = { IsOnMap };
+
+    ghost text = { point_place_text };
+
+    const COUNT: usize = 10;
+
+    ghost COUNT = { 10 };
+
+    const WIDTH: usize = 19;
+
+    ghost WIDTH = { 19 };
+
+    #[inline(always)]
+    fn is_unused(columns: &[u8]) -> bool {
+        is_unused(columns)
+    }
+
+    #[inline(always)]
+    fn is_used(columns: &[u8]) -> bool {
+        is_point(columns)
+    }
+}
+
+/// Five places for numbers.
+#[derive(Drop)]
+pub(crate) struct NumberPlaces;
+
+impl Places for NumberPlaces {
+    ghost use Rattle.std.specs.Prelude.{ℕ};
+    ghost use Rattle.tl_layout.specs.FieldTexts.{number_place_text};
+    ghost use Rattle.tl_layout.specs.Numbers.{IsNumber};
+
+    ghost Item = { ℕ };
+
+    ghost Fits = { IsNumber 8 };
+
+    ghost text = { number_place_text };
+
+    const COUNT: usize = 5;
+
+    ghost COUNT = { 5 };
+
+    const WIDTH: usize = 8;
+
+    ghost WIDTH = { 8 };
+
+    #[inline(always)]
+    fn is_unused(columns: &[u8]) -> bool {
+        is_blank(columns)
+    }
+
+    #[inline(always)]
+    fn is_used(columns: &[u8]) -> bool {
+        is_number(columns)
+    }
+}
+
+/// Whether the columns hold the canonical text of places. It goes through them from the last one.
+#[inline(always)]
+pub(crate) fn are_places<P: Places>(columns: &[u8]) -> bool
+    requires { length columns.now ≡ P.WIDTH * P.COUNT }
+    ensures { IsTrue result → IsPlacesText P.Fits P.text P.COUNT columns.now }
 {
+    let width = P::WIDTH;
     let mut used = false;
-    let mut place = NUMBERS;
+    let mut place = P::COUNT;
     while place > 0 {
         place -= 1;
-        let field = &columns[NUMBER_WIDTH * place..NUMBER_WIDTH * place + NUMBER_WIDTH];
-        if used || !is_blank(field) {
-            if !is_number(field) {
+        let columns = &columns[width * place..width * place + width];
+        if used || !P::is_unused(columns) {
+            if !P::is_used(columns) {
                 return false;
             }
             used = true;

@@ -147,6 +147,21 @@ pub trait Listed {
     }
 }
 
+/// A slice is the list of its items.
+impl<T: Copy> Listed for &[T] {
+    type Item = T;
+
+    ghost items = { λ slice. slice.now };
+
+    fn count(&self) -> usize {
+        self.len()
+    }
+
+    fn item(&self, place: usize) -> T {
+        self[place]
+    }
+}
+
 /// Whether two lists have the same items in the same order.
 pub fn are_same<A: Listed, B: Listed<Item = A::Item>>(a: &A, b: &B) -> bool
 where

@@ -73,7 +73,8 @@ column_within n column width count wide many h w c =
     let Q : ℕ → Type 0 = λ v. column + v ≤ 19 + count * v in
     subst P c (subst Q w (omega arith))
 
-same_bytes : (xs ys : List ℕ) → pointwise eqb xs ys ≡ true → xs ≡ ys
+-- slices that compare equal have the same bytes
+pub same_bytes : (xs ys : List ℕ) → pointwise eqb xs ys ≡ true → xs ≡ ys
 same_bytes [] [] h = refl
 same_bytes [] (y ∷ ys) h = (cc)
 same_bytes (x ∷ xs) [] h = (cc)

@@ -1,7 +1,6 @@
 -- Writing places one after another.
-use Rattle.std.proofs.Common.{◌≡◌, ℕ, zero, suc, ◌<◌, ◌≤◌, List, [], ◌∷◌, ◌++◌, length, take, drop, Option, IfSome, slice_get}
-use Rattle.std.proofs.Common.{refl, sym, ap, ◌∙◌, append_assoc, arith, subst}
-use Rattle.std.specs.List.{AllByRecursion}
+use Rattle.std.proofs.Common.{◌≡◌, ℕ, zero, suc, List, [], ◌∷◌, ◌++◌, drop, Option, slice_get}
+use Rattle.std.proofs.Common.{refl, sym, ap, ◌∙◌, append_assoc, subst}
 use Rattle.std.proofs.lemmas.List.{append-nil}
 use Rattle.tl_layout.specs.FieldTexts.{places_text}
 
@@ -29,15 +28,3 @@ pub all_written : {A : Type 0} (text : Option A → List ℕ) (xs : List A) (aft
     → after ≡ all
 unfolding places_text
 all_written text xs after all h = sym (append-nil after) ∙ h
-
--- if each of the first places has a property, so does each item, provided that there are no more items
-pub each_from_places : {A : Type 0} (P : A → Type 0) (n : ℕ) (xs : List A) → length xs ≤ n → ((k : ℕ) → k < n → IfSome (slice_get xs k) P)
-    → AllByRecursion P xs
-each_from_places P n [] l h = tt
-each_from_places P zero (x ∷ xs) l h = absurd (omega arith)
-each_from_places P (suc n) (x ∷ xs) l h = (h 0 (omega arith), each_from_places P n xs (omega arith) (λ k b. h (suc k) (omega arith)))
-
--- equal columns and equal texts
-pub at_columns : (last last' first first' : ℕ) (new old text text' : List ℕ) → take last new ≡ take first old ++ text → last ≡ last'
-    → first ≡ first' → text ≡ text' → take last' new ≡ take first' old ++ text'
-at_columns last last' first first' new old text text' h a b c = (cc)

@@ -36,6 +36,9 @@ pub trait Places: Sized {
     /// How the place that begins at this column of a line is read.
     ghost reading: { List ℕ → ℕ → Result (Option Self.Item) FieldFault };
 
+    /// The canonical text of a place.
+    ghost text: { Option Self.Item → List ℕ };
+
     /// The empty list.
     fn empty() -> Self
         ensures { items result ≡ [] };
@@ -50,6 +53,12 @@ pub trait Places: Sized {
     fn add(&mut self, item: Self::Item)
         requires { length (items self.old) < COUNT }
         ensures { items self.new ≡ items self.old ++ item ∷ [] };
+
+    /// Writes the place with this index.
+    fn write(out: &mut [u8], place: usize, item: &Option<Self::Item>)
+        requires place { place < COUNT }
+        requires within { 18 + COUNT * WIDTH ≤ length out.old }
+        ensures { take (18 + (place + 1) * WIDTH) out.new ≡ take (18 + place * WIDTH) out.old ++ text item.now };
 }
 
 /// Ten places for points. An unused place is a pair of zeros.
@@ -70,6 +79,8 @@ impl Places for ArrayVec<Point, 10> {
 
     ghost reading = { λ line column. point_or_none_at column line };
 
+    ghost text = { point_place_text };
+
     fn empty() -> ArrayVec<Point, 10> {
         ArrayVec::new()
     }
@@ -84,6 +95,15 @@ impl Places for ArrayVec<Point, 10> {
 
     fn add(&mut self, point: Point) {
         self.push(point);
+    }
+
+    #[inline(always)]
+    fn write(out: &mut [u8], place: usize, item: &Option<Point>) {
+        let column = 19 + 19 * place;
+        match item {
+            Some(point) => write_point(out, column, point),
+            None => write_zeros(out, column),
+        }
     }
 }
 
@@ -106,6 +126,8 @@ impl Places for ArrayVec<u32, 5> {
 
     ghost reading = { λ line column. number_or_none_at column (column + 7) line };
 
+    ghost text = { number_place_text };
+
     fn empty() -> ArrayVec<u32, 5> {
         ArrayVec::new()
     }
@@ -120,6 +142,12 @@ impl Places for ArrayVec<u32, 5> {
 
     fn add(&mut self, feat: u32) {
         self.push(feat);
+    }
+
+    #[inline(always)]
+    fn write(out: &mut [u8], place: usize, item: &Option<u32>) {
+        let number = u64::from(item.unwrap_or(0));
+        write_number(out, 19 + 8 * place, 26 + 8 * place, number);
     }
 }
 
@@ -169,39 +197,14 @@ pub(crate) fn show_points_fit(points: &[Point])
     }
 }
 
-/// Writes a place for a point. An unused place is written as a pair of zeros.
-fn write_point_place(out: &mut [u8], column: usize, place: &Option<Point>)
-    requires from_one { 1 ≤ column }
-    requires within { column + 18 ≤ length out.old }
-    ensures written { take (column + 18) out.new ≡ take (column - 1) out.old ++ point_place_text place.now }
-    ensures on_map { IfSome place.now IsOnMap }
+/// Writes the places of a full line. Only the first ones are used.
+pub fn write_places<P: Places>(out: &mut [u8], items: &[P::Item])
+    requires columns { 18 + P.COUNT * P.WIDTH ≤ length out.old }
+    requires count { length items.now ≤ P.COUNT }
+    ensures { take (18 + P.COUNT * P.WIDTH) out.new ≡ take 18 out.old ++ places_text P.text P.COUNT items.now }
 {
-    match place {
-        Some(point) => write_point(out, column, point),
-        None => write_zeros(out, column),
-    }
-}
-
-/// Writes ten places for points, from column 19 on.
-pub fn write_points(out: &mut [u8], points: &[Point])
-    requires columns { 208 ≤ length out.old }
-    requires count { length points.now ≤ 10 }
-    ensures written { take 208 out.new ≡ take 18 out.old ++ places_text point_place_text 10 points.now }
-    ensures on_map { AllByRecursion IsOnMap points.now }
-{
-    for place in 0..10 {
-        write_point_place(out, 19 + 19 * place, &item_at(points, place));
-    }
-}
-
-/// Writes five places for FEATs, from column 19 on.
-pub fn write_feats(out: &mut [u8], feats: &[u32])
-    requires columns { 58 ≤ length out.old }
-    requires count { length feats.now ≤ 5 }
-    ensures { take 58 out.new ≡ take 18 out.old ++ places_text number_place_text 5 feats.now }
-{
-    for place in 0..5 {
-        let feat = item_at(feats, place).unwrap_or(0);
-        write_number(out, 19 + 8 * place, 26 + 8 * place, u64::from(feat));
+    let count = P::COUNT;
+    for place in 0..count {
+        P::write(out, place, &item_at(items, place));
     }
 }

@@ -10,7 +10,7 @@ ghost use Rattle.tl_layout.specs.RecordTypes.{Type2, byte_of, line_length, table
 use crate::fault::FieldFault;
 use crate::field::read_number;
 use crate::layout::Layout;
-use crate::place::{read_places, show_points_fit, write_points};
+use crate::place::{read_places, show_points_fit, write_places};
 use crate::point::Point;
 use crate::writing::{write_head, write_number};
 use arrayvec::ArrayVec;
@@ -108,10 +108,11 @@ impl Layout for Rec2 {
 
     #[tactic(auto, unfolding(crate::specs::RecordTypes::FitsFields, crate::specs::RecordTypes::fields_spelling))]
     fn put(&self, out: &mut [u8]) {
+        self.show_fit();
         write_head(out, b'2');
         write_number(out, 6, 15, self.tlid);
         write_number(out, 16, 18, u64::from(self.rtsq));
-        write_points(out, self.points.as_slice());
+        write_places::<ArrayVec<Point, 10>>(out, self.points.as_slice());
     }
 
     ghost bounded = { (lit≤ tt, lit≤ tt) };

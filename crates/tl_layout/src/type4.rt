@@ -11,7 +11,7 @@ ghost use Rattle.tl_layout.specs.RecordTypes.{Type4, byte_of, line_length, table
 use crate::fault::FieldFault;
 use crate::field::read_number;
 use crate::layout::Layout;
-use crate::place::{read_places, write_feats};
+use crate::place::{read_places, write_places};
 use crate::writing::{write_head, write_number};
 use arrayvec::ArrayVec;
 use std::marker::Model;
@@ -115,7 +115,7 @@ impl Layout for Rec4 {
         write_head(out, b'4');
         write_number(out, 6, 15, self.tlid);
         write_number(out, 16, 18, u64::from(self.rtsq));
-        write_feats(out, self.feats.as_slice());
+        write_places::<ArrayVec<u32, 5>>(out, self.feats.as_slice());
     }
 
     ghost bounded = { (lit≤ tt, lit≤ tt) };

@@ -6,7 +6,7 @@ pub use Rattle.ordered_lists.proofs.ByKey.Keys.{known_cases, lefts, nat_keys, or
 pub use Rattle.ordered_lists.proofs.ByKey.Keys.{times-append, times-no, times-permutation, times-yes}
 pub use Rattle.ordered_lists.proofs.ByKey.Numbers.{all-in_order, each_from, strict_from_order}
 pub use Rattle.ordered_lists.proofs.Lists.Among.{Among, all_among}
-pub use Rattle.ordered_lists.proofs.Lists.ByPlace.{decides_no, same_next}
+pub use Rattle.ordered_lists.proofs.Lists.ByPlace.{same_next}
 pub use Rattle.ordered_lists.proofs.Lists.Distinct.{apart-distinct, apart_from_no_repeat, has_repeat-apart, known-distinct}
 pub use Rattle.ordered_lists.proofs.Lists.Elements.{all_append, all_both, all_everywhere, all_joined, all_left, all_map, all_right}
 pub use Rattle.ordered_lists.proofs.Lists.Elements.{all_unmap, all_weaker, map-map, map_agree_all, map_agree_everywhere}

@@ -6,23 +6,21 @@
 ghost use Rattle.std.specs.List.{range_with_len};
 ghost use Rattle.std.specs.Option.{option_cmp};
 ghost use Rattle.std.specs.Ordering.{nat_cmp};
-ghost use Rattle.std.specs.Prelude.{◌≡◌, ◌<◌, ◌^◌, IfOk, OnOk, false, filter_map, length, map, slice_get};
+ghost use Rattle.std.specs.Prelude.{◌≡◌, ◌<◌, ◌^◌, IfOk, false, filter_map, length, map, slice_get};
 ghost use Rattle.tl_county.specs.BodyOrder.{name_body_cmp};
-ghost use Rattle.tl_county.specs.ChartWords.{feats_of};
 ghost use Rattle.tl_county.specs.CountyRules.{feats};
 ghost use Rattle.ordered_lists.specs.Orders.{has_repeat};
 ghost use Rattle.tl_number.specs.Arrangement.{names_in_order};
-ghost use Rattle.tl_number.specs.Growth.{first_seen, first_seen_after};
+ghost use Rattle.tl_number.specs.Growth.{first_seen};
 ghost use Rattle.tl_number.specs.NameItems.{feats_along_arrangement, rank_of, ranked_at, ranked_cmp, ranked_place};
 ghost use Rattle.tl_number.specs.DirectedChains.{arrangement_of};
-ghost use Rattle.tl_county.specs.DirectedChains.{directed_chain};
 ghost use Rattle.tl_number.specs.ViewFacts.{AreReadAt, AreWhole, MatchesNames};
 
 use crate::arranged_tables::NameTables;
 use crate::numbers::{Interner, marks_for};
 use std::alloc::{AllocError, Global};
 use std::cmp::Ordering;
-use tl_county::{Chart, DirectedChain, Listed};
+use tl_county::{Chart, DirectedChain};
 use tl_layout::Body5;
 
 /// A name, given by its place, with the rank of its first use.
@@ -65,21 +63,6 @@ fn cmp_bodies(a: Option<Body5>, b: Option<Body5>) -> Ordering
     }
 }
 
-/// Sees the further names of a directed chain, one after another.
-fn see_feats<C: Chart>(
-    feats: &mut Interner<u32>,
-    chart: &C,
-    directed: DirectedChain,
-) -> Result<(), AllocError>
-    ensures { OnOk result (feats.new ≡ first_seen_after nat_cmp feats.old (feats_of (directed_chain (C.county chart.now) directed))) }
-{
-    let further = directed.feats(chart);
-    for name in 0..further.count() {
-        feats.see(further.item(name))?;
-    }
-    Ok(())
-}
-
 /// The FEATs that chains list, in the order of their first appearance along these directed chains.
 fn number_uses<C: Chart>(
     alloc: Global,
@@ -91,7 +74,7 @@ fn number_uses<C: Chart>(
     let mut feats = Interner::with_marks(alloc, marks_for(chart.name_count()))?;
     let mut rest = arrangement;
     while let Some((directed, later)) = rest.split_first() {
-        see_feats(&mut feats, chart, *directed)?;
+        feats.see_all(&directed.feats(chart))?;
         rest = later;
     }
     Ok(feats)

@@ -316,11 +316,11 @@ impl<K: Key + Hash + NumericKey> Interner<K> {
     }
 
     /// Sees keys, one after another.
-    pub(crate) fn see_all(&mut self, keys: &[K]) -> Result<(), AllocError>
-        ensures { OnOk result (self.new ≡ first_seen_after K.cmp self.old keys.now) }
+    pub(crate) fn see_all<L: Listed<Item = K>>(&mut self, keys: &L) -> Result<(), AllocError>
+        ensures { OnOk result (self.new ≡ first_seen_after K.cmp self.old (L.items keys.now)) }
     {
-        for key in keys {
-            self.see(*key)?;
+        for place in 0..keys.count() {
+            self.see(keys.item(place))?;
         }
         Ok(())
     }
@@ -331,7 +331,7 @@ impl<K: Key + Hash + NumericKey> Interner<K> {
         ensures { IfOk result (λ numbers. numbers ≡ keys.now) }
     {
         let mut numbers = Interner::with_marks(alloc, marks_for(keys.len()))?;
-        numbers.see_all(keys)?;
+        numbers.see_all(&keys)?;
         Ok(numbers)
     }
 

@@ -2,11 +2,11 @@
 //! their TLIDs. Two arrangements that only differ in the order of such chains make the same county.
 
 ghost use Rattle.std.specs.Bool.{Decides};
-ghost use Rattle.std.specs.Prelude.{◌≡◌, ◌+◌, ◌≤◌, length, map};
+ghost use Rattle.std.specs.Prelude.{◌≡◌, ◌+◌, ◌≤◌, ◌<◌, length, map};
 ghost use Rattle.tl_cert.specs.PartsThere.{HaveSameContent, HaveSameEnds, HaveSameLists};
 ghost use Rattle.tl_county.specs.ChartWords.{points_of};
 ghost use Rattle.tl_number.specs.CriticalPlaces.{HaveSameSides};
-ghost use Rattle.tl_number.specs.MovedChains.{AgreeButOpen, HaveSamePartsBelow, IsWithin};
+ghost use Rattle.tl_number.specs.MovedChains.{AgreeButOpen, HaveSamePartAt, HaveSamePartsBelow, IsWithin};
 ghost use Rattle.tl_number.specs.DirectedChains.{parts_along};
 ghost use Rattle.tl_county.specs.DirectedChains.{directed_chain};
 
@@ -91,16 +91,19 @@ impl ChainPart for WholeChain {
     }
 }
 
-/// Whether two directed chains have the same part. Nothing is read if the directed chains are the same.
+/// Whether the chains at a place of two arrangements have the same part. Nothing is read if the directed chains are the same.
 fn have_same_part_at<P: ChainPart, C: Chart>(
     part: &P,
     chart: &C,
-    one: DirectedChain,
-    other: DirectedChain,
+    place: usize,
+    one: &[DirectedChain],
+    other: &[DirectedChain],
 ) -> bool
-    ensures { Decides result (P.part (directed_chain (C.county chart.now) one) ≡ P.part (directed_chain (C.county chart.now) other)) }
+    requires one { place < length one.now }
+    requires other { place < length other.now }
+    ensures { Decides result (HaveSamePartAt P.part (C.county chart.now) one.now other.now place) }
 {
-    one.is_same(other) || part.is_same(chart, one, other)
+    one[place].is_same(other[place]) || part.is_same(chart, one[place], other[place])
 }
 
 /// Whether the chains of two arrangements have the same part at each place below the end. It must be the same at the places before the
@@ -118,13 +121,7 @@ fn have_same_parts_below<P: ChainPart, C: Chart>(
     requires before { HaveSamePartsBelow P.part (C.county chart.now) first one.now other.now }
     ensures { Decides result (HaveSamePartsBelow P.part (C.county chart.now) end one.now other.now) }
 {
-    for place in first..end {
-        let same = have_same_part_at(part, chart, one[place], other[place]);
-        if !same {
-            return false;
-        }
-    }
-    true
+    (first..end).all(|place| have_same_part_at(part, chart, place, one, other))
 }
 
 /// Whether two directed chains have the same content in their records of types 1 and I.

@@ -1,7 +1,7 @@
 //! Whether two canonical counties have the same records.
 
 ghost use Rattle.std.specs.Bool.{Decides};
-ghost use Rattle.std.specs.Prelude.{◌≡◌, ◌<◌, ◌≤◌, ◌+◌, length, drop, take};
+ghost use Rattle.std.specs.Prelude.{◌≡◌, ◌<◌, ◌≤◌, ◌+◌, length, drop, take, slice_get};
 ghost use Rattle.tl_county.specs.Packing.{packed};
 ghost use Rattle.tl_number.specs.Groups.{AreHeads, group_at};
 ghost use Rattle.tl_number.specs.SharedGroups.{HaveSameChains, HaveSameCounts, HaveSameEntries, HaveSameHeads, HaveSameLandmarks, HaveSameLists};
@@ -18,6 +18,27 @@ use std::marker::PhantomData;
 use tl_county::Chart;
 use tl_layout::{Rec2, Rec4, Rec6};
 
+/// Whether a record of a group is the same in both counties.
+fn is_same_record<L: RecordEq, G: RecordGroups<Item = L>, H: RecordGroups<Item = L>>(
+    a: &G,
+    b: &H,
+    group: usize,
+    head: G::Head,
+    other: H::Head,
+    place: usize,
+) -> bool
+    requires a { group < length (G.groups a.now) }
+    requires b { group < length (H.groups b.now) }
+    requires head { G.IsHead a.now group head }
+    requires other { H.IsHead b.now group other }
+    requires place { place < length (group_at (G.groups a.now) group) }
+    requires other_place { place < length (group_at (H.groups b.now) group) }
+    ensures { Decides result (slice_get (group_at (G.groups a.now) group) place ≡ slice_get (group_at (H.groups b.now) group) place) }
+{
+    a.record(group, head, place)
+        .is_same(&b.record(group, other, place))
+}
+
 /// Whether a group that both counties have is the same in both, record by record.
 fn is_same_group<L: RecordEq, G: RecordGroups<Item = L>, H: RecordGroups<Item = L>>(
     a: &G,
@@ -33,18 +54,8 @@ fn is_same_group<L: RecordEq, G: RecordGroups<Item = L>, H: RecordGroups<Item = 
     ensures { Decides result (group_at (G.groups a.now) group ≡ group_at (H.groups b.now) group) }
 {
     let count = a.count_in(group, head);
-    if b.count_in(group, other) != count {
-        return false;
-    }
-    for place in 0..count {
-        let same = a
-            .record(group, head, place)
-            .is_same(&b.record(group, other, place));
-        if !same {
-            return false;
-        }
-    }
-    true
+    b.count_in(group, other) == count
+        && (0..count).all(|place| is_same_record(a, b, group, head, other, place))
 }
 
 /// Whether the groups with these heads, from one group on, are the same in both counties.

@@ -2,7 +2,7 @@
 use Rattle.tl_number.proofs.Common.{◌≡◌, ◌<◌, ◌≤◌, ◌+◌, ◌/◌, ◌%◌, ℕ, zero, suc, nat_lt, List, [], ◌∷◌, ◌++◌, take, drop, length, Bool, true}
 use Rattle.tl_number.proofs.Common.{false, cond, Ordering, Some, None, slice_get, sym, refl, ap, ◌∙◌, arith, AgreeApart, AllByRecursion}
 use Rattle.tl_number.proofs.Common.{AreWithin, IsPermutation-insert, OpenPlace, StandInOrder, all_weaker, first_stood, insert}
-use Rattle.tl_number.proofs.Common.{length_permutation, ltb-false, ltb-true, moved, open_places, turned_by}
+use Rattle.tl_number.proofs.Common.{Decides, length_permutation, ltb-false, ltb-true, moved, open_places, slice_get_past, turned_by}
 use Rattle.tl_profile.specs.Choices.{is_settled, open_place_at}
 use Rattle.tl_number.specs.MovedChains.{IsApart, IsWithin}
 
@@ -19,6 +19,19 @@ same_everywhere (x ∷ xs) (y ∷ ys) h =
     let e : Some x ≡ Some y = h 0 in
     let first : x ≡ y = cc in
     λ i. first i ∷ same_everywhere xs ys (λ place. h (suc place)) i
+
+-- a test of all places of two lists of this length decides whether they are equal
+pub decides_equal : {X : Type 0} (xs ys : List X) (n : ℕ) → length xs ≡ n → length ys ≡ n → (b : Bool)
+    → Decides b ((place : ℕ) → place < n → slice_get xs place ≡ slice_get ys place) → Decides b (xs ≡ ys)
+decides_equal xs ys n l m b decides = (
+  λ t. same_everywhere xs ys (λ place. go place (decides.0 t) (nat_lt place n) refl),
+  λ e. decides.1 (λ place h. ap (λ zs. slice_get zs place) e),
+) where
+  go : (place : ℕ) → ((place : ℕ) → place < n → slice_get xs place ≡ slice_get ys place) → (c : Bool) → nat_lt place n ≡ c
+      → slice_get xs place ≡ slice_get ys place
+  go place below true e = below place (ltb-true place n e)
+  go place below false e = let h = ltb-false place n e in
+      slice_get_past xs place (omega (arith, l, h)) ∙ sym (slice_get_past ys place (omega (arith, m, h)))
 
 -- if nothing is open, lists that agree are equal
 pub agree_same : {X : Type 0} (xs ys : List X) → AgreeApart [] xs ys → xs ≡ ys

@@ -1,14 +1,14 @@
 -- Two arrangements of a county that have the same chains in the same order make the same county, whatever TLIDs these have.
-use Rattle.tl_number.proofs.Common.{◌≤◌, Bool, true, nat_lt, arith, ◌≡◌, ◌<◌, ◌∙◌, ℕ, List, get_or, length, map, Option, None, Some}
-use Rattle.tl_number.proofs.Common.{option_map, slice_get, false, sym, refl, ap, nat_cmp, AreWhole, Arrangement, Arranges, Body5, Chain}
+use Rattle.tl_number.proofs.Common.{Bool, ◌≡◌, ◌∙◌, ℕ, List, length, map, Option, None, Some}
+use Rattle.tl_number.proofs.Common.{option_map, sym, refl, ap, nat_cmp, AreWhole, Arrangement, Arranges, Body5, Chain}
 use Rattle.tl_number.proofs.Common.{County, Decides, DirectedChain, IsCounty, Renumbering, all_uses, arranged, arranged_by, arrangement_of}
-use Rattle.tl_number.proofs.Common.{directed_chain, first_seen, image, in_order, key_cmp, length-map, ltb-false, ltb-true}
+use Rattle.tl_number.proofs.Common.{directed_chain, first_seen, image, in_order, key_cmp, length-map}
 use Rattle.tl_number.proofs.Common.{map_agree_everywhere, name_key, name_key_cmp, names_in_order, new_keys, nodes_along, nodes_in_order}
 use Rattle.tl_number.proofs.Common.{numbered, numbered_from, on, parts_along, placed, polygons_along, renaming_of, renumbered}
-use Rattle.tl_number.proofs.Common.{renumbered_polygon, side_of, slice_get-get_or, slice_get-map, slice_get_past, under_cenid}
+use Rattle.tl_number.proofs.Common.{renumbered_polygon, side_of, under_cenid}
 use Rattle.tl_number.specs.MovedChains.{HaveSamePartsBelow}
 use Rattle.tl_number.proofs.Arrangements.Carrying.{chains_arranged, names_arranged, names_renamed, nodes_renamed}
-use Rattle.tl_number.proofs.Choices.FixedPlaces.{same_everywhere}
+use Rattle.tl_number.proofs.Choices.FixedPlaces.{decides_equal}
 use Rattle.tl_number.proofs.Texts.SamePolygons.{new_polygons_same, same_landmarks, same_links, same_polygons}
 use Rattle.tl_number.proofs.Unique.SameNumbers.{kept_entry}
 use Rattle.tl_number.proofs.Views.ArrangedTables.{same_somes}
@@ -17,31 +17,14 @@ use Rattle.tl_number.proofs.Views.ViewChains.{arranges, bodies_read, chains}
 pub the_same : {X : Type 0} (x y : X) → Some x ≡ Some y → x ≡ y
 the_same x y e = cc
 
--- a part of the directed chain at a place
-pub part_read : {X : Type 0} (county : County) (part : Option Chain → X) (arrangement : List DirectedChain) (i : ℕ) → i < length arrangement
-    → slice_get (parts_along part county arrangement) i
-    ≡ Some (part (directed_chain county (get_or arrangement i (record { place = 0; turned = false }))))
-part_read county part arrangement i there = slice_get-map (λ directed. part (directed_chain county directed)) arrangement i
-    ∙ ap (option_map (λ directed. part (directed_chain county directed))) (slice_get-get_or arrangement i (record { place = 0; turned = false }) there)
-
 -- parts that are the same at each place of two lists of the same length
 pub all_parts : {X : Type 0} (part : Option Chain → X) (county : County) (one other : List DirectedChain) (count : ℕ) → count ≡ length one
     → length one ≡ length other → (b : Bool) → Decides b (HaveSamePartsBelow part county count one other)
     → Decides b (parts_along part county one ≡ parts_along part county other)
-all_parts part county one other count all as_many b decides = (
-  λ t. same_everywhere (parts_along part county one) (parts_along part county other) (λ place. go place (decides.0 t) (nat_lt place count) refl),
-  λ e. decides.1 (λ place l. ap (λ parts. slice_get parts place) e),
-) where
-  past : (arrangement : List DirectedChain) → length arrangement ≡ count → (place : ℕ) → count ≤ place
-      → slice_get (parts_along part county arrangement) place ≡ None
-  past arrangement e place l = slice_get_past (parts_along part county arrangement) place
-      (let same = length-map arrangement (λ directed. part (directed_chain county directed)) in omega (arith, same, e, l))
-
-  go : (place : ℕ) → HaveSamePartsBelow part county count one other → (c : Bool) → nat_lt place count ≡ c
-      → slice_get (parts_along part county one) place ≡ slice_get (parts_along part county other) place
-  go place below true e = below place (ltb-true place count e)
-  go place below false e = let l = ltb-false place count e in
-      past one (sym all) place l ∙ sym (past other (sym (all ∙ as_many)) place l)
+all_parts part county one other count all as_many b decides =
+    let part_of = λ (directed : DirectedChain). part (directed_chain county directed) in
+    decides_equal (parts_along part county one) (parts_along part county other) count (length-map one part_of ∙ sym all)
+    (length-map other part_of ∙ sym (all ∙ as_many)) b decides
 
 -- A chain under new numbers depends only on the new numbers of names, of polygons and of nodes.
 module _ (r s : Renumbering) (names : r.names ≡ s.names) (polygons : r.polygons ≡ s.polygons) (nodes : r.nodes ≡ s.nodes) where

@@ -1,7 +1,7 @@
 use Rattle.std.proofs.Common.{List, ℕ, get_or, eqb, ap, sym, ◌∙◌}
-use Rattle.canonical_lines.proofs.PointTexts.{same_bytes}
 use Rattle.canonical_lines.proofs.point.is_unused.Goals as goal
 use Rattle.canonical_lines.specs.declared.point.TheConstants.{UNUSED}
+use Rattle.tl_layout.proofs.PlaceSteps.{same_bytes}
 use Rattle.tl_layout.specs.FieldTexts.{coordinate_text, digits_text}
 use lib.Pointwise.{pointwise}
 

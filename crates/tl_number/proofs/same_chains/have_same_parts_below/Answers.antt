@@ -1,27 +1,14 @@
-use Rattle.tl_number.proofs.Common.{below_more, slice_get, ◌≡◌, ◌<◌, ◌∙◌, Some, length, true, false, rules, sym, ap, arith, decides_no}
-use Rattle.tl_number.proofs.Common.{parts_along}
-use Rattle.tl_number.proofs.Texts.SameChains.{part_read, the_same}
+use Rattle.tl_number.proofs.Common.{◌-◌, ◌≡◌, Decides, YieldsList-from_range, false≢true, refl, rules, true, false}
+use Rattle.std.proofs.lemmas.Iterator.{cases_from_all}
+use Rattle.tl_number.proofs.Lists.Counting.{places_from_decide}
+use Rattle.tl_number.specs.MovedChains.{HaveSamePartAt}
 use Rattle.tl_number.proofs.same_chains.have_same_parts_below.Goals as goal
 
-pub loop-place-preserved : goal.loop-place-preserved
-loop-place-preserved g c =
-    let county = g.C.Chart.county c.args.chart.now in
-    let part = g.P.ChainPart.part in
-    let i = c.loop-place.place in
-    let there : i < length c.args.one.now = omega (arith, c.loop-place-test.true, c.requires.within) in
-    let yes : c.have_same_part_at-same.result ≡ true = search rules in
-    below_more (λ place. slice_get (parts_along part county c.args.one.now) place ≡ slice_get (parts_along part county c.args.other.now) place) i
-    c.loop-place.invariant
-    (part_read county part c.args.one.now i there ∙ ap Some (c.have_same_part_at-same.ensures.0 yes)
-    ∙ sym (part_read county part c.args.other.now i (omega (arith, there, c.requires.count))))
-
-pub returns-then-not-same : goal.returns-then-not-same
-returns-then-not-same g c =
-    let county = g.C.Chart.county c.args.chart.now in
-    let part = g.P.ChainPart.part in
-    let i = c.loop-place.place in
-    let there : i < length c.args.one.now = omega (arith, c.loop-place-test.true, c.requires.within) in
-    let not_same : c.have_same_part_at-same.result ≡ false = search rules in
-    decides_no c.have_same_part_at-same.result not_same c.have_same_part_at-same.ensures
-    (λ all. the_same _ _ (sym (part_read county part c.args.one.now i there) ∙ all i (omega (arith, c.loop-place-test.true))
-    ∙ part_read county part c.args.other.now i (omega (arith, there, c.requires.count))))
+pub returns : goal.returns
+returns g c =
+    let P = HaveSamePartAt g.P.ChainPart.part (g.C.Chart.county c.args.chart.now) c.args.one.now c.args.other.now in
+    places_from_decide P c.args.first c.args.end c.requires.before c.all.result
+    (cases_from_all _ _ _ P (λ place. P place → ⊥) c.all.ensures.ran
+    (YieldsList-from_range c.args.first c.args.end (c.args.end - c.args.first) (cc) refl)
+    (λ x q k. let yes : Decides true (P x) = search rules in (search rules, yes.0 refl))
+    (λ x q k held. let no : Decides false (P x) = search rules in false≢true (no.1 held)))

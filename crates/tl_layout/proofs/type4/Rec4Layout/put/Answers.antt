@@ -7,5 +7,5 @@ pub returns-clause-spelling : goal.returns-clause-spelling
 unfolding fields_spelling
 returns-clause-spelling c =
     let rtsq = c.write_head.ensures ▸ (c.write_number.ensures, refl) ▸ (c.write_number-2.ensures, ap (number_text 3) c.from.ensures) in
-    let feats = behind c.write_feats.ensures rtsq (ap (places_text number_place_text 5) c.as_slice.ensures.value) in
-    whole 58 c.write_feats.new.out _ (omega arith) feats ∙ ap (fields_spelling Type4) c.self.view_is
+    let feats = behind c.write_places.ensures rtsq (ap (places_text number_place_text 5) c.as_slice.ensures.value) in
+    whole 58 c.write_places.new.out _ (omega arith) feats ∙ ap (fields_spelling Type4) c.self.view_is
