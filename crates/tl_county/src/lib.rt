@@ -37,6 +37,7 @@ pub use laws::{
 };
 pub use lent::Lent;
 pub use linking::linked_records::{LinkedRecords, link_in_order};
+pub use linking::near_order::polygon_number;
 pub use linking::{link, link_in};
 pub use listed::{Listed, Same, Tested, all_hold, are_same, compare, push_all};
 pub use masked::Masked;

@@ -28,6 +28,7 @@ mod arena;
 mod building;
 mod gathering;
 pub(crate) mod linked_records;
+pub(crate) mod near_order;
 mod owned;
 mod rules;
 mod table_order;

@@ -1,6 +1,7 @@
 //! Puts tables in the order of their records' numbers, and reports what the sorting finds.
 //!
-//! Each table is put in order once, by std's stable sort; a table that is in order already is read once. The pass that finds it in
+//! Each table is put in order once; a table that is in order already is read once. The larger ones, of records that are copied, are
+//! first brought close to their order in linear time; the others are sorted by std's stable sort. The pass that finds it in
 //! order also returns its keys, or the least key that occurs twice.
 
 ghost use Rattle.std.specs.Ordering.{nat_cmp, on};
@@ -14,8 +15,9 @@ ghost use Rattle.ordered_lists.specs.PutInOrder.{IsPutInOrder};
 ghost use Rattle.tl_county.specs.RepeatedKeys.{AreLeastRepeated};
 ghost use Rattle.tl_county.specs.SequenceKeys.{sequence_cmp, two_sequence, four_sequence, six_sequence};
 
-use crate::keys::keyed::{put_in_order, put_in_order_with_numbers, put_in_order_with_repeated};
+use crate::keys::keyed::{put_in_order, put_in_order_with_repeated};
 use crate::keys::record_keys::{LandmarkKey, LinkKey, PolygonKey};
+use crate::linking::near_order::{put_copies_in_order, put_copies_in_order_with_numbers};
 use std::alloc::{AllocError, Global};
 use tl_layout::{Rec1, Rec2, Rec4, Rec5, Rec6, Rec7, Rec8, RecI, RecP, Tables};
 
@@ -68,8 +70,8 @@ fn order_repeated(
 {
     let type_2 = put_in_order_with_repeated::<(u64, u16), Rec2>(shapes)?;
     let type_4 = put_in_order_with_repeated::<(u64, u16), Rec4>(names)?;
-    let type_6 = put_in_order_with_repeated::<(u64, u16), Rec6>(ranges)?;
-    let type_p = put_in_order_with_repeated::<PolygonKey, RecP>(points)?;
+    let type_6 = put_copies_in_order::<(u64, u16), Rec6>(ranges)?;
+    let type_p = put_copies_in_order::<PolygonKey, RecP>(points)?;
     Ok(Repeated {
         type_2,
         type_4,
@@ -104,8 +106,8 @@ fn order_chains(
     ensures tlids_of_heads { IfOk result (λ tlids. tlids.chains.items ≡ map one_tlid heads.new.items) }
     ensures tlids_of_links { IfOk result (λ tlids. tlids.links.items ≡ map i_tlid links.new.items) }
 {
-    let chains = put_in_order_with_numbers::<Rec1>(alloc, heads)?;
-    let links = put_in_order_with_numbers::<RecI>(alloc, links)?;
+    let chains = put_copies_in_order_with_numbers::<Rec1>(alloc, heads)?;
+    let links = put_copies_in_order_with_numbers::<RecI>(alloc, links)?;
     Ok(Tlids { chains, links })
 }
 
