@@ -1,6 +1,5 @@
 //! Record keys, in order, and sets of them.
 
-pub(crate) mod by_number;
 pub(crate) mod key_set;
 pub(crate) mod keyed;
 pub(crate) mod polygon_set;

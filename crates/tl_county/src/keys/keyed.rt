@@ -7,8 +7,7 @@ ghost use Rattle.std.specs.Prelude.{◌≡◌, ◌≤◌, length, map, filter, t
 ghost use Rattle.ordered_lists.specs.Keyed.{IsLeastPassing, is_repeated, is_unknown};
 ghost use Rattle.ordered_lists.specs.Orders.{IsInOrder};
 
-use crate::keys::by_number::bring_by_number;
-use ordered_lists::Key;
+use ordered_lists::{Key, bring_close};
 use std::alloc::{AllocError, Global};
 use std::cmp::Ordering;
 
@@ -71,7 +70,7 @@ fn keys_in_order<K: Key, T: Keyed<K>>(
 }
 
 /// Puts the items in the order of their numbers, and returns the numbers in that order. If the items are in order already, each is
-/// read once. Otherwise each is moved once to its place; only if they still aren't in order, `put_in_order` sorts them.
+/// read once. Otherwise they are brought close to their order; only if they still aren't in order, `put_in_order` sorts them.
 pub(crate) fn put_in_order_with_numbers<T: Keyed<u64> + Copy>(
     alloc: Global,
     items: &mut Vec<T>,
@@ -83,7 +82,8 @@ pub(crate) fn put_in_order_with_numbers<T: Keyed<u64> + Copy>(
     if let Some(numbers) = keys_in_order::<u64, T>(alloc, items)? {
         return Ok(numbers);
     }
-    bring_by_number(items)?;
+    let numbers = keys_of::<u64, T>(alloc, items)?;
+    bring_close(items, numbers)?;
     if let Some(numbers) = keys_in_order::<u64, T>(alloc, items)? {
         return Ok(numbers);
     }

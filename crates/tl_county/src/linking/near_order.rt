@@ -2,16 +2,13 @@
 
 ghost use Rattle.ordered_lists.specs.Keyed.{IsLeastPassing, is_repeated};
 ghost use Rattle.ordered_lists.specs.Orders.{IsInOrder};
-ghost use Rattle.std.specs.Ordering.{nat_cmp, on};
-ghost use Rattle.std.specs.Prelude.{◌≡◌, map, OnOk, IfOk, IsPermutation};
+ghost use Rattle.std.specs.Ordering.{on};
+ghost use Rattle.std.specs.Prelude.{map, OnOk, IfOk, IsPermutation};
 
-use crate::keys::keyed::{Keyed, put_in_order_with_numbers, put_in_order_with_repeated};
+use crate::keys::keyed::{Keyed, put_in_order_with_repeated};
 use crate::keys::record_keys::PolygonKey;
 use ordered_lists::{Key, bring_close};
-use std::alloc::{AllocError, Global};
-
-/// If this many items at the beginning are in order, all are taken to be.
-const FIRST_ITEMS: usize = 64;
+use std::alloc::AllocError;
 
 /// A key that a number stands for. Most keys have greater numbers than lesser keys do.
 pub(crate) trait Numbered {
@@ -65,32 +62,4 @@ pub(crate) fn put_copies_in_order<K: Key + Numbered, T: Keyed<K> + Copy>(
 {
     bring_close_by_key::<K, T>(items)?;
     put_in_order_with_repeated::<K, T>(items)
-}
-
-/// Brings the items close to the order of their numbers, unless the first of them are in order.
-fn bring_close_by_number<T: Keyed<u64> + Copy>(items: &mut Vec<T>) -> Result<(), AllocError>
-    ensures { IsPermutation items.old.items items.new.items }
-{
-    let (begin, _) = items.split_at(items.len().min(FIRST_ITEMS));
-    if begin.is_sorted_by(|item, next| item.key() <= next.key()) {
-        return Ok(());
-    }
-    let numbers = items
-        .iter()
-        .map(|item| item.key())
-        .collect(*items.allocator())?;
-    bring_close(items, numbers)
-}
-
-/// Puts the items in the order of their numbers, and returns the numbers in that order.
-pub(crate) fn put_copies_in_order_with_numbers<T: Keyed<u64> + Copy>(
-    alloc: Global,
-    items: &mut Vec<T>,
-) -> Result<Vec<u64>, AllocError>
-    ensures permutation { IsPermutation items.old.items items.new.items }
-    ensures in_order { OnOk result (IsInOrder (on T.key_of nat_cmp) items.new.items) }
-    ensures numbers { IfOk result (λ numbers. numbers.items ≡ map T.key_of items.new.items) }
-{
-    bring_close_by_number(items)?;
-    put_in_order_with_numbers::<T>(alloc, items)
 }

@@ -15,9 +15,9 @@ ghost use Rattle.ordered_lists.specs.PutInOrder.{IsPutInOrder};
 ghost use Rattle.tl_county.specs.RepeatedKeys.{AreLeastRepeated};
 ghost use Rattle.tl_county.specs.SequenceKeys.{sequence_cmp, two_sequence, four_sequence, six_sequence};
 
-use crate::keys::keyed::{put_in_order, put_in_order_with_repeated};
+use crate::keys::keyed::{put_in_order, put_in_order_with_numbers, put_in_order_with_repeated};
 use crate::keys::record_keys::{LandmarkKey, LinkKey, PolygonKey};
-use crate::linking::near_order::{put_copies_in_order, put_copies_in_order_with_numbers};
+use crate::linking::near_order::put_copies_in_order;
 use std::alloc::{AllocError, Global};
 use tl_layout::{Rec1, Rec2, Rec4, Rec5, Rec6, Rec7, Rec8, RecI, RecP, Tables};
 
@@ -106,8 +106,8 @@ fn order_chains(
     ensures tlids_of_heads { IfOk result (λ tlids. tlids.chains.items ≡ map one_tlid heads.new.items) }
     ensures tlids_of_links { IfOk result (λ tlids. tlids.links.items ≡ map i_tlid links.new.items) }
 {
-    let chains = put_copies_in_order_with_numbers::<Rec1>(alloc, heads)?;
-    let links = put_copies_in_order_with_numbers::<RecI>(alloc, links)?;
+    let chains = put_in_order_with_numbers::<Rec1>(alloc, heads)?;
+    let links = put_in_order_with_numbers::<RecI>(alloc, links)?;
     Ok(Tlids { chains, links })
 }
 
