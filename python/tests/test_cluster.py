@@ -1,5 +1,5 @@
-"""Whole runs over 300 counties by the real program, here and by a Dask scheduler whose workers are killed. Their archive is made of the
-examples: renumbered and changed counties, and refused ones among them, as zips and as single files."""
+"""Whole runs over 300 counties by the real program, here and by a Dask scheduler whose workers are killed. Their archive has counties in
+several spellings, and the refused examples among them, as zips and as single files."""
 
 import os
 import re
@@ -12,6 +12,7 @@ from pathlib import Path
 from typing import Iterator, NamedTuple
 
 import pytest
+from differences.county import made_county, written
 from support import PROGRAM, Engine, begin, call, count_of_lines, end, left_behind, put
 from testing import ROOT, TYPES, await_that
 
@@ -22,14 +23,6 @@ needs_dask = pytest.mark.skipif(not find_spec("distributed"), reason="distribute
 
 EXAMPLES = ROOT / "examples"
 
-ACCEPTED = [
-    "autauga/all.txt",
-    "autauga-renumbered/all.txt",
-    "autauga-one-address.txt",
-    "two-maps/second.txt",
-    "twins/there-and-back.txt",
-    "twins/one-shape.txt",
-]
 COUNTIES = 300
 
 Parts = dict[str, bytes]
@@ -53,36 +46,13 @@ def parts_of(text: bytes) -> Parts:
     return parts
 
 
-def renumbered(text: bytes, by: int) -> bytes:
-    """The same map: TLIDs, which types 1, 2, 4 and 6 have in columns 6 to 15, and type I in 11 to 20, are greater by a number."""
-    lines = []
-    for line in text.splitlines():
-        at = {b"1": 5, b"2": 5, b"4": 5, b"6": 5, b"I": 10}.get(line[:1])
-        if at is not None:
-            line = line[:at] + b"%10d" % (int(line[at : at + 10]) + by) + line[at + 10 :]
-        lines.append(line + b"\n")
-    return b"".join(lines)
-
-
-def changed(text: bytes, number: int) -> bytes:
-    """Another map: the first chain's name, in columns 20 to 49, has a number."""
-    lines = text.splitlines(keepends=True)
-    at = next(at for at, line in enumerate(lines) if line.startswith(b"1"))
-    lines[at] = lines[at][:19] + b"%-30s" % (b"Street %d" % number) + lines[at][49:]
-    return b"".join(lines)
-
-
 def texts(count: int) -> list[bytes]:
-    """The texts of count counties: each map twice under other numbers, and some once. Each tenth county is refused."""
-    accepted = [(EXAMPLES / name).read_bytes() for name in ACCEPTED]
+    """The texts of count counties: each map in two spellings, and some in one. Each tenth county is refused."""
     refused = [path.read_bytes() for path in sorted((EXAMPLES / "refused").iterdir())] + [(EXAMPLES / "broken.txt").read_bytes()]
     made = []
     for number in range(count):
-        if number % 10 == 9:
-            made.append(refused[number // 10 % len(refused)])
-        else:
-            text = accepted[number // 2 % len(accepted)]
-            made.append(changed(renumbered(text, 1000 * (number % 7)), number // 2))
+        county = made_county(12, number // 2)
+        made.append(refused[number // 10 % len(refused)] if number % 10 == 9 else written(county, number))
     return made
 
 

@@ -38,7 +38,7 @@ NO_SETS = ["nowhere", "leaflet", "not.zip"]
 @pytest.fixture(autouse=True)
 def files_of_the_test(room: Path) -> None:
     """Two maps that differ in a name, a rejected file, and a stand-in for Leaflet."""
-    county = made_county(3, 3, 1)
+    county = made_county(24, 1)
     put("one", written(county))
     county.chains[0].fields["FENAME"] = "Changed"
     put("other", written(county))
@@ -76,11 +76,6 @@ def test_help() -> None:
     ended = ask("--help")
     assert (ended.status, ended.err) == (0, "")
     assert "Shows where two maps differ" in ended.out
-
-
-@pytest.mark.parametrize("second, status", [("one", 0), ("other", 1)])
-def test_statuses(second: str, status: int) -> None:
-    assert ask("one", second).status == status
 
 
 WRONG_USE = ["", "one", "one one one", "--loud one one", "--all one one", "--leaflet x one one", "--summary --json one one"]
@@ -220,7 +215,7 @@ def test_standard_output(redirected: str, told: bytes) -> None:
 
 def test_other_letters() -> None:
     """Letters are UTF-8 whatever the terminal takes, and names of files are shown on one line."""
-    county = made_county(2, 2, 1)
+    county = made_county(12, 1)
     put("one\n\xe9", written(county))
     county.chains[0].fields["FENAME"] = "Caf\xe9"
     put("other", written(county))

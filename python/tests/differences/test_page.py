@@ -13,7 +13,7 @@ from testing import ROOT
 from .browser import Browser, needs_browser
 from .changes import Changing, much_changed
 from .county import County, made_county, written
-from .example import example
+from .example import example_differences
 from .reports import EXAMPLE, diff
 
 SCRIPT = "<script>alert(1)</script>"
@@ -84,7 +84,7 @@ def page_of(folder: Path, name: str, first: bytes, second: bytes) -> Path:
 @pytest.fixture(scope="module")
 def town(tmp_path_factory: pytest.TempPathFactory) -> Town:
     folder = tmp_path_factory.mktemp("town")
-    county = made_county(20, 20, 20)
+    county = made_county(840, 20)
     changing = much_changed(county, 21)
     changing.change_field(1, "FENAME", SCRIPT)
     changing.county.landmarks[-1].fields["LANAME"] = PICTURE
@@ -196,7 +196,7 @@ class TestLayout:
     def page(self, tmp_path_factory: pytest.TempPathFactory) -> Path:
         folder = tmp_path_factory.mktemp("layout") / "a-folder-with-a-long-name/another-folder-with-a-long-name"
         folder.mkdir(parents=True)
-        county = made_county(20, 20, 20)
+        county = made_county(840, 20)
         return page_of(folder, "TGR01001", written(county, 22), written(much_changed(county, 21).county, 23))
 
     @pytest.mark.parametrize("width, height", [(1300, 850), (1000, 600)])
@@ -217,14 +217,14 @@ class TestLayout:
 class TestVerdicts:
     """Pages of maps that don't differ, or only in how things are tied."""
 
-    @pytest.mark.parametrize("county", [made_county(6, 6, 24), County([], [], [], [])], ids=["county", "nothing"])
+    @pytest.mark.parametrize("county", [made_county(84, 24), County([], [], [], [])], ids=["county", "nothing"])
     def test_one_map(self, browser: Browser, room: Path, county: County) -> None:
         browser.open(page_of(room, "same", written(county, 25), written(county, 26)))
         assert browser.texts("#notes") == ["No differences: the two are one map."]
         assert browser.texts("#list li") == []
 
     def test_ties(self, browser: Browser, room: Path) -> None:
-        county = made_county(10, 10, 27)
+        county = made_county(220, 27)
         changing = Changing.begin(county, 28)
         changing.split_nodes(1)
         browser.open(page_of(room, "tied", written(county, 29), written(changing.county, 30)))
@@ -240,7 +240,7 @@ def test_picture(browser: Browser, room: Path) -> None:
     assert (ended.status, ended.err) == (1, "")
     browser.resize(1280, 800)
     browser.open(room / "example.html")
-    assert browser.texts("#listed") == [f"{len(example()[1].differences) + 1} in all"]
+    assert browser.texts("#listed") == [f"{len(example_differences()) + 1} in all"]
     browser.click_at_changed("Commerce")
     assert "Commerce" in browser.texts(".leaflet-popup-content")[0]
     assert (ROOT / "docs/differences.png").stat().st_size < 150_000
