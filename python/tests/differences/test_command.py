@@ -1,7 +1,10 @@
-"""The command line, with a stand-in for the program: statuses, refusals, and files that are whole or not there."""
+"""The command line, with a stand-in for the program: wrong calls of all commands; and of diff statuses, refusals, and files that are
+whole or not there."""
 
 import json
 import os
+import re
+import shlex
 import signal
 import stat
 import subprocess
@@ -10,10 +13,10 @@ from pathlib import Path
 from typing import Any
 
 import pytest
-from support import NAME, Ended, begin, end, environment, limit_files, put, words_of
+from support import HEAD, NAME, PACKAGE, Ended, begin, call, end, environment, limit_files, put, words_of
 
 from .county import made_county, written
-from .reports import diff
+from .reports import PROGRESS, diff
 
 STAND_IN = """\
 #!/bin/sh
@@ -30,9 +33,7 @@ SLOW = STAND_IN.replace('exec cat "$name"', "exec sleep 600")
 NOTING = STAND_IN.replace("exec cat", 'echo "$*" >>"$(dirname "$0")/words"; exec cat')
 
 LEAFLET = ("--leaflet", "leaflet")
-REFUSED = "refused 4 BadNumber 1 4 6"
-PACKED = "refused 1 UnknownType 1 1; the file is compressed by gzip: unpack it first"
-NO_SETS = ["nowhere", "leaflet", "not.zip"]
+WRONG_CALLS = re.findall(r"(?m)^\$ tigercanon-tools ?(.*)\n(.+\n)", (PACKAGE / "tests/wrong-calls").read_text())
 
 
 @pytest.fixture(autouse=True)
@@ -78,17 +79,6 @@ def test_help() -> None:
     assert "Shows where two maps differ" in ended.out
 
 
-WRONG_USE = ["", "one", "one one one", "--loud one one", "--all one one", "--leaflet x one one", "--summary --json one one"]
-
-
-@pytest.mark.parametrize("words, named", [*((words, "") for words in WRONG_USE), *((f"{it} one", it) for it in NO_SETS)])
-def test_wrong_use(words: str, named: str) -> None:
-    """One line, which names what is no set."""
-    put("not.zip", b"PK\x03\x04 broken")
-    ended = ask(*words.split())
-    assert (ended.status, ended.out, ended.err.count("\n"), named in ended.err) == (2, "", 1, True)
-
-
 @pytest.mark.parametrize("wanted", ["", "--no-sources", "--no-reserved", "--no-sources --no-reserved"])
 def test_masks(wanted: str) -> None:
     """The flags that leave fields out go to the program, and all that is written names them."""
@@ -104,33 +94,28 @@ def test_masks(wanted: str) -> None:
     assert json.loads(Path("geojson").read_text()).get("left_out", "") == wanted
 
 
-@pytest.mark.parametrize(
-    "words, line",
-    [
-        ("broken one", f"broken: {REFUSED}"),
-        ("one broken", f"broken: {REFUSED}"),
-        ("broken again", f"broken: {REFUSED}"),
-        ("again broken", f"again: {REFUSED}"),
-        ("--page page.html --geojson geojson --leaflet leaflet one broken", f"broken: {REFUSED}"),
-        ("one packed", f"packed: {PACKED}"),
-        ("in/packed one", f"in/packed: {PACKED}"),
-        ("--geojson leaflet one other", "leaflet: can't be written: it is a folder"),
-        ("--geojson /dev/null one other", "/dev/null: can't be written: it isn't a regular file"),
-        ("--geojson none/page one other", "none/page: can't be written: No such file or directory"),
-        ("--geojson one/page one other", "one/page: can't be written: Not a directory"),
-        ("--page one one other", "one: can't be written: it belongs to one of the sets"),
-        ("--geojson other one other", "other: can't be written: it belongs to one of the sets"),
-        ("--page x --geojson x one other", "--page and --geojson name the same file"),
-        ("--page page.html --leaflet in one other", "in: there is no Leaflet here: it needs leaflet.js and leaflet.css"),
-    ],
-)
-def test_failures(words: str, line: str) -> None:
-    """Of a set that is refused the file, the program's line and a hint; the first set comes before the second. Files that can't be
-    written, or belong to a set."""
+@pytest.mark.parametrize("words, told", WRONG_CALLS)
+def test_wrong_calls(room: Path, words: str, told: str) -> None:
+    """Of each command: exactly one line of what is wrong, status 2, and no file is changed. Of a set that is refused it has the file, the
+    program's line and a hint; the first set comes before the second."""
+    for name in ("in/b.RT1", "empty"):
+        put(name)
+    lines = [f"{letter * 64}  {name}\n".encode() for letter, name in (("a", "one/x"), ("b", "two/X"))]
+    put("head", HEAD.encode())
+    put("cut", b"".join(lines)[:-5])
+    put("plain", lines[0])
+    put("masked", b"# --no-sources\n" + lines[0])
+    put("twice", b"".join(lines))
     put("again", b"broken\n")
-    put("packed", b"\x1f\x8bpacked\n")
-    put("in/packed.RT1", b"\x1f\x8bpacked\n")
-    assert_fails(line, *words.split())
+    put("not.zip", b"PK\x03\x04 broken")
+    for name in ("packed", "in/packed.RT1"):
+        put(name, b"\x1f\x8bpacked\n")
+    before = {path: path.is_file() and path.read_bytes() for path in room.rglob("*")}
+    ended = call(*(word.replace("\\n", "\n") for word in shlex.split(words)), env={"TIGERCANON": f"{room}/program"})
+    wanted = re.escape(told.replace("ROOM", str(room))).replace(re.escape("..."), ".*")
+    assert (ended.status, ended.out) == (2, "")
+    assert re.fullmatch(wanted, PROGRESS.sub("", ended.err)), ended.err
+    assert {path: path.is_file() and path.read_bytes() for path in room.rglob("*")} == before
 
 
 def test_program(room: Path) -> None:
