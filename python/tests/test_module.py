@@ -37,7 +37,7 @@ def compiled(tmp_path_factory: pytest.TempPathFactory) -> Path:
         pytest.skip("no gcc")
     made = tmp_path_factory.mktemp("library") / _library.NAME
     words = ["gcc", "-shared", "-fPIC", "-O1", "-Wall", "-Werror", f"-I{ROOT / 'include'}"]
-    subprocess.run([*words, "-o", str(made), str(HERE / "stand_in.c")], check=True)
+    subprocess.run([*words, "-o", str(made), str(HERE / "stand-ins/library.c")], check=True)
     return made
 
 

@@ -5,6 +5,7 @@ import json
 import os
 import re
 import shlex
+import shutil
 import signal
 import stat
 import subprocess
@@ -13,24 +14,10 @@ from pathlib import Path
 from typing import Any
 
 import pytest
-from support import HEAD, NAME, PACKAGE, Ended, begin, call, end, environment, limit_files, put, words_of
+from support import HEAD, NAME, PACKAGE, STAND_INS, Ended, begin, call, end, environment, limit_files, put, words_of
 
 from .county import made_county, written
 from .reports import PROGRESS, diff
-
-STAND_IN = """\
-#!/bin/sh
-# Prints a file as it is, and rejects one that says so.
-for name; do :; done
-[ "$2" != --stem ] || name="$name.RT1"
-if [ "$name" = /dev/null ]; then exit 0; fi
-if [ ! -e "$name" ]; then echo "refused 8 Device" >&2; exit 4; fi
-if grep -q broken "$name"; then echo "refused 4 BadNumber 1 4 6" >&2; exit 3; fi
-if grep -q packed "$name"; then echo "refused 1 UnknownType 1 1" >&2; exit 3; fi
-exec cat "$name"
-"""
-SLOW = STAND_IN.replace('exec cat "$name"', "exec sleep 600")
-NOTING = STAND_IN.replace("exec cat", 'echo "$*" >>"$(dirname "$0")/words"; exec cat')
 
 LEAFLET = ("--leaflet", "leaflet")
 WRONG_CALLS = re.findall(r"(?m)^\$ tigercanon-tools ?(.*)\n(.+\n)", (PACKAGE / "tests/wrong-calls").read_text())
@@ -46,12 +33,8 @@ def files_of_the_test(room: Path) -> None:
     put("broken", b"broken\n")
     put("leaflet/leaflet.js", b"/* no library */")
     put("leaflet/leaflet.css", b".a { background: url(pictures/a.png); color: red }")
-    put_program("program", STAND_IN)
-
-
-def put_program(name: str, script: str) -> str:
-    put(name, script.encode()).chmod(0o755)
-    return os.path.abspath(name)
+    for name in ("program", "slow", "noting"):
+        shutil.copy(STAND_INS / "prints-files", name)
 
 
 def ask(*words: object, program: str = "program", **options: Any) -> Ended:
@@ -82,8 +65,7 @@ def test_help() -> None:
 @pytest.mark.parametrize("wanted", ["", "--no-sources", "--no-reserved", "--no-sources --no-reserved"])
 def test_masks(wanted: str) -> None:
     """The flags that leave fields out go to the program, and all that is written names them."""
-    put_program("program", NOTING)
-    ended = ask(*wanted.split()[::-1], "--page", "page", "--geojson", "geojson", *LEAFLET, "one", "other")
+    ended = ask(*wanted.split()[::-1], "--page", "page", "--geojson", "geojson", *LEAFLET, "one", "other", program="noting")
     assert (ended.status, ended.err) == (1, "")
     asked = [f"normalise {wanted}{' ' * bool(wanted)}-- {name}" for name in ("one", "other")]
     asked += [f"respell -- {name}" for name in ("one", "other")]
@@ -120,7 +102,7 @@ def test_wrong_calls(room: Path, words: str, told: str) -> None:
 
 def test_program(room: Path) -> None:
     assert_fails(f"the program {room}/nowhere can't be run: no such file", "one", "one", program="nowhere")
-    put_program("odd", "#!/bin/sh\necho odd\n")
+    put("odd", b"#!/bin/sh\necho odd\n").chmod(0o755)
     assert_fails("the program doesn't print a canonical text: line 1 isn't a record", "one", "one", program="odd")
 
 
@@ -213,9 +195,8 @@ def test_other_letters() -> None:
 @pytest.mark.parametrize("number", [signal.SIGTERM, signal.SIGINT, signal.SIGHUP])
 def test_stopped(number: signal.Signals) -> None:
     """A run that a signal ends leaves nothing behind, and one that takes long reports its progress."""
-    slow = put_program("slow", SLOW)
     before = sorted(os.listdir("."))
-    run = begin("diff", "--geojson", "stopped", "one", "other", env={"TIGERCANON": slow})
+    run = begin("diff", "--geojson", "stopped", "one", "other", env={"TIGERCANON": os.path.abspath("slow")})
     assert run.stderr and run.stderr.readline() == f"{NAME}normalising both sets\n".encode()
     assert sorted(os.listdir(".")) != before
     os.kill(run.pid, number)

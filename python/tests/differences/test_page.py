@@ -22,31 +22,6 @@ PICTURE = "<img src=x onerror=alert(1)>"
 pytestmark = [pytest.mark.browser, needs_browser]
 NAMES_OF_KINDS = {"in the first alone": "first", "in the second alone": "second", "changed": "changed", "alike": "alike"}
 
-COVERED_BUTTONS = """
-const { map } = window.differences;
-map.panBy = (offset) => Object.getPrototypeOf(map).panBy.call(map, offset, { animate: false });
-const covered = [];
-for (const button of [...document.querySelectorAll('#list button')].filter((_, place) => place % 4 === 0)) {
-  button.click();
-  const close = document.querySelector('.leaflet-popup-close-button');
-  if (!close) continue;
-  const { left, top, width, height } = close.getBoundingClientRect();
-  const seen = document.elementFromPoint(left + width / 2, top + height / 2);
-  if (!seen || !close.contains(seen)) covered.push(button.innerText);
-}
-return covered;
-"""
-
-BROKEN_WORDS = """
-const broken = [];
-for (const piece of document.querySelectorAll('.sets .name span')) {
-  const range = document.createRange();
-  range.selectNodeContents(piece);
-  if (range.getClientRects().length > 1) broken.push(piece.textContent);
-}
-return broken;
-"""
-
 
 class Town(NamedTuple):
     """A county, how it has changed, and the page of both."""
@@ -138,11 +113,7 @@ class TestPage:
         assert browser.listed() == 35
         for place in (1, 20):
             browser.click(f"#list li:nth-child({place}) button")
-            assert browser.run(
-                "const { map, entries } = window.differences;"
-                "const entry = entries[document.querySelector('#list [aria-current]').dataset.entry];"
-                "return entry.line.every((point) => map.getBounds().contains(point)) && map.getZoom() > 13;"
-            )
+            assert browser.run("return showsChosenChain()")
             assert "chain in the first alone" in browser.texts(".leaflet-popup-content")[0]
 
     def test_keyboard(self, browser: Browser, town: Town) -> None:
@@ -204,13 +175,13 @@ class TestLayout:
         """Nothing lies over a popup's close button, wherever the popup is opened."""
         browser.resize(width, height)
         browser.open(page)
-        assert browser.run(COVERED_BUTTONS) == []
+        assert browser.run("return coveredButtons()") == []
 
     def test_paths(self, browser: Browser, page: Path) -> None:
         """In a narrow window a path is broken between folders alone."""
         browser.resize(420, 800)
         browser.open(page)
-        assert browser.run(BROKEN_WORDS) == []
+        assert browser.run("return brokenPieces()") == []
         assert browser.run("return document.querySelector('.sets .name').getClientRects()[0].height") > 30
 
 
