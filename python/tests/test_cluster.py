@@ -3,6 +3,7 @@ several spellings, and the refused examples among them, as zips and as single fi
 
 import os
 import re
+import shutil
 import signal
 import subprocess
 import zipfile
@@ -13,7 +14,7 @@ from typing import Iterator, NamedTuple
 
 import pytest
 from differences.county import made_county, written
-from support import PROGRAM, Engine, begin, call, count_of_lines, end, left_behind, put
+from support import PROGRAM, STAND_INS, Engine, begin, call, count_of_lines, end, left_behind, put
 from testing import ROOT, TYPES, await_that
 
 from tigercanon.judge import endings
@@ -132,19 +133,8 @@ def archive(room: Path, program: str, expected: Archive) -> Archive:
 @pytest.fixture
 def slow(room: Path, program: str, monkeypatch: pytest.MonkeyPatch) -> Path:
     """The program, which waits a moment before it answers. For some files it ends its parent, which is the worker."""
-    path = room / "slow"
-    path.write_text(
-        f"""#!/bin/bash
-if [ "$1" = fingerprint ]; then
-    sleep 0.05
-    for file in "${{@: -1}}.RT1" "${{@: -1}}"; do
-        if [ -e "$file" ] && [ "$(head -c 4 "$file")" = kill ]; then kill -KILL "$PPID"; fi
-    done
-fi
-exec {program} "$@"
-"""
-    )
-    path.chmod(0o755)
+    path = Path(shutil.copy(STAND_INS / "slow", room))
+    monkeypatch.setenv("PROGRAM", program)
     monkeypatch.setenv("TIGERCANON", str(path))
     return path
 
