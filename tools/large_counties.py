@@ -102,10 +102,10 @@ def street_otherwise(count: int) -> Pieces:
     yield from lines(from_west, map(TLID, kept), map(NODE, kept), map(NODE, following(kept)), map(POLYID, kept))
 
 
-def chain_line(name: bytes = b"Main") -> bytes:
+def chain_line() -> bytes:
     """A line of type 1 with its TLID and two longitudes left open."""
     points = b"%+010d" + LATITUDE + b"%+010d" + LATITUDE
-    return laid_out("1", {6: b"%10d", 17: SOURCE, 20: name, 56: b"A41", 129: RESERVED * 2, 191: points})
+    return laid_out("1", {6: b"%10d", 17: SOURCE, 20: b"Main", 56: b"A41", 129: RESERVED * 2, 191: points})
 
 
 def halves(count: int) -> Sequence[list[int]]:
