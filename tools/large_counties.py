@@ -126,14 +126,18 @@ OF_LINK = {"FILE": maps.FILE, "SOURCE": OF_CHAIN["SOURCE"], "RS_I1": OF_CHAIN["C
 
 
 class Hand(maps.Hand):
-    """Gives numbers all digits of their columns: FEATs have eight, and the others ten. A chain has up to 999 records of a type."""
+    """Turns every second chain, and gives numbers all digits of their columns: FEATs have eight, and the others ten. A chain has up to 999
+    records of a type."""
 
-    def __init__(self, seed: str) -> None:
-        super().__init__(random.Random(seed))
-        self.digits = iter((10, 8, 10, 10, 10))
+    def __init__(self) -> None:
+        super().__init__(random.Random("large"))
+        self.digits, self.turned = iter((10, 8, 10, 10, 10)), itertools.cycle((False, True))
 
     def numbers(self, count: int, most: int) -> list[int]:
         return self.chance.sample(range(1, 10 ** next(self.digits)), count)
+
+    def turns(self) -> bool:
+        return next(self.turned)
 
     def packs(self, items: Sequence[str], most: int) -> Iterator[tuple[int, Sequence[str]]]:
         """Of many items the first ten records aren't full, and all others are."""
@@ -151,13 +155,14 @@ def spelled(county: maps.County) -> County:
 
 
 def canonical_lines(county: maps.County) -> Pieces:
+    """By record type, and else in the order of the county."""
     for line in sorted(maps.lines(county, maps.Hand()), key=lambda line: line[0]):
         yield f"{line}\n".encode("latin-1")
 
 
-def other_lines(county: maps.County, seed: str = "large") -> Pieces:
+def other_lines(county: maps.County) -> Pieces:
     """Every second line is cut at its end."""
-    hand = Hand(seed)
+    hand = Hand()
     for number, line in enumerate(hand.orders(list(maps.lines(county, hand)))):
         yield f"{line.rstrip(' ') if number % 2 else line}\n".encode("latin-1")
 
