@@ -6,7 +6,7 @@ import argparse
 import re
 from pathlib import Path
 
-from .errors import Failure, reported
+from .errors import Failure
 from .printing import print_lines
 
 SECTION = re.compile(r"^### `refused (\d+) (\w+)([^`]*)`$")
@@ -16,8 +16,7 @@ PAGE = Path(__file__).with_name("refusals.md")
 
 
 def page() -> str:
-    with reported(str(PAGE), "can't be read"):
-        return PAGE.read_text(encoding="utf-8")
+    return PAGE.read_text(encoding="utf-8")
 
 
 def sections(text: str) -> dict[int, list[str]]:
