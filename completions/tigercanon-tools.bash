@@ -1,25 +1,30 @@
 # Completion of tigercanon-tools in bash, 4.0 or later. Source this file, or copy it under the name tigercanon-tools
 # into ~/.local/share/bash-completion/completions.
-# release/tool-pages writes this file from the help of tigercanon-tools.
+# release/tool-pages writes the parts of this file that are from the help of tigercanon-tools.
 
 _tigercanon_tools() {
+    # help: begin commands
+    local commands="fingerprint verify duplicates changes diff explain"
+    # help: end
     local word="${COMP_WORDS[COMP_CWORD]}" command="" flags="" place
     for ((place = 1; place < COMP_CWORD; place++)); do
         case "${COMP_WORDS[place]}" in -*) ;; *) command="${command:-${COMP_WORDS[place]}}" ;; esac
     done
     case "$command" in
         "") flags="--help --version" ;;
+        # help: begin flags
         fingerprint) flags="--help --version --output --strict --program --jobs --scheduler --memory --largest --no-sources --no-reserved --json" ;;
         verify) flags="--help --version --quiet --root --program --jobs --scheduler --memory --largest --no-sources --no-reserved --json" ;;
         duplicates) flags="--help --version --json" ;;
         changes) flags="--help --version --quiet --json" ;;
         diff) flags="--help --version --program --no-sources --no-reserved --stem --summary --json --page --geojson --all --leaflet" ;;
         explain) flags="--help --version" ;;
+        # help: end
     esac
     if [[ "$word" == -* ]]; then
         mapfile -t COMPREPLY < <(compgen -W "$flags" -- "$word")
     elif [ -z "$command" ]; then
-        mapfile -t COMPREPLY < <(compgen -W "fingerprint verify duplicates changes diff explain" -- "$word")
+        mapfile -t COMPREPLY < <(compgen -W "$commands" -- "$word")
     else
         compopt -o filenames
         mapfile -t COMPREPLY < <(compgen -f -- "$word")

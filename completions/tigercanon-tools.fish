@@ -1,9 +1,9 @@
 # Completion of tigercanon-tools in fish. Put this file into ~/.config/fish/completions.
-# release/tool-pages writes this file from the help of tigercanon-tools.
+# release/tool-pages writes the parts of this file that are from the help of tigercanon-tools.
 
+# help: begin entries
 set -l commands fingerprint verify duplicates changes diff explain
 
-complete -c tigercanon-tools -n "not __fish_seen_subcommand_from $commands" -f
 complete -c tigercanon-tools -n "not __fish_seen_subcommand_from $commands" -a fingerprint -d 'print or write a manifest: the fingerprint and the name of each county'
 complete -c tigercanon-tools -n "not __fish_seen_subcommand_from $commands" -a verify -d 'check counties against their fingerprints in a manifest: OK, FAILED or MISSING for each'
 complete -c tigercanon-tools -n "not __fish_seen_subcommand_from $commands" -a duplicates -d 'list the counties of a manifest that are one map, in groups'
@@ -55,3 +55,5 @@ complete -c tigercanon-tools -n "__fish_seen_subcommand_from diff" -l all -d 'wi
 complete -c tigercanon-tools -n "__fish_seen_subcommand_from diff" -l leaflet -r -d 'with --page: the folder that has leaflet.js and leaflet.css'
 complete -c tigercanon-tools -n "__fish_seen_subcommand_from explain" -s h -l help -d 'print the help'
 complete -c tigercanon-tools -n "__fish_seen_subcommand_from explain" -l version -d 'print the version'
+# help: end
+complete -c tigercanon-tools -n "not __fish_seen_subcommand_from $commands" -f

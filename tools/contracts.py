@@ -302,14 +302,11 @@ class Sources:
         return cited
 
     def closure(self, keys, passed_over=()):
-        """All definitions that these rest on, each with what cites it. What only words cite that are passed over is left out. `keys` maps
-        each key to what cites it."""
-        found, left = {}, sorted(keys.items())
+        """All definitions that these rest on. What only words cite that are passed over is left out."""
+        found, left = set(), set(keys)
         while left:
-            key, by = left.pop(0)
-            if key in found:
-                continue
-            found[key] = by
+            key = left.pop()
+            found.add(key)
             if key not in passed_over:
-                left.extend((other, key[2]) for other in sorted(self.words[key].cites.words))
+                left |= self.words[key].cites.words - found
         return found

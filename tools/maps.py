@@ -43,13 +43,17 @@ class Polygon:
     fields: Values
     point: Point | None
     has_record: bool = True
+    cenid: str = "06001"
 
 
 @dataclass
 class Landmark:
+    """The fields of a record of type 7, and those of more records under the same number."""
+
     fields: Values
     point: Point | None = None
     polygons: list[int] = field(default_factory=list)
+    more: list[Values] = field(default_factory=list)
 
 
 @dataclass
@@ -60,7 +64,6 @@ class County:
     names: list[Values]
     polygons: list[Polygon]
     landmarks: list[Landmark]
-    cenid: str = "06001"
     outside: str = f"06001{'':10}"
     """The CENID and POLYID on a side without a polygon."""
 
@@ -120,7 +123,7 @@ def lines(county: County, hand: Hand) -> Iterator[str]:
     node_numbers: dict[int | None, Any] = {None: "", **dict(zip(nodes, hand.numbers(len(nodes), most)))}
 
     def key(polygon: int | None) -> str:
-        return f"{county.cenid}{polyids[polygon]:>10}" if polygon is not None else county.outside
+        return f"{county.polygons[polygon].cenid}{polyids[polygon]:>10}" if polygon is not None else county.outside
 
     for chain, tlid in zip(county.chains, tlids):
         chain = turned(chain) if hand.turns() else chain
@@ -138,8 +141,9 @@ def lines(county: County, hand: Hand) -> Iterator[str]:
         body = content(NAME, name)
         yield f"52006{body[:5]}{feat:>8}{body[5:]}"
     for landmark, land in zip(county.landmarks, lands):
-        body = content(LANDMARK, landmark.fields)[:-19]
-        yield f"72006{body[:5]}{land:>10}{body[5:]}{spelt(landmark.point)} "
+        for fields in (landmark.fields, *landmark.more):
+            body = content(LANDMARK, fields)[:-19]
+            yield f"72006{body[:5]}{land:>10}{body[5:]}{spelt(landmark.point)} "
         for polygon in landmark.polygons:
             yield f"82006{FILE}{key(polygon)}{land:>10} "
     for number, each in enumerate(county.polygons):

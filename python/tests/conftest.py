@@ -1,5 +1,6 @@
 """What the tests share: a folder of their own, the real program, and a stand-in for it."""
 
+import shutil
 import sys
 from pathlib import Path
 from typing import Iterator
@@ -10,7 +11,7 @@ HERE = Path(__file__).resolve().parent
 sys.path[:0] = [str(HERE.parent), str(HERE), str(HERE.parent.parent / "tools")]
 sys.dont_write_bytecode = True
 
-from support import PROGRAM, STAND_IN  # noqa: E402
+from support import PROGRAM, STAND_INS  # noqa: E402
 
 
 @pytest.fixture
@@ -37,9 +38,7 @@ def program(room: Path, monkeypatch: pytest.MonkeyPatch) -> str:
 @pytest.fixture
 def stand_in(room: Path, monkeypatch: pytest.MonkeyPatch) -> Path:
     """A stand-in for the program, which notes its calls in the file `calls`."""
-    path = room / "program"
-    path.write_text(STAND_IN)
-    path.chmod(0o755)
+    path = Path(shutil.copy(STAND_INS / "fingerprints", room / "program"))
     (room / "calls").touch()
     monkeypatch.setenv("TIGERCANON", str(path))
     monkeypatch.setenv("ROOM", str(room))

@@ -30,32 +30,8 @@ PATIENCE = 300.0
 
 PR_SET_PDEATHSIG = 1
 
-STAND_IN = r"""#!/bin/bash
-# Prints the hash of the flags and the first file. Words in that file make it do something else.
-[ "$1" = fingerprint ] || exit 0
-shift
-flags="" stem=""
-while [ "$1" != -- ]; do
-    if [ "$1" = --stem ]; then stem=.RT1; else flags+="$1 "; fi
-    shift
-done
-echo "$2" >>"$ROOM/calls"
-file="$2$stem"
-[ -e "$file" ] || { echo "refused 8 Device" >&2; exit 4; }
-read -r word <"$file"
-while [ "$word" = waits ] && [ -e "$ROOM/waits" ]; do sleep 0.05; done
-case "$word" in
-    broken) echo "refused 1 UnknownType 1 1" >&2; exit 3 ;;
-    killed) kill -KILL "$$" ;;
-    wanting) echo "refused 9 Memory" >&2; exit 5 ;;
-    once) if [ ! -e "$ROOM/tried" ]; then touch "$ROOM/tried"; echo "refused 9 Memory" >&2; exit 5; fi ;;
-    four) printf '%064d\n' 7; exit 4 ;;
-    silent) exit 6 ;;
-    chatty) echo "no fingerprint"; exit 0 ;;
-    limited) echo "refused 1 Limit $(ulimit -v)" >&2; exit 3 ;;
-esac
-{ printf %s "$flags"; cat "$file"; } | sha256sum | cut -c 1-64
-"""
+STAND_INS = PACKAGE / "tests/stand-ins"
+"""Stand-ins for the program."""
 
 
 def digest(text: bytes, flags: str = "") -> str:

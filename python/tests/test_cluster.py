@@ -1,8 +1,9 @@
-"""Whole runs over 300 counties by the real program, here and by a Dask scheduler whose workers are killed. Their archive is made of the
-examples: renumbered and changed counties, and refused ones among them, as zips and as single files."""
+"""Whole runs over 300 counties by the real program, here and by a Dask scheduler whose workers are killed. Their archive has counties in
+several spellings, and the refused examples among them, as zips and as single files."""
 
 import os
 import re
+import shutil
 import signal
 import subprocess
 import zipfile
@@ -12,7 +13,8 @@ from pathlib import Path
 from typing import Iterator, NamedTuple
 
 import pytest
-from support import PROGRAM, Engine, begin, call, count_of_lines, end, left_behind, put
+from differences.county import made_county, written
+from support import PROGRAM, STAND_INS, Engine, begin, call, count_of_lines, end, left_behind, put
 from testing import ROOT, TYPES, await_that
 
 from tigercanon.judge import endings
@@ -22,14 +24,6 @@ needs_dask = pytest.mark.skipif(not find_spec("distributed"), reason="distribute
 
 EXAMPLES = ROOT / "examples"
 
-ACCEPTED = [
-    "autauga/all.txt",
-    "autauga-renumbered/all.txt",
-    "autauga-one-address.txt",
-    "two-maps/second.txt",
-    "twins/there-and-back.txt",
-    "twins/one-shape.txt",
-]
 COUNTIES = 300
 
 Parts = dict[str, bytes]
@@ -53,36 +47,13 @@ def parts_of(text: bytes) -> Parts:
     return parts
 
 
-def renumbered(text: bytes, by: int) -> bytes:
-    """The same map: TLIDs, which types 1, 2, 4 and 6 have in columns 6 to 15, and type I in 11 to 20, are greater by a number."""
-    lines = []
-    for line in text.splitlines():
-        at = {b"1": 5, b"2": 5, b"4": 5, b"6": 5, b"I": 10}.get(line[:1])
-        if at is not None:
-            line = line[:at] + b"%10d" % (int(line[at : at + 10]) + by) + line[at + 10 :]
-        lines.append(line + b"\n")
-    return b"".join(lines)
-
-
-def changed(text: bytes, number: int) -> bytes:
-    """Another map: the first chain's name, in columns 20 to 49, has a number."""
-    lines = text.splitlines(keepends=True)
-    at = next(at for at, line in enumerate(lines) if line.startswith(b"1"))
-    lines[at] = lines[at][:19] + b"%-30s" % (b"Street %d" % number) + lines[at][49:]
-    return b"".join(lines)
-
-
 def texts(count: int) -> list[bytes]:
-    """The texts of count counties: each map twice under other numbers, and some once. Each tenth county is refused."""
-    accepted = [(EXAMPLES / name).read_bytes() for name in ACCEPTED]
+    """The texts of count counties: each map in two spellings, and some in one. Each tenth county is refused."""
     refused = [path.read_bytes() for path in sorted((EXAMPLES / "refused").iterdir())] + [(EXAMPLES / "broken.txt").read_bytes()]
     made = []
     for number in range(count):
-        if number % 10 == 9:
-            made.append(refused[number // 10 % len(refused)])
-        else:
-            text = accepted[number // 2 % len(accepted)]
-            made.append(changed(renumbered(text, 1000 * (number % 7)), number // 2))
+        county = made_county(12, number // 2)
+        made.append(refused[number // 10 % len(refused)] if number % 10 == 9 else written(county, number))
     return made
 
 
@@ -162,19 +133,8 @@ def archive(room: Path, program: str, expected: Archive) -> Archive:
 @pytest.fixture
 def slow(room: Path, program: str, monkeypatch: pytest.MonkeyPatch) -> Path:
     """The program, which waits a moment before it answers. For some files it ends its parent, which is the worker."""
-    path = room / "slow"
-    path.write_text(
-        f"""#!/bin/bash
-if [ "$1" = fingerprint ]; then
-    sleep 0.05
-    for file in "${{@: -1}}.RT1" "${{@: -1}}"; do
-        if [ -e "$file" ] && [ "$(head -c 4 "$file")" = kill ]; then kill -KILL "$PPID"; fi
-    done
-fi
-exec {program} "$@"
-"""
-    )
-    path.chmod(0o755)
+    path = Path(shutil.copy(STAND_INS / "slow", room))
+    monkeypatch.setenv("PROGRAM", program)
     monkeypatch.setenv("TIGERCANON", str(path))
     return path
 

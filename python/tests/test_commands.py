@@ -41,33 +41,6 @@ def test_the_versions_agree() -> None:
     assert VERSION in (ROOT / "crates/command_line/src/command.rt").read_text()
 
 
-@pytest.mark.parametrize(
-    "words, why",
-    [
-        ("", ": the following arguments are required: COMMAND"),
-        ("loud", ": argument COMMAND: invalid choice: 'loud'"),
-        ("fingerprint", " fingerprint: the following arguments are required: SOURCE"),
-        ("fingerprint --loud in", ": unrecognized arguments: --loud"),
-        ("fingerprint --sche a:1 in", ": unrecognized arguments: --sche"),
-        ("fingerprint --jobs 0 in", " fingerprint: argument --jobs: '0' isn't a number from 1"),
-        ("fingerprint --jobs x in", " fingerprint: argument --jobs: 'x' isn't a number from 1"),
-        ("fingerprint --largest 2XB in", " fingerprint: argument --largest: '2XB' isn't a size such as 500MB or 2GB"),
-        ("fingerprint --memory 0 in", " fingerprint: argument --memory: '0' isn't a size such as 500MB or 2GB"),
-        ("fingerprint --jobs 2 --scheduler a:1 in", " fingerprint: argument --scheduler: not allowed with argument --jobs"),
-        ("verify", " verify: the following arguments are required: MANIFEST, SOURCE"),
-        ("verify --strict m", ": unrecognized arguments: --strict"),
-        ("changes m", " changes: the following arguments are required: NEW"),
-        ("duplicates", " duplicates: the following arguments are required: MANIFEST"),
-        ("explain", " explain: the following arguments are required: LINE"),
-    ],
-)
-def test_wrong_use(room: Path, words: str, why: str) -> None:
-    """One line that names what is wrong, with status 2."""
-    ended = call(*words.split())
-    assert (ended.status, ended.out, ended.err.count("\n")) == (2, "", 1)
-    assert ended.err.startswith(f"tigercanon-tools{why}") and " --help\n" in ended.err
-
-
 class TestProgram:
     """The program is the one that is named, else the one that is built here, else the one on the PATH."""
 
@@ -163,8 +136,6 @@ def test_installing(room: Path) -> None:
         pytest.skip("python3-wheel isn't installed")
     copy = room / "python"
     shutil.copytree(PACKAGE, copy, ignore=shutil.ignore_patterns("tests", "*.egg-info", "build", "__pycache__"))
-    (room / "docs").mkdir()
-    shutil.copy(PACKAGE.parent / "docs/guide.md", room / "docs")
     install = "-m pip install --no-build-isolation --no-index --no-deps --target site"
     command = [sys.executable, *install.split(), str(copy)]
     run = subprocess.run(command, capture_output=True, text=True)

@@ -11,8 +11,6 @@ from testing import await_that
 
 A, B, C = ("a" * 64, "b" * 64, "c" * 64)
 HEAD = b"# tigercanon form 1\n"
-OVERWRITTEN = "has the name of a county's file, and isn't overwritten by a manifest"
-INCOMPARABLE = "their fingerprints can't be compared"
 
 
 def lines(*pairs: str) -> bytes:
@@ -51,38 +49,6 @@ def test_names_that_are_no_files(room: Path, stand_in: Path, name: str) -> None:
     for words in (["fingerprint", "-o", name, "in"], ["verify", name]):
         ended = call(*words)
         assert (ended.status, ended.lines) == (2, [f"{name}: not a manifest: it isn't a regular file"])
-
-
-@pytest.mark.parametrize(
-    "words, why",
-    [
-        (["fingerprint", "-o", "in/b.RT1", "in/c"], f"in/b.RT1: {OVERWRITTEN}"),
-        (["fingerprint", "-o", "in/b.zip", "in/c"], f"in/b.zip: {OVERWRITTEN}"),
-        (["fingerprint", "-o", "no/m", "in/c"], "no/m: can't be written: there is no folder {room}/no"),
-        (["verify", "nowhere"], "nowhere: No such file or directory"),
-        (["verify", "empty"], "empty: the manifest is empty"),
-        (["verify", "head"], "head: the manifest is empty"),
-        (["duplicates", "empty"], "empty: the manifest is empty"),
-        (["verify", "cut"], "cut: its last line is cut off; let the run that writes it finish first"),
-        (["fingerprint", ""], "a name is empty or has a line break in it"),
-        (["verify", "head", "a\nb"], "a name is empty or has a line break in it"),
-        (["changes", "plain", "masked"], f"plain was made with no flags and masked with --no-sources: {INCOMPARABLE}"),
-        (["changes", "plain", "twice"], "twice: one/x and two/X have the same name, so counties can't be matched by it"),
-    ],
-)
-def test_errors(room: Path, stand_in: Path, words: list[str], why: str) -> None:
-    """Each is one line that names the file and the cause, and no file is changed: not even an empty one."""
-    put("in/b.RT1")
-    put("empty")
-    put("head", HEAD)
-    put("cut", lines("a x", "b y")[:-5])
-    put("plain", lines("a x"))
-    put("masked", b"# --no-sources\n" + lines("a x"))
-    put("twice", lines("a one/x", "b two/X"))
-    ended = call(*words)
-    assert (ended.status, ended.out, ended.lines) == (2, "", [why.format(room=room)])
-    assert (Path("in/b.RT1").read_bytes(), Path("empty").read_bytes()) == (b"", b"")
-    assert not [name for name in os.listdir(".") if name.endswith((".lock", ".new"))]
 
 
 @pytest.mark.parametrize("flags", ["", "--no-sources", "--no-reserved", "--no-sources --no-reserved"])

@@ -6,11 +6,9 @@ import logging
 import os
 import time
 import warnings
-from collections import deque
-from concurrent.futures import FIRST_COMPLETED, Future, ThreadPoolExecutor, wait
+from concurrent.futures import ThreadPoolExecutor
 from contextlib import suppress
 from dataclasses import astuple, replace
-from itertools import islice
 from queue import Empty, SimpleQueue
 from typing import Any, Iterator, Optional, Sequence
 
@@ -25,9 +23,6 @@ PATIENCE_FOR_SCHEDULER = 30.0
 PATIENCE_FOR_WORKERS = 300.0
 """A run ends if there was no worker for this many seconds."""
 
-A_LOOK_AT_WORKERS = 5.0
-AHEAD_OF_A_THREAD = 4
-FEWEST_AHEAD = 16
 SCHEDULER_ENDED = ("CancelledError", "CommClosedError")
 """Errors that end a future if the scheduler ends. There are several classes of each of these names."""
 
@@ -41,75 +36,32 @@ class Gone(Exception):
     """What judges counties is gone. The text says why."""
 
 
-def tried_again(results: Iterator[Result], alone: Any) -> Iterator[Result]:
-    """The results, but counties that may not have fitted into memory are judged again, each alone."""
-    again: list[tuple[int, Answer]] = []
-    for result in results:
-        if result and result[1].kind == "memory":
-            again.append(result)
-        else:
-            yield result
-    for number, first in sorted(again):
-        yield None
-        answer = alone(number)
-        yield number, replace(answer, kind="failed" if answer.text == DEATHS else answer.kind)
+class Engine:
+    """What judges counties side by side."""
 
-
-class LocalEngine:
-    """Judges counties by as many threads as there are processors, or as are asked for."""
-
-    def __init__(self, jobs: int | None, own: Own) -> None:
-        self.jobs, self.own = jobs or len(os.sched_getaffinity(0)), own
+    served_at = 0.0
+    """When there was an answer, or something that could give one."""
 
     def answers(self, counties: Sequence[County], order: Order) -> Iterator[Result]:
-        """The answers in the order in which they come."""
-        return tried_again(self.first_answers(counties, order), lambda number: judge(counties[number], order, self.own))
+        """The answers in the order in which they come. Counties that may not have fitted into memory are judged again, each alone. Raises
+        Gone."""
+        again: list[int] = []
+        for result in self.first_answers(counties, order):
+            if result and result[1].kind == "memory":
+                again.append(result[0])
+            else:
+                yield result
+        for number in sorted(again):
+            for alone in self.first_answers([counties[number]], order):
+                yield alone and (number, replace(alone[1], kind="failed" if alone[1].text == DEATHS else alone[1].kind))
 
     def first_answers(self, counties: Sequence[County], order: Order) -> Iterator[Result]:
-        pool = ThreadPoolExecutor(self.jobs)
-        waiting = iter(enumerate(counties))
-        under_way: dict[Future[Answer], int] = {}
-        try:
-            while True:
-                for number, county in islice(waiting, self.jobs * AHEAD_OF_A_THREAD - len(under_way)):
-                    under_way[pool.submit(judge, county, order, self.own)] = number
-                if not under_way:
-                    return
-                done = wait(under_way, TICK, FIRST_COMPLETED).done
-                for future in done:
-                    yield under_way.pop(future), future.result()
-                if not done:
-                    yield None
-        finally:
-            pool.shutdown(wait=False, cancel_futures=True)
-
-
-class DaskEngine:
-    """Judges counties by the workers of a scheduler that is running."""
-
-    def __init__(self, address: str) -> None:
-        self.name = f"the scheduler at {address}"
-        self.run = os.urandom(6).hex()
-        self.client = client_of(address)
-        self.served_at = self.looked_at = time.monotonic()
-        self.threads = 0
-        self.attempts = 0
-
-    def answers(self, counties: Sequence[County], order: Order) -> Iterator[Result]:
-        """The answers in the order in which they come. Raises Gone."""
-        return tried_again(self.first_answers(counties, order), lambda number: self.alone(counties[number], order))
-
-    def alone(self, county: County, order: Order) -> Answer:
-        ((_, answer),) = filter(None, self.first_answers([county], order))
-        return answer
-
-    def first_answers(self, counties: Sequence[County], order: Order) -> Iterator[Result]:
-        waiting: deque[int] = deque(range(len(counties)))
-        under_way: dict[Any, int] = {}
         done: SimpleQueue[Any] = SimpleQueue()
+        under_way = {future: number for number, future in enumerate(self.begin(counties, order))}
+        for future in list(under_way):
+            future.add_done_callback(done.put)
         self.served_at = time.monotonic()
-        while waiting or under_way:
-            self.hand_over(counties, order, waiting, under_way, done)
+        while under_way:
             try:
                 future = done.get(timeout=TICK)
             except Empty:
@@ -121,27 +73,51 @@ class DaskEngine:
             if number is not None:
                 yield number, self.answer(future)
 
-    def hand_over(
-        self, counties: Sequence[County], order: Order, waiting: deque[int], under_way: dict[Any, int], done: "SimpleQueue[Any]"
-    ) -> None:
-        """Submits as many counties as the workers have threads, and some more, so that none waits for its next one."""
-        self.look_at_workers()
-        ahead = max(self.threads * AHEAD_OF_A_THREAD, FEWEST_AHEAD)
-        count = min(len(waiting), ahead - len(under_way))
-        if count < min(len(waiting), ahead // 2):
-            return
-        numbers = [waiting.popleft() for _ in range(count)]
+    def begin(self, counties: Sequence[County], order: Order) -> Sequence[Any]:
+        """Hands over the counties, and returns a future for each."""
+        raise NotImplementedError
+
+    def answer(self, future: Any) -> Answer:
+        """The result of a future that is done."""
+        result: Answer = future.result()
+        return result
+
+    def look_round(self, under_way: dict[Any, int]) -> None:
+        """Raises Gone if there can be no further answers."""
+
+    def close(self) -> None:
+        """Ends what is under way."""
+        raise NotImplementedError
+
+
+class LocalEngine(Engine):
+    """Judges counties by as many threads as there are processors, or as are asked for."""
+
+    def __init__(self, jobs: int | None, own: Own) -> None:
+        self.pool, self.own = ThreadPoolExecutor(jobs or len(os.sched_getaffinity(0))), own
+
+    def begin(self, counties: Sequence[County], order: Order) -> Sequence[Any]:
+        return [self.pool.submit(judge, county, order, self.own) for county in counties]
+
+    def close(self) -> None:
+        self.pool.shutdown(wait=False, cancel_futures=True)
+
+
+class DaskEngine(Engine):
+    """Judges counties by the workers of a scheduler that is running."""
+
+    def __init__(self, address: str) -> None:
+        self.name = f"the scheduler at {address}"
+        self.run = os.urandom(6).hex()
+        self.client = client_of(address)
+        self.attempts = 0
+
+    def begin(self, counties: Sequence[County], order: Order) -> Sequence[Any]:
         self.attempts += 1
-        futures = self.client.map(
-            judging.judge_on_a_worker,
-            [astuple(counties[number]) for number in numbers],
-            [astuple(order)] * count,
-            key=[f"tigercanon-{self.run}-{self.attempts}-{number}" for number in numbers],
-            pure=False,
-        )
-        for number, future in zip(numbers, futures):
-            under_way[future] = number
-            future.add_done_callback(done.put)
+        keys = [f"tigercanon-{self.run}-{self.attempts}-{number}" for number in range(len(counties))]
+        arguments = [astuple(county) for county in counties], [astuple(order)] * len(counties)
+        futures: Sequence[Any] = self.client.map(judging.judge_on_a_worker, *arguments, key=keys, pure=False)
+        return futures
 
     def answer(self, future: Any) -> Answer:
         """The result of a task. A county isn't blamed for a worker that ended unless this also happens to the county alone."""
@@ -160,22 +136,11 @@ class DaskEngine:
             raise Failure(f"{self.name}: {answer.text}")
         return answer
 
-    def look_at_workers(self) -> None:
-        """Sees how many threads the workers have, at most every few seconds."""
-        now = time.monotonic()
-        if self.threads and now - self.looked_at < A_LOOK_AT_WORKERS:
-            return
-        self.looked_at = now
-        workers = self.client.scheduler_info().get("workers", {}).values()
-        self.threads = sum(worker["nthreads"] for worker in workers)
-
     def look_round(self, under_way: dict[Any, int]) -> None:
         """Raises Gone if the scheduler is gone, or if there was no worker for a long time."""
         if self.client.status != "running" or any(future.status == "cancelled" for future in under_way):
             raise Gone(f"{self.name} is gone")
-        self.threads = 0
-        self.look_at_workers()
-        if self.threads:
+        if self.client.scheduler_info().get("workers"):
             self.served_at = time.monotonic()
         elif time.monotonic() - self.served_at > PATIENCE_FOR_WORKERS:
             raise Gone(f"{self.name} has had no worker for {int(PATIENCE_FOR_WORKERS / 60)} minutes")

@@ -6,22 +6,17 @@ import argparse
 import re
 from pathlib import Path
 
-from .errors import Failure, reason
+from .errors import Failure
 from .printing import print_lines
 
 SECTION = re.compile(r"^### `refused (\d+) (\w+)([^`]*)`$")
 REFUSAL = re.compile(r"(?:refused )?(\d+)?\s*([A-Z]\w+)?((?: [0-9A-Za-z]+)*?)(?: in set ([12]))?")
-HERE = Path(__file__).resolve().parent
+PAGE = Path(__file__).with_name("refusals.md")
+"""The user guide: an installed package has a copy of it, and a clone and a release have a link to the page itself."""
 
 
 def page() -> str:
-    """The user guide: an installed package has a copy of it, and a clone and a release have the page itself."""
-    copy, guide = HERE / "refusals.md", HERE.parent.parent / "docs/guide.md"
-    found = copy if copy.exists() else guide
-    try:
-        return found.read_text(encoding="utf-8")
-    except OSError as error:
-        raise Failure(f"{found}: {reason(error)}") from None
+    return PAGE.read_text(encoding="utf-8")
 
 
 def sections(text: str) -> dict[int, list[str]]:

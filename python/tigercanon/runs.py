@@ -4,9 +4,9 @@ from __future__ import annotations
 
 import argparse
 import os
-from contextlib import closing, contextmanager
+from contextlib import closing
 from dataclasses import replace
-from typing import Any, Callable, Iterator, NamedTuple, Sequence
+from typing import Any, Callable, NamedTuple, Sequence
 
 from .counties import Finder
 from .engines import DaskEngine, Gone, LocalEngine
@@ -44,16 +44,6 @@ def order_of(options: argparse.Namespace, flags: tuple[str, ...], is_strict: boo
     return Order(program, flags, is_strict, options.largest, options.memory)
 
 
-@contextmanager
-def engine_of(options: argparse.Namespace) -> Iterator[DaskEngine | LocalEngine]:
-    remove_stale_folders()
-    if not options.scheduler:
-        yield LocalEngine(options.jobs, PROCESS)
-        return
-    with closing(DaskEngine(options.scheduler)) as engine:
-        yield engine
-
-
 class Run:
     """Counties that are being judged, and the tally of them. take gets each result, and returns the report about it."""
 
@@ -76,7 +66,9 @@ class Run:
             self.tally.close()
 
     def judge_files(self, counties: list[County], left: list[int], order: Order) -> None:
-        with engine_of(self.options) as engine:
+        remove_stale_folders()
+        made = DaskEngine(self.options.scheduler) if self.options.scheduler else LocalEngine(self.options.jobs, PROCESS)
+        with closing(made) as engine:
             try:
                 for result in engine.answers([counties[number] for number in left], order):
                     if result:

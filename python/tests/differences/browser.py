@@ -20,14 +20,7 @@ with suppress(ImportError):
     from selenium.webdriver.common.print_page_options import PrintOptions
     from selenium.webdriver.support.ui import WebDriverWait
 
-MIDDLE_OF = """
-const { map, entries } = window.differences;
-const says = (row) => row[2] === arguments[0];
-const entry = entries.find((one) => one.what === 'chain' && one.kind === 2 && one.line.length > 2 && one.rows.some(says));
-const { x, y } = map.latLngToContainerPoint(entry.line[1]);
-return [x, y, entry.title];
-"""
-
+IN_PAGE = Path(__file__).with_name("in_page.js").read_text()
 
 needs_browser = pytest.mark.skipif(
     not (shutil.which("chromium") and shutil.which("chromedriver") and find_spec("selenium") and LEAFLET.exists()),
@@ -67,14 +60,15 @@ class Browser:
         return base64.b64decode(self.driver.print_page(options))
 
     def run(self, script: str, *arguments: Any) -> Any:
-        return self.driver.execute_script(script, *arguments)
+        """Runs a script in the page, which can call the functions of in_page.js."""
+        return self.driver.execute_script(IN_PAGE + script, *arguments)
 
     def click(self, selector: str) -> None:
         self.driver.find_element(By.CSS_SELECTOR, selector).click()
 
     def click_at_changed(self, value: str) -> str:
         """Clicks at a chain that changed to this value, and returns its title."""
-        x, y, title = self.run(MIDDLE_OF, value)
+        x, y, title = self.run("return middleOf(...arguments)", value)
         chart = self.driver.find_element(By.ID, "map")
         from_middle = x - chart.size["width"] / 2, y - chart.size["height"] / 2
         ActionChains(self.driver).move_to_element_with_offset(chart, *from_middle).click().perform()
@@ -84,7 +78,7 @@ class Browser:
         ActionChains(self.driver).send_keys(*keys).perform()
 
     def texts(self, selector: str) -> list[str]:
-        texts: list[str] = self.run("return [...document.querySelectorAll(arguments[0])].map((one) => one.innerText)", selector)
+        texts: list[str] = self.run("return texts(...arguments)", selector)
         return texts
 
     def listed(self) -> int:
@@ -92,9 +86,7 @@ class Browser:
         return int(self.texts("#listed")[0].split()[0].replace(",", ""))
 
     def filter(self, text: str) -> None:
-        self.run(
-            "const box = document.getElementById('filter'); box.value = arguments[0]; box.dispatchEvent(new Event('input'));", text
-        )
+        self.run("filter(...arguments)", text)
 
     def complaints(self) -> Any:
         return self.driver.get_log("browser")

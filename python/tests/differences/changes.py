@@ -10,7 +10,7 @@ from typing import Sequence, TypeVar
 
 from tigercanon.differences.columns import CHAIN
 
-from .county import Chain, County, Landmark, Point, Polygon, addresses
+from .county import FILE, Chain, County, Landmark, Point, Polygon
 
 T = TypeVar("T")
 Place = tuple[Point, ...]
@@ -91,13 +91,6 @@ class Changing:
             chain.points[-1] = (longitude + 131, latitude - 57)
             self.tell("chain", "in the second alone", chain.points)
 
-    def rename_street(self, old: str, new: str, count: int) -> None:
-        """Some chains of a street that lie one after another."""
-        street = [chain for chain in self.county.chains if chain.fields.get("FENAME") == old and id(chain) not in self.touched]
-        some = street[len(street) // 2 :][:count]
-        self.touched.update(map(id, some))
-        self.change(some, "FENAME", new)
-
     def change_field(self, count: int, name: str, value: str) -> None:
         self.change(self.some_chains(count), name, value)
 
@@ -114,10 +107,10 @@ class Changing:
             self.tell("chain", "changed", chain.points, f"further name {len(chain.names)}")
 
     def give_ranges(self, count: int) -> None:
+        fields = {"FRADDL": "9001", "TOADDL": "9099", "FRADDR": "9002", "TOADDR": "9100", "ZIPL": "36999", "ZIPR": "36999"}
         for chain in self.some_chains(count):
-            chain.ranges.append(addresses(9001, 9099, "36999", "36999"))
+            chain.ranges.append(fields)
             number = len(chain.ranges)
-            fields = ("FRADDL", "TOADDL", "FRADDR", "TOADDR", "ZIPL", "ZIPR")
             self.tell("chain", "changed", chain.points, f"range {number}", *(f"{name} of range {number}" for name in fields))
 
     def move_sides(self, count: int) -> None:
@@ -150,7 +143,7 @@ class Changing:
 
     def rename_landmarks(self, count: int) -> None:
         for landmark in self.some_landmarks(count):
-            landmark.fields["LANAME"] = landmark.fields["LANAME"] + " Annex"
+            landmark.fields["LANAME"] = landmark.fields["LANAME"][:24] + " Annex"
             self.tell("landmark", "changed", [place_of(landmark)], "LANAME")
 
     def take_landmarks(self, count: int) -> None:
@@ -161,14 +154,14 @@ class Changing:
     def add_landmarks(self, count: int) -> None:
         for number in range(count):
             point = (-86_470_001 - 977 * number, 32_461_003 + 613 * number)
-            fields = {"FILE": "01001", "SOURCE": "L", "CFCC": "D57", "LANAME": f"Air Field {number}"}
+            fields = {"FILE": FILE, "SOURCE": "L", "CFCC": "D57", "LANAME": f"Air Field {number}"}
             self.county.landmarks.append(Landmark(fields, point))
             self.touched.add(id(self.county.landmarks[-1]))
             self.tell("landmark", "in the second alone", [point])
 
     def add_name(self, name: str) -> int:
         """A name that only the second map has."""
-        self.county.names.append({"FILE": "01001", "FENAME": name})
+        self.county.names.append({"FILE": FILE, "FENAME": name})
         self.names.append(("in the second alone", name))
         return len(self.county.names) - 1
 

@@ -1,56 +1,37 @@
-"""Makes the example of two maps in examples/two-maps: a town, and the same town some years later, written in another way.
+"""The example of two maps in examples/two-maps, a town and the same town some years later: where the two differ, and the picture.
 
-    cd python/tests; PYTHONPATH=..:../../tools /usr/bin/python3 -m differences.example [--picture]
+    cd python/tests; PYTHONPATH=..:../../tools /usr/bin/python3 -m differences.example
 
-writes its files again, and with --picture also the picture of its page, docs/differences.png. That needs Debian's python3-pil.
+makes the picture of its page again, docs/differences.png. That needs Debian's python3-pil.
 """
 
-import sys
+import json
 import tempfile
 from io import BytesIO
 from pathlib import Path
 
-from .changes import Changing
-from .county import County, made_county, written
+from testing import ROOT
 
-SEED = 31
-
-
-def example() -> tuple[County, Changing]:
-    """The town, and what it has become."""
-    town = made_county(11, 11, SEED)
-    later = Changing.begin(town, SEED)
-    later.rename_street("Madison", "Commerce", 4)
-    later.take_away(2)
-    later.add_courts(2)
-    later.move_ends(2)
-    later.change_field(3, "ZIPL", "36068")
-    later.change_field(1, "TOADDR", f"{'998':>11}")
-    later.give_names(2, later.add_name("Veterans Memorial Pkwy"))
-    later.give_ranges(1)
-    later.flood(1)
-    later.move_inner_points(1)
-    later.rename_landmarks(1)
-    later.take_landmarks(1)
-    later.add_landmarks(1)
-    return town, later
+from .browser import Browser
+from .changes import Difference
+from .reports import EXAMPLE, diff
 
 
-def texts() -> tuple[bytes, bytes]:
-    town, later = example()
-    return written(town), written(later.county, SEED)
+def example_differences() -> set[Difference]:
+    """The differences that the second map was made with, without that of a feature name."""
+    rows = json.loads(Path(__file__).with_name("example.json").read_text())
+    return {
+        Difference(what, kind, tuple((east, north) for east, north in place), frozenset(fields))
+        for what, kind, place, fields in rows
+    }
 
 
 def write_picture(picture: Path) -> None:
     from PIL import Image
 
-    from .browser import Browser
-    from .reports import EXAMPLE, diff
-
     with tempfile.TemporaryDirectory() as room:
         page = Path(room, "example.html")
-        names = ("two-maps/first.txt", "two-maps/second.txt")
-        diff("--page", page, *names, cwd=EXAMPLE.parent)
+        diff("--page", page, "two-maps/first.txt", "two-maps/second.txt", cwd=EXAMPLE.parent)
         browser = Browser(1280, 800)
         try:
             browser.open(page)
@@ -62,8 +43,4 @@ def write_picture(picture: Path) -> None:
 
 
 if __name__ == "__main__":
-    root = Path(__file__).resolve().parent.parent.parent.parent
-    for name, text in zip(("first.txt", "second.txt"), texts()):
-        (root / "examples/two-maps" / name).write_bytes(text)
-    if "--picture" in sys.argv:
-        write_picture(root / "docs/differences.png")
+    write_picture(ROOT / "docs/differences.png")

@@ -1,7 +1,11 @@
-"""The command line, with a stand-in for the program: statuses, refusals, and files that are whole or not there."""
+"""The command line, with a stand-in for the program: wrong calls of all commands; and of diff statuses, refusals, and files that are
+whole or not there."""
 
 import json
 import os
+import re
+import shlex
+import shutil
 import signal
 import stat
 import subprocess
@@ -10,47 +14,27 @@ from pathlib import Path
 from typing import Any
 
 import pytest
-from support import NAME, Ended, begin, end, environment, limit_files, put, words_of
+from support import HEAD, NAME, PACKAGE, STAND_INS, Ended, begin, call, end, environment, limit_files, put, words_of
 
 from .county import made_county, written
-from .reports import diff
-
-STAND_IN = """\
-#!/bin/sh
-# Prints a file as it is, and rejects one that says so.
-for name; do :; done
-[ "$2" != --stem ] || name="$name.RT1"
-if [ "$name" = /dev/null ]; then exit 0; fi
-if [ ! -e "$name" ]; then echo "refused 8 Device" >&2; exit 4; fi
-if grep -q broken "$name"; then echo "refused 4 BadNumber 1 4 6" >&2; exit 3; fi
-if grep -q packed "$name"; then echo "refused 1 UnknownType 1 1" >&2; exit 3; fi
-exec cat "$name"
-"""
-SLOW = STAND_IN.replace('exec cat "$name"', "exec sleep 600")
-NOTING = STAND_IN.replace("exec cat", 'echo "$*" >>"$(dirname "$0")/words"; exec cat')
+from .reports import PROGRESS, diff
 
 LEAFLET = ("--leaflet", "leaflet")
-REFUSED = "refused 4 BadNumber 1 4 6"
-PACKED = "refused 1 UnknownType 1 1; the file is compressed by gzip: unpack it first"
-NO_SETS = ["nowhere", "leaflet", "not.zip"]
+WRONG_CALLS = re.findall(r"(?m)^\$ tigercanon-tools ?(.*)\n(.+\n)", (PACKAGE / "tests/wrong-calls").read_text())
 
 
 @pytest.fixture(autouse=True)
 def files_of_the_test(room: Path) -> None:
     """Two maps that differ in a name, a rejected file, and a stand-in for Leaflet."""
-    county = made_county(3, 3, 1)
+    county = made_county(24, 1)
     put("one", written(county))
     county.chains[0].fields["FENAME"] = "Changed"
     put("other", written(county))
     put("broken", b"broken\n")
     put("leaflet/leaflet.js", b"/* no library */")
     put("leaflet/leaflet.css", b".a { background: url(pictures/a.png); color: red }")
-    put_program("program", STAND_IN)
-
-
-def put_program(name: str, script: str) -> str:
-    put(name, script.encode()).chmod(0o755)
-    return os.path.abspath(name)
+    for name in ("program", "slow", "noting"):
+        shutil.copy(STAND_INS / "prints-files", name)
 
 
 def ask(*words: object, program: str = "program", **options: Any) -> Ended:
@@ -78,27 +62,10 @@ def test_help() -> None:
     assert "Shows where two maps differ" in ended.out
 
 
-@pytest.mark.parametrize("second, status", [("one", 0), ("other", 1)])
-def test_statuses(second: str, status: int) -> None:
-    assert ask("one", second).status == status
-
-
-WRONG_USE = ["", "one", "one one one", "--loud one one", "--all one one", "--leaflet x one one", "--summary --json one one"]
-
-
-@pytest.mark.parametrize("words, named", [*((words, "") for words in WRONG_USE), *((f"{it} one", it) for it in NO_SETS)])
-def test_wrong_use(words: str, named: str) -> None:
-    """One line, which names what is no set."""
-    put("not.zip", b"PK\x03\x04 broken")
-    ended = ask(*words.split())
-    assert (ended.status, ended.out, ended.err.count("\n"), named in ended.err) == (2, "", 1, True)
-
-
 @pytest.mark.parametrize("wanted", ["", "--no-sources", "--no-reserved", "--no-sources --no-reserved"])
 def test_masks(wanted: str) -> None:
     """The flags that leave fields out go to the program, and all that is written names them."""
-    put_program("program", NOTING)
-    ended = ask(*wanted.split()[::-1], "--page", "page", "--geojson", "geojson", *LEAFLET, "one", "other")
+    ended = ask(*wanted.split()[::-1], "--page", "page", "--geojson", "geojson", *LEAFLET, "one", "other", program="noting")
     assert (ended.status, ended.err) == (1, "")
     asked = [f"normalise {wanted}{' ' * bool(wanted)}-- {name}" for name in ("one", "other")]
     asked += [f"respell -- {name}" for name in ("one", "other")]
@@ -109,38 +76,33 @@ def test_masks(wanted: str) -> None:
     assert json.loads(Path("geojson").read_text()).get("left_out", "") == wanted
 
 
-@pytest.mark.parametrize(
-    "words, line",
-    [
-        ("broken one", f"broken: {REFUSED}"),
-        ("one broken", f"broken: {REFUSED}"),
-        ("broken again", f"broken: {REFUSED}"),
-        ("again broken", f"again: {REFUSED}"),
-        ("--page page.html --geojson geojson --leaflet leaflet one broken", f"broken: {REFUSED}"),
-        ("one packed", f"packed: {PACKED}"),
-        ("in/packed one", f"in/packed: {PACKED}"),
-        ("--geojson leaflet one other", "leaflet: can't be written: it is a folder"),
-        ("--geojson /dev/null one other", "/dev/null: can't be written: it isn't a regular file"),
-        ("--geojson none/page one other", "none/page: can't be written: No such file or directory"),
-        ("--geojson one/page one other", "one/page: can't be written: Not a directory"),
-        ("--page one one other", "one: can't be written: it belongs to one of the sets"),
-        ("--geojson other one other", "other: can't be written: it belongs to one of the sets"),
-        ("--page x --geojson x one other", "--page and --geojson name the same file"),
-        ("--page page.html --leaflet in one other", "in: there is no Leaflet here: it needs leaflet.js and leaflet.css"),
-    ],
-)
-def test_failures(words: str, line: str) -> None:
-    """Of a set that is refused the file, the program's line and a hint; the first set comes before the second. Files that can't be
-    written, or belong to a set."""
+@pytest.mark.parametrize("words, told", WRONG_CALLS)
+def test_wrong_calls(room: Path, words: str, told: str) -> None:
+    """Of each command: exactly one line of what is wrong, status 2, and no file is changed. Of a set that is refused it has the file, the
+    program's line and a hint; the first set comes before the second."""
+    for name in ("in/b.RT1", "empty"):
+        put(name)
+    lines = [f"{letter * 64}  {name}\n".encode() for letter, name in (("a", "one/x"), ("b", "two/X"))]
+    put("head", HEAD.encode())
+    put("cut", b"".join(lines)[:-5])
+    put("plain", lines[0])
+    put("masked", b"# --no-sources\n" + lines[0])
+    put("twice", b"".join(lines))
     put("again", b"broken\n")
-    put("packed", b"\x1f\x8bpacked\n")
-    put("in/packed.RT1", b"\x1f\x8bpacked\n")
-    assert_fails(line, *words.split())
+    put("not.zip", b"PK\x03\x04 broken")
+    for name in ("packed", "in/packed.RT1"):
+        put(name, b"\x1f\x8bpacked\n")
+    before = {path: path.is_file() and path.read_bytes() for path in room.rglob("*")}
+    ended = call(*(word.replace("\\n", "\n") for word in shlex.split(words)), env={"TIGERCANON": f"{room}/program"})
+    wanted = re.escape(told.replace("ROOM", str(room))).replace(re.escape("..."), ".*")
+    assert (ended.status, ended.out) == (2, "")
+    assert re.fullmatch(wanted, PROGRESS.sub("", ended.err)), ended.err
+    assert {path: path.is_file() and path.read_bytes() for path in room.rglob("*")} == before
 
 
 def test_program(room: Path) -> None:
     assert_fails(f"the program {room}/nowhere can't be run: no such file", "one", "one", program="nowhere")
-    put_program("odd", "#!/bin/sh\necho odd\n")
+    put("odd", b"#!/bin/sh\necho odd\n").chmod(0o755)
     assert_fails("the program doesn't print a canonical text: line 1 isn't a record", "one", "one", program="odd")
 
 
@@ -220,7 +182,7 @@ def test_standard_output(redirected: str, told: bytes) -> None:
 
 def test_other_letters() -> None:
     """Letters are UTF-8 whatever the terminal takes, and names of files are shown on one line."""
-    county = made_county(2, 2, 1)
+    county = made_county(12, 1)
     put("one\n\xe9", written(county))
     county.chains[0].fields["FENAME"] = "Caf\xe9"
     put("other", written(county))
@@ -233,9 +195,8 @@ def test_other_letters() -> None:
 @pytest.mark.parametrize("number", [signal.SIGTERM, signal.SIGINT, signal.SIGHUP])
 def test_stopped(number: signal.Signals) -> None:
     """A run that a signal ends leaves nothing behind, and one that takes long reports its progress."""
-    slow = put_program("slow", SLOW)
     before = sorted(os.listdir("."))
-    run = begin("diff", "--geojson", "stopped", "one", "other", env={"TIGERCANON": slow})
+    run = begin("diff", "--geojson", "stopped", "one", "other", env={"TIGERCANON": os.path.abspath("slow")})
     assert run.stderr and run.stderr.readline() == f"{NAME}normalising both sets\n".encode()
     assert sorted(os.listdir(".")) != before
     os.kill(run.pid, number)

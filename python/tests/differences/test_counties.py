@@ -11,7 +11,7 @@ from support import put
 
 from .changes import Changing, much_changed
 from .county import County, made_county, written
-from .example import example, texts
+from .example import example_differences
 from .reports import EXAMPLE, KINDS, counts_in_words, diff, in_words, needs_leaflet, page_data
 from .reports import told_in_geojson, told_in_page, told_in_words
 
@@ -37,28 +37,22 @@ class Made(NamedTuple):
 @pytest.fixture(scope="module")
 def made(tmp_path_factory: pytest.TempPathFactory) -> Made:
     folder = tmp_path_factory.mktemp("counties")
-    county = made_county(56, 52, 1)
+    county = made_county(5_000, 1)
     changing = much_changed(county, 2)
     first, copy = put(folder / "first.txt", written(county, 3)), put(folder / "copy.txt", written(county, 4))
     return Made(county, changing, first, copy, put(folder / "second.txt", written(changing.county, 5)))
 
 
-@pytest.mark.parametrize("name, text", zip(("first.txt", "second.txt"), texts()), ids=["first", "second"])
-def test_example_files(name: str, text: bytes) -> None:
-    """The files in examples/two-maps are those that are made."""
-    assert (EXAMPLE / name).read_bytes() == text, "python/tests/differences/example.py makes it again"
-
-
 def test_example(room: Path) -> None:
     ended = diff("--geojson", "example.geojson", EXAMPLE / "first.txt", EXAMPLE / "second.txt")
     assert (ended.status, ended.err) == (1, "")
-    _, later = example()
-    assert told_in_geojson(room / "example.geojson") == later.differences
-    assert {told for told in told_in_words(ended.out) if told.place} == set(map(in_words, later.differences))
+    wanted = example_differences()
+    assert told_in_geojson(room / "example.geojson") == wanted
+    assert {told for told in told_in_words(ended.out) if told.place} == set(map(in_words, wanted))
 
 
 def test_size(made: Made) -> None:
-    assert len(made.county.chains) > 4500
+    assert len(made.county.chains) == 5_000
     assert len(made.changing.differences) > 110
 
 

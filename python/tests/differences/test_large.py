@@ -45,15 +45,14 @@ def test_page(room: Path) -> None:
     """The limits of time are multiples of what this machine takes for work of a known size: making the two files by Python, and
     drawing the page of a small county."""
     began = time.process_time()
-    county = made_county(266, 240, 12)
-    assert len(county.chains) > CHAINS
+    county = made_county(CHAINS, 12)
     changing = much_changed(county, 13)
     first, second = put(room / "first.txt", written(county, 14)), put(room / "second.txt", written(changing.county, 15))
     unit = time.process_time() - began
     page = room / "page.html"
     seconds, megabytes = measured("--page", page, first, second)
     assert told_in_page(page) == changing.differences
-    small = made_county(20, 20, 12)
+    small = made_county(840, 12)
     measured(
         "--page", "small.html", put(room / "one", written(small)), put(room / "other", written(much_changed(small, 13).county))
     )
@@ -75,7 +74,7 @@ def test_page(room: Path) -> None:
 @pytest.mark.parametrize("spare, is_left_out", [(0, False), (-1, True)])
 def test_too_large(monkeypatch: pytest.MonkeyPatch, spare: int, is_left_out: bool) -> None:
     """A page with more chains than the limit leaves out those that are alike, and has a note about it."""
-    county = read_county(written(made_county(4, 4, 1)))
+    county = read_county(written(made_county(40, 1)))
     monkeypatch.setattr(page_module, "MOST_CHAINS", len(county.chains) + spare)
     data = page_data(compare(county, county), sets_of(b"x", b"y"))
     assert (data["alike"]["chains"] == [], data["alike"]["polygons"] == []) == (is_left_out, is_left_out)
@@ -84,7 +83,7 @@ def test_too_large(monkeypatch: pytest.MonkeyPatch, spare: int, is_left_out: boo
 
 def test_too_many_fields(monkeypatch: pytest.MonkeyPatch) -> None:
     """If the fields of all differences take too much space, the last ones have only names and places, and the page has a note about it."""
-    county, nothing = read_county(written(made_county(4, 4, 1))), read_county(b"")
+    county, nothing = read_county(written(made_county(40, 1))), read_county(b"")
     monkeypatch.setattr(page_module, "ROOM_FOR_FIELDS", 1000)
     data = page_data(compare(county, nothing), sets_of(b"x", b""))
     told = len(data["entries"]) + sum(map(len, data["bare"].values()))

@@ -75,7 +75,7 @@ class Made(NamedTuple):
 
 @pytest.fixture
 def made(room: Path) -> Made:
-    county = made_county(12, 12, 40)
+    county = made_county(312, 40)
     for kind in range(60, 68):  # landmarks with one name, which differ only in SOURCE and CFCC
         fields = {"FILE": FILE, "SOURCE": "ABC"[kind % 3], "CFCC": f"D{kind}", "LANAME": "Fair Ground"}
         county.landmarks.append(Landmark(fields, (-86_470_001, 32_460_001)))
@@ -121,7 +121,7 @@ def test_values(made: Made) -> None:
 
 def test_ties(room: Path) -> None:
     """A difference that is only a tie has a feature at each of its places."""
-    county = made_county(8, 8, 44)
+    county = made_county(144, 44)
     changing = Changing.begin(county, 45)
     (split,) = changing.split_nodes(1)
     one, tied = put(room / "one", written(county, 46)), put(room / "tied", written(changing.county, 47))
@@ -149,7 +149,7 @@ def count(text: str) -> int:
 
 @pytest.mark.skipif(not shutil.which("ogrinfo"), reason="gdal-bin isn't installed")
 def test_ogrinfo(room: Path) -> None:
-    county = made_county(20, 20, 8)
+    county = made_county(840, 8)
     changing = much_changed(county, 9)
     first, second = put(room / "first.txt", written(county, 10)), put(room / "second.txt", written(changing.county, 11))
     geojson = room / "differences.geojson"

@@ -13,7 +13,7 @@ from testing import ROOT
 from .browser import Browser, needs_browser
 from .changes import Changing, much_changed
 from .county import County, made_county, written
-from .example import example
+from .example import example_differences
 from .reports import EXAMPLE, diff
 
 SCRIPT = "<script>alert(1)</script>"
@@ -21,31 +21,6 @@ PICTURE = "<img src=x onerror=alert(1)>"
 
 pytestmark = [pytest.mark.browser, needs_browser]
 NAMES_OF_KINDS = {"in the first alone": "first", "in the second alone": "second", "changed": "changed", "alike": "alike"}
-
-COVERED_BUTTONS = """
-const { map } = window.differences;
-map.panBy = (offset) => Object.getPrototypeOf(map).panBy.call(map, offset, { animate: false });
-const covered = [];
-for (const button of [...document.querySelectorAll('#list button')].filter((_, place) => place % 4 === 0)) {
-  button.click();
-  const close = document.querySelector('.leaflet-popup-close-button');
-  if (!close) continue;
-  const { left, top, width, height } = close.getBoundingClientRect();
-  const seen = document.elementFromPoint(left + width / 2, top + height / 2);
-  if (!seen || !close.contains(seen)) covered.push(button.innerText);
-}
-return covered;
-"""
-
-BROKEN_WORDS = """
-const broken = [];
-for (const piece of document.querySelectorAll('.sets .name span')) {
-  const range = document.createRange();
-  range.selectNodeContents(piece);
-  if (range.getClientRects().length > 1) broken.push(piece.textContent);
-}
-return broken;
-"""
 
 
 class Town(NamedTuple):
@@ -84,7 +59,7 @@ def page_of(folder: Path, name: str, first: bytes, second: bytes) -> Path:
 @pytest.fixture(scope="module")
 def town(tmp_path_factory: pytest.TempPathFactory) -> Town:
     folder = tmp_path_factory.mktemp("town")
-    county = made_county(20, 20, 20)
+    county = made_county(840, 20)
     changing = much_changed(county, 21)
     changing.change_field(1, "FENAME", SCRIPT)
     changing.county.landmarks[-1].fields["LANAME"] = PICTURE
@@ -138,11 +113,7 @@ class TestPage:
         assert browser.listed() == 35
         for place in (1, 20):
             browser.click(f"#list li:nth-child({place}) button")
-            assert browser.run(
-                "const { map, entries } = window.differences;"
-                "const entry = entries[document.querySelector('#list [aria-current]').dataset.entry];"
-                "return entry.line.every((point) => map.getBounds().contains(point)) && map.getZoom() > 13;"
-            )
+            assert browser.run("return showsChosenChain()")
             assert "chain in the first alone" in browser.texts(".leaflet-popup-content")[0]
 
     def test_keyboard(self, browser: Browser, town: Town) -> None:
@@ -196,7 +167,7 @@ class TestLayout:
     def page(self, tmp_path_factory: pytest.TempPathFactory) -> Path:
         folder = tmp_path_factory.mktemp("layout") / "a-folder-with-a-long-name/another-folder-with-a-long-name"
         folder.mkdir(parents=True)
-        county = made_county(20, 20, 20)
+        county = made_county(840, 20)
         return page_of(folder, "TGR01001", written(county, 22), written(much_changed(county, 21).county, 23))
 
     @pytest.mark.parametrize("width, height", [(1300, 850), (1000, 600)])
@@ -204,27 +175,27 @@ class TestLayout:
         """Nothing lies over a popup's close button, wherever the popup is opened."""
         browser.resize(width, height)
         browser.open(page)
-        assert browser.run(COVERED_BUTTONS) == []
+        assert browser.run("return coveredButtons()") == []
 
     def test_paths(self, browser: Browser, page: Path) -> None:
         """In a narrow window a path is broken between folders alone."""
         browser.resize(420, 800)
         browser.open(page)
-        assert browser.run(BROKEN_WORDS) == []
+        assert browser.run("return brokenPieces()") == []
         assert browser.run("return document.querySelector('.sets .name').getClientRects()[0].height") > 30
 
 
 class TestVerdicts:
     """Pages of maps that don't differ, or only in how things are tied."""
 
-    @pytest.mark.parametrize("county", [made_county(6, 6, 24), County([], [], [], [])], ids=["county", "nothing"])
+    @pytest.mark.parametrize("county", [made_county(84, 24), County([], [], [], [])], ids=["county", "nothing"])
     def test_one_map(self, browser: Browser, room: Path, county: County) -> None:
         browser.open(page_of(room, "same", written(county, 25), written(county, 26)))
         assert browser.texts("#notes") == ["No differences: the two are one map."]
         assert browser.texts("#list li") == []
 
     def test_ties(self, browser: Browser, room: Path) -> None:
-        county = made_county(10, 10, 27)
+        county = made_county(220, 27)
         changing = Changing.begin(county, 28)
         changing.split_nodes(1)
         browser.open(page_of(room, "tied", written(county, 29), written(changing.county, 30)))
@@ -240,7 +211,7 @@ def test_picture(browser: Browser, room: Path) -> None:
     assert (ended.status, ended.err) == (1, "")
     browser.resize(1280, 800)
     browser.open(room / "example.html")
-    assert browser.texts("#listed") == [f"{len(example()[1].differences) + 1} in all"]
+    assert browser.texts("#listed") == [f"{len(example_differences()) + 1} in all"]
     browser.click_at_changed("Commerce")
     assert "Commerce" in browser.texts(".leaflet-popup-content")[0]
     assert (ROOT / "docs/differences.png").stat().st_size < 150_000

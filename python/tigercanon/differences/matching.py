@@ -273,13 +273,30 @@ def find_ties(certain: list[Pair[Chain]], first: Teller, second: Teller) -> list
     """The nodes, polygons and names that are one in one map and several in the other."""
     ties: list[Tie] = []
     for subject, find in (("node", tied_nodes), ("polygon", tied_polygons), ("feature name", tied_names)):
-        tied = partial(find, certain, first, second)
-        ones, others = split_numbers(tied())
-        forth = ((at.first, at.second, at) for at in tied() if at.first in ones)
-        back = ((at.second, at.first, at) for at in tied() if at.second in others)
-        ties += told_ties(subject, True, forth) if ones else []
-        ties += told_ties(subject, False, back) if others else []
+        for is_one_in_first in (True, False):
+            groups = grouped(partial(find, certain, first, second), is_one_in_first)
+            ties += [Tie(subject, is_one_in_first, several) for several in groups]
     return ties
+
+
+def grouped(tied: Callable[[], Iterable[Tied]], is_by_first: bool) -> list[list[list[Tied]]]:
+    """For each number of one map that is paired with several of the other, its places by those."""
+
+    def numbers(at: Tied) -> Pair[Hashable]:
+        return (at.first, at.second) if is_by_first else (at.second, at.first)
+
+    met: dict[Hashable, Hashable] = {}
+    several = set()
+    for at in tied():
+        one, other = numbers(at)
+        if met.setdefault(one, other) != other:
+            several.add(one)
+    groups: dict[Hashable, dict[Hashable, list[Tied]]] = defaultdict(lambda: defaultdict(list))
+    for at in tied() if several else ():
+        one, other = numbers(at)
+        if one in several:
+            groups[one][other].append(at)
+    return [list(places.values()) for places in groups.values()]
 
 
 def tied_nodes(certain: list[Pair[Chain]], _first: Teller, _second: Teller) -> Iterator[Tied]:
@@ -305,27 +322,6 @@ def tied_names(certain: list[Pair[Chain]], first: Teller, second: Teller) -> Ite
         if chain.feats and first.county.name_bodies(chain) == second.county.name_bodies(twin):
             for place, (one, other) in enumerate(zip(chain.feats, twin.feats), 1):
                 yield Tied(one, other, chain, f"further name {place}")
-
-
-def split_numbers(tied: Iterable[Tied]) -> Pair[set[Hashable]]:
-    """The numbers of each map that are paired with several of the other."""
-    forth: dict[Hashable, Hashable] = {}
-    back: dict[Hashable, Hashable] = {}
-    ones, others = set(), set()
-    for first, second, _, _ in tied:
-        if forth.setdefault(first, second) != second:
-            ones.add(first)
-        if back.setdefault(second, first) != first:
-            others.add(second)
-    return ones, others
-
-
-def told_ties(subject: str, is_one_in_first: bool, tied: Iterable[tuple[Hashable, Hashable, Tied]]) -> list[Tie]:
-    """A tie for each number that is one, with what the other map has under each of its numbers."""
-    groups: dict[Hashable, dict[Hashable, list[Tied]]] = defaultdict(lambda: defaultdict(list))
-    for one, several, at in tied:
-        groups[one][several].append(at)
-    return [Tie(subject, is_one_in_first, list(several.values())) for several in groups.values()]
 
 
 OwnNumbers = dict[Hashable, int]

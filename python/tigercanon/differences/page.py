@@ -167,7 +167,7 @@ def page_data(comparison: Comparison, sets: Sets) -> dict[str, Any]:
     page = {
         "kinds": KINDS,
         "shift": data.shift,
-        "counts": {subject.what: part.counts for subject, part in zip(SUBJECTS, comparison.parts)},
+        "counts": dict(zip(SUBJECTS, (part.counts for part in comparison.parts))),
         "entries": data.differences(),
         "bare": {"chains": data.bare_chains, "polygons": data.bare_polygons},
         "alike": data.alike(not is_too_large),
