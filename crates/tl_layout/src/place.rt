@@ -55,7 +55,7 @@ pub trait Places: Sized {
         ensures { items self.new ≡ items self.old ++ item ∷ [] };
 
     /// Writes the place with this index.
-    fn write(out: &mut [u8], place: usize, item: &Option<Self::Item>)
+    fn write_item(out: &mut [u8], place: usize, item: &Option<Self::Item>)
         requires place { place < COUNT }
         requires within { 18 + COUNT * WIDTH ≤ length out.old }
         ensures { take (18 + (place + 1) * WIDTH) out.new ≡ take (18 + place * WIDTH) out.old ++ text item.now };
@@ -98,7 +98,7 @@ impl Places for ArrayVec<Point, 10> {
     }
 
     #[inline(always)]
-    fn write(out: &mut [u8], place: usize, item: &Option<Point>) {
+    fn write_item(out: &mut [u8], place: usize, item: &Option<Point>) {
         let column = 19 + 19 * place;
         match item {
             Some(point) => write_point(out, column, point),
@@ -145,7 +145,7 @@ impl Places for ArrayVec<u32, 5> {
     }
 
     #[inline(always)]
-    fn write(out: &mut [u8], place: usize, item: &Option<u32>) {
+    fn write_item(out: &mut [u8], place: usize, item: &Option<u32>) {
         let number = u64::from(item.unwrap_or(0));
         write_number(out, 19 + 8 * place, 26 + 8 * place, number);
     }
@@ -205,6 +205,6 @@ pub fn write_places<P: Places>(out: &mut [u8], items: &[P::Item])
 {
     let count = P::COUNT;
     for place in 0..count {
-        P::write(out, place, &item_at(items, place));
+        P::write_item(out, place, &item_at(items, place));
     }
 }

@@ -5,11 +5,11 @@ use Rattle.tl_layout.proofs.place.write_places.Goals as goal
 
 pub loop-place-preserved : goal.loop-place-preserved
 loop-place-preserved g c = record {
-  long = c.write.auto.out ∙ c.loop-place.invariant.long;
+  long = c.write_item.auto.out ∙ c.loop-place.invariant.long;
   left = λ n h.
       let place = c.loop-place.place in
       place_written g.P.Places.text n place (place + 1) c.args.items.now _ _ _ (c.loop-place.invariant.left (suc n) (omega arith))
-      (c.write.ensures ∙ ap (λ item. take (18 + place * g.P.Places.WIDTH) c.loop-place.out ++ g.P.Places.text item) c.item_at.ensures)
+      (c.write_item.ensures ∙ ap (λ item. take (18 + place * g.P.Places.WIDTH) c.loop-place.out ++ g.P.Places.text item) c.item_at.ensures)
       (omega arith);
 }
 
