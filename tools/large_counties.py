@@ -284,37 +284,51 @@ def twins_otherwise(placed: list[tuple[int, bytes, int]]) -> Pieces:
     yield from lines(name_line(), map(FEAT, range(4)), range(4))
 
 
-# A street with seven chains of one shape that differ only in their nodes: all 5,040 orders of them have the same records of type 1.
+# A street with seven chains of one shape: all 5,040 orders of them have the same records of type 1.
 
 
 TIED_PLACE, TIED = 500, 7
 
-Tied = tuple[int, int, int]  # A place on the street, and the start and the end node of a chain there; 0 for none.
+Tied = tuple[int, int, int, int]  # A place on the street, the start and the end node of a chain there, and an address; 0 for none.
 
 
 def node_ties(count: int) -> County:
     """One of the seven has no start node, and is the first, since a blank comes before any number. All others have nodes of their own,
     so each order of them has the same text."""
-    chains = [(place, place + 1, place + 2) for place in range(count)]
     own = range(count + 2, count + 2 + 2 * TIED, 2)
-    chains[TIED_PLACE : TIED_PLACE + 1] = [(TIED_PLACE, 0 if node == own[0] else node, node + 1) for node in own]
-    return County(lambda: node_ties_text(chains), lambda: node_ties_otherwise(chains))
+    return ties(count, [(TIED_PLACE, 0 if node == own[0] else node, node + 1, 0) for node in own])
 
 
-def node_ties_text(chains: list[Tied]) -> Pieces:
-    for tlid, (place, _, _) in enumerate(chains, 1):
+def range_ties(count: int) -> County:
+    """Each of the seven has an address and nodes of its own, and they are in the order of the addresses."""
+    own = range(count + 2, count + 2 + 2 * TIED, 2)
+    return ties(count, [(TIED_PLACE, node, node + 1, address) for address, node in enumerate(own, 1)])
+
+
+def ties(count: int, seven: list[Tied]) -> County:
+    """The street with these chains at one place."""
+    chains = [(place, place + 1, place + 2, 0) for place in range(count)]
+    chains[TIED_PLACE : TIED_PLACE + 1] = seven
+    return County(lambda: ties_text(chains), lambda: ties_otherwise(chains))
+
+
+def ties_text(chains: list[Tied]) -> Pieces:
+    for tlid, (place, *_) in enumerate(chains, 1):
         yield chain_line() % (tlid, *longitudes((place, place + 1)))
+    yield from (range_line(is_turned=False) % (tlid, 1, address) for tlid, (*_, address) in enumerate(chains, 1) if address)
     nodes: dict[int, int] = {}
-    for tlid, (_, *ends_here) in enumerate(chains, 1):
+    for tlid, (_, *ends_here, _) in enumerate(chains, 1):
         yield tied_link(tlid, [nodes.setdefault(node, len(nodes) + 1) if node else 0 for node in ends_here])
 
 
-def node_ties_otherwise(chains: list[Tied]) -> Pieces:
+def ties_otherwise(chains: list[Tied]) -> Pieces:
     for number in strewn(len(chains)):
-        place, start, end = chains[number]
+        place, start, end, address = chains[number]
         is_turned = number % 2
         yield chain_line() % (TLID(number), *longitudes((place + is_turned, place + 1 - is_turned)))
         yield tied_link(TLID(number), [node and NODE(node) for node in ((end, start) if is_turned else (start, end))])
+        if address:
+            yield range_line(bool(is_turned)) % (TLID(number), number % 900 + 1, address)
 
 
 def tied_link(tlid: int, nodes: list[int]) -> bytes:
