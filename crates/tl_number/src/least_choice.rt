@@ -210,7 +210,14 @@ fn lesser_tie<'a, C: Chart>(
     ensures tied { IfOk result (λ kept. ones_cmp (C.county chart.now) least.entry.number kept.number ≡ Equal) }
 {
     match compared {
-        Some(ordering) => Ok(lesser(ordering, least, NumberedChoice { number, choice: None })),
+        Some(ordering) => Ok(lesser(
+            ordering,
+            least,
+            NumberedChoice {
+                number,
+                choice: None,
+            },
+        )),
         None => next_arranged(alloc, chart, order, least, number),
     }
 }

@@ -13,7 +13,10 @@ use tl_county::{Chart, DirectedChain, Listed};
 use tl_layout::Rec6;
 
 /// An open place with its chain in an arrangement.
-fn open_chain_of(arrangement: &[DirectedChain], critical: CriticalEnds) -> Option<(u32, DirectedChain)>
+fn open_chain_of(
+    arrangement: &[DirectedChain],
+    critical: CriticalEnds,
+) -> Option<(u32, DirectedChain)>
     ensures { result ≡ open_chain arrangement.now critical }
 {
     match critical {

@@ -1,7 +1,7 @@
 -- The least of the texts of numbered choices, number by number.
 use Rattle.tl_number.proofs.Common.{◌≡◌, ◌≤◌, ◌+◌, ℕ, nat_lt, List, Bool, true, false, cond, Ordering, is_gt, nat_cmp, refl, sym, ap, ◌∙◌}
 use Rattle.tl_number.proofs.Common.{subst, arith, AllKeysStandIn, AreSame, Arrangement, County, IsChoice, IsCounty, IsLeastBelow}
-use Rattle.tl_number.proofs.Common.{IsLeastFrom, IsNotAfter, arranged, choice_list, choices, ltb-false, ltb-true, not_greater}
+use Rattle.tl_number.proofs.Common.{IsLeastFrom, IsNotAfter, arranged, choice_list, ltb-false, ltb-true, not_greater}
 use Rattle.tl_number.proofs.Common.{numbered_choice, packed, polygon_keys, polygons_along, renaming_of, same-symmetric, same-transitive}
 use Rattle.tl_number.proofs.Common.{slice_cmp, text_of, upto}
 use Rattle.ordered_lists.proofs.ByKey.KeyOrders.{bytes_keys}

@@ -1,5 +1,5 @@
 -- The place of a key among those that were seen, and that it stays there.
-use Rattle.tl_number.proofs.Common.{◌≡◌, ◌≤◌, ◌+◌, ℕ, List, [], ◌∷◌, ◌++◌, length, Bool, true, false, cond, Ordering, Some, is_eq, refl}
+use Rattle.tl_number.proofs.Common.{◌≡◌, ◌≤◌, ℕ, List, [], ◌∷◌, ◌++◌, length, Bool, true, false, cond, Ordering, Some, is_eq, refl}
 use Rattle.tl_number.proofs.Common.{sym, ap, ◌∙◌, arith, length-append, IsKeyOrder, first_seen_after, list_any, position, position_or_len}
 use Rattle.tl_number.proofs.Common.{same-itself}
 use Rattle.indexmap.specs.IndexSet.{insert_key}

@@ -1,5 +1,5 @@
 -- Lists that are compared place by place, and tests that decide whether they are the same.
-use Rattle.tl_number.proofs.Common.{◌≡◌, ◌<◌, ◌≤◌, ◌+◌, ℕ, zero, suc, List, [], ◌∷◌, length, take, Bool, Some, slice_get, map, ◌++◌, sym}
+use Rattle.tl_number.proofs.Common.{◌≡◌, ◌<◌, ◌≤◌, ℕ, zero, suc, List, [], ◌∷◌, length, take, Bool, Some, slice_get, map, ◌++◌, sym}
 use Rattle.tl_number.proofs.Common.{ap, ◌∙◌, arith, County, Decides, Eight, Five, Four, I, IsCounty, One, P, Seven, Six, Two, county_of}
 use Rattle.tl_number.proofs.Common.{group_at, grouped, packed, packed_county, take_all, type_1_by_chain, type_2_by_chain, type_4_by_chain}
 use Rattle.tl_number.proofs.Common.{type_5_by_name, type_6_by_chain, type_7_by_landmark, type_8_together, type_i_by_chain, type_p_by_number}

@@ -1,6 +1,6 @@
 -- Records in groups by place, compared at open places alone.
 use Rattle.tl_number.proofs.Common.{◌≡◌, ◌≢◌, ◌∙◌, ◌<◌, ◌≤◌, ◌+◌, ℕ, zero, suc, List, [], ◌∷◌, ◌++◌, length, length-append, cond, Bool, true, false}
-use Rattle.tl_number.proofs.Common.{Ordering, Less, Greater, AllByRecursion, OpenPlace, all_append, all_weaker, arith, ap, ap₂, is_open, nat_cmp}
+use Rattle.tl_number.proofs.Common.{Ordering, Less, Greater, AllByRecursion, OpenPlace, all_append, all_weaker, arith, ap, is_open, nat_cmp}
 use Rattle.tl_number.proofs.Common.{ordering_then, refl, slice_cmp, sym, tied_itself}
 use Rattle.std.proofs.lemmas.Cmp.{lists_total}
 use Rattle.std.specs.Cmp.{IsTotalOrder, nat_cmp_is}

@@ -1,5 +1,5 @@
 -- The records of type 6 at critical ends, read one by one.
-use Rattle.tl_number.proofs.Common.{◌≡◌, ◌∙◌, ◌<◌, ◌≤◌, ◌+◌, ℕ, List, length, length-map, map, nat_lt, Bool, true, false, Option, Some, None, option_map}
+use Rattle.tl_number.proofs.Common.{◌≡◌, ◌∙◌, ◌≤◌, ◌+◌, ℕ, List, length, length-map, map, nat_lt, Bool, true, false, Some, None, option_map}
 use Rattle.tl_number.proofs.Common.{slice_get, slice_get_past, refl, sym, ap, subst, arith, chain_at, Chain, County, DirectedChain, IsCounty, IsWithinLimits}
 use Rattle.tl_number.proofs.Common.{Ranges, directed_chain, group_at, ltb-false, ltb-true, most_records, ranges_of, turned_if}
 use Rattle.tl_layout.specs.Turned.{turned_ranges}

@@ -1,10 +1,10 @@
 -- The records of type 6 of two choices are in the order of those at open places.
-use Rattle.tl_number.proofs.Common.{◌≡◌, ◌≢◌, ◌∙◌, ◌<◌, ◌≤◌, ◌+◌, ◌^◌, ℕ, zero, suc, List, [], ◌∷◌, ◌++◌, length, length-map, map, map-map, cond, Bool, true, false}
+use Rattle.tl_number.proofs.Common.{◌≡◌, ◌≢◌, ◌∙◌, ◌<◌, ◌+◌, ◌^◌, ℕ, suc, List, [], ◌∷◌, ◌++◌, length, map, map-map, cond, Bool, true, false}
 use Rattle.tl_number.proofs.Common.{Option, Some, None, option_map, Ordering, AllByRecursion, AreSame, AreWhole, Chain, County, DirectedChain}
 use Rattle.tl_number.proofs.Common.{Fields6, IsCounty, OpenPlace, Ranges, Six, arith, ap, ap₂, arranged_by, arrangement_of, codes, critical_from, drop, exact_unsigned, length-append}
 use Rattle.tl_number.proofs.Common.{directed_chain, grouped, groups_cmp, is_open, joined, nat_cmp, nat_list_cmp_total, numbered_from}
-use Rattle.tl_number.proofs.Common.{on, on_total, ordering_then, packed_sixes, ranges_of, records_cmp, refl, renaming_of, slice_cmp, slice_get}
-use Rattle.tl_number.proofs.Common.{spelling_cmp, sym, type_6_by_chain, packed_by_type}
+use Rattle.tl_number.proofs.Common.{on, on_total, packed_sixes, ranges_of, refl, renaming_of, slice_cmp, slice_get}
+use Rattle.tl_number.proofs.Common.{spelling_cmp, sym, type_6_by_chain}
 use Rattle.tl_county.proofs.Limits.CarriedLimits.{carried_many}
 use Rattle.tl_layout.specs.FieldTexts.{number_text, rows_texts}
 use Rattle.tl_layout.specs.Laws.ColumnLaws.{joined-before}

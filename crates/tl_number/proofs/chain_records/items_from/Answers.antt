@@ -1,4 +1,4 @@
-use Rattle.tl_number.proofs.Common.{◌≡◌, ◌+◌, ◌-◌, ◌∙◌, drop, suc, take, sym, ap, arith}
+use Rattle.tl_number.proofs.Common.{◌≡◌, ◌+◌, ◌∙◌, drop, suc, take, sym, ap, arith}
 use Rattle.std.specs.List.{push}
 use Rattle.ordered_lists.proofs.Lists.Places.{next_taken}
 use Rattle.tl_number.proofs.Records.Grouped.{get_dropped}

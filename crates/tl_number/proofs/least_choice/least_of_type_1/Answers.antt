@@ -1,4 +1,4 @@
-use Rattle.tl_number.proofs.Common.{◌≡◌, is_gt, length, sym, ap, ◌∙◌, true, false, ones_cmp}
+use Rattle.tl_number.proofs.Common.{◌≡◌, is_gt, length, sym, ap, ◌∙◌, true, ones_cmp}
 use Rattle.tl_number.proofs.Lemmas.{places_within}
 use Rattle.tl_number.proofs.Choices.ChosenArrangements.{moved_of_number}
 use Rattle.tl_number.proofs.Choices.FixedPlaces.{agree_itself}

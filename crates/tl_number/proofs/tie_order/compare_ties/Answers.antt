@@ -1,4 +1,4 @@
-use Rattle.tl_number.proofs.Common.{◌≡◌, ◌∙◌, sym, ap, ap₂, map, Six, critical_numbers, ends_cmp, feats_of, groups_cmp}
+use Rattle.tl_number.proofs.Common.{◌∙◌, sym, ap, ap₂, map, Six, critical_numbers, ends_cmp, feats_of, groups_cmp}
 use Rattle.tl_number.proofs.Common.{parts_along, slice_cmp}
 use Rattle.tl_number.specs.CriticalPlaces.{topologies}
 use Rattle.tl_number.specs.OpenRanges.{sixes_at}
