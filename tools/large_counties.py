@@ -208,15 +208,24 @@ def twins(count: int = 2_000) -> County:
 
 
 def node_ties(count: int) -> County:
-    """A street with seven chains of one shape that differ only in their nodes: all 5,040 orders of them have the same records of type 1.
-    One of the seven has no start node, and is the first, since a blank comes before any number. All others have nodes of their own, so
-    each order of them has the same text."""
-    nodes = itertools.count(TIED_PLACE + 1)
-    tied = [(TIED_PLACE, next(nodes) if number else None, next(nodes)) for number in range(TIED)]
+    """One of the seven chains has no start node, and is the first, since a blank comes before any number. All others have nodes of their
+    own, so each order of them has the same text."""
+    return ties(count, [{"start": None}, *({} for _ in range(TIED - 1))])
+
+
+def range_ties(count: int) -> County:
+    """Each of the seven chains has an address and nodes of its own, and they are in the order of the addresses."""
+    return ties(count, [{"ranges": [{"FRADDL": f"{number:>11}", "FRIADDL": "1"}]} for number in range(1, TIED + 1)])
+
+
+def ties(count: int, seven: list[dict[str, Any]]) -> County:
+    """A street with seven chains of one shape, all between nodes of their own unless it says otherwise: all 5,040 orders of them have the
+    same records of type 1."""
+    nodes, link = itertools.count(TIED_PLACE + 1), {"FILE": maps.FILE}
+    tied = [street_chain(TIED_PLACE, **{"start": next(nodes), "end": next(nodes), **more}, link=link) for more in seven]
     further = next(nodes) - TIED_PLACE - 1
-    ends = [(place, place, place + 1) for place in range(TIED_PLACE)] + tied
-    ends += [(place, place + further, place + further + 1) for place in range(TIED_PLACE + 1, count)]
-    chains = [street_chain(*each, link={"FILE": maps.FILE}) for each in ends]
+    chains = [street_chain(place, place, place + 1, link=link) for place in range(TIED_PLACE)] + tied
+    chains += [street_chain(place, place + further, place + further + 1, link=link) for place in range(TIED_PLACE + 1, count)]
     return spelled(maps.County(chains, [], [], [], outside=" " * 15))
 
 

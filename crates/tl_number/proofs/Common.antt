@@ -94,7 +94,7 @@ pub use Rattle.tl_number.specs.ChoiceSearch.{IsMoved, numbered_arrangement}
 pub use Rattle.tl_number.specs.CountyGroups.{type_1_by_chain, type_2_by_chain, type_4_by_chain, type_5_by_name, type_6_by_chain}
 pub use Rattle.tl_number.specs.CountyGroups.{type_7_by_landmark, type_8_together, type_i_by_chain, type_p_by_number, types_1_to_4}
 pub use Rattle.tl_number.specs.CountyGroups.{types_5_to_7, types_8_to_p}
-pub use Rattle.tl_number.specs.CriticalPlaces.{HasNodes, but_nodes_list, critical_from, critical_numbers, ends_along, ends_at, ends_cmp}
+pub use Rattle.tl_number.specs.CriticalPlaces.{HasNodes, critical_from, critical_numbers, ends_along, ends_at, ends_cmp}
 pub use Rattle.tl_number.specs.CriticalPlaces.{ends_or_none, is_open, node_cmp, renumbered_ends}
 pub use Rattle.tl_number.specs.DirectedChains.{HasChainsOf, arrangement_of, parts_along, tlid_at}
 pub use Rattle.tl_number.specs.EndsAndSides.{changed_both, ends_among, ends_of, keys_at, node_among, nodes_at, sides_of}
@@ -104,7 +104,6 @@ pub use Rattle.tl_number.specs.LandmarkItems.{landmark_place_cmp, lands_at, link
 pub use Rattle.tl_number.specs.LeastNumber.{IsLeastBelow, choice_list}
 pub use Rattle.tl_number.specs.MovedChains.{AgreeApart, AreWithin, StandInOrder, other_way}
 pub use Rattle.tl_number.specs.NameItems.{feats_along_arrangement}
-pub use Rattle.tl_number.specs.NodeTies.{AreNodeTies}
 pub use Rattle.tl_number.specs.NumberedChoices.{chosen, first_stood, moved, stood, turned_by}
 pub use Rattle.tl_number.specs.RecordOrder.{AreTiedAt, AreTiedBelow, groups_cmp, links_of, records_cmp, spelling_cmp}
 pub use Rattle.tl_number.specs.Sights.{IsSight, plain}

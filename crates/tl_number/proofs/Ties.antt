@@ -6,5 +6,8 @@ pub mod SmallNumbers
 pub mod CriticalSlots
 pub mod OpenChains
 pub mod CollectedEnds
+pub mod OpenRecords
+pub mod OpenPlaces
+pub mod RangeOrder
 pub mod NodeOrder
 pub mod CriticalOrder

@@ -1,11 +1,10 @@
--- Choices whose chains differ only in their nodes, compared at the places where the numbers of nodes can differ.
+-- The places where the numbers of nodes can differ between choices.
 use Rattle.std.specs.Prelude.{ℕ, suc, ◌≡◌, ◌+◌, ◌&&◌, List, [], ◌∷◌, ◌++◌, map, flat_map, get_or, slice_get, Bool, true, cond, not, nat_le, nat_lt}
 use Rattle.std.specs.Prelude.{Option, Some, None, option_map, option_to_list, unwrap_or, IsTrue}
 use Rattle.std.specs.List.{AllByRecursion, list_any}
 use Rattle.std.specs.Ordering.{nat_cmp, ordering_then}
 use Rattle.std.specs.declared.cmp.Ordering.{Ordering}
 use Rattle.tl_layout.specs.PolygonSide.{PolygonSide}
-use Rattle.tl_layout.specs.declared.ranges.Ranges.{Ranges}
 use Rattle.tl_layout.specs.declared.type_i.BodyI.{BodyI}
 use Rattle.tl_shape.specs.Chain.{Chain}
 use Rattle.tl_county.specs.County.{County}
@@ -19,35 +18,23 @@ use Rattle.tl_number.specs.Growth.{first_seen, first_seen_after}
 use Rattle.tl_number.specs.declared.critical_places.CriticalEnds.{CriticalEnds}
 use Rattle.tl_number.specs.declared.critical_places.CriticalEnds.TheVariants.{Open, Fixed}
 
--- what a chain's records of types 4, 6 and I have, except for its nodes
-pub record ButNodes : Type 0 where
-  pub topology : BodyI
+-- what a chain's record of type I has, except for its nodes
+pub record Topology : Type 0 where
+  pub body : BodyI
   pub left : PolygonSide
   pub right : PolygonSide
-  pub feats : List ℕ
-  pub ranges : List Ranges
 
-abbrev pub but_nodes : Chain → ButNodes
-but_nodes chain = record {
-  topology = chain.topology;
-  left = chain.left;
-  right = chain.right;
-  feats = chain.feats;
-  ranges = chain.ranges;
-}
+abbrev pub topology : Chain → Topology
+topology chain = record { body = chain.topology; left = chain.left; right = chain.right }
 
-abbrev pub but_nodes_list : Option Chain → List ButNodes
-but_nodes_list chain = option_to_list (option_map but_nodes chain)
+abbrev pub topologies : Option Chain → List Topology
+topologies chain = option_to_list (option_map topology chain)
 
 -- two chains, or none, have the same sides and the same content in their records of type I
 pub record HaveSameSides (o p : Option Chain) : Type 0 where
-  pub topology : option_map (λ c. c.topology) o ≡ option_map (λ c. c.topology) p
+  pub body : option_map (λ c. c.topology) o ≡ option_map (λ c. c.topology) p
   pub left : option_map (λ c. c.left) o ≡ option_map (λ c. c.left) p
   pub right : option_map (λ c. c.right) o ≡ option_map (λ c. c.right) p
-
--- two arrangements have the same chains except for their nodes, points and contents of type 1
-abbrev pub AreSameButNodes : County → List DirectedChain → List DirectedChain → Type 0
-AreSameButNodes county one other = parts_along but_nodes_list county one ≡ parts_along but_nodes_list county other
 
 -- the nodes at the ends of a chain, if there is one
 abbrev pub ends_or_none : Option Chain → Option ℕ × Option ℕ

@@ -18,7 +18,7 @@ const POINTS_A_RECORD: usize = 10;
 const NAMES_A_RECORD: usize = 5;
 
 /// The number of a record among the chain's records of the same type (RTSQ), counted from 1.
-fn sequence_number(place: usize) -> u16
+pub(crate) fn sequence_number(place: usize) -> u16
     requires { place < 999 }
     ensures number { result ≡ place + 1 }
     ensures in_range { IsNumber 3 result }

@@ -1,15 +1,14 @@
 //! The places where choices can differ in the numbers of their nodes.
 //!
-//! Choices have the same chains at all places except the open ones, and nodes are numbered by first appearance. If two choices differ
-//! only in the nodes of the chains at open places, the first number that differs is at an open place, or at the first fixed
-//! place of a node that such a chain has. These ends are critical. They are collected once. Each choice then numbers the nodes
+//! Choices have the same chains at all places except the open ones, and nodes are numbered by first appearance. The first number that
+//! differs between two choices is at an open place, or at the first fixed place of a node that a chain at an open place has. These ends are critical. They are collected once. Each choice then numbers the nodes
 //! at critical ends among themselves. Two choices first differ in these small numbers where they first differ in the numbers of the
 //! whole county, and in the same order.
 
 ghost use Rattle.ordered_lists.specs.Orders.{stands_in};
 ghost use Rattle.std.specs.Cmp.Lexicographic.{slice_cmp};
 ghost use Rattle.std.specs.Ordering.{nat_cmp};
-ghost use Rattle.std.specs.Prelude.{◌≡◌, ◌+◌, ◌&&◌, ◌++◌, ◌∷◌, [], ℕ, List, Option, None, get_or, length, map, nat_le, nat_lt, suc, true, unwrap_or, IfOk, IsTrue, OnOk};
+ghost use Rattle.std.specs.Prelude.{◌≡◌, ◌+◌, ◌<◌, ◌^◌, ◌&&◌, ◌++◌, ◌∷◌, [], ℕ, List, Option, None, get_or, length, map, nat_le, nat_lt, suc, true, unwrap_or, IfOk, IsTrue, OnOk};
 ghost use Rattle.tl_number.specs.CriticalPlaces.{AreCritical, HasNodes, HasOpenNodes, critical_from, critical_numbers, ends_along, ends_at, ends_cmp, fixed_ends, is_open, met_after, met_after_both, newly_met, newly_met_ends};
 ghost use Rattle.tl_number.specs.DirectedChains.{HasChainsOf};
 ghost use Rattle.tl_number.specs.EndsAndSides.{nodes_at};
@@ -28,7 +27,7 @@ use tl_profile::{OpenPlace, ShapeOrder};
 #[derive(Clone, Copy)]
 pub(crate) enum CriticalEnds {
     /// The ends of the chain at an open place, which differ from choice to choice.
-    Open(usize),
+    Open(u32),
     /// Ends of the chain at a fixed place, without those that aren't critical.
     Fixed(Ends),
 }
@@ -163,13 +162,14 @@ fn push_critical(
     place: usize,
     ends: Ends,
 ) -> Result<(), AllocError>
+    requires { place < 2 ^ 32 }
     ensures { OnOk result ((rest : List (Option ℕ × Option ℕ)) →
         critical.new.items ++ critical_from nodes.now places.now met.new (suc place) rest
         ≡ critical.old.items ++ critical_from nodes.now places.now met.old place (ends ∷ rest)) }
 {
     let opened = is_open_at(places, place);
     if opened {
-        critical.push(CriticalEnds::Open(place))?;
+        critical.push(CriticalEnds::Open(place as u32))?;
         return Ok(());
     }
     let new = meet_both(nodes, met, ends)?;
@@ -184,6 +184,7 @@ fn critical_among(
     nodes: &Interner<u64>,
     ends: &[Ends],
 ) -> Result<Vec<CriticalEnds>, AllocError>
+    requires { length ends.now < 2 ^ 32 }
     ensures { IfOk result (λ critical. critical.items ≡ critical_from nodes.now places.now [] 0 ends.now) }
 {
     let mut met = Interner::new(alloc);
@@ -200,7 +201,8 @@ pub(crate) fn critical_ends<C: Chart>(
     chart: &C,
     order: &ShapeOrder,
 ) -> Result<Vec<CriticalEnds>, AllocError>
-    requires { HasChainsOf (C.county chart.now) order.now.by_shape }
+    requires there { HasChainsOf (C.county chart.now) order.now.by_shape }
+    requires few { length order.now.by_shape < 2 ^ 32 }
     ensures { IfOk result (λ critical. AreCritical (C.county chart.now) order.now critical.items) }
 {
     let (ends, sides) = links_along(alloc, chart, order.by_shape())?;
@@ -227,7 +229,7 @@ fn ends_in<C: Chart>(chart: &C, arrangement: &[DirectedChain], critical: Critica
     ensures { result ≡ ends_at (ends_along (C.county chart.now) arrangement.now) critical }
 {
     match critical {
-        CriticalEnds::Open(place) => ends_at_place(chart, arrangement, place),
+        CriticalEnds::Open(place) => ends_at_place(chart, arrangement, place as usize),
         CriticalEnds::Fixed(ends) => ends,
     }
 }

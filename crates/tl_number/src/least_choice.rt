@@ -3,14 +3,16 @@
 //! Records of type 1 come first in a text, and a choice alone determines them. So this first searches all choices for the one whose
 //! records of type 1 are least; from one choice to the next it only reads what moves at open places. Of the other choices with the
 //! same records of type 1, those with the same chains at every place are skipped: if chains were entered twice with all their data,
-//! every order of them makes the same county. If the rest differ only in the nodes of their chains, the numbers of their critical ends
-//! are compared. Otherwise each of them is arranged and compared as a text. There are few of these: chains with the same shape mostly
-//! differ in an address, a name or a code.
+//! every order of them makes the same county. Each of the rest is compared with the least so far: without arranging them if their
+//! address ranges or the numbers of their nodes decide, and otherwise by their texts. There are few of these: chains with the same
+//! shape mostly differ in an address, a name or a code.
 
 ghost use Rattle.std.specs.declared.cmp.Ordering.TheVariants.{Equal};
-ghost use Rattle.std.specs.Ordering.{is_gt};
+ghost use Rattle.std.specs.Cmp.Lexicographic.{slice_cmp};
+ghost use Rattle.std.specs.Ordering.{is_gt, nat_cmp};
 ghost use Rattle.std.specs.Prelude.{◌≡◌, ◌<◌, ◌≤◌, cond, false, length, true, IfOk, IfSome, MatchOption};
 ghost use Rattle.tl_county.specs.CountyRules.{AllKeysStandIn, polygon_keys, polygons_along};
+ghost use Rattle.tl_layout.specs.RecordText.{text_of};
 ghost use Rattle.tl_number.specs.Arrangement.{arranged};
 ghost use Rattle.tl_number.specs.Canonical.{IsNotAfter};
 ghost use Rattle.tl_number.specs.ChoiceSearch.{IsMoved, LeavesChoices, numbered_arrangement};
@@ -27,10 +29,11 @@ ghost use Rattle.tl_profile.specs.ShapeOrder.{IsShapeOrder};
 use crate::arranged::Arranged;
 use crate::arranging::arrange;
 use crate::ascending_order::arrangement_in_order;
-use crate::node_ties::least_of_node_ties;
+use crate::critical_places::critical_ends;
 use crate::numbered_arrangement::{choose, put_back};
-use crate::same_chains::{ButNodes, have_same_chains, have_same_open_parts};
+use crate::same_chains::have_same_chains;
 use crate::text_order::compare_texts;
+use crate::tie_order::compare_ties;
 use crate::type_1_order::compare_ones;
 use std::alloc::{AllocError, Global};
 use std::cmp::Ordering;
@@ -127,6 +130,154 @@ fn next_least<'a, C: Chart>(
     }
 }
 
+/// The least choice so far, arranged.
+fn arrange_least<'a, C: Chart>(
+    alloc: Global,
+    chart: &'a C,
+    order: &ShapeOrder,
+    least: NumberedChoice<Option<Arranged<Lent<'a, C>>>>,
+) -> Result<NumberedChoice<Arranged<Lent<'a, C>>>, AllocError>
+    requires known { LeavesChoices (C.county chart.now) order.now }
+    requires choice { IfSome least.choice
+        (λ view. arranged_county view ≡ arranged (C.county chart.now) (numbered_choice (C.county chart.now) least.number)) }
+    requires source { IfSome least.choice (λ view. ⟦<Lent<'a, C> as Chart>⟧.county (source_of view) ≡ C.county chart.now) }
+    ensures choice { IfOk result
+        (λ kept. arranged_county kept.choice ≡ arranged (C.county chart.now) (numbered_choice (C.county chart.now) kept.number)) }
+    ensures source { IfOk result (λ kept. ⟦<Lent<'a, C> as Chart>⟧.county (source_of kept.choice) ≡ C.county chart.now) }
+    ensures number { IfOk result (λ kept. kept.number ≡ least.entry.number) }
+{
+    let number = least.number;
+    let choice = match least.choice {
+        Some(choice) => choice,
+        None => arrange_choice(alloc, chart, order, number)?,
+    };
+    Ok(NumberedChoice { number, choice })
+}
+
+/// The lesser of the least choice so far and the choice with another number, both arranged.
+fn next_arranged<'a, C: Chart>(
+    alloc: Global,
+    chart: &'a C,
+    order: &ShapeOrder,
+    least: NumberedChoice<Option<Arranged<Lent<'a, C>>>>,
+    number: u64,
+) -> Result<NumberedChoice<Option<Arranged<Lent<'a, C>>>>, AllocError>
+    requires known { LeavesChoices (C.county chart.now) order.now }
+    requires choice { IfSome least.choice
+        (λ view. arranged_county view ≡ arranged (C.county chart.now) (numbered_choice (C.county chart.now) least.number)) }
+    requires source { IfSome least.choice (λ view. ⟦<Lent<'a, C> as Chart>⟧.county (source_of view) ≡ C.county chart.now) }
+    requires tied { ones_cmp (C.county chart.now) least.number number ≡ Equal }
+    ensures choice { IfOk result (λ kept. IfSome kept.choice
+        (λ view. arranged_county view ≡ arranged (C.county chart.now) (numbered_choice (C.county chart.now) kept.number))) }
+    ensures source { IfOk result (λ kept. IfSome kept.choice (λ view. ⟦<Lent<'a, C> as Chart>⟧.county (source_of view) ≡ C.county chart.now)) }
+    ensures least { IfOk result
+        (λ kept. IsNotAfter (choice_list (C.county chart.now) kept.number) (choice_list (C.county chart.now) least.entry.number)) }
+    ensures other { IfOk result
+        (λ kept. IsNotAfter (choice_list (C.county chart.now) kept.number) (choice_list (C.county chart.now) number)) }
+    ensures tied { IfOk result (λ kept. ones_cmp (C.county chart.now) least.entry.number kept.number ≡ Equal) }
+{
+    let least = arrange_least(alloc, chart, order, least)?;
+    let kept = next_least(alloc, chart, order, least, number)?;
+    Ok(NumberedChoice {
+        number: kept.number,
+        choice: Some(kept.choice),
+    })
+}
+
+/// The lesser of the least choice so far and the choice with another number, given how they compare, if that is known.
+fn lesser_tie<'a, C: Chart>(
+    alloc: Global,
+    chart: &'a C,
+    order: &ShapeOrder,
+    least: NumberedChoice<Option<Arranged<Lent<'a, C>>>>,
+    number: u64,
+    compared: Option<Ordering>,
+) -> Result<NumberedChoice<Option<Arranged<Lent<'a, C>>>>, AllocError>
+    requires known { LeavesChoices (C.county chart.now) order.now }
+    requires choice { IfSome least.choice
+        (λ view. arranged_county view ≡ arranged (C.county chart.now) (numbered_choice (C.county chart.now) least.number)) }
+    requires source { IfSome least.choice (λ view. ⟦<Lent<'a, C> as Chart>⟧.county (source_of view) ≡ C.county chart.now) }
+    requires tied { ones_cmp (C.county chart.now) least.number number ≡ Equal }
+    requires compared { IfSome compared (λ ordering. ordering
+        ≡ slice_cmp nat_cmp (text_of (choice_list (C.county chart.now) least.number)) (text_of (choice_list (C.county chart.now) number))) }
+    ensures choice { IfOk result (λ kept. IfSome kept.choice
+        (λ view. arranged_county view ≡ arranged (C.county chart.now) (numbered_choice (C.county chart.now) kept.number))) }
+    ensures source { IfOk result (λ kept. IfSome kept.choice (λ view. ⟦<Lent<'a, C> as Chart>⟧.county (source_of view) ≡ C.county chart.now)) }
+    ensures least { IfOk result
+        (λ kept. IsNotAfter (choice_list (C.county chart.now) kept.number) (choice_list (C.county chart.now) least.entry.number)) }
+    ensures other { IfOk result
+        (λ kept. IsNotAfter (choice_list (C.county chart.now) kept.number) (choice_list (C.county chart.now) number)) }
+    ensures tied { IfOk result (λ kept. ones_cmp (C.county chart.now) least.entry.number kept.number ≡ Equal) }
+{
+    match compared {
+        Some(ordering) => Ok(lesser(
+            ordering,
+            least,
+            NumberedChoice {
+                number,
+                choice: None,
+            },
+        )),
+        None => next_arranged(alloc, chart, order, least, number),
+    }
+}
+
+/// The lesser of the least choice so far and the choice with another number, given the result of comparing them.
+fn next_of_ties<'a, C: Chart>(
+    alloc: Global,
+    chart: &'a C,
+    order: &ShapeOrder,
+    least: NumberedChoice<Option<Arranged<Lent<'a, C>>>>,
+    number: u64,
+    compared: Result<Option<Ordering>, AllocError>,
+) -> Result<NumberedChoice<Option<Arranged<Lent<'a, C>>>>, AllocError>
+    requires known { LeavesChoices (C.county chart.now) order.now }
+    requires choice { IfSome least.choice
+        (λ view. arranged_county view ≡ arranged (C.county chart.now) (numbered_choice (C.county chart.now) least.number)) }
+    requires source { IfSome least.choice (λ view. ⟦<Lent<'a, C> as Chart>⟧.county (source_of view) ≡ C.county chart.now) }
+    requires tied { ones_cmp (C.county chart.now) least.number number ≡ Equal }
+    requires compared { IfOk compared (λ found. IfSome found (λ ordering. ordering
+        ≡ slice_cmp nat_cmp (text_of (choice_list (C.county chart.now) least.number)) (text_of (choice_list (C.county chart.now) number)))) }
+    ensures choice { IfOk result (λ kept. IfSome kept.choice
+        (λ view. arranged_county view ≡ arranged (C.county chart.now) (numbered_choice (C.county chart.now) kept.number))) }
+    ensures source { IfOk result (λ kept. IfSome kept.choice (λ view. ⟦<Lent<'a, C> as Chart>⟧.county (source_of view) ≡ C.county chart.now)) }
+    ensures least { IfOk result
+        (λ kept. IsNotAfter (choice_list (C.county chart.now) kept.number) (choice_list (C.county chart.now) least.entry.number)) }
+    ensures other { IfOk result
+        (λ kept. IsNotAfter (choice_list (C.county chart.now) kept.number) (choice_list (C.county chart.now) number)) }
+    ensures tied { IfOk result (λ kept. ones_cmp (C.county chart.now) least.entry.number kept.number ≡ Equal) }
+{
+    match compared {
+        Ok(found) => lesser_tie(alloc, chart, order, least, number, found),
+        Err(error) => {
+            drop(least);
+            Err(error)
+        }
+    }
+}
+
+/// Makes these the directed chains of the choice with this number. They may be those of any choice.
+fn choose_again(order: &ShapeOrder, arrangement: &mut [DirectedChain], number: u64)
+    requires within { AreWithin (length order.now.by_shape) order.now.places }
+    requires moved { IsMoved order.now arrangement.old }
+    ensures arrangement { arrangement.new ≡ numbered_arrangement order.now number }
+    ensures moved { IsMoved order.now arrangement.new }
+{
+    let places = order.open_places();
+    put_back(arrangement, order.by_shape(), places);
+    choose(arrangement, places, number);
+}
+
+/// The same for an arrangement in a vector.
+fn choose_in(order: &ShapeOrder, arrangement: &mut Vec<DirectedChain>, number: u64)
+    requires within { AreWithin (length order.now.by_shape) order.now.places }
+    requires moved { IsMoved order.now arrangement.old.items }
+    ensures arrangement { arrangement.new.items ≡ numbered_arrangement order.now number }
+    ensures moved { IsMoved order.now arrangement.new.items }
+{
+    choose_again(order, arrangement, number);
+}
+
 /// Compares the least choice so far and the choice with another number by their records of type 1. `arrangement` may be those of any
 /// choice and become those of the latter.
 fn compare_number<C: Chart>(
@@ -143,10 +294,8 @@ fn compare_number<C: Chart>(
     ensures arrangement { arrangement.new ≡ numbered_arrangement order.now number }
     ensures moved { IsMoved order.now arrangement.new }
 {
-    let places = order.open_places();
-    put_back(arrangement, order.by_shape(), places);
-    choose(arrangement, places, number);
-    compare_ones(chart, places, &least.choice, arrangement)
+    choose_again(order, arrangement, number);
+    compare_ones(chart, order.open_places(), &least.choice, arrangement)
 }
 
 /// The same for an arrangement in a vector.
@@ -262,51 +411,20 @@ fn least_of_ties<C: Chart>(
     requires moved { IsMoved order.now arrangement.old }
     ensures { IfOk result (IsLeastBelow (C.county chart.now) (choices (C.county chart.now))) }
 {
-    let choice = arrange_choice(alloc, chart, order, first.number)?;
+    let critical = critical_ends(alloc, chart, order)?;
+    let mut other = arrangement_in_order(alloc, order)?;
     let mut least = NumberedChoice {
         number: first.number,
-        choice,
+        choice: None,
     };
     let mut from = tie;
     while let Some(next) = next_tie(chart, order, first, arrangement, from) {
-        least = next_least(alloc, chart, order, least, next)?;
+        choose_in(order, &mut other, least.number);
+        let compared = compare_ties(alloc, chart, order, &critical, &other, arrangement);
+        least = next_of_ties(alloc, chart, order, least, next, compared)?;
         from = next + 1;
     }
     Ok(number_of(least))
-}
-
-/// The number of the choice with the least text among those with the least records of type 1, given the first two of these. Choices
-/// are only arranged if one of them differs in more than its nodes.
-fn least_among_ties<C: Chart>(
-    alloc: Global,
-    chart: &C,
-    order: &ShapeOrder,
-    first: &NumberedChoice<Vec<DirectedChain>>,
-    arrangement: &mut [DirectedChain],
-    tie: u64,
-) -> Result<u64, AllocError>
-    requires known { LeavesChoices (C.county chart.now) order.now }
-    requires arrangement { first.now.choice.items ≡ numbered_arrangement order.now first.now.number }
-    requires least { IsLeastOne (C.county chart.now) (choices (C.county chart.now)) first.now.number }
-    requires before { IsLeastFrom (C.county chart.now) 0 tie first.now.number }
-    requires other { arrangement.old ≡ numbered_arrangement order.now tie }
-    requires moved { IsMoved order.now arrangement.old }
-    ensures { IfOk result (IsLeastBelow (C.county chart.now) (choices (C.county chart.now))) }
-{
-    let same = have_same_open_parts(
-        &ButNodes,
-        chart,
-        order.open_places(),
-        &first.choice,
-        arrangement,
-    );
-    if !same {
-        return least_of_ties(alloc, chart, order, first, arrangement, tie);
-    }
-    match least_of_node_ties(alloc, chart, order, first, arrangement)? {
-        Some(number) => Ok(number),
-        None => least_of_ties(alloc, chart, order, first, arrangement, tie),
-    }
 }
 
 /// The number of the choice with the least text.
@@ -317,7 +435,7 @@ fn least_number<C: Chart>(alloc: Global, chart: &C, order: &ShapeOrder) -> Resul
     let mut arrangement = arrangement_in_order(alloc, order)?;
     let first = least_of_type_1(alloc, chart, order)?;
     match next_tie(chart, order, &first, &mut arrangement, 0) {
-        Some(tie) => least_among_ties(alloc, chart, order, &first, &mut arrangement, tie),
+        Some(tie) => least_of_ties(alloc, chart, order, &first, &mut arrangement, tie),
         None => Ok(first.number),
     }
 }

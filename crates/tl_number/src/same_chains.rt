@@ -159,22 +159,20 @@ fn is_same_chain<C: Chart>(chart: &C, one: DirectedChain, other: DirectedChain) 
         && have_same_lists(chart, one, other)
 }
 
-/// What the records of types 4, 6 and I have of a chain, except for its nodes.
+/// What the record of type I has of a chain, except for its nodes.
 #[derive(Drop)]
-pub(crate) struct ButNodes;
+pub(crate) struct Topology;
 
-impl ChainPart for ButNodes {
+impl ChainPart for Topology {
     ghost use Rattle.std.specs.Prelude.{List};
-    ghost use Rattle.tl_number.specs.CriticalPlaces.{ButNodes as PartsButNodes, but_nodes_list};
+    ghost use Rattle.tl_number.specs.CriticalPlaces.{Topology as Topologies, topologies};
 
-    ghost Part = { List PartsButNodes };
+    ghost Part = { List Topologies };
 
-    ghost part = { but_nodes_list };
+    ghost part = { topologies };
 
     fn is_same<C: Chart>(&self, chart: &C, one: DirectedChain, other: DirectedChain) -> bool {
         have_same_sides(chart, one, other)
-            && FurtherNames.is_same(chart, one, other)
-            && FurtherRanges.is_same(chart, one, other)
     }
 }
 

@@ -1,22 +1,27 @@
--- Choices that differ only in the nodes of their chains are in the order of the numbers of their critical ends.
+-- Choices that tie in types 1 and 4 are in the order of what they have at open places.
 use Rattle.tl_number.proofs.Common.{◌≡◌, ◌∙◌, ℕ, List, ◌++◌, length, map, slice_get, Bool, true, false, not, cond, Option, Some, None}
-use Rattle.tl_number.proofs.Common.{option_map, option_to_list, Ordering, nat_cmp, is_gt, refl, sym, ap, subst, AreNodeTies, AreSame}
-use Rattle.tl_number.proofs.Common.{AreWhole, Chain, County, DirectedChain, HasChainsOf, HasNodes, IsCounty, IsNotAfter, IsWithinLimits}
+use Rattle.tl_number.proofs.Common.{◌<◌, ◌≢◌, ◌^◌, Equal, Six, arith, arranged_by, feats_of, ones_cmp, parts_along, type_6_by_chain}
+use Rattle.tl_number.proofs.Common.{option_map, option_to_list, nat_cmp, refl, sym, ap, subst, AreSame}
+use Rattle.tl_number.proofs.Common.{AreWhole, Chain, County, DirectedChain, HasChainsOf, HasNodes, IsCounty, IsWithinLimits}
 use Rattle.tl_number.proofs.Common.{One, OrderOfShapes, arranged, arrangement_of, chain_at, choice_list, critical_numbers, directed_chain}
 use Rattle.tl_number.proofs.Common.{ends_along, ends_at, ends_cmp, ends_or_none, groups_cmp, is_open, length-map, most_records, nodes_at}
 use Rattle.tl_number.proofs.Common.{numbered_arrangement, numbered_choice, other_way, packed, renumbered_ends, slice_cmp, slice_get-map}
 use Rattle.tl_number.proofs.Common.{text_of, turned_if, type_1_by_chain, type_2_by_chain}
 use Rattle.tl_number.specs.ChoiceSearch.{LeavesChoices}
-use Rattle.tl_number.specs.CriticalPlaces.{AreCritical, HasOpenNodes}
+use Rattle.tl_number.specs.CriticalPlaces.{AreCritical, HasOpenNodes, topologies}
+use Rattle.tl_number.specs.MovedChains.{AgreeButOpen}
+use Rattle.tl_number.specs.OpenRanges.{sixes_at}
 use Rattle.tl_number.specs.declared.critical_places.CriticalEnds.{CriticalEnds}
 use Rattle.tl_number.proofs.CanonicalLists.SameShapes.{twos_of_numbers}
 use Rattle.tl_number.proofs.Choices.AscendingArrangement.{arrangement_there}
 use Rattle.tl_number.proofs.Choices.ChosenArrangements.{arrangement_of_number, arrangement_of_number_apart, arrangement_of_number_count, arrangement_of_number_there, places_within}
-use Rattle.tl_number.proofs.Choices.LeastNumbers.{choices_same, lesser_of}
-use Rattle.tl_number.proofs.Choices.LeastOnes.{both_tied, tied_along, tied_with_itself, whole_of_number}
+use Rattle.tl_number.proofs.Choices.LeastNumbers.{choices_same}
+use Rattle.tl_number.proofs.Choices.LeastOnes.{agree_of_numbers, whole_of_number}
 use Rattle.tl_number.proofs.Ties.CriticalSlots.{critical_decide}
-use Rattle.tl_number.proofs.Ties.NodeOrder.{nodes_decide}
+use Rattle.tl_number.proofs.Texts.TypeOnes.{length_whole}
+use Rattle.tl_number.proofs.Ties.NodeOrder.{nodes_decide, ranges_decide}
 use Rattle.tl_number.proofs.Ties.OpenChains.{closed_apart, moved_has}
+use Rattle.tl_number.proofs.Ties.RangeOrder.{ranges_order}
 
 -- nodes of a chain in the other direction
 turned_nodes : (nodes : List ℕ) (a b : Option ℕ) → HasNodes nodes (option_to_list a ++ option_to_list b)
@@ -43,6 +48,10 @@ module _ (county : County) (shapes : OrderOfShapes) (known : LeavesChoices count
   whole_numbered n = whole_of_number county is within known.sides shapes.by_shape known.order.by_shape shapes.places (known.order.places known.few)
       (numbered_arrangement shapes n) n refl
 
+  agree_of_both : (n m : ℕ) → AgreeButOpen county shapes.places (numbered_arrangement shapes n) (numbered_arrangement shapes m)
+  agree_of_both n m = agree_of_numbers county is within known.sides shapes.by_shape known.order.by_shape shapes.places
+      (known.order.places known.few) (numbered_arrangement shapes n) (numbered_arrangement shapes m) n m refl refl shapes.places refl
+
   choice_of : (n : ℕ) → arrangement_of county (numbered_arrangement shapes n) ≡ numbered_choice county n
   choice_of n = arrangement_of_number county is shapes.by_shape known.order.by_shape shapes.places (known.order.places known.few)
       (numbered_arrangement shapes n) n refl
@@ -54,6 +63,10 @@ module _ (county : County) (shapes : OrderOfShapes) (known : LeavesChoices count
 
   pub there_by_shape : HasChainsOf county shapes.by_shape
   there_by_shape = arrangement_there county shapes.by_shape known.order.by_shape shapes.by_shape refl
+
+  pub few_by_shape : length shapes.by_shape < 2 ^ 32
+  few_by_shape = let whole = whole_numbered 0 in let few = whole.few in let as_many = length_numbered 0 in
+      let all = length_whole county (numbered_arrangement shapes 0) is whole in omega (arith, few, as_many, all)
 
   -- its ends at fixed places, and at open ones
   fixed_ends_same : (n place : ℕ) → is_open place shapes.places ≡ false
@@ -107,38 +120,46 @@ module _ (county : County) (shapes : OrderOfShapes) (known : LeavesChoices count
         as_many k = length-map shapes.by_shape (λ (d : DirectedChain). ends_or_none (directed_chain county d)) ∙ sym (length_numbered k)
             ∙ sym (length-map (numbered_arrangement shapes k) (λ (d : DirectedChain). ends_or_none (directed_chain county d)))
 
-    -- So their texts are, too.
-    pub ties_in_order : (n m : ℕ) → AreNodeTies county shapes n m
-        → slice_cmp nat_cmp (text_of (choice_list county n)) (text_of (choice_list county m))
-        ≡ slice_cmp ends_cmp (critical_numbers county critical (numbered_arrangement shapes n))
-        (critical_numbers county critical (numbered_arrangement shapes m))
-    ties_in_order n m tie =
-        let a = choice_of n in
-        let b = choice_of m in
-        sym (λ i. slice_cmp nat_cmp (text_of (packed (arranged county (a i)))) (text_of (packed (arranged county (b i)))))
-        ∙ nodes_decide county is (numbered_arrangement shapes n) (numbered_arrangement shapes m) (whole_numbered n) (whole_numbered m) tie.rest
-        (subst (λ c. AreSame (arranged county c) (arranged county (arrangement_of county (numbered_arrangement shapes m)))) (sym a)
-        (subst (λ c. AreSame (arranged county (numbered_choice county n)) (arranged county c)) (sym b) (choices_same county is known.sides n m)))
-        ((λ i. groups_cmp One (type_1_by_chain (arranged county (a i))) (type_1_by_chain (arranged county (b i)))) ∙ tie.ones)
-        (ap (λ c. type_2_by_chain (arranged county c)) a ∙ twos_of_numbers county is known.sides n m
-        ∙ sym (ap (λ c. type_2_by_chain (arranged county c)) b))
-        ∙ numbers_decide n m
+    -- So the order of their texts is that of what open places have: of the records of type 6 there, and if these tie and the chains
+    -- have the same sides, of the numbers of critical ends.
+    module _ (n m : ℕ) (ones_tied : ones_cmp county n m ≡ Equal)
+        (feats : parts_along feats_of county (numbered_arrangement shapes n) ≡ parts_along feats_of county (numbered_arrangement shapes m)) where
+      abbrev one : List DirectedChain
+      one = numbered_arrangement shapes n
 
-    -- and the lesser one is before neither
-    pub lesser_tie : (n m : ℕ) (o : Ordering) → AreNodeTies county shapes n m
-        → o ≡ slice_cmp ends_cmp (critical_numbers county critical (numbered_arrangement shapes n))
-        (critical_numbers county critical (numbered_arrangement shapes m))
-        → IsNotAfter (choice_list county (cond (is_gt o) m n)) (choice_list county n)
-        × IsNotAfter (choice_list county (cond (is_gt o) m n)) (choice_list county m)
-    lesser_tie n m o tie e = lesser_of county n m o (e ∙ sym (ties_in_order n m tie))
+      abbrev other : List DirectedChain
+      other = numbered_arrangement shapes m
 
--- ties of a choice with itself, and with those that tie with another
-module _ (county : County) (shapes : OrderOfShapes) where
-  pub tie_with_itself : (n : ℕ) → AreNodeTies county shapes n n
-  tie_with_itself n = record { ones = tied_with_itself county n; rest = refl }
+      one_map : AreSame (arranged_by county one) (arranged_by county other)
+      one_map = subst (λ c. AreSame (arranged county c) (arranged_by county other)) (sym (choice_of n))
+          (subst (λ c. AreSame (arranged county (numbered_choice county n)) (arranged county c)) (sym (choice_of m)) (choices_same county is known.sides n m))
 
-  pub tie_along : (first n m : ℕ) → AreNodeTies county shapes first n → AreNodeTies county shapes n m → AreNodeTies county shapes first m
-  tie_along first n m a b = record { ones = tied_along county first n m a.ones b.ones; rest = a.rest ∙ b.rest }
+      ones : groups_cmp One (type_1_by_chain (arranged_by county one)) (type_1_by_chain (arranged_by county other)) ≡ Equal
+      ones = (λ i. groups_cmp One (type_1_by_chain (arranged county (choice_of n i))) (type_1_by_chain (arranged county (choice_of m i)))) ∙ ones_tied
 
-  pub tie_of_both : (first n m : ℕ) → AreNodeTies county shapes first n → AreNodeTies county shapes first m → AreNodeTies county shapes n m
-  tie_of_both first n m a b = record { ones = both_tied county first n m a.ones b.ones; rest = sym a.rest ∙ b.rest }
+      twos : type_2_by_chain (arranged_by county one) ≡ type_2_by_chain (arranged_by county other)
+      twos = ap (λ c. type_2_by_chain (arranged county c)) (choice_of n) ∙ twos_of_numbers county is known.sides n m
+          ∙ sym (ap (λ c. type_2_by_chain (arranged county c)) (choice_of m))
+
+      texts : slice_cmp nat_cmp (text_of (choice_list county n)) (text_of (choice_list county m))
+          ≡ slice_cmp nat_cmp (text_of (packed (arranged_by county one))) (text_of (packed (arranged_by county other)))
+      texts = sym (λ i. slice_cmp nat_cmp (text_of (packed (arranged county (choice_of n i)))) (text_of (packed (arranged county (choice_of m i)))))
+
+      sixes : groups_cmp Six (type_6_by_chain (arranged_by county one)) (type_6_by_chain (arranged_by county other))
+          ≡ groups_cmp Six (map (sixes_at county one) critical) (map (sixes_at county other) critical)
+      sixes = ranges_order county is shapes.places one other (agree_of_both n m) one_map are.nodes (ends_along county shapes.by_shape)
+          (length-map shapes.by_shape (λ (d : DirectedChain). ends_or_none (directed_chain county d)) ∙ sym (length_numbered n))
+          ∙ sym (λ i. groups_cmp Six (map (sixes_at county one) (are.all i)) (map (sixes_at county other) (are.all i)))
+
+      pub sixes_first : groups_cmp Six (map (sixes_at county one) critical) (map (sixes_at county other) critical) ≢ Equal
+          → groups_cmp Six (map (sixes_at county one) critical) (map (sixes_at county other) critical)
+          ≡ slice_cmp nat_cmp (text_of (choice_list county n)) (text_of (choice_list county m))
+      sixes_first differ = sym (texts ∙ ranges_decide county is one other (whole_numbered n) (whole_numbered m) feats one_map ones twos
+          (λ e. differ (sym sixes ∙ e)) ∙ sixes)
+
+      pub nodes_next : groups_cmp Six (map (sixes_at county one) critical) (map (sixes_at county other) critical) ≡ Equal
+          → parts_along topologies county one ≡ parts_along topologies county other
+          → slice_cmp ends_cmp (critical_numbers county critical one) (critical_numbers county critical other)
+          ≡ slice_cmp nat_cmp (text_of (choice_list county n)) (text_of (choice_list county m))
+      nodes_next tied same = sym (texts ∙ nodes_decide county is one other (whole_numbered n) (whole_numbered m) feats same one_map ones twos
+          (sixes ∙ tied) ∙ numbers_decide n m)

@@ -23,7 +23,7 @@ joined_cmp xs ys (text ∷ texts) e =
     ∙ then_equal (slice_cmp nat_cmp xs ys)
 
 -- and a common beginning decides nothing
-behind_cmp : (before xs ys : List ℕ) → slice_cmp nat_cmp (before ++ xs) (before ++ ys) ≡ slice_cmp nat_cmp xs ys
+pub behind_cmp : (before xs ys : List ℕ) → slice_cmp nat_cmp (before ++ xs) (before ++ ys) ≡ slice_cmp nat_cmp xs ys
 behind_cmp before xs ys = cmp-append nat_cmp before before xs ys refl
     ∙ ap (λ o. ordering_then o (slice_cmp nat_cmp xs ys)) (tied_itself nat_list_cmp_total before)
 

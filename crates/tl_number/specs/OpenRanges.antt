@@ -1,0 +1,29 @@
+-- The records of type 6 of the chains at open places.
+use Rattle.std.specs.Prelude.{ℕ, ◌+◌, List, [], map, Option, Some, None, option_map, slice_get}
+use Rattle.tl_layout.specs.Fields.{Fields6}
+use Rattle.tl_layout.specs.declared.ranges.Ranges.{Ranges}
+use Rattle.tl_county.specs.ChartWords.{ranges_of}
+use Rattle.tl_county.specs.County.{County}
+use Rattle.tl_county.specs.DirectedChains.{directed_chain}
+use Rattle.tl_county.specs.Packing.{numbered_from}
+use Rattle.tl_county.specs.declared.directed_chain.DirectedChain.{DirectedChain}
+use Rattle.tl_number.specs.declared.critical_places.CriticalEnds.{CriticalEnds}
+use Rattle.tl_number.specs.declared.critical_places.CriticalEnds.TheVariants.{Open, Fixed}
+
+-- an open place with its chain in an arrangement
+abbrev pub open_chain : List DirectedChain → CriticalEnds → Option (ℕ × DirectedChain)
+open_chain arrangement (Open place) = option_map (λ directed. (place, directed)) (slice_get arrangement place)
+open_chain arrangement (Fixed pair) = None
+
+-- the type 6 records with these address ranges and this TLID
+abbrev pub sixes_under : ℕ → List Ranges → List Fields6
+sixes_under tlid ranges = map (λ piece. record { tlid = tlid; rtsq = piece.0; ranges = piece.1 }) (numbered_from 1 ranges)
+
+-- the type 6 records of the chain at a place, if there is one; its TLID is its place, counted from 1
+abbrev pub sixes_of : County → Option (ℕ × DirectedChain) → List Fields6
+sixes_of county None = []
+sixes_of county (Some placed) = sixes_under (placed.0 + 1) (ranges_of (directed_chain county placed.1))
+
+-- the type 6 records of an arrangement at an open place; there are none for the ends of a fixed place
+abbrev pub sixes_at : County → List DirectedChain → CriticalEnds → List Fields6
+sixes_at county arrangement critical = sixes_of county (open_chain arrangement critical)

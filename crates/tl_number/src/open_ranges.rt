@@ -1,0 +1,62 @@
+//! The records of type 6 of the chains at open places.
+//!
+//! The records of type 6 of a chain have its TLID, which is its place, and its address ranges. So choices only differ in those of open
+//! places, and nothing needs to be arranged to compare them.
+
+ghost use Rattle.std.specs.Prelude.{◌≡◌};
+ghost use Rattle.tl_number.specs.OpenRanges.{open_chain};
+
+use crate::chain_records::sequence_number;
+use crate::critical_places::CriticalEnds;
+use crate::groups::CountedGroups;
+use tl_county::{Chart, DirectedChain, Listed};
+use tl_layout::Rec6;
+
+/// An open place with its chain in an arrangement.
+fn open_chain_of(
+    arrangement: &[DirectedChain],
+    critical: CriticalEnds,
+) -> Option<(u32, DirectedChain)>
+    ensures { result ≡ open_chain arrangement.now critical }
+{
+    match critical {
+        CriticalEnds::Open(place) => arrangement
+            .get(place as usize)
+            .map(|directed| (place, *directed)),
+        CriticalEnds::Fixed(_) => None,
+    }
+}
+
+/// The type 6 records of the chain at each open place of an arrangement. Critical ends of fixed places have none.
+#[derive(Drop)]
+pub(crate) struct OpenRangeRecords<'a, C: Chart> {
+    pub(crate) chart: &'a C,
+    pub(crate) critical: &'a [CriticalEnds],
+    pub(crate) arrangement: &'a [DirectedChain],
+}
+
+impl<C: Chart> CountedGroups for OpenRangeRecords<'_, C> {
+    ghost use Rattle.std.specs.Prelude.{map};
+    ghost use Rattle.tl_number.specs.OpenRanges.{sixes_at};
+
+    type Record = Rec6;
+
+    ghost counted = { λ g. map (sixes_at (C.county g.chart.now) g.arrangement.now) g.critical.now };
+
+    fn group_count(&self) -> usize {
+        self.critical.len()
+    }
+
+    fn record_count(&self, group: usize) -> usize {
+        match open_chain_of(self.arrangement, self.critical[group]) {
+            Some((_, directed)) => directed.ranges(self.chart).count(),
+            None => 0,
+        }
+    }
+
+    fn record_at(&self, group: usize, place: usize) -> Rec6 {
+        let (at, directed) = open_chain_of(self.arrangement, self.critical[group]).unwrap();
+        let ranges = directed.ranges(self.chart).item(place);
+        Rec6::new(u64::from(at) + 1, sequence_number(place), ranges)
+    }
+}
