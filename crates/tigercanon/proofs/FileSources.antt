@@ -3,7 +3,7 @@ use Rattle.tigercanon.proofs.Common.{◌≡◌, ◌<◌, ◌⊎◌, ℕ, List, [
 use Rattle.tigercanon.proofs.Common.{arith, subst, map-append, All, IfSome, MAX, Consumes, LoadFault, Fault, Load, Opened, bytes_of}
 use Rattle.tigercanon.proofs.Common.{IsRefusalOfRead, set_of_sources, AreRead, AreReadUpTo, record_limit, IsFirstFault, set_of_files}
 use Rattle.tigercanon.proofs.Common.{empty_fault, tiger}
-use Rattle.std.proofs.lemmas.List.Elements.{All-push}
+use Rattle.std.proofs.lemmas.List.Elements.{All-cons}
 use Rattle.std.specs.Prelude.{slice_index_or}
 use Rattle.tigercanon.specs.Files.{AreHeld, AreSourcesOf}
 use Rattle.tigercanon.specs.Reading.{IsFaultOfRead}
@@ -11,14 +11,19 @@ use Rattle.tigercanon.specs.Running.{AreRefused}
 use Rattle.tigercanon.proofs.FileParts.{taken_all}
 use Rattle.tigercanon.proofs.GivenSets.{IsKnownOf}
 
--- one element more
-pub map_more : {A B C : Type 0} (f : A → C) (h : B → C) (xs zs : List A) (ys : List B) (x : A) (y : B) → zs ≡ xs ++ x ∷ []
-    → map f xs ≡ map h ys → f x ≡ h y → map f zs ≡ map h (ys ++ y ∷ [])
-map_more f h xs zs ys x y e same one = ap (map f) e ∙ map-append f xs (x ∷ []) ∙ ap (λ l. l ++ f x ∷ []) same
-    ∙ ap (λ v. map h ys ++ v ∷ []) one ∙ sym (map-append h ys (y ∷ []))
-
-pub all_more : {X : Type 0} (P : X → Type 0) (xs zs : List X) (x : X) → zs ≡ xs ++ x ∷ [] → All P xs → P x → All P zs
-all_more P xs zs x e all one = subst (All P) (sym e) (All-push P xs x all one)
+-- sources that give what their files hold, and none of which has failed
+pub opened_from : {S F : Type 0} (left : S → Option (List ℕ)) (failed : S → ℕ) (bytes : F → Option (List ℕ)) (sources : List S) (files : List F)
+    → map {B = Option (List ℕ) × ℕ} (λ s. (left s, failed s)) sources ≡ map {B = Option (List ℕ) × ℕ} (λ f. (bytes f, 0)) files
+    → (map left sources ≡ map bytes files) × All (λ s. failed s ≡ 0) sources
+opened_from left failed bytes [] [] e = (refl, λ k d h. absurd (omega arith))
+opened_from left failed bytes [] (f ∷ fs) e = absurd cc
+opened_from left failed bytes (s ∷ ss) [] e = absurd cc
+opened_from left failed bytes (s ∷ ss) (f ∷ fs) e =
+    let rest = opened_from left failed bytes ss fs cc in
+    let first : ◌≡◌ {A = Option (List ℕ) × ℕ} (left s, failed s) (bytes f, 0) = cc in
+    let one : left s ≡ bytes f = ap (λ (p : Option (List ℕ) × ℕ). p.0) first in
+    let none : failed s ≡ 0 = ap (λ (p : Option (List ℕ) × ℕ). p.1) first in
+    (λ i. one i ∷ rest.0 i, All-cons (λ s. failed s ≡ 0) s ss none rest.1)
 
 -- sources that haven't failed can be read
 pub below_most : {S : Type 0} (failed : S → ℕ) (xs ys : List S) → ys ≡ xs → All (λ s. failed s ≡ 0) xs → All (λ s. failed s < MAX) ys

@@ -26,11 +26,7 @@ use tl_load::LoadFault;
 fn beside<'a>(alloc: Global, parts: &[Part<'a>]) -> Result<Vec<&'a [u8]>, AllocError>
     ensures { IfOk result (λ slices. bytes_of_parts slices.items ≡ bytes_of_lent parts.now) }
 {
-    let mut slices = Vec::with_capacity(alloc, parts.len())?;
-    for part in parts {
-        slices.push(part.bytes)?;
-    }
-    Ok(slices)
+    parts.iter().map(|part| part.bytes).collect(alloc)
 }
 
 /// The parts of one of two sets as slices. If there is no memory for the slices, the fault is reported for the first set, because

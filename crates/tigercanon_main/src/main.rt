@@ -18,11 +18,10 @@ fn words(rt: &HostRuntime) -> Result<Vec<String>, PlanFault> {
 
 /// Opens the files with these names, in order, and keeps the outcome of each.
 fn open_all(rt: &HostRuntime, names: &[String]) -> Result<Vec<Opened<File>>, AllocError> {
-    let mut files = Vec::with_capacity(rt.alloc(), names.len())?;
-    for name in names {
-        files.push(Opened::of(fs::open(rt, name.as_str())))?;
-    }
-    Ok(files)
+    names
+        .iter()
+        .map(|name| Opened::of(fs::open(rt, name.as_str())))
+        .collect(rt.alloc())
 }
 
 /// Carries out the plan, and returns the exit status.

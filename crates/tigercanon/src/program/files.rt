@@ -67,9 +67,8 @@ pub(crate) fn open_files<R: Read + Drop>(
     ensures { IfOk result (λ sources. AreOpened ⟦<OpenFile<R> as Source>⟧.remaining ⟦<OpenFile<R> as Source>⟧.failed sources.items
         R.remaining files.items) }
 {
-    let mut sources = Vec::with_capacity(alloc, files.len())?;
-    for file in files {
-        sources.push(Counted::new(file))?;
-    }
-    Ok(sources)
+    files
+        .into_iter()
+        .map(|file| Counted::new(file))
+        .collect(alloc)
 }

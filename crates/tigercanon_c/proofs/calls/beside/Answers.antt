@@ -1,10 +1,8 @@
-use Rattle.std.proofs.Common.{◌≡◌, ◌∙◌, map, take, refl, ap, sym}
-use Rattle.std.proofs.lemmas.List.{take_more}
-use Rattle.tigercanon.proofs.FileSources.{map_more}
+use Rattle.std.proofs.Common.{rules, tests}
+use Rattle.std.proofs.lemmas.Iterator.{YieldsList-from_map_by, YieldsList-from_slice}
+use Rattle.std.proofs.lemmas.Iterator.Consumers.{map_from_collect}
 use Rattle.tigercanon_c.proofs.calls.beside.Goals as goal
 
-pub loop-part-preserved : goal.loop-part-preserved
-loop-part-preserved c =
-    map_more (λ slice. slice.now) (λ part. part.bytes.now) c.loop-part.slices.items _ (take c.loop-part.part-index c.args.parts.now) _ _
-    c.in_ok-push.ensures.items c.loop-part.invariant refl
-    ∙ ap (map (λ part. part.bytes.now)) (sym (take_more c.args.parts.now c.loop-part.part-index _ c.loop-part-test.true))
+pub returns : goal.returns
+returns c = map_from_collect c.collect.result c.collect.ensures.ran (YieldsList-from_map_by _ (λ slice. slice.now) (λ part. part.bytes.now)
+    (YieldsList-from_slice c.args.parts.now cc) c.map.ensures.closure (λ x r q k. search (rules, tests)))

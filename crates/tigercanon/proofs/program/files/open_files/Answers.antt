@@ -1,11 +1,17 @@
-use Rattle.tigercanon.proofs.Common.{◌≡◌, bytes_of}
-use Rattle.tigercanon.proofs.FileSources.{all_more, map_more}
+use Rattle.tigercanon.proofs.Common.{List, Option, bytes_of, ℕ}
+use Rattle.std.proofs.Common.{rules, tests}
+use Rattle.std.proofs.lemmas.Iterator.{YieldsList-from_map_by}
+use Rattle.std.proofs.lemmas.Iterator.Adapters.{YieldsList-from_vec}
+use Rattle.std.proofs.lemmas.Iterator.Consumers.{map_from_collect}
+use Rattle.std.proofs.lemmas.Result.{IfOk-weaker}
+use Rattle.tigercanon.proofs.FileSources.{opened_from}
 use Rattle.tigercanon.proofs.program.files.open_files.Goals as goal
 
-pub loop-file-preserved : goal.loop-file-preserved
-loop-file-preserved g c = (
-  map_more (λ s. bytes_of g.R.Read.remaining s.inner) (bytes_of g.R.Read.remaining) c.loop-file.sources.items _ c.loop-file.yielded
-      c.new.result c.in-Some.file c.in_ok-push.ensures.items c.loop-file.invariant.0 c.new.ensures.bytes,
-  all_more (λ s. s.failures ≡ 0) c.loop-file.sources.items _ c.new.result c.in_ok-push.ensures.items c.loop-file.invariant.1
-      c.new.ensures.failures,
-)
+pub returns : goal.returns
+returns g c =
+    IfOk-weaker c.collect.result _ _ (λ sources same. opened_from (λ s. bytes_of g.R.Read.remaining s.inner) (λ s. s.failures)
+    (bytes_of g.R.Read.remaining) sources.items c.args.files.items same)
+    (map_from_collect c.collect.result c.collect.ensures.ran
+    (YieldsList-from_map_by _ {C = Option (List ℕ) × ℕ} (λ s. (bytes_of g.R.Read.remaining s.inner, s.failures))
+    (λ f. (bytes_of g.R.Read.remaining f, 0)) (YieldsList-from_vec c.args.files.items (cc) (cc)) c.map.ensures.closure
+    (λ x r q k. search (rules, tests))))
