@@ -1,6 +1,6 @@
 -- The bytes read from sources over files are in the files.
-use Rattle.tigercanon.proofs.Common.{◌≡◌, ◌<◌, ◌⊎◌, ℕ, List, [], ◌∷◌, ◌++◌, map, Option, Some, None, inl, inr, refl, sym, ap, ◌∙◌}
-use Rattle.tigercanon.proofs.Common.{arith, subst, map-append, All, IfSome, MAX, Consumes, LoadFault, Fault, Load, Opened, bytes_of}
+use Rattle.tigercanon.proofs.Common.{◌≡◌, ◌<◌, ◌⊎◌, ℕ, List, [], ◌∷◌, ◌++◌, map, Option, Some, None, inl, inr, refl, sym, ap}
+use Rattle.tigercanon.proofs.Common.{arith, subst, All, IfSome, MAX, Consumes, LoadFault, Fault, Load, Opened, bytes_of}
 use Rattle.tigercanon.proofs.Common.{IsRefusalOfRead, set_of_sources, AreRead, AreReadUpTo, record_limit, IsFirstFault, set_of_files}
 use Rattle.tigercanon.proofs.Common.{empty_fault, tiger}
 use Rattle.std.proofs.lemmas.List.Elements.{All-cons}

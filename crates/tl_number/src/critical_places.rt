@@ -1,9 +1,9 @@
 //! The places where choices can differ in the numbers of their nodes.
 //!
-//! Choices have the same chains at all places except the open ones, and nodes are numbered by first appearance. The first number that
-//! differs between two choices is at an open place, or at the first fixed place of a node that a chain at an open place has. These ends are critical. They are collected once. Each choice then numbers the nodes
-//! at critical ends among themselves. Two choices first differ in these small numbers where they first differ in the numbers of the
-//! whole county, and in the same order.
+//! Choices have the same chains at all places except the open ones, and nodes are numbered by first appearance. The first number
+//! that differs between two choices is at an open place, or at the first fixed place of a node that a chain at an open place has.
+//! These ends are critical. They are collected once. Each choice then numbers the nodes at critical ends among themselves. Two
+//! choices first differ in these small numbers where they first differ in the numbers of the whole county, and in the same order.
 
 ghost use Rattle.ordered_lists.specs.Orders.{stands_in};
 ghost use Rattle.std.specs.Cmp.Lexicographic.{slice_cmp};

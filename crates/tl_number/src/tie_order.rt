@@ -1,8 +1,8 @@
 //! Comparing two choices with the same records of type 1 without arranging them.
 //!
-//! If their chains have the same further names, place by place, so are their records of types 4 and 5, and the records of type 6 at open
-//! places are compared. If these tie and the chains have the same sides, only the numbers of nodes can differ, and those of critical
-//! ends are compared: each choice numbers these ends, which are few.
+//! If the chains have the same further names, place by place, the records of types 4 and 5 are the same, and the records of type 6 at
+//! open places are compared. If these tie and the chains have the same sides, only the numbers of nodes can differ, and those of
+//! critical ends are compared: each choice numbers these ends, which are few.
 
 ghost use Rattle.std.specs.Cmp.Lexicographic.{slice_cmp};
 ghost use Rattle.std.specs.declared.cmp.Ordering.TheVariants.{Equal};

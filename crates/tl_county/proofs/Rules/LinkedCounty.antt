@@ -11,7 +11,7 @@ use Rattle.tl_county.proofs.Common.{lands, length-in_order, length-map, link_key
 use Rattle.tl_county.proofs.Common.{nat_cmp_total, nat_keys, of_number, of_type_1, of_type_4, of_type_5, of_type_7, of_type_8, of_type_i}
 use Rattle.tl_county.proofs.Common.{of_type_p, on, on_total, one_tlid, p_key, polygon_body, polygon_keys, polygons_along, seven_land}
 use Rattle.tl_county.proofs.Common.{shape_points, side_keys, stands_in, times, times-no, tlids, to_in_order}
-use Rattle.std.proofs.Common.{rules, ◌≡◌, ◌⊎◌, ◌<◌, ◌≤◌, ◌+◌, ◌||◌, ℕ, nat_lt, length, length-append, filter, cond, is_eq, is_some, inl}
+use Rattle.std.proofs.Common.{rules, ◌≡◌, ◌⊎◌, ◌<◌, ◌≤◌, ◌||◌, ℕ, nat_lt, length, length-append, filter, cond, is_eq, is_some, inl}
 use Rattle.std.proofs.Common.{inr, List, [], ◌∷◌, ◌++◌, map, flat_map, Bool, true, false, not, ◌&&◌, IsTrue, sym, refl, ap, ◌∙◌, subst}
 use Rattle.std.proofs.Common.{arith, nat_cmp, map-id}
 use Rattle.std.proofs.lemmas.Bool.{or_left, or_right}

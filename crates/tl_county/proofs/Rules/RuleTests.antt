@@ -2,8 +2,8 @@
 use Rattle.std.proofs.Common.{rules, ◌≡◌, ◌⊎◌, ◌<◌, ◌+◌, ◌==◌, ◌&&◌, not, ℕ, nat_lt, List, [], ◌∷◌, ◌++◌, map, flat_map, Bool, true, false}
 use Rattle.std.proofs.Common.{cond, Ordering, Less, Equal, Greater, is_eq, is_gt, sym, refl, ap, ◌∙◌, subst, inl, inr, arith, nat_cmp, Some}
 use Rattle.std.proofs.Common.{None, zero-add, IsPermutation}
-use Rattle.tl_county.proofs.Common.{Fields4, Four, IsInOrder, IsKeyOrder, IsLeastPassing, LandUnknown, LinkFault, NameTwice, NameUnknown}
-use Rattle.tl_county.proofs.Common.{PolygonKey, PolygonTwice, PolygonUnknown, Record, SequenceBroken, Six, Two, Typed, all_weaker}
+use Rattle.tl_county.proofs.Common.{Fields4, IsInOrder, IsKeyOrder, IsLeastPassing, LandUnknown, LinkFault, NameTwice, NameUnknown}
+use Rattle.tl_county.proofs.Common.{PolygonKey, PolygonTwice, PolygonUnknown, Record, SequenceBroken, Typed, all_weaker}
 use Rattle.tl_county.proofs.Common.{and_parts, apart_from_no_repeat, by_type, bytes_cmp, common_steps, distinct, eight_land, eq-eqb}
 use Rattle.tl_county.proofs.Common.{false≢true, first_least, five_feat, four_rtsq, four_tlid, has_repeat, is_repeated, is_rule_broken}
 use Rattle.tl_county.proofs.Common.{is_unknown, is_unnamed, key_cmp, key_keys, least-same, link_key, lt-ltb, ltb-true, nat_cmp_total}

@@ -13,7 +13,6 @@ use Rattle.tl_county.specs.CountyRules.{IsClosed, nodes_along}
 use Rattle.tl_county.specs.Renumbering.{renumbered_side, carried_name, AreSame, identity, inverse, exactly_one, then}
 use Rattle.ordered_lists.specs.Pairs.{ArePaired, to_itself, swapped, is_named, composed}
 use Rattle.tl_shape.specs.TurnLaws.{turned-turned}
-use Rattle.tl_shape.specs.Turned.{turned}
 use Rattle.ordered_lists.proofs.Lists.Elements.{map_itself, all_unmap, all_left, all_right, all_pieces, all_filter}
 use Rattle.ordered_lists.proofs.ByKey.Keys.{lefts, rights, apart-permutation, known-permutation, known-permutation_to, image-known}
 use Rattle.ordered_lists.proofs.ByKey.Keys.{times-images, has_repeat-images, apart-filter, stands_in-filter, image-back, image-yes}

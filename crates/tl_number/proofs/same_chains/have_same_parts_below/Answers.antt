@@ -1,4 +1,4 @@
-use Rattle.tl_number.proofs.Common.{◌-◌, ◌≡◌, Decides, YieldsList-from_range, false≢true, refl, rules, true, false}
+use Rattle.tl_number.proofs.Common.{◌-◌, Decides, YieldsList-from_range, false≢true, refl, rules, true, false}
 use Rattle.std.proofs.lemmas.Iterator.{cases_from_all}
 use Rattle.tl_number.proofs.Lists.Counting.{places_from_decide}
 use Rattle.tl_number.specs.MovedChains.{HaveSamePartAt}
