@@ -136,6 +136,8 @@ def test_installing(room: Path) -> None:
         pytest.skip("python3-wheel isn't installed")
     copy = room / "python"
     shutil.copytree(PACKAGE, copy, ignore=shutil.ignore_patterns("tests", "*.egg-info", "build", "__pycache__"))
+    (room / "docs").mkdir()
+    shutil.copy(PACKAGE.parent / "docs/guide.md", room / "docs")
     install = "-m pip install --no-build-isolation --no-index --no-deps --target site"
     command = [sys.executable, *install.split(), str(copy)]
     run = subprocess.run(command, capture_output=True, text=True)

@@ -11,12 +11,13 @@ from .printing import print_lines
 
 SECTION = re.compile(r"^### `refused (\d+) (\w+)([^`]*)`$")
 REFUSAL = re.compile(r"(?:refused )?(\d+)?\s*([A-Z]\w+)?((?: [0-9A-Za-z]+)*?)(?: in set ([12]))?")
-PAGE = Path(__file__).with_name("refusals.md")
-"""The user guide: an installed package has a copy of it, and a clone and a release have a link to the page itself."""
+HERE = Path(__file__).resolve().parent
 
 
 def page() -> str:
-    return PAGE.read_text(encoding="utf-8")
+    """The user guide: an installed package has a copy of it, and a clone and a release have the page itself."""
+    copy, guide = HERE / "refusals.md", HERE.parent.parent / "docs/guide.md"
+    return (copy if copy.exists() else guide).read_text(encoding="utf-8")
 
 
 def sections(text: str) -> dict[int, list[str]]:
