@@ -11,7 +11,7 @@ use Rattle.tigercanon.specs.Running.{AreRefused}
 use Rattle.tigercanon.proofs.FileParts.{taken_all}
 use Rattle.tigercanon.proofs.GivenSets.{IsKnownOf}
 
--- sources that give what their files hold, and none of which has failed
+-- sources that give what their files hold; none has failed
 pub opened_from : {S F : Type 0} (left : S → Option (List ℕ)) (failed : S → ℕ) (bytes : F → Option (List ℕ)) (sources : List S) (files : List F)
     → map {B = Option (List ℕ) × ℕ} (λ s. (left s, failed s)) sources ≡ map {B = Option (List ℕ) × ℕ} (λ f. (bytes f, 0)) files
     → (map left sources ≡ map bytes files) × All (λ s. failed s ≡ 0) sources

@@ -1,7 +1,7 @@
 //! The records of type 6 of the chains at open places.
 //!
-//! The records of type 6 of a chain have its TLID, which is its place, and its address ranges. So choices only differ in those of open
-//! places, and nothing needs to be arranged to compare them.
+//! The records of type 6 of a chain have its TLID, which is its place counted from 1, and its address ranges. So choices only
+//! differ in those of open places, and nothing needs to be arranged to compare them.
 
 ghost use Rattle.std.specs.Prelude.{◌≡◌};
 ghost use Rattle.tl_number.specs.OpenRanges.{open_chain};

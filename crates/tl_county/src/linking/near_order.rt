@@ -10,7 +10,7 @@ use crate::keys::record_keys::PolygonKey;
 use ordered_lists::{Key, bring_close};
 use std::alloc::AllocError;
 
-/// A key that a number stands for. Most keys have greater numbers than lesser keys do.
+/// A key with a number. Greater keys mostly have greater numbers.
 pub(crate) trait Numbered {
     /// The number.
     fn number(&self) -> u64;
@@ -23,7 +23,8 @@ impl Numbered for (u64, u16) {
     }
 }
 
-/// A number that mostly orders polygons as their keys do: CENID, and below it POLYID, as far as 24 bits hold it.
+/// A number that mostly orders polygons as their keys do: CENID, and in the 24 bits below it POLYID, or the greatest number that
+/// fits.
 pub fn polygon_number(key: PolygonKey) -> u64 {
     let [first, second, third, fourth, fifth] = key.0;
     let cenid = u64::from_be_bytes([first, second, third, fourth, fifth, 0, 0, 0]);

@@ -120,8 +120,8 @@ module _ (county : County) (shapes : OrderOfShapes) (known : LeavesChoices count
         as_many k = length-map shapes.by_shape (λ (d : DirectedChain). ends_or_none (directed_chain county d)) ∙ sym (length_numbered k)
             ∙ sym (length-map (numbered_arrangement shapes k) (λ (d : DirectedChain). ends_or_none (directed_chain county d)))
 
-    -- So the order of their texts is that of what open places have: of the records of type 6 there, and if these tie and the chains
-    -- have the same sides, of the numbers of critical ends.
+    -- So their texts are in the order of the records of type 6 at open places and, if these tie and the chains have the same sides,
+    -- of the numbers of critical ends.
     module _ (n m : ℕ) (ones_tied : ones_cmp county n m ≡ Equal)
         (feats : parts_along feats_of county (numbered_arrangement shapes n) ≡ parts_along feats_of county (numbered_arrangement shapes m)) where
       abbrev one : List DirectedChain
