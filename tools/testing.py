@@ -68,7 +68,7 @@ class Tests(Tally):
         self.program, self.room = program, room
 
 
-def try_program(made: Any, what: str, *tests: Callable[[Any], None]) -> int:
+def try_program(made: Callable[[str, Path, Path], Tests], what: str, *tests: Callable[[Any], None]) -> int:
     """Makes tests of the program that the command line names, each with Tests of the class `made`. Returns the exit status."""
     if len(sys.argv) != 2:
         sys.exit(f"usage: .ci/{Path(sys.argv[0]).name} PROGRAM")

@@ -9,6 +9,7 @@ from __future__ import annotations
 import os
 import re
 import shutil
+import subprocess
 from contextlib import contextmanager
 from dataclasses import dataclass, field, replace
 from typing import Any, Iterable, Iterator, Mapping, Optional
@@ -16,7 +17,7 @@ from typing import Any, Iterable, Iterator, Mapping, Optional
 from .errors import printable, reason
 from .hints import hint
 from .layout import TYPES, file_name
-from .own import Ended, Own, remove_stale_folders
+from .own import Own, remove_stale_folders
 from .storage import Broken, fetch, is_url
 from .zips import BadZip, members_of, opened, unpack
 
@@ -188,25 +189,25 @@ def asked(name: str, files: Files, order: Order, own: Own, notes: list[str]) -> 
     stem = ["--stem"] if len(files) > 1 else []
     words = [order.program, "fingerprint", *stem, *order.flags, "--", name]
     ended = own.run(words, order.memory)
-    if ended.status == 0 and DIGITS.fullmatch(ended.out):
-        return Answer("made", ended.out[:64].decode(), tuple(notes))
+    if ended.returncode == 0 and DIGITS.fullmatch(ended.stdout):
+        return Answer("made", ended.stdout[:64].decode(), tuple(notes))
     line = complaint(ended)
     # Signals end a program that finds no memory in one way or another; a shell between reports them as a status over 128.
-    lacks_memory = line.startswith("refused 9 ") or not 0 <= ended.status <= 128
+    lacks_memory = line.startswith("refused 9 ") or not 0 <= ended.returncode <= 128
     kind = "memory" if lacks_memory else "refused" if line.startswith("refused ") else "failed"
     return Answer(kind, line, (*notes, *filter(None, [hint(line, files)])))
 
 
-def complaint(ended: Ended) -> str:
+def complaint(ended: subprocess.CompletedProcess[bytes]) -> str:
     """The program's line, or what can be said about its end."""
-    lines = ended.err.decode(errors="replace").strip().splitlines()
-    if ended.status < 0:
-        return f"the program was ended by signal {-ended.status}"
+    lines = ended.stderr.decode(errors="replace").strip().splitlines()
+    if ended.returncode < 0:
+        return f"the program was ended by signal {-ended.returncode}"
     if lines:
         return printable(lines[-1])
-    if ended.status == 0:
+    if ended.returncode == 0:
         return "the program printed something else than a fingerprint"
-    return f"the program ended with status {ended.status}"
+    return f"the program ended with status {ended.returncode}"
 
 
 def judge_on_a_worker(county: tuple[Any, ...], order: tuple[Any, ...]) -> tuple[str, str, tuple[str, ...]]:
