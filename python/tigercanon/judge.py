@@ -14,12 +14,12 @@ from contextlib import contextmanager
 from dataclasses import dataclass, field, replace
 from typing import Any, Iterable, Iterator, Mapping, Optional
 
-from .errors import printable, reason
+from .errors import Unreadable, printable, reason
 from .hints import hint
 from .layout import TYPES, file_name
 from .own import Own, remove_stale_folders
-from .storage import Broken, fetch, is_url
-from .zips import BadZip, members_of, opened, unpack
+from .storage import fetch, is_url
+from .zips import members_of, opened, unpack
 
 DIGITS = re.compile(rb"[0-9a-f]{64}\n")
 STEM = "county"
@@ -97,7 +97,7 @@ def judge(county: County, order: Order, own: Own) -> Answer:
             return asked(name, files, order, own, notes)
     except Rejected as rejected:
         return Answer("refused", str(rejected), tuple(notes))
-    except (BadZip, Broken) as failure:
+    except Unreadable as failure:
         return Answer("failed", str(failure), county.notes)
     except MemoryError:
         return Answer("memory", "out of memory", tuple(notes))
@@ -158,7 +158,7 @@ def unzipped(file: File, order: Order, own: Own, notes: list[str]) -> Iterator[s
         note_files(sizes, order, notes)
         size = sum(sizes.values())
         if size > order.largest:
-            raise BadZip(f"the zip unpacks to {size} bytes, more than --largest {order.largest}")
+            raise Unreadable(f"the zip unpacks to {size} bytes, more than --largest {order.largest}")
         with own.folder(size) as folder:
             stem = f"{folder}/{STEM}"
             unpack(archive, members, stem)
