@@ -16,6 +16,7 @@ SIGN = re.compile(r"[^\w\s(){}\[\].,;:λ◌]+")
 # What a type makes of a ghost member of a trait, as a clause quotes it.
 QUOTED = re.compile(r"⟦<(\w+)[^⟧]*? as (\w+)>⟧\.(\w+)")
 TEXT_IN_QUOTES = re.compile(r"\"(?:\\.|[^\"\\])*\"")
+BRACKET = re.compile(r"[(){}\[\]]")
 # Comments and quoted texts.
 COMMENT_OR_TEXT = re.compile(r"//[^\n]*|b?\"(?:\\[\s\S]|[^\"\\])*\"|'(?:\\[^']+|[^'\\\n])'")
 DEFINITION = re.compile(
@@ -83,14 +84,15 @@ class Item:
         return {name for name, _, _ in self.clauses if name}
 
 
-def end_of_block(text, at):
-    """The end of the block that begins with the bracket at this place."""
-    depth = 0
-    for place in range(at, len(text)):
-        depth += (text[place] in "({[") - (text[place] in ")}]")
-        if depth == 0:
-            return place + 1
-    return len(text)
+def blocks_of(text):
+    """The end of each block of a text, by the place of the bracket that it begins with, in the order of these places."""
+    ends, begun = {}, []
+    for bracket in BRACKET.finditer(text):
+        if bracket[0] in "({[":
+            begun.append(bracket.start())
+        elif begun:
+            ends[begun.pop()] = bracket.end()
+    return dict(sorted({**ends, **dict.fromkeys(begun, len(text))}.items()))
 
 
 def blank(text):
@@ -115,6 +117,7 @@ class CodeFile:
         self.path = path.relative_to(sources.root)
         raw = path.read_text(encoding="utf-8")
         self.text = blanked(raw)
+        self.ends = blocks_of(self.text)
         self.scope = Scope(self.text)
         for name in TEST.findall(raw):
             sources.tests[name] = self.path
@@ -140,24 +143,28 @@ class CodeFile:
             elif named and kind in ("trait", "struct", "enum"):
                 at = self.take_type(head, named)
 
+    def read(self, at):
+        """The clauses of an item, the line of each, and where its body begins and ends. `at` is behind the word that it begins with."""
+        clauses, lines = [], []
+        while at < len(self.text) and self.text[at] not in "{;":
+            clause = CLAUSE.match(self.text, at)
+            opening = clause.end() if clause else at
+            at = self.ends.get(opening, opening + 1)
+            if clause:
+                clauses.append((clause.group(2) or None, clause.group(1), self.text[opening + 1 : at - 1]))
+                lines.append(self.text.count("\n", 0, clause.start(1)) + 1)
+        return clauses, lines, at, self.ends.get(at, at + 1)
+
     def take_type(self, head, named):
         name, kind = named.group(1), head.group(2)
         self.add(name, kind, head.start()).is_public = name in self.exported
-        at = named.end()
-        behind = re.compile(r"\s*(?:<[^{(;]*>)?\s*\(").match(self.text, at) if kind == "struct" else None
-        if behind:
-            at = end_of_block(self.text, behind.end() - 1)
-        opening = re.compile(r"[{;]").search(self.text, at)
-        if opening is None or opening.group() == ";":
-            return opening.end() if opening else len(self.text)
-        end = end_of_block(self.text, opening.start())
+        *_, opening, end = self.read(named.end())
         if kind != "enum":
-            self.scan(opening.end(), end - 1, Block(name, kind))
+            self.scan(opening + 1, end - 1, Block(name, kind))
         return end
 
     def take_impl(self, at):
-        opening = self.text.find("{", at)
-        end = end_of_block(self.text, opening)
+        *_, opening, end = self.read(at)
         heading = re.sub(r"^\s*<(?:[^<>]|<[^<>]*>)*>", "", self.text[at:opening])
         trait, _, target = heading.rpartition(" for ")
         owner = re.match(r"\s*&?\s*(?:'\w+\s+)?(?:\w+::)*(\w+)", target)
@@ -167,7 +174,7 @@ class CodeFile:
         return end
 
     def take_function(self, head, named, block):
-        clauses, lines, end = self.clauses_of_function(named.end())
+        clauses, lines, _, end = self.read(named.end())
         name = f"{block.owner}::{named.group(1)}" if block else named.group(1)
         item = self.add(name, "fn", head.start())
         if not item.clauses:
@@ -181,22 +188,9 @@ class CodeFile:
             item.is_public |= is_open and block.owner in self.exported
         return end
 
-    def clauses_of_function(self, at):
-        """The clauses of a function, the line of each, and the end of its body. `at` is the end of its name."""
-        clauses, lines = [], []
-        while at < len(self.text) and self.text[at] not in "{;":
-            clause = CLAUSE.match(self.text, at)
-            opening = clause.end() if clause else at
-            at = end_of_block(self.text, opening) if clause or self.text[at] in "([" else at + 1
-            if clause:
-                clauses.append((clause.group(2) or None, clause.group(1), self.text[opening + 1 : at - 1]))
-                lines.append(self.text.count("\n", 0, clause.start(1)) + 1)
-        return clauses, lines, end_of_block(self.text, at) if self.text.startswith("{", at) else at + 1
-
     def take_ghost(self, head, named, block):
         """A ghost member: what a trait leaves open or requires, what a type states about itself, or what it defines for a trait."""
-        opening = self.text.find("{", named.end())
-        end = end_of_block(self.text, opening)
+        *_, opening, end = self.read(named.end())
         told = self.text[opening + 1 : end - 1]
         if block is not None and block.kind == "impl":
             self.sources.members[(block.owner, block.trait, named.group(1))] = (told, self.scope)
@@ -205,7 +199,7 @@ class CodeFile:
             if re.compile(r"\s*:").match(self.text, named.end()):
                 item.clauses = [(None, "states", told)]
         proof = re.compile(r"\s*by\s*(?=\{)").match(self.text, end)
-        return end_of_block(self.text, proof.end()) if proof else end
+        return self.ends[proof.end()] if proof else end
 
 
 class Sources:

@@ -2,6 +2,8 @@
 
 import hashlib
 import subprocess
+import sys
+import tempfile
 import threading
 import time
 from importlib.machinery import SourceFileLoader
@@ -56,6 +58,25 @@ class Tally:
         """Prints the closing line, and returns the exit status."""
         print(f"{self.passed} passed, {self.failed} failed{f', {self.skipped} skipped' if self.skipped else ''}")
         return int(self.failed > 0)
+
+
+class Tests(Tally):
+    """The count of what passed and failed, the program that is tried, and a folder for files."""
+
+    def __init__(self, what: str, program: Path, room: Path) -> None:
+        super().__init__(what)
+        self.program, self.room = program, room
+
+
+def try_program(made: Callable[[str, Path, Path], Tests], what: str, *tests: Callable[[Any], None]) -> int:
+    """Makes tests of the program that the command line names, each with Tests of the class `made`. Returns the exit status."""
+    if len(sys.argv) != 2:
+        sys.exit(f"usage: .ci/{Path(sys.argv[0]).name} PROGRAM")
+    with tempfile.TemporaryDirectory() as room:
+        tally = made(what, Path(sys.argv[1]).resolve(), Path(room))
+        for test in tests:
+            test(tally)
+    return tally.close()
 
 
 def shown(value: object) -> str:

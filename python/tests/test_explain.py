@@ -16,7 +16,7 @@ def test_every_refusal_has_a_section() -> None:
     """The numbers that the program reports, each with its name and a text."""
     known = sections(page())
     assert sorted(known) == NUMBERS
-    assert all(len([line for line in lines if line.strip()]) > 1 for lines in known.values())
+    assert all(len([line for line in text.splitlines() if line.strip()]) > 1 for text in known.values())
 
 
 @pytest.mark.parametrize(

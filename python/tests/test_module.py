@@ -27,7 +27,7 @@ from tigercanon.explain import SECTION, page
 HERE = Path(__file__).resolve().parent
 TEXT = b"1 first line\n2 second line: \xe9\n"
 
-REFUSALS = [found for found in re.findall(SECTION.pattern, page(), re.M) if found[0] not in ("8", "10")]
+REFUSALS = [found for found in SECTION.findall(page()) if found[0] not in ("8", "10")]
 """Each refusal that a call can report: its number, its name and its places, as the guide has them."""
 
 

@@ -16,6 +16,7 @@ from support import call, complete, digest, left_behind, put
 from testing import TYPES
 
 from tigercanon import storage
+from tigercanon.errors import Unreadable
 
 TEXT = b"county\n" * 40
 NAMES = [f"TGR00001.RT{kind}" for kind in TYPES]
@@ -166,6 +167,6 @@ def test_a_store_that_sends_too_little(room: Path, monkeypatch: pytest.MonkeyPat
         storage.fetch("s3://a", len(TEXT), "target")
         assert (store.asked, Path("target").read_bytes()) == (short + 1, TEXT)
     else:
-        with pytest.raises(storage.Broken, match="can't be read: only 140 of its 280 bytes came .three attempts."):
+        with pytest.raises(Unreadable, match="can't be read: only 140 of its 280 bytes came .three attempts."):
             storage.fetch("s3://a", len(TEXT), "target")
         assert store.asked == 3

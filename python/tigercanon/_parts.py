@@ -8,6 +8,7 @@ from pathlib import Path
 from typing import TYPE_CHECKING, Any, BinaryIO, Iterable, Iterator, Union
 
 from . import zips
+from .errors import Unreadable
 from .layout import TYPES, file_name
 
 if TYPE_CHECKING:
@@ -125,5 +126,5 @@ def files_in_zip(path: str) -> list[bytes]:
         with zips.opened(path) as archive:
             members = zips.members_of(archive)
             return [b"".join(zips.pieces_of(archive, members[kind])) if kind in members else b"" for kind in TYPES]
-    except zips.BadZip as fault:
+    except Unreadable as fault:
         raise ValueError(f"{path}: {fault}") from None

@@ -3,12 +3,12 @@
 from __future__ import annotations
 
 import argparse
-import logging
 import os
 import re
 import signal
 import threading
 import traceback
+from concurrent.futures import ThreadPoolExecutor
 from typing import Any, Callable, Sequence
 
 from . import explain, runs
@@ -17,7 +17,7 @@ from .errors import Failure, reason
 from .manifest import changes, duplicates, loaded
 from .own import PATIENCE, PROCESS
 from .printing import print_json, print_lines
-from .progress import LOG, Lines, Tally, report
+from .progress import Tally, report
 from .version import VERSION
 
 NAME = "tigercanon-tools"
@@ -185,36 +185,6 @@ def list_changes(options: argparse.Namespace) -> int:
     return int(counts["same"] < len(found))
 
 
-class Command(threading.Thread):
-    """A command, which runs beside the main thread: that one waits for signals, so none comes at a bad moment."""
-
-    def __init__(self, options: argparse.Namespace) -> None:
-        super().__init__(daemon=True)
-        self.options = options
-        self.status: int = 2
-        self.is_whole = False
-        self.signal: int | None = None
-        self.error: BaseException | None = None
-
-    def run(self) -> None:
-        try:
-            self.status = self.options.run(self.options)
-            self.is_whole = True
-        except Failure as failure:
-            report(str(failure))
-        except BrokenPipeError:
-            self.signal = signal.SIGPIPE
-        except MemoryError:
-            report("out of memory")
-        except OSError as error:
-            name = f"{error.filename}: " if isinstance(error.filename, str) else ""
-            report(f"{name}{reason(error)}")
-        except SystemExit as ended:
-            self.status = ended.code if isinstance(ended.code, int) else 2
-        except BaseException as error:  # a fault of this package
-            self.error = error
-
-
 def end_by(number: int) -> None:
     """Ends this process by a signal, as if it had no handler."""
     signal.signal(number, signal.SIG_DFL)
@@ -227,7 +197,7 @@ def stop(number: int, _: object) -> None:
     for each in SIGNALS:
         signal.signal(each, signal.SIG_IGN)
     PROCESS.end()
-    Lines.bar = None
+    Tally.bar = None
     tally = Tally.current
     how_far = f": {tally.ended:,} of {tally.counties:,} counties done" if tally else ""
     text = f"stopped by {signal.Signals(number).name[3:]}{how_far}"
@@ -238,22 +208,28 @@ def stop(number: int, _: object) -> None:
 
 
 def run(arguments: Sequence[str]) -> int:
-    """Runs a command line and returns the exit status."""
+    """Runs a command line and returns the exit status. The command runs in a thread of its own, and this one waits for signals, so none
+    comes at a bad moment. A command that can't go on ends this process, in which other threads may still be at work."""
     options = parser().parse_args(list(arguments))
-    LOG.setLevel(logging.INFO)
-    LOG.propagate = False
-    LOG.handlers = [Lines()]
     for number in SIGNALS:
         if signal.getsignal(number) is not signal.SIG_IGN:
             signal.signal(number, stop)
-    command = Command(options)
-    command.start()
-    command.join()
-    if command.is_whole:
-        return command.status
-    if command.error is not None:
-        traceback.print_exception(type(command.error), command.error, command.error.__traceback__)
+    status = 2
+    try:
+        return int(ThreadPoolExecutor(1).submit(options.run, options).result())
+    except Failure as failure:
+        report(str(failure))
+    except BrokenPipeError:
+        PROCESS.end()
+        end_by(signal.SIGPIPE)
+    except MemoryError:
+        report("out of memory")
+    except OSError as error:
+        name = f"{error.filename}: " if isinstance(error.filename, str) else ""
+        report(f"{name}{reason(error)}")
+    except SystemExit as ended:
+        status = ended.code if isinstance(ended.code, int) else 2
+    except BaseException:  # a fault of this package
+        traceback.print_exc()
     PROCESS.end()
-    if command.signal is not None:
-        end_by(command.signal)
-    os._exit(command.status)  # other threads may still be at work
+    os._exit(status)

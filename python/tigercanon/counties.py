@@ -9,12 +9,11 @@ from fnmatch import fnmatchcase
 from functools import lru_cache
 from typing import Callable, Iterable, Iterator
 
-from .errors import Failure, reason
+from .errors import Failure, Unreadable, reason
 from .judge import County, File, Order, prepared
 from .layout import RECORD_FILE, TYPES, ZIP_FILE, file_name, stem_of
 from .own import PROCESS, Own
-from .storage import Broken, Entry, entries, is_folder, is_url, joined, parted, real, system_of, tidy
-from .zips import BadZip
+from .storage import Entry, entries, is_folder, is_url, joined, parted, real, system_of, tidy
 
 MAGIC = re.compile(r"[*?[]")
 
@@ -264,5 +263,5 @@ def as_stem(source: str, own: Own = PROCESS) -> Iterator[str]:
     try:
         with prepared(county, Order(""), own, []) as (stem, _):
             yield stem
-    except (BadZip, Broken) as error:
+    except Unreadable as error:
         raise Failure(f"{source}: {error}") from None

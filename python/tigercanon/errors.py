@@ -8,6 +8,10 @@ class Failure(Exception):
     """A command can't start or can't go on. The text names the file and the cause; the exit status is 2."""
 
 
+class Unreadable(Exception):
+    """A file of a county can't be read, or isn't what its name says. The text says why."""
+
+
 def printable(text: str) -> str:
     """The text on one line: characters that can't be printed are escaped."""
     return "".join(letter if letter.isprintable() else repr(letter)[1:-1] for letter in text)

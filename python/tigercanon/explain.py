@@ -9,7 +9,7 @@ from pathlib import Path
 from .errors import Failure
 from .printing import print_lines
 
-SECTION = re.compile(r"^### `refused (\d+) (\w+)([^`]*)`$")
+SECTION = re.compile(r"(?m)^### `refused (\d+) (\w+)([^`]*)`$")
 REFUSAL = re.compile(r"(?:refused )?(\d+)?\s*([A-Z]\w+)?((?: [0-9A-Za-z]+)*?)(?: in set ([12]))?")
 HERE = Path(__file__).resolve().parent
 
@@ -20,39 +20,28 @@ def page() -> str:
     return (copy if copy.exists() else guide).read_text(encoding="utf-8")
 
 
-def sections(text: str) -> dict[int, list[str]]:
-    """The sections of the refusals by their numbers, the headings among them."""
-    found: dict[int, list[str]] = {}
-    current: list[str] | None = None
-    for line in text.splitlines():
-        heading = SECTION.match(line)
-        if heading:
-            current = found.setdefault(int(heading[1]), [])
-        elif line.startswith("#"):
-            current = None
-        if current is not None:
-            current.append(line)
-    return found
+def sections(text: str) -> dict[int, str]:
+    """The sections of the refusals by their numbers, each with its heading."""
+    return {int(found[1]): found[0] for found in re.finditer(r"(?ms)^### `refused (\d+) .*?(?=^#|\Z)", text)}
 
 
 def explained(line: str, text: str) -> list[str]:
     """What the page has about a refusal. Raises Failure if the line isn't one."""
     known = sections(text)
     words = REFUSAL.fullmatch(line.strip().rpartition(": ")[2])
-    names = {SECTION.match(lines[0])[2]: number for number, lines in known.items()}  # type: ignore[index]
-    number = None if words is None else int(words[1]) if words[1] else names.get(words[2] or "")
-    if number not in known:
+    numbers = {name: int(number) for number, name, _ in SECTION.findall(text)}
+    number = None if words is None else int(words[1]) if words[1] else numbers.get(words[2] or "")
+    if words is None or number not in known:
         raise Failure(f"{line!r} isn't a refusal: give the program's line, its number or its name")
-    heading, *body = known[number]
+    heading, *body = known[number].rstrip("\n").splitlines()
     # Plain text instead of Markdown: links and emphasis lose their marks.
-    plain = re.sub(r"\[([^\]]+)\]\([^)]*\)", r"\1", "\n".join(body).rstrip("\n")).replace("**", "")
-    return [heading[len("### `") : -1], *places(heading, words[3].split() if words else []), *plain.splitlines()]
+    plain = re.sub(r"\[([^\]]+)\]\([^)]*\)", r"\1", "\n".join(body)).replace("**", "")
+    refusal = heading[len("### `") : -1]
+    return [refusal, *places(refusal.split()[3:], words[3].split()), *plain.splitlines()]
 
 
-def places(heading: str, given: list[str]) -> list[str]:
+def places(meanings: list[str], given: list[str]) -> list[str]:
     """The places of a refusal with their meanings: `part 1, line 201`."""
-    found = SECTION.match(heading)
-    meanings = found[3].split() if found else []
     if not given or len(given) != len(meanings):
         return []
     return ["", ", ".join(f"{meaning.lower()} {place}" for meaning, place in zip(meanings, given))]

@@ -9,16 +9,17 @@ from __future__ import annotations
 import os
 import re
 import shutil
+import subprocess
 from contextlib import contextmanager
 from dataclasses import dataclass, field, replace
 from typing import Any, Iterable, Iterator, Mapping, Optional
 
-from .errors import printable, reason
+from .errors import Unreadable, printable, reason
 from .hints import hint
 from .layout import TYPES, file_name
-from .own import Ended, Own, remove_stale_folders
-from .storage import Broken, fetch, is_url
-from .zips import BadZip, members_of, opened, unpack
+from .own import Own, remove_stale_folders
+from .storage import fetch, is_url
+from .zips import members_of, opened, unpack
 
 DIGITS = re.compile(rb"[0-9a-f]{64}\n")
 STEM = "county"
@@ -96,7 +97,7 @@ def judge(county: County, order: Order, own: Own) -> Answer:
             return asked(name, files, order, own, notes)
     except Rejected as rejected:
         return Answer("refused", str(rejected), tuple(notes))
-    except (BadZip, Broken) as failure:
+    except Unreadable as failure:
         return Answer("failed", str(failure), county.notes)
     except MemoryError:
         return Answer("memory", "out of memory", tuple(notes))
@@ -157,7 +158,7 @@ def unzipped(file: File, order: Order, own: Own, notes: list[str]) -> Iterator[s
         note_files(sizes, order, notes)
         size = sum(sizes.values())
         if size > order.largest:
-            raise BadZip(f"the zip unpacks to {size} bytes, more than --largest {order.largest}")
+            raise Unreadable(f"the zip unpacks to {size} bytes, more than --largest {order.largest}")
         with own.folder(size) as folder:
             stem = f"{folder}/{STEM}"
             unpack(archive, members, stem)
@@ -188,25 +189,25 @@ def asked(name: str, files: Files, order: Order, own: Own, notes: list[str]) -> 
     stem = ["--stem"] if len(files) > 1 else []
     words = [order.program, "fingerprint", *stem, *order.flags, "--", name]
     ended = own.run(words, order.memory)
-    if ended.status == 0 and DIGITS.fullmatch(ended.out):
-        return Answer("made", ended.out[:64].decode(), tuple(notes))
+    if ended.returncode == 0 and DIGITS.fullmatch(ended.stdout):
+        return Answer("made", ended.stdout[:64].decode(), tuple(notes))
     line = complaint(ended)
     # Signals end a program that finds no memory in one way or another; a shell between reports them as a status over 128.
-    lacks_memory = line.startswith("refused 9 ") or not 0 <= ended.status <= 128
+    lacks_memory = line.startswith("refused 9 ") or not 0 <= ended.returncode <= 128
     kind = "memory" if lacks_memory else "refused" if line.startswith("refused ") else "failed"
     return Answer(kind, line, (*notes, *filter(None, [hint(line, files)])))
 
 
-def complaint(ended: Ended) -> str:
+def complaint(ended: subprocess.CompletedProcess[bytes]) -> str:
     """The program's line, or what can be said about its end."""
-    lines = ended.err.decode(errors="replace").strip().splitlines()
-    if ended.status < 0:
-        return f"the program was ended by signal {-ended.status}"
+    lines = ended.stderr.decode(errors="replace").strip().splitlines()
+    if ended.returncode < 0:
+        return f"the program was ended by signal {-ended.returncode}"
     if lines:
         return printable(lines[-1])
-    if ended.status == 0:
+    if ended.returncode == 0:
         return "the program printed something else than a fingerprint"
-    return f"the program ended with status {ended.status}"
+    return f"the program ended with status {ended.returncode}"
 
 
 def judge_on_a_worker(county: tuple[Any, ...], order: tuple[Any, ...]) -> tuple[str, str, tuple[str, ...]]:

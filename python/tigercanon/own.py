@@ -11,7 +11,6 @@ import tempfile
 import threading
 import time
 from contextlib import contextmanager, suppress
-from dataclasses import dataclass
 from pathlib import Path
 from typing import Callable, Iterator, Sequence
 
@@ -32,15 +31,6 @@ PATIENCE = 0.3
 """A thread that is printing or writing keeps the end of the run waiting for at most this many seconds."""
 
 
-@dataclass(frozen=True)
-class Ended:
-    """How a process ended."""
-
-    status: int
-    out: bytes
-    err: bytes
-
-
 class Own:
     """What belongs to a run. Whatever is started or made is noted under the lock; end() takes the lock and never returns it,
     so that nothing new is started afterwards."""
@@ -51,7 +41,7 @@ class Own:
         self.folders: dict[str, int] = {}
         self.last: list[Callable[[], None]] = []
 
-    def run(self, words: Sequence[str], memory: int | None = None) -> Ended:
+    def run(self, words: Sequence[str], memory: int | None = None) -> subprocess.CompletedProcess[bytes]:
         """Runs the program in a session of its own, so that all of it can be ended. memory limits its address space. Its settings for
         memory are those that make it faster, unless the user has settings of their own."""
         pipe, nothing, environment = subprocess.PIPE, subprocess.DEVNULL, {"GLIBC_TUNABLES": TUNABLES, **os.environ}
@@ -65,7 +55,7 @@ class Own:
         finally:
             with self.lock:
                 self.children.discard(child)
-        return Ended(child.returncode, out, err)
+        return subprocess.CompletedProcess(words, child.returncode, out, err)
 
     @contextmanager
     def folder(self, size: int) -> Iterator[str]:

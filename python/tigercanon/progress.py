@@ -2,7 +2,6 @@
 
 from __future__ import annotations
 
-import logging
 import sys
 import time
 from collections import Counter
@@ -14,27 +13,16 @@ from .errors import printable
 PAUSE = 10.0
 """Seconds between two lines of progress if standard error isn't a terminal."""
 
-LOG = logging.getLogger("tigercanon-tools")
-
-
-class Lines(logging.Handler):
-    """Writes messages to standard error, above a progress bar if there is one. What can't be written is dropped."""
-
-    bar: Any = None
-
-    def emit(self, record: logging.LogRecord) -> None:
-        text = f"tigercanon-tools: {record.getMessage()}"
-        with suppress(OSError, ValueError, AttributeError):
-            if Lines.bar is not None:
-                Lines.bar.write(text, file=sys.stderr)
-            else:
-                sys.stderr.write(text + "\n")
-                sys.stderr.flush()
-
 
 def report(text: str) -> None:
-    """Reports a line on standard error."""
-    LOG.info("%s", printable(text))
+    """Reports a line on standard error, above the progress bar if there is one. What can't be written is dropped."""
+    line = f"tigercanon-tools: {printable(text)}"
+    with suppress(OSError, ValueError, AttributeError):
+        if Tally.bar is not None:
+            Tally.bar.write(line, file=sys.stderr)
+        else:
+            sys.stderr.write(f"{line}\n")
+            sys.stderr.flush()
 
 
 def amount(count: int) -> str:
@@ -57,6 +45,7 @@ class Tally:
     """The results so far, and the progress of the run."""
 
     current: "Tally" | None = None
+    bar: Any = None
 
     def __init__(self) -> None:
         Tally.current = self
@@ -64,12 +53,11 @@ class Tally:
         self.good = self.failed = 0
         self.refused: Counter[str] = Counter()
         self.started = self.reported_at = time.monotonic()
-        self.bar: Any = None
 
     def start(self, counties: int, bytes_in_all: int) -> None:
         """What there is to do is known."""
         self.counties, self.bytes_in_all = counties, bytes_in_all
-        self.bar = Lines.bar = bar_of(counties) if counties else None
+        Tally.bar = bar_of(counties) if counties else None
 
     def end(self, size: int) -> None:
         """One county more is done."""
@@ -97,7 +85,7 @@ class Tally:
     def close(self) -> None:
         if self.bar is not None:
             self.bar.close()
-        self.bar = Lines.bar = None
+        Tally.bar = None
 
     @property
     def took(self) -> str:

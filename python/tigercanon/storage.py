@@ -8,7 +8,7 @@ import stat
 import time
 from typing import Any, NamedTuple
 
-from .errors import Failure, reason
+from .errors import Failure, Unreadable, reason
 
 PAUSES = (0.5, 2.0)
 """Seconds between the three attempts to read a file at a URL."""
@@ -97,12 +97,8 @@ def real(path: str) -> str:
     return path if is_url(path) else os.path.realpath(path)
 
 
-class Broken(Exception):
-    """A file at a URL can't be read. The text says why."""
-
-
 def fetch(url: str, size: int | None, target: str) -> None:
-    """Copies a file from a URL, in at most three attempts. Raises Broken, and OSError if the copy can't be written."""
+    """Copies a file from a URL, in at most three attempts. Raises Unreadable, and OSError if the copy can't be written."""
     system, path = system_of(url)
     for pause in (*PAUSES, None):
         try:
@@ -119,4 +115,4 @@ def fetch(url: str, size: int | None, target: str) -> None:
             why = reason(error)
         if pause is not None:
             time.sleep(pause)
-    raise Broken(f"can't be read: {why} (three attempts)")
+    raise Unreadable(f"can't be read: {why} (three attempts)")

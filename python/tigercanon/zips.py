@@ -3,6 +3,7 @@
 import zipfile
 from typing import Iterator
 
+from .errors import Unreadable
 from .layout import TYPES, file_name
 
 END_OF_DIRECTORY = b"PK\5\6"
@@ -12,18 +13,14 @@ PIECE = 1 << 20
 Members = dict[str, zipfile.ZipInfo]
 
 
-class BadZip(Exception):
-    """A zip isn't the zip of one county. The text says why."""
-
-
 def opened(path: str) -> zipfile.ZipFile:
-    """Opens a zip. Raises BadZip if it isn't one, and OSError if it can't be read."""
+    """Opens a zip. Raises Unreadable if it isn't one, and OSError if it can't be read."""
     try:
         return zipfile.ZipFile(path)
     except (OSError, MemoryError):
         raise
     except Exception:
-        raise BadZip(trouble_with(path)) from None
+        raise Unreadable(trouble_with(path)) from None
 
 
 def trouble_with(path: str) -> str:
@@ -38,28 +35,28 @@ def trouble_with(path: str) -> str:
 
 
 def members_of(archive: zipfile.ZipFile) -> Members:
-    """The files of the one county in a zip by their types, in either case of their names. Raises BadZip."""
+    """The files of the one county in a zip by their types, in either case of their names. Raises Unreadable."""
     counties: dict[str, dict[str, list[zipfile.ZipInfo]]] = {}
     for member in archive.infolist():
         name = member.filename.upper()
         if name[-4:-1] == ".RT" and name[-1] in TYPES:
             counties.setdefault(name[:-4], {}).setdefault(name[-1], []).append(member)
     if not counties:
-        raise BadZip("the zip has no county in it")
+        raise Unreadable("the zip has no county in it")
     if len(counties) > 1:
         names = ", ".join(sorted(ascii(name)[1:-1] for name in counties)[:3])
-        raise BadZip(f"the zip has {len(counties)} counties in it: {names}")
+        raise Unreadable(f"the zip has {len(counties)} counties in it: {names}")
     members = counties.popitem()[1]
     for kind, found in members.items():
         if len(found) > 1:
-            raise BadZip(f"the zip has {len(found)} files .RT{kind}")
+            raise Unreadable(f"the zip has {len(found)} files .RT{kind}")
         if found[0].flag_bits & 1:
-            raise BadZip("the zip is locked with a password")
+            raise Unreadable("the zip is locked with a password")
     return {kind: members[kind][0] for kind in TYPES if kind in members}
 
 
 def unpack(archive: zipfile.ZipFile, members: Members, stem: str) -> None:
-    """Unpacks the files under the names of a stem. Raises BadZip, and OSError if they can't be written."""
+    """Unpacks the files under the names of a stem. Raises Unreadable, and OSError if they can't be written."""
     for kind, member in members.items():
         with open(file_name(stem, kind), "wb") as target:
             target.writelines(pieces_of(archive, member))
@@ -79,9 +76,9 @@ def pieces_of(archive: zipfile.ZipFile, member: zipfile.ZipInfo) -> Iterator[byt
     except (MemoryError, GeneratorExit):
         raise
     except NotImplementedError:
-        raise BadZip(f"the zip can't be unpacked: {name} is compressed by an unknown method") from None
+        raise Unreadable(f"the zip can't be unpacked: {name} is compressed by an unknown method") from None
     except Exception:
         # The archive can be read, so whatever goes wrong is wrong with these bytes.
-        raise BadZip(f"the zip is broken at {name}") from None
+        raise Unreadable(f"the zip is broken at {name}") from None
     if left != 0:
-        raise BadZip(f"the zip is broken at {name}")
+        raise Unreadable(f"the zip is broken at {name}")

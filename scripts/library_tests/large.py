@@ -64,7 +64,7 @@ def try_little_memory(tests: Tests, whole: Path) -> None:
 def try_counties(tests: Tests) -> None:
     """The calls for C on the large counties on which the program is tried, and on the large sets that are rejected."""
     test_large = script(".ci/test-large")
-    large = test_large.Tests(Path(tests.callers["gcc"][0]), tests.room)
+    large = test_large.Large("large, ", Path(tests.callers["gcc"][0]), tests.room)
     for test in (test_large.many_of_each, test_large.large_refusals, test_large.very_many_chains):
         test(large)
     tests.passed += large.passed

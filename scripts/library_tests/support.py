@@ -10,19 +10,20 @@ from typing import Sequence
 
 sys.path.insert(0, str(Path(__file__).resolve().parent.parent.parent / "tools"))
 
-from testing import ROOT, TYPES, Tally, run  # noqa: E402
+import testing  # noqa: E402
+from testing import ROOT, TYPES, run  # noqa: E402
 
 CALLER = Path(__file__).resolve().parent / "caller.c"
 SUFFIXES = [f".RT{kind}" for kind in TYPES]
 WARNINGS = ["-Wall", "-Wextra", "-pedantic", "-Werror"]
 
 
-class Tests(Tally):
+class Tests(testing.Tests):
     """The count of what passed, failed and was skipped, and what all tests need."""
 
     def __init__(self, library: Path, program: Path, room: Path):
-        super().__init__("library, ")
-        self.library, self.program, self.room = library, program, room
+        super().__init__("library, ", program, room)
+        self.library = library
         self.callers: dict[str, list[str]] = {}
 
 

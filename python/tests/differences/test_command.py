@@ -56,12 +56,6 @@ def assert_fails(line: str, *words: object, **options: Any) -> None:
     assert sorted(os.listdir(".")) == before
 
 
-def test_help() -> None:
-    ended = ask("--help")
-    assert (ended.status, ended.err) == (0, "")
-    assert "Shows where two maps differ" in ended.out
-
-
 @pytest.mark.parametrize("wanted", ["", "--no-sources", "--no-reserved", "--no-sources --no-reserved"])
 def test_masks(wanted: str) -> None:
     """The flags that leave fields out go to the program, and all that is written names them."""

@@ -128,5 +128,5 @@ def compared(options: argparse.Namespace) -> int:
 def as_json(comparison: Comparison, sets: Sets, own: BothOwn) -> list[str]:
     """The counts and the differences, as one JSON object."""
     counts = {f"{subject}s": dict(zip(KINDS, part.counts)) for subject, part in zip(SUBJECTS, comparison.parts)}
-    differences = [feature.properties for feature in features(comparison, own)]
+    differences = [properties for _, properties in features(comparison, own)]
     return [json.dumps({**head(comparison, sets), "counts": counts, "differences": differences}, ensure_ascii=False, indent=1)]

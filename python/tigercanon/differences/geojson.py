@@ -4,7 +4,6 @@ from __future__ import annotations
 
 import json
 import re
-from dataclasses import dataclass
 from functools import lru_cache
 from typing import Any, Iterator, Sequence
 
@@ -24,16 +23,8 @@ ABOUT = "Where two maps differ, found by tigercanon-tools diff: an aid, and not 
 SIDES = ("first", "second")
 
 
-@dataclass(frozen=True)
-class Feature:
-    """A difference, with its geometry as JSON."""
-
-    geometry: str
-    properties: Properties
-
-    @property
-    def json(self) -> str:
-        return f'{{"type":"Feature","geometry":{self.geometry},"properties":{as_json(self.properties)}}}'
+Feature = tuple[str, Properties]
+"""A difference: its geometry as JSON, and its properties."""
 
 
 def write_geojson(file: NewFile, comparison: Comparison, sets: Sets, own: BothOwn, with_alike: bool) -> None:
@@ -41,8 +32,8 @@ def write_geojson(file: NewFile, comparison: Comparison, sets: Sets, own: BothOw
     file.write('{"type":"FeatureCollection",' + as_json(head(comparison, sets))[1:-1])
     file.write(',"features":[')
     begin = "\n"
-    for feature in features(comparison, own, with_alike):
-        file.write(begin + feature.json)
+    for shape, told in features(comparison, own, with_alike):
+        file.write(f'{begin}{{"type":"Feature","geometry":{shape},"properties":{as_json(told)}}}')
         begin = ",\n"
     file.write("\n]}\n")
 
@@ -64,7 +55,7 @@ def features(comparison: Comparison, own: BothOwn, with_alike: bool = False) -> 
     for thing in things(comparison, with_alike):
         points = thing.either.points if thing.what == "chain" else ""
         line = [points[at : at + POINT_WIDTH] for at in range(0, len(points), POINT_WIDTH)]
-        yield Feature(geometry("LineString", line) if line else points_geometry(thing.points), properties(thing, own))
+        yield geometry("LineString", line) if line else points_geometry(thing.points), properties(thing, own)
     for tie in comparison.ties:
         yield tie_feature(tie, own[0])
 
@@ -95,7 +86,7 @@ def tie_feature(tie: Tie, own: OwnNumbers) -> Feature:
     told.update({f"{side}_count": count for side, count in zip(SIDES, counts)})
     told["places"] = " | ".join("; ".join(map(tied_place, group)) for group in tie.groups)
     told["first_TLIDs"] = " | ".join("; ".join(str(own.get(at.chain.key, "")) for at in group) for group in tie.groups)
-    return Feature(points_geometry(tie.points), told)
+    return points_geometry(tie.points), told
 
 
 def values(side: str, name: FieldName, shown: str | None, exact: str) -> Properties:

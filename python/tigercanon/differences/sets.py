@@ -95,10 +95,10 @@ def printed(program: str, command: Sequence[str], sources: Sequence[Source]) -> 
             ended = PROCESS.run([program, *command, *source.words])
         except OSError as error:
             raise Failure(f"the program {program} can't be run: {reason(error)}") from None
-        if ended.status != 0:
+        if ended.returncode != 0:
             line = complaint(ended)
             raise Failure(f"{printable(source.name)}: {'; '.join(filter(None, [line, hint(line, source.files)]))}")
-        return ended.out
+        return bytes(ended.stdout)
 
     with ThreadPoolExecutor() as threads:
         return list(threads.map(printed_for, sources))
