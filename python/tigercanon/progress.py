@@ -2,6 +2,7 @@
 
 from __future__ import annotations
 
+import logging
 import sys
 import time
 from collections import Counter
@@ -14,15 +15,26 @@ PAUSE = 10.0
 """Seconds between two lines of progress if standard error isn't a terminal."""
 
 
+class Lines(logging.Handler):
+    """Writes messages to standard error, above the progress bar if there is one. What can't be written is dropped."""
+
+    def emit(self, record: logging.LogRecord) -> None:
+        line = f"tigercanon-tools: {record.getMessage()}"
+        with suppress(OSError, ValueError, AttributeError):
+            if Tally.bar is not None:
+                Tally.bar.write(line, file=sys.stderr)
+            else:
+                sys.stderr.write(f"{line}\n")
+                sys.stderr.flush()
+
+
+LOG = logging.Logger("tigercanon-tools")
+LOG.addHandler(Lines())
+
+
 def report(text: str) -> None:
-    """Reports a line on standard error, above the progress bar if there is one. What can't be written is dropped."""
-    line = f"tigercanon-tools: {printable(text)}"
-    with suppress(OSError, ValueError, AttributeError):
-        if Tally.bar is not None:
-            Tally.bar.write(line, file=sys.stderr)
-        else:
-            sys.stderr.write(f"{line}\n")
-            sys.stderr.flush()
+    """Reports a line on standard error."""
+    LOG.info("%s", printable(text))
 
 
 def amount(count: int) -> str:
