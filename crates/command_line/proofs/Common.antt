@@ -1,7 +1,7 @@
 -- The names from below that several proofs of this crate cite, passed on from one place. Declares nothing.
 pub use Rattle.clap.specs.Words.{App, Row, Text, app_of, first_of, found_of, one_of, rows_of, subcommand_of, with_subcommand}
 pub use Rattle.command_line.specs.Grammar.{over_one_set, understood, with_mask}
-pub use Rattle.command_line.specs.Names.{AreUnderstood, IsFlagGiven, IsPlanOf, usual_words}
+pub use Rattle.command_line.specs.Names.{AreUnderstood, IsFlagGiven, IsPlanOf}
 pub use Rattle.command_line.specs.Words.{word_of}
 pub use Rattle.command_line.specs.declared.plans.Job.{Job}
 pub use Rattle.command_line.specs.declared.plans.Job.TheVariants.{Check, Compare, Fingerprint, Normalise, Respell}

@@ -1,4 +1,5 @@
 pub mod Common
+pub mod AddedJobs
 pub mod PlannedSets
 pub mod MaskWords
 pub mod UsualWords

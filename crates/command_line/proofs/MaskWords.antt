@@ -1,38 +1,48 @@
 -- Arguments with a flag that leaves fields out, for a job that has no such flag.
-use Rattle.command_line.proofs.Common.{◌≡◌, Bool, true, false, [], ◌∷◌, ◌++◌, refl, Text, AreUnderstood, word_of, Job, Respell, Check}
+use Rattle.command_line.proofs.Common.{◌≡◌, ◌∙◌, Bool, true, false, [], ◌∷◌, ◌++◌, None, refl, sym, Text, Respell, Check, codes}
 use Rattle.clap.proofs.OnLiterals.{clap_on_literals}
+use Rattle.clap.specs.Faults.{turn_fault}
+use Rattle.clap.specs.declared.error.kind.ErrorKind.TheVariants.{UnknownArgument}
 use Rattle.command_line.specs.Names.{TakesNoMask, reserved_words, source_words, stem_words}
-use Rattle.command_line.proofs.UsualWords.Words.{each_mask}
+use Rattle.command_line.proofs.UsualWords.Entering.{job_fault}
+use Rattle.command_line.proofs.UsualWords.OverOneSet.{set_job, set_stem}
+use Rattle.command_line.proofs.UsualWords.Walking.{before_word, fault_after, fault_from, refused}
+use Rattle.command_line.proofs.UsualWords.Words.{flag_rows}
 
--- if the arguments of a job are valid, none of these flags is among them
-abbrev Refuses : Job → Bool → Text → Bool → Bool → Type 0
-Refuses job is_stem first sources reserved =
-    AreUnderstood (word_of job ∷ (stem_words is_stem ++ (source_words sources ++ (reserved_words reserved ++ first ∷ []))))
-    → (sources ≡ false) × (reserved ≡ false)
-
--- the jobs that neither print nor compare maps
-abbrev maskless : Bool → Job
-maskless false = Respell
-maskless true = Check
-
-refuses : (checks is_stem sources reserved : Bool) (first : Text) → Refuses (maskless checks) is_stem first sources reserved
+-- the subcommand knows neither flag
+unknown_sources : (name : Text) (is_stem : Bool)
+    → turn_fault (set_job name) [] (before_word (flag_rows (codes "stem") is_stem) None 1) (codes "--no-sources") ≡ UnknownArgument ∷ []
 unfolding clap_on_literals
-refuses false false sources reserved first =
-    each_mask (Refuses Respell false first) (λ _. (refl, refl)) (λ taken. absurd cc) (λ taken. absurd cc) (λ taken. absurd cc) sources reserved
-refuses false true sources reserved first =
-    each_mask (Refuses Respell true first) (λ _. (refl, refl)) (λ taken. absurd cc) (λ taken. absurd cc) (λ taken. absurd cc) sources reserved
-refuses true false sources reserved first =
-    each_mask (Refuses Check false first) (λ _. (refl, refl)) (λ taken. absurd cc) (λ taken. absurd cc) (λ taken. absurd cc) sources reserved
-refuses true true sources reserved first =
-    each_mask (Refuses Check true first) (λ _. (refl, refl)) (λ taken. absurd cc) (λ taken. absurd cc) (λ taken. absurd cc) sources reserved
+unknown_sources name false = refl
+unknown_sources name true = refl
 
-takes_none : (checks : Bool) → TakesNoMask (maskless checks)
-takes_none checks is_stem mask first plain taken =
-    let none = refuses checks is_stem mask.sources mask.reserved first taken in
-    λ i. record { sources = none.0 i; reserved = none.1 i }
+unknown_reserved : (name : Text) (is_stem : Bool)
+    → turn_fault (set_job name) [] (before_word (flag_rows (codes "stem") is_stem) None 1) (codes "--no-reserved") ≡ UnknownArgument ∷ []
+unfolding clap_on_literals
+unknown_reserved name false = refl
+unknown_reserved name true = refl
+
+-- if a subcommand without these flags takes the words, none of the flags is among them
+refuses_after : (name : Text) (is_stem sources reserved : Bool) (first : Text)
+    → fault_from (set_job name) (before_word (flag_rows (codes "stem") is_stem) None 1) (source_words sources ++ (reserved_words reserved ++ first ∷ [])) ≡ []
+    → (sources ≡ false) × (reserved ≡ false)
+refuses_after name is_stem false false first taken = (refl, refl)
+refuses_after name is_stem false true first taken = absurd (refused (set_job name) _ _ _ _ (unknown_reserved name is_stem) taken)
+refuses_after name is_stem true reserved first taken = absurd (refused (set_job name) _ _ _ _ (unknown_sources name is_stem) taken)
+
+refuses : (name : Text) (is_stem sources reserved : Bool) (first : Text)
+    → fault_from (set_job name) (before_word [] None 1) (stem_words is_stem ++ (source_words sources ++ (reserved_words reserved ++ first ∷ []))) ≡ []
+    → (sources ≡ false) × (reserved ≡ false)
+refuses name false sources reserved first taken = refuses_after name false sources reserved first taken
+refuses name true sources reserved first taken =
+    refuses_after name true sources reserved first (sym (fault_after (set_job name) _ _ _ _ (set_stem name)) ∙ taken)
 
 pub respell_takes_no_mask : TakesNoMask Respell
-respell_takes_no_mask = takes_none false
+respell_takes_no_mask is_stem mask first plain taken =
+    let none = refuses (codes "respell") is_stem mask.sources mask.reserved first (sym (job_fault Respell _) ∙ taken) in
+    λ i. record { sources = none.0 i; reserved = none.1 i }
 
 pub check_takes_no_mask : TakesNoMask Check
-check_takes_no_mask = takes_none true
+check_takes_no_mask is_stem mask first plain taken =
+    let none = refuses (codes "check") is_stem mask.sources mask.reserved first (sym (job_fault Check _) ∙ taken) in
+    λ i. record { sources = none.0 i; reserved = none.1 i }

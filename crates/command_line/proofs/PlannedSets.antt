@@ -1,9 +1,9 @@
 -- The results of clap's getters, by the values that clap found.
 use Rattle.command_line.proofs.Common.{◌≡◌, ◌∙◌, Bool, true, false, List, [], Option, Some, None, Bor, ap, refl, sym, subst, codes}
 use Rattle.command_line.proofs.Common.{option_map, Row, found_of, subcommand_of, App, Text, first_of, one_of, rows_of, understood, Job}
-use Rattle.command_line.proofs.Common.{AreUnderstood, IsFlagGiven, IsPlanOf, word_of, Plan}
+use Rattle.command_line.proofs.Common.{AreUnderstood, IsFlagGiven}
 use Rattle.std.proofs.Common.{Result, Ok, Err}
-use Rattle.std.proofs.Common.{IfOk, inl, inr}
+use Rattle.std.proofs.Common.{inl, inr}
 use Rattle.std.specs.Prelude.{Box, OnOk}
 use Rattle.std.specs.Box.{box_value}
 use Rattle.clap.specs.Words.{HasMatchesOf, is_simple, subcommand_name_of}
@@ -16,8 +16,6 @@ use Rattle.clap.specs.declared.error.Error.{Error}
 use Rattle.clap.specs.declared.error.kind.ErrorKind.TheVariants.{OutOfMemory}
 use Rattle.clap.specs.declared.parser.matches.Found.{Found}
 use Rattle.clap.proofs.WalkLemmas.{first_value-rows, one_text-rows}
-use Rattle.command_line.specs.Names.{NamesItsSets}
-use Rattle.command_line.specs.declared.plans.PlanFault.{PlanFault}
 
 -- the value of an argument
 pub value_given : (found : Found) (id : Text) (r : Option (Bor Text)) (value : Bor Text)
@@ -62,7 +60,7 @@ pub flag_given : (found : Found) (id : Text) (b : Bool) → (one_text found id �
 flag_given found id b none on off =
     subst (λ flag. IsFlagGiven flag b) (one_text-rows found id) (record { given = on; left_out = off; unknown = none })
 
--- the subcommand that was found, in two parts, is the one in the arguments
+-- the subcommand that was found, in two parts, is the one that the parser met
 module _ {Z : Type 0} where
   met_in : (sub : Option (Box SubCommand Z)) (name : Text) (rows : List Row)
       → option_map (λ (b : Box SubCommand Z). (out-SubCommand (box_value b)).name.now) sub ≡ Some name
@@ -73,26 +71,17 @@ module _ {Z : Type 0} where
       let found : rows_of (found_of (out-SubCommand (box_value b)).matches) ≡ rows = cc in
       λ i. Some (same i, found i)
 
-pub met_of : (app : App) (words : List Text) (m : ArgMatches) (name : Bor Text) (given : Bor ArgMatches)
-    (r : Option (Bor Text × Bor ArgMatches)) → app ≡ understood → HasMatchesOf app words m → r ≡ Some (name, given)
+pub met_of : (m : ArgMatches) (name : Bor Text) (given : Bor ArgMatches) (r : Option (Bor Text × Bor ArgMatches)) → r ≡ Some (name, given)
     → option_map (λ (p : Bor Text × Bor ArgMatches). p.0.now) r ≡ subcommand_name_of m
     → option_map (λ (p : Bor Text × Bor ArgMatches). rows_of (found_of p.1.now)) r
     ≡ option_map (λ (p : Text × List Row). p.1) (subcommand_rows_of m)
-    → subcommand_of understood words ≡ Some (name.now, rows_of (found_of given.now))
-met_of app words m name given r is has found names rows =
-    let met = met_in (out-ArgMatches m).subcommand name.now (rows_of (found_of given.now))
+    → subcommand_rows_of m ≡ Some (name.now, rows_of (found_of given.now))
+met_of m name given r found names rows =
+    met_in (out-ArgMatches m).subcommand name.now (rows_of (found_of given.now))
     (sym names ∙ ap (option_map (λ (p : Bor Text × Bor ArgMatches). p.0.now)) found)
-    (sym rows ∙ ap (option_map (λ (p : Bor Text × Bor ArgMatches). rows_of (found_of p.1.now))) found) in
-    subst (λ a. subcommand_of a words ≡ Some (name.now, rows_of (found_of given.now))) is
-    (sym (has (ap is_simple is ∙ refl)).1 ∙ met)
+    (sym rows ∙ ap (option_map (λ (p : Bor Text × Bor ArgMatches). rows_of (found_of p.1.now))) found)
 
--- a plan is planned by the arguments if it does the job that they name, with the files that they name
-pub planned_of : (r : Result Plan PlanFault) (o : Option (Text × List Row)) (name : Text) (rows : List Row) (job : Job)
-    → o ≡ Some (name, rows) → name ≡ word_of job → IfOk r (λ p. p.job ≡ job) → IfOk r (NamesItsSets rows) → IfOk r (IsPlanOf o)
-planned_of (Ok p) o name rows job met named does has =
-    subst (λ (q : Option (Text × List Row)). IsPlanOf q p) (sym met) (named ∙ ap word_of (sym does), has)
-planned_of (Err f) o name rows job met named does has = tt
-
--- if a word names no job, it isn't the name of a job
-pub no_job : (o : Option Job) (job : Job) → o ≡ None → o ≡ Some job → ⊥
-no_job o job none known = let same : None ≡ Some job = sym none ∙ known in absurd cc
+-- the subcommand that the parser met is the one in the arguments
+pub met_in_words : (app : App) (words : List Text) (m : ArgMatches) → app ≡ understood → HasMatchesOf app words m
+    → subcommand_rows_of m ≡ subcommand_of understood words
+met_in_words app words m is has = (has (ap is_simple is ∙ refl)).1 ∙ ap (λ a. subcommand_of a words) is

@@ -2,7 +2,7 @@
 
 ghost use Rattle.clap.specs.declared.builder.command.Command.TheViews.{out-Command};
 ghost use Rattle.clap.specs.Words.{app_of, rule_of, with_subcommand};
-ghost use Rattle.std.specs.Prelude.{◌≡◌, IfOk, codes, false};
+ghost use Rattle.std.specs.Prelude.{◌≡◌, IfOk, IsOkAnd, codes, false};
 ghost use Rattle.command_line.specs.Grammar.{flag_named, over_one_set, over_two_sets, program_alone, set_argument, stem_flag, understood, with_mask};
 
 use clap::{Arg, ArgAction, Command};
@@ -74,17 +74,16 @@ fn masked<'a>(alloc: Global, command: Command<'a>) -> Result<Command<'a>, AllocE
     ensures app { IfOk result (λ c. app_of c ≡ with_mask (app_of command.entry)) }
     ensures local { IfOk result (λ c. (out-Command c).has_globals ≡ false) }
 {
-    let no_sources = flag(
+    let with_sources = command.arg(flag(
         alloc,
         NO_SOURCES,
         "Leave out the fields that name the source of the data: SOURCE of record types 1, 7 and I",
-    );
-    let no_reserved = flag(
+    ))?;
+    with_sources.arg(flag(
         alloc,
         NO_RESERVED,
         "Leave out reserved fields: CENSUS1 and CENSUS2 of record type 1, RS_I1, RS_I2 and RS_I3 of type I",
-    );
-    command.arg(no_sources)?.arg(no_reserved)
+    ))
 }
 
 /// A required argument that names a set.
@@ -99,21 +98,23 @@ fn set<'a>(alloc: Global, id: &'a str, shown: &'a str, help: &'a str) -> Arg<'a>
         .help(help)
 }
 
-/// A subcommand that reads one set.
-fn over_one_set<'a>(alloc: Global, name: &'a str, about: &'a str) -> Result<Command<'a>, AllocError>
+/// A subcommand with an argument that names a set, which the help shows as `shown`.
+fn over_one_set<'a>(
+    alloc: Global,
+    name: &'a str,
+    about: &'a str,
+    shown: &'a str,
+) -> Result<Command<'a>, AllocError>
     ensures app { IfOk result (λ c. app_of c ≡ over_one_set name.entry.now) }
     ensures local { IfOk result (λ c. (out-Command c).has_globals ≡ false) }
 {
-    let only = set(
+    let of_stem = Command::new(alloc, name).about(about).arg(stem(alloc))?;
+    of_stem.arg(set(
         alloc,
         FIRST,
-        "SET",
+        shown,
         "The file with all records of a county, or with --stem the beginning of its files' names",
-    );
-    Command::new(alloc, name)
-        .about(about)
-        .arg(stem(alloc))?
-        .arg(only)
+    ))
 }
 
 /// A subcommand that reads one set and has the flags to leave fields out.
@@ -121,29 +122,7 @@ fn over_one_map<'a>(alloc: Global, name: &'a str, about: &'a str) -> Result<Comm
     ensures app { IfOk result (λ c. app_of c ≡ with_mask (over_one_set name.entry.now)) }
     ensures local { IfOk result (λ c. (out-Command c).has_globals ≡ false) }
 {
-    masked(alloc, over_one_set(alloc, name, about)?)
-}
-
-/// The subcommand that reads two sets, without the flags to leave fields out.
-fn of_two_sets<'a>(alloc: Global) -> Result<Command<'a>, AllocError>
-    ensures app { IfOk result (λ c. app_of c ≡ over_two_sets (codes "compare")) }
-    ensures local { IfOk result (λ c. (out-Command c).has_globals ≡ false) }
-{
-    let of_stems = Command::new(alloc, "compare")
-        .about("Compare two maps: same or different")
-        .arg(stem(alloc))?;
-    let of_one = of_stems.arg(set(
-        alloc,
-        FIRST,
-        FIRST,
-        "The file with all records of a county, or with --stem the beginning of its files' names",
-    ))?;
-    of_one.arg(set(
-        alloc,
-        SECOND,
-        SECOND,
-        "Another county, named in the same way",
-    ))
+    masked(alloc, over_one_set(alloc, name, about, "SET")?)
 }
 
 /// The subcommand that compares two sets.
@@ -151,7 +130,19 @@ fn compare<'a>(alloc: Global) -> Result<Command<'a>, AllocError>
     ensures app { IfOk result (λ c. app_of c ≡ with_mask (over_two_sets (codes "compare"))) }
     ensures local { IfOk result (λ c. (out-Command c).has_globals ≡ false) }
 {
-    masked(alloc, of_two_sets(alloc)?)
+    let of_one = over_one_set(
+        alloc,
+        "compare",
+        "Compare two maps: same or different",
+        FIRST,
+    )?;
+    let of_two = of_one.arg(set(
+        alloc,
+        SECOND,
+        SECOND,
+        "Another county, named in the same way",
+    ))?;
+    masked(alloc, of_two)
 }
 
 /// The program without its subcommands.
@@ -171,28 +162,15 @@ fn program<'a>(alloc: Global) -> Result<Command<'a>, AllocError>
     )
 }
 
-/// Adds to the program a subcommand that reads one set.
+/// Adds a subcommand to the program, if there was memory to make it.
 fn with_job<'a>(
-    alloc: Global,
     program: Command<'a>,
-    name: &'a str,
-    about: &'a str,
+    job: Result<Command<'a>, AllocError>,
 ) -> Result<Command<'a>, AllocError>
-    ensures { IfOk result (λ c. app_of c ≡ with_subcommand (app_of program.entry) (over_one_set name.entry.now).top) }
+    requires { IfOk job (λ j. (out-Command j).has_globals ≡ false) }
+    ensures { IfOk result (λ c. IsOkAnd job.entry (λ j. app_of c ≡ with_subcommand (app_of program.entry) (app_of j).top)) }
 {
-    program.subcommand(over_one_set(alloc, name, about)?)
-}
-
-/// Adds to the program a subcommand that reads one set and has the flags to leave fields out.
-fn with_map_job<'a>(
-    alloc: Global,
-    program: Command<'a>,
-    name: &'a str,
-    about: &'a str,
-) -> Result<Command<'a>, AllocError>
-    ensures { IfOk result (λ c. app_of c ≡ with_subcommand (app_of program.entry) (with_mask (over_one_set name.entry.now)).top) }
-{
-    program.subcommand(over_one_map(alloc, name, about)?)
+    program.subcommand(job?)
 }
 
 /// Adds to the program the two subcommands that print a set's records.
@@ -201,37 +179,38 @@ fn with_texts<'a>(alloc: Global, program: Command<'a>) -> Result<Command<'a>, Al
         with_subcommand (with_subcommand (app_of program.entry) (over_one_set (codes "respell")).top)
         (with_mask (over_one_set (codes "normalise"))).top) }
 {
-    let program = with_job(
+    let respell = over_one_set(
         alloc,
-        program,
         "respell",
         "Print the records in canonical spelling, in their order and with their numbers",
-    )?;
-    with_map_job(
+        "SET",
+    );
+    let program = with_job(program, respell)?;
+    let normalise = over_one_map(
         alloc,
-        program,
         "normalise",
         "Print the canonical text of the map that the records describe",
-    )
+    );
+    with_job(program, normalise)
 }
 
 /// The grammar of the command line: the subcommands and their arguments.
 pub(crate) fn command<'a>(alloc: Global) -> Result<Command<'a>, AllocError>
     ensures { IfOk result (λ c. app_of c ≡ understood) }
 {
-    let program = program(alloc)?;
-    let program = with_texts(alloc, program)?;
-    let program = with_job(
+    let program = with_texts(alloc, program(alloc)?)?;
+    let check = over_one_set(
         alloc,
-        program,
         "check",
         "Check whether the records fit together and have a canonical text",
-    )?;
-    let program = with_map_job(
+        "SET",
+    );
+    let program = with_job(program, check)?;
+    let fingerprint = over_one_map(
         alloc,
-        program,
         "fingerprint",
         "Print the SHA-256 hash of the canonical text, to cite the map by",
-    )?;
-    program.subcommand(compare(alloc)?)
+    );
+    let program = with_job(program, fingerprint)?;
+    with_job(program, compare(alloc))
 }

@@ -1,11 +1,12 @@
 //! Parsing the arguments of a command line.
 
 ghost use Rattle.clap.specs.declared.error.kind.ErrorKind.TheVariants.{OutOfMemory};
+ghost use Rattle.clap.specs.Simple.{subcommand_rows_of};
 ghost use Rattle.clap.specs.Words.{Text, first_of, found_of, kind_of, rows_of};
 ghost use Rattle.std.specs.Prelude.{◌≡◌, Bool, List, Some, IfErr, IfOk, IfSome, OnOk, map, string_bytes};
 ghost use Rattle.command_line.specs.declared.plans.Job.{Job};
 ghost use Rattle.command_line.specs.declared.plans.Plan.{Plan};
-ghost use Rattle.command_line.specs.Names.{AreFilesOf, AreSecondOf, AreUnderstood, IsMaskGiven, IsPlanned, NamesItsSets};
+ghost use Rattle.command_line.specs.Names.{AreFilesOf, AreSecondOf, AreUnderstood, IsMaskGiven, IsPlanOf, IsPlanned, NamesItsSets};
 ghost use Rattle.command_line.specs.Words.{word_of};
 
 use crate::command::{FIRST, NO_RESERVED, NO_SOURCES, SECOND, STEM, command};
@@ -13,7 +14,7 @@ use crate::names::files_of;
 use crate::plans::{Job, Plan, PlanFault};
 use clap::ArgMatches;
 use clap::error::ErrorKind;
-use std::alloc::Global;
+use std::alloc::{AllocError, Global};
 use tl_layout::Mask;
 
 /// The job that a word names.
@@ -44,13 +45,16 @@ fn fault_of(alloc: Global, error: &clap::Error) -> PlanFault
     }
 }
 
+/// The program's usage message.
+fn usage_text(alloc: Global) -> Result<String, AllocError> {
+    let mut command = command(alloc)?;
+    command.render_usage()
+}
+
 /// The fault with the program's usage message.
 fn usage(alloc: Global) -> PlanFault {
-    match command(alloc) {
-        Ok(mut command) => match command.render_usage() {
-            Ok(text) => PlanFault::Usage(text),
-            Err(_) => PlanFault::Memory,
-        },
+    match usage_text(alloc) {
+        Ok(text) => PlanFault::Usage(text),
         Err(_) => PlanFault::Memory,
     }
 }
@@ -115,6 +119,20 @@ fn plan_of(alloc: Global, job: Job, given: &ArgMatches<'_>) -> Result<Plan, Plan
     })
 }
 
+/// The plan that parsed arguments ask for.
+fn plan_in(alloc: Global, matches: &ArgMatches<'_>) -> Result<Plan, PlanFault>
+    ensures planned { IfOk result (IsPlanOf (subcommand_rows_of matches.now)) }
+    ensures usage { (p : Plan) → IsPlanOf (subcommand_rows_of matches.now) p → IfErr result (λ fault. fault ≡ PlanFault.Memory) }
+{
+    let Some((name, given)) = matches.subcommand() else {
+        return Err(usage(alloc));
+    };
+    match job_named(name) {
+        Some(job) => plan_of(alloc, job, given),
+        None => Err(usage(alloc)),
+    }
+}
+
 /// Parses the arguments of a command line, without the program's own name.
 ///
 /// # Errors
@@ -128,15 +146,8 @@ pub fn plan(alloc: Global, words: &[String]) -> Result<Plan, PlanFault>
     ensures usage { (p : Plan) → AreUnderstood (map string_bytes words.now) → IsPlanned (map string_bytes words.now) p →
         IfErr result (λ fault. fault ≡ PlanFault.Memory) }
 {
-    let matches = match command(alloc)?.try_get_matches_from(words) {
-        Ok(matches) => matches,
-        Err(error) => return Err(fault_of(alloc, &error)),
-    };
-    let Some((name, given)) = matches.subcommand() else {
-        return Err(usage(alloc));
-    };
-    match job_named(name) {
-        Some(job) => plan_of(alloc, job, given),
-        None => Err(usage(alloc)),
+    match command(alloc)?.try_get_matches_from(words) {
+        Ok(matches) => plan_in(alloc, &matches),
+        Err(error) => Err(fault_of(alloc, &error)),
     }
 }

@@ -1,33 +1,45 @@
 -- The usual arguments of compare are parsed as intended.
-use Rattle.command_line.proofs.Common.{Bool, true, false, refl, Text, Compare}
+use Rattle.command_line.proofs.Common.{◌++◌, ◌∷◌, [], Bool, true, false, codes, None, Some, refl, Text}
 use Rattle.clap.proofs.OnLiterals.{clap_on_literals}
-use Rattle.command_line.proofs.UsualWords.Words.{AreRead, IsNoFlag, each_mask}
+use Rattle.command_line.specs.Names.{reserved_words, source_words, stem_words}
+use Rattle.command_line.proofs.UsualWords.Flags.{after_flags, found, map_job}
+use Rattle.command_line.proofs.UsualWords.Walking.{Reads, Steps, before_word, plain_step, step_then}
+use Rattle.command_line.proofs.UsualWords.Words.{IsNoFlag, Read, flag, value_rows}
 
-compare_of_files_is_read : (sources reserved : Bool) (first second : Text) → IsNoFlag first → IsNoFlag second
-    → AreRead Compare false sources reserved first second
+-- what is parsed of the words for two maps
+abbrev maps_read : Bool → Bool → Bool → Text → Text → Read
+maps_read is_stem sources reserved first second = (Some first, Some second, Some (flag is_stem), Some (flag sources), Some (flag reserved))
+
+maps_end : (name : Text) (is_stem sources reserved : Bool) (first second : Text)
+    → Reads (map_job true name) (before_word (found is_stem sources reserved ++ value_rows (codes "FIRST") first) (Some (codes "SECOND", second ∷ [])) 3) []
+    (maps_read is_stem sources reserved first second)
 unfolding clap_on_literals
-compare_of_files_is_read sources reserved first second f s =
-    let end = f.not_end in let long = f.not_long in let short = f.not_short in
-    let end' = s.not_end in let long' = s.not_long in let short' = s.not_short in
-    each_mask (λ a b. AreRead Compare false a b first second)
-    (record { taken = rw end (rw long (rw short (rw end' (rw long' (rw short' refl))))); met = rw (end, long, short) (rw (end', long', short') refl) })
-    (record { taken = rw end (rw long (rw short (rw end' (rw long' (rw short' refl))))); met = rw (end, long, short) (rw (end', long', short') refl) })
-    (record { taken = rw end (rw long (rw short (rw end' (rw long' (rw short' refl))))); met = rw (end, long, short) (rw (end', long', short') refl) })
-    (record { taken = rw end (rw long (rw short (rw end' (rw long' (rw short' refl))))); met = rw (end, long, short) (rw (end', long', short') refl) }) sources reserved
+maps_end name false false false first second = record { taken = refl; met = refl }
+maps_end name false false true first second = record { taken = refl; met = refl }
+maps_end name false true false first second = record { taken = refl; met = refl }
+maps_end name false true true first second = record { taken = refl; met = refl }
+maps_end name true false false first second = record { taken = refl; met = refl }
+maps_end name true false true first second = record { taken = refl; met = refl }
+maps_end name true true false first second = record { taken = refl; met = refl }
+maps_end name true true true first second = record { taken = refl; met = refl }
 
-compare_of_stems_is_read : (sources reserved : Bool) (first second : Text) → IsNoFlag first → IsNoFlag second
-    → AreRead Compare true sources reserved first second
-unfolding clap_on_literals
-compare_of_stems_is_read sources reserved first second f s =
-    let end = f.not_end in let long = f.not_long in let short = f.not_short in
-    let end' = s.not_end in let long' = s.not_long in let short' = s.not_short in
-    each_mask (λ a b. AreRead Compare true a b first second)
-    (record { taken = rw end (rw long (rw short (rw end' (rw long' (rw short' refl))))); met = rw (end, long, short) (rw (end', long', short') refl) })
-    (record { taken = rw end (rw long (rw short (rw end' (rw long' (rw short' refl))))); met = rw (end, long, short) (rw (end', long', short') refl) })
-    (record { taken = rw end (rw long (rw short (rw end' (rw long' (rw short' refl))))); met = rw (end, long, short) (rw (end', long', short') refl) })
-    (record { taken = rw end (rw long (rw short (rw end' (rw long' (rw short' refl))))); met = rw (end, long, short) (rw (end', long', short') refl) }) sources reserved
+second_step : (name : Text) (is_stem sources reserved : Bool) (first second : Text) → IsNoFlag second
+    → Steps (map_job true name) (before_word (found is_stem sources reserved) (Some (codes "FIRST", first ∷ [])) 2) second
+    (before_word (found is_stem sources reserved ++ value_rows (codes "FIRST") first) (Some (codes "SECOND", second ∷ [])) 3)
+second_step name false false false first second s = plain_step (map_job true name) (found false false false) _ 2 second _ s refl refl
+second_step name false false true first second s = plain_step (map_job true name) (found false false true) _ 2 second _ s refl refl
+second_step name false true false first second s = plain_step (map_job true name) (found false true false) _ 2 second _ s refl refl
+second_step name false true true first second s = plain_step (map_job true name) (found false true true) _ 2 second _ s refl refl
+second_step name true false false first second s = plain_step (map_job true name) (found true false false) _ 2 second _ s refl refl
+second_step name true false true first second s = plain_step (map_job true name) (found true false true) _ 2 second _ s refl refl
+second_step name true true false first second s = plain_step (map_job true name) (found true true false) _ 2 second _ s refl refl
+second_step name true true true first second s = plain_step (map_job true name) (found true true true) _ 2 second _ s refl refl
 
-pub compare_is_read : (is_stem sources reserved : Bool) (first second : Text) → IsNoFlag first → IsNoFlag second
-    → AreRead Compare is_stem sources reserved first second
-compare_is_read false = compare_of_files_is_read
-compare_is_read true = compare_of_stems_is_read
+pub maps_are_read : (name : Text) (is_stem sources reserved : Bool) (first second : Text) → IsNoFlag first → IsNoFlag second
+    → Reads (map_job true name) (before_word [] None 1) (stem_words is_stem ++ ((source_words sources ++ reserved_words reserved) ++ first ∷ second ∷ []))
+    (maps_read is_stem sources reserved first second)
+maps_are_read name is_stem sources reserved first second f s =
+    after_flags true name (first ∷ second ∷ []) _ is_stem sources reserved
+    (step_then (map_job true name) _ _ first (second ∷ []) _ (plain_step (map_job true name) (found is_stem sources reserved) None 1 first _ f refl refl)
+    (step_then (map_job true name) _ _ second [] _ (second_step name is_stem sources reserved first second s)
+    (maps_end name is_stem sources reserved first second)))

@@ -1,22 +1,16 @@
 -- The usual command lines are valid, and their plans are the ones that they describe.
-use Rattle.command_line.proofs.Common.{◌≡◌, ◌∙◌, Bool, true, false, List, [], Option, Some, None, refl, ap, sym, subst, codes, map}
-use Rattle.command_line.proofs.Common.{string_bytes, Row, Text, first_of, one_of, subcommand_of, understood, IsFlagGiven, IsPlanOf}
-use Rattle.command_line.proofs.Common.{usual_words, word_of, Job, Respell, Normalise, Check, Fingerprint, Compare, Plan, Mask}
+use Rattle.command_line.proofs.Common.{◌≡◌, ◌∙◌, ◌++◌, Bool, true, false, List, [], Option, Some, None, refl, ap, sym, subst, codes, map}
+use Rattle.command_line.proofs.Common.{string_bytes, Row, Text, first_of, one_of, IsFlagGiven, IsPlanOf}
+use Rattle.command_line.proofs.Common.{Job, Respell, Normalise, Check, Fingerprint, Compare, Plan, Mask}
 use Rattle.std.proofs.Common.{arith}
 use Rattle.std.specs.Prelude.{slice_index, unwrap_or}
-use Rattle.command_line.specs.Names.{AreSecondOf, AreUsualWordsPlanned, HasFilesOf}
-use Rattle.command_line.specs.Names.{IsMaskGiven, MayLeaveOut, second_files}
-use Rattle.command_line.proofs.UsualWords.Words.{AreRead, IsNoFlag, Read, flag, mask_flag, no_flag, read, second_of}
-use Rattle.command_line.proofs.UsualWords.OverOneSet.{check_is_read, fingerprint_is_read, normalise_is_read, respell_is_read}
-use Rattle.command_line.proofs.UsualWords.Comparing.{compare_is_read}
-
-are_read : (job : Job) (is_stem sources reserved : Bool) (first second : Text) → IsNoFlag first → IsNoFlag second
-    → AreRead job is_stem sources reserved first second
-are_read Respell = respell_is_read
-are_read Check = check_is_read
-are_read Normalise = normalise_is_read
-are_read Fingerprint = fingerprint_is_read
-are_read Compare = compare_is_read
+use Rattle.command_line.specs.Names.{AreSecondOf, AreUsualWordsPlanned, HasFilesOf, IsMaskGiven, MayLeaveOut, NamesItsSets}
+use Rattle.command_line.specs.Names.{mask_words, second_files, set_words, stem_words}
+use Rattle.command_line.proofs.UsualWords.Comparing.{maps_are_read}
+use Rattle.command_line.proofs.UsualWords.Entering.{grammar_of, job_fault, job_subcommand, prepared}
+use Rattle.command_line.proofs.UsualWords.OverOneSet.{map_is_read, set_is_read}
+use Rattle.command_line.proofs.UsualWords.Walking.{Reads, before_word}
+use Rattle.command_line.proofs.UsualWords.Words.{IsNoFlag, Read, flag, mask_flag, no_flag, read, second_of}
 
 -- a flag that was given and one that wasn't are told apart by their values
 values_apart : Some (codes "true") ≡ Some (codes "false") → ⊥
@@ -49,48 +43,37 @@ second_read rows Normalise is_stem second names given named = named
 second_read rows Check is_stem second names given named = named
 second_read rows Fingerprint is_stem second names given named = named
 
--- one component of what was parsed
-part : {X : Type 0} (f : Read → X) (a b : Read) → Some a ≡ Some b → f a ≡ f b
-part f a b e = ap (λ (r : Option Read). f (unwrap_or r a)) e
+-- the words after the name of the job, and what is parsed of them
+abbrev arguments : Job → Bool → Mask → Text → Text → List Text
+arguments job is_stem mask first second = stem_words is_stem ++ (mask_words job mask ++ set_words job first second)
 
--- the parsed form of the arguments for a plan
-abbrev reported : Plan → Bool → Text → Text → Read
-reported plan is_stem first second = (
-  word_of plan.job,
-  Some first,
-  second_of plan.job second,
-  Some (flag is_stem),
-  mask_flag plan.job plan.mask.sources,
-  mask_flag plan.job plan.mask.reserved,
-)
+abbrev reported : Job → Bool → Mask → Text → Text → Read
+reported job is_stem mask first second =
+    (Some first, second_of job second, Some (flag is_stem), mask_flag job mask.sources, mask_flag job mask.reserved)
 
-planned : (o : Option (Text × List Row)) (plan : Plan) (is_stem : Bool) (first second : Text)
-    → read o ≡ Some (reported plan is_stem first second) → HasFilesOf is_stem first second plan → MayLeaveOut plan.job plan.mask → IsPlanOf o plan
-planned None plan is_stem first second e files may = absurd cc
-planned (Some (name, rows)) plan is_stem first second e files may =
-    let found : Read = (
-      name,
-      first_of (codes "FIRST") rows,
-      first_of (codes "SECOND") rows,
-      one_of (codes "stem") rows,
-      one_of (codes "no-sources") rows,
-      one_of (codes "no-reserved") rows,
-    ) in
-    let wanted : Read = reported plan is_stem first second in (
-      part (λ r. r.0) found wanted e,
-      record {
-        is_stem = is_stem;
-        flag = flag_read (one_of (codes "stem") rows) is_stem (part (λ r. r.3) found wanted e);
-        mask = mask_read rows plan.job plan.mask may (part (λ r. r.4) found wanted e) (part (λ r. r.5) found wanted e);
-        first = record { name = first; given = part (λ r. r.1) found wanted e; named = files.first_files };
-        second = second_read rows plan.job is_stem second (map string_bytes plan.second.items) (part (λ r. r.2) found wanted e)
-            files.second_files_too;
-      },
-    )
+are_read : (job : Job) (is_stem : Bool) (mask : Mask) (first second : Text) → IsNoFlag first → IsNoFlag second
+    → Reads (prepared (grammar_of job)) (before_word [] None 1) (arguments job is_stem mask first second) (reported job is_stem mask first second)
+are_read Respell is_stem mask first second f s = set_is_read (codes "respell") is_stem first f
+are_read Check is_stem mask first second f s = set_is_read (codes "check") is_stem first f
+are_read Normalise is_stem mask first second f s = map_is_read (codes "normalise") is_stem mask.sources mask.reserved first f
+are_read Fingerprint is_stem mask first second f s = map_is_read (codes "fingerprint") is_stem mask.sources mask.reserved first f
+are_read Compare is_stem mask first second f s = maps_are_read (codes "compare") is_stem mask.sources mask.reserved first second f s
+
+names_sets : (rows : List Row) (plan : Plan) (is_stem : Bool) (first second : Text)
+    → read rows ≡ reported plan.job is_stem plan.mask first second → HasFilesOf is_stem first second plan → MayLeaveOut plan.job plan.mask
+    → NamesItsSets rows plan
+names_sets rows plan is_stem first second e files may = record {
+  is_stem = is_stem;
+  flag = flag_read _ is_stem (ap (λ r. r.2) e);
+  mask = mask_read rows plan.job plan.mask may (ap (λ r. r.3) e) (ap (λ r. r.4) e);
+  first = record { name = first; given = ap (λ r. r.0) e; named = files.first_files };
+  second = second_read rows plan.job is_stem second (map string_bytes plan.second.items) (ap (λ r. r.1) e) files.second_files_too;
+}
 
 pub usual_words_planned : AreUsualWordsPlanned
 usual_words_planned plan is_stem first second f s files may =
-    let are = are_read plan.job is_stem plan.mask.sources plan.mask.reserved first second (no_flag first f) (no_flag second s) in (
-      are.taken,
-      planned (subcommand_of understood (usual_words plan.job is_stem plan.mask first second)) plan is_stem first second are.met files may,
+    let words = arguments plan.job is_stem plan.mask first second in
+    let are = are_read plan.job is_stem plan.mask first second (no_flag first f) (no_flag second s) in (
+      job_fault plan.job words ∙ are.taken,
+      subst (λ o. IsPlanOf o plan) (sym (job_subcommand plan.job words)) (refl, names_sets _ plan is_stem first second are.met files may),
     )

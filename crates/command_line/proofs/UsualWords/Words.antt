@@ -1,11 +1,13 @@
--- The parsed form of a usual command line.
-use Rattle.command_line.proofs.Common.{◌≡◌, Bool, true, false, [], ◌∷◌, List, Option, Some, None, refl, codes, option_map, Row, Text}
-use Rattle.command_line.proofs.Common.{first_of, one_of, subcommand_of, understood, AreUnderstood, usual_words, word_of, Job, Respell}
-use Rattle.command_line.proofs.Common.{Check, Compare, Mask}
+-- The parsed form of the words after a subcommand.
+use Rattle.command_line.proofs.Common.{◌≡◌, Bool, true, false, [], ◌∷◌, List, Option, Some, None, refl, codes, Row, Text, first_of, one_of}
+use Rattle.command_line.proofs.Common.{Job, Respell, Check, Compare}
 use Rattle.std.proofs.Common.{◌==◌}
 use Rattle.std.proofs.Common.{ne_eqb}
 use Rattle.std.specs.Str.{bytes_eq}
 use Rattle.clap.specs.Lexer.{long_of, short_of}
+use Rattle.clap.specs.Values.{reading_of}
+use Rattle.clap.specs.declared.builder.value_parser.ValueParser.TheVariants as parser
+use Rattle.clap.specs.declared.parser.matches.ValueSource.TheVariants.{CommandLine}
 use Rattle.command_line.specs.Names.{IsPlain}
 
 -- a text that isn't a flag, as clap tests it
@@ -20,19 +22,18 @@ no_flag (x ∷ xs) plain =
     let e : (x == 45) ≡ false = ne_eqb x 45 plain in
     record { not_end = rw e refl; not_long = rw e refl; not_short = rw e refl }
 
--- the parsed form of a subcommand: its name, the names of the sets, and the flags
+-- what was parsed of a subcommand's arguments: the names of the sets, and the flags
 abbrev pub Read : Type 0
-Read = Text × Option Text × Option Text × Option Text × Option Text × Option Text
+Read = Option Text × Option Text × Option Text × Option Text × Option Text
 
-abbrev pub read : Option (Text × List Row) → Option Read
-read = option_map (λ p. (
-  p.0,
-  first_of (codes "FIRST") p.1,
-  first_of (codes "SECOND") p.1,
-  one_of (codes "stem") p.1,
-  one_of (codes "no-sources") p.1,
-  one_of (codes "no-reserved") p.1,
-))
+abbrev pub read : List Row → Read
+read rows = (
+  first_of (codes "FIRST") rows,
+  first_of (codes "SECOND") rows,
+  one_of (codes "stem") rows,
+  one_of (codes "no-sources") rows,
+  one_of (codes "no-reserved") rows,
+)
 
 abbrev pub flag : Bool → Text
 flag true = codes "true"
@@ -48,19 +49,23 @@ mask_flag Respell given = None
 mask_flag Check given = None
 mask_flag job given = Some (flag given)
 
-abbrev pub mask_of : Bool → Bool → Mask
-mask_of sources reserved = record { sources = sources; reserved = reserved }
+-- what is found for a flag, if it was given
+abbrev pub flag_rows : Text → Bool → List Row
+flag_rows id false = []
+flag_rows id true = record {
+  id = id;
+  values = codes "true" ∷ [];
+  count = None;
+  source = Some CommandLine;
+  reading = reading_of parser.Bool;
+} ∷ []
 
--- the arguments are valid, and are parsed as intended
-pub record AreRead (job : Job) (is_stem sources reserved : Bool) (first second : Text) : Type 0 where
-  pub taken : AreUnderstood (usual_words job is_stem (mask_of sources reserved) first second)
-  pub met : read (subcommand_of understood (usual_words job is_stem (mask_of sources reserved) first second))
-      ≡ Some (word_of job, Some first, second_of job second, Some (flag is_stem), mask_flag job sources, mask_flag job reserved)
-
--- what holds for each choice of the two flags of a mask
-pub each_mask : (P : Bool → Bool → Type 0) → P false false → P false true → P true false → P true true → (sources reserved : Bool)
-    → P sources reserved
-each_mask P none second first both false false = none
-each_mask P none second first both false true = second
-each_mask P none second first both true false = first
-each_mask P none second first both true true = both
+-- what is found for the name of a set
+abbrev pub value_rows : Text → Text → List Row
+value_rows id name = record {
+  id = id;
+  values = name ∷ [];
+  count = None;
+  source = Some CommandLine;
+  reading = reading_of parser.String;
+} ∷ []
