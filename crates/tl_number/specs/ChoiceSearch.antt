@@ -40,7 +40,7 @@ abbrev pub ShowsChoice : {C S : Type 0} {chart : Charts C} {evidence : Evidences
 ShowsChoice {chart = chart} county number view = (chart.county (source_of view) ≡ county)
     × (arranged_county view ≡ arranged county (numbered_choice county number))
 
--- the choice with the last number is the lesser of the first two, or one of them if neither is less; all have the same records of type 1
+-- the text of the choice with the last number comes after neither of the other two, and its records of type 1 are the same as the first's
 pub record IsLesserTie (county : County) (one other kept : ℕ) : Type 0 where
   pub not_after_one : IsNotAfter (choice_list county kept) (choice_list county one)
   pub not_after_other : IsNotAfter (choice_list county kept) (choice_list county other)
