@@ -267,8 +267,8 @@ pub(crate) fn number_critical<C: Chart>(
 }
 
 /// The numbers of the nodes at both ends of a chain, 0 for none.
-fn node_numbers(ends: Ends) -> (u64, u64)
-    ensures { result ≡ (unwrap_or ends.0 0, unwrap_or ends.1 0) }
+fn node_numbers(ends: &Ends) -> (u64, u64)
+    ensures { result ≡ (unwrap_or ends.now.0 0, unwrap_or ends.now.1 0) }
 {
     (ends.0.get().unwrap_or(0), ends.1.get().unwrap_or(0))
 }
@@ -277,6 +277,6 @@ fn node_numbers(ends: Ends) -> (u64, u64)
 pub(crate) fn compare_critical(one: &[Ends], other: &[Ends]) -> Ordering
     ensures { result ≡ slice_cmp ends_cmp one.now other.now }
 {
-    let others = other.iter().map(|ends| node_numbers(*ends));
-    one.iter().map(|ends| node_numbers(*ends)).cmp(others)
+    let others = other.iter().map(node_numbers);
+    one.iter().map(node_numbers).cmp(others)
 }

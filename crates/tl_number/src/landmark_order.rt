@@ -76,8 +76,8 @@ fn cmp_bodies<C: Chart>(chart: &C, a: usize, b: usize) -> Ordering
 fn cmp_links(a: &[Rec8], b: &[Rec8]) -> Ordering
     ensures { result ≡ slice_cmp link_part_cmp (map link_part a.now) (map link_part b.now) }
 {
-    let others = b.iter().map(|link| bytes_of_link(link));
-    a.iter().map(|link| bytes_of_link(link)).cmp(others)
+    let others = b.iter().map(bytes_of_link);
+    a.iter().map(bytes_of_link).cmp(others)
 }
 
 /// Links with LANDs counted from 1, and how many have a LAND up to 0, 1, 2, ..

@@ -8,29 +8,23 @@
 //! shape mostly differ in an address, a name or a code.
 
 ghost use Rattle.std.specs.declared.cmp.Ordering.TheVariants.{Equal};
-ghost use Rattle.std.specs.Cmp.Lexicographic.{slice_cmp};
-ghost use Rattle.std.specs.Ordering.{is_gt, nat_cmp};
-ghost use Rattle.std.specs.Prelude.{◌≡◌, ◌<◌, ◌≤◌, cond, false, length, true, IfOk, IfSome, MatchOption};
+ghost use Rattle.std.specs.Ordering.{is_gt};
+ghost use Rattle.std.specs.Prelude.{◌≡◌, ◌<◌, ◌≤◌, cond, false, true, IfOk, IfSome};
 ghost use Rattle.tl_county.specs.CountyRules.{AllKeysStandIn, polygon_keys, polygons_along};
-ghost use Rattle.tl_layout.specs.RecordText.{text_of};
-ghost use Rattle.tl_number.specs.Arrangement.{arranged};
 ghost use Rattle.tl_number.specs.Canonical.{IsNotAfter};
-ghost use Rattle.tl_number.specs.ChoiceSearch.{IsMoved, LeavesChoices, numbered_arrangement};
-ghost use Rattle.tl_number.specs.LeastNumber.{IsLeastBelow, choice_list};
-ghost use Rattle.tl_number.specs.MovedChains.{AreWithin};
+ghost use Rattle.tl_number.specs.ChoiceSearch.{IsChosen, IsLesserTie, LeavesChoices, ShowsChoice};
+ghost use Rattle.tl_number.specs.LeastNumber.{IsLeastBelow, choice_list, choices_cmp};
 ghost use Rattle.tl_number.specs.DirectedChains.{HasChainsOf, arrangement_of};
-ghost use Rattle.tl_number.specs.Tidy.{IsLeastChoice, numbered_choice};
+ghost use Rattle.tl_number.specs.Tidy.{IsLeastChoice};
 ghost use Rattle.tl_number.specs.TypeOneOrder.{IsLeastFrom, IsLeastOne, ones_cmp};
 ghost use Rattle.tl_number.specs.ViewFacts.{NamesEachOnce};
-ghost use Rattle.tl_number.specs.Views.{arranged_county, source_of};
 ghost use Rattle.tl_profile.specs.Choices.{choices, most_choices};
 ghost use Rattle.tl_profile.specs.ShapeOrder.{IsShapeOrder};
 
 use crate::arranged::Arranged;
 use crate::arranging::arrange;
-use crate::ascending_order::arrangement_in_order;
 use crate::critical_places::critical_ends;
-use crate::numbered_arrangement::{choose, put_back};
+use crate::numbered_arrangement::NumberedArrangement;
 use crate::same_chains::have_same_chains;
 use crate::text_order::compare_texts;
 use crate::tie_order::compare_ties;
@@ -41,20 +35,6 @@ use std::mem::swap;
 use tl_county::{Chart, DirectedChain, Lent};
 use tl_profile::ShapeOrder;
 
-/// The choice with this number.
-fn arrangement_of_number(
-    alloc: Global,
-    order: &ShapeOrder,
-    number: u64,
-) -> Result<Vec<DirectedChain>, AllocError>
-    requires { AreWithin (length order.now.by_shape) order.now.places }
-    ensures { IfOk result (λ arrangement. arrangement.items ≡ numbered_arrangement order.now number) }
-{
-    let mut arrangement = arrangement_in_order(alloc, order)?;
-    choose(&mut arrangement, order.open_places(), number);
-    Ok(arrangement)
-}
-
 /// Arranges the choice with this number.
 fn arrange_choice<'a, C: Chart>(
     alloc: Global,
@@ -63,11 +43,10 @@ fn arrange_choice<'a, C: Chart>(
     number: u64,
 ) -> Result<Arranged<Lent<'a, C>>, AllocError>
     requires { LeavesChoices (C.county chart.now) order.now }
-    ensures county { IfOk result (λ view. arranged_county view ≡ arranged (C.county chart.now) (numbered_choice (C.county chart.now) number)) }
-    ensures source { IfOk result (λ view. ⟦<Lent<'a, C> as Chart>⟧.county (source_of view) ≡ C.county chart.now) }
+    ensures { IfOk result (λ view. ShowsChoice (C.county chart.now) number view) }
 {
-    let arrangement = arrangement_of_number(alloc, order, number)?;
-    arrange(alloc, Lent::new(chart), arrangement)
+    let arrangement = NumberedArrangement::new(alloc, order, number)?;
+    arrange(alloc, Lent::new(chart), arrangement.chains)
 }
 
 /// A choice in some form, and its number.
@@ -88,13 +67,6 @@ pub(crate) fn lesser<V: Drop>(
     if ordering.is_gt() { other } else { one }
 }
 
-/// The number of a choice.
-fn number_of<V: Drop>(numbered: NumberedChoice<V>) -> u64
-    ensures { result ≡ numbered.number }
-{
-    numbered.number
-}
-
 /// The lesser of the least choice so far and the choice with another number that has the same records of type 1. Arranges the
 /// latter.
 fn next_least<'a, C: Chart>(
@@ -105,17 +77,10 @@ fn next_least<'a, C: Chart>(
     number: u64,
 ) -> Result<NumberedChoice<Arranged<Lent<'a, C>>>, AllocError>
     requires known { LeavesChoices (C.county chart.now) order.now }
-    requires choice { arranged_county least.choice ≡ arranged (C.county chart.now) (numbered_choice (C.county chart.now) least.number) }
-    requires source { ⟦<Lent<'a, C> as Chart>⟧.county (source_of least.choice) ≡ C.county chart.now }
+    requires shown { ShowsChoice (C.county chart.now) least.number least.choice }
     requires tied { ones_cmp (C.county chart.now) least.number number ≡ Equal }
-    ensures choice { IfOk result
-        (λ kept. arranged_county kept.choice ≡ arranged (C.county chart.now) (numbered_choice (C.county chart.now) kept.number)) }
-    ensures source { IfOk result (λ kept. ⟦<Lent<'a, C> as Chart>⟧.county (source_of kept.choice) ≡ C.county chart.now) }
-    ensures least { IfOk result
-        (λ kept. IsNotAfter (choice_list (C.county chart.now) kept.number) (choice_list (C.county chart.now) least.entry.number)) }
-    ensures other { IfOk result
-        (λ kept. IsNotAfter (choice_list (C.county chart.now) kept.number) (choice_list (C.county chart.now) number)) }
-    ensures tied { IfOk result (λ kept. ones_cmp (C.county chart.now) least.entry.number kept.number ≡ Equal) }
+    ensures shown { IfOk result (λ kept. ShowsChoice (C.county chart.now) kept.number kept.choice) }
+    ensures lesser { IfOk result (λ kept. IsLesserTie (C.county chart.now) least.entry.number number kept.number) }
 {
     match arrange_choice(alloc, chart, order, number) {
         Ok(choice) => {
@@ -138,12 +103,8 @@ fn arrange_least<'a, C: Chart>(
     least: NumberedChoice<Option<Arranged<Lent<'a, C>>>>,
 ) -> Result<NumberedChoice<Arranged<Lent<'a, C>>>, AllocError>
     requires known { LeavesChoices (C.county chart.now) order.now }
-    requires choice { IfSome least.choice
-        (λ view. arranged_county view ≡ arranged (C.county chart.now) (numbered_choice (C.county chart.now) least.number)) }
-    requires source { IfSome least.choice (λ view. ⟦<Lent<'a, C> as Chart>⟧.county (source_of view) ≡ C.county chart.now) }
-    ensures choice { IfOk result
-        (λ kept. arranged_county kept.choice ≡ arranged (C.county chart.now) (numbered_choice (C.county chart.now) kept.number)) }
-    ensures source { IfOk result (λ kept. ⟦<Lent<'a, C> as Chart>⟧.county (source_of kept.choice) ≡ C.county chart.now) }
+    requires shown { IfSome least.choice (λ view. ShowsChoice (C.county chart.now) least.number view) }
+    ensures shown { IfOk result (λ kept. ShowsChoice (C.county chart.now) kept.number kept.choice) }
     ensures number { IfOk result (λ kept. kept.number ≡ least.entry.number) }
 {
     let number = least.number;
@@ -163,18 +124,10 @@ fn next_arranged<'a, C: Chart>(
     number: u64,
 ) -> Result<NumberedChoice<Option<Arranged<Lent<'a, C>>>>, AllocError>
     requires known { LeavesChoices (C.county chart.now) order.now }
-    requires choice { IfSome least.choice
-        (λ view. arranged_county view ≡ arranged (C.county chart.now) (numbered_choice (C.county chart.now) least.number)) }
-    requires source { IfSome least.choice (λ view. ⟦<Lent<'a, C> as Chart>⟧.county (source_of view) ≡ C.county chart.now) }
+    requires shown { IfSome least.choice (λ view. ShowsChoice (C.county chart.now) least.number view) }
     requires tied { ones_cmp (C.county chart.now) least.number number ≡ Equal }
-    ensures choice { IfOk result (λ kept. IfSome kept.choice
-        (λ view. arranged_county view ≡ arranged (C.county chart.now) (numbered_choice (C.county chart.now) kept.number))) }
-    ensures source { IfOk result (λ kept. IfSome kept.choice (λ view. ⟦<Lent<'a, C> as Chart>⟧.county (source_of view) ≡ C.county chart.now)) }
-    ensures least { IfOk result
-        (λ kept. IsNotAfter (choice_list (C.county chart.now) kept.number) (choice_list (C.county chart.now) least.entry.number)) }
-    ensures other { IfOk result
-        (λ kept. IsNotAfter (choice_list (C.county chart.now) kept.number) (choice_list (C.county chart.now) number)) }
-    ensures tied { IfOk result (λ kept. ones_cmp (C.county chart.now) least.entry.number kept.number ≡ Equal) }
+    ensures shown { IfOk result (λ kept. IfSome kept.choice (λ view. ShowsChoice (C.county chart.now) kept.number view)) }
+    ensures lesser { IfOk result (λ kept. IsLesserTie (C.county chart.now) least.entry.number number kept.number) }
 {
     let least = arrange_least(alloc, chart, order, least)?;
     let kept = next_least(alloc, chart, order, least, number)?;
@@ -184,7 +137,8 @@ fn next_arranged<'a, C: Chart>(
     })
 }
 
-/// The lesser of the least choice so far and the choice with another number, given how they compare, if that is known.
+/// The lesser of the least choice so far and the choice with another number, given how they compare. They are only arranged if that
+/// isn't known.
 fn lesser_tie<'a, C: Chart>(
     alloc: Global,
     chart: &'a C,
@@ -194,20 +148,11 @@ fn lesser_tie<'a, C: Chart>(
     compared: Option<Ordering>,
 ) -> Result<NumberedChoice<Option<Arranged<Lent<'a, C>>>>, AllocError>
     requires known { LeavesChoices (C.county chart.now) order.now }
-    requires choice { IfSome least.choice
-        (λ view. arranged_county view ≡ arranged (C.county chart.now) (numbered_choice (C.county chart.now) least.number)) }
-    requires source { IfSome least.choice (λ view. ⟦<Lent<'a, C> as Chart>⟧.county (source_of view) ≡ C.county chart.now) }
+    requires shown { IfSome least.choice (λ view. ShowsChoice (C.county chart.now) least.number view) }
     requires tied { ones_cmp (C.county chart.now) least.number number ≡ Equal }
-    requires compared { IfSome compared (λ ordering. ordering
-        ≡ slice_cmp nat_cmp (text_of (choice_list (C.county chart.now) least.number)) (text_of (choice_list (C.county chart.now) number))) }
-    ensures choice { IfOk result (λ kept. IfSome kept.choice
-        (λ view. arranged_county view ≡ arranged (C.county chart.now) (numbered_choice (C.county chart.now) kept.number))) }
-    ensures source { IfOk result (λ kept. IfSome kept.choice (λ view. ⟦<Lent<'a, C> as Chart>⟧.county (source_of view) ≡ C.county chart.now)) }
-    ensures least { IfOk result
-        (λ kept. IsNotAfter (choice_list (C.county chart.now) kept.number) (choice_list (C.county chart.now) least.entry.number)) }
-    ensures other { IfOk result
-        (λ kept. IsNotAfter (choice_list (C.county chart.now) kept.number) (choice_list (C.county chart.now) number)) }
-    ensures tied { IfOk result (λ kept. ones_cmp (C.county chart.now) least.entry.number kept.number ≡ Equal) }
+    requires compared { IfSome compared (λ ordering. ordering ≡ choices_cmp (C.county chart.now) least.number number) }
+    ensures shown { IfOk result (λ kept. IfSome kept.choice (λ view. ShowsChoice (C.county chart.now) kept.number view)) }
+    ensures lesser { IfOk result (λ kept. IsLesserTie (C.county chart.now) least.entry.number number kept.number) }
 {
     match compared {
         Some(ordering) => Ok(lesser(
@@ -232,20 +177,11 @@ fn next_of_ties<'a, C: Chart>(
     compared: Result<Option<Ordering>, AllocError>,
 ) -> Result<NumberedChoice<Option<Arranged<Lent<'a, C>>>>, AllocError>
     requires known { LeavesChoices (C.county chart.now) order.now }
-    requires choice { IfSome least.choice
-        (λ view. arranged_county view ≡ arranged (C.county chart.now) (numbered_choice (C.county chart.now) least.number)) }
-    requires source { IfSome least.choice (λ view. ⟦<Lent<'a, C> as Chart>⟧.county (source_of view) ≡ C.county chart.now) }
+    requires shown { IfSome least.choice (λ view. ShowsChoice (C.county chart.now) least.number view) }
     requires tied { ones_cmp (C.county chart.now) least.number number ≡ Equal }
-    requires compared { IfOk compared (λ found. IfSome found (λ ordering. ordering
-        ≡ slice_cmp nat_cmp (text_of (choice_list (C.county chart.now) least.number)) (text_of (choice_list (C.county chart.now) number)))) }
-    ensures choice { IfOk result (λ kept. IfSome kept.choice
-        (λ view. arranged_county view ≡ arranged (C.county chart.now) (numbered_choice (C.county chart.now) kept.number))) }
-    ensures source { IfOk result (λ kept. IfSome kept.choice (λ view. ⟦<Lent<'a, C> as Chart>⟧.county (source_of view) ≡ C.county chart.now)) }
-    ensures least { IfOk result
-        (λ kept. IsNotAfter (choice_list (C.county chart.now) kept.number) (choice_list (C.county chart.now) least.entry.number)) }
-    ensures other { IfOk result
-        (λ kept. IsNotAfter (choice_list (C.county chart.now) kept.number) (choice_list (C.county chart.now) number)) }
-    ensures tied { IfOk result (λ kept. ones_cmp (C.county chart.now) least.entry.number kept.number ≡ Equal) }
+    requires compared { IfOk compared (λ found. IfSome found (λ ordering. ordering ≡ choices_cmp (C.county chart.now) least.number number)) }
+    ensures shown { IfOk result (λ kept. IfSome kept.choice (λ view. ShowsChoice (C.county chart.now) kept.number view)) }
+    ensures lesser { IfOk result (λ kept. IsLesserTie (C.county chart.now) least.entry.number number kept.number) }
 {
     match compared {
         Ok(found) => lesser_tie(alloc, chart, order, least, number, found),
@@ -256,143 +192,95 @@ fn next_of_ties<'a, C: Chart>(
     }
 }
 
-/// Makes these the directed chains of the choice with this number. They may be those of any choice.
-fn choose_again(order: &ShapeOrder, arrangement: &mut [DirectedChain], number: u64)
-    requires within { AreWithin (length order.now.by_shape) order.now.places }
-    requires moved { IsMoved order.now arrangement.old }
-    ensures arrangement { arrangement.new ≡ numbered_arrangement order.now number }
-    ensures moved { IsMoved order.now arrangement.new }
-{
-    let places = order.open_places();
-    put_back(arrangement, order.by_shape(), places);
-    choose(arrangement, places, number);
-}
-
-/// The same for an arrangement in a vector.
-fn choose_in(order: &ShapeOrder, arrangement: &mut Vec<DirectedChain>, number: u64)
-    requires within { AreWithin (length order.now.by_shape) order.now.places }
-    requires moved { IsMoved order.now arrangement.old.items }
-    ensures arrangement { arrangement.new.items ≡ numbered_arrangement order.now number }
-    ensures moved { IsMoved order.now arrangement.new.items }
-{
-    choose_again(order, arrangement, number);
-}
-
-/// Compares the least choice so far and the choice with another number by their records of type 1. `arrangement` may be those of any
-/// choice and become those of the latter.
-fn compare_number<C: Chart>(
+/// Compares two choices by their records of type 1.
+fn compare_choices<C: Chart>(
     chart: &C,
     order: &ShapeOrder,
-    least: &NumberedChoice<Vec<DirectedChain>>,
-    arrangement: &mut [DirectedChain],
-    number: u64,
+    one: &NumberedArrangement,
+    other: &NumberedArrangement,
 ) -> Ordering
     requires known { LeavesChoices (C.county chart.now) order.now }
-    requires least { least.now.choice.items ≡ numbered_arrangement order.now least.now.number }
-    requires moved { IsMoved order.now arrangement.old }
-    ensures order { result ≡ ones_cmp (C.county chart.now) least.now.number number }
-    ensures arrangement { arrangement.new ≡ numbered_arrangement order.now number }
-    ensures moved { IsMoved order.now arrangement.new }
+    requires one { IsChosen order.now one.now }
+    requires other { IsChosen order.now other.now }
+    ensures { result ≡ ones_cmp (C.county chart.now) one.now.number other.now.number }
 {
-    choose_again(order, arrangement, number);
-    compare_ones(chart, order.open_places(), &least.choice, arrangement)
+    compare_ones(chart, order.open_places(), &one.chains, &other.chains)
 }
 
-/// The same for an arrangement in a vector.
-fn compare_next<C: Chart>(
-    chart: &C,
-    order: &ShapeOrder,
-    least: &NumberedChoice<Vec<DirectedChain>>,
-    arrangement: &mut Vec<DirectedChain>,
-    number: u64,
-) -> Ordering
-    requires known { LeavesChoices (C.county chart.now) order.now }
-    requires least { least.now.choice.items ≡ numbered_arrangement order.now least.now.number }
-    requires moved { IsMoved order.now arrangement.old.items }
-    ensures order { result ≡ ones_cmp (C.county chart.now) least.now.number number }
-    ensures arrangement { arrangement.new.items ≡ numbered_arrangement order.now number }
-    ensures moved { IsMoved order.now arrangement.new.items }
-{
-    compare_number(chart, order, least, arrangement, number)
-}
-
-/// The choice with the least records of type 1, and its number.
+/// The choice with the least records of type 1.
 fn least_of_type_1<C: Chart>(
     alloc: Global,
     chart: &C,
     order: &ShapeOrder,
-) -> Result<NumberedChoice<Vec<DirectedChain>>, AllocError>
+) -> Result<NumberedArrangement, AllocError>
     requires { LeavesChoices (C.county chart.now) order.now }
-    ensures arrangement { IfOk result (λ least. least.choice.items ≡ numbered_arrangement order.now least.number) }
+    ensures chosen { IfOk result (IsChosen order.now) }
     ensures least { IfOk result (λ least. IsLeastOne (C.county chart.now) (choices (C.county chart.now)) least.number) }
 {
-    let mut arrangement = arrangement_in_order(alloc, order)?;
-    let choice = arrangement_of_number(alloc, order, 0)?;
-    let mut least = NumberedChoice { number: 0, choice };
+    let mut least = NumberedArrangement::new(alloc, order, 0)?;
+    let mut other = NumberedArrangement::new(alloc, order, 0)?;
     for number in 1..order.choices() {
-        let ordering = compare_next(chart, order, &least, &mut arrangement, number);
+        other.choose_again(order, number);
+        let ordering = compare_choices(chart, order, &least, &other);
         if ordering.is_le() {
             continue;
         }
-        swap(&mut least.choice, &mut arrangement);
-        least.number = number;
+        swap(&mut least, &mut other);
     }
     Ok(least)
 }
 
-/// Whether the choice with a number has the same records of type 1 as the one with the least of them, but not the same chains. If it
-/// has the same chains, it is the same county. `arrangement` may be those of any choice and becomes that of this one.
+/// Whether a choice has the same records of type 1 as the one with the least of them, but not the same chains. If it has the same
+/// chains, it is the same county.
 fn is_other_tie<C: Chart>(
     chart: &C,
     order: &ShapeOrder,
-    least: &NumberedChoice<Vec<DirectedChain>>,
-    arrangement: &mut [DirectedChain],
-    number: u64,
+    least: &NumberedArrangement,
+    other: &NumberedArrangement,
 ) -> bool
     requires known { LeavesChoices (C.county chart.now) order.now }
-    requires arrangement { least.now.choice.items ≡ numbered_arrangement order.now least.now.number }
+    requires least_chosen { IsChosen order.now least.now }
+    requires other_chosen { IsChosen order.now other.now }
     requires least { IsLeastOne (C.county chart.now) (choices (C.county chart.now)) least.now.number }
-    requires number { number < choices (C.county chart.now) }
-    requires moved { IsMoved order.now arrangement.old }
-    ensures tied { result ≡ true → ones_cmp (C.county chart.now) least.now.number number ≡ Equal }
-    ensures least { result ≡ false → IsNotAfter (choice_list (C.county chart.now) least.now.number) (choice_list (C.county chart.now) number) }
-    ensures arrangement { arrangement.new ≡ numbered_arrangement order.now number }
-    ensures moved { IsMoved order.now arrangement.new }
+    requires number { other.now.number < choices (C.county chart.now) }
+    ensures tied { result ≡ true → ones_cmp (C.county chart.now) least.now.number other.now.number ≡ Equal }
+    ensures least { result ≡ false
+        → IsNotAfter (choice_list (C.county chart.now) least.now.number) (choice_list (C.county chart.now) other.now.number) }
 {
-    let ordering = compare_number(chart, order, least, arrangement, number);
+    let ordering = compare_choices(chart, order, least, other);
     if ordering.is_eq() {
-        return !have_same_chains(chart, order.open_places(), &least.choice, arrangement);
+        return !have_same_chains(chart, order.open_places(), &least.chains, &other.chains);
     }
     false
 }
 
-/// The next number, from one on, whose choice has the same records of type 1 as the one with the least of them, but not the
-/// same chains. `arrangement` may be those of any choice and becomes that of this one.
-pub(crate) fn next_tie<C: Chart>(
+/// Finds the next choice, from a number on, that has the same records of type 1 as the one with the least of them, but not the same
+/// chains. Returns whether there is one, and makes `other` this choice.
+fn find_tie<C: Chart>(
     chart: &C,
     order: &ShapeOrder,
-    least: &NumberedChoice<Vec<DirectedChain>>,
-    arrangement: &mut [DirectedChain],
+    least: &NumberedArrangement,
+    other: &mut NumberedArrangement,
     first: u64,
-) -> Option<u64>
+) -> bool
     requires known { LeavesChoices (C.county chart.now) order.now }
-    requires arrangement { least.now.choice.items ≡ numbered_arrangement order.now least.now.number }
+    requires least_chosen { IsChosen order.now least.now }
+    requires other_chosen { IsChosen order.now other.old }
     requires least { IsLeastOne (C.county chart.now) (choices (C.county chart.now)) least.now.number }
-    requires moved { IsMoved order.now arrangement.old }
-    ensures moved { IsMoved order.now arrangement.new }
-    ensures tie { MatchOption result (IsLeastFrom (C.county chart.now) first (choices (C.county chart.now)) least.now.number)
-        (λ tie. IsLeastFrom (C.county chart.now) first tie least.now.number) }
-    ensures within { IfSome result (λ tie. (first ≤ tie) × (tie < choices (C.county chart.now))) }
-    ensures arrangement { IfSome result (λ tie. arrangement.new ≡ numbered_arrangement order.now tie) }
-    ensures tied { IfSome result (λ tie. ones_cmp (C.county chart.now) least.now.number tie ≡ Equal) }
+    ensures chosen { IsChosen order.now other.new }
+    ensures tie { result ≡ true → IsLeastFrom (C.county chart.now) first other.new.number least.now.number }
+    ensures within { result ≡ true → (first ≤ other.new.number) × (other.new.number < choices (C.county chart.now)) }
+    ensures tied { result ≡ true → ones_cmp (C.county chart.now) least.now.number other.new.number ≡ Equal }
+    ensures none { result ≡ false → IsLeastFrom (C.county chart.now) first (choices (C.county chart.now)) least.now.number }
 {
     for number in first..order.choices() {
-        let tied = is_other_tie(chart, order, least, arrangement, number);
+        other.choose_again(order, number);
+        let tied = is_other_tie(chart, order, least, other);
         if tied {
-            return Some(number);
+            return true;
         }
     }
-    None
+    false
 }
 
 /// The number of the choice with the least text among those with the least records of type 1, given the first two of these.
@@ -400,59 +288,49 @@ fn least_of_ties<C: Chart>(
     alloc: Global,
     chart: &C,
     order: &ShapeOrder,
-    first: &NumberedChoice<Vec<DirectedChain>>,
-    arrangement: &mut [DirectedChain],
-    tie: u64,
+    first: &NumberedArrangement,
+    other: &mut NumberedArrangement,
 ) -> Result<u64, AllocError>
     requires known { LeavesChoices (C.county chart.now) order.now }
-    requires arrangement { first.now.choice.items ≡ numbered_arrangement order.now first.now.number }
+    requires first_chosen { IsChosen order.now first.now }
+    requires other_chosen { IsChosen order.now other.old }
     requires least { IsLeastOne (C.county chart.now) (choices (C.county chart.now)) first.now.number }
-    requires before { IsLeastFrom (C.county chart.now) 0 tie first.now.number }
-    requires moved { IsMoved order.now arrangement.old }
+    requires before { IsLeastFrom (C.county chart.now) 0 other.old.number first.now.number }
     ensures { IfOk result (IsLeastBelow (C.county chart.now) (choices (C.county chart.now))) }
 {
     let critical = critical_ends(alloc, chart, order)?;
-    let mut other = arrangement_in_order(alloc, order)?;
+    let mut kept = NumberedArrangement::new(alloc, order, first.number)?;
     let mut least = NumberedChoice {
         number: first.number,
         choice: None,
     };
-    let mut from = tie;
-    while let Some(next) = next_tie(chart, order, first, arrangement, from) {
-        choose_in(order, &mut other, least.number);
-        let compared = compare_ties(alloc, chart, order, &critical, &other, arrangement);
-        least = next_of_ties(alloc, chart, order, least, next, compared)?;
-        from = next + 1;
+    let mut from = other.number;
+    while find_tie(chart, order, first, other, from) {
+        kept.choose_again(order, least.number);
+        let compared = compare_ties(alloc, chart, order, &critical, &kept.chains, &other.chains);
+        least = next_of_ties(alloc, chart, order, least, other.number, compared)?;
+        from = other.number + 1;
     }
-    Ok(number_of(least))
+    let number = least.number;
+    drop(least);
+    Ok(number)
 }
 
-/// The number of the choice with the least text.
+/// The number of the choice with the least text. Compares nothing if the county leaves no choice.
 fn least_number<C: Chart>(alloc: Global, chart: &C, order: &ShapeOrder) -> Result<u64, AllocError>
-    requires { LeavesChoices (C.county chart.now) order.now }
-    ensures { IfOk result (IsLeastBelow (C.county chart.now) (choices (C.county chart.now))) }
-{
-    let mut arrangement = arrangement_in_order(alloc, order)?;
-    let first = least_of_type_1(alloc, chart, order)?;
-    match next_tie(chart, order, &first, &mut arrangement, 0) {
-        Some(tie) => least_of_ties(alloc, chart, order, &first, &mut arrangement, tie),
-        None => Ok(first.number),
-    }
-}
-
-/// The same, but without comparing anything if the county leaves no choice.
-fn number_of_least<C: Chart>(
-    alloc: Global,
-    chart: &C,
-    order: &ShapeOrder,
-) -> Result<u64, AllocError>
     requires { LeavesChoices (C.county chart.now) order.now }
     ensures { IfOk result (IsLeastBelow (C.county chart.now) (choices (C.county chart.now))) }
 {
     if order.choices() == 1 {
         return Ok(0);
     }
-    least_number(alloc, chart, order)
+    let first = least_of_type_1(alloc, chart, order)?;
+    let mut other = NumberedArrangement::new(alloc, order, 0)?;
+    let found = find_tie(chart, order, &first, &mut other, 0);
+    if found {
+        return least_of_ties(alloc, chart, order, &first, &mut other);
+    }
+    Ok(first.number)
 }
 
 /// A choice with the least text, given the order of the chains by their shapes.
@@ -468,7 +346,7 @@ pub(crate) fn least_arrangement<C: Chart>(
     ensures there { IfOk result (λ arrangement. HasChainsOf (C.county chart.now) arrangement.items) }
     ensures once { IfOk result (λ arrangement. NamesEachOnce (C.county chart.now) (arrangement_of (C.county chart.now) arrangement.items)) }
 {
-    let number = number_of_least(alloc, chart, order)?;
-    let arrangement = arrangement_of_number(alloc, order, number)?;
-    Ok(arrangement)
+    let number = least_number(alloc, chart, order)?;
+    let least = NumberedArrangement::new(alloc, order, number)?;
+    Ok(least.chains)
 }

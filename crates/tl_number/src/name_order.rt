@@ -24,7 +24,7 @@ use tl_county::{Chart, DirectedChain};
 use tl_layout::Body5;
 
 /// A name, given by its place, with the rank of its first use.
-#[derive(Clone, Copy, Debug, PartialEq, Eq)]
+#[derive(Clone, Copy)]
 pub(crate) struct RankedName {
     /// The number of the name by its first use along the chains, counted from 1, or 0 if no chain uses it.
     pub(crate) rank: usize,

@@ -2,12 +2,15 @@
 //! come before the chain there, and whether it is turned. Chains at other places stay. From one number to the next, only the few chains
 //! at open places are put back and moved.
 
-ghost use Rattle.std.specs.Prelude.{◌≡◌, ◌++◌, drop, length, take};
+ghost use Rattle.std.specs.Prelude.{◌≡◌, ◌++◌, drop, length, take, IfOk};
+ghost use Rattle.tl_number.specs.ChoiceSearch.{IsChosen};
 ghost use Rattle.tl_number.specs.MovedChains.{AgreeApart, AreWithin, IsWithin, other_way};
 ghost use Rattle.tl_number.specs.NumberedChoices.{moved, moved_at};
 
+use crate::ascending_order::arrangement_in_order;
+use std::alloc::{AllocError, Global};
 use tl_county::DirectedChain;
-use tl_profile::OpenPlace;
+use tl_profile::{OpenPlace, ShapeOrder};
 
 /// Inserts the chain at an open place among those of its shape that come after it, by the last two digits of a number. The last digit
 /// is how many of these come before it, and the next one whether it takes the other direction. Returns the rest of the number.
@@ -28,7 +31,7 @@ fn place_chain(arrangement: &mut [DirectedChain], at: OpenPlace, number: u64) ->
 }
 
 /// Moves chains from the order of shapes to the choice with this number, from the last open place to the first.
-pub(crate) fn choose(arrangement: &mut [DirectedChain], places: &[OpenPlace], number: u64)
+fn choose(arrangement: &mut [DirectedChain], places: &[OpenPlace], number: u64)
     requires { AreWithin (length arrangement.old) places.now }
     ensures arrangement { arrangement.new ≡ (moved other_way places.now (arrangement.old, number)).0 }
     ensures count { length arrangement.new ≡ length arrangement.old }
@@ -54,11 +57,7 @@ fn put_back_at(arrangement: &mut [DirectedChain], by_shape: &[DirectedChain], at
 }
 
 /// Puts chains that were moved at open places back to their places in the order of shapes.
-pub(crate) fn put_back(
-    arrangement: &mut [DirectedChain],
-    by_shape: &[DirectedChain],
-    places: &[OpenPlace],
-)
+fn put_back(arrangement: &mut [DirectedChain], by_shape: &[DirectedChain], places: &[OpenPlace])
     requires within { AreWithin (length arrangement.old) places.now }
     requires count { length arrangement.old ≡ length by_shape.now }
     requires apart { AgreeApart places.now arrangement.old by_shape.now }
@@ -68,5 +67,43 @@ pub(crate) fn put_back(
     while let Some((at, behind)) = rest.split_first() {
         put_back_at(arrangement, by_shape, *at);
         rest = behind;
+    }
+}
+
+/// The directed chains of a choice, and its number.
+#[derive(Drop)]
+pub(crate) struct NumberedArrangement {
+    pub(crate) number: u64,
+    pub(crate) chains: Vec<DirectedChain>,
+}
+
+impl NumberedArrangement {
+    /// The choice with this number.
+    pub(crate) fn new(
+        alloc: Global,
+        order: &ShapeOrder,
+        number: u64,
+    ) -> Result<NumberedArrangement, AllocError>
+        requires { AreWithin (length order.now.by_shape) order.now.places }
+        ensures number { IfOk result (λ arrangement. arrangement.number ≡ number) }
+        ensures chosen { IfOk result (IsChosen order.now) }
+    {
+        let mut chains = arrangement_in_order(alloc, order)?;
+        choose(&mut chains, order.open_places(), number);
+        Ok(NumberedArrangement { number, chains })
+    }
+
+    /// Makes this the choice with another number.
+    pub(crate) fn choose_again(&mut self, order: &ShapeOrder, number: u64)
+        requires within { AreWithin (length order.now.by_shape) order.now.places }
+        requires chosen { IsChosen order.now self.old }
+        ensures number { self.new.number ≡ number }
+        ensures chosen { IsChosen order.now self.new }
+    {
+        let places = order.open_places();
+        let chains = self.chains.as_mut_slice();
+        put_back(chains, order.by_shape(), places);
+        choose(chains, places, number);
+        self.number = number;
     }
 }

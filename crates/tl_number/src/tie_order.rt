@@ -6,14 +6,12 @@
 
 ghost use Rattle.std.specs.Cmp.Lexicographic.{slice_cmp};
 ghost use Rattle.std.specs.declared.cmp.Ordering.TheVariants.{Equal};
-ghost use Rattle.std.specs.Ordering.{nat_cmp};
 ghost use Rattle.std.specs.Prelude.{◌≡◌, ℕ, map, IfOk, IfSome};
-ghost use Rattle.tl_layout.specs.RecordText.{text_of};
 ghost use Rattle.tl_layout.specs.declared.record_type.Record.TheVariants.{Six};
 ghost use Rattle.tl_number.specs.ChoiceSearch.{LeavesChoices, numbered_arrangement};
 ghost use Rattle.tl_number.specs.CriticalPlaces.{AreCritical, critical_numbers, ends_cmp};
 ghost use Rattle.tl_number.specs.DirectedChains.{HasChainsOf};
-ghost use Rattle.tl_number.specs.LeastNumber.{choice_list};
+ghost use Rattle.tl_number.specs.LeastNumber.{choices_cmp};
 ghost use Rattle.tl_number.specs.MovedChains.{AgreeButOpen};
 ghost use Rattle.tl_number.specs.OpenRanges.{sixes_at};
 ghost use Rattle.tl_number.specs.RecordOrder.{groups_cmp};
@@ -82,8 +80,8 @@ pub(crate) fn compare_ties<C: Chart>(
     requires critical { AreCritical (C.county chart.now) order.now critical.now }
     requires agree { AgreeButOpen (C.county chart.now) order.now.places one.now other.now }
     ensures { (n m : ℕ) → one.now ≡ numbered_arrangement order.now n → other.now ≡ numbered_arrangement order.now m
-        → ones_cmp (C.county chart.now) n m ≡ Equal → IfOk result (λ found. IfSome found (λ ordering. ordering
-        ≡ slice_cmp nat_cmp (text_of (choice_list (C.county chart.now) n)) (text_of (choice_list (C.county chart.now) m)))) }
+        → ones_cmp (C.county chart.now) n m ≡ Equal
+        → IfOk result (λ found. IfSome found (λ ordering. ordering ≡ choices_cmp (C.county chart.now) n m)) }
 {
     let places = order.open_places();
     if !have_same_open_parts(&FurtherNames, chart, places, one, other) {

@@ -1,9 +1,9 @@
 -- Chains in the order of their shapes, moved at their open places, are the choice with a number.
 use Rattle.tl_number.proofs.Common.{◌≡◌, ◌<◌, ◌≤◌, ◌+◌, ◌/◌, ◌%◌, ℕ, zero, suc, List, [], ◌∷◌, ◌++◌, map, take, drop, length, Bool, true}
 use Rattle.tl_number.proofs.Common.{false, cond, Ordering, sym, refl, ap, ◌∙◌, subst, arith, AgreeApart, AllByRecursion, AreInShapeOrder}
-use Rattle.tl_number.proofs.Common.{AreWithin, County, DirectedChain, HasChainsOf, IsCounty, IsKeyOrder, IsMoved, NamesEachOnce, OpenPlace}
-use Rattle.tl_number.proofs.Common.{OrderOfShapes, StandInOrder, arranged_tlids, arrangement_of, chosen, insert, is_either_way, length-map}
-use Rattle.tl_number.proofs.Common.{map-append, moved, nat_keys, numbered_arrangement, numbered_choice, open_places, other_way}
+use Rattle.tl_number.proofs.Common.{AreWithin, County, DirectedChain, HasChainsOf, IsCounty, IsKeyOrder, NamesEachOnce, OpenPlace}
+use Rattle.tl_number.proofs.Common.{StandInOrder, arranged_tlids, arrangement_of, chosen, insert, is_either_way, length-map}
+use Rattle.tl_number.proofs.Common.{map-append, moved, nat_keys, numbered_choice, open_places, other_way}
 use Rattle.tl_number.proofs.Common.{points_along, points_cmp, points_keys, stood, times, times-permutation, tlid_at, tlids, turned_by}
 use Rattle.std.proofs.lemmas.List.{drop-map, take-map}
 use Rattle.tl_profile.specs.Choices.{is_settled, open_place_at}
@@ -125,12 +125,3 @@ module _ (county : County) (is : IsCounty county) (by_shape : List DirectedChain
     arrangement_of_number_once = subst (NamesEachOnce county) (sym arrangement_of_number)
         (λ tlid. sym (times-permutation nat_keys tlid (arranged_tlids (numbered_choice county n)) (tlids county)
         (numbered_is_choice county is n).arranges))
-
--- So they are the arrangement of some choice.
-pub moved_of_number : (county : County) → IsCounty county → (shapes : OrderOfShapes) → AreInShapeOrder county shapes.by_shape
-    → shapes.places ≡ open_places points_cmp is_either_way 0 (map (points_along county) shapes.by_shape)
-    → (arrangement : List DirectedChain) (n : ℕ) → arrangement ≡ numbered_arrangement shapes n → IsMoved shapes arrangement
-moved_of_number county is shapes order there arrangement n stated = record {
-  count = arrangement_of_number_count county is shapes.by_shape order shapes.places there arrangement n stated;
-  apart = arrangement_of_number_apart county is shapes.by_shape order shapes.places there arrangement n stated;
-}

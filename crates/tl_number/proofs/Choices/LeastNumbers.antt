@@ -1,7 +1,7 @@
 -- The least of the texts of numbered choices, number by number.
 use Rattle.tl_number.proofs.Common.{◌≡◌, ◌≤◌, ◌+◌, ℕ, nat_lt, List, Bool, true, false, cond, Ordering, is_gt, nat_cmp, refl, sym, ap, ◌∙◌}
 use Rattle.tl_number.proofs.Common.{subst, arith, AllKeysStandIn, AreSame, Arrangement, County, IsChoice, IsCounty, IsLeastBelow}
-use Rattle.tl_number.proofs.Common.{IsLeastFrom, IsNotAfter, arranged, choice_list, ltb-false, ltb-true, not_greater}
+use Rattle.tl_number.proofs.Common.{IsLeastFrom, IsLesserTie, IsNotAfter, arranged, choice_list, choices_cmp, ltb-false, ltb-true, not_greater}
 use Rattle.tl_number.proofs.Common.{numbered_choice, packed, polygon_keys, polygons_along, renaming_of, same-symmetric, same-transitive}
 use Rattle.tl_number.proofs.Common.{slice_cmp, text_of, upto}
 use Rattle.ordered_lists.proofs.ByKey.KeyOrders.{bytes_keys}
@@ -20,7 +20,7 @@ module _ (county : County) where
   first_least = one_more bytes_keys.total text_at 0 0 (λ m below. absurd (omega (arith, below))) (not_after_itself (choice_list county 0))
 
   -- the lesser of two texts isn't after either
-  pub lesser_of : (n m : ℕ) (o : Ordering) → o ≡ slice_cmp nat_cmp (text_at n) (text_at m)
+  pub lesser_of : (n m : ℕ) (o : Ordering) → o ≡ choices_cmp county n m
       → IsNotAfter (choice_list county (cond (is_gt o) m n)) (choice_list county n)
       × IsNotAfter (choice_list county (cond (is_gt o) m n)) (choice_list county m)
   lesser_of n m o is = go (is_gt o) refl
@@ -34,14 +34,12 @@ module _ (county : County) where
         not_after_itself (choice_list county m),
       )
 
-  -- the same for the counties of these numbers, in any form
+  -- the order of the counties of two choices, in any form
   pub text_compared : (n m : ℕ) (o : Ordering) (one other : County)
       → one ≡ arranged county (numbered_choice county n) → other ≡ arranged county (numbered_choice county m)
-      → o ≡ slice_cmp nat_cmp (text_of (packed one)) (text_of (packed other))
-      → IsNotAfter (choice_list county (cond (is_gt o) m n)) (choice_list county n)
-      × IsNotAfter (choice_list county (cond (is_gt o) m n)) (choice_list county m)
+      → o ≡ slice_cmp nat_cmp (text_of (packed one)) (text_of (packed other)) → o ≡ choices_cmp county n m
   text_compared n m o one other is_one is_other e =
-      lesser_of n m o (e ∙ (λ j. slice_cmp nat_cmp (text_of (packed (is_one j))) (text_of (packed (is_other j)))))
+      e ∙ (λ j. slice_cmp nat_cmp (text_of (packed (is_one j))) (text_of (packed (is_other j))))
 
   -- texts that don't come after one another
   pub not_after_both : (n m k : ℕ) → IsNotAfter (choice_list county n) (choice_list county m)
@@ -50,18 +48,17 @@ module _ (county : County) where
 
   -- The least choice among the ties up to a number, and the next tie: the lesser of both is least up to the next number.
   pub tie_least : (first from tie old new : ℕ) → IsLeastBelow county from old → IsNotAfter (choice_list county old) (choice_list county first)
-      → IsLeastFrom county from tie first → IsNotAfter (choice_list county new) (choice_list county old)
-      → IsNotAfter (choice_list county new) (choice_list county tie) → IsLeastBelow county (tie + 1) new
-  tie_least first from tie old new below upper among lesser other m l = go (nat_lt m from) refl (nat_lt m tie) refl
+      → IsLeastFrom county from tie first → IsLesserTie county old tie new → IsLeastBelow county (tie + 1) new
+  tie_least first from tie old new below upper among lesser m l = go (nat_lt m from) refl (nat_lt m tie) refl
     where
       go : (b : Bool) → nat_lt m from ≡ b → (d : Bool) → nat_lt m tie ≡ d → IsNotAfter (choice_list county new) (choice_list county m)
-      go true e d f = not_after_both new old m lesser (below m (ltb-true m from e))
+      go true e d f = not_after_both new old m lesser.not_after_one (below m (ltb-true m from e))
       go false e true f =
-          not_after_both new first m (not_after_both new old first lesser upper) (among m (ltb-false m from e) (ltb-true m tie f))
+          not_after_both new first m (not_after_both new old first lesser.not_after_one upper) (among m (ltb-false m from e) (ltb-true m tie f))
       go false e false f =
           let past : tie ≤ m = ltb-false m tie f in
           let same : tie ≡ m = omega (arith, l, past) in
-          subst (λ k. IsNotAfter (choice_list county new) (choice_list county k)) same other
+          subst (λ k. IsNotAfter (choice_list county new) (choice_list county k)) same lesser.not_after_other
 
   -- and if there is no further tie, it is least of all
   pub ties_least : (first from count old : ℕ) → IsLeastBelow county from old → IsNotAfter (choice_list county old) (choice_list county first)

@@ -1,8 +1,8 @@
 -- The least type 1 records of choices, number by number, and the consequence for texts.
-use Rattle.tl_number.proofs.Common.{below_more, ◌≡◌, ◌<◌, ◌≤◌, ◌+◌, ℕ, List, true, false, Ordering, Less, Equal, Greater, is_eq, is_gt}
+use Rattle.tl_number.proofs.Common.{below_more, ◌≡◌, ◌<◌, ◌≤◌, ◌+◌, ℕ, List, Bool, cond, true, false, Ordering, Less, Equal, Greater, is_eq, is_gt}
 use Rattle.tl_number.proofs.Common.{length, map, sym, refl, ap, ◌∙◌, subst, arith, AgreeApart, AllKeysStandIn, AreInShapeOrder, AreWhole}
-use Rattle.tl_number.proofs.Common.{AreWithin, County, DirectedChain, IsCounty, IsLeastFrom, IsNotAfter, IsWithinLimits, OpenPlace, Record}
-use Rattle.tl_number.proofs.Common.{StandInOrder, arranged, choice_list, directed_chain, false≢true, few_chains, is_either_way}
+use Rattle.tl_number.proofs.Common.{AreWithin, County, DirectedChain, IsCounty, IsLeastFrom, IsLesserTie, IsNotAfter, IsWithinLimits, OpenPlace, Record}
+use Rattle.tl_number.proofs.Common.{StandInOrder, arranged, choice_list, choices_cmp, directed_chain, false≢true, few_chains, is_either_way}
 use Rattle.tl_number.proofs.Common.{most_records, moved, not_greater, numbered_choice, ones_cmp, ones_of, open_places, ordering_then}
 use Rattle.tl_number.proofs.Common.{other_way, packed, points_along, points_cmp, polygon_keys, polygons_along, tied_itself, upto}
 use Rattle.std.specs.Ordering.{is_le}
@@ -16,7 +16,7 @@ use Rattle.tl_number.proofs.Choices.ChosenArrangements.{arrangement_of_number_th
 use Rattle.tl_number.proofs.Choices.Choosing.{one_more}
 use Rattle.tl_number.proofs.Texts.GroupOrders.{records_total}
 use Rattle.tl_number.proofs.Choices.FixedPlaces.{agree_both}
-use Rattle.tl_number.proofs.Choices.LeastNumbers.{choices_same}
+use Rattle.tl_number.proofs.Choices.LeastNumbers.{choices_same, lesser_of}
 use Rattle.tl_number.proofs.Texts.SameChains.{arranged_by_same}
 use Rattle.tl_number.proofs.Choices.TidyChoices.{numbered_is_choice}
 use Rattle.tl_number.proofs.CanonicalLists.TidyLists.{not_after_itself}
@@ -79,6 +79,19 @@ module _ (county : County) where
   from_more first bound n among last m l k =
       below_more (λ j. first ≤ j → IsNotAfter (choice_list county n) (choice_list county j)) bound (λ j below from. among j from below)
       (λ from. last) m k l
+
+  -- the lesser of two that tie
+  pub lesser_tie : (n m : ℕ) (o : Ordering) → o ≡ choices_cmp county n m → ones_cmp county n m ≡ Equal
+      → IsLesserTie county n m (cond (is_gt o) m n)
+  lesser_tie n m o is tied = record {
+    not_after_one = (lesser_of county n m o is).0;
+    not_after_other = (lesser_of county n m o is).1;
+    tied = go (is_gt o);
+  }
+    where
+      go : (b : Bool) → ones_cmp county n (cond b m n) ≡ Equal
+      go false = tied_with_itself n
+      go true = tied
 
 module _ (county : County) (is : IsCounty county) (within : IsWithinLimits most_records county)
     (sides : AllKeysStandIn (polygons_along county.chains) (polygon_keys county)) where

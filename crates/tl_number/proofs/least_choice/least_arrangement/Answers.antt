@@ -1,11 +1,20 @@
-use Rattle.tl_number.proofs.Common.{sym, subst, IsLeastChoice}
+use Rattle.tl_number.proofs.Common.{◌∙◌, ap, sym, subst, IsLeastChoice, numbered_arrangement}
 use Rattle.tl_number.proofs.Lemmas.{arrangement_of_number, places_within}
 use Rattle.tl_number.proofs.Choices.ChosenArrangements.{arrangement_of_number_there, arrangement_of_number_once}
 use Rattle.tl_number.proofs.CanonicalLists.TidyLists.{least_of_all}
 use Rattle.tl_number.proofs.least_choice.least_arrangement.Goals as goal
 
-pub arrangement_of_number-requires : goal.arrangement_of_number-requires
-arrangement_of_number-requires g c =
+pub least_number-requires : goal.least_number-requires
+least_number-requires g c = record {
+  order = c.requires.order;
+  few = c.requires.few;
+  within = places_within (g.C.Chart.county c.args.chart.now) (g.met.C.Chart.is_county c.args.chart.now) c.args.order.now.by_shape
+      c.requires.order.by_shape c.args.order.now.places (c.requires.order.places c.requires.few);
+  sides = c.requires.sides;
+}
+
+pub new-requires : goal.new-requires
+new-requires g c =
     places_within (g.C.Chart.county c.args.chart.now) (g.met.C.Chart.is_county c.args.chart.now) c.args.order.now.by_shape
     c.requires.order.by_shape c.args.order.now.places (c.requires.order.places c.requires.few)
 
@@ -17,8 +26,8 @@ returns g c =
     let places = c.args.order.now.places in
     let listed = c.requires.order.places c.requires.few in
     let number = c.in_ok-number.number in
-    let arrangement = c.in_ok-arrangement.arrangement.items in
-    let stated = c.in_ok-arrangement.ensures in
+    let arrangement = c.in_ok-least.least.chains.items in
+    let stated = c.in_ok-least.ensures.chosen ∙ ap (numbered_arrangement c.args.order.now) c.in_ok-least.ensures.number in
     record {
       least = subst (IsLeastChoice county)
           (sym (arrangement_of_number county is by_shape c.requires.order.by_shape places listed arrangement number stated))

@@ -1,6 +1,6 @@
 use Rattle.tl_number.proofs.Common.{◌<◌, arith, choices}
 use Rattle.tl_number.proofs.Choices.LeastNumbers.{first_least}
-use Rattle.tl_number.proofs.least_choice.number_of_least.Goals as goal
+use Rattle.tl_number.proofs.least_choice.least_number.Goals as goal
 
 pub returns-then-choices-eq1 : goal.returns-then-choices-eq1
 returns-then-choices-eq1 g c =
