@@ -105,6 +105,12 @@ pub trait Chart {
         body.put_towards(turned, out);
     }
 
+    /// A byte made from bytes of the content of the type 1 record of the chain at a place. It has no meaning: reading it brings the
+    /// content into the cache before it's needed.
+    fn chain_byte(&self, _place: usize) -> u8 {
+        0
+    }
+
     /// The number of points of the chain at a place.
     fn point_count_at(&self, place: usize) -> usize
         ensures { result ≡ length (points_of (chain_at (county self.now) place)) };

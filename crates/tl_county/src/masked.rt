@@ -153,6 +153,10 @@ impl<C: Chart> Chart for Masked<C> {
         }
     }
 
+    fn chain_byte(&self, place: usize) -> u8 {
+        self.chart.chain_byte(place)
+    }
+
     #[tactic(auto, using(crate::proofs::Masks::MaskedReads::points_masked))]
     fn point_count_at(&self, place: usize) -> usize {
         self.chart.point_count_at(place)

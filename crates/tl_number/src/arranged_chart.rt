@@ -117,6 +117,13 @@ impl<C: Chart, S: Evidence> Chart for Arranged<C, S> {
         }
     }
 
+    fn chain_byte(&self, place: usize) -> u8 {
+        match self.directed_at(place) {
+            Some(directed) => self.chart.chain_byte(directed.place as usize),
+            None => 0,
+        }
+    }
+
     fn point_count_at(&self, place: usize) -> usize {
         self.directed_or_past(place).points(&self.chart).count()
     }

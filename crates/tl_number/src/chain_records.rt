@@ -74,7 +74,8 @@ impl<C: Chart> Listed for ShapePoints<'_, C> {
     }
 }
 
-/// The type 1 record of each chain.
+/// The type 1 record of each chain. A head has the ends of the chain, and a byte that has no meaning: reading it brings the record's
+/// content into the cache before the record is written.
 #[derive(Drop)]
 pub struct ChainRecords<'a, C: Chart> {
     pub chart: &'a C,
@@ -85,35 +86,36 @@ impl<C: Chart> RecordGroups for ChainRecords<'_, C> {
 
     type Item = Rec1;
 
-    type Head = (Point, Point);
+    type Head = ((Point, Point), u8);
 
     ghost groups = { λ g. type_1_by_chain (C.county g.chart.now) };
 
-    ghost IsHead = { λ g. AreEndsAt (C.county g.chart.now) };
+    ghost IsHead = { λ g place head. AreEndsAt (C.county g.chart.now) place head.0 };
 
     fn count(&self) -> usize {
         self.chart.chain_count()
     }
 
-    fn buffer(buffers: &mut HeadBuffers) -> &mut [(Point, Point)] {
+    fn buffer(buffers: &mut HeadBuffers) -> &mut [((Point, Point), u8)] {
         let ends = &mut buffers.ends;
         &mut ends[..]
     }
 
-    fn head(&self, group: usize) -> (Point, Point) {
+    fn head(&self, group: usize) -> ((Point, Point), u8) {
         let last = self.chart.point_count_at(group) - 1;
-        (
+        let ends = (
             self.chart.point_there(group, 0),
             self.chart.point_there(group, last),
-        )
+        );
+        (ends, self.chart.chain_byte(group))
     }
 
-    fn count_in(&self, _group: usize, _head: (Point, Point)) -> usize {
+    fn count_in(&self, _group: usize, _head: ((Point, Point), u8)) -> usize {
         1
     }
 
-    fn record(&self, group: usize, head: (Point, Point), _place: usize) -> Rec1 {
-        let (start, end) = head;
+    fn record(&self, group: usize, head: ((Point, Point), u8), _place: usize) -> Rec1 {
+        let ((start, end), _) = head;
         Rec1::new(
             chain_tlid(self.chart, group),
             self.chart.chain_body_there(group),
@@ -122,10 +124,11 @@ impl<C: Chart> RecordGroups for ChainRecords<'_, C> {
         )
     }
 
-    fn put(&self, group: usize, head: (Point, Point), _place: usize, out: &mut [u8]) {
+    fn put(&self, group: usize, head: ((Point, Point), u8), _place: usize, out: &mut [u8]) {
         Rec1::put_number(chain_tlid(self.chart, group), out);
         self.chart.put_chain_body(group, false, out);
-        Rec1::put_points(&head.0, &head.1, out);
+        let ((start, end), _) = head;
+        Rec1::put_points(&start, &end, out);
     }
 }
 

@@ -11,8 +11,8 @@ const HEADS_TOGETHER: usize = 64;
 pub struct HeadBuffers {
     /// The numbers of records of groups.
     pub counts: [usize; HEADS_TOGETHER],
-    /// The ends of chains.
-    pub ends: [(Point, Point); HEADS_TOGETHER],
+    /// The ends of chains, each with a byte of the content of its type 1 record. The byte has no meaning.
+    pub ends: [((Point, Point), u8); HEADS_TOGETHER],
     /// For each chain, a byte made of two bytes of the content of its type I record. It has no meaning.
     pub topology_bytes: [u8; HEADS_TOGETHER],
     /// The keys of polygons, and the contents of their type P records.

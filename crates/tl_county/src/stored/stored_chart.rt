@@ -88,6 +88,13 @@ impl<C: StoredChain, N: StoredName, L: StoredLandmark> Chart for StoredCounty<C,
         }
     }
 
+    fn chain_byte(&self, place: usize) -> u8 {
+        match self.chain_of_place(place) {
+            Some(chain) => chain.body().any_byte(),
+            None => 0,
+        }
+    }
+
     fn point_count_at(&self, place: usize) -> usize {
         match self.chain_of_place(place) {
             Some(chain) => chain.points().len(),

@@ -92,6 +92,12 @@ impl Body1 {
         Body1Fields::at(&line)
     }
 
+    /// A byte made from bytes that are less than 64 apart. It has no meaning: reading it brings the whole content into the cache.
+    pub fn any_byte(&self) -> u8 {
+        let bytes = self.columns.as_bytes();
+        bytes[0] ^ bytes[58] ^ bytes[116] ^ bytes[174]
+    }
+
     /// The content in columns 16 to 190 of a line.
     #[tactic(auto, using(crate::specs::Laws::Type1ColumnLaws::content_of_line))]
     pub(crate) fn at(line: &[u8]) -> Body1

@@ -17,7 +17,7 @@ returns g c =
     let numbered = c.put_number.ensures ∙ ap (λ n. (rtype_1 ∷ codes "2006") ++ number_text 10 n) tlid_is in
     let body_is = part_of (λ chain. joined (take 15 c.put_number.new.out) (body_1_texts chain.body)) there
     (take 190 c.put_chain_body.new.out) c.put_chain_body.ensures in
-    let ends_are = part_of (λ chain. (first_point chain.points, last_point chain.points)) there c.args.head c.requires.head in
+    let ends_are = part_of (λ chain. (first_point chain.points, last_point chain.points)) there c.args.head.0 c.requires.head in
     ap Some (c.put_points.ensures
     ∙ ((λ i. joined (joined (body_is i) (point_texts (ends_are i).0)) (point_texts (ends_are i).1))
     ∙ ap (λ before. joined (joined (joined before (body_1_texts there.entry.1.body)) (point_texts (first_point there.entry.1.points)))
