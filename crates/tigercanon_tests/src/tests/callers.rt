@@ -1,8 +1,8 @@
 //! The three callers of `uses`, on lines of a county.
 
-use test_support::Host;
-use test_support::comparing::{same, same_items};
-use test_support::sets::{lines_of, spelled};
+use super::Host;
+use super::comparing::{same, same_items};
+use super::sets::{lines_of, spelled};
 use tl_load::LoadFault;
 use uses::{cited_tlid, load_pieces, spell_alike};
 

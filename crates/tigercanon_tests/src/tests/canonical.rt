@@ -1,11 +1,11 @@
 //! The canonical texts of sets and the renamings onto them.
 
-use super::renamings::{has_lists, onto_the_text};
-use test_support::Host;
-use test_support::comparing::{same, same_items};
-use test_support::counties::{carries, county_of};
-use test_support::sets::{Set, lines_of};
-use test_support::worked_sets::{street_turned, two_chains, worked};
+use super::Host;
+use super::comparing::{same, same_items};
+use super::counties::county_of;
+use super::renamings::{carries, has_lists, onto_the_text};
+use super::sets::{Set, lines_of};
+use super::worked_sets::{street_turned, two_chains, worked};
 use tigercanon::{check, normalise, normalise_with_renaming};
 use tl_county::Chart;
 use tl_number::ascending_arrangement;

@@ -1,8 +1,8 @@
 //! The fields of a loaded record, each by its name.
 
-use test_support::Host;
-use test_support::comparing::{same, same_items};
-use test_support::sets::{lines_of, records_of};
+use super::Host;
+use super::comparing::{same, same_items};
+use super::sets::{lines_of, records_of};
 use tl_layout::{
     Body1, Body5, Body7, Point, Ranges, Rec1, Rec2, Rec4, Rec6, Rec8, RecI, RecP, Record,
 };

@@ -1,7 +1,7 @@
 //! The place of the first byte that no line may hold, in texts of every length around that of the lanes.
 
-use test_support::Host;
-use test_support::comparing::same;
+use super::Host;
+use super::comparing::same;
 use tl_load::first_bad;
 
 /// The first and the last bytes of the ranges that no line may hold, and of the ranges that a line may hold, each with whether it

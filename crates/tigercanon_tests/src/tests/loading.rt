@@ -2,13 +2,13 @@
 
 ghost use Rattle.std.specs.Prelude.{◌<◌};
 
+use super::Host;
+use super::comparing::{same, same_items};
 use super::devices::{kinds, reader};
+use super::sets::{lines_of, spelled};
+use super::worked_sets::{street, street_respelt};
 use std::cell::Cell;
 use std::io::ErrorKind;
-use test_support::Host;
-use test_support::comparing::{same, same_items};
-use test_support::sets::{lines_of, spelled};
-use test_support::worked_sets::{street, street_respelt};
 use tl_load::{Counted, LoadFault, Loader, SlowSource, Source};
 
 /// The source has Main St.

@@ -2,16 +2,17 @@
 
 ghost use Rattle.std.specs.Prelude.{◌<◌};
 
+use super::Host;
+use super::comparing::{same, same_items};
+use super::counties::county_of;
+use super::masks::{BOTH, RESERVED, SOURCES};
+use super::refusals::{answer_alike, canonise_in_masked, canonise_masked};
 use super::renamings::{has_lists, turn_of_the_street};
-use bumpalo::Bump;
+use super::sets::{Set, SetLines, lines_of};
+use super::sinks::took_all;
+use super::twin_sets::{OF_NO_SOURCES_TEXT, OF_TWO_SOURCES, OF_TWO_SOURCES_TEXT};
+use super::worked_sets::{CHAIN, CHAIN_1, LINK, LINK_1, MAIN_TEXT, street, street_turned};
 use std::alloc::Global;
-use test_support::Host;
-use test_support::comparing::{same, same_items};
-use test_support::counties::{admitted_in_of, admitted_of, county_of, has_text, took_all};
-use test_support::masks::{ANNEX_AND_BARN, BARN_FIRST, BOTH, CHAIN_1_OF_NONE, RESERVED, SOURCES};
-use test_support::sets::{Set, SetLines, lines_of};
-use test_support::twin_sets::{OF_NO_SOURCES_TEXT, OF_TWO_SOURCES, OF_TWO_SOURCES_TEXT};
-use test_support::worked_sets::{CHAIN, LINK, LINK_1, MAIN_TEXT, street, street_turned};
 use tigercanon::{
     Fault, Verdict, are_one_map_masked, compare_masked, fingerprint_masked, normalise_masked,
     normalise_to_masked, normalise_with_renaming_masked,
@@ -19,7 +20,6 @@ use tigercanon::{
 use tl_cert::{Renaming, check_masked};
 use tl_layout::Mask;
 use tl_load::SlowSource;
-use tl_number::{canonise_in_masked, canonise_masked};
 use tl_write::SlowSink;
 
 const NONE: Mask = Mask::NONE;
@@ -28,8 +28,27 @@ const NONE: Mask = Mask::NONE;
 const CHAIN_OF_B: &str =
     "1{11}500{1}B{2}Main{26}St{4}A41{8}101{8}199{8}100{8}19801{2}3600336006{14}0101001001{30}02020002030010012002{1}-86468669+32424914{1}-86468545+32424948";
 
+/// The canonical chain of Main St without SOURCE.
+pub(super) const CHAIN_1_OF_NONE: &str =
+    "12006{9}1{4}Main{26}St{4}A41{8}101{8}199{8}100{8}19801{2}3600336006{14}0101001001{30}02020002030010012002-086468669+32424914-086468545+32424948";
+
 /// The text of Main St without SOURCE.
 const TEXT_OF_NONE: &[&str] = &[CHAIN_1_OF_NONE, LINK_1];
+
+/// Two contents of one landmark, which change places if their SOURCE is left out.
+pub(super) const ANNEX_AND_BARN: &[&str] = &[
+    CHAIN,
+    LINK,
+    "7200601001{8}40BD43Annex{45}",
+    "7200601001{8}40AD43Barn{46}",
+];
+
+pub(super) const BARN_FIRST: &[&str] = &[
+    CHAIN_1,
+    "7200601001{9}1AD43Barn{46}",
+    "7200601001{9}1BD43Annex{45}",
+    LINK_1,
+];
 
 const ANNEX_FIRST: &[&str] = &[
     CHAIN_1_OF_NONE,
@@ -38,35 +57,11 @@ const ANNEX_FIRST: &[&str] = &[
     LINK_1,
 ];
 
-/// The renaming as a text.
-fn shown(rt: &impl Host, renaming: &Renaming) -> String {
-    format!(in rt.alloc(); "{renaming:?}").expect(rt, "there is memory")
-}
-
-/// The canonical county of the set has its text under its mask. Returns the renaming onto it.
-fn as_a_county(rt: &impl Host, set: &Set<'_>) -> String {
-    let admitted = admitted_of(rt, set);
-    let made = canonise_masked(rt.alloc(), admitted, set.mask).expect(rt, set.row);
-    has_text(rt, set.row, set.text, &made.0);
-    shown(rt, &made.1)
-}
-
-/// The same with a county in an arena.
-fn as_a_county_in_an_arena(rt: &impl Host, set: &Set<'_>) -> String {
-    let arena = Bump::new(rt.alloc());
-    let admitted = admitted_in_of(rt, &arena, set);
-    let made = canonise_in_masked(rt.alloc(), admitted, set.mask).expect(rt, set.row);
-    has_text(rt, set.row, set.text, &made.0);
-    shown(rt, &made.1)
-}
-
 /// The set becomes its text under its mask, by a whole call and as a county, which may be in an arena.
 fn becomes(rt: &impl Host, set: &Set<'_>) {
     let found = normalise_masked(rt.alloc(), &[set.bytes], set.mask).expect(rt, set.row);
     same_items(rt, set.row, &found, set.text);
-    let renaming = as_a_county(rt, set);
-    let other = as_a_county_in_an_arena(rt, set);
-    same(rt, set.row, &other.as_str(), &renaming.as_str());
+    answer_alike(rt, set, canonise_masked, canonise_in_masked);
 }
 
 /// The purpose of a row, a set, a mask, and the lines of the set's text under it.

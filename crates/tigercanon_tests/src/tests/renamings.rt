@@ -1,10 +1,10 @@
 //! Renamings as values: inverses, compositions, and whether one carries a county onto another.
 
-use test_support::Host;
-use test_support::comparing::{same, same_items};
-use test_support::counties::carries;
-use test_support::sets::lines_of;
-use test_support::worked_sets::{MAIN, MAIN_TURNED, NAMED, NAMED_BACKWARDS, SIDED};
+use super::Host;
+use super::comparing::{same, same_items};
+use super::counties::county_of;
+use super::sets::lines_of;
+use super::worked_sets::{MAIN, MAIN_TURNED, NAMED, NAMED_BACKWARDS, SIDED};
 use tl_cert::{PolygonKey, Renaming, check};
 
 /// The lists of a renaming.
@@ -268,6 +268,22 @@ pub(super) fn turn_of_the_street() -> Lists<'static> {
 /// From Main St from its other end to the canonical text.
 pub(super) fn onto_the_text() -> Lists<'static> {
     ONTO_THE_TEXT
+}
+
+/// Whether the renaming carries the county of one set onto that of another.
+pub(super) fn carries(
+    rt: &impl Host,
+    row: &str,
+    here: &[u8],
+    there: &[u8],
+    renaming: &Renaming,
+) -> bool {
+    let here = county_of(rt, row, here);
+    let there = county_of(rt, row, there);
+    let carried = check(rt.alloc(), &here, &there, renaming).expect(rt, row);
+    drop(here);
+    drop(there);
+    carried
 }
 
 /// Each renaming carries the first set onto the second, or doesn't, as in its row.

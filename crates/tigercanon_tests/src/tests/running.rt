@@ -4,12 +4,12 @@
 mod messages;
 mod rows;
 
+use super::Host;
+use super::comparing::{same, same_items};
 use super::devices::{SlowReader, failing_writer, kinds, reader};
+use super::sets::lines_of;
 use std::cell::Cell;
 use std::io::{ErrorKind, Read};
-use test_support::Host;
-use test_support::comparing::{same, same_items};
-use test_support::sets::lines_of;
 use tigercanon::{Job, Opened, run};
 use tl_layout::Mask;
 

@@ -1,12 +1,25 @@
 //! A text to sinks that take a few bytes at a time, and fail.
 
+use super::Host;
+use super::comparing::{same, same_items};
 use super::devices::{failing_writer, kinds, writer};
+use super::sets::lines_of;
+use super::worked_sets::street_text;
+use std::fmt::Debug;
 use std::io::ErrorKind;
-use test_support::Host;
-use test_support::comparing::{same, same_items};
-use test_support::sets::lines_of;
-use test_support::worked_sets::street_text;
 use tl_write::{CountedOut, Sink, SlowSink, WriteFault, write_bytes};
+
+/// The sink took the whole text.
+pub(super) fn took_all<E: PartialEq + Debug + Drop>(
+    rt: &impl Host,
+    row: &str,
+    sink: &SlowSink<'_>,
+    answer: &Result<u64, E>,
+    text: &[u8],
+) {
+    same(rt, row, answer, &Ok(text.len() as u64));
+    same_items(rt, row, sink.held(), text);
+}
 
 /// Writes the text to a sink of this capacity, which takes at most `most` bytes a write. The result and the content of the sink are
 /// right.

@@ -1,8 +1,8 @@
 //! What `Display` shows of each fault: the line that the program prints; and the exit status of a refusal.
 
+use super::Host;
+use super::comparing::{same, same_items};
 use std::fmt::{Debug, Display};
-use test_support::Host;
-use test_support::comparing::{same, same_items};
 use tigercanon::{CompareFault, Fault, PlanFault, Refusal};
 use tl_county::LinkFault::{
     self, ChainTwice, LandUnknown, LinkMissing, LinkTwice, NameTwice, NameUnknown, NoChain,

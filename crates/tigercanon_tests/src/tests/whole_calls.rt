@@ -1,12 +1,11 @@
 //! The library's whole calls on sets in memory, and over sources and sinks that transfer few bytes and fail.
 
+use super::Host;
+use super::comparing::{same, same_items};
 use super::masked::PRINT;
-use super::renamings::{has_lists, turn_of_the_street};
-use test_support::Host;
-use test_support::comparing::{same, same_items};
-use test_support::counties::carries;
-use test_support::sets::{Set, lines_of};
-use test_support::worked_sets::{street, street_respelt, street_text, street_turned, worked};
+use super::renamings::{carries, has_lists, turn_of_the_street};
+use super::sets::{Set, lines_of};
+use super::worked_sets::{street, street_respelt, street_text, street_turned, worked};
 use tigercanon::{Fault, Verdict, are_one_map, compare, fingerprint, normalise_to, respell};
 use tl_load::{LoadFault, SlowSource, Source};
 use tl_write::{SlowSink, WriteFault};

@@ -1,9 +1,9 @@
 //! Messages: usages, and the exit status of the program.
 
+use super::super::Host;
+use super::super::comparing::{same, same_items};
 use super::super::devices::{failing_writer, kinds};
 use std::io::ErrorKind;
-use test_support::Host;
-use test_support::comparing::{same, same_items};
 use tigercanon::{PlanFault, exit_status, report};
 use tl_write::{CountedOut, Sink};
 
