@@ -23,8 +23,9 @@ class Spent(NamedTuple):
     answer: Answer
 
 
-def spend(words: Sequence[object], given: bytes = b"", **how: object) -> Spent:
-    """Runs a program to its end. Its output goes to files."""
+def spend(words: Sequence[object], given: bytes = b"", reads_output: bool = True, **how: object) -> Spent:
+    """Runs a program to its end. Its output goes to files. If it isn't read, the answer has none: the memory of this process counts for a
+    program that it starts."""
     with tempfile.TemporaryFile() as stdin, tempfile.TemporaryFile() as out, tempfile.TemporaryFile() as err:
         stdin.write(given)
         stdin.seek(0)
@@ -36,7 +37,7 @@ def spend(words: Sequence[object], given: bytes = b"", **how: object) -> Spent:
         child.returncode = os.waitstatus_to_exitcode(status)
         out.seek(0)
         err.seek(0)
-        answer = Answer(child.returncode, out.read(), err.read())
+        answer = Answer(child.returncode, out.read() if reads_output else b"", err.read())
     return Spent(clock, used.ru_utime + used.ru_stime, used.ru_maxrss, answer)
 
 
