@@ -1,6 +1,7 @@
 """What the tests share: a folder of their own, the real program, and a stand-in for it."""
 
 import shutil
+import signal
 import sys
 from pathlib import Path
 from typing import Iterator
@@ -12,6 +13,11 @@ sys.path[:0] = [str(HERE.parent), str(HERE), str(HERE.parent.parent / "tools")]
 sys.dont_write_bytecode = True
 
 from support import PROGRAM, STAND_INS  # noqa: E402
+
+# In the background or under nohup some signals are ignored, and what the tests start would ignore them too.
+for number in (signal.SIGHUP, signal.SIGINT, signal.SIGQUIT):
+    if signal.getsignal(number) is signal.SIG_IGN:
+        signal.signal(number, signal.SIG_DFL)
 
 
 @pytest.fixture
