@@ -6,7 +6,7 @@ use Rattle.command_line.proofs.UsualWords.Flags.{after_flags, found, map_job}
 use Rattle.command_line.proofs.UsualWords.Walking.{Reads, Steps, before_word, plain_step, step_then}
 use Rattle.command_line.proofs.UsualWords.Words.{IsNoFlag, Read, flag, value_rows}
 
--- what is parsed of the words for two maps
+-- what the parser reads from the arguments of compare
 abbrev maps_read : Bool → Bool → Bool → Text → Text → Read
 maps_read is_stem sources reserved first second = (Some first, Some second, Some (flag is_stem), Some (flag sources), Some (flag reserved))
 

@@ -33,7 +33,7 @@ pub set_is_read : (name : Text) (is_stem : Bool) (first : Text) → IsNoFlag fir
 set_is_read name false first f = set_first name false first f
 set_is_read name true first f = step_then (set_job name) _ _ _ (first ∷ []) _ (set_stem name) (set_first name true first f)
 
--- what is parsed of the words for one map
+-- what the parser reads from the arguments of a job over one map
 abbrev map_read : Bool → Bool → Bool → Text → Read
 map_read is_stem sources reserved first = (Some first, None, Some (flag is_stem), Some (flag sources), Some (flag reserved))
 

@@ -43,7 +43,7 @@ second_read rows Normalise is_stem second names given named = named
 second_read rows Check is_stem second names given named = named
 second_read rows Fingerprint is_stem second names given named = named
 
--- the words after the name of the job, and what is parsed of them
+-- the words after the name of the job, and what the parser reads from them
 abbrev arguments : Job → Bool → Mask → Text → Text → List Text
 arguments job is_stem mask first second = stem_words is_stem ++ (mask_words job mask ++ set_words job first second)
 

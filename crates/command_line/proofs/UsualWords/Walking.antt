@@ -8,7 +8,7 @@ use Rattle.clap.specs.declared.error.kind.ErrorKind.{ErrorKind}
 use Rattle.clap.specs.Walk.{Held, Walk, arg_by_index, finished, idle, settled, to_positional, value, walked}
 use Rattle.command_line.proofs.UsualWords.Words.{IsNoFlag, Read, read}
 
--- the walk stands before a word: this is found so far, this argument waits to be used, and this is the next argument's position
+-- the state of the walk before a word: what was found so far, the argument that is still pending, and the next argument's position
 abbrev pub before_word : List Row → Option (Text × List Text) → ℕ → Walk
 before_word rows pending position = record {
   held = record { rows = rows; pending = pending; skip = 0 };
@@ -30,7 +30,7 @@ late_fault s h =
 abbrev pub fault_from : Shape → Walk → List Text → Kinds
 fault_from s w words = or_else (walk_fault s [] w words) (late_fault s (end_of s w words).held)
 
--- the rest of the words is taken, and then this was parsed
+-- the remaining words are accepted, and this is what was parsed
 pub record Reads (s : Shape) (w : Walk) (words : List Text) (wanted : Read) : Type 0 where
   pub taken : fault_from s w words ≡ []
   pub met : read (finished s.rules (end_of s w words).held) ≡ wanted
