@@ -108,7 +108,7 @@ enum tigercanon_number {
     TIGERCANON_TOO_SYMMETRIC = 24
 };
 
-/* Returns TIGERCANON_DONE if the parts are accepted: each line is a record, the records fit together to a county, each polygon of
+/* Returns TIGERCANON_DONE if the parts are accepted: each line is a record, the records fit together as a county, each polygon of
  * record type P is on a side of a chain, and the points of chains leave few enough choices open. */
 uint8_t tigercanon_check(const struct tigercanon_part *parts, size_t count, struct tigercanon_fault *fault);
 

@@ -13,10 +13,11 @@ NUMBERS = [*range(1, 21), 23, 24]
 
 
 def test_every_refusal_has_a_section() -> None:
-    """The numbers that the program reports, each with its name and a text."""
+    """The numbers that the program reports, each with its name and a text. Numbers out of use are in no section."""
     known = sections(page())
     assert sorted(known) == NUMBERS
     assert all(len([line for line in text.splitlines() if line.strip()]) > 1 for text in known.values())
+    assert "no longer used" in page() and "no longer used" not in "".join(known.values())
 
 
 @pytest.mark.parametrize(
@@ -33,9 +34,18 @@ def test_a_refusal(room: Path, line: str) -> None:
     assert call("explain", *line.split()).out == ended.out
 
 
-def test_which_set(room: Path) -> None:
-    ended = call("explain", "refused 14 LinkMissing 7 in set 2")
-    assert (ended.status, ended.out.splitlines()[2]) == (0, "tlid 7")
+@pytest.mark.parametrize(
+    "line, wanted",
+    [
+        ("refused 14 LinkMissing 7 in set 2", "TLID 7"),
+        ("tigercanon-tools: refused 9; in/b: refused 12 NoChain 4 2845001; no .RT2; empty .RT1", "type 4, TLID 2845001"),
+        ("refused 23 PolygonWithoutChain 3036303031 1 in set 1", "CENID 06001, POLYID 1"),
+    ],
+)
+def test_places(room: Path, line: str, wanted: str) -> None:
+    """Fields have their names, and a CENID is shown as in the file. Names may come before the refusal, and notes behind it."""
+    ended = call("explain", line)
+    assert (ended.status, ended.out.splitlines()[2]) == (0, wanted)
 
 
 @pytest.mark.parametrize("line", ["refused 21 Old 1", "99", "Nothing", "no refusal", ""])

@@ -138,12 +138,12 @@ def test_files(archive: Path) -> None:
     assert county.whole == File(f"{archive}/in/read.me", 5)
 
 
-def test_files_that_are_passed_over(archive: Path) -> None:
+def test_skipped_files(archive: Path) -> None:
     for name in ("in/a.tar.gz", "in/c.RT1.gz", "in/d.RT2.gz", "in/deep/README"):
         put(name)
     finder = Finder()
     finder.counties(["in", "in", "in/*.gz"])
-    assert finder.passed_over == {".RTA": 1, ".me": 1, ".tar.gz": 2, ".gz": 4, "without an ending": 1}
+    assert finder.skipped == {".RTA": 1, ".me": 1, ".tar.gz": 2, ".gz": 4, "without an ending": 1}
 
 
 @pytest.mark.parametrize("folder, name", [("", "a"), ("a", "b"), ("/", "a"), ("s3://a", "b"), ("s3://", "a"), ("file:///", "a")])

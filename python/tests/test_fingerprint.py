@@ -46,6 +46,7 @@ def test_standard_output(four: dict[str, bytes]) -> None:
         ended = call("fingerprint", "--jobs", jobs, "in")
         assert (ended.status, ended.out) == (0, wanted)
     assert ended.lines[0].startswith("4 counties: 4 fingerprints, 0 refused, 0 failed; ")
+    assert call("fingerprint", "in/b").lines[0].startswith("1 county: 1 fingerprint, 0 refused, 0 failed; ")
 
 
 def test_json(four: dict[str, bytes]) -> None:
@@ -167,7 +168,7 @@ def test_a_county_in_one_file(room: Path, stand_in: Path) -> None:
 
 
 def test_what_is_reported_of_sources(four: dict[str, bytes]) -> None:
-    """Files that are passed over are counted, and a county under two names is counted once."""
+    """Skipped files are counted, and a county under two names is counted once."""
     os.symlink("in", "other")
     for name in ("in/x.tar.gz", "in/y.RT1.gz", "in/c.RTA"):
         put(name)
@@ -175,7 +176,7 @@ def test_what_is_reported_of_sources(four: dict[str, bytes]) -> None:
     ended = call("fingerprint", "-o", "m", "in", "other/b", "empty", "nothing.zip", "'no*'")
     assert ended.status == 1
     for wanted in (
-        "passed over: 3 files (1 .RTA, 1 .gz, 1 .tar.gz)",
+        "skipped: 3 files (1 .RTA, 1 .gz, 1 .tar.gz)",
         "other/b: the same file as in/b, which is counted once",
         "empty: there is no county in this folder",
         "nothing.zip: no such file",

@@ -6,7 +6,6 @@ import inspect
 import io
 import mmap
 import os
-import re
 import shutil
 import subprocess
 import sys
@@ -169,6 +168,10 @@ def test_zips(tmp_path: Path) -> None:
         county.writestr("TGR01003.RT1", "another county")
     with pytest.raises(ValueError, match="TGR01001.ZIP: .*2 counties"):
         tigercanon.check(path)
+    for content, why in ((b"", "it isn't a zip"), (path.read_bytes()[:99], "the zip is cut off")):
+        path.write_bytes(content)
+        with pytest.raises(ValueError, match=f"TGR01001.ZIP: {why}"):
+            tigercanon.check(path)
 
 
 @pytest.mark.parametrize("number, name, words", REFUSALS)

@@ -18,7 +18,7 @@ def test_files() -> None:
 
 
 def test_they_have_all_commands() -> None:
-    """Each page has each command with its flags."""
+    """Each page has each command with its flags, and the man page its arguments."""
     for name, command in PAGES.commands().items():
         for place, text in PAGES.pages().items():
             plain = text.replace("\\-", "-")
@@ -26,6 +26,9 @@ def test_they_have_all_commands() -> None:
             for flag in command.flags:
                 spelled = f"-l {flag[2:]} " if place.endswith(".fish") and flag.startswith("--") else flag
                 assert spelled in plain or len(flag) == 2, (place, name, flag)
+    page = PAGES.pages()["man/tigercanon-tools.1"]
+    for wanted in ('.SS "fingerprint SOURCE.."', '.SS "verify MANIFEST [SOURCE ..]"', "\\fINEW\\fR\nthe later manifest"):
+        assert f"{wanted}\n" in page
 
 
 @pytest.mark.parametrize(

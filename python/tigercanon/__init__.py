@@ -43,7 +43,7 @@ FORM = "tigercanon form 1"
 def check(parts: Set) -> None:
     """Checks that a set is accepted: returns None if it is, and raises Refusal if it isn't.
 
-    A set is accepted if each line is a record, the records fit together to a county, each polygon with a record of
+    A set is accepted if each line is a record, the records fit together as a county, each polygon with a record of
     type P lies on a side of a chain, and the points of the chains leave few enough choices open.
 
     Raises Refusal with the first fault; OutOfMemory; and what the module's documentation lists for other parts.
@@ -84,7 +84,7 @@ def fingerprint(parts: Set, *, no_sources: bool = False, no_reserved: bool = Fal
 
 
 def compare(first: Set, second: Set, *, no_sources: bool = False, no_reserved: bool = False) -> bool:
-    """Returns whether two sets describe one map: renumbering, turning chains and reordering records make one the other.
+    """Returns whether two sets describe one map: they differ only in numbering, direction, order, packing and spelling.
 
     With a flag the maps are compared without the fields that it leaves out.
 

@@ -34,12 +34,12 @@ class Names:
 
 
 class Finder:
-    """Finds counties, and counts the files that it passes over."""
+    """Finds counties, and counts the files that it skips."""
 
     def __init__(self) -> None:
         listed = self.entries = lru_cache(maxsize=None)(entries)
         self.names = lru_cache(maxsize=None)(lambda folder: names_among(listed(folder)))
-        self.passed_over: Counter[str] = Counter()
+        self.skipped: Counter[str] = Counter()
         self.same: list[tuple[str, str]] = []
         self.counted: set[str] = set()
 
@@ -88,7 +88,7 @@ class Finder:
         except Exception as error:
             yield County(folder, trouble=f"can't be listed: {reason(error)}")
             return
-        self.count_passed_over(folder, found)
+        self.count_skipped(folder, found)
         for name, names in self.names(folder).items():
             if names.zips or names.files:
                 yield county_of(joined(folder, name), folder, names)
@@ -96,7 +96,7 @@ class Finder:
             if entry.is_folder:
                 yield from self.below(joined(folder, entry.name), seen)
 
-    def count_passed_over(self, folder: str, found: list[Entry]) -> None:
+    def count_skipped(self, folder: str, found: list[Entry]) -> None:
         """Counts the files of a folder that belong to no county, by their endings."""
         if folder in self.counted:
             return
@@ -105,7 +105,7 @@ class Finder:
             record = RECORD_FILE.fullmatch(entry.name)
             is_of_a_county = record[3].upper() in TYPES if record else ZIP_FILE.fullmatch(entry.name)
             if not entry.is_folder and not is_of_a_county:
-                self.passed_over[ending_of(entry.name)] += 1
+                self.skipped[ending_of(entry.name)] += 1
 
     def of_glob(self, pattern: str) -> Iterator[County]:
         """The counties that a glob matches: folders with all that is in them, zips and single files."""
@@ -120,7 +120,7 @@ class Finder:
             elif RECORD_FILE.fullmatch(path) or ZIP_FILE.fullmatch(path):
                 yield self.of_name(path)
             else:
-                self.passed_over[ending_of(path)] += 1
+                self.skipped[ending_of(path)] += 1
                 continue
             count += 1
         if count == 0:
@@ -182,7 +182,7 @@ def names_among(found: list[Entry]) -> dict[str, Names]:
 
 
 def ending_of(name: str) -> str:
-    """The ending under which a file that is passed over is counted."""
+    """The ending under which a skipped file is counted."""
     return ".tar.gz" if name.lower().endswith(".tar.gz") else os.path.splitext(name)[1] or "without an ending"
 
 

@@ -11,6 +11,7 @@ from .printing import print_lines
 
 SECTION = re.compile(r"(?m)^### `refused (\d+) (\w+)([^`]*)`$")
 REFUSAL = re.compile(r"(?:refused )?(\d+)?\s*([A-Z]\w+)?((?: [0-9A-Za-z]+)*?)(?: in set ([12]))?")
+FIELDS = ("TLID", "FEAT", "LAND", "CENID", "POLYID")
 HERE = Path(__file__).resolve().parent
 
 
@@ -26,9 +27,9 @@ def sections(text: str) -> dict[int, str]:
 
 
 def explained(line: str, text: str) -> list[str]:
-    """What the page has about a refusal. Raises Failure if the line isn't one."""
+    """What the page has about a refusal, which may come after names and before notes. Raises Failure if the line has none."""
     known = sections(text)
-    words = REFUSAL.fullmatch(line.strip().rpartition(": ")[2])
+    words = REFUSAL.fullmatch(re.sub(r"(?s).*\b(?=refused \d)|;.*", "", line).strip())
     numbers = {name: int(number) for number, name, _ in SECTION.findall(text)}
     number = None if words is None else int(words[1]) if words[1] else numbers.get(words[2] or "")
     if words is None or number not in known:
@@ -41,10 +42,17 @@ def explained(line: str, text: str) -> list[str]:
 
 
 def places(meanings: list[str], given: list[str]) -> list[str]:
-    """The places of a refusal with their meanings: `part 1, line 201`."""
+    """The places of a refusal with their meanings: `part 1, line 201`, or `CENID 06001, POLYID 1`."""
     if not given or len(given) != len(meanings):
         return []
-    return ["", ", ".join(f"{meaning.lower()} {place}" for meaning, place in zip(meanings, given))]
+    return ["", ", ".join(map(place, meanings, given))]
+
+
+def place(meaning: str, given: str) -> str:
+    """A place with its meaning. The name of a field is in capitals, and a CENID is shown as in the file."""
+    if meaning == "CENID" and re.fullmatch("[0-9A-Fa-f]{10}", given):
+        given = bytes.fromhex(given).decode("latin-1")
+    return f"{meaning if meaning in FIELDS else meaning.lower()} {given}"
 
 
 def run(options: argparse.Namespace) -> int:

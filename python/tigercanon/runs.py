@@ -153,9 +153,9 @@ class Fingerprints:
                 print_lines([heading(self.flags)])
         for stem, first in finder.same:
             report(f"{stem}: the same file as {first}, which is counted once")
-        if finder.passed_over:
-            found = ", ".join(f"{count:,} {ending}" for ending, count in sorted(finder.passed_over.items()))
-            report(f"passed over: {counted(sum(finder.passed_over.values()), 'file', 'files')} ({found})")
+        if finder.skipped:
+            found = ", ".join(f"{count:,} {ending}" for ending, count in sorted(finder.skipped.items()))
+            report(f"skipped: {counted(sum(finder.skipped.values()), 'file', 'files')} ({found})")
         del finder  # and what it has listed
         self.run.judge(counties, lambda: order_of(self.options, self.flags, self.options.strict))
         self.printer.end()
@@ -177,7 +177,7 @@ class Fingerprints:
     def report_end(self, before: int) -> None:
         tally = self.run.tally
         there = [f"{before:,} in the manifest already"] if before else []
-        words = [*there, f"{tally.good:,} new" if self.manifest else f"{tally.good:,} fingerprints"]
+        words = [*there, f"{tally.good:,} new" if self.manifest else counted(tally.good, "fingerprint", "fingerprints")]
         words += [f"{sum(tally.refused.values()):,} refused", f"{tally.failed:,} failed"]
         report(f"{counted(tally.counties + before)}: {', '.join(words)}; {tally.took}")
         self.run.report_refusals()

@@ -74,7 +74,7 @@ def test_masks(wanted: str) -> None:
 def test_wrong_calls(room: Path, words: str, told: str) -> None:
     """Of each command: exactly one line of what is wrong, status 2, and no file is changed. Of a set that is refused it has the file, the
     program's line and a hint; the first set comes before the second."""
-    for name in ("in/b.RT1", "empty"):
+    for name in ("in/b.RT1", "empty", "empty.ZIP"):
         put(name)
     lines = [f"{letter * 64}  {name}\n".encode() for letter, name in (("a", "one/x"), ("b", "two/X"))]
     put("head", HEAD.encode())
@@ -84,6 +84,8 @@ def test_wrong_calls(room: Path, words: str, told: str) -> None:
     put("twice", b"".join(lines))
     put("again", b"broken\n")
     put("not.zip", b"PK\x03\x04 broken")
+    with zipfile.ZipFile("zipped", "w") as archive:
+        archive.writestr("packed.RT1", b"")
     for name in ("packed", "in/packed.RT1"):
         put(name, b"\x1f\x8bpacked\n")
     before = {path: path.is_file() and path.read_bytes() for path in room.rglob("*")}

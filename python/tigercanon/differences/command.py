@@ -22,10 +22,11 @@ from .things import KINDS, SUBJECTS
 from .words import told
 
 ABOUT = """\
-Shows where two maps differ. FIRST and SECOND are each a file with all records
+Show where two maps differ. FIRST and SECOND are each a file with all records
 of a county, a zip with its files, or the beginning of the names of its files.
-Chains are matched by their points. The program's command compare decides whether
-the maps are one; the list of differences is an aid, and isn't proved.
+Chains are matched by their points, and shown in canonical direction. The maps
+are one if the program prints the same canonical text for both; the list of
+differences is an aid, and isn't proved.
 
 Exit status: 0 if the two are one map, 1 if they differ, 2 if they can't be
 compared or the answer can't be written.

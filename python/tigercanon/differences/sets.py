@@ -5,7 +5,6 @@ import hashlib
 import os
 import shutil
 import stat
-import zipfile
 from concurrent.futures import ThreadPoolExecutor
 from dataclasses import dataclass
 from functools import cached_property
@@ -15,7 +14,7 @@ from ..counties import as_stem
 from ..errors import Failure, printable, reason, reported
 from ..hints import hint
 from ..judge import Files, complaint, files_of
-from ..layout import TYPES, file_name
+from ..layout import TYPES, ZIP_FILE, file_name
 from ..own import PROCESS
 
 
@@ -79,12 +78,12 @@ def opened(name: str, is_stem: bool) -> Iterator[Source]:
 
 
 def is_zip(name: str) -> bool:
-    """Whether this is the file of a zip. Raises Failure for a folder and for what can't be read."""
+    """Whether this is the file of a zip, by its name. Raises Failure for a folder and for what can't be read."""
     with reported(printable(name), "can't be read"):
         mode = os.stat(name).st_mode
         if stat.S_ISDIR(mode):
             raise Failure(f"{printable(name)}: it is a folder: name a file, a zip or the stem of a county's files")
-        return stat.S_ISREG(mode) and zipfile.is_zipfile(name)
+        return stat.S_ISREG(mode) and ZIP_FILE.fullmatch(name) is not None
 
 
 def printed(program: str, command: Sequence[str], sources: Sequence[Source]) -> list[bytes]:
