@@ -16,7 +16,7 @@ pub struct RenamingParts {
     pub chains: Vec<(u64, u64)>,
     /// FEATs.
     pub names: Vec<(u32, u32)>,
-    /// Polygons; the two of a pair have the same CENID.
+    /// Polygons. A renaming that carries one county onto another keeps their CENIDs.
     pub polygons: Vec<(PolygonKey, PolygonKey)>,
     /// LANDs.
     pub lands: Vec<(u64, u64)>,
@@ -105,7 +105,7 @@ impl Renaming {
         &self.parts.names
     }
 
-    /// Each old polygon with its new one; the two have the same CENID.
+    /// Each old polygon with its new one. If the renaming carries a county, the two have the same CENID.
     pub fn polygons(&self) -> &[(PolygonKey, PolygonKey)]
         ensures { result.now ≡ self.now.polygons }
     {
