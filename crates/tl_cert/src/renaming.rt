@@ -4,9 +4,7 @@ ghost use Rattle.std.specs.Prelude.{◌≡◌};
 
 use std::alloc::Global;
 use std::marker::Model;
-
-/// A polygon: its CENID and its POLYID.
-pub type PolygonKey = ([u8; 5], u64);
+use tl_county::PolygonKey;
 
 /// The named parts of a renaming: pairs of an old and a new number for each kind of number, and the old TLIDs of the chains
 /// that are turned.
