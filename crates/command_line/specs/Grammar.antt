@@ -39,6 +39,7 @@ program_alone = record {
   subs = [];
 }
 
+-- the grammar: the program with its five subcommands
 abbrev pub understood : App
 understood =
     with_subcommand (with_subcommand (with_subcommand (with_subcommand (with_subcommand program_alone

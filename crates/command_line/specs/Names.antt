@@ -70,8 +70,7 @@ IsPlanned words plan = IsPlanOf (subcommand_of understood words) plan
 abbrev pub IsPlain : Text → Type 0
 IsPlain text = slice_index text 0 ≢ 45
 
--- The arguments of a job as in its help: the job's name, `--stem` if sets are named by their stems, for a job that prints or
--- compares maps a flag for each kind of field that is left out, and the name of each set.
+-- the flag for stems, the flags to leave fields out, and the names of sets, as they are given
 abbrev pub stem_words : Bool → List Text
 stem_words false = []
 stem_words true = codes "--stem" ∷ []
@@ -93,15 +92,18 @@ abbrev pub set_words : Job → Text → Text → List Text
 set_words Compare first second = first ∷ second ∷ []
 set_words job first second = first ∷ []
 
+-- The arguments of a job as in its help: the job's name, `--stem` if sets are named by their stems, for a job that prints or
+-- compares maps a flag for each kind of field that is left out, and the name of each set.
 abbrev pub usual_words : Job → Bool → Mask → Text → Text → List Text
 usual_words job is_stem mask first second =
     word_of job ∷ (stem_words is_stem ++ (mask_words job mask ++ set_words job first second))
 
--- the plan has the files of the sets with these names
+-- the file names of the second set, if the job has one
 abbrev pub second_files : Job → Bool → Text → List Text
 second_files Compare is_stem second = files_named is_stem second
 second_files job is_stem second = []
 
+-- the plan has the files of the sets with these names
 pub record HasFilesOf (is_stem : Bool) (first second : Text) (plan : Plan) : Type 0 where
   pub first_files : map string_bytes plan.first.items ≡ files_named is_stem first
   pub second_files_too : map string_bytes plan.second.items ≡ second_files plan.job is_stem second

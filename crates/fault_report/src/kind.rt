@@ -53,7 +53,7 @@ pub enum FaultKind {
 }
 
 impl FaultKind {
-    /// The number of the refusal, from 1 to 24.
+    /// The number of the refusal, from 1 to 24; 21 and 22 are no longer used.
     pub fn number(self) -> u8
         ensures { result ≡ refusal_number self }
     {

@@ -3,7 +3,7 @@
 //! `Key` is a key that orders items exactly: keys that compare as equal are the same key. `sort_keys` and `sort_distinct` put keys in
 //! order, and `place_of` finds one. A `NumberSet` collects numbers, each once; `marks_of` makes a table of marks in which `is_marked`
 //! looks a number up by one read. `bring_close` moves items close to the order of their numbers. The definitions are in
-//! `specs/Orders.antt`, and the lemmas about lists in order, which the crates above cite, in `proofs`.
+//! `specs`, and the lemmas about lists in order, which the crates above cite, in `proofs`.
 #![tactic(auto)]
 
 mod keys;

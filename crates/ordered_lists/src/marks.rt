@@ -22,7 +22,12 @@ fn places_for(numbers: &[u32]) -> usize
     }
 }
 
-/// Marks for the numbers of a list in order, each at the place of its number. Numbers past the last place have none.
+/// Marks for the numbers of a list in order, each at the place of its number. Numbers past the last place have none: a shorter list of
+/// marks is right too, and slower to use.
+///
+/// # Errors
+///
+/// `AllocError` if an allocation failed.
 pub fn marks_of(alloc: Global, numbers: &[u32]) -> Result<Vec<bool>, AllocError>
     ensures { IfOk result (λ marks. AreMarksOf numbers.now marks.items) }
 {

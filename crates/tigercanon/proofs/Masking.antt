@@ -24,13 +24,5 @@ module _ (mask : Mask) (parts : List (List ℕ)) where
         (set.county_is ∙ sym (masked_by_none (county_of set.records)));
   }
 
-  pub seen_under : (county shown : County) → shown ≡ masked mask county → IsSeenSet plain parts county
-      → IsSeenSet (masked mask) parts shown
-  seen_under county shown is set = record {
-    records = set.records;
-    accepted = set.accepted;
-    county_is = is ∙ ap (masked mask) set.county_is;
-  }
-
 pub seen_acceptable : {seen : County → County} (parts : List (List ℕ)) (county : County) → IsSeenSet seen parts county → IsAcceptable parts
 seen_acceptable parts county set = (set.records, set.accepted)

@@ -44,10 +44,6 @@ module _ (a b : List (List ℕ)) where
   one_refused (In set f) (inr h) = inr (h.0, h.1, h.2.0)
   one_refused NoMemory h = absurd h
 
-  pub one_no_device : (set : ℕ) → ReportsRefusalOfOneRead a b (In set (Load faults.Device)) → ⊥
-  one_no_device set (inl h) = h.1.1 refl
-  one_no_device set (inr h) = h.2.1 refl
-
   pub one_succeeds : (f : CompareFault) → ReportsRefusalOfOneRead a b f → ReportsMemoryOfAccepted a b f
   one_succeeds (In set f) (inl h) = (
     (λ is accepted. accepted_wants_memory a accepted.0 accepted.1 f h.1),

@@ -95,6 +95,7 @@ abbrev pub is_of_sink : Fault → Bool
 is_of_sink (Write _) = true
 is_of_sink _ = false
 
+-- whether a call stopped because its sink failed
 abbrev pub is_stopped : Result ℕ Fault → Bool
 is_stopped (Ok _) = false
 is_stopped (Err fault) = is_of_sink fault

@@ -61,7 +61,9 @@ pub struct FaultNumbers {
     /// The numbers among the places, in the order of the refusal line: parts, lines and columns, which count from 1, or TLIDs,
     /// FEATs, LANDs and POLYIDs.
     pub first: u64,
+    /// The second of these numbers.
     pub second: u64,
+    /// The third.
     pub third: u64,
 }
 

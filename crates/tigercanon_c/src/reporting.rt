@@ -119,12 +119,9 @@ pub(crate) fn report_of_two(of: CompareFault, fault: &mut FaultNumbers) -> u8
         → ((set : ℕ) → of ≢ CompareFault.In set (Fault.Load LoadFault.Device)) → (result ≡ 3) ⊎ (result ≡ 5) }
 {
     match of {
-        CompareFault::In {
-            set,
-            fault: tag_set,
-        } => {
-            *fault = fault_reported(set, tag_set);
-            Refusal(tag_set).status()
+        CompareFault::In { set, fault: of } => {
+            *fault = fault_reported(set, of);
+            Refusal(of).status()
         }
         CompareFault::Memory => {
             *fault = fault_reported(0, Fault::Memory);

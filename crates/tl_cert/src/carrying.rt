@@ -51,6 +51,10 @@ fn carries_parts<A: Chart, B: Chart>(
 /// Whether the renaming carries `a` onto `b`: its lists name each number of `a` once on the left and each of `b` once
 /// on the right, and under their new numbers, with the listed chains turned, the parts of `a` are those of `b`. It copies
 /// the lists and the links a few times, and looks numbers up in tables.
+///
+/// # Errors
+///
+/// `AllocError` if an allocation failed.
 pub fn check<A: Chart, B: Chart>(
     alloc: Global,
     a: &A,
@@ -69,6 +73,10 @@ pub fn check<A: Chart, B: Chart>(
 
 /// Whether the renaming carries `a` onto `b`, both seen under a mask. It allocates what [`check`] does, and if the mask leaves out
 /// SOURCE also a copy of the contents of each county's landmarks.
+///
+/// # Errors
+///
+/// `AllocError` if an allocation failed.
 pub fn check_masked<A: Chart, B: Chart>(
     alloc: Global,
     a: &A,

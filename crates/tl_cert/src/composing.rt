@@ -13,6 +13,10 @@ use std::alloc::AllocError;
 impl Renaming {
     /// The renaming back. It turns the new chains of those that this one turns. A turned TLID that `chains` doesn't name is
     /// left out.
+    ///
+    /// # Errors
+    ///
+    /// `AllocError` if an allocation failed.
     pub fn inverse(&self) -> Result<Renaming, AllocError>
         ensures value { IfOk result (λ back. back ≡ inverse self.now) }
         ensures carries_back { IfOk result (λ back. (a b : County) →
@@ -30,6 +34,10 @@ impl Renaming {
 
     /// This renaming and then the next one. A number whose new number `next` doesn't name is left out. A chain is turned if
     /// exactly one of the two renamings turns it.
+    ///
+    /// # Errors
+    ///
+    /// `AllocError` if an allocation failed.
     pub fn then(&self, next: &Renaming) -> Result<Renaming, AllocError>
         ensures value { IfOk result (λ both. both ≡ then self.now next.now) }
         ensures carries_on { IfOk result (λ both. (a b c : County) →

@@ -2,9 +2,8 @@
 //!
 //! `Renaming::of_parts` makes a renaming from its six lists, and its getters return them. `inverse` is the renaming back, `then` is one
 //! renaming after another, and `check` decides whether a renaming carries one county onto another. `check` accepts any counties and any
-//! renaming: it returns `false` if the renaming doesn't pair their numbers. Numbers are sorted and looked up in tables, never searched
-//! along a list. `citing.rt` of the crate `uses` has a proved caller.
-//! `check_masked` compares two counties under a mask.
+//! renaming: it returns `false` if the renaming doesn't pair their numbers. `check_masked` decides the same for two counties under a
+//! mask. Numbers are sorted and looked up in tables, never searched along a list. `citing.rt` of the crate `uses` has a proved caller.
 #![tactic(auto)]
 
 mod carrying;
@@ -23,4 +22,5 @@ mod sorted_numbers;
 mod turning;
 
 pub use carrying::{check, check_masked};
-pub use renaming::{PolygonKey, Renaming, RenamingParts};
+pub use renaming::{Renaming, RenamingParts};
+pub use tl_county::PolygonKey;

@@ -4,9 +4,7 @@ ghost use Rattle.std.specs.Prelude.{◌≡◌};
 
 use std::alloc::Global;
 use std::marker::Model;
-
-/// A polygon: its CENID and its POLYID.
-pub type PolygonKey = ([u8; 5], u64);
+use tl_county::PolygonKey;
 
 /// The named parts of a renaming: pairs of an old and a new number for each kind of number, and the old TLIDs of the chains
 /// that are turned.
@@ -16,7 +14,7 @@ pub struct RenamingParts {
     pub chains: Vec<(u64, u64)>,
     /// FEATs.
     pub names: Vec<(u32, u32)>,
-    /// Polygons; the two of a pair have the same CENID.
+    /// Polygons. A renaming that carries one county onto another keeps their CENIDs.
     pub polygons: Vec<(PolygonKey, PolygonKey)>,
     /// LANDs.
     pub lands: Vec<(u64, u64)>,
@@ -105,7 +103,7 @@ impl Renaming {
         &self.parts.names
     }
 
-    /// Each old polygon with its new one; the two have the same CENID.
+    /// Each old polygon with its new one. If the renaming carries a county, the two have the same CENID.
     pub fn polygons(&self) -> &[(PolygonKey, PolygonKey)]
         ensures { result.now ≡ self.now.polygons }
     {

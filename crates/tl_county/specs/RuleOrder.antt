@@ -39,7 +39,3 @@ pub record IsFirstFrom (records : List Record) (low : ℕ) (fault : LinkFault) :
   pub broken : is_rule_broken records fault ≡ true
   pub least : (other : LinkFault) → low ≤ rule_place other → is_rule_broken records other ≡ true
       → is_gt (place_cmp (link_fault_place fault) (link_fault_place other)) ≡ false
-
--- the finding about the rules from the first place up to the second: the first that is broken, or that none is
-abbrev pub Settles : List Record → ℕ → ℕ → Option LinkFault → Type 0
-Settles records low high found = MatchOption found (RulesHold records low high) (IsFirstFrom records low)

@@ -18,7 +18,8 @@ use tl_layout::{Body1, Body5, Body7, BodyI, BodyP, Point, Ranges, Rec8, Side};
 
 /// A county, whatever its storage. Places count from 0 along the ascending lists of TLIDs, FEATs, polygons, LANDs and nodes. If a
 /// place or a number isn't in the county, a call returns `None`, and a count is 0. Calls whose names end in `_there` require a
-/// place that exists, and return no `Option`. A coordinate is in millionths of a degree. No call allocates memory.
+/// place that exists, and return no `Option`. TLIDs, LANDs, POLYIDs and nodes are from 1 to 9,999,999,999, and FEATs from 1 to
+/// 99,999,999. A coordinate is in millionths of a degree. No call allocates memory.
 pub trait Chart {
     /// The county.
     ghost county: { Self → County };

@@ -202,6 +202,10 @@ pub fn compare<T: Ord + Drop, A: Listed<Item = T>, B: Listed<Item = T>>(a: &A, b
 }
 
 /// Appends the items of a list.
+///
+/// # Errors
+///
+/// `AllocError` if an allocation failed. The first of these items may then have been appended.
 pub fn push_all<L: Listed>(items: &mut Vec<L::Item>, list: &L) -> Result<(), AllocError>
 where
     L::Item: Drop,

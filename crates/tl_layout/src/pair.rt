@@ -13,7 +13,9 @@ use crate::writing::write_text;
 /// The left and the right field of one name. Left and right are as you walk the chain from its start.
 #[derive(Clone, Copy, Debug, PartialEq, Eq)]
 pub struct LeftRight<const N: usize> {
+    /// The left field.
     pub left: Text<N>,
+    /// The right field.
     pub right: Text<N>,
 }
 

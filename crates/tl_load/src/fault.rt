@@ -27,26 +27,27 @@ pub enum LineFault {
     Field(FieldFault),
 }
 
-/// Why loading failed. Parts, lines and columns are counted from 1.
+/// Why loading failed. Parts, lines and columns are counted from 1. The number in brackets is the refusal's.
 #[derive(Clone, Copy, Debug, PartialEq, Eq, Error)]
 pub enum LoadFault {
-    /// The line is empty, or its first byte isn't a record type.
+    /// The line is empty, or its first byte isn't a record type (1).
     UnknownType { part: u64, line: u64 },
-    /// The line is longer than the layout of its record type.
+    /// The line is longer than the layout of its record type (2).
     LineTooLong { part: u64, line: u64 },
-    /// A byte of the line isn't allowed. The leftmost one is reported.
+    /// A byte of the line isn't allowed (3). The leftmost one is reported: `column` is its column.
     BadByte { part: u64, line: u64, column: u16 },
-    /// A malformed number field, or no number in a field that requires one.
+    /// A malformed number field, or no number in a field that requires one (4). `column` is the field's first column.
     BadNumber { part: u64, line: u64, column: u16 },
-    /// A malformed or out-of-range coordinate, a pair with one half blank, or no point in a field that requires one.
+    /// A malformed or out-of-range coordinate, a pair with one half blank, or no point in a field that requires one (5). `column` is the
+    /// first column of the longitude, or, if only the latitude is malformed or out of range, of the latitude.
     BadPoint { part: u64, line: u64, column: u16 },
-    /// A used place after an unused one.
+    /// A used place after an unused one (6). `column` is the used place's first column.
     GapInRecord { part: u64, line: u64, column: u16 },
-    /// There are more records of this type, the byte in column 1, than a set may have.
+    /// There are more records of this type, the byte in column 1, than a set may have (7).
     TooManyRecords { rtype: u8 },
-    /// A read from the source failed.
+    /// A read from the source failed (8).
     Device,
-    /// An allocation failed.
+    /// An allocation failed (9).
     Memory,
 }
 

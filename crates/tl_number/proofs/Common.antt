@@ -105,7 +105,7 @@ pub use Rattle.tl_number.specs.LeastNumber.{IsLeastBelow, choice_list, choices_c
 pub use Rattle.tl_number.specs.MovedChains.{AgreeApart, AreWithin, StandInOrder, other_way}
 pub use Rattle.tl_number.specs.NameItems.{feats_along_arrangement}
 pub use Rattle.tl_number.specs.NumberedChoices.{chosen, first_stood, moved, stood, turned_by}
-pub use Rattle.tl_number.specs.RecordOrder.{AreTiedAt, AreTiedBelow, groups_cmp, links_of, records_cmp, spelling_cmp}
+pub use Rattle.tl_number.specs.RecordOrder.{AreTiedAt, AreTiedBelow, groups_cmp, topologies_of, records_cmp, spelling_cmp}
 pub use Rattle.tl_number.specs.Sights.{IsSight, plain}
 pub use Rattle.tl_number.specs.Tidy.{HasShapesApart, IsChoice, IsLeastChoice, arranged_list, numbered_choice}
 pub use Rattle.tl_number.specs.TypeOneOrder.{IsLeastFrom, one_at, ones_cmp, ones_of}

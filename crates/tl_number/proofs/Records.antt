@@ -6,7 +6,6 @@ pub mod Selected
 pub mod PackedGroups
 pub mod EntryPlaces
 pub mod RecordFields
-pub mod ReadHeads
 pub mod RecordPlaces
 pub mod OneAfterAnother
 pub mod GivenGroups

@@ -1,6 +1,6 @@
 -- Comparing the texts of two arrangements, type by type.
 pub mod TiedOnes
-pub mod LinkOrder
+pub mod TopologyRecords
 pub mod SamePolygons
 pub mod SameChains
 pub mod SameLists

@@ -16,14 +16,11 @@ use Rattle.ordered_lists.specs.Pairs.{image}
 use Rattle.tl_county.specs.County.{County, county_of, one_tlid, two_tlid, two_rtsq, four_tlid, four_rtsq, five_feat, six_tlid}
 use Rattle.tl_county.specs.County.{six_rtsq, i_tlid}
 use Rattle.tl_county.specs.LinkRules.{IsLinked}
+use Rattle.tl_county.specs.OrderedTables.{landmark_cmp}
 use Rattle.ordered_lists.specs.Orders.{IsInOrder}
 use Rattle.tl_number.specs.Growth.{up_to}
 use Rattle.tl_county.specs.Packing.{by_type, type_after_type, p_polyid}
 use Rattle.tl_number.specs.ArrangedCounty.{IsArranged, IsTidy}
-
--- in the order of LAND, then of the body
-abbrev pub seven_cmp : Fields7 → Fields7 → Ordering
-seven_cmp a b = ordering_then (nat_cmp a.land b.land) (landmark_body_cmp a.body b.body)
 
 -- The records are sorted by type. Within a type they ascend: records of chains by TLID and, if they have one, RTSQ; names by
 -- FEAT; landmarks by LAND and content; links by LAND, POLYID, CENID and FILE; polygons by POLYID.
@@ -34,7 +31,7 @@ pub record StandsInOrder (records : List Record) : Type 0 where
   pub of_type_4 : IsInOrder (then_cmp (on four_tlid nat_cmp) (on four_rtsq nat_cmp)) (of_type_4 records)
   pub of_type_5 : IsInOrder (on five_feat nat_cmp) (of_type_5 records)
   pub of_type_6 : IsInOrder (then_cmp (on six_tlid nat_cmp) (on six_rtsq nat_cmp)) (of_type_6 records)
-  pub of_type_7 : IsInOrder seven_cmp (of_type_7 records)
+  pub of_type_7 : IsInOrder landmark_cmp (of_type_7 records)
   pub of_type_8 : IsInOrder link_cmp (of_type_8 records)
   pub of_type_i : IsInOrder (on i_tlid nat_cmp) (of_type_i records)
   pub of_type_p : IsInOrder (on p_polyid nat_cmp) (of_type_p records)

@@ -34,8 +34,8 @@ abbrev pub AreTiedBelow : ℕ → List Record → List Record → Type 0
 AreTiedBelow end rs ss = (place : ℕ) → place < end → AreTiedAt rs ss place
 
 -- the records of type I of a county
-abbrev pub links_of : County → List Record
-links_of county = map I (grouped (type_i_by_chain county))
+abbrev pub topologies_of : County → List Record
+topologies_of county = map I (grouped (type_i_by_chain county))
 
 -- the order of two counties by their records of types 1, 2 and 4; the first type that differs decides
 abbrev pub types_1_to_4_cmp : County → County → Ordering

@@ -41,7 +41,7 @@ name_key uses entry = (entry.1, uses_of_name uses entry.0)
 abbrev pub name_key_cmp : NameKey → NameKey → Ordering
 name_key_cmp k j = ordering_then (name_body_cmp k.0 j.0) (slice_cmp use_cmp k.1 j.1)
 
--- the polygons of one landmark, in order
+-- the links of one landmark without its LAND, in order
 abbrev pub links_of : List Fields8 → ℕ → List LinkPart
 links_of links land = map link_part (filter (λ link. link.land == land) links)
 

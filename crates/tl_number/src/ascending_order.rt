@@ -8,7 +8,7 @@ use std::alloc::{AllocError, Global};
 use tl_county::{Chart, DirectedChain};
 use tl_profile::{ShapeOrder, order_by_shape};
 
-/// The directed chains that are already in the order of their shapes.
+/// A copy of the directed chains, which are in the order of their shapes.
 pub(crate) fn arrangement_in_order(
     alloc: Global,
     order: &ShapeOrder,

@@ -29,8 +29,8 @@ pub fn arranged_lists_are_the_packing_of_their_county()
     ensures { (records : List Record) → IsArrangedList records → records ≡ packed (county_of records) }
 {}
 
-/// Two such lists are equal if a renaming that keeps each TLID and turns no chain carries the county of one onto the county of
-/// the other.
+/// Two lists in the canonical order, packing and numbering are equal if a renaming that keeps each TLID and turns no chain carries the
+/// county of one onto the county of the other.
 pub fn arranged_lists_with_one_choice_are_equal()
     ensures { (r : Renumbering) (xs ys : List Record) →
         IsArrangedList xs → IsArrangedList ys → Carries r (county_of xs) (county_of ys) → KeepsChainNumbers r (county_of xs) → xs ≡ ys }

@@ -196,8 +196,8 @@ fn place_of_key<K: Key + Hash + NumericKey>(
     place_among(keys, others, key)
 }
 
-/// Adds a key to the keys, and its place to the others. Where memory is lacking for the second, the place may
-/// be there already.
+/// Adds a key to the keys, and its place to the others. If an allocation fails, the keys are unchanged, but the others may already have
+/// the place.
 fn push_into_table<K: Key + Hash>(
     keys: &mut Vec<K>,
     others: &mut OtherPlaces<K>,

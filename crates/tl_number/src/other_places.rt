@@ -11,7 +11,7 @@ use std::alloc::{AllocError, Global};
 use std::collections::BTreeMap;
 use std::hash::Hash;
 
-/// How many keys are found by hash. Their hashes may all collide, since the author of a file chooses its numbers, and then each of
+/// The most keys that are found by hash. Their hashes may all collide, since the author of a file chooses its numbers, and then each of
 /// these few is compared.
 const MOST_HASHED: usize = 1024;
 

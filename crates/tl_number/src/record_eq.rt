@@ -76,7 +76,7 @@ impl RecordEq for Rec8 {
 }
 
 /// Whether two contents of type I records are the same.
-fn is_same_link_content(a: &BodyI, b: &BodyI) -> bool
+fn is_same_topology_content(a: &BodyI, b: &BodyI) -> bool
     ensures { Decides result (a.now ≡ b.now) }
 {
     a == b
@@ -96,7 +96,7 @@ impl RecordEq for RecI {
             && self.end_node() == other.end_node()
             && is_same_side(self.left(), other.left())
             && is_same_side(self.right(), other.right())
-            && is_same_link_content(self.body(), other.body())
+            && is_same_topology_content(self.body(), other.body())
     }
 }
 

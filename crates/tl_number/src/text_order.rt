@@ -25,7 +25,7 @@ use crate::chain_records::SequencedRecords;
 use crate::group_order::{compare_groups, compare_unless};
 use crate::name_records::{LandmarkLinkRecords, LandmarkRecords, NameRecords};
 use crate::same_chains::{FurtherNames, FurtherRanges, have_same_parts};
-use crate::type_i_and_p_order::{compare_links, compare_polygons};
+use crate::type_i_and_p_order::{compare_polygons, compare_topologies};
 use std::cmp::Ordering;
 use std::marker::PhantomData;
 use tl_county::Chart;
@@ -75,7 +75,7 @@ fn compare_types_8_to_p<A: Chart, R: Evidence, B: Chart, S: Evidence>(
         Ordering::Equal => {}
         unequal => return unequal,
     }
-    match compare_links(a, b) {
+    match compare_topologies(a, b) {
         Ordering::Equal => {}
         unequal => return unequal,
     }

@@ -8,7 +8,7 @@ ghost use Rattle.std.specs.Option.{option_cmp};
 ghost use Rattle.std.specs.Prelude.{◌≡◌, ◌<◌, Some, length, slice_get, true};
 ghost use Rattle.tl_layout.specs.declared.record_type.Record.TheVariants.{I, P};
 ghost use Rattle.tl_number.specs.CountyGroups.{type_i_by_chain, type_p_by_number};
-ghost use Rattle.tl_number.specs.RecordOrder.{groups_cmp, links_of, spelling_cmp};
+ghost use Rattle.tl_number.specs.RecordOrder.{groups_cmp, topologies_of, spelling_cmp};
 ghost use Rattle.tl_number.specs.Views.{arranged_county};
 
 use crate::arranged::{Arranged, Evidence};
@@ -22,13 +22,13 @@ use tl_layout::RecI;
 
 /// Whether two arrangements of a county have the same chain at a place, in the same direction, with the same nodes at its ends
 /// and the same polygons on its sides.
-fn is_same_link<A: Chart, R: Evidence, B: Chart, S: Evidence>(
+fn is_same_topology<A: Chart, R: Evidence, B: Chart, S: Evidence>(
     a: &Arranged<A, R>,
     b: &Arranged<B, S>,
     place: usize,
 ) -> bool
     requires { A.county a.now.chart ≡ B.county b.now.chart }
-    ensures { result ≡ true → slice_get (links_of (arranged_county a.now)) place ≡ slice_get (links_of (arranged_county b.now)) place }
+    ensures { result ≡ true → slice_get (topologies_of (arranged_county a.now)) place ≡ slice_get (topologies_of (arranged_county b.now)) place }
 {
     let arrangement = a.directed_at(place).is_same(b.directed_at(place));
     if !arrangement {
@@ -42,9 +42,9 @@ fn is_same_link<A: Chart, R: Evidence, B: Chart, S: Evidence>(
 }
 
 /// The record of type I of the chain at a place.
-fn link_record<C: Chart, S: Evidence>(county: &Arranged<C, S>, place: usize) -> RecI
+fn topology_record<C: Chart, S: Evidence>(county: &Arranged<C, S>, place: usize) -> RecI
     requires { place < length (arranged_county county.now).chains }
-    ensures { Some (I result) ≡ slice_get (links_of (arranged_county county.now)) place }
+    ensures { Some (I result) ≡ slice_get (topologies_of (arranged_county county.now)) place }
 {
     let records = TopologyRecords { chart: county };
     let head = records.head(place);
@@ -52,7 +52,7 @@ fn link_record<C: Chart, S: Evidence>(county: &Arranged<C, S>, place: usize) -> 
 }
 
 /// Compares two arrangements of a county by their records of type I at a place.
-fn compare_link<A: Chart, R: Evidence, B: Chart, S: Evidence>(
+fn compare_topology<A: Chart, R: Evidence, B: Chart, S: Evidence>(
     a: &Arranged<A, R>,
     b: &Arranged<B, S>,
     place: usize,
@@ -60,16 +60,16 @@ fn compare_link<A: Chart, R: Evidence, B: Chart, S: Evidence>(
     requires county { A.county a.now.chart ≡ B.county b.now.chart }
     requires one { place < length (arranged_county a.now).chains }
     requires other { place < length (arranged_county b.now).chains }
-    ensures { result ≡ option_cmp spelling_cmp (slice_get (links_of (arranged_county a.now)) place) (slice_get (links_of (arranged_county b.now)) place) }
+    ensures { result ≡ option_cmp spelling_cmp (slice_get (topologies_of (arranged_county a.now)) place) (slice_get (topologies_of (arranged_county b.now)) place) }
 {
-    if is_same_link(a, b, place) {
+    if is_same_topology(a, b, place) {
         return Ordering::Equal;
     }
-    compare_records(&link_record(a, place), &link_record(b, place))
+    compare_records(&topology_record(a, place), &topology_record(b, place))
 }
 
 /// Compares two arrangements of a county by their records of type I.
-pub(crate) fn compare_links<A: Chart, R: Evidence, B: Chart, S: Evidence>(
+pub(crate) fn compare_topologies<A: Chart, R: Evidence, B: Chart, S: Evidence>(
     a: &Arranged<A, R>,
     b: &Arranged<B, S>,
 ) -> Ordering
@@ -77,7 +77,7 @@ pub(crate) fn compare_links<A: Chart, R: Evidence, B: Chart, S: Evidence>(
     ensures { result ≡ groups_cmp I (type_i_by_chain (arranged_county a.now)) (type_i_by_chain (arranged_county b.now)) }
 {
     for place in 0..a.chain_count() {
-        match compare_link(a, b, place) {
+        match compare_topology(a, b, place) {
             Ordering::Equal => {}
             unequal => return unequal,
         }

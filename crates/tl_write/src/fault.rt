@@ -11,8 +11,7 @@ use thiserror::Error;
 /// A sink failed before all of a text was written (10).
 #[derive(Clone, Copy, Debug, PartialEq, Eq, Error)]
 pub struct WriteFault {
-    /// How many bytes of the text were written before that, from its
-    /// beginning.
+    /// How many bytes of the text were written before that, from its beginning.
     pub written: u64,
 }
 

@@ -209,7 +209,7 @@ pub fn compare_masked(
 ///
 /// # Errors
 ///
-/// As for [`compare`].
+/// As for [`compare`], but each names a set: [`CompareFault::Memory`] doesn't occur.
 #[tactic(auto, using(crate::proofs::Masking::none_is_plain))]
 pub fn are_one_map(alloc: Global, a: &[&[u8]], b: &[&[u8]]) -> Result<bool, CompareFault>
     // The sets are one map only if both are accepted and some renaming carries the first onto the second,
@@ -219,6 +219,7 @@ pub fn are_one_map(alloc: Global, a: &[&[u8]], b: &[&[u8]]) -> Result<bool, Comp
     // Otherwise one of them is refused, the second only if the first is accepted.
     ensures refused { IfErr result (ReportsRefusalOfOne (bytes_of_parts a.now) (bytes_of_parts b.now)) }
     ensures no_device { (set : ℕ) → result ≢ Err (CompareFault.In set (Fault.Load LoadFault.Device)) }
+    ensures names_set { result ≢ Err CompareFault.Memory }
     // For an accepted set the only fault is a failed allocation.
     ensures succeeds { IfErr result (ReportsMemoryOfAccepted (bytes_of_parts a.now) (bytes_of_parts b.now)) }
 {
@@ -229,7 +230,7 @@ pub fn are_one_map(alloc: Global, a: &[&[u8]], b: &[&[u8]]) -> Result<bool, Comp
 ///
 /// # Errors
 ///
-/// As for [`compare`], whatever the mask is.
+/// As for [`are_one_map`], whatever the mask is.
 pub fn are_one_map_masked(
     alloc: Global,
     a: &[&[u8]],
@@ -243,6 +244,7 @@ pub fn are_one_map_masked(
     // Otherwise one of them is refused, the second only if the first is accepted.
     ensures refused { IfErr result (ReportsRefusalOfOne (bytes_of_parts a.now) (bytes_of_parts b.now)) }
     ensures no_device { (set : ℕ) → result ≢ Err (CompareFault.In set (Fault.Load LoadFault.Device)) }
+    ensures names_set { result ≢ Err CompareFault.Memory }
     // For an accepted set the only fault is a failed allocation.
     ensures succeeds { IfErr result (ReportsMemoryOfAccepted (bytes_of_parts a.now) (bytes_of_parts b.now)) }
 {

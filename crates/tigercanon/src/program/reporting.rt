@@ -52,7 +52,7 @@ pub fn report<E: Sink>(fault: &PlanFault, err: &mut E) -> u8
     }
 }
 
-/// The program's exit status: the job's, or, if the command line led to no job, that of the fault that [`tell`] writes to `err`.
+/// The program's exit status: the job's, or, if the command line led to no job, that of the fault that [`report`] writes to `err`.
 pub fn exit_status<E: Sink>(outcome: Result<u8, PlanFault>, err: &mut E) -> u8
     requires { E.failed err.old < u64.MAX }
     ensures done { IfOk outcome (λ status. (result ≡ status) × (err.new ≡ err.old)) }

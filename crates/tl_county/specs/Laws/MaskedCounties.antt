@@ -1,10 +1,10 @@
 -- Under a mask a county has the same numbers, nodes and polygons, and is well formed.
 --
 -- The laws of masked counties are in these files:
---   here                      tlids_masked, lands_masked, nodes_masked, sides_masked, masked_is_county
---   specs/MaskedLimits        masked_within_limits
---   proofs/MaskedReads        the values that a chart reads: chain_at_masked, body_masked, bodies_masked and so on
---   proofs/MaskedCounties     masked_by_none, no_mask_is_plain, masked_twice, carried_masked
+--   here                            tlids_masked, lands_masked, nodes_masked, sides_masked, masked_is_county
+--   specs/Laws/MaskedLimits         masked_within_limits
+--   proofs/Masks/MaskedReads        the values that a chart reads: chain_at_masked, body_masked, bodies_masked and so on
+--   proofs/Masks/MaskedCounties     masked_by_none, no_mask_is_plain, masked_twice, carried_masked
 use Rattle.std.proofs.Common.{rules, ◌≡◌, ℕ, List, map, length, Bool, true, false, cond, refl, ◌∙◌}
 use Rattle.std.proofs.lemmas.List.{length-map}
 use Rattle.std.specs.List.{AllByRecursion}

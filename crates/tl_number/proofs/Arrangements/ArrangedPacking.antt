@@ -16,7 +16,7 @@ use Rattle.ordered_lists.proofs.Lists.InOrder.{in_order-from_strict}
 use Rattle.tl_county.proofs.Packing.PackedNumbers.{two_own, four_own, six_own, seven_own, numbered_strict, tlids_apart, ones, twos, fours}
 use Rattle.tl_county.proofs.Packing.PackedNumbers.{fives, sixes, sevens, eights, links_of_chains, polygons_packed}
 use Rattle.tl_county.proofs.Packing.PackedLinked.{packed_linked}
-use Rattle.tl_number.specs.Canonical.{seven_cmp}
+use Rattle.tl_county.specs.OrderedTables.{landmark_cmp}
 
 -- pieces except the last are full
 full_pieces : {X : Type 0} (n most : ℕ) (xs : List X) → 1 ≤ n → length xs ≤ most → AreFull n (pieces n most xs)
@@ -98,7 +98,7 @@ module _ (c : County) (is : IsCounty c) where
         (groups_in_order six_tlid packed_sixes six_own (on six_rtsq nat_cmp) c.chains is.ascending.chains
         (all_everywhere (λ e. IsInOrder (on six_rtsq nat_cmp) (packed_sixes e))
         (λ e. rtsqs_ordered six_rtsq (make_6 e) (λ piece. refl) e.1.ranges) c.chains));
-    of_type_7 = subst (IsInOrder seven_cmp) (sym (sevens c is))
+    of_type_7 = subst (IsInOrder landmark_cmp) (sym (sevens c is))
         (groups_in_order seven_land packed_sevens seven_own
         (on (λ (r : Fields7). r.body) landmark_body_cmp) c.landmarks is.ascending.landmarks
         (all_weaker (λ (e : ℕ × List Body7). IsInOrder landmark_body_cmp e.1)

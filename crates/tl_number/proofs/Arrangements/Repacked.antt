@@ -19,7 +19,7 @@ use Rattle.ordered_lists.proofs.Lists.InOrder.{in_order-itself, in_order-from_st
 use Rattle.tl_county.proofs.Rules.LinkedCounty.{needed, apart_chains, the_link}
 use Rattle.tl_county.proofs.Lists.OfNumber.{of_number-all}
 use Rattle.ordered_lists.proofs.ByKey.Numbers.{distinct-strict}
-use Rattle.tl_number.specs.Canonical.{seven_cmp}
+use Rattle.tl_county.specs.OrderedTables.{landmark_cmp}
 use Rattle.tl_county.specs.Packing.{without_last}
 use Rattle.tl_number.proofs.Lists.Counting.{flat_map-map, up_to-strict}
 use Rattle.tl_number.proofs.Lists.Grouping.{in_order-weaker, then-first, in_order-filter, parts_in_order, grouped, pieces-joined, rtsqs-back}
@@ -218,7 +218,7 @@ module _ (records : List Record) (linked : IsLinked records) where
         let all : AllByRecursion (λ r. r.land ≡ n) rs = of_number-all seven_land n (of_type_7 records) in
         ap (map (λ body. record { land = n; body = body }))
         (in_order-itself landmark_body_cmp (map (λ (r : Fields7). r.body) rs)
-        (parts_in_order seven_land (λ (r : Fields7). r.body) landmark_body_cmp n rs all (in_order-filter seven_cmp (λ r. r.land == n) (of_type_7 records) order.of_type_7)))
+        (parts_in_order seven_land (λ (r : Fields7). r.body) landmark_body_cmp n rs all (in_order-filter landmark_cmp (λ r. r.land == n) (of_type_7 records) order.of_type_7)))
         ∙ map-map (λ body. record { land = n; body = body }) (λ (r : Fields7). r.body) rs
         ∙ map_agree_all (λ (r : Fields7). record { land = n; body = r.body }) (λ r. r) (λ r. r.land ≡ n)
         (λ r e i. record r { land = sym e i }) rs all
@@ -238,7 +238,7 @@ module _ (records : List Record) (linked : IsLinked records) where
               (map (λ (r : Fields7). r.body) (of_number seven_land land (of_type_7 records))),
         ))
         (λ land. of_number seven_land land (of_type_7 records)) sevens_of ls
-        ∙ grouped seven_land (of_type_7 records) (in_order-weaker seven_cmp (on seven_land nat_cmp)
+        ∙ grouped seven_land (of_type_7 records) (in_order-weaker landmark_cmp (on seven_land nat_cmp)
         (λ x y. then-first (nat_cmp x.land y.land) (landmark_body_cmp x.body y.body)) (of_type_7 records) order.of_type_7) ls
         (distinct-strict nat_keys (map seven_land (of_type_7 records)))
         (all_unmap (Known nat_cmp ls) seven_land (of_type_7 records)

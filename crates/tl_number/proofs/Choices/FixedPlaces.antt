@@ -37,9 +37,6 @@ decides_equal xs ys n l m b decides = (
 pub agree_same : {X : Type 0} (xs ys : List X) → AgreeApart [] xs ys → xs ≡ ys
 agree_same xs ys h = same_everywhere xs ys (λ place. h place tt)
 
-pub agree_itself : {X : Type 0} (places : List OpenPlace) (xs ys : List X) → xs ≡ ys → AgreeApart places xs ys
-agree_itself places xs ys e place apart = ap (λ zs. slice_get zs place) e
-
 pub agree_both : {X : Type 0} (places : List OpenPlace) (xs ys zs : List X) → AgreeApart places xs zs → AgreeApart places ys zs
     → AgreeApart places xs ys
 agree_both places xs ys zs a b place apart = a place apart ∙ sym (b place apart)
@@ -110,12 +107,6 @@ put_over a (suc p) (x ∷ xs) (y ∷ ys) count within (suc place) h =
     put_over a p xs ys (omega (arith, count)) (omega (arith, within)) place
     (λ past. h (λ l. (let behind = past (omega (arith, l)) in omega (arith, behind))))
 
-pub agree_put : {X : Type 0} (at : OpenPlace) (places : List OpenPlace) (xs ys : List X) → length xs ≡ length ys → IsWithin (length xs) at
-    → AgreeApart (at ∷ places) xs ys
-    → AgreeApart places (take at.place xs ++ (take at.alike (drop at.place ys) ++ drop at.alike (drop at.place xs))) ys
-agree_put at places xs ys count within agree place apart =
-    put_over at.alike at.place xs ys count within.there place (λ past. agree place (past, apart))
-
 -- A place before an open place is apart from it and from all later ones.
 pub before_apart : (at : OpenPlace) (places : List OpenPlace) → StandInOrder (at ∷ places) → (place : ℕ) → place < at.place
     → AllByRecursion (IsApart place) (at ∷ places)
@@ -123,17 +114,6 @@ before_apart at places in_order place before = (
   (λ l. absurd (omega (arith, l, before))),
   all_weaker (λ later. at.place ≤ later.place) (IsApart place) (λ later behind l. absurd (omega (arith, l, before, behind))) places in_order.0,
 )
-
--- A property apart from open places, and at all places up to the end of the first one, holds apart from the others.
-pub past_first : (P : ℕ → Type 0) (at : OpenPlace) (places : List OpenPlace)
-    → ((place : ℕ) → AllByRecursion (IsApart place) (at ∷ places) → P place)
-    → ((place : ℕ) → place < at.place + at.alike → P place)
-    → (place : ℕ) → AllByRecursion (IsApart place) places → P place
-past_first P at places outside below place apart = go (nat_lt place (at.place + at.alike)) refl
-  where
-    go : (b : Bool) → nat_lt place (at.place + at.alike) ≡ b → P place
-    go true e = below place (ltb-true place (at.place + at.alike) e)
-    go false e = outside place ((λ l. ltb-false place (at.place + at.alike) e), apart)
 
 -- The open places of keys in a list are in order.
 module _ {K : Type 0} (cmp : K → K → Ordering) (either : K → Bool) where

@@ -28,16 +28,6 @@ greater_from Less e = absurd (false≢true (sym e))
 greater_from Equal e = absurd (false≢true (sym e))
 greater_from Greater e = refl
 
-pub not_greater_from : (o : Ordering) → is_le o ≡ true → is_gt o ≡ false
-not_greater_from Less e = refl
-not_greater_from Equal e = refl
-not_greater_from Greater e = absurd (false≢true e)
-
-pub equal_from : (o : Ordering) → is_eq o ≡ true → o ≡ Equal
-equal_from Less e = absurd (false≢true e)
-equal_from Equal e = refl
-equal_from Greater e = absurd (false≢true e)
-
 then_less : (o p q : Ordering) → o ≡ Less → is_gt (ordering_then (ordering_then o p) q) ≡ false
 then_less o p q e = ap (λ r. is_gt (ordering_then (ordering_then r p) q)) e
 
@@ -61,10 +51,6 @@ module _ (county : County) where
   pub first_one : IsLeastOne county 1 0
   first_one = one_more records_total ones_at 0 0 (λ m below. absurd (omega (arith, below))) (one_itself 0)
 
-  -- the least so far stays if the next number has no lesser records
-  pub one_stays : (bound n : ℕ) → IsLeastOne county bound n → is_gt (ones_cmp county n bound) ≡ false → IsLeastOne county (bound + 1) n
-  one_stays = one_more records_total ones_at
-
   -- and is replaced if it has
   pub one_gives_way : (bound n : ℕ) → IsLeastOne county bound n → is_gt (ones_cmp county n bound) ≡ true → IsLeastOne county (bound + 1) bound
   one_gives_way bound n least e =
@@ -72,13 +58,6 @@ module _ (county : County) where
       not_greater (ones_cmp county n bound) (ones_cmp county bound n) (records_total.antisymm (ones_at n) (ones_at bound)) e in
       one_more records_total ones_at bound bound
       (λ m l. upto records_total (ones_at bound) (ones_at n) (ones_at m) turned (least m l)) (one_itself bound)
-
-  -- one more number whose text isn't before that of the number
-  pub from_more : (first bound n : ℕ) → IsLeastFrom county first bound n → IsNotAfter (choice_list county n) (choice_list county bound)
-      → IsLeastFrom county first (bound + 1) n
-  from_more first bound n among last m l k =
-      below_more (λ j. first ≤ j → IsNotAfter (choice_list county n) (choice_list county j)) bound (λ j below from. among j from below)
-      (λ from. last) m k l
 
   -- the lesser of two that tie
   pub lesser_tie : (n m : ℕ) (o : Ordering) → o ≡ choices_cmp county n m → ones_cmp county n m ≡ Equal

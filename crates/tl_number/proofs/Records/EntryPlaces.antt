@@ -59,15 +59,3 @@ pub polygon_group : (county : County) (place : ℕ) (entry : PolygonKey × Optio
 polygon_group county place entry e = group_of (λ (e : PolygonKey × Option BodyP). option_to_list (packed_p e)) (polygons_by_number county)
     place
     entry (sym e)
-
--- which has a record if the polygon has a content
-pub polygon_counted : (county : County) (place : ℕ) (entry : PolygonKey × Option BodyP) → Some entry ≡ slice_get (polygons_by_number county) place
-    → (body : Option BodyP) → entry.1 ≡ body
-    → length (option_to_list (packed_body entry.0 body)) ≡ length (group_at (type_p_by_number county) place)
-polygon_counted county place entry e body is = sym (ap length (polygon_group county place entry e)
-    ∙ ap (λ o. length (option_to_list (packed_body entry.0 o))) is)
-
--- a group that isn't empty belongs to a polygon with content
-pub body_there : (key : PolygonKey) (o : Option BodyP) (place : ℕ) → place < length (option_to_list (packed_body key o)) → IsSome o
-body_there key None place h = absurd (omega (arith, h))
-body_there key (Some body) place h = refl

@@ -9,27 +9,12 @@ use Rattle.tl_number.specs.CriticalPlaces.{met_after_both}
 use Rattle.tl_number.proofs.Numbering.FirstSeen.{all_after, seen_after}
 use Rattle.tl_number.proofs.Numbering.SeenLists.{seen_append}
 
--- the item at a place, and those behind it
-pub item_dropped : {X : Type 0} (xs : List X) (i : ℕ) (x : X) → i < length xs → x ≡ get_or xs i x → drop i xs ≡ x ∷ drop (i + 1) xs
-item_dropped xs i x there is = drop_more xs i x there ∙ ap (λ y. y ∷ drop (i + 1) xs) (sym is)
-
 pub item_there : {X : Type 0} (xs : List X) (i : ℕ) (x : X) → i < length xs → x ≡ get_or xs i x → slice_get xs i ≡ Some x
 item_there xs i x there is = slice_get-get_or xs i x there ∙ ap Some (sym is)
 
 -- seeing both nodes of a chain
 both_met : (seen : List ℕ) (ends : Option ℕ × Option ℕ) → first_seen_after nat_cmp seen (nodes_at ends) ≡ met_after_both seen ends
 both_met seen ends = seen_append nat_cmp seen (option_to_list ends.0) (option_to_list ends.1)
-
-pub still_seen : (seen : List ℕ) (ends : Option ℕ × Option ℕ) (node : ℕ) → IsTrue (stands_in nat_cmp node seen)
-    → IsTrue (stands_in nat_cmp node (met_after_both seen ends))
-still_seen seen ends node h = subst (λ l. IsTrue (stands_in nat_cmp node l)) (both_met seen ends)
-    (lt-ltb 0 (times nat_cmp node (first_seen_after nat_cmp seen (nodes_at ends)))
-    (seen_after nat_keys seen (nodes_at ends) node (ltb-true 0 (times nat_cmp node seen) h)))
-
-pub both_seen_now : (seen : List ℕ) (ends : Option ℕ × Option ℕ) → HasNodes (met_after_both seen ends) (nodes_at ends)
-both_seen_now seen ends = subst (λ l. HasNodes l (nodes_at ends)) (both_met seen ends)
-    (all_known nat_keys (λ node. IsTrue (stands_in nat_cmp node (first_seen_after nat_cmp seen (nodes_at ends)))) (nodes_at ends)
-    (λ node k. lt-ltb 0 (times nat_cmp node (first_seen_after nat_cmp seen (nodes_at ends))) (all_after nat_keys seen (nodes_at ends) node k)))
 
 pub has_still : (old new nodes : List ℕ) → ((node : ℕ) → IsTrue (stands_in nat_cmp node old) → IsTrue (stands_in nat_cmp node new))
     → HasNodes old nodes → HasNodes new nodes

@@ -56,11 +56,6 @@ module _ (county : County) (shapes : OrderOfShapes) (known : LeavesChoices count
   choice_of n = arrangement_of_number county is shapes.by_shape known.order.by_shape shapes.places (known.order.places known.few)
       (numbered_arrangement shapes n) n refl
 
-  -- it has chains of the county
-  pub there_numbered : (n : ℕ) (arrangement : List DirectedChain) → arrangement ≡ numbered_arrangement shapes n → HasChainsOf county arrangement
-  there_numbered n arrangement stated = arrangement_of_number_there county is shapes.by_shape known.order.by_shape shapes.places
-      (known.order.places known.few) arrangement n stated
-
   pub there_by_shape : HasChainsOf county shapes.by_shape
   there_by_shape = arrangement_there county shapes.by_shape known.order.by_shape shapes.by_shape refl
 

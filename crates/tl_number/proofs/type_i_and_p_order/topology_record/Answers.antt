@@ -1,8 +1,8 @@
 use Rattle.tl_number.proofs.Common.{◌<◌, ◌∙◌, ◌∷◌, [], length, option_map, slice_get, sym, ap, subst, arith, I, arranged_by, packed_i}
 use Rattle.tl_number.proofs.Lemmas.{group_of}
 use Rattle.tl_number.proofs.Records.ChainPlaces.{some_at}
-use Rattle.tl_number.proofs.Texts.LinkOrder.{link_there}
-use Rattle.tl_number.proofs.type_i_and_p_order.link_record.Goals as goal
+use Rattle.tl_number.proofs.Texts.TopologyRecords.{topology_record_there}
+use Rattle.tl_number.proofs.type_i_and_p_order.topology_record.Goals as goal
 
 pub record-requires-clause-place : goal.record-requires-clause-place
 record-requires-clause-place g c =
@@ -16,4 +16,4 @@ returns g c =
     let at = some_at county.chains c.args.place c.requires in
     ap (option_map I) (c.record.ensures
     ∙ ap (λ rs. slice_get rs 0) (group_of (λ entry. packed_i entry ∷ []) county.chains c.args.place at.0 at.1))
-    ∙ sym (link_there county c.args.place ∙ ap (option_map (λ entry. I (packed_i entry))) at.1)
+    ∙ sym (topology_record_there county c.args.place ∙ ap (option_map (λ entry. I (packed_i entry))) at.1)

@@ -2,7 +2,7 @@
 use Rattle.tl_number.proofs.Common.{◌≡◌, ◌≤◌, ◌+◌, ℕ, nat_lt, List, map, length, Bool, true, false, Option, Some, None, option_map}
 use Rattle.tl_number.proofs.Common.{slice_get, Equal, sym, refl, ap, ap₂, ◌∙◌, subst, arith, AreTiedAt, AreTiedBelow, AreWhole, Chain}
 use Rattle.tl_number.proofs.Common.{County, DirectedChain, I, IsCounty, arranged_by, arrangement_of, chain_at, directed_chain, ends_of}
-use Rattle.tl_number.proofs.Common.{links_of, ltb-false, ltb-true, option_cmp, packed_i, placed, records_cmp, renaming_of, renumbered}
+use Rattle.tl_number.proofs.Common.{topologies_of, ltb-false, ltb-true, option_cmp, packed_i, placed, records_cmp, renaming_of, renumbered}
 use Rattle.tl_number.proofs.Common.{sides_of, slice_get-map, slice_get_past, spelling_cmp}
 use Rattle.tl_number.proofs.Arrangements.Carrying.{chains_arranged}
 use Rattle.tl_number.proofs.Records.PackedGroups.{is}
@@ -13,9 +13,9 @@ use Rattle.tl_number.proofs.Views.ViewChains.{arranges, bodies_read, chains, cha
 use Rattle.tl_number.proofs.Polygons.PolygonNumbers.{numbered_at}
 
 -- the type I record of a chain
-pub link_there : (county : County) (place : ℕ) → slice_get (links_of county) place ≡ option_map (λ entry. I (packed_i entry))
+pub topology_record_there : (county : County) (place : ℕ) → slice_get (topologies_of county) place ≡ option_map (λ entry. I (packed_i entry))
     (slice_get county.chains place)
-link_there county place =
+topology_record_there county place =
     ap (λ rs. slice_get rs place) (is county)
     ∙ slice_get-map I (map packed_i county.chains) place
     ∙ ap (option_map I) (slice_get-map packed_i county.chains place)
@@ -25,8 +25,8 @@ link_there county place =
     twice None = refl
     twice (Some entry) = refl
 
-pub no_link : (county : County) (place : ℕ) → length county.chains ≤ place → slice_get (links_of county) place ≡ None
-no_link county place past = link_there county place ∙ ap (option_map (λ entry. I (packed_i entry))) (slice_get_past county.chains place past)
+pub no_topology : (county : County) (place : ℕ) → length county.chains ≤ place → slice_get (topologies_of county) place ≡ None
+no_topology county place past = topology_record_there county place ∙ ap (option_map (λ entry. I (packed_i entry))) (slice_get_past county.chains place past)
 
 module _ (county : County) (arrangement : List DirectedChain) (is_county : IsCounty county) (whole : AreWhole county arrangement) where
   -- the chain at a place is the directed chain there, under the new numbers
@@ -51,14 +51,14 @@ module _ (county : County) (arrangement : List DirectedChain) (is_county : IsCou
       (read_nowhere (directed_chain county) arrangement (chains county arrangement is_county whole) (bodies_read county arrangement is_county whole arrangement whole.there)
       place e))
 
-  pub record LinkThere (place : ℕ) (directed : DirectedChain) : Type 0 where
+  pub record EntryThere (place : ℕ) (directed : DirectedChain) : Type 0 where
     pub chain : Chain
     pub of_directed : directed_chain county directed ≡ Some chain
     pub entry : slice_get (arranged_by county arrangement).chains place
         ≡ Some (1 + place, renumbered (renaming_of county (arrangement_of county arrangement)) chain)
 
-  pub link_of_directed : (place : ℕ) (directed : DirectedChain) → slice_get arrangement place ≡ Some directed → LinkThere place directed
-  link_of_directed place directed e =
+  pub entry_of_directed : (place : ℕ) (directed : DirectedChain) → slice_get arrangement place ≡ Some directed → EntryThere place directed
+  entry_of_directed place directed e =
       let c = read_there (directed_chain county) arrangement (chains county arrangement is_county whole)
       (bodies_read county arrangement is_county whole arrangement whole.there) place directed e in
       record { chain = c.0; of_directed = c.2; entry = entry_there place c.0 c.1 }
@@ -66,22 +66,22 @@ module _ (county : County) (arrangement : List DirectedChain) (is_county : IsCou
 -- If two arrangements have the same directed chain at a place, with the same ends and sides, its type I records are the same.
 module _ (county : County) (is_county : IsCounty county) (one other : List DirectedChain) (whole : AreWhole county one)
     (other_whole : AreWhole county other) where
-  pub same_link : (place : ℕ) → slice_get one place ≡ slice_get other place
+  pub same_topology : (place : ℕ) → slice_get one place ≡ slice_get other place
       → option_map ends_of (chain_at (arranged_by county one) place) ≡ option_map ends_of (chain_at (arranged_by county other) place)
       → option_map sides_of (chain_at (arranged_by county one) place) ≡ option_map sides_of (chain_at (arranged_by county other) place)
-      → slice_get (links_of (arranged_by county one)) place ≡ slice_get (links_of (arranged_by county other)) place
-  same_link place same ends sides = go (slice_get one place) refl
+      → slice_get (topologies_of (arranged_by county one)) place ≡ slice_get (topologies_of (arranged_by county other)) place
+  same_topology place same ends sides = go (slice_get one place) refl
     where
       go : (o : Option DirectedChain) → slice_get one place ≡ o
-          → slice_get (links_of (arranged_by county one)) place ≡ slice_get (links_of (arranged_by county other)) place
+          → slice_get (topologies_of (arranged_by county one)) place ≡ slice_get (topologies_of (arranged_by county other)) place
       go None e =
-          link_there (arranged_by county one) place
+          topology_record_there (arranged_by county one) place
           ∙ ap (option_map (λ entry. I (packed_i entry))) (no_entry county one is_county whole place e
           ∙ sym (no_entry county other is_county other_whole place (sym same ∙ e)))
-          ∙ sym (link_there (arranged_by county other) place)
+          ∙ sym (topology_record_there (arranged_by county other) place)
       go (Some directed) e =
-          let a = link_of_directed county one is_county whole place directed e in
-          let b = link_of_directed county other is_county other_whole place directed (sym same ∙ e) in
+          let a = entry_of_directed county one is_county whole place directed e in
+          let b = entry_of_directed county other is_county other_whole place directed (sym same ∙ e) in
           let r = renaming_of county (arrangement_of county one) in
           let s = renaming_of county (arrangement_of county other) in
           let chain_a : chain_at (arranged_by county one) place ≡ Some (renumbered r a.chain) =
@@ -99,7 +99,7 @@ module _ (county : County) (is_county : IsCounty county) (one other : List Direc
           sym (ap (option_map sides_of) chain_a) ∙ sides ∙ ap (option_map sides_of) chain_b in
           let e1 : ends_of (renumbered r a.chain) ≡ ends_of (renumbered s b.chain) = cc in
           let e2 : sides_of (renumbered r a.chain) ≡ sides_of (renumbered s b.chain) = cc in
-          link_there (arranged_by county one) place
+          topology_record_there (arranged_by county one) place
           ∙ ap (option_map (λ entry. I (packed_i entry))) a.entry
           ∙ (λ i. Some (I (record {
             tlid = 1 + place;
@@ -109,18 +109,18 @@ module _ (county : County) (is_county : IsCounty county) (one other : List Direc
             left = (e2 i).0;
             right = (e2 i).1;
           })))
-          ∙ sym (link_there (arranged_by county other) place ∙ ap (option_map (λ entry. I (packed_i entry))) b.entry)
+          ∙ sym (topology_record_there (arranged_by county other) place ∙ ap (option_map (λ entry. I (packed_i entry))) b.entry)
 
 -- type I records that are tied up to the last chain of both counties
-pub all_links_tied : (a b : County) (end : ℕ) → length a.chains ≤ end → length b.chains ≤ end
-    → AreTiedBelow end (links_of a) (links_of b) → Equal ≡ records_cmp (links_of a) (links_of b)
-all_links_tied a b end a_end b_end below = all_tied (links_of a) (links_of b) (λ place. go place (nat_lt place end) refl)
+pub all_topologies_tied : (a b : County) (end : ℕ) → length a.chains ≤ end → length b.chains ≤ end
+    → AreTiedBelow end (topologies_of a) (topologies_of b) → Equal ≡ records_cmp (topologies_of a) (topologies_of b)
+all_topologies_tied a b end a_end b_end below = all_tied (topologies_of a) (topologies_of b) (λ place. go place (nat_lt place end) refl)
   where
-    go : (place : ℕ) (answer : Bool) → nat_lt place end ≡ answer → AreTiedAt (links_of a) (links_of b) place
+    go : (place : ℕ) (answer : Bool) → nat_lt place end ≡ answer → AreTiedAt (topologies_of a) (topologies_of b) place
     go place true e = below place (ltb-true place end e)
     go place false e =
         let past : end ≤ place = ltb-false place end e in
-        ap₂ (option_cmp spelling_cmp) (no_link a place (omega (arith, past, a_end))) (no_link b place (omega (arith, past, b_end)))
+        ap₂ (option_cmp spelling_cmp) (no_topology a place (omega (arith, past, a_end))) (no_topology b place (omega (arith, past, b_end)))
 
 -- all arrangements of a county have equally many chains
 pub as_many_chains : (county : County) → IsCounty county → (one other : List DirectedChain) → AreWhole county one → AreWhole county other
@@ -135,14 +135,14 @@ as_many_through a b same is_county one other whole = subst (λ c. AreWhole c oth
     ≡ length (arranged_by c other).chains) same (as_many_chains a is_county one other whole)
 
 -- the same if two names denote the county
-pub same_link_through : (a b : County) → a ≡ b → IsCounty a → (one other : List DirectedChain) → AreWhole a one → AreWhole b other → (place : ℕ)
+pub same_topology_through : (a b : County) → a ≡ b → IsCounty a → (one other : List DirectedChain) → AreWhole a one → AreWhole b other → (place : ℕ)
     → slice_get one place ≡ slice_get other place
     → option_map ends_of (chain_at (arranged_by a one) place) ≡ option_map ends_of (chain_at (arranged_by b other) place)
     → option_map sides_of (chain_at (arranged_by a one) place) ≡ option_map sides_of (chain_at (arranged_by b other) place)
-    → slice_get (links_of (arranged_by a one)) place ≡ slice_get (links_of (arranged_by b other)) place
-same_link_through a b same is_county one other whole other_whole place directed =
+    → slice_get (topologies_of (arranged_by a one)) place ≡ slice_get (topologies_of (arranged_by b other)) place
+same_topology_through a b same is_county one other whole other_whole place directed =
     subst (λ c. AreWhole c other
     → option_map ends_of (chain_at (arranged_by a one) place) ≡ option_map ends_of (chain_at (arranged_by c other) place)
     → option_map sides_of (chain_at (arranged_by a one) place) ≡ option_map sides_of (chain_at (arranged_by c other) place)
-    → slice_get (links_of (arranged_by a one)) place ≡ slice_get (links_of (arranged_by c other)) place) same
-    (λ w. same_link a is_county one other whole w place directed) other_whole
+    → slice_get (topologies_of (arranged_by a one)) place ≡ slice_get (topologies_of (arranged_by c other)) place) same
+    (λ w. same_topology a is_county one other whole w place directed) other_whole
