@@ -6,27 +6,32 @@ mod comparing;
 mod counties;
 mod devices;
 mod fields;
-mod hoard;
 mod lanes;
 mod loading;
-mod long;
-mod made;
-mod many;
 mod masked;
 mod masks;
-mod refusals;
 mod renamings;
 mod running;
-mod sets;
 mod sinks;
 mod texts;
-mod twin_sets;
 mod whole_calls;
-mod worked_sets;
 
 use std::process::Abort;
+use test_support::sets::{self, records_of};
+use tl_county::{County, link};
 
 /// What tests need of the runtime: to end the process, to take memory and to print.
 trait Host: Abort + AllocGlobal + Print {}
 
 impl<R: Abort + AllocGlobal + Print> Host for R {}
+
+/// The lines of the patterns, each terminated by LF.
+fn lines_of(rt: &impl Host, patterns: &[&str]) -> Vec<u8> {
+    sets::lines_of(rt.alloc(), patterns).expect(rt, "there is memory")
+}
+
+/// The county of this set.
+fn county_of(rt: &impl Host, row: &str, set: &[u8]) -> County {
+    let records = records_of(rt.alloc(), set).expect(rt, row);
+    link(rt.alloc(), records).expect(rt, row)
+}

@@ -1,8 +1,8 @@
 //! The three callers of `uses`, on lines of a county.
 
-use super::Host;
 use super::comparing::{same, same_items};
-use super::sets::{lines_of, spelled};
+use super::{Host, lines_of};
+use test_support::sets::spelled;
 use tl_load::LoadFault;
 use uses::{cited_tlid, load_pieces, spell_alike};
 
@@ -15,7 +15,7 @@ const LINK_BY_ANOTHER_HAND: &[u8] = b"803060100100001000000001230\r\n";
 fn a_file_may_come_in_any_pieces(rt: HostRuntime) {
     let (front, back) = LINK.split_at(9);
     let records = load_pieces(rt.alloc(), &[front, b"", back]).expect(&rt, "three pieces");
-    let text = spelled(&rt, &records);
+    let text = spelled(rt.alloc(), &records).expect(&rt, "there is memory");
     let wanted = b"820060100100001        12        30 \n";
     same_items(&rt, "three pieces", &text, wanted);
     let refused = load_pieces(rt.alloc(), &[b"A", b"\n"]).err();

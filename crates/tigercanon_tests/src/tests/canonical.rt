@@ -1,11 +1,10 @@
 //! The canonical texts of sets and the renamings onto them.
 
-use super::Host;
 use super::comparing::{same, same_items};
-use super::counties::county_of;
 use super::renamings::{carries, has_lists, onto_the_text};
-use super::sets::{Set, lines_of};
-use super::worked_sets::{street_turned, two_chains, worked};
+use super::{Host, county_of, lines_of};
+use test_support::sets::Set;
+use test_support::worked_sets::{street_turned, two_chains, worked};
 use tigercanon::{check, normalise, normalise_with_renaming};
 use tl_county::Chart;
 use tl_number::ascending_arrangement;
@@ -46,7 +45,8 @@ fn an_admitted_county_has_its_chains(rt: HostRuntime) {
 
 #[test]
 fn sets_become_their_texts(rt: HostRuntime) {
-    for lines in &worked(&rt) {
+    let sets = worked(rt.alloc()).expect(&rt, "there is memory");
+    for lines in &sets {
         becomes(&rt, &lines.set());
     }
 }

@@ -1,27 +1,10 @@
-//! Counties in memory of their own and in an arena, and the results of their getters.
+//! The results of the getters of a county, and sets of polygons.
 
-use super::Host;
 use super::comparing::{same, same_items};
-use super::sets::{lines_of, records_of};
-use super::worked_sets::record_of_each_type;
-use bumpalo::Bump;
-use tl_county::{County, CountyIn, KeySet, PolygonKey, link, link_in};
+use super::{Host, county_of, lines_of};
+use test_support::worked_sets::record_of_each_type;
+use tl_county::{County, KeySet, PolygonKey};
 use tl_layout::Point;
-
-/// The county of this set.
-pub(super) fn county_of(rt: &impl Host, row: &str, set: &[u8]) -> County {
-    link(rt.alloc(), records_of(rt, row, set)).expect(rt, row)
-}
-
-/// The same in an arena.
-pub(super) fn county_in_of<'a>(
-    rt: &impl Host,
-    arena: &'a Bump,
-    row: &str,
-    set: &[u8],
-) -> CountyIn<'a> {
-    link_in(rt.alloc(), arena, records_of(rt, row, set)).expect(rt, row)
-}
 
 /// The county has the numbers of its lines.
 fn has_the_numbers(rt: &impl Host, county: &County) {

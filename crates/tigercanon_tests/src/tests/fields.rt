@@ -1,8 +1,8 @@
 //! The fields of a loaded record, each by its name.
 
-use super::Host;
 use super::comparing::{same, same_items};
-use super::sets::{lines_of, records_of};
+use super::{Host, lines_of};
+use test_support::sets::records_of;
 use tl_layout::{
     Body1, Body5, Body7, Point, Ranges, Rec1, Rec2, Rec4, Rec6, Rec8, RecI, RecP, Record,
 };
@@ -197,7 +197,7 @@ fn lines() -> &'static [&'static str] {
 #[test]
 fn fields_are_reported_by_their_names(rt: HostRuntime) {
     let set = lines_of(&rt, lines());
-    let records = records_of(&rt, "a record of each type", &set);
+    let records = records_of(rt.alloc(), &set).expect(&rt, "a record of each type");
     same(&rt, "records", &records.len(), &9);
     for record in &records {
         reports_record(&rt, record);

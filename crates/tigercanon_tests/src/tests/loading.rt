@@ -2,13 +2,13 @@
 
 ghost use Rattle.std.specs.Prelude.{◌<◌};
 
-use super::Host;
 use super::comparing::{same, same_items};
 use super::devices::{kinds, reader};
-use super::sets::{lines_of, spelled};
-use super::worked_sets::{street, street_respelt};
+use super::{Host, lines_of};
 use std::cell::Cell;
 use std::io::ErrorKind;
+use test_support::sets::spelled;
+use test_support::worked_sets::{street, street_respelt};
 use tl_load::{Counted, LoadFault, Loader, SlowSource, Source};
 
 /// The source has Main St.
@@ -18,7 +18,7 @@ fn gives_the_street<S: Source>(rt: &impl Host, row: &str, source: &mut S) {
     let answer = loader.read_part(source);
     same(rt, row, &(answer, loader.parts()), &(Ok(()), 1));
     let records = loader.finish().expect(rt, row);
-    let text = spelled(rt, &records);
+    let text = spelled(rt.alloc(), &records).expect(rt, row);
     same_items(rt, row, &text, &lines_of(rt, street_respelt()));
 }
 
@@ -45,7 +45,7 @@ fn is_fed_in_pieces(rt: &impl Host, set: &[u8], size: usize) {
     let mut loader = Loader::new(rt.alloc());
     feed_pieces(rt, &mut loader, set, size);
     let records = loader.finish().expect(rt, "the street");
-    let text = spelled(rt, &records);
+    let text = spelled(rt.alloc(), &records).expect(rt, "the street");
     same_items(rt, "the street", &text, set);
 }
 

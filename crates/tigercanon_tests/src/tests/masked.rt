@@ -2,24 +2,27 @@
 
 ghost use Rattle.std.specs.Prelude.{◌<◌};
 
-use super::Host;
 use super::comparing::{same, same_items};
-use super::counties::county_of;
-use super::masks::{BOTH, RESERVED, SOURCES};
-use super::refusals::{answer_alike, canonise_in_masked, canonise_masked};
 use super::renamings::{has_lists, turn_of_the_street};
-use super::sets::{Set, SetLines, lines_of};
 use super::sinks::took_all;
-use super::twin_sets::{OF_NO_SOURCES_TEXT, OF_TWO_SOURCES, OF_TWO_SOURCES_TEXT};
-use super::worked_sets::{CHAIN, CHAIN_1, LINK, LINK_1, MAIN_TEXT, street, street_turned};
-use std::alloc::Global;
+use super::{Host, county_of, lines_of};
+use bumpalo::Bump;
+use std::alloc::{AllocError, Global};
+use test_support::masks::{ANNEX_AND_BARN, BARN_FIRST, BOTH, RESERVED, SOURCES};
+use test_support::sets::{Set, SetLines, records_of};
+use test_support::twin_sets::{OF_TWO_SOURCES, OF_TWO_SOURCES_TEXT};
+use test_support::worked_sets::{CHAIN_1, LINK, LINK_1, MAIN_TEXT, street, street_turned};
+use test_support::writing::are_written;
 use tigercanon::{
     Fault, Verdict, are_one_map_masked, compare_masked, fingerprint_masked, normalise_masked,
     normalise_to_masked, normalise_with_renaming_masked,
 };
 use tl_cert::{Renaming, check_masked};
+use tl_county::{Chart, link_in};
 use tl_layout::Mask;
 use tl_load::SlowSource;
+use tl_number::{CanonCounty, canonise_in_masked, canonise_masked};
+use tl_profile::{admit, admit_in};
 use tl_write::SlowSink;
 
 const NONE: Mask = Mask::NONE;
@@ -29,26 +32,11 @@ const CHAIN_OF_B: &str =
     "1{11}500{1}B{2}Main{26}St{4}A41{8}101{8}199{8}100{8}19801{2}3600336006{14}0101001001{30}02020002030010012002{1}-86468669+32424914{1}-86468545+32424948";
 
 /// The canonical chain of Main St without SOURCE.
-pub(super) const CHAIN_1_OF_NONE: &str =
+const CHAIN_1_OF_NONE: &str =
     "12006{9}1{4}Main{26}St{4}A41{8}101{8}199{8}100{8}19801{2}3600336006{14}0101001001{30}02020002030010012002-086468669+32424914-086468545+32424948";
 
 /// The text of Main St without SOURCE.
 const TEXT_OF_NONE: &[&str] = &[CHAIN_1_OF_NONE, LINK_1];
-
-/// Two contents of one landmark, which change places if their SOURCE is left out.
-pub(super) const ANNEX_AND_BARN: &[&str] = &[
-    CHAIN,
-    LINK,
-    "7200601001{8}40BD43Annex{45}",
-    "7200601001{8}40AD43Barn{46}",
-];
-
-pub(super) const BARN_FIRST: &[&str] = &[
-    CHAIN_1,
-    "7200601001{9}1AD43Barn{46}",
-    "7200601001{9}1BD43Annex{45}",
-    LINK_1,
-];
 
 const ANNEX_FIRST: &[&str] = &[
     CHAIN_1_OF_NONE,
@@ -57,11 +45,50 @@ const ANNEX_FIRST: &[&str] = &[
     LINK_1,
 ];
 
+/// The text of `OF_TWO_SOURCES` if the sources are left out: the nodes decide.
+const OF_NO_SOURCES_TEXT: &[&str] = &[
+    CHAIN_1_OF_NONE,
+    "12006{9}2{4}Main{26}St{4}A41{8}101{8}199{8}100{8}19801{2}3600336006{14}0101001001{30}02020002030010012002-086468669+32424914-086468545+32424948",
+    LINK_1,
+    "I200601001{9}2{9}2{9}300001{82}",
+];
+
+/// The call returns a canonical county with the set's text. Returns the renaming onto it, as `Debug` prints it.
+fn canonised<C: Chart + Drop>(
+    rt: &impl Host,
+    set: &Set<'_>,
+    outcome: Result<(CanonCounty<C>, Renaming), AllocError>,
+) -> String {
+    let (county, renaming) = outcome.expect(rt, set.row);
+    let mut buffer = vec![in rt.alloc(); 0u8; set.text.len()].expect(rt, set.row);
+    let found = are_written(&county, set.text, &mut buffer);
+    drop(county);
+    same(rt, set.row, &found, &[true; 2]);
+    format!(in rt.alloc(); "{renaming:?}").expect(rt, set.row)
+}
+
+/// The renaming of the set's county onto its canonical county under the set's mask.
+fn renaming_of(rt: &impl Host, set: &Set<'_>) -> String {
+    let county = county_of(rt, set.row, set.bytes);
+    let admitted = admit(rt.alloc(), county).expect(rt, set.row);
+    canonised(rt, set, canonise_masked(rt.alloc(), admitted, set.mask))
+}
+
+/// The same for the county in an arena.
+fn renaming_in_of(rt: &impl Host, set: &Set<'_>) -> String {
+    let arena = Bump::new(rt.alloc());
+    let records = records_of(rt.alloc(), set.bytes).expect(rt, set.row);
+    let county = link_in(rt.alloc(), &arena, records).expect(rt, set.row);
+    let admitted = admit_in(rt.alloc(), county).expect(rt, set.row);
+    canonised(rt, set, canonise_in_masked(rt.alloc(), admitted, set.mask))
+}
+
 /// The set becomes its text under its mask, by a whole call and as a county, which may be in an arena.
 fn becomes(rt: &impl Host, set: &Set<'_>) {
     let found = normalise_masked(rt.alloc(), &[set.bytes], set.mask).expect(rt, set.row);
     same_items(rt, set.row, &found, set.text);
-    answer_alike(rt, set, canonise_masked, canonise_in_masked);
+    let (renaming, other) = (renaming_of(rt, set), renaming_in_of(rt, set));
+    same(rt, set.row, &other.as_str(), &renaming.as_str());
 }
 
 /// The purpose of a row, a set, a mask, and the lines of the set's text under it.
@@ -86,7 +113,7 @@ fn in_order() -> [MaskedRow; 4] {
 #[test]
 fn sets_become_their_canonical_counties_under_masks(rt: HostRuntime) {
     for (row, lines, mask, text) in in_order() {
-        let set = SetLines::of(&rt, &(row, lines, text));
+        let set = SetLines::of(rt.alloc(), &(row, lines, text)).expect(&rt, row);
         becomes(&rt, &set.under(mask));
     }
 }
@@ -150,7 +177,7 @@ fn has_text_under(rt: &impl Host, set: &Set<'_>, print: [u8; 32]) {
 /// Main St from either end has the row's text under its mask. So does the text itself, which is its own text under no mask too.
 fn street_has_text(rt: &impl Host, (row, mask, _, text, print): StreetRow) {
     for lines in [street(), street_turned(), text] {
-        let set = SetLines::of(rt, &(row, lines, text));
+        let set = SetLines::of(rt.alloc(), &(row, lines, text)).expect(rt, row);
         has_text_under(rt, &set.under(mask), print);
     }
     let text = lines_of(rt, text);

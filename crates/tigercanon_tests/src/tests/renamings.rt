@@ -1,10 +1,8 @@
 //! Renamings as values: inverses, compositions, and whether one carries a county onto another.
 
-use super::Host;
 use super::comparing::{same, same_items};
-use super::counties::county_of;
-use super::sets::lines_of;
-use super::worked_sets::{MAIN, MAIN_TURNED, NAMED, NAMED_BACKWARDS, SIDED};
+use super::{Host, county_of, lines_of};
+use test_support::worked_sets::{MAIN, MAIN_TURNED, NAMED, NAMED_BACKWARDS, SIDED};
 use tl_cert::{PolygonKey, Renaming, check};
 
 /// The lists of a renaming.

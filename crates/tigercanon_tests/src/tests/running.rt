@@ -4,10 +4,9 @@
 mod messages;
 mod rows;
 
-use super::Host;
 use super::comparing::{same, same_items};
 use super::devices::{SlowReader, failing_writer, kinds, reader};
-use super::sets::lines_of;
+use super::{Host, lines_of};
 use std::cell::Cell;
 use std::io::{ErrorKind, Read};
 use tigercanon::{Job, Opened, run};

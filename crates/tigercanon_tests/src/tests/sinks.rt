@@ -1,12 +1,11 @@
 //! A text to sinks that take a few bytes at a time, and fail.
 
-use super::Host;
 use super::comparing::{same, same_items};
 use super::devices::{failing_writer, kinds, writer};
-use super::sets::lines_of;
-use super::worked_sets::street_text;
+use super::{Host, lines_of};
 use std::fmt::Debug;
 use std::io::ErrorKind;
+use test_support::worked_sets::street_text;
 use tl_write::{CountedOut, Sink, SlowSink, WriteFault, write_bytes};
 
 /// The sink took the whole text.

@@ -1,11 +1,11 @@
 //! The library's whole calls on sets in memory, and over sources and sinks that transfer few bytes and fail.
 
-use super::Host;
 use super::comparing::{same, same_items};
 use super::masked::PRINT;
 use super::renamings::{carries, has_lists, turn_of_the_street};
-use super::sets::{Set, lines_of};
-use super::worked_sets::{street, street_respelt, street_text, street_turned, worked};
+use super::{Host, lines_of};
+use test_support::sets::Set;
+use test_support::worked_sets::{street, street_respelt, street_text, street_turned, worked};
 use tigercanon::{Fault, Verdict, are_one_map, compare, fingerprint, normalise_to, respell};
 use tl_load::{LoadFault, SlowSource, Source};
 use tl_write::{SlowSink, WriteFault};
@@ -37,7 +37,7 @@ fn are_compared(rt: &impl Host, set: &Set<'_>, other: &Set<'_>) {
 
 #[test]
 fn sets_are_one_map_exactly_if_they_have_one_text(rt: HostRuntime) {
-    let sets = worked(&rt);
+    let sets = worked(rt.alloc()).expect(&rt, "there is memory");
     for lines in &sets {
         for others in &sets {
             are_compared(&rt, &lines.set(), &others.set());

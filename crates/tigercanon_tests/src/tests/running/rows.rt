@@ -1,10 +1,10 @@
 //! Jobs over the files of sets, and their outcomes.
 
-use super::super::worked_sets::{
-    CHAIN, LINK, MAIN, MAIN_TEXT, MAIN_TURNED, OTHER_ADDRESSES, RESPELT,
-};
 use super::File::{Absent, Failed, Failing, Whole};
 use super::{File, Row, ends};
+use test_support::worked_sets::{
+    CHAIN, LINK, MAIN, MAIN_TEXT, MAIN_TURNED, OTHER_ADDRESSES, RESPELT,
+};
 use tigercanon::Job::{self, Check, Compare, Fingerprint, Normalise, Respell};
 
 /// A completed job that prints nothing.

@@ -1,0 +1,80 @@
+//! What comes behind admission within whole calls, with growths refused as is asked for.
+
+ghost use Rattle.std.specs.Prelude.{◌≡◌};
+ghost use Rattle.tl_number.specs.Arrangement.{ascending};
+ghost use Rattle.tl_number.specs.DirectedChains.{HasChainsOf, arrangement_of};
+ghost use Rattle.tl_profile.specs.Profile.{IsInProfile};
+
+use super::super::Host;
+use super::super::comparing::same;
+use super::linking::{admitted_of, carries_onto};
+use super::{Run, answered, ended, has_refused, refuse};
+use std::alloc::{AllocError, Global};
+use test_support::sets::Set;
+use tigercanon::Fault;
+use tl_cert::Renaming;
+use tl_county::{Chart, DirectedChain};
+use tl_number::{Arranged, arrange, ascending_arrangement, canonise_alone};
+use tl_profile::Admitted;
+use tl_write::{CountedOut, write_to};
+
+/// The text of an admitted county, in memory.
+fn text_of_admitted<C: Chart + Drop>(
+    alloc: Global,
+    admitted: Admitted<C>,
+) -> Result<Vec<u8>, Fault> {
+    let county = canonise_alone(alloc, admitted)?;
+    let mut sink = CountedOut::new(Vec::new(alloc));
+    let written = write_to(&county, &mut sink);
+    drop(county);
+    match written {
+        Ok(_) => Ok(sink.into_inner()),
+        // A vector fails only where it can't grow.
+        Err(_) => Err(Fault::Memory),
+    }
+}
+
+/// The canonical county, and its text in memory.
+pub(super) fn write_admitted(rt: &impl Host, set: &Set<'_>, asked: usize) -> Run {
+    let admitted = admitted_of(rt, set);
+    refuse(rt, asked);
+    ended(rt, text_of_admitted(rt.alloc(), admitted))
+}
+
+/// A county in the profile, in its ascending arrangement.
+fn arrange_ascending<C: Chart + Drop>(
+    alloc: Global,
+    chart: C,
+    arrangement: Vec<DirectedChain>,
+) -> Result<Arranged<C>, AllocError>
+    requires profile { IsInProfile (C.county chart) }
+    requires there { HasChainsOf (C.county chart) arrangement.items }
+    requires ascending { arrangement_of (C.county chart) arrangement.items ≡ ascending (C.county chart) }
+{
+    arrange(alloc, chart, arrangement)
+}
+
+/// The renaming of the set's county onto an arranged one. It carries the one onto the other.
+fn renaming_onto<C: Chart>(rt: &impl Host, set: &Set<'_>, view: &Arranged<C>) -> Renaming {
+    let renaming = view.renaming(rt.alloc()).expect(rt, set.row);
+    let carried = carries_onto(rt, set, view, &renaming);
+    same(rt, set.row, &carried, &Ok(true));
+    renaming
+}
+
+/// The arranged county. The answer is the renaming onto it.
+pub(super) fn arrange_chains(rt: &impl Host, set: &Set<'_>, asked: usize) -> Run {
+    let chart = admitted_of(rt, set).into_chart();
+    let arrangement = ascending_arrangement(rt.alloc(), &chart).expect(rt, set.row);
+    refuse(rt, asked);
+    let outcome = arrange_ascending(rt.alloc(), chart, arrangement);
+    let refused = has_refused(rt);
+    match outcome {
+        Ok(view) => {
+            let renaming = renaming_onto(rt, set, &view);
+            drop(view);
+            answered(rt, refused, Ok(renaming))
+        }
+        Err(_) => answered::<()>(rt, refused, Err(Fault::Memory)),
+    }
+}
