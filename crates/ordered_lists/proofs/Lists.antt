@@ -10,4 +10,6 @@ pub mod Counted
 pub mod Permutations
 pub mod FreePlaces
 pub mod Groups
+pub mod Ranges
+pub mod AtPlaces
 pub mod ByPlace

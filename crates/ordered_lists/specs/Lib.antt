@@ -1,6 +1,7 @@
 pub mod Orders
 pub mod Keyed
 pub mod PutInOrder
+pub mod Places
 pub mod Entries
 pub mod Pairs
 pub mod Marks

@@ -2,7 +2,7 @@
 //!
 //! `Key` is a key that orders items exactly: keys that compare as equal are the same key. `sort_keys` and `sort_distinct` put keys in
 //! order, and `place_of` finds one. A `NumberSet` collects numbers, each once; `marks_of` makes a table of marks in which `is_marked`
-//! looks a number up by one read. `bring_close` moves items close to the order of their numbers. The definitions are in
+//! looks a number up by one read. `bring_close` moves items close to the order of their numbers, and `near_places` says where they are. The definitions are in
 //! `specs`, and the lemmas about lists in order, which the crates above cite, in `proofs`.
 #![tactic(auto)]
 
@@ -13,5 +13,5 @@ mod number_set;
 
 pub use keys::{Key, place_of, sort_distinct, sort_keys};
 pub use marks::{is_marked, marks_of};
-pub use near_order::bring_close;
+pub use near_order::{all_places, bring_close, near_places};
 pub use number_set::NumberSet;

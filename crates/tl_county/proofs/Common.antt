@@ -49,7 +49,7 @@ pub use Rattle.tl_county.specs.Limits.{ContentsFit, FitsChain, FitsLandmark, Fit
 pub use Rattle.tl_county.specs.Limits.{most_records}
 pub use Rattle.tl_county.specs.LinkRules.{IsFirstBrokenRule, IsLinked, chain_tlids, is_rule_broken, linked_tlids, named_feats, rtsqs}
 pub use Rattle.tl_county.specs.MaskedCounty.{masked, masked_bodies}
-pub use Rattle.tl_county.specs.OrderedTables.{AreInOrder, typed_of}
+pub use Rattle.tl_county.specs.OrderedTables.{AreInOrder, ordered_of, typed_of}
 pub use Rattle.tl_county.specs.Packing.{Typed, by_type, in_pieces, inner_points, numbered_from, p_polyid, packed, packed_body}
 pub use Rattle.tl_county.specs.Packing.{packed_by_type, packed_five, packed_fours, packed_i, packed_one, packed_p, packed_sevens}
 pub use Rattle.tl_county.specs.Packing.{packed_sixes, packed_twos, pieces, type_after_type, without_last}

@@ -3,10 +3,12 @@ use Rattle.std.specs.Prelude.{IsPermutation}
 use Rattle.std.specs.declared.cmp.Ordering.{Ordering}
 use Rattle.std.specs.Ordering.{nat_cmp, on, ordering_then}
 use Rattle.tl_layout.specs.declared.tables.Tables.{Tables}
+use Rattle.tl_county.specs.declared.linking.table_order.OrderedTables.{OrderedTables}
 use Rattle.tl_layout.specs.Fields.{Fields7}
 use Rattle.tl_county.specs.BodyOrder.{landmark_body_cmp, link_cmp}
 use Rattle.tl_county.specs.County.{one_tlid, five_feat, i_tlid, p_key}
 use Rattle.ordered_lists.specs.Orders.{IsInOrder}
+use Rattle.ordered_lists.specs.Places.{at_places}
 use Rattle.tl_county.specs.Packing.{Typed}
 use Rattle.tl_county.specs.PolygonKeys.{key_cmp}
 use Rattle.tl_county.specs.SequenceKeys.{sequence_cmp, two_sequence, four_sequence, six_sequence}
@@ -23,6 +25,20 @@ typed_of tables = record {
   of_type_8 = tables.type_8.items;
   of_type_i = tables.type_i.items;
   of_type_p = tables.type_p.items;
+}
+
+-- the records of ordered tables, type by type: those of types 1 and I at their places, and the others as they lie
+abbrev pub ordered_of : OrderedTables → Typed
+ordered_of tables = record {
+  of_type_1 = at_places tables.records.type_1.items tables.heads.items;
+  of_type_2 = tables.records.type_2.items;
+  of_type_4 = tables.records.type_4.items;
+  of_type_5 = tables.records.type_5.items;
+  of_type_6 = tables.records.type_6.items;
+  of_type_7 = tables.records.type_7.items;
+  of_type_8 = tables.records.type_8.items;
+  of_type_i = at_places tables.records.type_i.items tables.links.items;
+  of_type_p = tables.records.type_p.items;
 }
 
 -- LAND, then the content

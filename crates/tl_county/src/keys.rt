@@ -2,5 +2,6 @@
 
 pub(crate) mod key_set;
 pub(crate) mod keyed;
+pub(crate) mod number_order;
 pub(crate) mod polygon_set;
 pub(crate) mod record_keys;

@@ -13,7 +13,7 @@ ghost use Rattle.ordered_lists.specs.Entries.{map_values};
 ghost use Rattle.ordered_lists.specs.Keyed.{IsLeastPassing, is_unknown};
 ghost use Rattle.tl_county.specs.Limits.{HoldsWithinLimits, IsWithinLimits, most_records};
 ghost use Rattle.tl_county.specs.LinkRules.{IsFirstBrokenRule, IsLinked};
-ghost use Rattle.tl_county.specs.OrderedTables.{typed_of, AreInOrder, ArePermuted};
+ghost use Rattle.tl_county.specs.OrderedTables.{ordered_of, typed_of, AreInOrder, ArePermuted};
 ghost use Rattle.ordered_lists.specs.Orders.{IsInOrder, distinct};
 ghost use Rattle.tl_county.specs.Packing.{by_type, type_after_type};
 ghost use Rattle.tl_county.specs.PolygonKeys.{key_cmp};
@@ -27,6 +27,7 @@ ghost use Rattle.tl_layout.specs.Tables.{HoldsByType};
 mod arena;
 mod building;
 mod gathering;
+mod chain_heads;
 pub(crate) mod linked_records;
 pub(crate) mod near_order;
 mod owned;
@@ -41,12 +42,13 @@ use crate::linking::building::{
     ChainBuilder, LandmarkBuilder, chains_of_records, landmarks_of, lands_of, nodes_of,
     polygon_bodies,
 };
+use crate::linking::chain_heads::{heads_at, links_at};
 use crate::linking::gathering::{Polygons, gather_polygons, linked_polygons};
 use crate::linking::linked_records::link_in_order;
 use crate::linking::rules::{
     check_chains, check_landmarks, check_links, check_names, check_sequences, unnamed_use,
 };
-use crate::linking::table_order::{Ordered, order_tables};
+use crate::linking::table_order::{Ordered, OrderedTables, order_tables};
 use crate::stored::storage::{StoredChain, StoredLandmark, StoredName};
 use crate::stored::table::Table;
 use crate::stored::{County, CountyIn, StoredCounty};
@@ -65,38 +67,50 @@ struct References {
 /// What the records of tables in order refer to. `feats` are the FEATs of the tables' names.
 fn gather_references(
     alloc: Global,
-    tables: &Tables,
+    tables: &OrderedTables,
     feats: &[u32],
 ) -> Result<References, AllocError>
-    requires tables { AreInOrder (typed_of tables.now) }
-    requires feats { feats.now ≡ map five_feat tables.now.type_5.items }
+    requires tables { AreInOrder (ordered_of tables.now) }
+    requires feats { feats.now ≡ map five_feat tables.now.records.type_5.items }
     ensures unnamed { IfOk result (λ references. IsLeastPassing sequence_cmp
-        (is_unnamed (flat_map uses_of tables.now.type_4.items) (map five_feat tables.now.type_5.items)) references.unnamed) }
+        (is_unnamed (flat_map uses_of tables.now.records.type_4.items) (map five_feat tables.now.records.type_5.items)) references.unnamed) }
     ensures in_order { IfOk result (λ references. IsInOrder key_cmp references.polygons.items) }
-    ensures polygons { IfOk result (λ references. IsPermutation (map link_key tables.now.type_8.items) references.polygons.items) }
+    ensures polygons { IfOk result (λ references. IsPermutation (map link_key tables.now.records.type_8.items) references.polygons.items) }
 {
-    let unnamed = unnamed_use(alloc, &tables.type_4, feats)?;
-    let polygons = linked_polygons(alloc, &tables.type_8)?;
+    let unnamed = unnamed_use(alloc, &tables.records.type_4, feats)?;
+    let polygons = linked_polygons(alloc, &tables.records.type_8)?;
     Ok(References { unnamed, polygons })
+}
+
+/// The polygons of tables in order.
+fn polygons_of(alloc: Global, tables: &OrderedTables) -> Result<Polygons, AllocError>
+    requires tables { AreInOrder (ordered_of tables.now) }
+    requires links { IsPermutation tables.now.records.type_i.items (ordered_of tables.now).of_type_i }
+    ensures keys { IfOk result (λ polygons. polygons.keys.items ≡
+        distinct key_cmp (flat_map side_keys (ordered_of tables.now).of_type_i ++ map p_key tables.now.records.type_p.items)) }
+    ensures without_side { IfOk result (λ polygons. IsLeastPassing key_cmp (is_unknown key_cmp
+        (map p_key tables.now.records.type_p.items) (flat_map side_keys (ordered_of tables.now).of_type_i)) polygons.without_side) }
+{
+    gather_polygons(alloc, &tables.records.type_i, &tables.records.type_p)
 }
 
 /// Checks the ten rules over tables in order, given what the sorting found, what the records refer to, and the polygons in order.
 fn check_rules(
-    tables: &Tables,
+    tables: &OrderedTables,
     ordered: &Ordered,
     references: &References,
     polygons: &[PolygonKey],
 ) -> Result<(), LinkFault>
-    requires tables { AreInOrder (typed_of tables.now) }
-    requires chains { ordered.now.tlids.chains.items ≡ map one_tlid tables.now.type_1.items }
-    requires links { ordered.now.tlids.links.items ≡ map i_tlid tables.now.type_i.items }
-    requires repeated { AreLeastRepeated ordered.now.repeated (typed_of tables.now) }
+    requires tables { AreInOrder (ordered_of tables.now) }
+    requires chains { ordered.now.tlids.chains.items ≡ map one_tlid (ordered_of tables.now).of_type_1 }
+    requires links { ordered.now.tlids.links.items ≡ map i_tlid (ordered_of tables.now).of_type_i }
+    requires repeated { AreLeastRepeated ordered.now.repeated (ordered_of tables.now) }
     requires unnamed { IsLeastPassing sequence_cmp
-        (is_unnamed (flat_map uses_of tables.now.type_4.items) (map five_feat tables.now.type_5.items)) references.now.unnamed }
-    requires linked { IsInOrder key_cmp references.now.polygons.items × IsPermutation (map link_key tables.now.type_8.items) references.now.polygons.items }
-    requires polygons { polygons.now ≡ distinct key_cmp (flat_map side_keys tables.now.type_i.items ++ map p_key tables.now.type_p.items) }
-    ensures linked { OnOk result ((records : List Record) → by_type records ≡ typed_of tables.now → IsLinked records) }
-    ensures broken { IfErr result (λ fault. (records : List Record) → by_type records ≡ typed_of tables.now → IsFirstBrokenRule records fault) }
+        (is_unnamed (flat_map uses_of tables.now.records.type_4.items) (map five_feat tables.now.records.type_5.items)) references.now.unnamed }
+    requires linked { IsInOrder key_cmp references.now.polygons.items × IsPermutation (map link_key tables.now.records.type_8.items) references.now.polygons.items }
+    requires polygons { polygons.now ≡ distinct key_cmp (flat_map side_keys (ordered_of tables.now).of_type_i ++ map p_key tables.now.records.type_p.items) }
+    ensures linked { OnOk result ((records : List Record) → by_type records ≡ ordered_of tables.now → IsLinked records) }
+    ensures broken { IfErr result (λ fault. (records : List Record) → by_type records ≡ ordered_of tables.now → IsFirstBrokenRule records fault) }
 {
     let tlids = &ordered.tlids;
     check_chains(tables, &tlids.chains, &tlids.links)?;
@@ -115,22 +129,24 @@ fn check_rules(
 fn build_chains<'t, C: StoredChain, B: ChainBuilder<'t, C>>(
     alloc: Global,
     builder: &mut B,
-    tables: &'t Tables,
+    tables: &'t OrderedTables,
     tlids: Vec<u64>,
 ) -> Result<Table<u64, C>, AllocError>
-    requires tables { AreInOrder (typed_of tables.now) }
-    requires linked { IsLinked (type_after_type (typed_of tables.now)) }
-    requires tlids { tlids.items ≡ map one_tlid tables.now.type_1.items }
-    ensures { IfOk result (λ chains. map_values C.chain chains ≡ (county_along (typed_of tables.now)).chains) }
+    requires tables { AreInOrder (ordered_of tables.now) }
+    requires linked { IsLinked (type_after_type (ordered_of tables.now)) }
+    requires tlids { tlids.items ≡ map one_tlid (ordered_of tables.now).of_type_1 }
+    ensures { IfOk result (λ chains. map_values C.chain chains ≡ (county_along (ordered_of tables.now)).chains) }
 {
+    let heads = heads_at(alloc, &tables.records.type_1, &tables.heads)?;
+    let links = links_at(alloc, &tables.records.type_i, &tables.links)?;
     let chains = chains_of_records::<C, B>(
         alloc,
         builder,
-        &tables.type_1,
-        &tables.type_i,
-        &tables.type_2,
-        &tables.type_4,
-        &tables.type_6,
+        &heads,
+        &links,
+        &tables.records.type_2,
+        &tables.records.type_4,
+        &tables.records.type_6,
     )?;
     Ok(Table::new(tlids, chains))
 }
@@ -138,14 +154,14 @@ fn build_chains<'t, C: StoredChain, B: ChainBuilder<'t, C>>(
 /// The polygons of tables in order, under their keys.
 fn build_polygons(
     alloc: Global,
-    tables: &Tables,
+    tables: &OrderedTables,
     keys: Vec<PolygonKey>,
 ) -> Result<Table<PolygonKey, Option<BodyP>>, AllocError>
-    requires tables { AreInOrder (typed_of tables.now) }
-    requires keys { keys.items ≡ distinct key_cmp (flat_map side_keys tables.now.type_i.items ++ map p_key tables.now.type_p.items) }
-    ensures { IfOk result (λ polygons. polygons ≡ (county_along (typed_of tables.now)).polygons) }
+    requires tables { AreInOrder (ordered_of tables.now) }
+    requires keys { keys.items ≡ distinct key_cmp (flat_map side_keys (ordered_of tables.now).of_type_i ++ map p_key tables.now.records.type_p.items) }
+    ensures { IfOk result (λ polygons. polygons ≡ (county_along (ordered_of tables.now)).polygons) }
 {
-    let bodies = polygon_bodies(alloc, &keys, &tables.type_p)?;
+    let bodies = polygon_bodies(alloc, &keys, &tables.records.type_p)?;
     Ok(Table::new(keys, bodies))
 }
 
@@ -153,28 +169,29 @@ fn build_polygons(
 fn build_landmarks<L: StoredLandmark, B: LandmarkBuilder<L>>(
     alloc: Global,
     builder: &mut B,
-    tables: &Tables,
+    tables: &OrderedTables,
 ) -> Result<Table<u64, L>, AllocError>
-    requires tables { AreInOrder (typed_of tables.now) }
-    ensures { IfOk result (λ landmarks. map_values L.landmark landmarks ≡ landmarks_along (typed_of tables.now)) }
+    requires tables { AreInOrder (ordered_of tables.now) }
+    ensures { IfOk result (λ landmarks. map_values L.landmark landmarks ≡ landmarks_along (ordered_of tables.now)) }
 {
-    let lands = lands_of(alloc, &tables.type_7)?;
-    let landmarks = landmarks_of::<L, B>(alloc, builder, &lands, &tables.type_7, &tables.type_8)?;
+    let lands = lands_of(alloc, &tables.records.type_7)?;
+    let landmarks = landmarks_of::<L, B>(alloc, builder, &lands, &tables.records.type_7, &tables.records.type_8)?;
     Ok(Table::new(lands, landmarks))
 }
 
 /// The nodes and the polygons of tables in order.
 fn build_nodes_and_polygons(
     alloc: Global,
-    tables: &Tables,
+    tables: &OrderedTables,
     keys: Vec<PolygonKey>,
 ) -> Result<(Vec<u64>, Table<PolygonKey, Option<BodyP>>), AllocError>
-    requires tables { AreInOrder (typed_of tables.now) }
-    requires keys { keys.items ≡ distinct key_cmp (flat_map side_keys tables.now.type_i.items ++ map p_key tables.now.type_p.items) }
-    ensures nodes { IfOk result (λ built. built.0.items ≡ distinct nat_cmp (flat_map link_nodes tables.now.type_i.items)) }
-    ensures polygons { IfOk result (λ built. built.1 ≡ (county_along (typed_of tables.now)).polygons) }
+    requires tables { AreInOrder (ordered_of tables.now) }
+    requires links { IsPermutation tables.now.records.type_i.items (ordered_of tables.now).of_type_i }
+    requires keys { keys.items ≡ distinct key_cmp (flat_map side_keys (ordered_of tables.now).of_type_i ++ map p_key tables.now.records.type_p.items) }
+    ensures nodes { IfOk result (λ built. built.0.items ≡ distinct nat_cmp (flat_map link_nodes (ordered_of tables.now).of_type_i)) }
+    ensures polygons { IfOk result (λ built. built.1 ≡ (county_along (ordered_of tables.now)).polygons) }
 {
-    let nodes = nodes_of(alloc, &tables.type_i)?;
+    let nodes = nodes_of(alloc, &tables.records.type_i)?;
     let polygons = build_polygons(alloc, tables, keys)?;
     Ok((nodes, polygons))
 }
@@ -192,18 +209,19 @@ struct CountyParts<C: Drop, L: Drop> {
 fn build_parts<'t, C: StoredChain, L: StoredLandmark, B: ChainBuilder<'t, C> + LandmarkBuilder<L>>(
     alloc: Global,
     builder: &mut B,
-    tables: &'t Tables,
+    tables: &'t OrderedTables,
     tlids: Vec<u64>,
     polygons: Vec<PolygonKey>,
 ) -> Result<CountyParts<C, L>, AllocError>
-    requires tables { AreInOrder (typed_of tables.now) }
-    requires linked { IsLinked (type_after_type (typed_of tables.now)) }
-    requires tlids { tlids.items ≡ map one_tlid tables.now.type_1.items }
-    requires polygons { polygons.items ≡ distinct key_cmp (flat_map side_keys tables.now.type_i.items ++ map p_key tables.now.type_p.items) }
-    ensures chains { IfOk result (λ parts. map_values C.chain parts.chains ≡ (county_along (typed_of tables.now)).chains) }
-    ensures nodes { IfOk result (λ parts. parts.nodes.items ≡ distinct nat_cmp (flat_map link_nodes tables.now.type_i.items)) }
-    ensures polygons { IfOk result (λ parts. parts.polygons ≡ (county_along (typed_of tables.now)).polygons) }
-    ensures landmarks { IfOk result (λ parts. map_values L.landmark parts.landmarks ≡ landmarks_along (typed_of tables.now)) }
+    requires tables { AreInOrder (ordered_of tables.now) }
+    requires links { IsPermutation tables.now.records.type_i.items (ordered_of tables.now).of_type_i }
+    requires linked { IsLinked (type_after_type (ordered_of tables.now)) }
+    requires tlids { tlids.items ≡ map one_tlid (ordered_of tables.now).of_type_1 }
+    requires polygons { polygons.items ≡ distinct key_cmp (flat_map side_keys (ordered_of tables.now).of_type_i ++ map p_key tables.now.records.type_p.items) }
+    ensures chains { IfOk result (λ parts. map_values C.chain parts.chains ≡ (county_along (ordered_of tables.now)).chains) }
+    ensures nodes { IfOk result (λ parts. parts.nodes.items ≡ distinct nat_cmp (flat_map link_nodes (ordered_of tables.now).of_type_i)) }
+    ensures polygons { IfOk result (λ parts. parts.polygons ≡ (county_along (ordered_of tables.now)).polygons) }
+    ensures landmarks { IfOk result (λ parts. map_values L.landmark parts.landmarks ≡ landmarks_along (ordered_of tables.now)) }
 {
     let chains = build_chains::<C, B>(alloc, builder, tables, tlids)?;
     let (nodes, polygons) = build_nodes_and_polygons(alloc, tables, polygons)?;
@@ -226,20 +244,21 @@ pub(crate) fn build_county<
 >(
     alloc: Global,
     builder: &mut B,
-    tables: &'t Tables,
+    tables: &'t OrderedTables,
     tlids: Vec<u64>,
     feats: Vec<u32>,
     names: Vec<N>,
     polygons: Vec<PolygonKey>,
 ) -> Result<StoredCounty<C, N, L>, AllocError>
-    requires tables { AreInOrder (typed_of tables.now) }
-    requires linked { IsLinked (type_after_type (typed_of tables.now)) }
-    requires tlids { tlids.items ≡ map one_tlid tables.now.type_1.items }
-    requires feats { feats.items ≡ map five_feat tables.now.type_5.items }
-    requires names { map N.name names.items ≡ map (λ (r : Fields5). r.body) tables.now.type_5.items }
-    requires polygons { polygons.items ≡ distinct key_cmp (flat_map side_keys tables.now.type_i.items ++ map p_key tables.now.type_p.items) }
-    requires limits { IsWithinLimits most_records (county_of (type_after_type (typed_of tables.now))) }
-    ensures { IfOk result (λ county. ⟦<StoredCounty<C, N, L> as Chart>⟧.county county ≡ county_of (type_after_type (typed_of tables.now))) }
+    requires tables { AreInOrder (ordered_of tables.now) }
+    requires links { IsPermutation tables.now.records.type_i.items (ordered_of tables.now).of_type_i }
+    requires linked { IsLinked (type_after_type (ordered_of tables.now)) }
+    requires tlids { tlids.items ≡ map one_tlid (ordered_of tables.now).of_type_1 }
+    requires feats { feats.items ≡ map five_feat tables.now.records.type_5.items }
+    requires names { map N.name names.items ≡ map (λ (r : Fields5). r.body) tables.now.records.type_5.items }
+    requires polygons { polygons.items ≡ distinct key_cmp (flat_map side_keys (ordered_of tables.now).of_type_i ++ map p_key tables.now.records.type_p.items) }
+    requires limits { IsWithinLimits most_records (county_of (type_after_type (ordered_of tables.now))) }
+    ensures { IfOk result (λ county. ⟦<StoredCounty<C, N, L> as Chart>⟧.county county ≡ county_of (type_after_type (ordered_of tables.now))) }
 {
     let parts = build_parts::<C, L, B>(alloc, builder, tables, tlids, polygons)?;
     Ok(StoredCounty {
@@ -260,22 +279,23 @@ pub(crate) struct Gathered {
 }
 
 /// Puts the tables in order and checks the ten rules. Returns the first rule that the records break, if any.
-pub(crate) fn sort_and_check(alloc: Global, tables: &mut Tables) -> Result<Gathered, LinkFault>
-    ensures in_order { OnOk result (AreInOrder (typed_of tables.new)) }
-    ensures same { OnOk result (ArePermuted (typed_of tables.old) (typed_of tables.new)) }
-    ensures linked { OnOk result (IsLinked (type_after_type (typed_of tables.new))) }
-    ensures tlids { IfOk result (λ gathered. gathered.tlids.items ≡ map one_tlid tables.new.type_1.items) }
-    ensures feats { IfOk result (λ gathered. gathered.feats.items ≡ map five_feat tables.new.type_5.items) }
+pub(crate) fn sort_and_check(alloc: Global, tables: &mut OrderedTables) -> Result<Gathered, LinkFault>
+    ensures in_order { OnOk result (AreInOrder (ordered_of tables.new)) }
+    ensures same { OnOk result (ArePermuted (typed_of tables.old.records) (ordered_of tables.new)) }
+    ensures links_there { OnOk result (IsPermutation tables.new.records.type_i.items (ordered_of tables.new).of_type_i) }
+    ensures linked { OnOk result (IsLinked (type_after_type (ordered_of tables.new))) }
+    ensures tlids { IfOk result (λ gathered. gathered.tlids.items ≡ map one_tlid (ordered_of tables.new).of_type_1) }
+    ensures feats { IfOk result (λ gathered. gathered.feats.items ≡ map five_feat tables.new.records.type_5.items) }
     ensures polygons { IfOk result (λ gathered. gathered.polygons.keys.items ≡
-        distinct key_cmp (flat_map side_keys tables.new.type_i.items ++ map p_key tables.new.type_p.items)) }
+        distinct key_cmp (flat_map side_keys (ordered_of tables.new).of_type_i ++ map p_key tables.new.records.type_p.items)) }
     ensures without_side { IfOk result (λ gathered. IsLeastPassing key_cmp
-        (is_unknown key_cmp (map p_key tables.new.type_p.items) (flat_map side_keys tables.new.type_i.items)) gathered.polygons.without_side) }
+        (is_unknown key_cmp (map p_key tables.new.records.type_p.items) (flat_map side_keys (ordered_of tables.new).of_type_i)) gathered.polygons.without_side) }
     ensures broken { IfErr result (λ fault. fault ≢ Memory → (records : List Record) →
-        HoldsByType tables.old records → IsFirstBrokenRule records fault) }
+        HoldsByType tables.old.records records → IsFirstBrokenRule records fault) }
 {
     let ordered = order_tables(alloc, tables)?;
-    let feats = keys_of::<u32, Rec5>(alloc, &tables.type_5)?;
-    let polygons = gather_polygons(alloc, &tables.type_i, &tables.type_p)?;
+    let feats = keys_of::<u32, Rec5>(alloc, &tables.records.type_5)?;
+    let polygons = polygons_of(alloc, tables)?;
     let references = gather_references(alloc, tables, &feats)?;
     check_rules(tables, &ordered, &references, &polygons.keys)?;
     Ok(Gathered {

@@ -201,12 +201,11 @@ links-at landmarks strict under place = go (slice_get (entry_keys landmarks) pla
     go None e = ap (λ (v : Option LandmarkParts). (unwrap_or v (record { bodies = []; links = [] })).links) (no_value landmarks place e)
 
 -- if tables are within their limits, the tables put in order have a county within its limits
-pub within_limits-moved : (before after : Tables) → HoldsWithinLimits before → ArePermuted (typed_of before) (typed_of after)
-    → IsLinked (type_after_type (typed_of after)) → IsWithinLimits most_records (county_of (type_after_type (typed_of after)))
-within_limits-moved before after within permuted linked =
+pub within_limits-moved : (before : Tables) (u : Typed) → HoldsWithinLimits before → ArePermuted (typed_of before) u
+    → IsLinked (type_after_type u) → IsWithinLimits most_records (county_of (type_after_type u))
+within_limits-moved before u within permuted linked =
     let holds = held before within.records within.holds in
     let t = typed_of before in
-    let u = typed_of after in
     subst (IsWithinLimits most_records) (sym (same_county within.records t u holds permuted linked))
     (county-within_limits within.records (also_linked within.records t u holds permuted linked)
     (all_places FitsRecord within.records within.fits) most_records within.few)

@@ -1,7 +1,8 @@
 -- The numbers of a carried chain are the images of its numbers.
 use Rattle.std.proofs.Common.{rules, ◌≡◌, ◌⊎◌, ℕ, List, [], ◌∷◌, ◌++◌, map, flat_map, Bool, true, false, Option, Some, None, option_map}
-use Rattle.std.proofs.Common.{option_to_list, refl, inl, inr, nat_cmp}
-use Rattle.tl_county.proofs.Common.{Among, Chain, PolygonKey, Renumbering, chain_nodes, chain_polygons, image, key_cmp, key_on, key_under}
+use Rattle.std.proofs.Common.{Ordering, option_to_list, refl, inl, inr, nat_cmp}
+use Rattle.tl_county.proofs.Common.{Among, Chain, IsKeyOrder, Known, PolygonKey, Renumbering, SameElements, among-pieces, among_known}
+use Rattle.tl_county.proofs.Common.{chain_nodes, chain_polygons, image, key_cmp, key_on, key_under, known_is_among, stands_alike, stands_in}
 use Rattle.tl_county.proofs.Common.{map-append, renumbered, renumbered_polygon, turned_if}
 use Rattle.ordered_lists.proofs.Lists.Among.{among_left, among_right}
 
@@ -47,3 +48,15 @@ among-swapped x xs ys h = go (among-unappend x xs ys h)
 pub among-turned : (k : PolygonKey) (b : Bool) (c : Chain) → Among k (chain_polygons c) → Among k (chain_polygons (turned_if b c))
 among-turned k false c h = h
 among-turned k true c h = among-swapped k (key_on c.left) (key_on c.right) h
+
+-- lists with the same elements have the same keys in their pieces
+module _ {K : Type 0} {cmp : K → K → Ordering} (o : IsKeyOrder cmp) {X : Type 0} (f : X → List K) where
+  piece_there : (xs ys : List X) → ((x : X) → Among x xs → Among x ys) → (k : K) → Known cmp (flat_map f xs) k → Known cmp (flat_map f ys) k
+  piece_there xs ys there k known =
+      let r = among-unpieces f k xs (known_is_among o k (flat_map f xs) known) in
+      among_known o k (flat_map f ys) (among-pieces f r.0 k ys (there r.0 r.1) r.2)
+
+  pub pieces_alike : (xs ys : List X) → SameElements xs ys → (k : K)
+      → stands_in cmp k (flat_map f xs) ≡ stands_in cmp k (flat_map f ys)
+  pieces_alike xs ys s k =
+      stands_alike o (flat_map f xs) (flat_map f ys) k (piece_there xs ys s.there k) (piece_there ys xs s.back k)

@@ -11,7 +11,7 @@ use Rattle.tl_county.proofs.Common.{known-right, known_is_among, link_key, linke
 use Rattle.tl_county.proofs.Common.{of_type_2, of_type_4, of_type_5, of_type_6, of_type_7, of_type_8, of_type_i, of_type_p, one_tlid, p_key}
 use Rattle.tl_county.proofs.Common.{rtsqs, seven_land, side_keys, six_rtsq, six_tlid, stands_alike, stands_in, two_rtsq, two_tlid}
 use Rattle.tl_layout.specs.RecordTypes.{FieldsOf}
-use Rattle.tl_county.proofs.Sameness.Carried.{among-unpieces}
+use Rattle.tl_county.proofs.Sameness.Carried.{among-unpieces, pieces_alike}
 use Rattle.ordered_lists.proofs.Lists.Reordered.{same-filter_map, same-filter, same-map, times-same, apart-same}
 use Rattle.tl_county.specs.declared.fault.SequencedType.TheVariants as sequenced
 
@@ -54,15 +54,8 @@ module _ (xs ys : List Record) (s : SameElements xs ys) where
 
   -- the FEATs that a chain names
   named_alike : (n y : ℕ) → stands_in nat_cmp y (named_feats n xs) ≡ stands_in nat_cmp y (named_feats n ys)
-  named_alike n y = stands_alike nat_keys (named_feats n xs) (named_feats n ys) y
-      (λ k. let r = among-unpieces (λ (q : Fields4). q.feats) y (of_number four_tlid n (of_type_4 xs))
-      (known_is_among nat_keys y (named_feats n xs) k) in
-      among_known nat_keys y (named_feats n ys)
-      (among-pieces (λ (q : Fields4). q.feats) r.0 y (of_number four_tlid n (of_type_4 ys)) ((s_fours_of n).there r.0 r.1) r.2))
-      (λ k. let r = among-unpieces (λ (q : Fields4). q.feats) y (of_number four_tlid n (of_type_4 ys))
-      (known_is_among nat_keys y (named_feats n ys) k) in
-      among_known nat_keys y (named_feats n xs)
-      (among-pieces (λ (q : Fields4). q.feats) r.0 y (of_number four_tlid n (of_type_4 xs)) ((s_fours_of n).back r.0 r.1) r.2))
+  named_alike n y = pieces_alike nat_keys (λ (q : Fields4). q.feats) (of_number four_tlid n (of_type_4 xs))
+      (of_number four_tlid n (of_type_4 ys)) (s_fours_of n) y
 
   -- the polygons on sides and of type P
   one_way : (zs ws : List Record) → ((l : FieldsI) → Among l (of_type_i zs) → Among l (of_type_i ws))

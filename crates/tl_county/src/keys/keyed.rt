@@ -7,7 +7,7 @@ ghost use Rattle.std.specs.Prelude.{◌≡◌, ◌≤◌, length, map, filter, t
 ghost use Rattle.ordered_lists.specs.Keyed.{IsLeastPassing, is_repeated, is_unknown};
 ghost use Rattle.ordered_lists.specs.Orders.{IsInOrder};
 
-use ordered_lists::{Key, bring_close};
+use ordered_lists::Key;
 use std::alloc::{AllocError, Global};
 use std::cmp::Ordering;
 
@@ -22,7 +22,7 @@ pub trait Keyed<K: Ord + Copy> {
 }
 
 /// Whether the items are in the order of their keys.
-fn are_in_order<K: Ord + Copy, T: Keyed<K>>(items: &[T]) -> bool
+pub(crate) fn are_in_order<K: Ord + Copy, T: Keyed<K>>(items: &[T]) -> bool
     ensures in_order { result ≡ true → IsInOrder (on T.key_of K.cmp) items.now }
     ensures stated { IsInOrder (on T.key_of K.cmp) items.now → result ≡ true }
 {
@@ -43,52 +43,6 @@ pub fn put_in_order<K: Ord + Copy, T: Keyed<K>>(items: &mut Vec<T>) -> Result<()
         return Ok(());
     }
     items.sort_by_cached_key(|item| item.key())
-}
-
-/// The keys of the items, if the items are in the order of their keys.
-fn keys_in_order<K: Key, T: Keyed<K>>(
-    alloc: Global,
-    items: &[T],
-) -> Result<Option<Vec<K>>, AllocError>
-    ensures in_order { IfOk result (λ found. IfSome found (λ keys. IsInOrder (on T.key_of K.cmp) items.now)) }
-    ensures keys { IfOk result (λ found. IfSome found (λ keys. keys.items ≡ map T.key_of items.now)) }
-{
-    let mut keys = Vec::with_capacity(alloc, items.len())?;
-    let Some(first) = items.first() else {
-        return Ok(Some(keys));
-    };
-    let mut last = first.key();
-    for item in items {
-        let key = item.key();
-        if last.cmp(&key).is_gt() {
-            return Ok(None);
-        }
-        keys.push(key)?;
-        last = key;
-    }
-    Ok(Some(keys))
-}
-
-/// Puts the items in the order of their numbers, and returns the numbers in that order. If the items are in order already, each is
-/// read once. Otherwise they are brought close to their order; only if they still aren't in order, `put_in_order` sorts them.
-pub(crate) fn put_in_order_with_numbers<T: Keyed<u64> + Copy>(
-    alloc: Global,
-    items: &mut Vec<T>,
-) -> Result<Vec<u64>, AllocError>
-    ensures permutation { IsPermutation items.old.items items.new.items }
-    ensures in_order { OnOk result (IsInOrder (on T.key_of nat_cmp) items.new.items) }
-    ensures numbers { IfOk result (λ numbers. numbers.items ≡ map T.key_of items.new.items) }
-{
-    if let Some(numbers) = keys_in_order::<u64, T>(alloc, items)? {
-        return Ok(numbers);
-    }
-    let numbers = keys_of::<u64, T>(alloc, items)?;
-    bring_close(items, numbers)?;
-    if let Some(numbers) = keys_in_order::<u64, T>(alloc, items)? {
-        return Ok(numbers);
-    }
-    put_in_order::<u64, T>(items)?;
-    keys_of::<u64, T>(alloc, items)
 }
 
 /// The least key that occurs twice among the items, or none. The items must be in order.

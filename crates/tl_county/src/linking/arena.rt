@@ -10,11 +10,12 @@ use crate::linking::building::{
     ChainBuilder, LandmarkBuilder, OneChain, join_bodies, join_feats, join_points, join_ranges,
     name_bodies, surroundings_of,
 };
+use crate::linking::chain_heads::ChainHead;
 use crate::stored::chain_over::ChainOver;
 use crate::stored::lent::{LandmarkIn, NameIn};
 use bumpalo::Bump;
 use std::alloc::{AllocError, Global};
-use tl_layout::{Body5, Body7, Point, Ranges, Rec1, Rec2, Rec4, Rec5, Rec6, Rec7, Rec8};
+use tl_layout::{Body5, Body7, Point, Ranges, Rec2, Rec4, Rec5, Rec6, Rec7, Rec8};
 use tl_shape::ChainIn;
 
 /// Copies a list into the arena. An empty list takes no space there.
@@ -60,7 +61,7 @@ impl<'a> InArena<'a> {
     }
 
     /// The points of a chain, from its records of types 1 and 2.
-    fn keep_points(&mut self, head: &Rec1, shape: &[Rec2]) -> Result<&'a [Point], AllocError>
+    fn keep_points(&mut self, head: &ChainHead<'_>, shape: &[Rec2]) -> Result<&'a [Point], AllocError>
         ensures { IfOk result (λ points. points.now ≡ head.now.start ∷ (flat_map (λ (r : Fields2). r.points) shape.now ++ (head.now.end ∷ []))) }
     {
         if shape.is_empty() {
@@ -93,9 +94,9 @@ impl<'a> InArena<'a> {
     }
 
     /// The lists of a chain, from its records of types 1, 2, 4 and 6.
-    fn join_lists<'t, 'r>(
+    fn join_lists<'t, 'h, 'r>(
         &mut self,
-        records: &OneChain<'t, 'r>,
+        records: &OneChain<'t, 'h, 'r>,
     ) -> Result<ChainLists<'a>, AllocError>
         ensures points { IfOk result (λ lists. lists.points.now ≡ records.now.head.now.start ∷
             (flat_map (λ (r : Fields2). r.points) records.now.shape.now ++ (records.now.head.now.end ∷ []))) }
@@ -115,11 +116,11 @@ impl<'a> InArena<'a> {
 }
 
 impl<'t, 'a> ChainBuilder<'t, ChainIn<'a>> for InArena<'a> {
-    fn build_chain<'r>(&mut self, records: &OneChain<'t, 'r>) -> Result<ChainIn<'a>, AllocError> {
+    fn build_chain<'h, 'r>(&mut self, records: &OneChain<'t, 'h, 'r>) -> Result<ChainIn<'a>, AllocError> {
         let lists = self.join_lists(records)?;
         let around = surroundings_of(records.link);
         Ok(ChainIn::new(
-            *records.head.body(),
+            *records.head.record().body(),
             lists.points,
             lists.feats,
             lists.ranges,
@@ -130,10 +131,10 @@ impl<'t, 'a> ChainBuilder<'t, ChainIn<'a>> for InArena<'a> {
 }
 
 impl<'a> ChainBuilder<'a, ChainOver<'a>> for InArena<'a> {
-    fn build_chain<'r>(&mut self, records: &OneChain<'a, 'r>) -> Result<ChainOver<'a>, AllocError> {
+    fn build_chain<'h, 'r>(&mut self, records: &OneChain<'a, 'h, 'r>) -> Result<ChainOver<'a>, AllocError> {
         let lists = self.join_lists(records)?;
         Ok(ChainOver::new(
-            records.head,
+            records.head.record(),
             records.link,
             lists.points,
             lists.feats,

@@ -14,11 +14,12 @@ ghost use Rattle.tl_layout.specs.Numbers.{IsNumber, IsNumberOrNone};
 
 use crate::keys::keyed::{keys_of, split_group};
 use crate::keys::record_keys::PolygonKey;
+use crate::linking::chain_heads::{ChainHead, ChainLink};
 use crate::stored::storage::{StoredChain, StoredLandmark};
 use ordered_lists::NumberSet;
 use std::alloc::{AllocError, Global};
 use tl_layout::{
-    Body5, Body7, BodyP, Point, Ranges, Rec1, Rec2, Rec4, Rec5, Rec6, Rec7, Rec8, RecI, RecP,
+    Body5, Body7, BodyP, Point, Ranges, Rec2, Rec4, Rec5, Rec6, Rec7, Rec8, RecI, RecP,
 };
 use tl_shape::Surroundings;
 
@@ -115,8 +116,8 @@ pub(crate) fn surroundings_of(link: &RecI) -> Surroundings
 
 /// The records of a chain: those of types 1 and I, which live for `'t`, and those of types 2, 4 and 6 in the order of their RTSQs.
 #[derive(Drop)]
-pub(crate) struct OneChain<'t, 'r> {
-    pub(crate) head: &'t Rec1,
+pub(crate) struct OneChain<'t, 'h, 'r> {
+    pub(crate) head: &'h ChainHead<'t>,
     pub(crate) shape: &'r [Rec2],
     pub(crate) names: &'r [Rec4],
     pub(crate) ranges: &'r [Rec6],
@@ -127,7 +128,7 @@ pub(crate) struct OneChain<'t, 'r> {
 /// `'t`.
 pub(crate) trait ChainBuilder<'t, C: StoredChain> {
     /// The chain made from its records.
-    fn build_chain<'r>(&mut self, records: &OneChain<'t, 'r>) -> Result<C, AllocError>
+    fn build_chain<'h, 'r>(&mut self, records: &OneChain<'t, 'h, 'r>) -> Result<C, AllocError>
         ensures { IfOk result (λ built. C.chain built ≡ chain_with records.now.head.now records.now.link.now records.now.shape.now
             records.now.names.now records.now.ranges.now) };
 }
@@ -142,10 +143,10 @@ struct Details<'r> {
 
 /// Appends one chain, made from its records of types 1 and I and from the details with its TLID. `details` keeps the records of
 /// greater TLIDs.
-fn push_chain<'t, 'r, C: StoredChain, B: ChainBuilder<'t, C>>(
+fn push_chain<'t, 'h, 'r, C: StoredChain, B: ChainBuilder<'t, C>>(
     chains: &mut Vec<C>,
     builder: &mut B,
-    head: &'t Rec1,
+    head: &'h ChainHead<'t>,
     link: &'t RecI,
     details: &mut Details<'r>,
 ) -> Result<(), AllocError>
@@ -179,14 +180,14 @@ fn push_chain<'t, 'r, C: StoredChain, B: ChainBuilder<'t, C>>(
 }
 
 /// The chains of type 1 and type I records, paired by place, each with its records of types 2, 4 and 6.
-pub(crate) fn chains_of_records<'t, C: StoredChain, B: ChainBuilder<'t, C>>(
+pub(crate) fn chains_of_records<'t, 'r, C: StoredChain, B: ChainBuilder<'t, C>>(
     alloc: Global,
     builder: &mut B,
-    heads: &'t [Rec1],
-    links: &'t [RecI],
-    shapes: &[Rec2],
-    names: &[Rec4],
-    ranges: &[Rec6],
+    heads: &[ChainHead<'t>],
+    links: &[ChainLink<'t>],
+    shapes: &'r [Rec2],
+    names: &'r [Rec4],
+    ranges: &'r [Rec6],
 ) -> Result<Vec<C>, AllocError>
     requires heads { IsStrictlySortedBy nat_cmp (map one_tlid heads.now) }
     requires shapes { IsInOrder (on two_tlid nat_cmp) shapes.now }
@@ -200,15 +201,9 @@ pub(crate) fn chains_of_records<'t, C: StoredChain, B: ChainBuilder<'t, C>>(
         names,
         ranges,
     };
-    let mut links = links;
-    let mut heads = heads;
-    while let Some((head, later)) = heads.split_first() {
-        let Some((link, others)) = links.split_first() else {
-            break;
-        };
-        push_chain::<C, B>(&mut chains, builder, head, link, &mut details)?;
-        links = others;
-        heads = later;
+    for place in 0..heads.len().min(links.len()) {
+        let link = links[place].record();
+        push_chain::<C, B>(&mut chains, builder, &heads[place], link, &mut details)?;
     }
     Ok(chains)
 }

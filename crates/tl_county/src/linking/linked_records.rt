@@ -19,6 +19,7 @@ use crate::linking::arena::{InArena, names_in, names_over};
 use crate::linking::building::name_bodies;
 use crate::linking::gathering::Polygons;
 use crate::linking::owned::Owned;
+use crate::linking::table_order::OrderedTables;
 use crate::linking::{build_county, sort_and_check};
 use crate::stored::{County, CountyIn, CountyOver};
 use bumpalo::Bump;
@@ -29,35 +30,36 @@ use tl_layout::Tables;
 /// Records that fit together, in tables by type, each in the order of its records' numbers.
 #[derive(Drop)]
 pub struct LinkedRecords {
-    tables: Tables,
+    tables: OrderedTables,
     tlids: Vec<u64>,
     feats: Vec<u32>,
     polygons: Polygons,
 }
 
 impl Model for LinkedRecords {
-    ghost use Rattle.std.specs.Prelude.{◌≡◌, ◌++◌, map, flat_map};
+    ghost use Rattle.std.specs.Prelude.{◌≡◌, ◌++◌, map, flat_map, IsPermutation};
     ghost use Rattle.tl_county.specs.County.{county_of, five_feat, one_tlid, p_key, side_keys};
     ghost use Rattle.ordered_lists.specs.Keyed.{IsLeastPassing, is_unknown};
     ghost use Rattle.tl_county.specs.Limits.{IsWithinLimits, most_records};
     ghost use Rattle.tl_county.specs.LinkRules.{IsLinked};
-    ghost use Rattle.tl_county.specs.OrderedTables.{typed_of, AreInOrder};
+    ghost use Rattle.tl_county.specs.OrderedTables.{ordered_of, AreInOrder};
     ghost use Rattle.ordered_lists.specs.Orders.{distinct};
     ghost use Rattle.tl_county.specs.Packing.{Typed, type_after_type};
     ghost use Rattle.tl_county.specs.PolygonKeys.{key_cmp};
 
     ghost Value = { Typed };
 
-    ghost view = { λ l. typed_of l.tables };
+    ghost view = { λ l. ordered_of l.tables };
 
-    ghost invariant = { λ l. AreInOrder (typed_of l.tables)
-        × IsLinked (type_after_type (typed_of l.tables))
-        × IsWithinLimits most_records (county_of (type_after_type (typed_of l.tables)))
-        × (l.tlids.items ≡ map one_tlid l.tables.type_1.items)
-        × (l.feats.items ≡ map five_feat l.tables.type_5.items)
-        × (l.polygons.keys.items ≡ distinct key_cmp (flat_map side_keys l.tables.type_i.items ++ map p_key l.tables.type_p.items))
-        × IsLeastPassing key_cmp (is_unknown key_cmp (map p_key l.tables.type_p.items) (flat_map side_keys l.tables.type_i.items))
-        l.polygons.without_side };
+    ghost invariant = { λ l. AreInOrder (ordered_of l.tables)
+        × IsLinked (type_after_type (ordered_of l.tables))
+        × IsWithinLimits most_records (county_of (type_after_type (ordered_of l.tables)))
+        × (l.tlids.items ≡ map one_tlid (ordered_of l.tables).of_type_1)
+        × (l.feats.items ≡ map five_feat l.tables.records.type_5.items)
+        × (l.polygons.keys.items ≡ distinct key_cmp (flat_map side_keys (ordered_of l.tables).of_type_i ++ map p_key l.tables.records.type_p.items))
+        × IsLeastPassing key_cmp (is_unknown key_cmp (map p_key l.tables.records.type_p.items) (flat_map side_keys (ordered_of l.tables).of_type_i))
+        l.polygons.without_side
+        × IsPermutation l.tables.records.type_i.items (ordered_of l.tables).of_type_i };
 }
 
 impl LinkedRecords {
@@ -76,7 +78,7 @@ impl LinkedRecords {
         let tlids = Vec::from_slice(alloc, &self.tlids)?;
         let feats = Vec::from_slice(alloc, &self.feats)?;
         let polygons = Vec::from_slice(alloc, &self.polygons.keys)?;
-        let names = names_over(alloc, &self.tables.type_5)?;
+        let names = names_over(alloc, &self.tables.records.type_5)?;
         let mut builder = InArena::new(alloc, arena);
         build_county(
             alloc,
@@ -101,7 +103,7 @@ impl LinkedRecords {
         let tlids = self.tlids;
         let feats = self.feats;
         let polygons = self.polygons.keys;
-        let names = name_bodies(alloc, &tables.type_5)?;
+        let names = name_bodies(alloc, &tables.records.type_5)?;
         let mut builder = Owned { alloc };
         build_county(alloc, &mut builder, &tables, tlids, feats, names, polygons)
     }
@@ -122,7 +124,7 @@ impl LinkedRecords {
         let tlids = self.tlids;
         let feats = self.feats;
         let polygons = self.polygons.keys;
-        let names = names_in(alloc, arena, &tables.type_5)?;
+        let names = names_in(alloc, arena, &tables.records.type_5)?;
         let mut builder = InArena::new(alloc, arena);
         build_county(alloc, &mut builder, &tables, tlids, feats, names, polygons)
     }
@@ -149,7 +151,7 @@ pub fn link_in_order(alloc: Global, tables: Tables) -> Result<LinkedRecords, Lin
     ensures broken { IfErr result (λ fault. fault ≢ Memory → (records : List Record) →
         HoldsByType tables records → IsFirstBrokenRule records fault) }
 {
-    let mut tables = tables;
+    let mut tables = OrderedTables::new(alloc, tables);
     let gathered = sort_and_check(alloc, &mut tables)?;
     let tlids = gathered.tlids;
     let feats = gathered.feats;

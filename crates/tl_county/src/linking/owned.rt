@@ -7,9 +7,10 @@ use crate::linking::building::{
     ChainBuilder, LandmarkBuilder, OneChain, join_bodies, join_feats, join_points, join_ranges,
     surroundings_of,
 };
+use crate::linking::chain_heads::ChainHead;
 use crate::stored::landmark::Landmark;
 use std::alloc::{AllocError, Global};
-use tl_layout::{Rec1, Rec2, Rec7, Rec8};
+use tl_layout::{Rec2, Rec7, Rec8};
 use tl_shape::{Chain, Shape};
 
 /// Builds chains and landmarks that own their lists.
@@ -19,7 +20,7 @@ pub(crate) struct Owned {
 }
 
 /// The points of a chain, from its records of types 1 and 2.
-fn shape_of(alloc: Global, head: &Rec1, shape: &[Rec2]) -> Result<Shape, AllocError>
+fn shape_of(alloc: Global, head: &ChainHead<'_>, shape: &[Rec2]) -> Result<Shape, AllocError>
     ensures { IfOk result (λ points. points ≡ head.now.start ∷ (flat_map (λ (r : Fields2). r.points) shape.now ++ (head.now.end ∷ []))) }
 {
     let mut inner = Vec::new(alloc);
@@ -28,7 +29,7 @@ fn shape_of(alloc: Global, head: &Rec1, shape: &[Rec2]) -> Result<Shape, AllocEr
 }
 
 impl<'t> ChainBuilder<'t, Chain> for Owned {
-    fn build_chain<'r>(&mut self, records: &OneChain<'t, 'r>) -> Result<Chain, AllocError> {
+    fn build_chain<'h, 'r>(&mut self, records: &OneChain<'t, 'h, 'r>) -> Result<Chain, AllocError> {
         let head = records.head;
         let link = records.link;
         let points = shape_of(self.alloc, head, records.shape)?;
@@ -37,7 +38,7 @@ impl<'t> ChainBuilder<'t, Chain> for Owned {
         let mut entries = Vec::with_capacity(self.alloc, records.ranges.len())?;
         join_ranges(&mut entries, records.ranges)?;
         let around = surroundings_of(link);
-        Ok(Chain::new(*head.body(), points, feats, entries, *link.body(), around))
+        Ok(Chain::new(*head.record().body(), points, feats, entries, *link.body(), around))
     }
 }
 

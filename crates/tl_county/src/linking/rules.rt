@@ -6,7 +6,7 @@ ghost use Rattle.tl_county.specs.County.{link_key, five_feat, i_tlid, one_tlid, 
 ghost use Rattle.ordered_lists.specs.Keyed.{IsLeastPassing, is_repeated};
 ghost use Rattle.tl_county.specs.Marks.{all_have_names, have_names};
 ghost use Rattle.ordered_lists.specs.Marks.{AreMarksOf};
-ghost use Rattle.tl_county.specs.OrderedTables.{typed_of, AreInOrder};
+ghost use Rattle.tl_county.specs.OrderedTables.{ordered_of, AreInOrder};
 ghost use Rattle.ordered_lists.specs.Orders.{IsInOrder, distinct};
 ghost use Rattle.tl_county.specs.Packing.{by_type};
 ghost use Rattle.tl_county.specs.PolygonKeys.{key_cmp};
@@ -19,31 +19,31 @@ use crate::fault::{LinkFault, LinkedType, SequencedType};
 use crate::keys::keyed::{least_repeated, least_unknown};
 use crate::keys::record_keys::PolygonKey;
 use crate::linking::gathering::uses_in_order;
-use crate::linking::table_order::Repeated;
+use crate::linking::table_order::{OrderedTables, Repeated};
 use ordered_lists::{is_marked, marks_of, place_of};
 use std::alloc::{AllocError, Global};
-use tl_layout::{Rec2, Rec4, Rec5, Rec6, Rec7, Rec8, Tables};
+use tl_layout::{Rec2, Rec4, Rec5, Rec6, Rec7, Rec8};
 
 /// Rules 11 and 12: no TLID has two records of type 1, and each record of types 2, 4, 6 and I has its chain. `tlids` are the TLIDs
 /// of the type 1 records, and `linked` those of the type I records; these lists are searched, not the records.
-pub(crate) fn check_chains(tables: &Tables, tlids: &[u64], linked: &[u64]) -> Result<(), LinkFault>
-    requires tables { AreInOrder (typed_of tables.now) }
-    requires tlids { tlids.now ≡ map one_tlid tables.now.type_1.items }
-    requires linked { linked.now ≡ map i_tlid tables.now.type_i.items }
-    ensures { (records : List Record) → by_type records ≡ typed_of tables.now → MatchResult result (λ _. RulesHold records 0 5) (IsFirstFrom records 0) }
+pub(crate) fn check_chains(tables: &OrderedTables, tlids: &[u64], linked: &[u64]) -> Result<(), LinkFault>
+    requires tables { AreInOrder (ordered_of tables.now) }
+    requires tlids { tlids.now ≡ map one_tlid (ordered_of tables.now).of_type_1 }
+    requires linked { linked.now ≡ map i_tlid (ordered_of tables.now).of_type_i }
+    ensures { (records : List Record) → by_type records ≡ ordered_of tables.now → MatchResult result (λ _. RulesHold records 0 5) (IsFirstFrom records 0) }
 {
     if let Some(tlid) = least_repeated::<u64, u64>(tlids) {
         return Err(LinkFault::ChainTwice { tlid });
     }
-    if let Some(tlid) = least_unknown::<u64, Rec2, u64>(&tables.type_2, tlids) {
+    if let Some(tlid) = least_unknown::<u64, Rec2, u64>(&tables.records.type_2, tlids) {
         let rtype = LinkedType::Two;
         return Err(LinkFault::NoChain { rtype, tlid });
     }
-    if let Some(tlid) = least_unknown::<u64, Rec4, u64>(&tables.type_4, tlids) {
+    if let Some(tlid) = least_unknown::<u64, Rec4, u64>(&tables.records.type_4, tlids) {
         let rtype = LinkedType::Four;
         return Err(LinkFault::NoChain { rtype, tlid });
     }
-    if let Some(tlid) = least_unknown::<u64, Rec6, u64>(&tables.type_6, tlids) {
+    if let Some(tlid) = least_unknown::<u64, Rec6, u64>(&tables.records.type_6, tlids) {
         let rtype = LinkedType::Six;
         return Err(LinkFault::NoChain { rtype, tlid });
     }
@@ -76,11 +76,11 @@ pub(crate) fn check_sequences(repeated: &Repeated) -> Result<(), LinkFault>
 
 /// Rules 14 and 15: each record of type 1 has its record of type I, and no TLID has two. `tlids` are the TLIDs of the type 1
 /// records, and `linked` those of the type I records.
-pub(crate) fn check_links(tables: &Tables, tlids: &[u64], linked: &[u64]) -> Result<(), LinkFault>
-    requires tables { AreInOrder (typed_of tables.now) }
-    requires tlids { tlids.now ≡ map one_tlid tables.now.type_1.items }
-    requires linked { linked.now ≡ map i_tlid tables.now.type_i.items }
-    ensures { (records : List Record) → by_type records ≡ typed_of tables.now → MatchResult result (λ _. RulesHold records 8 10) (IsFirstFrom records 8) }
+pub(crate) fn check_links(tables: &OrderedTables, tlids: &[u64], linked: &[u64]) -> Result<(), LinkFault>
+    requires tables { AreInOrder (ordered_of tables.now) }
+    requires tlids { tlids.now ≡ map one_tlid (ordered_of tables.now).of_type_1 }
+    requires linked { linked.now ≡ map i_tlid (ordered_of tables.now).of_type_i }
+    ensures { (records : List Record) → by_type records ≡ ordered_of tables.now → MatchResult result (λ _. RulesHold records 8 10) (IsFirstFrom records 8) }
 {
     if let Some(tlid) = least_unknown::<u64, u64, u64>(tlids, linked) {
         return Err(LinkFault::LinkMissing { tlid });
@@ -142,13 +142,13 @@ pub(crate) fn unnamed_use(
 
 /// Rules 16 and 17: no FEAT has two records of type 5, and each FEAT that a type 4 record names has one. `unnamed` is the least use
 /// of a FEAT that has none.
-pub(crate) fn check_names(tables: &Tables, unnamed: Option<(u64, u32)>) -> Result<(), LinkFault>
-    requires tables { AreInOrder (typed_of tables.now) }
+pub(crate) fn check_names(tables: &OrderedTables, unnamed: Option<(u64, u32)>) -> Result<(), LinkFault>
+    requires tables { AreInOrder (ordered_of tables.now) }
     requires unnamed { IsLeastPassing sequence_cmp
-        (is_unnamed (flat_map uses_of tables.now.type_4.items) (map five_feat tables.now.type_5.items)) unnamed }
-    ensures { (records : List Record) → by_type records ≡ typed_of tables.now → MatchResult result (λ _. RulesHold records 10 12) (IsFirstFrom records 10) }
+        (is_unnamed (flat_map uses_of tables.now.records.type_4.items) (map five_feat tables.now.records.type_5.items)) unnamed }
+    ensures { (records : List Record) → by_type records ≡ ordered_of tables.now → MatchResult result (λ _. RulesHold records 10 12) (IsFirstFrom records 10) }
 {
-    if let Some(feat) = least_repeated::<u32, Rec5>(&tables.type_5) {
+    if let Some(feat) = least_repeated::<u32, Rec5>(&tables.records.type_5) {
         return Err(LinkFault::NameTwice { feat });
     }
     if let Some((tlid, feat)) = unnamed {
@@ -161,23 +161,23 @@ pub(crate) fn check_names(tables: &Tables, unnamed: Option<(u64, u32)>) -> Resul
 /// of a type 8 record is on a side or has a record of type P. `linked` are the polygons of the type 8 records, and `polygons` the
 /// keys on sides and of type P, both in order. `repeated` is the least polygon that has two records.
 pub(crate) fn check_landmarks(
-    tables: &Tables,
+    tables: &OrderedTables,
     repeated: Option<PolygonKey>,
     linked: &[PolygonKey],
     polygons: &[PolygonKey],
 ) -> Result<(), LinkFault>
-    requires tables { AreInOrder (typed_of tables.now) }
-    requires repeated { IsLeastPassing key_cmp (is_repeated key_cmp (map p_key tables.now.type_p.items)) repeated }
-    requires linked { IsInOrder key_cmp linked.now × IsPermutation (map link_key tables.now.type_8.items) linked.now }
-    requires polygons { polygons.now ≡ distinct key_cmp (flat_map side_keys tables.now.type_i.items ++ map p_key tables.now.type_p.items) }
-    ensures { (records : List Record) → by_type records ≡ typed_of tables.now → MatchResult result (λ _. RulesHold records 12 15) (IsFirstFrom records 12) }
+    requires tables { AreInOrder (ordered_of tables.now) }
+    requires repeated { IsLeastPassing key_cmp (is_repeated key_cmp (map p_key tables.now.records.type_p.items)) repeated }
+    requires linked { IsInOrder key_cmp linked.now × IsPermutation (map link_key tables.now.records.type_8.items) linked.now }
+    requires polygons { polygons.now ≡ distinct key_cmp (flat_map side_keys (ordered_of tables.now).of_type_i ++ map p_key tables.now.records.type_p.items) }
+    ensures { (records : List Record) → by_type records ≡ ordered_of tables.now → MatchResult result (λ _. RulesHold records 12 15) (IsFirstFrom records 12) }
 {
     if let Some(key) = repeated {
         let cenid = key.0;
         let polyid = key.1;
         return Err(LinkFault::PolygonTwice { cenid, polyid });
     }
-    if let Some(land) = least_unknown::<u64, Rec8, Rec7>(&tables.type_8, &tables.type_7) {
+    if let Some(land) = least_unknown::<u64, Rec8, Rec7>(&tables.records.type_8, &tables.records.type_7) {
         return Err(LinkFault::LandUnknown { land });
     }
     if let Some(key) = least_unknown::<PolygonKey, PolygonKey, PolygonKey>(linked, polygons) {

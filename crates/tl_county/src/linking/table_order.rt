@@ -5,21 +5,46 @@
 //! order also returns its keys, or the least key that occurs twice.
 
 ghost use Rattle.std.specs.Ordering.{nat_cmp, on};
-ghost use Rattle.std.specs.Prelude.{◌≡◌, map, OnOk, IfOk};
+ghost use Rattle.std.specs.Prelude.{◌≡◌, map, OnOk, IfOk, IsPermutation};
 ghost use Rattle.tl_county.specs.BodyOrder.{link_cmp};
 ghost use Rattle.tl_county.specs.County.{five_feat, i_tlid, one_tlid, p_key};
 ghost use Rattle.ordered_lists.specs.Keyed.{IsLeastPassing, is_repeated};
-ghost use Rattle.tl_county.specs.OrderedTables.{landmark_cmp, typed_of, AreInOrder, ArePermuted};
+ghost use Rattle.tl_county.specs.OrderedTables.{landmark_cmp, ordered_of, typed_of, AreInOrder, ArePermuted};
 ghost use Rattle.tl_county.specs.PolygonKeys.{key_cmp};
 ghost use Rattle.ordered_lists.specs.PutInOrder.{IsPutInOrder};
 ghost use Rattle.tl_county.specs.RepeatedKeys.{AreLeastRepeated};
 ghost use Rattle.tl_county.specs.SequenceKeys.{sequence_cmp, two_sequence, four_sequence, six_sequence};
 
-use crate::keys::keyed::{put_in_order, put_in_order_with_numbers, put_in_order_with_repeated};
+use crate::keys::keyed::{put_in_order, put_in_order_with_repeated};
+use crate::keys::number_order::number_order;
 use crate::keys::record_keys::{LandmarkKey, LinkKey, PolygonKey};
 use crate::linking::near_order::put_copies_in_order;
 use std::alloc::{AllocError, Global};
 use tl_layout::{Rec1, Rec2, Rec4, Rec5, Rec6, Rec7, Rec8, RecI, RecP, Tables};
+
+/// Tables in the order of their records' numbers. The records of types 1 and I lie in any order, and are read at their places.
+#[derive(Drop)]
+pub(crate) struct OrderedTables {
+    /// The records. Those of all types but 1 and I lie in order.
+    pub(crate) records: Tables,
+    /// The places of the type 1 records, in the order of their TLIDs.
+    pub(crate) heads: Vec<u64>,
+    /// The places of the type I records, in the order of their TLIDs.
+    pub(crate) links: Vec<u64>,
+}
+
+impl OrderedTables {
+    /// Tables whose records have no places yet.
+    pub(crate) fn new(alloc: Global, records: Tables) -> OrderedTables
+        ensures { result.records ≡ records }
+    {
+        OrderedTables {
+            records,
+            heads: Vec::new(alloc),
+            links: Vec::new(alloc),
+        }
+    }
+}
 
 /// The TLIDs of the records of types 1 and I.
 #[derive(Drop)]
@@ -95,38 +120,42 @@ fn order_named(
     put_in_order::<LinkKey, Rec8>(links)
 }
 
-/// Puts the records of types 1 and I in the order of their TLIDs, and returns the TLIDs.
-fn order_chains(
-    alloc: Global,
-    heads: &mut Vec<Rec1>,
-    links: &mut Vec<RecI>,
-) -> Result<Tlids, AllocError>
-    ensures heads { OnOk result (IsPutInOrder (on one_tlid nat_cmp) heads.old.items heads.new.items) }
-    ensures links { OnOk result (IsPutInOrder (on i_tlid nat_cmp) links.old.items links.new.items) }
-    ensures tlids_of_heads { IfOk result (λ tlids. tlids.chains.items ≡ map one_tlid heads.new.items) }
-    ensures tlids_of_links { IfOk result (λ tlids. tlids.links.items ≡ map i_tlid links.new.items) }
+/// Finds the places of the records of types 1 and I in the order of their TLIDs, and returns the TLIDs.
+fn order_chains(alloc: Global, tables: &mut OrderedTables) -> Result<Tlids, AllocError>
+    ensures records { tables.new.records ≡ tables.old.records }
+    ensures heads { OnOk result (IsPutInOrder (on one_tlid nat_cmp) tables.old.records.type_1.items (ordered_of tables.new).of_type_1) }
+    ensures links { OnOk result (IsPutInOrder (on i_tlid nat_cmp) tables.old.records.type_i.items (ordered_of tables.new).of_type_i) }
+    ensures tlids_of_heads { IfOk result (λ tlids. tlids.chains.items ≡ map one_tlid (ordered_of tables.new).of_type_1) }
+    ensures tlids_of_links { IfOk result (λ tlids. tlids.links.items ≡ map i_tlid (ordered_of tables.new).of_type_i) }
 {
-    let chains = put_in_order_with_numbers::<Rec1>(alloc, heads)?;
-    let links = put_in_order_with_numbers::<RecI>(alloc, links)?;
-    Ok(Tlids { chains, links })
+    let heads = number_order::<Rec1>(alloc, &tables.records.type_1)?;
+    let links = number_order::<RecI>(alloc, &tables.records.type_i)?;
+    tables.heads = heads.places;
+    tables.links = links.places;
+    Ok(Tlids {
+        chains: heads.numbers,
+        links: links.numbers,
+    })
 }
 
 /// Puts each table in the order of its records' numbers. Returns the TLIDs of the records of types 1 and I in that order, and the
 /// keys of types 2, 4, 6 and P that occur twice.
-pub(crate) fn order_tables(alloc: Global, tables: &mut Tables) -> Result<Ordered, AllocError>
-    ensures in_order { OnOk result (AreInOrder (typed_of tables.new)) }
-    ensures same { OnOk result (ArePermuted (typed_of tables.old) (typed_of tables.new)) }
-    ensures chains { IfOk result (λ ordered. ordered.tlids.chains.items ≡ map one_tlid tables.new.type_1.items) }
-    ensures links { IfOk result (λ ordered. ordered.tlids.links.items ≡ map i_tlid tables.new.type_i.items) }
-    ensures repeated { IfOk result (λ ordered. AreLeastRepeated ordered.repeated (typed_of tables.new)) }
+pub(crate) fn order_tables(alloc: Global, tables: &mut OrderedTables) -> Result<Ordered, AllocError>
+    ensures in_order { OnOk result (AreInOrder (ordered_of tables.new)) }
+    ensures same { OnOk result (ArePermuted (typed_of tables.old.records) (ordered_of tables.new)) }
+    ensures links_there { OnOk result (IsPermutation tables.new.records.type_i.items (ordered_of tables.new).of_type_i) }
+    ensures chains { IfOk result (λ ordered. ordered.tlids.chains.items ≡ map one_tlid (ordered_of tables.new).of_type_1) }
+    ensures links { IfOk result (λ ordered. ordered.tlids.links.items ≡ map i_tlid (ordered_of tables.new).of_type_i) }
+    ensures repeated { IfOk result (λ ordered. AreLeastRepeated ordered.repeated (ordered_of tables.new)) }
 {
+    let records = &mut tables.records;
     let repeated = order_repeated(
-        &mut tables.type_2,
-        &mut tables.type_4,
-        &mut tables.type_6,
-        &mut tables.type_p,
+        &mut records.type_2,
+        &mut records.type_4,
+        &mut records.type_6,
+        &mut records.type_p,
     )?;
-    order_named(&mut tables.type_5, &mut tables.type_7, &mut tables.type_8)?;
-    let tlids = order_chains(alloc, &mut tables.type_1, &mut tables.type_i)?;
+    order_named(&mut records.type_5, &mut records.type_7, &mut records.type_8)?;
+    let tlids = order_chains(alloc, tables)?;
     Ok(Ordered { tlids, repeated })
 }

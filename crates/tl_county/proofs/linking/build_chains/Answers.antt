@@ -1,44 +1,48 @@
 use Rattle.std.proofs.Common.{◌≡◌, map, length, sym, ap, ◌∙◌, subst, nat_cmp}
 use Rattle.tl_county.proofs.Common.{chains_along, entries-equal, keys-map_values, keys-zip, length-map, map_values}
-use Rattle.tl_county.proofs.Common.{one_tlid, typed_of, values-map_values, values-zip}
+use Rattle.tl_county.proofs.Common.{one_tlid, ordered_of, values-map_values, values-zip}
 use Rattle.std.specs.List.Sorted.{IsStrictlySortedBy}
+use Rattle.ordered_lists.specs.Places.{at_places}
 use Rattle.tl_county.proofs.Rules.BuiltTables.{tlids-ascend, beside, length-chains_along}
 use Rattle.tl_county.proofs.Rules.TlidsInOrder.{twos_in_order, fours_in_order, sixes_in_order}
 use Rattle.tl_county.proofs.linking.build_chains.Goals as goal
 
 pub chains_of_records-requires : goal.chains_of_records-requires
 chains_of_records-requires g c κs =
-    let t = typed_of c.args.tables.now in
-    let heads = subst (λ l. IsStrictlySortedBy nat_cmp (map one_tlid l)) (sym c.deref.ensures.value)
+    let t = ordered_of c.args.tables.now in
+    let heads = subst (λ l. IsStrictlySortedBy nat_cmp (map one_tlid l)) (sym (c.deref-5.ensures.value ∙ c.in_ok-heads.ensures
+    ∙ (λ i. at_places (c.deref.ensures.value i) (c.deref-2.ensures.value i))))
     (tlids-ascend t c.requires.tables c.requires.linked) in
-    let shapes = twos_in_order t c.requires.tables c.deref-3.ensures.value in
-    let names = fours_in_order t c.requires.tables c.deref-4.ensures.value in
-    let ranges = sixes_in_order t c.requires.tables c.deref-5.ensures.value in
-    ((λ i. κs.1.0, tt), (heads, (shapes, (names, ranges))))
+    let shapes = twos_in_order t c.requires.tables c.deref-7.ensures.value in
+    let names = fours_in_order t c.requires.tables c.deref-8.ensures.value in
+    let ranges = sixes_in_order t c.requires.tables c.deref-9.ensures.value in
+    ((λ i. κs.1.1.0, tt), (heads, (shapes, (names, ranges))))
 
 pub new-requires-clause-ascending : goal.new-requires-clause-ascending
 new-requires-clause-ascending g c =
     subst (IsStrictlySortedBy nat_cmp) (sym c.requires.tlids)
-    (tlids-ascend (typed_of c.args.tables.now) c.requires.tables c.requires.linked)
+    (tlids-ascend (ordered_of c.args.tables.now) c.requires.tables c.requires.linked)
 
 pub new-requires-clause-same_length : goal.new-requires-clause-same_length
 new-requires-clause-same_length g c =
-    let t = typed_of c.args.tables.now in
+    let t = ordered_of c.args.tables.now in
     let chains : map g.C.StoredChain.chain c.in_ok-chains.chains.items ≡ chains_along t.of_type_2 t.of_type_4 t.of_type_6 t.of_type_1
     t.of_type_i =
-    c.in_ok-chains.ensures ∙ (λ i. chains_along (c.deref-3.ensures.value i) (c.deref-4.ensures.value i) (c.deref-5.ensures.value i)
-    (c.deref.ensures.value i) (c.deref-2.ensures.value i)) in
+    c.in_ok-chains.ensures ∙ (λ i. chains_along (c.deref-7.ensures.value i) (c.deref-8.ensures.value i) (c.deref-9.ensures.value i)
+    ((c.deref-5.ensures.value ∙ c.in_ok-heads.ensures ∙ (λ j. at_places (c.deref.ensures.value j) (c.deref-2.ensures.value j))) i)
+    ((c.deref-6.ensures.value ∙ c.in_ok-links.ensures ∙ (λ j. at_places (c.deref-3.ensures.value j) (c.deref-4.ensures.value j))) i)) in
     ap length c.requires.tlids
     ∙ length-chains_along t.of_type_2 t.of_type_4 t.of_type_6 t.of_type_1 t.of_type_i (beside t c.requires.tables c.requires.linked)
     ∙ ap length (sym chains) ∙ length-map c.in_ok-chains.chains.items g.C.StoredChain.chain
 
 pub returns : goal.returns
 returns g c =
-    let t = typed_of c.args.tables.now in
+    let t = ordered_of c.args.tables.now in
     let chains : map g.C.StoredChain.chain c.in_ok-chains.chains.items ≡ chains_along t.of_type_2 t.of_type_4 t.of_type_6 t.of_type_1
     t.of_type_i =
-    c.in_ok-chains.ensures ∙ (λ i. chains_along (c.deref-3.ensures.value i) (c.deref-4.ensures.value i) (c.deref-5.ensures.value i)
-    (c.deref.ensures.value i) (c.deref-2.ensures.value i)) in
+    c.in_ok-chains.ensures ∙ (λ i. chains_along (c.deref-7.ensures.value i) (c.deref-8.ensures.value i) (c.deref-9.ensures.value i)
+    ((c.deref-5.ensures.value ∙ c.in_ok-heads.ensures ∙ (λ j. at_places (c.deref.ensures.value j) (c.deref-2.ensures.value j))) i)
+    ((c.deref-6.ensures.value ∙ c.in_ok-links.ensures ∙ (λ j. at_places (c.deref-3.ensures.value j) (c.deref-4.ensures.value j))) i)) in
     let same_length = length-chains_along t.of_type_2 t.of_type_4 t.of_type_6 t.of_type_1 t.of_type_i
     (beside t c.requires.tables c.requires.linked) in
     let f = g.C.StoredChain.chain in

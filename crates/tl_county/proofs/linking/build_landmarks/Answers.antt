@@ -21,8 +21,8 @@ new-requires-clause-ascending g c = search (rules, distinct-strict, nat_keys)
 
 pub returns : goal.returns
 returns g c =
-    let sevens = c.args.tables.now.type_7.items in
-    let eights = c.args.tables.now.type_8.items in
+    let sevens = c.args.tables.now.records.type_7.items in
+    let eights = c.args.tables.now.records.type_8.items in
     let lands : List ℕ = distinct nat_cmp (map seven_land sevens) in
     let found : c.in_ok-lands.lands.items ≡ lands = c.in_ok-lands.ensures
     ∙ ap (λ l. distinct nat_cmp (map seven_land l)) c.deref.ensures.value in

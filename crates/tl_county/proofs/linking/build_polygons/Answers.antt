@@ -1,5 +1,6 @@
-use Rattle.std.proofs.Common.{rules, ◌++◌, map, flat_map, map-id, sym, subst}
-use Rattle.tl_county.proofs.Common.{distinct-strict, entries-equal, key_cmp, key_keys, map-map, p_key, side_keys}
+use Rattle.std.proofs.Common.{rules, ◌++◌, ◌∙◌, List, flat_map, map, map-id, sym, subst}
+use Rattle.tl_county.proofs.Common.{PolygonKey, distinct, distinct-strict, entries-equal, key_cmp, key_keys, map-map, ordered_of, p_key}
+use Rattle.tl_county.proofs.Common.{polygon_body_of, side_keys}
 use Rattle.std.specs.List.Sorted.{IsStrictlySortedBy}
 use Rattle.tl_county.proofs.linking.build_polygons.Goals as goal
 
@@ -8,8 +9,17 @@ polygon_bodies-requires-clause-polygons c = search (rules, distinct-strict, key_
 
 pub new-requires-clause-ascending : goal.new-requires-clause-ascending
 new-requires-clause-ascending c =
-    subst (IsStrictlySortedBy key_cmp) (sym c.requires.keys)
-    (distinct-strict key_keys (flat_map side_keys c.args.tables.now.type_i.items ++ map p_key c.args.tables.now.type_p.items))
+    subst (IsStrictlySortedBy key_cmp) (sym c.requires.keys) (distinct-strict key_keys
+    (flat_map side_keys (ordered_of c.args.tables.now).of_type_i ++ map p_key c.args.tables.now.records.type_p.items))
 
 pub returns : goal.returns
-returns c = search (rules, entries-equal, map-map, map-id)
+returns c =
+    let points = c.args.tables.now.records.type_p.items in
+    let keys : List PolygonKey =
+    distinct key_cmp (flat_map side_keys (ordered_of c.args.tables.now).of_type_i ++ map p_key points) in
+    entries-equal c.new.result (map (λ key. (key, polygon_body_of points key)) keys)
+    (c.new.ensures.keys ∙ c.requires.keys
+    ∙ sym (map-map (λ e. e.0) (λ key. (key, polygon_body_of points key)) keys ∙ map-id keys))
+    (c.new.ensures.values ∙ c.in_ok-bodies.ensures
+    ∙ (λ i. map (polygon_body_of (c.deref-2.ensures.value i)) ((c.deref.ensures.value ∙ c.requires.keys) i))
+    ∙ sym (map-map (λ e. e.1) (λ key. (key, polygon_body_of points key)) keys))

@@ -1,5 +1,5 @@
 use Rattle.std.proofs.Common.{◌≢◌, List}
-use Rattle.tl_county.proofs.Common.{IsFirstBrokenRule, Memory, Record, by_type_of, type_after_type, typed_of}
+use Rattle.tl_county.proofs.Common.{IsFirstBrokenRule, Memory, Record, by_type_of, ordered_of, type_after_type, typed_of}
 use Rattle.tl_layout.proofs.Exits.{exit_with}
 use Rattle.tl_layout.specs.Tables.{HoldsByType}
 use Rattle.tl_county.proofs.Rules.BuiltTables.{also_first, held}
@@ -7,15 +7,15 @@ use Rattle.tl_county.proofs.linking.sort_and_check.Goals as goal
 
 pub returns-clause-linked : goal.returns-clause-linked
 returns-clause-linked c =
-    let u = typed_of c.order_tables.new.tables in
+    let u = ordered_of c.order_tables.new.tables in
     c.in_ok-check_rules.ensures.linked (type_after_type u) (by_type_of u)
 
 pub returns-in_err-check_rules-clause-broken : goal.returns-in_err-check_rules-clause-broken
 returns-in_err-check_rules-clause-broken c =
-    let u = typed_of c.order_tables.new.tables in
-    exit_with _ _ (λ fault. fault ≢ Memory → (records : List Record) → HoldsByType c.args.tables.now records → IsFirstBrokenRule records
+    let u = ordered_of c.order_tables.new.tables in
+    exit_with _ _ (λ fault. fault ≢ Memory → (records : List Record) → HoldsByType c.args.tables.now.records records → IsFirstBrokenRule records
     fault)
     c.from_residual-in_err-check_rules.ensures.1
-    (λ ne records h. also_first records (typed_of c.args.tables.now) u (held c.args.tables.now records h) c.in_ok-ordered.ensures.same
+    (λ ne records h. also_first records (typed_of c.args.tables.now.records) u (held c.args.tables.now.records records h) c.in_ok-ordered.ensures.same
     _
     (c.in_err-check_rules.ensures.broken (type_after_type u) (by_type_of u)))

@@ -1,17 +1,14 @@
-use Rattle.std.proofs.Common.{◌≡◌, ◌++◌, map, length, nat_cmp}
+use Rattle.std.proofs.Common.{◌≡◌, ◌++◌, drop, map, nat_cmp}
 use Rattle.tl_county.proofs.Common.{IsInOrder, chains_along, four_tlid, on, one_tlid, six_tlid, two_tlid}
 use Rattle.std.specs.List.Sorted.{IsStrictlySortedBy}
 use Rattle.tl_county.proofs.linking.building.chains_of_records.Given as goal
 
-abbrev pub invariant-loop-head : goal.invariant-loop-head
-invariant-loop-head g l = record {
-  heads : IsStrictlySortedBy nat_cmp (map one_tlid l.heads);
+abbrev pub invariant-loop-place : goal.invariant-loop-place
+invariant-loop-place g l = record {
+  heads : IsStrictlySortedBy nat_cmp (map one_tlid (drop l.place l.heads));
   shapes : IsInOrder (on two_tlid nat_cmp) l.details.shapes.now;
   names : IsInOrder (on four_tlid nat_cmp) l.details.names.now;
   ranges : IsInOrder (on six_tlid nat_cmp) l.details.ranges.now;
-  done : map g.C.StoredChain.chain l.chains.items ++ chains_along l.details.shapes.now l.details.names.now l.details.ranges.now l.heads l.links
-      ≡ chains_along l.fn.shapes l.fn.names l.fn.ranges l.fn.heads l.fn.links;
+  done : map g.C.StoredChain.chain l.chains.items ++ chains_along l.details.shapes.now l.details.names.now l.details.ranges.now
+      (drop l.place l.heads) (drop l.place l.links) ≡ chains_along l.fn.shapes l.fn.names l.fn.ranges l.fn.heads l.fn.links;
 }
-
-abbrev pub decreases-loop-head : goal.decreases-loop-head
-decreases-loop-head g l = length l.heads

@@ -2,7 +2,7 @@ use Rattle.std.proofs.Common.{rules, ◌≡◌, ℕ, List, ◌++◌, map, flat_m
 use Rattle.std.proofs.Common.{IsPermutation}
 use Rattle.tl_county.proofs.Common.{FieldsP, IsInOrder, IsLeastPassing, PolygonKey, Record, RulesHold, Typed, by_type, distinct}
 use Rattle.tl_county.proofs.Common.{distinct-in_order, eight_land, is_repeated, is_unknown, key_cmp, key_keys, least-same, link_key, p_key}
-use Rattle.tl_county.proofs.Common.{seven_land, side_keys, typed_of}
+use Rattle.tl_county.proofs.Common.{seven_land, side_keys, ordered_of}
 use Rattle.ordered_lists.proofs.ByKey.KeyedLists.{at_lists}
 use Rattle.tl_county.proofs.Rules.TlidsInOrder.{tables_in_order}
 use Rattle.tl_county.proofs.Rules.RuleOrders.{rule-holds, rule-broken, rules-join, first-after}
@@ -22,7 +22,7 @@ least_unknown-requires c = search (rules, tables_in_order)
 pub least_unknown-requires-2-clause-known : goal.least_unknown-requires-2-clause-known
 least_unknown-requires-2-clause-known c =
     subst (IsInOrder key_cmp) (sym c.requires.polygons)
-    (distinct-in_order key_keys (flat_map side_keys c.args.tables.now.type_i.items ++ map p_key c.args.tables.now.type_p.items))
+    (distinct-in_order key_keys (flat_map side_keys (ordered_of c.args.tables.now).of_type_i ++ map p_key c.args.tables.now.records.type_p.items))
 
 -- if no polygon occurs twice, and if no LAND is unknown, the rule holds
 points : (records : List Record) (t : Typed) → by_type records ≡ t → Twice t.of_type_p None → RulesHold records 12 13
@@ -43,8 +43,8 @@ alike linked polygons keys known p e =
 
 pub returns-in-Some-least_unknown-2 : goal.returns-in-Some-least_unknown-2
 returns-in-Some-least_unknown-2 c records e =
-    let t = typed_of c.args.tables.now in
-    first-after records (omega arith) (points records t e (subst (Twice c.args.tables.now.type_p.items) c.in_default.is c.requires.repeated))
+    let t = ordered_of c.args.tables.now in
+    first-after records (omega arith) (points records t e (subst (Twice c.args.tables.now.records.type_p.items) c.in_default.is c.requires.repeated))
     (first-after records (omega arith)
     (lands records t e (at_lists (Unknown eight_land seven_land None) c.deref.ensures.value c.deref-2.ensures.value
     c.in_default-least_unknown.ensures))
@@ -54,8 +54,8 @@ returns-in-Some-least_unknown-2 c records e =
 
 pub returns : goal.returns
 returns c records e =
-    let t = typed_of c.args.tables.now in
-    rules-join records (points records t e (subst (Twice c.args.tables.now.type_p.items) c.in_default.is c.requires.repeated))
+    let t = ordered_of c.args.tables.now in
+    rules-join records (points records t e (subst (Twice c.args.tables.now.records.type_p.items) c.in_default.is c.requires.repeated))
     (rules-join records
     (lands records t e (at_lists (Unknown eight_land seven_land None) c.deref.ensures.value c.deref-2.ensures.value
     c.in_default-least_unknown.ensures))

@@ -1,5 +1,5 @@
 use Rattle.std.proofs.Common.{ℕ, List, map, flat_map, subst, nat_cmp, Option, Some, None, arith}
-use Rattle.tl_county.proofs.Common.{Fields4, Fields5, IsLeastPassing, RulesHold, five_feat, is_repeated, is_unnamed, sequence_cmp, typed_of}
+use Rattle.tl_county.proofs.Common.{Fields4, Fields5, IsLeastPassing, RulesHold, five_feat, is_repeated, is_unnamed, sequence_cmp, ordered_of}
 use Rattle.tl_county.proofs.Common.{uses_of}
 use Rattle.tl_county.proofs.Rules.RuleOrders.{rule-holds, rule-broken, rules-join, first-after}
 use Rattle.tl_county.proofs.Rules.RuleTests.{rule_16, rule_17}
@@ -18,16 +18,16 @@ returns-in-Some-unnamed c records e =
     let t = c.args.tables.now in
     let use_of : ℕ × ℕ = (c.in-Some-unnamed.tlid, c.in-Some-unnamed.feat) in
     let fives : RulesHold records 10 11 =
-    rule-holds (rule_16 records (typed_of t) e) (subst (Twice five_feat None) c.deref.ensures.value c.in_default.ensures) in
-    let found : Unnamed t.type_4.items t.type_5.items (Some use_of) =
-    subst (Unnamed t.type_4.items t.type_5.items) c.in-Some-unnamed.is c.requires.unnamed in
-    first-after records (omega arith) fives (rule-broken (rule_17 records (typed_of t) e) use_of found)
+    rule-holds (rule_16 records (ordered_of t) e) (subst (Twice five_feat None) c.deref.ensures.value c.in_default.ensures) in
+    let found : Unnamed t.records.type_4.items t.records.type_5.items (Some use_of) =
+    subst (Unnamed t.records.type_4.items t.records.type_5.items) c.in-Some-unnamed.is c.requires.unnamed in
+    first-after records (omega arith) fives (rule-broken (rule_17 records (ordered_of t) e) use_of found)
 
 pub returns : goal.returns
 returns c records e =
     let t = c.args.tables.now in
     let fives : RulesHold records 10 11 =
-    rule-holds (rule_16 records (typed_of t) e) (subst (Twice five_feat None) c.deref.ensures.value c.in_default.ensures) in
-    let none : Unnamed t.type_4.items t.type_5.items None =
-    subst (Unnamed t.type_4.items t.type_5.items) c.in_default-unnamed.is c.requires.unnamed in
-    rules-join records fives (rule-holds (rule_17 records (typed_of t) e) none)
+    rule-holds (rule_16 records (ordered_of t) e) (subst (Twice five_feat None) c.deref.ensures.value c.in_default.ensures) in
+    let none : Unnamed t.records.type_4.items t.records.type_5.items None =
+    subst (Unnamed t.records.type_4.items t.records.type_5.items) c.in_default-unnamed.is c.requires.unnamed in
+    rules-join records fives (rule-holds (rule_17 records (ordered_of t) e) none)

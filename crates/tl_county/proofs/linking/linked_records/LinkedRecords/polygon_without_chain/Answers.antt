@@ -1,13 +1,13 @@
 use Rattle.std.proofs.Common.{map, flat_map, sym, ap, ◌∙◌, subst}
 use Rattle.tl_county.proofs.Common.{IsLeastPassing, Typed, by_type_of, county_of, is_unknown, key_cmp, least-same, p_key, side_keys}
-use Rattle.tl_county.proofs.Common.{type_after_type, typed_of}
+use Rattle.tl_county.proofs.Common.{type_after_type, ordered_of}
 use Rattle.tl_county.specs.CountyRules.{is_without_chain}
 use Rattle.tl_county.proofs.Rules.WithoutChain.{same_without_chain}
 use Rattle.tl_county.proofs.linking.linked_records.LinkedRecords.polygon_without_chain.Goals as goal
 
 pub returns : goal.returns
 returns c =
-    let t : Typed = typed_of c.self.inside.tables in
+    let t : Typed = ordered_of c.self.inside.tables in
     subst (λ (u : Typed). IsLeastPassing key_cmp (is_without_chain (county_of (type_after_type u))) c.self.inside.polygons.without_side)
     (c.self.view_is)
     (least-same key_cmp (is_unknown key_cmp (map p_key t.of_type_p) (flat_map side_keys t.of_type_i))

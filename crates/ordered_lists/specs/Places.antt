@@ -1,0 +1,6 @@
+-- Lists that are read at places.
+use Rattle.std.specs.Prelude.{ℕ, List, filter_map, slice_get}
+
+-- the items at these places of a list; a place past its end has none
+abbrev pub at_places : {X : Type 0} → List X → List ℕ → List X
+at_places items = filter_map (slice_get items)

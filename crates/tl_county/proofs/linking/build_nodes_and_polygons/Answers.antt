@@ -1,0 +1,13 @@
+use Rattle.std.proofs.Common.{ap, flat_map, nat_cmp, ◌∙◌}
+use Rattle.tl_county.proofs.Common.{distinct, distinct_same, link_nodes, nat_keys, ordered_of}
+use Rattle.ordered_lists.proofs.Lists.Reordered.{from_permutation}
+use Rattle.tl_county.proofs.Sameness.Carried.{pieces_alike}
+use Rattle.tl_county.proofs.linking.build_nodes_and_polygons.Goals as goal
+
+pub returns-clause-nodes : goal.returns-clause-nodes
+returns-clause-nodes c =
+    let lying = c.args.tables.now.records.type_i.items in
+    let ordered = (ordered_of c.args.tables.now).of_type_i in
+    c.in_ok-nodes.ensures ∙ ap (λ links. distinct nat_cmp (flat_map link_nodes links)) c.deref.ensures.value
+    ∙ distinct_same nat_keys (flat_map link_nodes lying) (flat_map link_nodes ordered)
+    (pieces_alike nat_keys link_nodes lying ordered (from_permutation lying ordered c.requires.links))
