@@ -10,11 +10,10 @@ use Rattle.tl_county.specs.Limits.{IsWithinLimits, most_records}
 use Rattle.ordered_lists.specs.Orders.{times}
 use Rattle.tl_number.specs.Arrangement.{Arrangement, arranged_tlids, nodes_in_order, polygons_in_order, names_in_order}
 use Rattle.tl_number.specs.Arrangement.{landmarks_in_order, arranged}
-use Rattle.tl_number.specs.ChainLists.{lists_of}
 use Rattle.tl_number.specs.EndsAndSides.{ends_of, sides_of}
 use Rattle.tl_number.specs.ByNumber.{polygons_by_number, under_number}
 use Rattle.tl_number.specs.Growth.{numbered}
-use Rattle.tl_number.specs.DirectedChains.{HasChainsOf, arrangement_of, parts_along}
+use Rattle.tl_number.specs.DirectedChains.{HasChainsOf, arrangement_of}
 use Rattle.tl_county.specs.declared.directed_chain.DirectedChain.{DirectedChain}
 use Rattle.tl_number.specs.declared.arranged_tables.LandmarkTables.{LandmarkTables}
 use Rattle.tl_number.specs.declared.arranged_tables.NameTables.{NameTables}
@@ -49,11 +48,10 @@ pub record AreWhole (county : County) (arrangement : List DirectedChain) : Type 
   pub is_county : IsCounty (arranged_by county arrangement)
   pub within_limits : IsWithinLimits most_records (arranged_by county arrangement)
 
--- the nodes by first appearance, the ends of each chain, and which lists it has
+-- the nodes by first appearance, and the ends of each chain
 pub record MatchesNodes (county : County) (arrangement : List DirectedChain) (tables : NodeTables) : Type 0 where
   pub numbers : tables.numbers ≡ nodes_in_order county (arrangement_of county arrangement)
   pub ends : tables.ends.items ≡ map ends_of (entry_values (arranged_by county arrangement).chains)
-  pub lists : tables.lists.items ≡ parts_along lists_of county arrangement
 
 -- the polygons by first appearance, the sides of each chain, the new keys in order, and the places of the contents
 pub record MatchesPolygons (county : County) (arrangement : List DirectedChain) (tables : PolygonTables) : Type 0 where

@@ -11,15 +11,12 @@ ghost use Rattle.ordered_lists.specs.Entries.{entry_values};
 ghost use Rattle.ordered_lists.specs.Pairs.{image};
 ghost use Rattle.tl_number.specs.Arrangement.{renaming_of};
 ghost use Rattle.tl_number.specs.ByNumber.{polygons_by_number};
-ghost use Rattle.tl_number.specs.ChainLists.{lists_of};
 ghost use Rattle.tl_number.specs.EndsAndSides.{ends_of, sides_of};
 ghost use Rattle.tl_number.specs.DirectedChains.{arrangement_of};
 ghost use Rattle.tl_number.specs.ViewFacts.{AreWhole, arranged_by, MatchesNodes, MatchesPolygons, MatchesNames, MatchesLandmarks};
 ghost use Rattle.tl_number.specs.ViewProps.{AreWhole-prop, StandOnSides-prop, MatchesNodes-prop, MatchesPolygons-prop, MatchesNames-prop, MatchesLandmarks-prop};
 
-use crate::arranged_tables::{
-    ChainLists, Ends, LandmarkTables, NameTables, NodeTables, PolygonTables, Sides,
-};
+use crate::arranged_tables::{Ends, LandmarkTables, NameTables, NodeTables, PolygonTables, Sides};
 use crate::numbers::stands_at;
 use crate::renumbering::new_feat;
 use std::marker::PhantomData;
@@ -42,8 +39,8 @@ impl Evidence for Unknown {
 }
 
 /// A county whose chains have the order and the directions of an arrangement, and all numbers that follow from these. It stores
-/// only the new numbers of nodes and sides for each chain, and which lists it has. Everything else is read from the source county,
-/// and turned and renumbered as it is read.
+/// only the new numbers of nodes and sides for each chain. Everything else is read from the source county, and turned and
+/// renumbered as it is read.
 #[derive(Drop)]
 pub struct Arranged<C: Chart, S: Evidence = Unknown> {
     pub(crate) chart: C,
@@ -77,13 +74,6 @@ fn sides_there(sides: &[Sides], place: usize) -> Option<Sides>
     ensures { result ≡ slice_get sides.now place }
 {
     sides.get(place).copied()
-}
-
-/// The lists at a place, or `None` past the last one.
-fn lists_there(lists: &[ChainLists], place: usize) -> Option<ChainLists>
-    ensures { result ≡ slice_get lists.now place }
-{
-    lists.get(place).copied()
 }
 
 impl<C: Chart, S: Evidence> Arranged<C, S> {
@@ -121,20 +111,6 @@ impl<C: Chart, S: Evidence> Arranged<C, S> {
         ensures { result ≡ option_map sides_of (chain_at (arranged_by (C.county self.now.chart) self.now.arrangement.items) place) }
     {
         sides_there(&self.polygons.sides, place)
-    }
-
-    /// Which lists the chain at a place has. Past the last chain there are none.
-    pub(crate) fn lists_at(&self, place: usize) -> ChainLists
-        ensures { result ≡ lists_of (chain_at (arranged_by (C.county self.now.chart) self.now.arrangement.items) place) }
-    {
-        match lists_there(&self.nodes.lists, place) {
-            Some(lists) => lists,
-            None => ChainLists {
-                two_points: false,
-                feats: false,
-                ranges: false,
-            },
-        }
     }
 
     /// A further name with its new FEAT, if there is one.

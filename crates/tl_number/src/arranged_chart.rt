@@ -125,9 +125,6 @@ impl<C: Chart, S: Evidence> Chart for Arranged<C, S> {
     }
 
     fn point_count_at(&self, place: usize) -> usize {
-        if self.lists_at(place).two_points {
-            return 2;
-        }
         self.directed_or_past(place).points(&self.chart).count()
     }
 
@@ -136,9 +133,6 @@ impl<C: Chart, S: Evidence> Chart for Arranged<C, S> {
     }
 
     fn feat_count_at(&self, place: usize) -> usize {
-        if !self.lists_at(place).feats {
-            return 0;
-        }
         self.directed_or_past(place).feats(&self.chart).count()
     }
 
@@ -148,9 +142,6 @@ impl<C: Chart, S: Evidence> Chart for Arranged<C, S> {
     }
 
     fn range_count_at(&self, place: usize) -> usize {
-        if !self.lists_at(place).ranges {
-            return 0;
-        }
         let ranges = self.directed_or_past(place).ranges(&self.chart);
         ranges.count()
     }

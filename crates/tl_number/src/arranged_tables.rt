@@ -10,27 +10,13 @@ pub(crate) type Ends = (NumberOrNone, NumberOrNone);
 /// The left and the right side of a chain.
 pub(crate) type Sides = (Side, Side);
 
-/// Which lists a chain has. Few chains have further names or further address ranges, and many have no shape points, so the records of
-/// most chains are counted without reading the chains, which may be anywhere in memory.
-#[derive(Clone, Copy)]
-pub struct ChainLists {
-    /// Whether it has only two points, its ends.
-    pub(crate) two_points: bool,
-    /// Whether it has further names.
-    pub(crate) feats: bool,
-    /// Whether it has further address ranges.
-    pub(crate) ranges: bool,
-}
-
-/// The nodes of a county in an arrangement, and the chains between them.
+/// The nodes of a county in an arrangement.
 #[derive(Drop)]
 pub struct NodeTables {
     /// The old nodes in the order of the new numbers.
     pub(crate) numbers: Interner<u64>,
     /// The ends of each chain with the new numbers, in the order of the chains.
     pub(crate) ends: Vec<Ends>,
-    /// Which lists each chain has, in the order of the chains.
-    pub(crate) lists: Vec<ChainLists>,
 }
 
 /// The polygons of a county in an arrangement.

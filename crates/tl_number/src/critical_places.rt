@@ -205,9 +205,8 @@ pub(crate) fn critical_ends<C: Chart>(
     requires few { length order.now.by_shape < 2 ^ 32 }
     ensures { IfOk result (λ critical. AreCritical (C.county chart.now) order.now critical.items) }
 {
-    let (ends, sides, lists) = links_along(alloc, chart, order.by_shape())?;
+    let (ends, sides) = links_along(alloc, chart, order.by_shape())?;
     drop(sides);
-    drop(lists);
     let nodes = open_nodes(alloc, order.open_places(), &ends)?;
     let critical = critical_among(alloc, order.open_places(), &nodes, &ends)?;
     Ok(critical)

@@ -1,12 +1,11 @@
-//! The ends and the sides of a directed chain, in its direction, and which lists it has.
+//! The ends and the sides of a directed chain, in its direction.
 
 ghost use Rattle.std.specs.Prelude.{◌≡◌, ◌<◌, Some, length, option_map};
-ghost use Rattle.tl_number.specs.ChainLists.{lists_of};
 ghost use Rattle.tl_number.specs.EndsAndSides.{ends_of, sides_of};
 ghost use Rattle.tl_county.specs.DirectedChains.{directed_chain};
 
-use crate::arranged_tables::{ChainLists, Ends, Sides};
-use tl_county::{Chart, DirectedChain, Listed};
+use crate::arranged_tables::{Ends, Sides};
+use tl_county::{Chart, DirectedChain};
 use tl_layout::NumberOrNone;
 
 /// The nodes at the start and the end of a directed chain.
@@ -36,16 +35,5 @@ pub(crate) fn sides_of_directed<C: Chart>(chart: &C, directed: DirectedChain) ->
         (right, left)
     } else {
         (left, right)
-    }
-}
-
-/// Which lists a directed chain has.
-pub(crate) fn lists_of_directed<C: Chart>(chart: &C, directed: DirectedChain) -> ChainLists
-    ensures { result ≡ lists_of (directed_chain (C.county chart.now) directed) }
-{
-    ChainLists {
-        two_points: directed.points(chart).count() == 2,
-        feats: directed.feats(chart).count() > 0,
-        ranges: directed.ranges(chart).count() > 0,
     }
 }

@@ -7,15 +7,14 @@
 ghost use Rattle.std.specs.Prelude.{◌≡◌, [], Some, IfOk, OnOk, flat_map, length, map, option_map};
 ghost use Rattle.ordered_lists.specs.Entries.{entry_values};
 ghost use Rattle.tl_number.specs.Arrangement.{polygons_in_order};
-ghost use Rattle.tl_number.specs.ChainLists.{lists_of};
 ghost use Rattle.tl_number.specs.EndsAndSides.{changed_both, ends_of, keys_at, sides_of};
 ghost use Rattle.tl_number.specs.Growth.{first_seen};
-ghost use Rattle.tl_number.specs.DirectedChains.{HasChainsOf, arrangement_of, parts_along};
+ghost use Rattle.tl_number.specs.DirectedChains.{HasChainsOf, arrangement_of};
 ghost use Rattle.tl_county.specs.DirectedChains.{directed_chain};
 ghost use Rattle.tl_number.specs.ViewFacts.{AreWhole, MatchesNodes, arranged_by};
 
-use crate::arranged_tables::{ChainLists, Ends, NodeTables, Sides};
-use crate::directed_readers::{ends_of_directed, lists_of_directed, sides_of_directed};
+use crate::arranged_tables::{Ends, NodeTables, Sides};
+use crate::directed_readers::{ends_of_directed, sides_of_directed};
 use crate::numbers::{Interner, NumericKey, marks_for};
 use ordered_lists::Key;
 use std::alloc::{AllocError, Global};
@@ -23,31 +22,24 @@ use std::hash::Hash;
 use tl_county::{Chart, DirectedChain, PolygonKey};
 use tl_layout::{NumberOrNone, Side};
 
-/// The ends and the sides of chains, and which lists each of them has.
-type Links = (Vec<Ends>, Vec<Sides>, Vec<ChainLists>);
-
-/// The ends and the sides of these directed chains, each one after the other, and which lists they have. They are read before any node
-/// or polygon is numbered, so that reading one chain need not wait for another, and in one walk, since a chain may lie anywhere in
-/// memory.
+/// The ends and the sides of these directed chains, each one after the other. They are read before any node or polygon is numbered, so
+/// that reading one chain need not wait for another, and in one walk, since a chain may lie anywhere in memory.
 pub(crate) fn links_along<C: Chart>(
     alloc: Global,
     chart: &C,
     arrangement: &[DirectedChain],
-) -> Result<Links, AllocError>
+) -> Result<(Vec<Ends>, Vec<Sides>), AllocError>
     requires { HasChainsOf (C.county chart.now) arrangement.now }
     ensures ends { IfOk result (λ met. map Some met.0.items ≡ map (λ directed. option_map ends_of (directed_chain (C.county chart.now) directed)) arrangement.now) }
     ensures sides { IfOk result (λ met. map Some met.1.items ≡ map (λ directed. option_map sides_of (directed_chain (C.county chart.now) directed)) arrangement.now) }
-    ensures lists { IfOk result (λ met. met.2.items ≡ parts_along lists_of (C.county chart.now) arrangement.now) }
 {
     let mut ends = Vec::with_capacity(alloc, arrangement.len())?;
     let mut sides = Vec::with_capacity(alloc, arrangement.len())?;
-    let mut lists = Vec::with_capacity(alloc, arrangement.len())?;
     for directed in arrangement {
         ends.push(ends_of_directed(chart, *directed))?;
         sides.push(sides_of_directed(chart, *directed))?;
-        lists.push(lists_of_directed(chart, *directed))?;
     }
-    Ok((ends, sides, lists))
+    Ok((ends, sides))
 }
 
 /// An end or a side of a chain. It may have a key, a node or a polygon, which is replaced with its number.
@@ -167,7 +159,7 @@ pub(crate) fn number_pairs<T: Half>(
 }
 
 /// The nodes and the polygons of a county in the order of their first appearance along these directed chains, start before end and left
-/// before right, the ends and the sides of these chains with the new numbers and keys, and which lists they have.
+/// before right, and the ends and the sides of these chains with the new numbers and keys.
 pub(crate) fn number_links<C: Chart>(
     alloc: Global,
     chart: &C,
@@ -178,14 +170,13 @@ pub(crate) fn number_links<C: Chart>(
     ensures polygons { IfOk result (λ tables. tables.1 ≡ polygons_in_order (C.county chart.now) (arrangement_of (C.county chart.now) arrangement.now)) }
     ensures sides { IfOk result (λ tables. tables.2.items ≡ map sides_of (entry_values (arranged_by (C.county chart.now) arrangement.now).chains)) }
 {
-    let (ends, sides, lists) = links_along(alloc, chart, arrangement)?;
+    let (ends, sides) = links_along(alloc, chart, arrangement)?;
     let (nodes, ends) = number_pairs(alloc, ends)?;
     let (polygons, sides) = number_pairs(alloc, sides)?;
     Ok((
         NodeTables {
             numbers: nodes,
             ends,
-            lists,
         },
         polygons,
         sides,

@@ -8,10 +8,6 @@ use Rattle.tl_number.proofs.Common.{slice_get_past, tlid_at, tlids, turned_if, u
 use Rattle.tl_number.proofs.Arrangements.Carrying.{chains_arranged, tlids_arranged}
 use Rattle.tl_number.proofs.Unique.SameNumbers.{kept_entry}
 use Rattle.tl_number.proofs.Views.DirectedChains.{one_here}
-use Rattle.tl_number.proofs.Common.{image, parts_along}
-use Rattle.std.specs.Prelude.{nat_eq, nat_lt}
-use Rattle.tl_number.specs.ChainLists.{lists_of}
-use Rattle.tl_number.specs.declared.arranged_tables.ChainLists.{ChainLists}
 
 -- a list read through a function of another list's elements
 pub read_there : {X Y : Type 0} (f : X → Option Y) (xs : List X) (ys : List Y) → map f xs ≡ map Some ys → (i : ℕ) (x : X)
@@ -108,36 +104,6 @@ module _ (county : County) (arrangement : List DirectedChain) (is : IsCounty cou
 
   pub unstated : {Y : Type 0} (F : Option Chain → Y) (i : ℕ) → None ≡ slice_get arrangement i → F None ≡ F (chain_at (arranged_by county arrangement) i)
   unstated F i e = sym (ap F (chain_missing i (sym e)))
-
-  -- which lists the chain at a place has, from what is stored along the arrangement
-  same_lists : (c : Chain) → lists_of (Some c) ≡ lists_of (Some (renumbered (renaming_of county order) c))
-  same_lists c = λ i. record {
-    two_points = nat_eq (length c.points) 2;
-    feats = nat_lt 0 (sym (length-map c.feats (image nat_cmp (renaming_of county order).names)) i);
-    ranges = nat_lt 0 (length c.ranges);
-  }
-
-  pub lists_there : (i : ℕ) (lists : ChainLists) → Some lists ≡ slice_get (parts_along lists_of county arrangement) i
-      → lists ≡ lists_of (chain_at (arranged_by county arrangement) i)
-  lists_there i lists e =
-      go (slice_get arrangement i) refl (e ∙ slice_get-map (λ directed. lists_of (directed_chain county directed)) arrangement i)
-    where
-      go : (o : Option DirectedChain) → o ≡ slice_get arrangement i → Some lists ≡ option_map (λ directed. lists_of (directed_chain county directed)) o
-          → lists ≡ lists_of (chain_at (arranged_by county arrangement) i)
-      go None there read = absurd (cc)
-      go (Some directed) there read =
-          let same : lists ≡ lists_of (directed_chain county directed) = cc in
-          same ∙ stated lists_of lists_of same_lists i directed there
-
-  pub lists_past : (i : ℕ) → None ≡ slice_get (parts_along lists_of county arrangement) i
-      → lists_of None ≡ lists_of (chain_at (arranged_by county arrangement) i)
-  lists_past i e =
-      go (slice_get arrangement i) refl (e ∙ slice_get-map (λ directed. lists_of (directed_chain county directed)) arrangement i)
-    where
-      go : (o : Option DirectedChain) → o ≡ slice_get arrangement i → None ≡ option_map (λ directed. lists_of (directed_chain county directed)) o
-          → lists_of None ≡ lists_of (chain_at (arranged_by county arrangement) i)
-      go None there read = unstated lists_of i there
-      go (Some directed) there read = absurd (cc)
 
   pub numbered_there : (i : ℕ) (s : DirectedChain) → Some s ≡ slice_get arrangement i
       → chain_at (arranged_by county arrangement) i ≡ option_map (renumbered (renaming_of county order)) (directed_chain county s)

@@ -16,7 +16,6 @@ returns-clause-nodes g c =
     record {
       numbers = c.in_ok-nodes.ensures.numbers ∙ nodes_met county arrangement is c.requires met c.in_ok-ends.ensures.ends;
       ends = c.in_ok-nodes.ensures.pairs ∙ ends_met county arrangement is c.requires met c.in_ok-ends.ensures.ends;
-      lists = c.in_ok-ends.ensures.lists;
     }
 
 pub returns-clause-polygons : goal.returns-clause-polygons
