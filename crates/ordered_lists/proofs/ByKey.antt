@@ -2,7 +2,6 @@ pub mod Keys
 pub mod KeyOrders
 pub mod KeyedLists
 pub mod KeysAscend
-pub mod KeysInOrder
 pub mod Numbers
 pub mod NumberSets
 pub mod SortedKeys

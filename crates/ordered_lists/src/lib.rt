@@ -2,8 +2,9 @@
 //!
 //! `Key` is a key that orders items exactly: keys that compare as equal are the same key. `sort_keys` and `sort_distinct` put keys in
 //! order, and `place_of` finds one. A `NumberSet` collects numbers, each once; `marks_of` makes a table of marks in which `is_marked`
-//! looks a number up by one read. `bring_close` moves items close to the order of their numbers, and `near_places` says where they are. The definitions are in
-//! `specs`, and the lemmas about lists in order, which the crates above cite, in `proofs`.
+//! looks a number up by one read. `bring_close` moves items close to the order of their numbers, and `near_places` finds the places
+//! of items in that order. The definitions are in `specs`, and the lemmas about lists in order, which the crates above cite, in
+//! `proofs`.
 #![tactic(auto)]
 
 mod keys;

@@ -26,8 +26,8 @@ ghost use Rattle.tl_layout.specs.Tables.{HoldsByType};
 
 mod arena;
 mod building;
-mod gathering;
 mod chain_heads;
+mod gathering;
 pub(crate) mod linked_records;
 pub(crate) mod near_order;
 mod owned;
@@ -175,7 +175,13 @@ fn build_landmarks<L: StoredLandmark, B: LandmarkBuilder<L>>(
     ensures { IfOk result (λ landmarks. map_values L.landmark landmarks ≡ landmarks_along (ordered_of tables.now)) }
 {
     let lands = lands_of(alloc, &tables.records.type_7)?;
-    let landmarks = landmarks_of::<L, B>(alloc, builder, &lands, &tables.records.type_7, &tables.records.type_8)?;
+    let landmarks = landmarks_of::<L, B>(
+        alloc,
+        builder,
+        &lands,
+        &tables.records.type_7,
+        &tables.records.type_8,
+    )?;
     Ok(Table::new(lands, landmarks))
 }
 
@@ -279,7 +285,10 @@ pub(crate) struct Gathered {
 }
 
 /// Puts the tables in order and checks the ten rules. Returns the first rule that the records break, if any.
-pub(crate) fn sort_and_check(alloc: Global, tables: &mut OrderedTables) -> Result<Gathered, LinkFault>
+pub(crate) fn sort_and_check(
+    alloc: Global,
+    tables: &mut OrderedTables,
+) -> Result<Gathered, LinkFault>
     ensures in_order { OnOk result (AreInOrder (ordered_of tables.new)) }
     ensures same { OnOk result (ArePermuted (typed_of tables.old.records) (ordered_of tables.new)) }
     ensures links_there { OnOk result (IsPermutation tables.new.records.type_i.items (ordered_of tables.new).of_type_i) }

@@ -1,11 +1,9 @@
 -- Canonical lists of records.
 use Rattle.std.specs.Prelude.{ℕ, ◌≡◌, ◌≤◌, List, [], ◌∷◌, map, length, false, ⊤}
 use Rattle.std.specs.Cmp.Lexicographic.{slice_cmp}
-use Rattle.std.specs.declared.cmp.Ordering.{Ordering}
-use Rattle.std.specs.Ordering.{is_gt, nat_cmp, on, then_cmp, ordering_then}
-use Rattle.tl_layout.specs.Fields.{Fields7}
+use Rattle.std.specs.Ordering.{is_gt, nat_cmp, on, then_cmp}
 use Rattle.tl_layout.specs.declared.record_type.Record.{Record}
-use Rattle.tl_county.specs.BodyOrder.{landmark_body_cmp, link_cmp}
+use Rattle.tl_county.specs.BodyOrder.{link_cmp}
 use Rattle.tl_layout.specs.ByType.{of_type_1, of_type_2, of_type_4, of_type_5, of_type_6, of_type_7, of_type_8, of_type_i}
 use Rattle.tl_layout.specs.ByType.{of_type_p, of_number}
 use Rattle.tl_layout.specs.RecordText.{text_of}

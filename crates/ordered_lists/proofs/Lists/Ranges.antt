@@ -1,9 +1,8 @@
 -- Ranges of numbers: they ascend, and a list with as many numbers below a bound, none of them twice, has all numbers below it.
 use Rattle.ordered_lists.proofs.Common.{◌≡◌, ◌⊎◌, ◌+◌, ◌<◌, ◌≤◌, ◌==◌, ℕ, zero, suc, List, [], ◌∷◌, ◌++◌, Bool, true, false, cond, get_or}
-use Rattle.ordered_lists.proofs.Common.{length, set, Ordering, Less, Equal, Greater, is_eq, sym, refl, ap, ◌∙◌, subst, inl, inr, arith}
+use Rattle.ordered_lists.proofs.Common.{length, set, Less, Equal, Greater, is_eq, sym, refl, ap, ◌∙◌, inl, inr, arith}
 use Rattle.ordered_lists.proofs.Common.{AllByRecursion, IsPermutation, false≢true, get_or-set_other, get_or-set_same, length-set, lt-ltb, times}
 use Rattle.std.proofs.Common.{nat_cmp}
-use Rattle.std.proofs.lemmas.List.FromFn.{length-range_with_len}
 use Rattle.std.specs.List.{range_with_len}
 use Rattle.std.specs.List.Sorted.{IsStrictlySortedBy}
 use Rattle.ordered_lists.proofs.ByKey.Keys.{IsApart, Known, apart_from_sorted, differ_apart, known_all, nat_keys, same_or_not}
@@ -108,7 +107,9 @@ all_taken free places t =
     there k h = go (times nat_cmp k places) refl
       where
         go : (m : ℕ) → times nat_cmp k places ≡ m → Known nat_cmp places k
-        go zero e = absurd (let few = few_numbers 0 (length places) (k ∷ places) (one_more k h e)
-            ((omega arith, h), all_weaker (λ p. p < length places) (λ p. (0 ≤ p) × (p < length places)) (λ p l. (omega arith, l))
-            places t.below) in omega (arith, few))
+        go zero e = absurd (let few = few_numbers 0 (length places) (k ∷ places) (one_more k h e) (
+          (omega arith, h),
+          all_weaker (λ p. p < length places) (λ p. (0 ≤ p) × (p < length places)) (λ p l. (omega arith, l))
+              places t.below,
+        ) in omega (arith, few))
         go (suc m) e = omega (arith, e)

@@ -61,7 +61,11 @@ impl<'a> InArena<'a> {
     }
 
     /// The points of a chain, from its records of types 1 and 2.
-    fn keep_points(&mut self, head: &ChainHead<'_>, shape: &[Rec2]) -> Result<&'a [Point], AllocError>
+    fn keep_points(
+        &mut self,
+        head: &ChainHead<'_>,
+        shape: &[Rec2],
+    ) -> Result<&'a [Point], AllocError>
         ensures { IfOk result (λ points. points.now ≡ head.now.start ∷ (flat_map (λ (r : Fields2). r.points) shape.now ++ (head.now.end ∷ []))) }
     {
         if shape.is_empty() {
@@ -116,7 +120,10 @@ impl<'a> InArena<'a> {
 }
 
 impl<'t, 'a> ChainBuilder<'t, ChainIn<'a>> for InArena<'a> {
-    fn build_chain<'h, 'r>(&mut self, records: &OneChain<'t, 'h, 'r>) -> Result<ChainIn<'a>, AllocError> {
+    fn build_chain<'h, 'r>(
+        &mut self,
+        records: &OneChain<'t, 'h, 'r>,
+    ) -> Result<ChainIn<'a>, AllocError> {
         let lists = self.join_lists(records)?;
         let around = surroundings_of(records.link);
         Ok(ChainIn::new(
@@ -131,7 +138,10 @@ impl<'t, 'a> ChainBuilder<'t, ChainIn<'a>> for InArena<'a> {
 }
 
 impl<'a> ChainBuilder<'a, ChainOver<'a>> for InArena<'a> {
-    fn build_chain<'h, 'r>(&mut self, records: &OneChain<'a, 'h, 'r>) -> Result<ChainOver<'a>, AllocError> {
+    fn build_chain<'h, 'r>(
+        &mut self,
+        records: &OneChain<'a, 'h, 'r>,
+    ) -> Result<ChainOver<'a>, AllocError> {
         let lists = self.join_lists(records)?;
         Ok(ChainOver::new(
             records.head.record(),

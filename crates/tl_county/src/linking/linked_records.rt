@@ -151,7 +151,11 @@ pub fn link_in_order(alloc: Global, tables: Tables) -> Result<LinkedRecords, Lin
     ensures broken { IfErr result (λ fault. fault ≢ Memory → (records : List Record) →
         HoldsByType tables records → IsFirstBrokenRule records fault) }
 {
-    let mut tables = OrderedTables::new(alloc, tables);
+    let mut tables = OrderedTables {
+        records: tables,
+        heads: Vec::new(alloc),
+        links: Vec::new(alloc),
+    };
     let gathered = sort_and_check(alloc, &mut tables)?;
     let tlids = gathered.tlids;
     let feats = gathered.feats;

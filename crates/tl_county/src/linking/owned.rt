@@ -38,7 +38,14 @@ impl<'t> ChainBuilder<'t, Chain> for Owned {
         let mut entries = Vec::with_capacity(self.alloc, records.ranges.len())?;
         join_ranges(&mut entries, records.ranges)?;
         let around = surroundings_of(link);
-        Ok(Chain::new(*head.record().body(), points, feats, entries, *link.body(), around))
+        Ok(Chain::new(
+            *head.record().body(),
+            points,
+            feats,
+            entries,
+            *link.body(),
+            around,
+        ))
     }
 }
 

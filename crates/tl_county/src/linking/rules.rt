@@ -26,7 +26,11 @@ use tl_layout::{Rec2, Rec4, Rec5, Rec6, Rec7, Rec8};
 
 /// Rules 11 and 12: no TLID has two records of type 1, and each record of types 2, 4, 6 and I has its chain. `tlids` are the TLIDs
 /// of the type 1 records, and `linked` those of the type I records; these lists are searched, not the records.
-pub(crate) fn check_chains(tables: &OrderedTables, tlids: &[u64], linked: &[u64]) -> Result<(), LinkFault>
+pub(crate) fn check_chains(
+    tables: &OrderedTables,
+    tlids: &[u64],
+    linked: &[u64],
+) -> Result<(), LinkFault>
     requires tables { AreInOrder (ordered_of tables.now) }
     requires tlids { tlids.now ≡ map one_tlid (ordered_of tables.now).of_type_1 }
     requires linked { linked.now ≡ map i_tlid (ordered_of tables.now).of_type_i }
@@ -76,7 +80,11 @@ pub(crate) fn check_sequences(repeated: &Repeated) -> Result<(), LinkFault>
 
 /// Rules 14 and 15: each record of type 1 has its record of type I, and no TLID has two. `tlids` are the TLIDs of the type 1
 /// records, and `linked` those of the type I records.
-pub(crate) fn check_links(tables: &OrderedTables, tlids: &[u64], linked: &[u64]) -> Result<(), LinkFault>
+pub(crate) fn check_links(
+    tables: &OrderedTables,
+    tlids: &[u64],
+    linked: &[u64],
+) -> Result<(), LinkFault>
     requires tables { AreInOrder (ordered_of tables.now) }
     requires tlids { tlids.now ≡ map one_tlid (ordered_of tables.now).of_type_1 }
     requires linked { linked.now ≡ map i_tlid (ordered_of tables.now).of_type_i }
@@ -142,7 +150,10 @@ pub(crate) fn unnamed_use(
 
 /// Rules 16 and 17: no FEAT has two records of type 5, and each FEAT that a type 4 record names has one. `unnamed` is the least use
 /// of a FEAT that has none.
-pub(crate) fn check_names(tables: &OrderedTables, unnamed: Option<(u64, u32)>) -> Result<(), LinkFault>
+pub(crate) fn check_names(
+    tables: &OrderedTables,
+    unnamed: Option<(u64, u32)>,
+) -> Result<(), LinkFault>
     requires tables { AreInOrder (ordered_of tables.now) }
     requires unnamed { IsLeastPassing sequence_cmp
         (is_unnamed (flat_map uses_of tables.now.records.type_4.items) (map five_feat tables.now.records.type_5.items)) unnamed }
@@ -177,7 +188,10 @@ pub(crate) fn check_landmarks(
         let polyid = key.1;
         return Err(LinkFault::PolygonTwice { cenid, polyid });
     }
-    if let Some(land) = least_unknown::<u64, Rec8, Rec7>(&tables.records.type_8, &tables.records.type_7) {
+    if let Some(land) = least_unknown::<u64, Rec8, Rec7>(
+        &tables.records.type_8,
+        &tables.records.type_7,
+    ) {
         return Err(LinkFault::LandUnknown { land });
     }
     if let Some(key) = least_unknown::<PolygonKey, PolygonKey, PolygonKey>(linked, polygons) {

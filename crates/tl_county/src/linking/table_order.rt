@@ -33,19 +33,6 @@ pub(crate) struct OrderedTables {
     pub(crate) links: Vec<u64>,
 }
 
-impl OrderedTables {
-    /// Tables whose records have no places yet.
-    pub(crate) fn new(alloc: Global, records: Tables) -> OrderedTables
-        ensures { result.records ≡ records }
-    {
-        OrderedTables {
-            records,
-            heads: Vec::new(alloc),
-            links: Vec::new(alloc),
-        }
-    }
-}
-
 /// The TLIDs of the records of types 1 and I.
 #[derive(Drop)]
 pub(crate) struct Tlids {
@@ -155,7 +142,11 @@ pub(crate) fn order_tables(alloc: Global, tables: &mut OrderedTables) -> Result<
         &mut records.type_6,
         &mut records.type_p,
     )?;
-    order_named(&mut records.type_5, &mut records.type_7, &mut records.type_8)?;
+    order_named(
+        &mut records.type_5,
+        &mut records.type_7,
+        &mut records.type_8,
+    )?;
     let tlids = order_chains(alloc, tables)?;
     Ok(Ordered { tlids, repeated })
 }

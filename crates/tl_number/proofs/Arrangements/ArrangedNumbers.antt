@@ -19,7 +19,7 @@ use Rattle.tl_number.specs.SeenRecords.{ShowsNoMore}
 use Rattle.tl_number.proofs.CanonicalLists.Ascending.{sides_in_profile}
 use Rattle.tl_number.proofs.Arrangements.Carrying.{arrangement_carries}
 use Rattle.tl_number.specs.RecordNumbers.{numbers_of, greatest_number}
-use Rattle.tl_number.proofs.Lists.Counting.{range_bounds}
+use Rattle.ordered_lists.proofs.Lists.Ranges.{range_bounds}
 use Rattle.tl_number.proofs.Arrangements.SmallNumbers.{IsSmall, IsSmallKey, NamesSmall, NumbersSmall, small_numbers_fit, packed_low}
 use Rattle.tl_number.proofs.Arrangements.ArrangedCounties.{is_arranged, arranged_county}
 use Rattle.tl_number.proofs.CanonicalLists.TidyLists.{canonical_is_choice}

@@ -10,7 +10,8 @@ use Rattle.ordered_lists.proofs.ByKey.KeyedLists.{lt_reversed}
 use Rattle.tl_profile.proofs.Places.{along_from}
 use Rattle.tl_profile.specs.ShapeOrder.{along_shape, directed_cmp}
 use Rattle.tl_number.specs.Arrangement.{comes_turned}
-use Rattle.tl_number.proofs.Lists.SortedPlaces.{sorted_items, each_item, item_places, places_below}
+use Rattle.tl_number.proofs.Lists.SortedPlaces.{sorted_items, each_item, item_places}
+use Rattle.ordered_lists.proofs.Lists.Ranges.{places_below}
 
 -- an order of optional values with none first
 pub options_total : {X : Type 0} {R : X → X → Ordering} → IsTotalOrder R → IsTotalOrder (option_cmp R)

@@ -20,7 +20,7 @@ use Rattle.tl_number.proofs.Arrangements.Carrying.{chains_arranged}
 use Rattle.tl_number.proofs.Choices.Choosing.{IsChosen, permutation_of_times, chosen_is_choice, choice_has_number, first_stated}
 use Rattle.tl_number.proofs.Arrangements.Placed.{arrangement_known, one_chain}
 use Rattle.tl_number.proofs.Unique.SameNumbers.{kept_entry}
-use Rattle.tl_number.proofs.Lists.SortedPlaces.{in_order-unmap}
+use Rattle.ordered_lists.proofs.Lists.InOrder.{in_order-unmap}
 
 -- points that don't come after their reverse, in the direction given, are the shape
 least_if : (turned : Bool) (ps : List Coordinates)

@@ -1,15 +1,13 @@
 -- Lists that count from a number: they ascend, and lists with the same length are equal.
-use Rattle.tl_number.proofs.Common.{Ordering, is_gt, is_eq, false, true≢false, ◌≡◌, ◌<◌, ◌+◌, ℕ, zero, suc, List, [], ◌∷◌, ◌++◌, map, flat_map, Less, Equal, Greater, refl, ap, arith}
-use Rattle.tl_number.proofs.Common.{nat_cmp, cond, ◌==◌, AllByRecursion, lt-ltb, range_with_len, up_to}
-use Rattle.tl_number.proofs.Common.{all_weaker, ◌≤◌, ◌-◌, Bool, Decides, false≢true, length, length-range_with_len, ltb-false, ltb-true, nat_lt, subst}
+use Rattle.tl_number.proofs.Common.{Ordering, is_gt, is_eq, false, true≢false, ◌≡◌, ◌<◌, ◌+◌, ℕ, List, [], ◌∷◌, ◌++◌, map, flat_map, Less, Equal, Greater, refl, ap, arith}
+use Rattle.tl_number.proofs.Common.{nat_cmp, AllByRecursion, range_with_len, up_to}
+use Rattle.tl_number.proofs.Common.{◌≤◌, ◌-◌, Bool, Decides, false≢true, length, length-range_with_len, ltb-false, ltb-true, nat_lt, subst}
 use Rattle.tl_number.proofs.Common.{sym, true, ◌∙◌}
 use Rattle.std.proofs.lemmas.List.FromFn.{get_or-range_with_len}
 use Rattle.std.specs.Bool.{MatchBool}
 use Rattle.std.specs.List.{AllWithin, HoldsAt}
 use Rattle.std.specs.List.Sorted.{IsStrictlySortedBy}
-
-pub less : (m n : ℕ) → m < n → nat_cmp m n ≡ Less
-less m n h = ap (λ b. cond b Less (cond (m == n) Equal Greater)) (lt-ltb m n h)
+use Rattle.ordered_lists.proofs.Lists.Ranges.{range_strict}
 
 -- a comparison that finds neither greater nor equal
 pub less_from : (o : Ordering) → is_gt o ≡ false → is_eq o ≡ false → o ≡ Less
@@ -17,27 +15,8 @@ less_from Less g e = refl
 less_from Equal g e = absurd (true≢false e)
 less_from Greater g e = absurd (true≢false g)
 
-above : (m a n : ℕ) → m < a → AllByRecursion (λ y. nat_cmp m y ≡ Less) (range_with_len a n)
-above m a zero h = tt
-above m a (suc n) h = (less m a h, above m (a + 1) n (omega arith))
-
-pub range_strict : (a n : ℕ) → IsStrictlySortedBy nat_cmp (range_with_len a n)
-unfolding IsStrictlySortedBy
-range_strict a zero = tt
-range_strict a (suc n) = (above a (a + 1) n (omega arith), range_strict (a + 1) n)
-
 pub up_to-strict : (n : ℕ) → IsStrictlySortedBy nat_cmp (up_to n)
 up_to-strict n = range_strict 1 n
-
--- and are within their bounds
-pub range_bounds : (a n : ℕ) → AllByRecursion (λ j. (a ≤ j) × (j < a + n)) (range_with_len a n)
-range_bounds a zero = tt
-range_bounds a (suc n) = (
-  (omega arith, omega arith),
-  all_weaker (λ j. (a + 1 ≤ j) × (j < (a + 1) + n)) (λ j. (a ≤ j) × (j < a + suc n))
-      (λ j h. (let low = h.0 in omega (arith, low), let high = h.1 in omega (arith, high))) (range_with_len (a + 1) n) (range_bounds
-      (a + 1) n),
-)
 
 -- entries with equal left parts and equal right parts are equal
 pub entries_equal : {A B : Type 0} (xs ys : List (A × B)) → map (λ e. e.0) xs ≡ map (λ e. e.0) ys → map (λ e. e.1) xs ≡ map (λ e. e.1) ys

@@ -7,7 +7,7 @@ use Rattle.tl_number.proofs.Common.{ordering_reverse, ordering_then, same_or_not
 use Rattle.tl_number.proofs.Common.{times-no, times-of_number, use_cmp, uses_of_name, None, Some, ltb-true, position_or_len}
 use Rattle.std.specs.List.Sorted.{IsStrictlySortedBy}
 use Rattle.ordered_lists.proofs.ByKey.Keys.{differ_apart, known-left}
-use Rattle.tl_number.proofs.Lists.Counting.{less}
+use Rattle.ordered_lists.proofs.Lists.Ranges.{less}
 use Rattle.tl_number.proofs.Numbering.FirstSeen.{known_within, place_from, place-append, place-new, seen_stays, unknown_at_end}
 use Rattle.tl_number.proofs.Numbering.FoundPlaces.{place_behind, to_position}
 use Rattle.tl_number.specs.NameItems.{from_one, rank_of}

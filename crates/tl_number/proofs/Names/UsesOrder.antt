@@ -4,7 +4,7 @@ use Rattle.tl_number.proofs.Common.{◌∙◌, subst, inl, inr, arith, nat_cmp, 
 use Rattle.tl_number.proofs.Common.{eqb-true, nat_cmp_total, nat_keys, ordering_then, pair_keys, tied_itself, use_cmp, uses_from}
 use Rattle.tl_number.proofs.Common.{uses_of_name}
 use Rattle.std.specs.List.Sorted.{IsStrictlySortedBy}
-use Rattle.tl_number.proofs.Lists.Counting.{less}
+use Rattle.ordered_lists.proofs.Lists.Ranges.{less}
 
 pub use_keys : IsKeyOrder use_cmp
 use_keys = pair_keys nat_keys nat_keys

@@ -3,7 +3,7 @@ use Rattle.tl_number.proofs.Common.{◌≡◌, ◌⊎◌, ◌<◌, ◌≤◌, �
 use Rattle.tl_number.proofs.Common.{nat_cmp, slice_get, all_among, among_known, known_is_among, length-range_with_len, lt-ltb, ltb-true}
 use Rattle.tl_number.proofs.Common.{nat_keys, range_with_len, slice_get_past, stands_in, times, up_to}
 use Rattle.std.proofs.lemmas.Bool.{false_from_ne_true}
-use Rattle.tl_number.proofs.Lists.Counting.{range_bounds}
+use Rattle.ordered_lists.proofs.Lists.Ranges.{range_bounds}
 use Rattle.tl_number.proofs.Views.DirectedChains.{among-get}
 
 get_range : (a n p : ℕ) → p < n → slice_get (range_with_len a n) p ≡ Some (a + p)

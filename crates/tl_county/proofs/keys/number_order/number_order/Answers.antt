@@ -1,8 +1,8 @@
-use Rattle.std.proofs.Common.{◌≡◌, ◌∙◌, IsPermutation, List, ap, length, map, nat_cmp, refl, subst, sym, ℕ}
+use Rattle.std.proofs.Common.{◌∙◌, IsPermutation, ap, length, map, nat_cmp, refl, subst, sym}
 use Rattle.tl_county.proofs.Common.{IsInOrder, IsPermutation-refl, length-map, on}
 use Rattle.std.specs.List.{range_with_len}
 use Rattle.ordered_lists.specs.Places.{at_places}
-use Rattle.ordered_lists.proofs.ByKey.KeysInOrder.{in_order-unmap}
+use Rattle.ordered_lists.proofs.Lists.InOrder.{in_order-unmap}
 use Rattle.ordered_lists.proofs.Lists.AtPlaces.{all_at_places, at_all_places, map-at_places}
 use Rattle.tl_county.proofs.keys.number_order.number_order.Goals as goal
 

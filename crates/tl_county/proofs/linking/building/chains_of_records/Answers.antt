@@ -16,10 +16,18 @@ loop-place-preserved g c =
     let place = at.place in
     let head = c.index-heads-place.result in
     let link = c.record-link.result.now in
-    let in_heads : place < length c.args.heads.now = omega (arith, c.loop-place-test.true, c.min-place-end.ensures,
-    min-le_left (length c.args.heads.now) (length c.args.links.now)) in
-    let in_links : place < length c.args.links.now = omega (arith, c.loop-place-test.true, c.min-place-end.ensures,
-    min-le_right (length c.args.heads.now) (length c.args.links.now)) in
+    let in_heads : place < length c.args.heads.now = omega (
+      arith,
+      c.loop-place-test.true,
+      c.min-place-end.ensures,
+      min-le_left (length c.args.heads.now) (length c.args.links.now),
+    ) in
+    let in_links : place < length c.args.links.now = omega (
+      arith,
+      c.loop-place-test.true,
+      c.min-place-end.ensures,
+      min-le_right (length c.args.heads.now) (length c.args.links.now),
+    ) in
     let heads : drop place c.args.heads.now ≡ head ∷ drop (place + 1) c.args.heads.now =
     drop_more c.args.heads.now place head (omega (arith, in_heads)) ∙ ap (λ x. x ∷ drop (place + 1) c.args.heads.now) (sym c.index-heads-place.is) in
     let links : drop place c.args.links.now ≡ link ∷ drop (place + 1) c.args.links.now =

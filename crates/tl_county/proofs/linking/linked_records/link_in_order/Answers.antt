@@ -1,19 +1,14 @@
-use Rattle.std.proofs.Common.{rules, subst}
 use Rattle.tl_county.proofs.Common.{ordered_of, typed_of}
-use Rattle.tl_layout.specs.declared.tables.Tables.{Tables}
-use Rattle.tl_county.specs.Limits.{HoldsWithinLimits}
-use Rattle.tl_county.specs.OrderedTables.{ArePermuted}
 use Rattle.tl_county.proofs.Rules.BuiltTables.{held, also_linked, same_county, within_limits-moved}
 use Rattle.tl_county.proofs.linking.linked_records.link_in_order.Goals as goal
 
 pub invariant_of-result : goal.invariant_of-result
 invariant_of-result c =
     let u = ordered_of c.sort_and_check.new.tables in
-    let stated = c.in_ok-gathered.ensures in
-    let permuted = subst (λ (t : Tables). ArePermuted (typed_of t) u) c.new-tables.ensures stated.same in (
+    let stated = c.in_ok-gathered.ensures in (
       stated.in_order,
       stated.linked,
-      within_limits-moved c.args.tables u c.requires permuted stated.linked,
+      within_limits-moved c.args.tables u c.requires stated.same stated.linked,
       stated.tlids,
       stated.feats,
       stated.polygons,
@@ -26,8 +21,7 @@ returns-clause-linked c records h =
     let t = typed_of c.args.tables in
     let u = ordered_of c.sort_and_check.new.tables in
     let holds = held c.args.tables records h in
-    let permuted = subst (λ (t : Tables). ArePermuted (typed_of t) u) c.new-tables.ensures c.in_ok-gathered.ensures.same in (
-      also_linked records t u holds permuted c.in_ok-gathered.ensures.linked,
-      same_county records t u holds permuted
-          c.in_ok-gathered.ensures.linked,
+    let stated = c.in_ok-gathered.ensures in (
+      also_linked records t u holds stated.same stated.linked,
+      same_county records t u holds stated.same stated.linked,
     )
