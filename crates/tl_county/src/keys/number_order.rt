@@ -47,7 +47,7 @@ fn sort_places(numbers: &[u64], places: &mut Vec<u64>) -> Result<(), AllocError>
 fn sorted_order(alloc: Global, numbers: &[u64]) -> Result<NumberOrder, AllocError>
     ensures permutation { IfOk result (λ order. IsPermutation (range_with_len 0 (length numbers.now)) order.places.items) }
     ensures numbers { IfOk result (λ order. order.numbers.items ≡ at_places numbers.now order.places.items) }
-    ensures in_order { IfOk result (λ order. IsInOrder nat_cmp order.numbers.items) }
+    ensures in_order { IfOk result (λ order. IsInOrder nat_cmp (at_places numbers.now order.places.items)) }
 {
     let mut places = near_places(alloc, Vec::from_slice(alloc, numbers)?)?;
     let near = numbers_at(alloc, numbers, &places)?;
@@ -79,6 +79,5 @@ pub(crate) fn number_order<T: Keyed<u64>>(
         let places = all_places(alloc, items.len())?;
         return Ok(NumberOrder { numbers, places });
     }
-    let order = sorted_order(alloc, &numbers)?;
-    Ok(order)
+    sorted_order(alloc, &numbers)
 }

@@ -74,10 +74,7 @@ impl<'t> ChainHead<'t> {
 fn head_at<'t>(records: &'t [Rec1], place: u64) -> Option<ChainHead<'t>>
     ensures { result ≡ slice_get records.now place }
 {
-    match records.get(place as usize) {
-        Some(head) => Some(ChainHead::new(head)),
-        None => None,
-    }
+    records.get(place as usize).map(|head| ChainHead::new(head))
 }
 
 /// The type 1 records at these places.
@@ -120,10 +117,9 @@ impl<'t> ChainLink<'t> {
 fn link_at<'t>(records: &'t [RecI], place: u64) -> Option<ChainLink<'t>>
     ensures { result ≡ slice_get records.now place }
 {
-    match records.get(place as usize) {
-        Some(link) => Some(ChainLink { record: link }),
-        None => None,
-    }
+    records
+        .get(place as usize)
+        .map(|link| ChainLink { record: link })
 }
 
 /// The type I records at these places.

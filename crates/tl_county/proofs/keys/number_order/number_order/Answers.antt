@@ -1,5 +1,6 @@
-use Rattle.std.proofs.Common.{◌∙◌, IsPermutation, ap, length, map, nat_cmp, refl, subst, sym}
+use Rattle.std.proofs.Common.{◌≡◌, ℕ, List, ◌∙◌, IsPermutation, ap, length, map, nat_cmp, refl, subst, sym}
 use Rattle.tl_county.proofs.Common.{IsInOrder, IsPermutation-refl, length-map, on}
+use Rattle.std.proofs.lemmas.Result.{IfOk-weaker}
 use Rattle.std.specs.List.{range_with_len}
 use Rattle.ordered_lists.specs.Places.{at_places}
 use Rattle.ordered_lists.proofs.Lists.InOrder.{in_order-unmap}
@@ -24,28 +25,42 @@ returns-then-are_in_order-clause-numbers g c =
     c.in_ok-numbers.ensures
     ∙ ap (map g.T.Keyed.key_of) (sym (ap (at_places items) c.in_ok-places.ensures ∙ at_all_places items))
 
+-- what a call says of the numbers says it of the items that have them
+module _ {X : Type 0} (key : X → ℕ) (items : List X) (numbers : List ℕ) (are : numbers ≡ map key items) where
+  reordered : (places : List ℕ) → IsPermutation (range_with_len 0 (length numbers)) places → IsPermutation items (at_places items places)
+  reordered places p = all_at_places items places
+      (subst (λ n. IsPermutation (range_with_len 0 n) places) (ap length are ∙ length-map items key) p)
+
+  keys_there : (found places : List ℕ) → found ≡ at_places numbers places → found ≡ map key (at_places items places)
+  keys_there found places e = e ∙ ap (λ ns. at_places ns places) are ∙ sym (map-at_places key items places)
+
 pub returns-clause-permutation : goal.returns-clause-permutation
 returns-clause-permutation g c =
     let items = c.args.items.now in
-    let places = c.in_ok-order.order.places.items in
-    all_at_places items places (subst (λ n. IsPermutation (range_with_len 0 n) places)
-    (ap length (c.deref-2.ensures.value ∙ c.in_ok-numbers.ensures) ∙ length-map items g.T.Keyed.key_of)
-    c.in_ok-order.ensures.permutation)
-
-pub returns-clause-in_order : goal.returns-clause-in_order
-returns-clause-in_order g c =
-    let items = c.args.items.now in
-    let places = c.in_ok-order.order.places.items in
-    let key = g.T.Keyed.key_of in
-    in_order-unmap nat_cmp key (at_places items places)
-    (subst (IsInOrder nat_cmp) (c.in_ok-order.ensures.numbers
-    ∙ ap (λ numbers. at_places numbers places) (c.deref-2.ensures.value ∙ c.in_ok-numbers.ensures)
-    ∙ sym (map-at_places key items places)) c.in_ok-order.ensures.in_order)
+    IfOk-weaker c.sorted_order.result
+    (λ order. IsPermutation (range_with_len 0 (length c.deref-2.result.now)) order.places.items)
+    (λ order. IsPermutation items (at_places items order.places.items))
+    (λ order p. reordered g.T.Keyed.key_of items c.deref-2.result.now (c.deref-2.ensures.value ∙ c.in_ok-numbers.ensures)
+    order.places.items p)
+    c.sorted_order.ensures.permutation
 
 pub returns-clause-numbers : goal.returns-clause-numbers
 returns-clause-numbers g c =
     let items = c.args.items.now in
-    let places = c.in_ok-order.order.places.items in
-    c.in_ok-order.ensures.numbers
-    ∙ ap (λ numbers. at_places numbers places) (c.deref-2.ensures.value ∙ c.in_ok-numbers.ensures)
-    ∙ sym (map-at_places g.T.Keyed.key_of items places)
+    IfOk-weaker c.sorted_order.result
+    (λ order. order.numbers.items ≡ at_places c.deref-2.result.now order.places.items)
+    (λ order. order.numbers.items ≡ map g.T.Keyed.key_of (at_places items order.places.items))
+    (λ order e. keys_there g.T.Keyed.key_of items c.deref-2.result.now (c.deref-2.ensures.value ∙ c.in_ok-numbers.ensures)
+    order.numbers.items order.places.items e)
+    c.sorted_order.ensures.numbers
+
+pub returns-clause-in_order : goal.returns-clause-in_order
+returns-clause-in_order g c =
+    let items = c.args.items.now in
+    IfOk-weaker c.sorted_order.result
+    (λ order. IsInOrder nat_cmp (at_places c.deref-2.result.now order.places.items))
+    (λ order. IsInOrder (on g.T.Keyed.key_of nat_cmp) (at_places items order.places.items))
+    (λ order h. in_order-unmap nat_cmp g.T.Keyed.key_of (at_places items order.places.items) (subst (IsInOrder nat_cmp)
+    (keys_there g.T.Keyed.key_of items c.deref-2.result.now (c.deref-2.ensures.value ∙ c.in_ok-numbers.ensures) _ order.places.items refl)
+    h))
+    c.sorted_order.ensures.in_order

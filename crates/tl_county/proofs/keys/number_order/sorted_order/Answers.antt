@@ -1,4 +1,4 @@
-use Rattle.std.proofs.Common.{◌≡◌, ◌∙◌, IsPermutation, List, ap, length, nat_cmp, refl, subst, sym, ℕ}
+use Rattle.std.proofs.Common.{◌≡◌, ◌∙◌, IsPermutation, List, ap, length, nat_cmp, refl, subst, ℕ}
 use Rattle.tl_county.proofs.Common.{IsInOrder, IsPermutation-trans}
 use Rattle.std.specs.List.{range_with_len}
 use Rattle.ordered_lists.specs.Places.{at_places}
@@ -14,7 +14,9 @@ all_places_sorted numbers copied near sorted long p q =
 
 pub returns-then-are_in_order-clause-in_order : goal.returns-then-are_in_order-clause-in_order
 returns-then-are_in_order-clause-in_order c =
-    subst (IsInOrder nat_cmp) c.deref-2.ensures.value (c.if-are_in_order.ensures.in_order refl)
+    subst (IsInOrder nat_cmp)
+    (c.deref-2.ensures.value ∙ c.in_ok-near.ensures ∙ ap (at_places c.args.numbers.now) c.deref.ensures.value)
+    (c.if-are_in_order.ensures.in_order refl)
 
 pub returns-clause-permutation : goal.returns-clause-permutation
 returns-clause-permutation c =
@@ -25,8 +27,7 @@ pub returns-clause-in_order : goal.returns-clause-in_order
 returns-clause-in_order c =
     let numbers = c.args.numbers.now in
     let sorted = c.sort_places.new.places.items in
-    subst (IsInOrder nat_cmp) (sym (c.in_ok-sorted.ensures ∙ ap (at_places numbers) c.deref-3.ensures.value))
-    (numbers_in_order numbers sorted
+    numbers_in_order numbers sorted
     (all_places_sorted numbers c.in_ok-from_slice.field-0.items c.in_ok-places.places.items sorted
     (ap length c.in_ok-from_slice.ensures.items) c.in_ok-places.ensures c.sort_places.ensures.permutation)
-    c.in_ok-sort_places.ensures.in_order)
+    c.in_ok-sort_places.ensures.in_order
