@@ -1,11 +1,13 @@
 -- A set is refused for the fault of its records.
+use Rattle.std.proofs.Common.{◌≡◌, Err, false, refl, subst}
 use Rattle.tigercanon.proofs.Common.{ℕ, List, Option, Record, tiger, SpellsWithin, spelled_fit, accepted_within}
 use Rattle.tigercanon.proofs.Common.{Fault, Load, Link, Profile, Write, Memory, ReportsRefusal, ReportsRead}
 use Rattle.tigercanon.proofs.Common.{AreRead, record_limit}
 use Rattle.tl_layout.specs.Tables.{HoldsByType}
 use Rattle.tl_layout.specs.declared.tables.Tables.{Tables}
 use Rattle.tl_county.specs.Limits.{HoldsWithinLimits}
-use Rattle.tigercanon.specs.Faults.{RefusesRecords}
+use Rattle.tigercanon.specs.Faults.{RefusesRecords, ReportsRefusalOfRead}
+use Rattle.tigercanon.specs.Normalising.{is_stopped}
 
 -- parts are refused for the fault of their records
 pub set_refused : (parts : List (List ℕ)) (records : List Record) → SpellsWithin tiger record_limit parts records → (f : Fault)
@@ -15,6 +17,19 @@ set_refused parts records spelled (Link f) h = λ ne. (records, spelled, h ne)
 set_refused parts records spelled (Profile f) h = λ ne. (records, spelled, (h ne).0, (h ne).1)
 set_refused parts records spelled (Write f) h = absurd h
 set_refused parts records spelled Memory h = tt
+
+-- and the fault isn't a device's
+pub refused_of_read : (parts : List (List ℕ)) (records : List Record) → SpellsWithin tiger record_limit parts records → (f : Fault)
+    → RefusesRecords records f → ReportsRefusalOfRead parts f
+refused_of_read parts records spelled f h = (set_refused parts records spelled f h, λ e. subst (RefusesRecords records) e h)
+
+-- the fault of records isn't a sink's
+pub not_stopped : (records : List Record) (f : Fault) → RefusesRecords records f → is_stopped (Err f) ≡ false
+not_stopped records (Load f) h = absurd h
+not_stopped records (Link f) h = refl
+not_stopped records (Profile f) h = refl
+not_stopped records (Write f) h = absurd h
+not_stopped records Memory h = refl
 
 -- the fault of the records of parts that were read is reported for what was read
 module _ {R : Type 0} (remaining : R → Option (List ℕ)) (given : R → ℕ) (before after : List R) (parts : List (List ℕ))

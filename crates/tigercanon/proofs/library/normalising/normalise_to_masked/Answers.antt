@@ -1,5 +1,7 @@
+use Rattle.std.proofs.Common.{◌+◌, ◌∙◌, ap, cond, sym}
 use Rattle.tigercanon.proofs.Common.{◌≡◌, ◌<◌, length, subst, take, err_from_is_err_and, masked, masked_sight, Took}
 use Rattle.tigercanon.proofs.CanonicalTexts.{match_err, match_ok}
+use Rattle.tigercanon.proofs.Refusing.{not_stopped, read_refused}
 use Rattle.tigercanon.proofs.Sets.{only_text}
 use Rattle.tigercanon.proofs.library.normalising.normalise_to_masked.Goals as goal
 
@@ -38,3 +40,18 @@ returns-in_err-written-clause-failures g c =
     let l = c.in_ok-linked.ensures.linked in
     let w = c.in_ok-made.ensures.made l.0 l.2 in
     rw (p.1, p.2) (match_err _ _ c.in_ok-made.made _ c.in_err-written.was w.out).1
+
+pub returns-in_err-made-clause-failures : goal.returns-in_err-made-clause-failures
+returns-in_err-made-clause-failures g c =
+    let p = err_from_is_err_and c.from_residual-in_err-made.result c.from_residual-in_err-made.ensures.1 in
+    let l = c.in_ok-linked.ensures.linked in
+    let failed = g.W.Sink.failed c.args.out.now in
+    rw (p.1, p.2) (ap g.W.Sink.failed c.in_err-made.ensures.untouched ∙ ap (λ b. cond b (failed + 1) failed)
+    (sym (not_stopped l.2.0 c.in_err-made.field-0.0 (c.in_err-made.ensures.refused l.2.0 l.2.2))))
+
+pub returns-in_err-made-clause-refused : goal.returns-in_err-made-clause-refused
+returns-in_err-made-clause-refused g c =
+    let p = err_from_is_err_and c.from_residual-in_err-made.result c.from_residual-in_err-made.ensures.1 in
+    let l = c.in_ok-linked.ensures.linked in
+    rw (p.1, p.2) (read_refused g.R.Source.remaining g.R.Source.given c.args.parts.now c.link_sources.new.parts l.0 l.1 l.2.0 l.2.1
+    c.in_err-made.field-0.0 (c.in_err-made.ensures.refused l.2.0 l.2.2))
