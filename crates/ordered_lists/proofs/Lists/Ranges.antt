@@ -18,12 +18,13 @@ above : (m a n : ℕ) → m < a → AllByRecursion (λ y. nat_cmp m y ≡ Less) 
 above m a zero h = tt
 above m a (suc n) h = (less m a h, above m (a + 1) n (omega arith))
 
+-- a range ascends strictly
 pub range_strict : (a n : ℕ) → IsStrictlySortedBy nat_cmp (range_with_len a n)
 unfolding IsStrictlySortedBy
 range_strict a zero = tt
 range_strict a (suc n) = (above a (a + 1) n (omega arith), range_strict (a + 1) n)
 
--- and are within their bounds
+-- its numbers are within its bounds
 pub range_bounds : (a n : ℕ) → AllByRecursion (λ j. (a ≤ j) × (j < a + n)) (range_with_len a n)
 range_bounds a zero = tt
 range_bounds a (suc n) = (

@@ -7,8 +7,8 @@ use std::alloc::{AllocError, Global};
 use std::marker::Model;
 use tl_layout::{Point, Rec1, RecI};
 
-/// A type 1 record, with its TLID and its ends. The records of a county lie in any order, so each may have to wait for memory:
-/// these fields are read from all of them before the first chain is built, when many can wait at the same time.
+/// A type 1 record, with its TLID and its ends. The records of a county lie in any order, so each read may wait for memory. These
+/// fields are read from all records before the first chain is built, so that many of these waits overlap.
 #[derive(Drop)]
 pub(crate) struct ChainHead<'t> {
     record: &'t Rec1,
