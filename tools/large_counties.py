@@ -218,7 +218,13 @@ def range_ties(count: int) -> County:
     return ties(count, [{"ranges": [{"FRADDL": f"{number:>11}", "FRIADDL": "1"}]} for number in range(1, TIED + 1)])
 
 
-def ties(count: int, seven: list[dict[str, Any]]) -> County:
+def side_ties(count: int) -> County:
+    """Each of the seven chains has nodes of its own and a polygon on its left, and they are in the order of the polygons' points."""
+    polygons = [maps.Polygon({"FILE": maps.FILE, "WATER": "0"}, (WEST - place, int(LATITUDE))) for place in range(TIED)]
+    return ties(count, [{"left": polygon} for polygon in range(TIED)], polygons)
+
+
+def ties(count: int, seven: list[dict[str, Any]], polygons: Sequence[maps.Polygon] = ()) -> County:
     """A street with seven chains of one shape, all between nodes of their own unless it says otherwise: all 5,040 orders of them have the
     same records of type 1."""
     nodes, link = itertools.count(TIED_PLACE + 1), {"FILE": maps.FILE}
@@ -226,7 +232,7 @@ def ties(count: int, seven: list[dict[str, Any]]) -> County:
     further = next(nodes) - TIED_PLACE - 1
     chains = [street_chain(place, place, place + 1, link=link) for place in range(TIED_PLACE)] + tied
     chains += [street_chain(place, place + further, place + further + 1, link=link) for place in range(TIED_PLACE + 1, count)]
-    return spelled(maps.County(chains, [], [], [], outside=" " * 15))
+    return spelled(maps.County(chains, [], list(polygons), [], outside=" " * 15))
 
 
 def name_line() -> bytes:
