@@ -94,8 +94,8 @@ pub use Rattle.tl_number.specs.ChoiceSearch.{IsChosen, IsLesserTie, LeavesChoice
 pub use Rattle.tl_number.specs.CountyGroups.{type_1_by_chain, type_2_by_chain, type_4_by_chain, type_5_by_name, type_6_by_chain}
 pub use Rattle.tl_number.specs.CountyGroups.{type_7_by_landmark, type_8_together, type_i_by_chain, type_p_by_number, types_1_to_4}
 pub use Rattle.tl_number.specs.CountyGroups.{types_5_to_7, types_8_to_p}
-pub use Rattle.tl_number.specs.CriticalPlaces.{HasNodes, critical_from, critical_numbers, ends_along, ends_at, ends_cmp}
-pub use Rattle.tl_number.specs.CriticalPlaces.{ends_or_none, is_open, node_cmp, renumbered_ends}
+pub use Rattle.tl_number.specs.CriticalPlaces.{AreTieTables, IsOpenOrder, critical_numbers}
+pub use Rattle.tl_number.specs.OpenKeys.{AreOpenKeys, first_open, is_open, keys_along, newly_seen, open_keys, place_in}
 pub use Rattle.tl_number.specs.DirectedChains.{HasChainsOf, arrangement_of, parts_along, tlid_at}
 pub use Rattle.tl_number.specs.EndsAndSides.{changed_both, ends_among, ends_of, keys_at, node_among, nodes_at, sides_of}
 pub use Rattle.tl_number.specs.Groups.{AreHeads, group_at, grouped, rest_of}

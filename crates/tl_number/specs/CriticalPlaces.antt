@@ -1,117 +1,80 @@
--- The places where the numbers of nodes can differ between choices.
-use Rattle.std.specs.Prelude.{ℕ, suc, ◌≡◌, ◌+◌, ◌&&◌, List, [], ◌∷◌, ◌++◌, map, flat_map, get_or, slice_get, Bool, true, cond, not, nat_le, nat_lt}
-use Rattle.std.specs.Prelude.{Option, Some, None, option_map, option_to_list, unwrap_or, IsTrue}
-use Rattle.std.specs.List.{AllByRecursion, list_any}
-use Rattle.std.specs.Ordering.{nat_cmp, ordering_then}
+-- Places and numbers at which choices can differ, and what is made of them to compare choices that tie.
+use Rattle.std.specs.Prelude.{ℕ, zero, suc, ◌≡◌, ◌+◌, ◌&&◌, ◌||◌, List, [], ◌∷◌, Bool, cond, false, filter, is_some, length, map, not, option_to_list, slice_get, true}
+use Rattle.std.specs.List.{AllByRecursion, list_any, range_with_len}
+use Rattle.std.specs.Option.{option_and_then}
+use Rattle.std.specs.Ordering.{nat_cmp}
 use Rattle.std.specs.declared.cmp.Ordering.{Ordering}
-use Rattle.tl_layout.specs.PolygonSide.{PolygonSide}
-use Rattle.tl_layout.specs.declared.type_i.BodyI.{BodyI}
-use Rattle.tl_shape.specs.Chain.{Chain}
-use Rattle.tl_county.specs.County.{County}
-use Rattle.tl_county.specs.declared.directed_chain.DirectedChain.{DirectedChain}
-use Rattle.tl_profile.specs.declared.open_places.OpenPlace.{OpenPlace}
-use Rattle.tl_profile.specs.ShapeOrder.{OrderOfShapes}
 use Rattle.ordered_lists.specs.Orders.{stands_in}
-use Rattle.tl_number.specs.DirectedChains.{parts_along}
-use Rattle.tl_number.specs.EndsAndSides.{ends_among, ends_of, nodes_at}
-use Rattle.tl_number.specs.Growth.{first_seen, first_seen_after}
-use Rattle.tl_number.specs.declared.critical_places.CriticalEnds.{CriticalEnds}
-use Rattle.tl_number.specs.declared.critical_places.CriticalEnds.TheVariants.{Open, Fixed}
+use Rattle.tl_county.specs.ChartWords.{polygon_under}
+use Rattle.tl_county.specs.County.{County, link_key}
+use Rattle.tl_county.specs.CountyRules.{chain_nodes, chain_polygons}
+use Rattle.tl_county.specs.PolygonKeys.{PolygonKey, key_cmp}
+use Rattle.tl_county.specs.declared.directed_chain.DirectedChain.{DirectedChain}
+use Rattle.tl_profile.specs.ShapeOrder.{OrderOfShapes}
+use Rattle.tl_profile.specs.declared.open_places.OpenPlace.{OpenPlace}
+use Rattle.tl_number.specs.Groups.{group_at, grouped}
+use Rattle.tl_number.specs.OpenKeys.{AreOpenKeys, first_open, is_open, keys_along, open_among}
+use Rattle.tl_number.specs.declared.open_keys.OpenKeys.{OpenKeys}
+use Rattle.tl_number.specs.declared.tie_tables.OpenOrder.{OpenOrder}
+use Rattle.tl_number.specs.declared.tie_tables.TieTables.{TieTables}
 
--- what a chain's record of type I has, except for its nodes
-pub record Topology : Type 0 where
-  pub body : BodyI
-  pub left : PolygonSide
-  pub right : PolygonSide
+-- the keys at the fixed ones of the first places
+abbrev pub fixed_keys : {K : Type 0} → List OpenPlace → List (List K) → ℕ → List K
+fixed_keys places along count = grouped (map (group_at along) (filter (λ place. not (is_open places place)) (range_with_len 0 count)))
 
-abbrev pub topology : Chain → Topology
-topology chain = record { body = chain.topology; left = chain.left; right = chain.right }
+-- whether one of the keys is open, and isn't among those met before
+abbrev pub has_new : {K : Type 0} → (K → K → Ordering) → List K → List K → List K → Bool
+has_new cmp opened met keys = list_any (λ key. stands_in cmp key opened && not (stands_in cmp key met)) keys
 
-abbrev pub topologies : Option Chain → List Topology
-topologies chain = option_to_list (option_map topology chain)
+-- whether a place has an open key that no fixed place before it has
+abbrev pub brings : {K : Type 0} → (K → K → Ordering) → List OpenPlace → List K → List (List K) → ℕ → Bool
+brings cmp places opened along place = has_new cmp opened (fixed_keys places along place) (group_at along place)
 
--- two chains, or none, have the same sides and the same content in their records of type I
-pub record HaveSameSides (o p : Option Chain) : Type 0 where
-  pub body : option_map (λ c. c.topology) o ≡ option_map (λ c. c.topology) p
-  pub left : option_map (λ c. c.left) o ≡ option_map (λ c. c.left) p
-  pub right : option_map (λ c. c.right) o ≡ option_map (λ c. c.right) p
+-- whether records of type I can differ at a place when they tie at all earlier ones: it's open, or the first fixed place of an open key
+abbrev pub is_critical : List OpenPlace → List ℕ → List (List ℕ) → List PolygonKey → List (List PolygonKey) → ℕ → Bool
+is_critical places nodes nodes_along polygons polygons_along place = is_open places place
+    || (brings nat_cmp places nodes nodes_along place || brings key_cmp places polygons polygons_along place)
 
--- the nodes at the ends of a chain, if there is one
-abbrev pub ends_or_none : Option Chain → Option ℕ × Option ℕ
-ends_or_none None = (None, None)
-ends_or_none (Some chain) = ends_of chain
+abbrev pub critical_among : List OpenPlace → List ℕ → List (List ℕ) → List PolygonKey → List (List PolygonKey) → ℕ → List ℕ
+critical_among places nodes nodes_along polygons polygons_along count =
+    filter (is_critical places nodes nodes_along polygons polygons_along) (range_with_len 0 count)
 
--- the same for each directed chain of an arrangement
-abbrev pub ends_along : County → List DirectedChain → List (Option ℕ × Option ℕ)
-ends_along county arrangement = parts_along ends_or_none county arrangement
+-- Of the numbers from one on, those of open keys, and after each run of these the first other one with a record. `pending` says that
+-- an open number was passed, and no other one with a record since.
+abbrev pub critical_numbers : (ℕ → Bool) → (ℕ → Bool) → Bool → ℕ → ℕ → List ℕ
+critical_numbers opened has_record pending number zero = []
+critical_numbers opened has_record pending number (suc count) = cond (opened number)
+    (number ∷ critical_numbers opened has_record true (number + 1) count)
+    (cond (pending && has_record number) (number ∷ critical_numbers opened has_record false (number + 1) count)
+    (critical_numbers opened has_record pending (number + 1) count))
 
--- whether an open place moves a chain to or from the place
-abbrev pub is_open : ℕ → List OpenPlace → Bool
-is_open place places = list_any (λ at. nat_le at.place place && nat_lt place (at.place + at.alike)) places
+-- whether the polygon at a place among all is open, and whether it has a record of type P
+abbrev pub is_open_number : List PolygonKey → List PolygonKey → ℕ → Bool
+is_open_number opened all number = list_any (λ key. stands_in key_cmp key opened) (option_to_list (slice_get all number))
 
--- these are nodes that a list has
-abbrev pub HasNodes : List ℕ → List ℕ → Type 0
-HasNodes nodes = AllByRecursion (λ node. IsTrue (stands_in nat_cmp node nodes))
+abbrev pub has_record : County → List PolygonKey → ℕ → Bool
+has_record county all number =
+    list_any (λ key. is_some (option_and_then (λ body. body) (polygon_under county key))) (option_to_list (slice_get all number))
 
--- the list has the nodes of the chains at all open places
-abbrev pub HasOpenNodes : List OpenPlace → List (Option ℕ × Option ℕ) → List ℕ → Type 0
-HasOpenNodes places ends nodes = (place : ℕ) (pair : Option ℕ × Option ℕ) → is_open place places ≡ true → slice_get ends place ≡ Some pair
-    → HasNodes nodes (nodes_at pair)
+-- the critical numbers from one on
+abbrev pub critical_from : County → OpenKeys (List PolygonKey) → Bool → ℕ → ℕ → List ℕ
+critical_from county polygons = critical_numbers (is_open_number polygons.opened polygons.all) (has_record county polygons.all)
 
--- the node, if it is one of these nodes of open chains and wasn't met before
-abbrev pub newly_met : List ℕ → List ℕ → Option ℕ → Option ℕ
-newly_met nodes met None = None
-newly_met nodes met (Some node) = cond (stands_in nat_cmp node nodes && not (stands_in nat_cmp node met)) (Some node) None
+-- no landmark has an open polygon
+abbrev pub HasNoOpenLink : County → List PolygonKey → Type 0
+HasNoOpenLink county opened = AllByRecursion (λ link. stands_in key_cmp (link_key link) opened ≡ false) county.links
 
--- the nodes met after one more
-abbrev pub met_after : List ℕ → Option ℕ → List ℕ
-met_after met node = first_seen_after nat_cmp met (option_to_list node)
+-- the tables of a county whose chains are in the order of their shapes
+pub record AreTieTables (county : County) (shapes : OrderOfShapes) (tables : TieTables) : Type 0 where
+  pub nodes : AreOpenKeys nat_cmp shapes.places (keys_along chain_nodes county shapes.by_shape) tables.nodes
+  pub polygons : AreOpenKeys key_cmp shapes.places (keys_along chain_polygons county shapes.by_shape) tables.polygons
+  pub opened : tables.opened.items ≡ open_among shapes.places (length shapes.by_shape)
+  pub critical : tables.critical.items ≡ critical_among shapes.places tables.nodes.opened (keys_along chain_nodes county shapes.by_shape)
+      tables.polygons.opened (keys_along chain_polygons county shapes.by_shape) (length shapes.by_shape)
+  pub numbers : tables.numbers.items ≡ critical_from county tables.polygons false 0 (length tables.polygons.all)
+  pub unlinked : tables.linked ≡ false → HasNoOpenLink county tables.polygons.opened
 
--- the same for both ends of a chain, start before end
-abbrev pub newly_met_ends : List ℕ → List ℕ → Option ℕ × Option ℕ → Option ℕ × Option ℕ
-newly_met_ends nodes met ends = (newly_met nodes met ends.0, newly_met nodes (met_after met (newly_met nodes met ends.0)) ends.1)
-
-abbrev pub met_after_both : List ℕ → Option ℕ × Option ℕ → List ℕ
-met_after_both met ends = met_after (met_after met ends.0) ends.1
-
--- the ends of a fixed place, unless it has none
-abbrev pub fixed_ends : Option ℕ → Option ℕ → List CriticalEnds
-fixed_ends None None = []
-fixed_ends None (Some end) = Fixed (None, Some end) ∷ []
-fixed_ends (Some start) end = Fixed (Some start, end) ∷ []
-
--- The critical ends from a place on: the ends at each open place, and at each fixed place the nodes of open chains that no fixed
--- place before has.
-abbrev pub critical_from : List ℕ → List OpenPlace → List ℕ → ℕ → List (Option ℕ × Option ℕ) → List CriticalEnds
-critical_from nodes places met place [] = []
-critical_from nodes places met place (ends ∷ rest) = cond (is_open place places)
-    (Open place ∷ critical_from nodes places met (suc place) rest)
-    (fixed_ends (newly_met_ends nodes met ends).0 (newly_met_ends nodes met ends).1
-    ++ critical_from nodes places (met_after_both met (newly_met_ends nodes met ends)) (suc place) rest)
-
--- the critical ends of a county whose chains are in the order of their shapes
-pub record AreCritical (county : County) (shapes : OrderOfShapes) (critical : List CriticalEnds) : Type 0 where
-  pub nodes : List ℕ
-  pub open_nodes : HasOpenNodes shapes.places (ends_along county shapes.by_shape) nodes
-  pub all : critical ≡ critical_from nodes shapes.places [] 0 (ends_along county shapes.by_shape)
-
--- critical ends in an arrangement with these ends
-abbrev pub ends_at : List (Option ℕ × Option ℕ) → CriticalEnds → Option ℕ × Option ℕ
-ends_at ends (Open place) = get_or ends place (None, None)
-ends_at ends (Fixed pair) = pair
-
--- ends whose nodes are numbered by their first appearance among these ends
-abbrev pub renumbered_ends : List (Option ℕ × Option ℕ) → List (Option ℕ × Option ℕ)
-renumbered_ends ends = map (ends_among (first_seen nat_cmp (flat_map nodes_at ends))) ends
-
--- critical ends in an arrangement, numbered among themselves
-abbrev pub critical_numbers : County → List CriticalEnds → List DirectedChain → List (Option ℕ × Option ℕ)
-critical_numbers county critical arrangement = renumbered_ends (map (ends_at (ends_along county arrangement)) critical)
-
--- the order of two nodes by their numbers; none comes first
-abbrev pub node_cmp : Option ℕ → Option ℕ → Ordering
-node_cmp a b = nat_cmp (unwrap_or a 0) (unwrap_or b 0)
-
--- the order of the ends of two chains, start before end
-abbrev pub ends_cmp : Option ℕ × Option ℕ → Option ℕ × Option ℕ → Ordering
-ends_cmp a b = ordering_then (node_cmp a.0 b.0) (node_cmp a.1 b.1)
+-- the open keys in the order of their first appearance along an arrangement
+pub record IsOpenOrder (county : County) (shapes : OrderOfShapes) (arrangement : List DirectedChain) (order : OpenOrder) : Type 0 where
+  pub nodes : order.nodes ≡ first_open nat_cmp shapes.places (keys_along chain_nodes county arrangement)
+  pub polygons : order.polygons ≡ first_open key_cmp shapes.places (keys_along chain_polygons county arrangement)

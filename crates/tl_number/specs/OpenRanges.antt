@@ -7,13 +7,10 @@ use Rattle.tl_county.specs.County.{County}
 use Rattle.tl_county.specs.DirectedChains.{directed_chain}
 use Rattle.tl_county.specs.Packing.{numbered_from}
 use Rattle.tl_county.specs.declared.directed_chain.DirectedChain.{DirectedChain}
-use Rattle.tl_number.specs.declared.critical_places.CriticalEnds.{CriticalEnds}
-use Rattle.tl_number.specs.declared.critical_places.CriticalEnds.TheVariants.{Open, Fixed}
 
 -- an open place with its chain in an arrangement
-abbrev pub open_chain : List DirectedChain → CriticalEnds → Option (ℕ × DirectedChain)
-open_chain arrangement (Open place) = option_map (λ directed. (place, directed)) (slice_get arrangement place)
-open_chain arrangement (Fixed pair) = None
+abbrev pub open_chain : List DirectedChain → ℕ → Option (ℕ × DirectedChain)
+open_chain arrangement place = option_map (λ directed. (place, directed)) (slice_get arrangement place)
 
 -- the type 6 records with these address ranges and this TLID
 abbrev pub sixes_under : ℕ → List Ranges → List Fields6
@@ -24,6 +21,6 @@ abbrev pub sixes_of : County → Option (ℕ × DirectedChain) → List Fields6
 sixes_of county None = []
 sixes_of county (Some placed) = sixes_under (placed.0 + 1) (ranges_of (directed_chain county placed.1))
 
--- the type 6 records of an arrangement at an open place; there are none for the ends of a fixed place
-abbrev pub sixes_at : County → List DirectedChain → CriticalEnds → List Fields6
-sixes_at county arrangement critical = sixes_of county (open_chain arrangement critical)
+-- the type 6 records of an arrangement at a place
+abbrev pub sixes_at : County → List DirectedChain → ℕ → List Fields6
+sixes_at county arrangement place = sixes_of county (open_chain arrangement place)

@@ -1,282 +1,223 @@
-//! The places where choices can differ in the numbers of their nodes.
+//! The places and the numbers at which choices can differ when they tie at all earlier ones.
 //!
-//! Choices have the same chains at all places except the open ones, and nodes are numbered by first appearance. The first number
-//! that differs between two choices is at an open place, or at the first fixed place of a node that a chain at an open place has.
-//! These ends are critical. They are collected once. Each choice then numbers the nodes at critical ends among themselves. Two
-//! choices first differ in these small numbers where they first differ in the numbers of the whole county, and in the same order.
+//! Records of type I can differ at open places, and at the first fixed place of an open key. At a later fixed place with the same key
+//! they can't: there the key has the same number in both choices, or they differed before. Records of type P can only differ under the
+//! numbers of open polygons. Where one choice has a record and the other has none, the next record decides, so the first fixed one
+//! after each run of open numbers is looked at too.
 
+ghost use Rattle.std.specs.List.{AllByRecursion, list_any, range_with_len};
+ghost use Rattle.std.specs.Option.{option_and_then};
+ghost use Rattle.std.specs.Prelude.{◌≡◌, ◌&&◌, ◌||◌, ◌++◌, ◌+◌, ◌<◌, ◌^◌, [], ℕ, suc, IfOk, OnOk, cond, false, filter, get_or, is_some, length, map, option_to_list};
 ghost use Rattle.ordered_lists.specs.Orders.{stands_in};
-ghost use Rattle.std.specs.Cmp.Lexicographic.{slice_cmp};
-ghost use Rattle.std.specs.Ordering.{nat_cmp};
-ghost use Rattle.std.specs.Prelude.{◌≡◌, ◌+◌, ◌<◌, ◌^◌, ◌&&◌, ◌++◌, ◌∷◌, [], ℕ, List, Option, None, get_or, length, map, nat_le, nat_lt, suc, true, unwrap_or, IfOk, IsTrue, OnOk};
-ghost use Rattle.tl_number.specs.CriticalPlaces.{AreCritical, HasNodes, HasOpenNodes, critical_from, critical_numbers, ends_along, ends_at, ends_cmp, fixed_ends, is_open, met_after, met_after_both, newly_met, newly_met_ends};
-ghost use Rattle.tl_number.specs.DirectedChains.{HasChainsOf};
-ghost use Rattle.tl_number.specs.EndsAndSides.{nodes_at};
+ghost use Rattle.tl_county.specs.ChartWords.{links_at, polygon_under};
+ghost use Rattle.tl_county.specs.County.{link_key};
+ghost use Rattle.tl_county.specs.PolygonKeys.{key_cmp};
+ghost use Rattle.tl_number.specs.CriticalPlaces.{HasNoOpenLink, brings, critical_from, has_new};
+ghost use Rattle.tl_number.specs.EndsAndSides.{keys_at};
+ghost use Rattle.tl_number.specs.Growth.{first_seen_after};
+ghost use Rattle.tl_number.specs.OpenKeys.{is_open, open_among as open_places_among};
 
-use crate::arranged_tables::Ends;
-use crate::directed_readers::ends_of_directed;
-use crate::first_appearance::{links_along, number_pairs};
-use crate::numbers::{Interner, marks_for};
+use crate::first_appearance::Half;
+use crate::numbers::Interner;
+use crate::open_keys::{OpenKeys, has_key, is_open_at, see_if_opened};
 use std::alloc::{AllocError, Global};
-use std::cmp::Ordering;
-use tl_county::{Chart, DirectedChain};
-use tl_layout::NumberOrNone;
-use tl_profile::{OpenPlace, ShapeOrder};
+use tl_county::{Chart, PolygonKey};
+use tl_layout::Rec8;
+use tl_profile::OpenPlace;
 
-/// Ends that are critical.
-#[derive(Clone, Copy)]
-pub(crate) enum CriticalEnds {
-    /// The ends of the chain at an open place, which differ from choice to choice.
-    Open(u32),
-    /// Ends of the chain at a fixed place, without those that aren't critical.
-    Fixed(Ends),
-}
-
-/// Whether an open place moves a chain to or from a place.
-fn covers(at: OpenPlace, place: usize) -> bool
-    ensures { result ≡ (nat_le at.place place && nat_lt place (at.place + at.alike)) }
+/// Whether the key of an end or a side is open, and wasn't met before.
+fn is_new<T: Half>(opened: &Interner<T::Old>, met: &Interner<T::Old>, half: T) -> bool
+    ensures { result ≡ has_new T.Old.cmp opened.now met.now (T.keys half) }
 {
-    let first = at.place as usize;
-    first <= place && place < first + at.alike as usize
-}
-
-/// Whether one of these open places moves a chain to or from a place.
-fn is_open_at(places: &[OpenPlace], place: usize) -> bool
-    ensures { result ≡ is_open place places.now }
-{
-    places.iter().any(|at| covers(*at, place))
-}
-
-/// Sees a node, if there is one.
-fn see_node(nodes: &mut Interner<u64>, node: NumberOrNone) -> Result<(), AllocError>
-    ensures { OnOk result (nodes.new ≡ met_after nodes.old node) }
-{
-    match node.get() {
-        Some(number) => nodes.see(number),
-        None => Ok(()),
+    match half.key() {
+        Some(key) => has_key(opened, key) && !has_key(met, key),
+        None => false,
     }
 }
 
-/// Sees both nodes at the ends of a chain, start before end.
-fn see_both(nodes: &mut Interner<u64>, ends: Ends) -> Result<(), AllocError>
-    ensures { OnOk result (nodes.new ≡ met_after_both nodes.old ends) }
+/// Whether one of both ends or sides has an open key that wasn't met before.
+fn has_new_key<T: Half>(opened: &Interner<T::Old>, met: &Interner<T::Old>, pair: (T, T)) -> bool
+    ensures { result ≡ has_new T.Old.cmp opened.now met.now (keys_at T.keys pair) }
 {
-    let (start, end) = ends;
-    see_node(nodes, start)?;
-    see_node(nodes, end)
+    let (first, second) = pair;
+    is_new(opened, met, first) || is_new(opened, met, second)
 }
 
-/// Sees both nodes at the ends of the chain at a place, if the place is open.
-fn see_if_open(
-    nodes: &mut Interner<u64>,
-    places: &[OpenPlace],
-    place: usize,
-    ends: Ends,
+/// Meets the open keys of both ends or sides.
+fn meet<T: Half>(
+    opened: &Interner<T::Old>,
+    met: &mut Interner<T::Old>,
+    pair: (T, T),
 ) -> Result<(), AllocError>
-    ensures grown { OnOk result ((node : ℕ) → IsTrue (stands_in nat_cmp node nodes.old) → IsTrue (stands_in nat_cmp node nodes.new)) }
-    ensures seen { OnOk result (is_open place places.now ≡ true → HasNodes nodes.new (nodes_at ends)) }
+    ensures { OnOk result (met.new ≡ first_seen_after T.Old.cmp met.old (filter (λ key. stands_in T.Old.cmp key opened.now) (keys_at T.keys pair))) }
 {
-    let opened = is_open_at(places, place);
-    if !opened {
-        return Ok(());
-    }
-    see_both(nodes, ends)?;
+    let (first, second) = pair;
+    see_if_opened(opened, met, first)?;
+    see_if_opened(opened, met, second)?;
     Ok(())
 }
 
-/// The nodes of the chains at open places, given the ends of all chains.
-fn open_nodes(
-    alloc: Global,
+/// Whether a place has an open key that no fixed place before it has. Meets the open keys of a fixed place.
+fn brings_new<T: Half>(
     places: &[OpenPlace],
-    ends: &[Ends],
-) -> Result<Interner<u64>, AllocError>
-    ensures { IfOk result (HasOpenNodes places.now ends.now) }
+    opened: &Interner<T::Old>,
+    met: &mut Interner<T::Old>,
+    place: usize,
+    pair: (T, T),
+) -> Result<bool, AllocError>
+    ensures new { IfOk result (λ new. new ≡ has_new T.Old.cmp opened.now met.old (keys_at T.keys pair)) }
+    ensures met { OnOk result (met.new ≡ first_seen_after T.Old.cmp met.old
+        (cond (is_open places.now place) [] (filter (λ key. stands_in T.Old.cmp key opened.now) (keys_at T.keys pair)))) }
 {
-    let mut nodes = Interner::with_marks(alloc, marks_for(ends.len()))?;
-    for place in 0..ends.len() {
-        see_if_open(&mut nodes, places, place, ends[place])?;
+    let new = has_new_key(opened, met, pair);
+    if !is_open_at(places, place) {
+        meet(opened, met, pair)?;
     }
-    Ok(nodes)
-}
-
-/// Whether a node is one of these.
-fn has_node(nodes: &Interner<u64>, node: u64) -> bool
-    ensures { result ≡ stands_in nat_cmp node nodes.now }
-{
-    nodes.place(node).is_some()
-}
-
-/// The node, if a chain at an open place has it and it wasn't met before.
-fn newly_met_node(nodes: &Interner<u64>, met: &Interner<u64>, node: NumberOrNone) -> NumberOrNone
-    ensures { result ≡ newly_met nodes.now met.now node }
-{
-    match node.get() {
-        Some(number) if has_node(nodes, number) && !has_node(met, number) => node,
-        _ => NumberOrNone::new(None),
-    }
-}
-
-/// Meets a node of an open chain. Returns it if it wasn't met before.
-fn meet(
-    nodes: &Interner<u64>,
-    met: &mut Interner<u64>,
-    node: NumberOrNone,
-) -> Result<NumberOrNone, AllocError>
-    ensures new { IfOk result (λ new. new ≡ newly_met nodes.now met.old node) }
-    ensures met { OnOk result (met.new ≡ met_after met.old (newly_met nodes.now met.old node)) }
-{
-    let new = newly_met_node(nodes, met, node);
-    see_node(met, new)?;
     Ok(new)
 }
 
-/// Meets both nodes at the ends of a chain, start before end.
-fn meet_both(nodes: &Interner<u64>, met: &mut Interner<u64>, ends: Ends) -> Result<Ends, AllocError>
-    ensures new { IfOk result (λ new. new ≡ newly_met_ends nodes.now met.old ends) }
-    ensures met { OnOk result (met.new ≡ met_after_both met.old (newly_met_ends nodes.now met.old ends)) }
-{
-    let (start, end) = ends;
-    let new_start = meet(nodes, met, start)?;
-    let new_end = meet(nodes, met, end)?;
-    Ok((new_start, new_end))
-}
-
-/// Adds the critical ends of a fixed place, if there are any.
-fn push_fixed(critical: &mut Vec<CriticalEnds>, ends: Ends) -> Result<(), AllocError>
-    ensures { OnOk result (critical.new.items ≡ critical.old.items ++ fixed_ends ends.0 ends.1) }
-{
-    let (start, end) = ends;
-    match (start.get(), end.get()) {
-        (None, None) => {}
-        _ => critical.push(CriticalEnds::Fixed(ends))?,
-    }
-    Ok(())
-}
-
-/// Adds the critical ends of a place.
-fn push_critical(
-    places: &[OpenPlace],
-    nodes: &Interner<u64>,
-    met: &mut Interner<u64>,
-    critical: &mut Vec<CriticalEnds>,
-    place: usize,
-    ends: Ends,
-) -> Result<(), AllocError>
-    requires { place < 2 ^ 32 }
-    ensures { OnOk result ((rest : List (Option ℕ × Option ℕ)) →
-        critical.new.items ++ critical_from nodes.now places.now met.new (suc place) rest
-        ≡ critical.old.items ++ critical_from nodes.now places.now met.old place (ends ∷ rest)) }
-{
-    let opened = is_open_at(places, place);
-    if opened {
-        critical.push(CriticalEnds::Open(place as u32))?;
-        return Ok(());
-    }
-    let new = meet_both(nodes, met, ends)?;
-    push_fixed(critical, new)?;
-    Ok(())
-}
-
-/// The critical ends, given the ends of all chains and the nodes of those at open places.
-fn critical_among(
+/// For each chain in the order of shapes, whether it has an open key that no fixed place before it has.
+pub(crate) fn new_at_places<T: Half>(
     alloc: Global,
     places: &[OpenPlace],
-    nodes: &Interner<u64>,
-    ends: &[Ends],
-) -> Result<Vec<CriticalEnds>, AllocError>
-    requires { length ends.now < 2 ^ 32 }
-    ensures { IfOk result (λ critical. critical.items ≡ critical_from nodes.now places.now [] 0 ends.now) }
+    opened: &Interner<T::Old>,
+    pairs: &[(T, T)],
+) -> Result<Vec<bool>, AllocError>
+    ensures { IfOk result (λ new. new.items ≡ map (brings T.Old.cmp places.now opened.now (map (keys_at T.keys) pairs.now)) (range_with_len 0 (length pairs.now))) }
 {
     let mut met = Interner::new(alloc);
-    let mut critical = Vec::new(alloc);
-    for place in 0..ends.len() {
-        push_critical(places, nodes, &mut met, &mut critical, place, ends[place])?;
+    let mut new = Vec::with_capacity(alloc, pairs.len())?;
+    for place in 0..pairs.len() {
+        let here = brings_new(places, opened, &mut met, place, pairs[place])?;
+        new.push(here)?;
     }
-    Ok(critical)
+    Ok(new)
 }
 
-/// The critical ends of a county whose chains are in the order of their shapes.
-pub(crate) fn critical_ends<C: Chart>(
+/// Whether a place is marked.
+fn is_marked(marks: &[bool], place: usize) -> bool
+    ensures { result ≡ get_or marks.now place false }
+{
+    match marks.get(place) {
+        Some(mark) => *mark,
+        None => false,
+    }
+}
+
+/// Whether a place is critical, given for each place whether it has a new node or a new polygon.
+fn is_critical_at(places: &[OpenPlace], nodes: &[bool], polygons: &[bool], place: usize) -> bool
+    ensures { result ≡ (is_open places.now place || (get_or nodes.now place false || get_or polygons.now place false)) }
+{
+    is_open_at(places, place) || is_marked(nodes, place) || is_marked(polygons, place)
+}
+
+/// The critical places, given for each place whether it has a new node or a new polygon.
+pub(crate) fn critical_places(
     alloc: Global,
-    chart: &C,
-    order: &ShapeOrder,
-) -> Result<Vec<CriticalEnds>, AllocError>
-    requires there { HasChainsOf (C.county chart.now) order.now.by_shape }
-    requires few { length order.now.by_shape < 2 ^ 32 }
-    ensures { IfOk result (λ critical. AreCritical (C.county chart.now) order.now critical.items) }
+    places: &[OpenPlace],
+    nodes: &[bool],
+    polygons: &[bool],
+) -> Result<Vec<u32>, AllocError>
+    requires { length nodes.now < 2 ^ 32 }
+    ensures { IfOk result (λ critical. critical.items ≡ filter (λ place. is_open places.now place || (get_or nodes.now place false || get_or polygons.now place false))
+        (range_with_len 0 (length nodes.now))) }
 {
-    let (ends, sides) = links_along(alloc, chart, order.by_shape())?;
-    drop(sides);
-    let nodes = open_nodes(alloc, order.open_places(), &ends)?;
-    let critical = critical_among(alloc, order.open_places(), &nodes, &ends)?;
-    Ok(critical)
-}
-
-/// The ends of the chain at a place of an arrangement, or no ends past its last place.
-fn ends_at_place<C: Chart>(chart: &C, arrangement: &[DirectedChain], place: usize) -> Ends
-    requires { HasChainsOf (C.county chart.now) arrangement.now }
-    ensures { result ≡ get_or (ends_along (C.county chart.now) arrangement.now) place (None, None) }
-{
-    if place < arrangement.len() {
-        return ends_of_directed(chart, arrangement[place]);
-    }
-    (NumberOrNone::new(None), NumberOrNone::new(None))
-}
-
-/// Critical ends in an arrangement.
-fn ends_in<C: Chart>(chart: &C, arrangement: &[DirectedChain], critical: CriticalEnds) -> Ends
-    requires { HasChainsOf (C.county chart.now) arrangement.now }
-    ensures { result ≡ ends_at (ends_along (C.county chart.now) arrangement.now) critical }
-{
-    match critical {
-        CriticalEnds::Open(place) => ends_at_place(chart, arrangement, place as usize),
-        CriticalEnds::Fixed(ends) => ends,
-    }
-}
-
-/// All critical ends in an arrangement.
-fn all_ends_in<C: Chart>(
-    alloc: Global,
-    chart: &C,
-    arrangement: &[DirectedChain],
-    critical: &[CriticalEnds],
-) -> Result<Vec<Ends>, AllocError>
-    requires { HasChainsOf (C.county chart.now) arrangement.now }
-    ensures { IfOk result (λ ends. ends.items ≡ map (ends_at (ends_along (C.county chart.now) arrangement.now)) critical.now) }
-{
-    critical
-        .iter()
-        .map(|one| ends_in(chart, arrangement, *one))
+    (0..nodes.len() as u32)
+        .filter(|place| is_critical_at(places, nodes, polygons, *place as usize))
         .collect(alloc)
 }
 
-/// The critical ends in an arrangement, numbered among themselves.
-pub(crate) fn number_critical<C: Chart>(
+/// The open ones of the first places.
+pub(crate) fn open_among(
+    alloc: Global,
+    places: &[OpenPlace],
+    count: usize,
+) -> Result<Vec<u32>, AllocError>
+    requires { count < 2 ^ 32 }
+    ensures { IfOk result (λ opened. opened.items ≡ open_places_among places.now count) }
+{
+    (0..count as u32)
+        .filter(|place| is_open_at(places, *place as usize))
+        .collect(alloc)
+}
+
+/// Whether a polygon has a record of type P, and an open number was passed before, but no other one with a record since.
+fn ends_gap<C: Chart>(chart: &C, pending: bool, key: PolygonKey) -> bool
+    ensures { result ≡ (pending && is_some (option_and_then (λ body. body) (polygon_under (C.county chart.now) key))) }
+{
+    pending && chart.polygon_body_of(key).is_some()
+}
+
+/// Adds a number, if it is critical. Returns whether an open number was passed, and no other one with a record since.
+fn push_if_critical<C: Chart>(
+    chart: &C,
+    polygons: &OpenKeys<Interner<PolygonKey>>,
+    numbers: &mut Vec<usize>,
+    pending: bool,
+    number: usize,
+) -> Result<bool, AllocError>
+    requires { number < length polygons.now.all }
+    ensures { IfOk result (λ later. (count : ℕ) → numbers.new.items ++ critical_from (C.county chart.now) polygons.now later (number + 1) count
+        ≡ numbers.old.items ++ critical_from (C.county chart.now) polygons.now pending number (suc count)) }
+{
+    let key = polygons.all.keys()[number];
+    if has_key(&polygons.opened, key) {
+        numbers.push(number)?;
+        return Ok(true);
+    }
+    if ends_gap(chart, pending, key) {
+        numbers.push(number)?;
+        return Ok(false);
+    }
+    Ok(pending)
+}
+
+/// The critical numbers of polygons: those of open polygons, and after each run of these the first other one with a record.
+pub(crate) fn critical_polygons<C: Chart>(
     alloc: Global,
     chart: &C,
-    critical: &[CriticalEnds],
-    arrangement: &[DirectedChain],
-) -> Result<Vec<Ends>, AllocError>
-    requires { HasChainsOf (C.county chart.now) arrangement.now }
-    ensures { IfOk result (λ numbers. numbers.items ≡ critical_numbers (C.county chart.now) critical.now arrangement.now) }
+    polygons: &OpenKeys<Interner<PolygonKey>>,
+) -> Result<Vec<usize>, AllocError>
+    ensures { IfOk result (λ numbers. numbers.items ≡ critical_from (C.county chart.now) polygons.now false 0 (length polygons.now.all)) }
 {
-    let ends = all_ends_in(alloc, chart, arrangement, critical)?;
-    let (numbers, ends) = number_pairs(alloc, ends)?;
-    drop(numbers);
-    Ok(ends)
+    let mut numbers = Vec::new(alloc);
+    let mut pending = false;
+    for number in 0..polygons.all.len() {
+        pending = push_if_critical(chart, polygons, &mut numbers, pending, number)?;
+    }
+    Ok(numbers)
 }
 
-/// The numbers of the nodes at both ends of a chain, 0 for none.
-fn node_numbers(ends: &Ends) -> (u64, u64)
-    ensures { result ≡ (unwrap_or ends.now.0 0, unwrap_or ends.now.1 0) }
+/// Whether a link is one of an open polygon.
+fn is_open_link(opened: &Interner<PolygonKey>, link: Option<Rec8>) -> bool
+    ensures { result ≡ list_any (λ link. stands_in key_cmp (link_key link) opened.now) (option_to_list link) }
 {
-    (ends.0.get().unwrap_or(0), ends.1.get().unwrap_or(0))
+    match link {
+        Some(link) => has_key(opened, (link.cenid(), link.polyid())),
+        None => false,
+    }
 }
 
-/// Compares the numbers of critical ends in two arrangements, start before end.
-pub(crate) fn compare_critical(one: &[Ends], other: &[Ends]) -> Ordering
-    ensures { result ≡ slice_cmp ends_cmp one.now other.now }
+/// Whether the landmark at a place has an open polygon.
+fn has_open_polygon<C: Chart>(chart: &C, opened: &Interner<PolygonKey>, place: usize) -> bool
+    ensures { result ≡ false → AllByRecursion (λ link. stands_in key_cmp (link_key link) opened.now ≡ false) (links_at (C.county chart.now) place) }
 {
-    let others = other.iter().map(node_numbers);
-    one.iter().map(node_numbers).cmp(others)
+    for link in 0..chart.link_count_at(place) {
+        if is_open_link(opened, chart.landmark_link_at(place, link)) {
+            return true;
+        }
+    }
+    false
+}
+
+/// Whether some landmark has an open polygon.
+pub(crate) fn has_open_links<C: Chart>(chart: &C, opened: &Interner<PolygonKey>) -> bool
+    ensures { result ≡ false → HasNoOpenLink (C.county chart.now) opened.now }
+{
+    for place in 0..chart.landmark_count() {
+        if has_open_polygon(chart, opened, place) {
+            return true;
+        }
+    }
+    false
 }

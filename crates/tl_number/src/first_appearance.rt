@@ -44,7 +44,7 @@ pub(crate) fn links_along<C: Chart>(
 
 /// An end or a side of a chain. It may have a key, a node or a polygon, which is replaced with its number.
 pub(crate) trait Half: Copy + Drop {
-    ghost use Rattle.std.specs.Prelude.{◌≡◌, ◌≤◌, ℕ, List, IfOk, OnOk, length};
+    ghost use Rattle.std.specs.Prelude.{◌≡◌, ◌≤◌, ℕ, List, IfOk, OnOk, length, option_to_list};
     ghost use Rattle.tl_number.specs.Growth.{first_seen_after};
 
     /// A key.
@@ -58,6 +58,10 @@ pub(crate) trait Half: Copy + Drop {
 
     /// This many keys can be numbered.
     ghost AreFew: { ℕ → Type 0 };
+
+    /// Returns its key, if it has one.
+    fn key(self) -> Option<Self::Old>
+        ensures { option_to_list result ≡ keys self };
 
     /// Sees the key, if there is one, and returns the half with its number, which stays whatever is seen later.
     fn number(self, numbers: &mut Interner<Self::Old>) -> Result<Self, AllocError>
@@ -81,6 +85,10 @@ impl Half for NumberOrNone {
     ghost among = { node_among };
 
     ghost AreFew = { λ _. Unit {0} };
+
+    fn key(self) -> Option<u64> {
+        self.get()
+    }
 
     fn number(self, numbers: &mut Interner<u64>) -> Result<NumberOrNone, AllocError> {
         match self.get() {
@@ -107,6 +115,10 @@ impl Half for Side {
     ghost among = { side_among };
 
     ghost AreFew = { AreFewPolygons };
+
+    fn key(self) -> Option<PolygonKey> {
+        self.polyid().map(|polyid| (self.cenid(), polyid))
+    }
 
     fn number(self, numbers: &mut Interner<PolygonKey>) -> Result<Side, AllocError> {
         match self.polyid() {

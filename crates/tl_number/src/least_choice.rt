@@ -3,9 +3,9 @@
 //! Records of type 1 come first in a text, and a choice alone determines them. So this first searches all choices for the one whose
 //! records of type 1 are least; from one choice to the next it only reads what moves at open places. Of the other choices with the
 //! same records of type 1, those with the same chains at every place are skipped: if chains were entered twice with all their data,
-//! every order of them makes the same county. Each of the rest is compared with the least so far: without arranging them if their
-//! address ranges or the numbers of their nodes decide, and otherwise by their texts. There are few of these: chains with the same
-//! shape mostly differ in an address, a name or a code.
+//! every order of them makes the same county. Each of the rest is compared with the least so far, mostly by a few records, as in
+//! `tie_order.rt`. Those that differ in a further name, or in the number of a landmark's polygon, are arranged and compared by their
+//! texts.
 
 ghost use Rattle.std.specs.declared.cmp.Ordering.TheVariants.{Equal};
 ghost use Rattle.std.specs.Ordering.{is_gt};
@@ -23,11 +23,11 @@ ghost use Rattle.tl_profile.specs.ShapeOrder.{IsShapeOrder};
 
 use crate::arranged::Arranged;
 use crate::arranging::arrange;
-use crate::critical_places::critical_ends;
 use crate::numbered_arrangement::NumberedArrangement;
 use crate::same_chains::have_same_chains;
 use crate::text_order::compare_texts;
 use crate::tie_order::compare_ties;
+use crate::tie_tables::tie_tables;
 use crate::type_1_order::compare_ones;
 use std::alloc::{AllocError, Global};
 use std::cmp::Ordering;
@@ -298,7 +298,7 @@ fn least_of_ties<C: Chart>(
     requires before { IsLeastFrom (C.county chart.now) 0 other.old.number first.now.number }
     ensures { IfOk result (IsLeastBelow (C.county chart.now) (choices (C.county chart.now))) }
 {
-    let critical = critical_ends(alloc, chart, order)?;
+    let tables = tie_tables(alloc, chart, order)?;
     let mut kept = NumberedArrangement::new(alloc, order, first.number)?;
     let mut least = NumberedChoice {
         number: first.number,
@@ -307,7 +307,7 @@ fn least_of_ties<C: Chart>(
     let mut from = other.number;
     while find_tie(chart, order, first, other, from) {
         kept.choose_again(order, least.number);
-        let compared = compare_ties(alloc, chart, order, &critical, &kept.chains, &other.chains);
+        let compared = compare_ties(alloc, chart, order, &tables, &kept, other);
         least = next_of_ties(alloc, chart, order, least, other.number, compared)?;
         from = other.number + 1;
     }

@@ -7,31 +7,24 @@ ghost use Rattle.std.specs.Prelude.{◌≡◌};
 ghost use Rattle.tl_number.specs.OpenRanges.{open_chain};
 
 use crate::chain_records::sequence_number;
-use crate::critical_places::CriticalEnds;
 use crate::groups::CountedGroups;
 use tl_county::{Chart, DirectedChain, Listed};
 use tl_layout::Rec6;
 
 /// An open place with its chain in an arrangement.
-fn open_chain_of(
-    arrangement: &[DirectedChain],
-    critical: CriticalEnds,
-) -> Option<(u32, DirectedChain)>
-    ensures { result ≡ open_chain arrangement.now critical }
+fn open_chain_of(arrangement: &[DirectedChain], place: u32) -> Option<(u32, DirectedChain)>
+    ensures { result ≡ open_chain arrangement.now place }
 {
-    match critical {
-        CriticalEnds::Open(place) => arrangement
-            .get(place as usize)
-            .map(|directed| (place, *directed)),
-        CriticalEnds::Fixed(_) => None,
-    }
+    arrangement
+        .get(place as usize)
+        .map(|directed| (place, *directed))
 }
 
-/// The type 6 records of the chain at each open place of an arrangement. Critical ends of fixed places have none.
+/// The type 6 records of the chain at each open place of an arrangement.
 #[derive(Drop)]
 pub(crate) struct OpenRangeRecords<'a, C: Chart> {
     pub(crate) chart: &'a C,
-    pub(crate) critical: &'a [CriticalEnds],
+    pub(crate) opened: &'a [u32],
     pub(crate) arrangement: &'a [DirectedChain],
 }
 
@@ -41,21 +34,21 @@ impl<C: Chart> CountedGroups for OpenRangeRecords<'_, C> {
 
     type Record = Rec6;
 
-    ghost counted = { λ g. map (sixes_at (C.county g.chart.now) g.arrangement.now) g.critical.now };
+    ghost counted = { λ g. map (sixes_at (C.county g.chart.now) g.arrangement.now) g.opened.now };
 
     fn group_count(&self) -> usize {
-        self.critical.len()
+        self.opened.len()
     }
 
     fn record_count(&self, group: usize) -> usize {
-        match open_chain_of(self.arrangement, self.critical[group]) {
+        match open_chain_of(self.arrangement, self.opened[group]) {
             Some((_, directed)) => directed.ranges(self.chart).count(),
             None => 0,
         }
     }
 
     fn record_at(&self, group: usize, place: usize) -> Rec6 {
-        let (at, directed) = open_chain_of(self.arrangement, self.critical[group]).unwrap();
+        let (at, directed) = open_chain_of(self.arrangement, self.opened[group]).unwrap();
         let ranges = directed.ranges(self.chart).item(place);
         Rec6::new(u64::from(at) + 1, sequence_number(place), ranges)
     }

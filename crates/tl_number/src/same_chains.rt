@@ -5,7 +5,6 @@ ghost use Rattle.std.specs.Bool.{Decides};
 ghost use Rattle.std.specs.Prelude.{◌≡◌, ◌+◌, ◌≤◌, ◌<◌, length, map};
 ghost use Rattle.tl_cert.specs.PartsThere.{HaveSameContent, HaveSameEnds, HaveSameLists};
 ghost use Rattle.tl_county.specs.ChartWords.{points_of};
-ghost use Rattle.tl_number.specs.CriticalPlaces.{HaveSameSides};
 ghost use Rattle.tl_number.specs.MovedChains.{AgreeButOpen, HaveSamePartAt, HaveSamePartsBelow, IsWithin};
 ghost use Rattle.tl_number.specs.DirectedChains.{parts_along};
 ghost use Rattle.tl_county.specs.DirectedChains.{directed_chain};
@@ -157,32 +156,6 @@ fn is_same_chain<C: Chart>(chart: &C, one: DirectedChain, other: DirectedChain) 
     have_same_content(chart, one, other)
         && have_same_ends(chart, one, other)
         && have_same_lists(chart, one, other)
-}
-
-/// What the record of type I has of a chain, except for its nodes.
-#[derive(Drop)]
-pub(crate) struct Topology;
-
-impl ChainPart for Topology {
-    ghost use Rattle.std.specs.Prelude.{List};
-    ghost use Rattle.tl_number.specs.CriticalPlaces.{Topology as Topologies, topologies};
-
-    ghost Part = { List Topologies };
-
-    ghost part = { topologies };
-
-    fn is_same<C: Chart>(&self, chart: &C, one: DirectedChain, other: DirectedChain) -> bool {
-        have_same_sides(chart, one, other)
-    }
-}
-
-/// Whether two directed chains have the same sides and the same content in their records of type I.
-fn have_same_sides<C: Chart>(chart: &C, one: DirectedChain, other: DirectedChain) -> bool
-    ensures { Decides result (HaveSameSides (directed_chain (C.county chart.now) one) (directed_chain (C.county chart.now) other)) }
-{
-    one.topology(chart).is_same(other.topology(chart))
-        && one.left(chart).is_same(other.left(chart))
-        && one.right(chart).is_same(other.right(chart))
 }
 
 /// Whether the chains of two arrangements have the same part up to the last of those among which an open place inserts a chain. They

@@ -1,99 +1,95 @@
 //! Comparing two choices with the same records of type 1 without arranging them.
 //!
 //! If the chains have the same further names, place by place, the records of types 4 and 5 are the same, and the records of type 6 at
-//! open places are compared. If these tie and the chains have the same sides, only the numbers of nodes can differ, and those of
-//! critical ends are compared: each choice numbers these ends, which are few.
+//! open places are compared. If no landmark has a polygon whose number differs, the records of types 7 and 8 are the same too, and then
+//! those of types I and P are compared at the few places and under the few numbers at which they can differ.
 
-ghost use Rattle.std.specs.Cmp.Lexicographic.{slice_cmp};
 ghost use Rattle.std.specs.declared.cmp.Ordering.TheVariants.{Equal};
-ghost use Rattle.std.specs.Prelude.{◌≡◌, ℕ, map, IfOk, IfSome};
-ghost use Rattle.tl_layout.specs.declared.record_type.Record.TheVariants.{Six};
-ghost use Rattle.tl_number.specs.ChoiceSearch.{LeavesChoices, numbered_arrangement};
-ghost use Rattle.tl_number.specs.CriticalPlaces.{AreCritical, critical_numbers, ends_cmp};
-ghost use Rattle.tl_number.specs.DirectedChains.{HasChainsOf};
+ghost use Rattle.std.specs.Ordering.{ordering_then};
+ghost use Rattle.std.specs.Prelude.{◌≡◌, ◌⊎◌, IfOk, IfSome, false, is_some, map, true};
+ghost use Rattle.tl_layout.specs.declared.record_type.Record.TheVariants.{I, P, Six};
+ghost use Rattle.tl_number.specs.ChoiceSearch.{IsChosen, LeavesChoices};
+ghost use Rattle.tl_number.specs.CriticalPlaces.{AreTieTables};
 ghost use Rattle.tl_number.specs.LeastNumber.{choices_cmp};
-ghost use Rattle.tl_number.specs.MovedChains.{AgreeButOpen};
 ghost use Rattle.tl_number.specs.OpenRanges.{sixes_at};
-ghost use Rattle.tl_number.specs.RecordOrder.{groups_cmp};
+ghost use Rattle.tl_number.specs.RecordOrder.{groups_cmp, records_cmp};
 ghost use Rattle.tl_number.specs.TypeOneOrder.{ones_cmp};
 
-use crate::critical_places::{CriticalEnds, compare_critical, number_critical};
-use crate::group_order::compare_groups;
+use crate::group_order::{compare_groups, compare_lists};
+use crate::numbered_arrangement::NumberedArrangement;
 use crate::open_ranges::OpenRangeRecords;
-use crate::same_chains::{FurtherNames, Topology, have_same_open_parts};
+use crate::same_chains::{FurtherNames, have_same_open_parts};
+use crate::tie_records::{TiedRecords, tied_records};
+use crate::tie_tables::TieTables;
 use std::alloc::{AllocError, Global};
 use std::cmp::Ordering;
-use tl_county::{Chart, DirectedChain};
+use tl_county::{Chart, DirectedChain, are_same};
 use tl_profile::ShapeOrder;
 
 /// Compares two arrangements by their records of type 6 at open places.
 fn compare_open_ranges<C: Chart>(
     chart: &C,
-    critical: &[CriticalEnds],
+    opened: &[u32],
     one: &[DirectedChain],
     other: &[DirectedChain],
 ) -> Ordering
-    ensures { result ≡ groups_cmp Six (map (sixes_at (C.county chart.now) one.now) critical.now) (map (sixes_at (C.county chart.now) other.now) critical.now) }
+    ensures { result ≡ groups_cmp Six (map (sixes_at (C.county chart.now) one.now) opened.now) (map (sixes_at (C.county chart.now) other.now) opened.now) }
 {
     let records = OpenRangeRecords {
         chart,
-        critical,
+        opened,
         arrangement: one,
     };
     let others = OpenRangeRecords {
         chart,
-        critical,
+        opened,
         arrangement: other,
     };
     compare_groups(&records, &others)
 }
 
-/// Compares two arrangements by the numbers of their critical ends.
-fn compare_nodes<C: Chart>(
-    alloc: Global,
-    chart: &C,
-    critical: &[CriticalEnds],
-    one: &[DirectedChain],
-    other: &[DirectedChain],
-) -> Result<Ordering, AllocError>
-    requires one { HasChainsOf (C.county chart.now) one.now }
-    requires other { HasChainsOf (C.county chart.now) other.now }
-    ensures { IfOk result (λ order. order
-        ≡ slice_cmp ends_cmp (critical_numbers (C.county chart.now) critical.now one.now) (critical_numbers (C.county chart.now) critical.now other.now)) }
+/// Compares two choices by their records of types I and P, or returns `None` if some landmark has a polygon whose number differs.
+fn compare_tied(linked: bool, one: &TiedRecords, other: &TiedRecords) -> Option<Ordering>
+    ensures ordering { IfSome result (λ ordering. ordering ≡ ordering_then (records_cmp (map I one.now.topologies.items) (map I other.now.topologies.items))
+        (records_cmp (map P one.now.polygons.items) (map P other.now.polygons.items))) }
+    ensures links { is_some result ≡ true → (linked ≡ false) ⊎ (one.now.order ≡ other.now.order) }
 {
-    let numbers = number_critical(alloc, chart, critical, one)?;
-    let others = number_critical(alloc, chart, critical, other)?;
-    Ok(compare_critical(&numbers, &others))
+    if linked && !are_same(&other.order, &one.order) {
+        return None;
+    }
+    match compare_lists(&one.topologies, &other.topologies) {
+        Ordering::Equal => {}
+        unequal => return Some(unequal),
+    }
+    Some(compare_lists(&one.polygons, &other.polygons))
 }
 
-/// Compares the texts of two choices with the same records of type 1, or returns `None` if that takes more than their address ranges
-/// and their nodes.
+/// Compares the texts of two choices with the same records of type 1, or returns `None` if that takes arranging them: if their chains
+/// have other further names, place by place, or a landmark has a polygon whose number differs.
 pub(crate) fn compare_ties<C: Chart>(
     alloc: Global,
     chart: &C,
     order: &ShapeOrder,
-    critical: &[CriticalEnds],
-    one: &[DirectedChain],
-    other: &[DirectedChain],
+    tables: &TieTables,
+    one: &NumberedArrangement,
+    other: &NumberedArrangement,
 ) -> Result<Option<Ordering>, AllocError>
     requires known { LeavesChoices (C.county chart.now) order.now }
-    requires critical { AreCritical (C.county chart.now) order.now critical.now }
-    requires agree { AgreeButOpen (C.county chart.now) order.now.places one.now other.now }
-    ensures { (n m : ℕ) → one.now ≡ numbered_arrangement order.now n → other.now ≡ numbered_arrangement order.now m
-        → ones_cmp (C.county chart.now) n m ≡ Equal
-        → IfOk result (λ found. IfSome found (λ ordering. ordering ≡ choices_cmp (C.county chart.now) n m)) }
+    requires tables { AreTieTables (C.county chart.now) order.now tables.now }
+    requires one { IsChosen order.now one.now }
+    requires other { IsChosen order.now other.now }
+    requires tied { ones_cmp (C.county chart.now) one.now.number other.now.number ≡ Equal }
+    ensures { IfOk result (λ found. IfSome found (λ ordering. ordering ≡ choices_cmp (C.county chart.now) one.now.number other.now.number)) }
 {
     let places = order.open_places();
-    if !have_same_open_parts(&FurtherNames, chart, places, one, other) {
+    if !have_same_open_parts(&FurtherNames, chart, places, &one.chains, &other.chains) {
         return Ok(None);
     }
-    match compare_open_ranges(chart, critical, one, other) {
+    match compare_open_ranges(chart, &tables.opened, &one.chains, &other.chains) {
         Ordering::Equal => {}
         unequal => return Ok(Some(unequal)),
     }
-    if !have_same_open_parts(&Topology, chart, places, one, other) {
-        return Ok(None);
-    }
-    let ordering = compare_nodes(alloc, chart, critical, one, other)?;
-    Ok(Some(ordering))
+    let records = tied_records(alloc, chart, order, tables, one)?;
+    let others = tied_records(alloc, chart, order, tables, other)?;
+    Ok(compare_tied(tables.linked, &records, &others))
 }

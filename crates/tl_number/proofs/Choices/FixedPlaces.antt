@@ -4,7 +4,7 @@ use Rattle.tl_number.proofs.Common.{false, cond, Ordering, Some, None, slice_get
 use Rattle.tl_number.proofs.Common.{AreWithin, IsPermutation-insert, OpenPlace, StandInOrder, all_weaker, first_stood, insert}
 use Rattle.tl_number.proofs.Common.{Decides, length_permutation, ltb-false, ltb-true, moved, open_places, slice_get_past, turned_by}
 use Rattle.tl_profile.specs.Choices.{is_settled, open_place_at}
-use Rattle.tl_number.specs.MovedChains.{IsApart, IsWithin}
+use Rattle.tl_number.specs.MovedChains.{IsApart}
 
 pub nothing_left : {X : Type 0} (xs : List X) → length xs ≡ 0 → xs ≡ []
 nothing_left [] e = refl

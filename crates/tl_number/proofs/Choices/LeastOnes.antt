@@ -1,7 +1,7 @@
 -- The least type 1 records of choices, number by number, and the consequence for texts.
-use Rattle.tl_number.proofs.Common.{below_more, ◌≡◌, ◌<◌, ◌≤◌, ◌+◌, ℕ, List, Bool, cond, true, false, Ordering, Less, Equal, Greater, is_eq, is_gt}
+use Rattle.tl_number.proofs.Common.{◌≡◌, ◌<◌, ◌+◌, ℕ, List, Bool, cond, true, false, Ordering, Less, Equal, Greater, is_eq, is_gt}
 use Rattle.tl_number.proofs.Common.{length, map, sym, refl, ap, ◌∙◌, subst, arith, AgreeApart, AllKeysStandIn, AreInShapeOrder, AreWhole}
-use Rattle.tl_number.proofs.Common.{AreWithin, County, DirectedChain, IsCounty, IsLeastFrom, IsLesserTie, IsNotAfter, IsWithinLimits, OpenPlace, Record}
+use Rattle.tl_number.proofs.Common.{AreWithin, County, DirectedChain, IsCounty, IsLesserTie, IsNotAfter, IsWithinLimits, OpenPlace, Record}
 use Rattle.tl_number.proofs.Common.{StandInOrder, arranged, choice_list, choices_cmp, directed_chain, false≢true, few_chains, is_either_way}
 use Rattle.tl_number.proofs.Common.{most_records, moved, not_greater, numbered_choice, ones_cmp, ones_of, open_places, ordering_then}
 use Rattle.tl_number.proofs.Common.{other_way, packed, points_along, points_cmp, polygon_keys, polygons_along, tied_itself, upto}

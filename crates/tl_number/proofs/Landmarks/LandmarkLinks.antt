@@ -37,7 +37,7 @@ listed [] = refl
 listed (x ∷ xs) = ap (λ ys. Some x ∷ ys) (shifted (slice_get (x ∷ xs)) 0 (length xs) ∙ listed xs)
 
 module _ (county : County) (is : IsCounty county) (f : Fields8 → Fields8) where
-  abbrev gathered : List Fields8
+  abbrev pub gathered : List Fields8
   gathered = flat_map (λ place. map f (links_at county place)) (range_with_len 0 (length county.landmarks))
 
   pieces_mapped : {X : Type 0} (g : X → List Fields8) (xs : List X) → flat_map (λ x. map f (g x)) xs ≡ map f (flat_map g xs)
@@ -53,7 +53,7 @@ module _ (county : County) (is : IsCounty county) (f : Fields8 → Fields8) wher
       ∙ ap (flat_map (links_with county.links)) (listed (lands county))
       ∙ flat_map-map (links_with county.links) Some (lands county)
 
-  permuted : IsPermutation gathered (map f county.links)
+  pub permuted : IsPermutation gathered (map f county.links)
   permuted =
       subst (λ ls. IsPermutation ls (map f county.links)) (sym (pieces_mapped (links_at county) (range_with_len 0 (length county.landmarks))
       ∙ ap (map f) by_lands))

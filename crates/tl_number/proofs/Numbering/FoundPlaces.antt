@@ -47,13 +47,6 @@ module _ {X : Type 0} (p : X → Bool) where
       go true e ih = cc
       go false e ih = let h = ih e in omega (arith, h)
 
-  pub place_bound : (xs : List X) → position_or_len p xs ≤ length xs
-  place_bound xs = go (list_any p xs) refl
-    where
-      go : (b : Bool) → list_any p xs ≡ b → position_or_len p xs ≤ length xs
-      go true e = let within = any_within xs e in omega (arith, within)
-      go false e = let end = none_at_end xs e in omega (arith, end)
-
   -- and is found behind a list that doesn't have it
   pub place_behind : (xs ys : List X) → length xs ≤ position_or_len p xs → position_or_len p (xs ++ ys) ≡ length xs + position_or_len p ys
   place_behind [] ys h = (let t : position_or_len p ys ≡ 0 + position_or_len p ys = omega arith in t)

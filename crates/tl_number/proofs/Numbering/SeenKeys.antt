@@ -1,14 +1,9 @@
--- A set of keys in the order of insertion has the keys in the order they were first seen, and finds their places.
-use Rattle.tl_number.proofs.Common.{◌≡◌, ◌<◌, ◌+◌, suc, nat_lt, List, [], ◌∷◌, ◌++◌, length, Bool, true, false, cond, not, Ordering, Some}
-use Rattle.tl_number.proofs.Common.{None, IfSome, is_eq, refl, sym, ap, ◌∙◌, arith, slice_get, IsKeyOrder, any-stands_in, first_seen_after}
+-- The place at which a key is found among others.
+use Rattle.tl_number.proofs.Common.{◌≡◌, ◌<◌, ◌+◌, suc, nat_lt, List, [], ◌∷◌, length, Bool, true, false, cond, not, Ordering, Some}
+use Rattle.tl_number.proofs.Common.{None, IfSome, is_eq, refl, sym, ap, ◌∙◌, arith, slice_get, IsKeyOrder}
 use Rattle.tl_number.proofs.Common.{ltb-true, position, position_or_len, same-true}
-use Rattle.indexmap.specs.IndexSet.{insert_key}
 
 module _ {K : Type 0} (eq : K → K → Bool) (cmp : K → K → Ordering) (same : (x y : K) → eq x y ≡ is_eq (cmp x y)) where
-  -- inserting a key is seeing it
-  pub inserted-seen : (k : K) (ks : List K) → insert_key eq ks k ≡ first_seen_after cmp ks (k ∷ [])
-  inserted-seen k ks = ap (λ b. cond b ks (ks ++ (k ∷ []))) (any-stands_in eq cmp same k ks)
-
   module _ (o : IsKeyOrder cmp) where
     pub found_key : (k : K) (ks : List K) → position_or_len (eq k) ks < length ks → slice_get ks (position_or_len (eq k) ks) ≡ Some k
     found_key k [] h = absurd (omega (arith, h))

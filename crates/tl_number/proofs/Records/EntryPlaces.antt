@@ -1,8 +1,8 @@
 -- The name, the landmark and the polygon at a place of a county within its limits.
-use Rattle.tl_number.proofs.Common.{AllByRecursion, entry_values, ◌≡◌, ◌<◌, ℕ, List, length, map, Option, Some, None, option_map}
-use Rattle.tl_number.proofs.Common.{option_to_list, slice_get, IsSome, sym, refl, ap, ◌∙◌, subst, nat_cmp, arith, Body5, Body7, BodyP}
+use Rattle.tl_number.proofs.Common.{AllByRecursion, entry_values, ◌≡◌, ◌<◌, ℕ, List, length, map, Option, Some, option_map}
+use Rattle.tl_number.proofs.Common.{option_to_list, slice_get, sym, ap, ◌∙◌, subst, nat_cmp, Body5, Body7, BodyP}
 use Rattle.tl_number.proofs.Common.{County, IsNumber, IsWithinLimits, PolygonKey, all-in_order, entry_polyid, group_at, length-map}
-use Rattle.tl_number.proofs.Common.{most_records, on, packed_body, packed_p, polygons_by_number, slice_get-map, type_p_by_number}
+use Rattle.tl_number.proofs.Common.{most_records, on, packed_p, polygons_by_number, slice_get-map, type_p_by_number}
 use Rattle.tl_layout.specs.Bytes.{IsText}
 use Rattle.ordered_lists.proofs.ByKey.Numbers.{length-in_order}
 use Rattle.tl_number.proofs.Records.ChainPlaces.{all_at, some_at}

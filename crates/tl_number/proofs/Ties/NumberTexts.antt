@@ -1,7 +1,7 @@
 -- Numbers are in the order of their canonical texts of one width.
 use Rattle.tl_number.proofs.Common.{◌≡◌, ◌==◌, ◌<◌, ◌+◌, ◌/◌, ◌%◌, ◌^◌, ℕ, zero, suc, [], ◌∷◌, nat_eq, Bool, true, false, cond, Ordering}
-use Rattle.tl_number.proofs.Common.{Less, Equal, Greater, Option, Some, None, nat_cmp, refl, sym, ◌∙◌, arith, IsNumberOrNone, MatchOrdering}
-use Rattle.tl_number.proofs.Common.{eqb-true, node_cmp, ordering_then, ranked, slice_cmp, unwrap_or}
+use Rattle.tl_number.proofs.Common.{Less, Equal, Greater, nat_cmp, refl, sym, ◌∙◌, arith, MatchOrdering}
+use Rattle.tl_number.proofs.Common.{eqb-true, ordering_then, ranked, slice_cmp}
 use Rattle.std.proofs.lemmas.Bool.{eqb-false}
 use Rattle.std.specs.Cmp.{nat_cmp_is}
 use Rattle.tl_layout.specs.FieldTexts.{number_text}
@@ -67,12 +67,3 @@ number_order (suc width) n m h k =
     ∙ (λ i. ordering_then (number_order width (n / 10) (m / 10) (tenth_below width n h) (tenth_below width m k) i)
     (then_equal (nat_cmp (last_byte n) (last_byte m)) i))
     ∙ digits_decide n m
-
--- The same for numbers that can be none, whose texts are blank.
-below_power : (a : Option ℕ) → IsNumberOrNone 10 a → unwrap_or a 0 < 10 ^ 10
-below_power None h = omega arith
-below_power (Some n) h = h.1
-
-pub node_order : (a b : Option ℕ) → IsNumberOrNone 10 a → IsNumberOrNone 10 b
-    → slice_cmp nat_cmp (number_text 10 (unwrap_or a 0)) (number_text 10 (unwrap_or b 0)) ≡ node_cmp a b
-node_order a b h k = number_order 10 (unwrap_or a 0) (unwrap_or b 0) (below_power a h) (below_power b k)

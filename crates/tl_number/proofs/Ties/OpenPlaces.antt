@@ -13,7 +13,7 @@ groups_from F place (suc count) = F place ++ groups_from F (suc place) count
 
 abbrev pub open_from : {X : Type 0} → List OpenPlace → (ℕ → List X) → ℕ → ℕ → List X
 open_from places F place zero = []
-open_from places F place (suc count) = cond (is_open place places) (F place) [] ++ open_from places F (suc place) count
+open_from places F place (suc count) = cond (is_open places place) (F place) [] ++ open_from places F (suc place) count
 
 -- Records in an order in which the key decides if it differs.
 module _ {X : Type 0} (cmp : X → X → Ordering) (total : IsTotalOrder cmp) (key : X → ℕ) (bound : ℕ)
@@ -82,8 +82,8 @@ module _ {X : Type 0} (cmp : X → X → Ordering) (total : IsTotalOrder cmp) (k
       all_within n place (suc count) end low high =
           let rest = all_within n (suc place) count end (omega (arith, low)) (omega (arith, high)) in (
             all_append (Within n end) (F place) (groups_from F (suc place) count) (here n place end low (omega (arith, high))) rest.0,
-            all_append (Within n end) (cond (is_open place places) (F place) []) (open_from places F (suc place) count)
-                (either n place end low (omega (arith, high)) (is_open place places)) rest.1,
+            all_append (Within n end) (cond (is_open places place) (F place) []) (open_from places F (suc place) count)
+                (either n place end low (omega (arith, high)) (is_open places place)) rest.1,
           )
 
       pub all_later : (place count : ℕ) → suc place + count < bound
@@ -97,12 +97,12 @@ module _ {X : Type 0} (cmp : X → X → Ordering) (total : IsTotalOrder cmp) (k
     -- Two lists of groups that agree at fixed places.
     module _ (F E : ℕ → List X) (keyed : (place : ℕ) → AllByRecursion (λ x. key x ≡ suc place) (F place))
         (keyed_too : (place : ℕ) → AllByRecursion (λ x. key x ≡ suc place) (E place))
-        (agree : (place : ℕ) → is_open place places ≡ false → F place ≡ E place) where
+        (agree : (place : ℕ) → is_open places place ≡ false → F place ≡ E place) where
       -- as many more records of the one as of the other are at open places
       as_many_open : (place count : ℕ) → length (groups_from F place count) + length (open_from places E place count)
           ≡ length (groups_from E place count) + length (open_from places F place count)
       as_many_open place zero = refl
-      as_many_open place (suc count) = go (is_open place places) refl (as_many_open (suc place) count)
+      as_many_open place (suc count) = go (is_open places place) refl (as_many_open (suc place) count)
         where
           f : List X
           f = groups_from F (suc place) count
@@ -110,7 +110,7 @@ module _ {X : Type 0} (cmp : X → X → Ordering) (total : IsTotalOrder cmp) (k
           e : List X
           e = groups_from E (suc place) count
 
-          go : (b : Bool) → is_open place places ≡ b
+          go : (b : Bool) → is_open places place ≡ b
               → length f + length (open_from places E (suc place) count) ≡ length e + length (open_from places F (suc place) count)
               → length (F place ++ f) + length (cond b (E place) [] ++ open_from places E (suc place) count)
               ≡ length (E place ++ e) + length (cond b (F place) [] ++ open_from places F (suc place) count)
@@ -130,7 +130,7 @@ module _ {X : Type 0} (cmp : X → X → Ordering) (total : IsTotalOrder cmp) (k
           → length (open_from places F place count) ≡ length (open_from places E place count)
           → slice_cmp cmp (groups_from F place count) (groups_from E place count) ≡ slice_cmp cmp (open_from places F place count) (open_from places E place count)
       in_order place zero few many some = refl
-      in_order place (suc count) few many some = go (is_open place places) refl some (in_order (suc place) count (omega (arith, few)))
+      in_order place (suc count) few many some = go (is_open places place) refl some (in_order (suc place) count (omega (arith, few)))
         where
           f : List X
           f = groups_from F (suc place) count
@@ -138,7 +138,7 @@ module _ {X : Type 0} (cmp : X → X → Ordering) (total : IsTotalOrder cmp) (k
           e : List X
           e = groups_from E (suc place) count
 
-          go : (b : Bool) → is_open place places ≡ b
+          go : (b : Bool) → is_open places place ≡ b
               → length (cond b (F place) [] ++ open_from places F (suc place) count) ≡ length (cond b (E place) [] ++ open_from places E (suc place) count)
               → (length f ≡ length e → length (open_from places F (suc place) count) ≡ length (open_from places E (suc place) count)
               → slice_cmp cmp f e ≡ slice_cmp cmp (open_from places F (suc place) count) (open_from places E (suc place) count))

@@ -1,10 +1,9 @@
--- The records of type 6 at critical ends, read one by one.
+-- The records of type 6 at open places, read one by one.
 use Rattle.tl_number.proofs.Common.{◌≡◌, ◌∙◌, ◌≤◌, ◌+◌, ℕ, List, length, length-map, map, nat_lt, Bool, true, false, Some, None, option_map}
 use Rattle.tl_number.proofs.Common.{slice_get, slice_get_past, refl, sym, ap, subst, arith, chain_at, Chain, County, DirectedChain, IsCounty, IsWithinLimits}
 use Rattle.tl_number.proofs.Common.{Ranges, directed_chain, group_at, ltb-false, ltb-true, most_records, ranges_of, turned_if}
 use Rattle.tl_layout.specs.Turned.{turned_ranges}
 use Rattle.tl_number.specs.OpenRanges.{open_chain, sixes_at, sixes_of}
-use Rattle.tl_number.specs.declared.critical_places.CriticalEnds.{CriticalEnds}
 use Rattle.tl_number.proofs.Records.ChainPlaces.{chain_there}
 use Rattle.tl_number.proofs.Records.Grouped.{group_of}
 use Rattle.tl_number.proofs.Records.Pieces.{numbered_list_at, numbered_list_length}
@@ -31,23 +30,23 @@ few_ranges county is within directed = go (nat_lt directed.place (length county.
         slice_get_past (map (λ (entry : ℕ × Chain). entry.1) county.chains) directed.place (omega (arith, past, count)) in
         subst (λ o. length (ranges_of (option_map (turned_if directed.turned) o)) ≤ 999) (sym none) (omega arith)
 
-module _ (county : County) (arrangement : List DirectedChain) (critical : List CriticalEnds) (group : ℕ) (one : CriticalEnds)
-    (there : slice_get critical group ≡ Some one) where
-  group_is : group_at (map (sixes_at county arrangement) critical) group ≡ sixes_at county arrangement one
-  group_is = group_of (sixes_at county arrangement) critical group one there
+module _ (county : County) (arrangement : List DirectedChain) (opened : List ℕ) (group one : ℕ)
+    (there : slice_get opened group ≡ Some one) where
+  group_is : group_at (map (sixes_at county arrangement) opened) group ≡ sixes_at county arrangement one
+  group_is = group_of (sixes_at county arrangement) opened group one there
 
-  -- ends of a fixed place have no records
-  pub none_counted : None ≡ open_chain arrangement one → 0 ≡ length (group_at (map (sixes_at county arrangement) critical) group)
+  -- past the last chain there are none
+  pub none_counted : None ≡ open_chain arrangement one → 0 ≡ length (group_at (map (sixes_at county arrangement) opened) group)
   none_counted e = ap (λ o. length (sixes_of county o)) e ∙ sym (ap length group_is)
 
-  -- and an open place has one for each range of its chain
+  -- and a chain has one for each of its ranges
   module _ (placed : ℕ × DirectedChain) (e : Some placed ≡ open_chain arrangement one) where
     pub ranges_counted : length (ranges_of (directed_chain county placed.1))
-        ≡ length (group_at (map (sixes_at county arrangement) critical) group)
+        ≡ length (group_at (map (sixes_at county arrangement) opened) group)
     ranges_counted = sym (numbered_list_length (six_of (placed.0 + 1)) (ranges_of (directed_chain county placed.1)))
         ∙ ap (λ o. length (sixes_of county o)) e ∙ sym (ap length group_is)
 
     pub range_there : (place : ℕ) (x : Ranges) → slice_get (ranges_of (directed_chain county placed.1)) place ≡ Some x
-        → slice_get (group_at (map (sixes_at county arrangement) critical) group) place ≡ Some (six_of (placed.0 + 1) (place + 1, x))
+        → slice_get (group_at (map (sixes_at county arrangement) opened) group) place ≡ Some (six_of (placed.0 + 1) (place + 1, x))
     range_there place x h = ap (λ g. slice_get g place) (group_is ∙ ap (sixes_of county) (sym e))
         ∙ numbered_list_at (six_of (placed.0 + 1)) (ranges_of (directed_chain county placed.1)) place x h

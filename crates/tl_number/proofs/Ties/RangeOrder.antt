@@ -1,8 +1,8 @@
 -- The records of type 6 of two choices are in the order of those at open places.
-use Rattle.tl_number.proofs.Common.{◌≡◌, ◌≢◌, ◌∙◌, ◌<◌, ◌+◌, ◌^◌, ℕ, suc, List, [], ◌∷◌, ◌++◌, length, map, map-map, cond, Bool, true, false}
+use Rattle.tl_number.proofs.Common.{◌≡◌, ◌≢◌, ◌∙◌, ◌<◌, ◌+◌, ◌^◌, ℕ, zero, suc, List, [], ◌∷◌, ◌++◌, length, map, map-map, cond, Bool, true, false}
 use Rattle.tl_number.proofs.Common.{Option, Some, None, option_map, Ordering, AllByRecursion, AreSame, AreWhole, Chain, County, DirectedChain}
-use Rattle.tl_number.proofs.Common.{Fields6, IsCounty, OpenPlace, Ranges, Six, arith, ap, ap₂, arranged_by, arrangement_of, codes, critical_from, drop, exact_unsigned, length-append}
-use Rattle.tl_number.proofs.Common.{directed_chain, grouped, groups_cmp, is_open, joined, nat_cmp, nat_list_cmp_total, numbered_from}
+use Rattle.tl_number.proofs.Common.{Fields6, IsCounty, OpenPlace, Ranges, Six, arith, ap, ap₂, arranged_by, arrangement_of, codes, drop, filter, ordering_then, range_with_len, tied_itself, exact_unsigned, length-append}
+use Rattle.tl_number.proofs.Common.{directed_chain, grouped, groups_cmp, joined, nat_cmp, nat_list_cmp_total, numbered_from}
 use Rattle.tl_number.proofs.Common.{on, on_total, packed_sixes, ranges_of, refl, renaming_of, slice_cmp, slice_get}
 use Rattle.tl_number.proofs.Common.{spelling_cmp, sym, type_6_by_chain}
 use Rattle.tl_county.proofs.Limits.CarriedLimits.{carried_many}
@@ -12,11 +12,9 @@ use Rattle.tl_layout.specs.Laws.NumberTextLaws.{length-number_text}
 use Rattle.tl_layout.specs.RecordText.{spelling_of}
 use Rattle.tl_layout.specs.RecordTables.{table_6}
 use Rattle.tl_layout.specs.RecordTypes.{fields_spelling}
-use Rattle.tl_number.specs.CriticalPlaces.{fixed_ends, met_after_both, newly_met_ends}
+use Rattle.tl_number.specs.OpenKeys.{is_open, open_among}
 use Rattle.tl_number.specs.MovedChains.{AgreeButOpen}
 use Rattle.tl_number.specs.OpenRanges.{sixes_at, sixes_of, sixes_under}
-use Rattle.tl_number.specs.declared.critical_places.CriticalEnds.{CriticalEnds}
-use Rattle.tl_number.specs.declared.critical_places.CriticalEnds.TheVariants.{Open}
 use Rattle.tl_number.proofs.Arrangements.Carrying.{chains_arranged}
 use Rattle.tl_number.proofs.Landmarks.LandmarkOrder.{cmp_mapped}
 use Rattle.tl_number.proofs.Records.Grouped.{grouped_map}
@@ -27,9 +25,13 @@ use Rattle.tl_number.proofs.Texts.TypeOnes.{length_whole}
 use Rattle.tl_number.proofs.Ties.NumberTexts.{number_order}
 use Rattle.tl_number.proofs.Ties.OpenChains.{closed_apart}
 use Rattle.tl_number.proofs.Ties.OpenPlaces.{groups_from, open_decide, open_from}
-use Rattle.tl_number.proofs.Ties.TopologyOrder.{behind_cmp}
 use Rattle.tl_number.proofs.Unique.SameNumbers.{kept_entry}
 use Rattle.tl_number.proofs.Views.ViewChains.{arranges, bodies_read, chains, read_length, read_nowhere, read_there}
+
+-- a common beginning decides nothing
+behind_cmp : (before xs ys : List ℕ) → slice_cmp nat_cmp (before ++ xs) (before ++ ys) ≡ slice_cmp nat_cmp xs ys
+behind_cmp before xs ys = cmp-append nat_cmp before before xs ys refl
+    ∙ ap (λ o. ordering_then o (slice_cmp nat_cmp xs ys)) (tied_itself nat_list_cmp_total before)
 
 abbrev six_cmp : Fields6 → Fields6 → Ordering
 six_cmp = on Six spelling_cmp
@@ -76,7 +78,7 @@ by_place F (c ∷ cs) p h =
 
 module _ (county : County) (is : IsCounty county) where
   abbrev at : List DirectedChain → ℕ → List Fields6
-  at arrangement place = sixes_at county arrangement (Open place)
+  at arrangement place = sixes_at county arrangement place
 
   keyed : (arrangement : List DirectedChain) (place : ℕ) → AllByRecursion (λ (r : Fields6). r.tlid ≡ suc place) (at arrangement place)
   keyed arrangement place = go (slice_get arrangement place)
@@ -112,29 +114,19 @@ module _ (county : County) (is : IsCounty county) where
         ∙ by_place (at arrangement) cs 0 there
         ∙ ap (groups_from (at arrangement) 0) (read_length (directed_chain county) arrangement cs (bodies_read county arrangement is w arrangement w.there))
 
-  -- and those at critical ends are the groups at open places
-  no_sixes : (arrangement : List DirectedChain) (a b : Option ℕ) (rest : List CriticalEnds)
-      → grouped (map (sixes_at county arrangement) (fixed_ends a b ++ rest)) ≡ grouped (map (sixes_at county arrangement) rest)
-  no_sixes arrangement None None rest = refl
-  no_sixes arrangement None (Some b) rest = refl
-  no_sixes arrangement (Some a) b rest = refl
-
-  open_groups : (arrangement : List DirectedChain) (nodes : List ℕ) (places : List OpenPlace) (met : List ℕ) (p : ℕ)
-      (ends : List (Option ℕ × Option ℕ))
-      → grouped (map (sixes_at county arrangement) (critical_from nodes places met p ends)) ≡ open_from places (at arrangement) p (length ends)
-  open_groups arrangement nodes places met p [] = refl
-  open_groups arrangement nodes places met p (pair ∷ ends) = go (is_open p places) (λ seen. open_groups arrangement nodes places seen (suc p) ends)
+  -- and those at open places are the groups there
+  open_groups : (arrangement : List DirectedChain) (places : List OpenPlace) (p count : ℕ)
+      → grouped (map (at arrangement) (filter (is_open places) (range_with_len p count))) ≡ open_from places (at arrangement) p count
+  open_groups arrangement places p zero = refl
+  open_groups arrangement places p (suc count) =
+      go (is_open places p) (ap (λ q. grouped (map (at arrangement) (filter (is_open places) (range_with_len q count))))
+      (let t : p + 1 ≡ suc p = omega arith in t) ∙ open_groups arrangement places (suc p) count)
     where
-      new : Option ℕ × Option ℕ
-      new = newly_met_ends nodes met pair
-
-      go : (b : Bool) → ((seen : List ℕ) → grouped (map (sixes_at county arrangement) (critical_from nodes places seen (suc p) ends))
-          ≡ open_from places (at arrangement) (suc p) (length ends)) → grouped (map (sixes_at county arrangement) (cond b (Open p ∷ critical_from nodes places met (suc p) ends)
-          (fixed_ends new.0 new.1 ++ critical_from nodes places (met_after_both met new) (suc p) ends)))
-          ≡ cond b (at arrangement p) [] ++ open_from places (at arrangement) (suc p) (length ends)
-      go true rest = ap (λ groups. at arrangement p ++ groups) (rest met)
-      go false rest = no_sixes arrangement new.0 new.1 (critical_from nodes places (met_after_both met new) (suc p) ends)
-          ∙ rest (met_after_both met new)
+      go : (b : Bool) → grouped (map (at arrangement) (filter (is_open places) (range_with_len (p + 1) count))) ≡ open_from places (at arrangement) (suc p) count
+          → grouped (map (at arrangement) (cond b (p ∷ filter (is_open places) (range_with_len (p + 1) count)) (filter (is_open places) (range_with_len (p + 1) count))))
+          ≡ cond b (at arrangement p) [] ++ open_from places (at arrangement) (suc p) count
+      go true rest = ap (λ groups. at arrangement p ++ groups) rest
+      go false rest = rest
 
   module _ (places : List OpenPlace) (one other : List DirectedChain) (agree : AgreeButOpen county places one other)
       (same : AreSame (arranged_by county one) (arranged_by county other)) where
@@ -151,11 +143,9 @@ module _ (county : County) (is : IsCounty county) where
         ∙ sym (ap length (grouped_map packed_sixes b.chains)) ∙ ap length (whole_groups other agree.other_whole)
         ∙ ap (λ n. length (groups_from (at other) 0 n)) (sym agree.count)
 
-    pub ranges_order : (nodes : List ℕ) (ends : List (Option ℕ × Option ℕ)) → length ends ≡ length one
-        → groups_cmp Six (type_6_by_chain a) (type_6_by_chain b)
-        ≡ groups_cmp Six (map (sixes_at county one) (critical_from nodes places [] 0 ends))
-        (map (sixes_at county other) (critical_from nodes places [] 0 ends))
-    ranges_order nodes ends count =
+    pub ranges_order : groups_cmp Six (type_6_by_chain a) (type_6_by_chain b)
+        ≡ groups_cmp Six (map (sixes_at county one) (open_among places (length one))) (map (sixes_at county other) (open_among places (length one)))
+    ranges_order =
         let few : length one < 10 ^ 10 =
         (let whole = length_whole county one is agree.whole in let small = agree.whole.few in omega (arith, whole, small)) in
         cmp_mapped Six spelling_cmp (grouped (type_6_by_chain a)) (grouped (type_6_by_chain b))
@@ -165,7 +155,6 @@ module _ (county : County) (is : IsCounty county) where
         (at one) (at other) (keyed one) (keyed other)
         (λ place e. ap (λ o. sixes_of county (option_map (λ d. (place, d)) o)) (agree.apart place (closed_apart place places e)))
         (length one) few as_many
-        ∙ ap₂ (λ m n. slice_cmp six_cmp (open_from places (at one) 0 m) (open_from places (at other) 0 n)) (sym count) (sym count)
-        ∙ ap₂ (slice_cmp six_cmp) (sym (open_groups one nodes places [] 0 ends)) (sym (open_groups other nodes places [] 0 ends))
-        ∙ sym (cmp_mapped Six spelling_cmp (grouped (map (sixes_at county one) (critical_from nodes places [] 0 ends)))
-        (grouped (map (sixes_at county other) (critical_from nodes places [] 0 ends))))
+        ∙ ap₂ (slice_cmp six_cmp) (sym (open_groups one places 0 (length one))) (sym (open_groups other places 0 (length one)))
+        ∙ sym (cmp_mapped Six spelling_cmp (grouped (map (sixes_at county one) (open_among places (length one))))
+        (grouped (map (sixes_at county other) (open_among places (length one)))))

@@ -1,96 +1,253 @@
--- Records of type I that differ only in their nodes are in the order of these.
-use Rattle.tl_number.proofs.Common.{◌≡◌, ◌+◌, ℕ, suc, List, [], ◌∷◌, ◌++◌, length, map, nat_cmp, refl, sym, ap, ap₂, ◌∙◌, length-append}
-use Rattle.tl_number.proofs.Common.{AllByRecursion, Chain, FieldsI, I, IsNumberOrNone, PolygonSide, ends_cmp, ends_of, joined}
-use Rattle.tl_number.proofs.Common.{nat_list_cmp_total, numbered_from, ordering_then, packed_i, records_cmp, slice_cmp, spelling_cmp}
-use Rattle.tl_number.proofs.Common.{tied_itself, unwrap_or}
-use Rattle.std.specs.Prelude.{codes}
-use Rattle.tl_layout.specs.FieldTexts.{number_text}
-use Rattle.tl_layout.specs.Laws.NumberTextLaws.{length-number_text}
-use Rattle.tl_layout.specs.RecordText.{spelling_of}
-use Rattle.tl_layout.specs.RecordTypes.{fields_spelling}
-use Rattle.tl_layout.specs.declared.type_i.BodyI.{BodyI}
-use Rattle.tl_number.proofs.Texts.RecordTexts.{cmp-append, then_equal}
-use Rattle.tl_number.proofs.Ties.NumberTexts.{node_order}
+-- The records of type I of two choices are in the order of those at critical places.
+use Rattle.tl_number.proofs.Common.{◌≡◌, ◌<◌, ◌∙◌, ◌||◌, ◌⊎◌, ◌≤◌, ◌+◌, ℕ, List, [], ◌∷◌, ◌++◌, map, filter, flat_map, length, slice_get, append-nil, length-map}
+use Rattle.tl_number.proofs.Common.{Bool, false, true, Equal, Option, Some, None, option_cmp, option_map, option_to_list, refl, sym, ap, ap₂, subst, arith, inl, inr, get_or, nat_lt, ltb-true, ltb-false, slice_get-get_or}
+use Rattle.tl_number.proofs.Common.{AllByRecursion, AreTieTables, AreWhole, Chain, County, DirectedChain, FieldsI, I, IfSome, IsCounty, IsWithinLimits, Known}
+use Rattle.tl_number.proofs.Common.{OrderOfShapes, Renumbering, all_left, all_right, arranged_by, arrangement_of, directed_chain, first_seen}
+use Rattle.tl_number.proofs.Common.{grouped, groups_cmp, image, is_open, key_cmp, key_keys, keys_along, map-append, most_records, nat_cmp, nat_keys, nodes_in_order}
+use Rattle.tl_number.proofs.Common.{numbered_from, packed_i, place_in, placed, polygons_in_order, range_with_len, renumbered}
+use Rattle.tl_number.proofs.Common.{rights-numbered_from, slice_cmp, spelling_cmp, topologies_of, type_i_by_chain, side_of}
+use Rattle.std.proofs.lemmas.Bool.{or_parts}
+use Rattle.ordered_lists.proofs.Lists.ByPlace.{all_at}
+use Rattle.ordered_lists.specs.Places.{at_places}
+use Rattle.tl_county.specs.CountyRules.{chain_nodes, chain_polygons}
+use Rattle.tl_county.specs.PolygonKeys.{PolygonKey, key_on}
+use Rattle.tl_county.specs.Renumbering.{renumbered_side}
+use Rattle.tl_layout.specs.RecordText.{FitsRecord}
+use Rattle.tl_shape.specs.Turned.{turned}
+use Rattle.tl_number.specs.ChoiceSearch.{LeavesChoices}
+use Rattle.tl_number.specs.CriticalPlaces.{brings, is_critical}
+use Rattle.tl_number.specs.declared.tie_tables.TieTables.{TieTables}
+use Rattle.tl_number.proofs.Lists.Counting.{flat_map-map}
+use Rattle.tl_number.proofs.Numbering.NewNumbers.{image-numbered, image-under_cenid}
+use Rattle.tl_number.proofs.Records.Grouped.{grouped_map}
+use Rattle.tl_number.proofs.Records.PackedGroups.{is as is_packed}
+use Rattle.tl_number.proofs.Texts.SameLists.{read_along}
+use Rattle.tl_number.proofs.Texts.TopologyRecords.{entry_of_directed, no_topology, topology_record_there}
+use Rattle.tl_number.proofs.Texts.TypeOnes.{same_one}
+use Rattle.tl_number.proofs.Ties.CriticalKeys.{alike_there, chains_of, fixed_there, new_of}
+use Rattle.tl_number.proofs.Ties.NewlySeen.{AreAlike}
+use Rattle.tl_number.proofs.Ties.PartOrder.{part_decides}
+use Rattle.tl_number.proofs.Ties.RecordExact.{topologies_fit, topology_exact}
+use Rattle.tl_number.proofs.Ties.TieNumbers.{length_numbered, swapped_alike, whole_numbered}
+use Rattle.tl_number.proofs.Views.ViewChains.{chains, chains_arranged_by}
+use Rattle.tl_number.proofs.Views.ViewTables.{keys_paired, nodes_paired}
 
--- texts behind two beginnings of one length decide nothing
-joined_cmp : (xs ys : List ℕ) (texts : List (List ℕ)) → length xs ≡ length ys
-    → slice_cmp nat_cmp (joined xs texts) (joined ys texts) ≡ slice_cmp nat_cmp xs ys
-joined_cmp xs ys [] e = refl
-joined_cmp xs ys (text ∷ texts) e =
-    joined_cmp (xs ++ text) (ys ++ text) texts (length-append xs text ∙ ap (λ n. n + length text) e ∙ sym (length-append ys text))
-    ∙ cmp-append nat_cmp xs ys text text e
-    ∙ ap (ordering_then (slice_cmp nat_cmp xs ys)) (tied_itself nat_list_cmp_total text)
-    ∙ then_equal (slice_cmp nat_cmp xs ys)
+-- keys along the directed chains of an arrangement are those along its chains
+module _ (county : County) (arrangement : List DirectedChain) (is : IsCounty county) (whole : AreWhole county arrangement) {K : Type 0} (keys : Chain → List K)
+  where
+    pub along_placed : grouped (keys_along keys county arrangement) ≡ flat_map (λ (entry : ℕ × Chain). keys entry.1) (placed county (arrangement_of county arrangement))
+    along_placed =
+        let cs : List Chain = chains county arrangement is whole in
+        ap grouped (read_along county is (λ chain. flat_map keys (option_to_list chain)) arrangement whole)
+        ∙ grouped_map (λ c. keys c ++ []) cs ∙ lone cs
+        ∙ sym (sym (flat_map-map keys (λ (entry : ℕ × Chain). entry.1) (numbered_from 1 cs)) ∙ ap (flat_map keys) (rights-numbered_from 1 cs))
+      where
+        lone : (cs : List Chain) → flat_map (λ c. keys c ++ []) cs ≡ flat_map keys cs
+        lone [] = refl
+        lone (c ∷ cs) = ap₂ (λ k l. k ++ l) (append-nil (keys c)) (lone cs)
 
--- and a common beginning decides nothing
-pub behind_cmp : (before xs ys : List ℕ) → slice_cmp nat_cmp (before ++ xs) (before ++ ys) ≡ slice_cmp nat_cmp xs ys
-behind_cmp before xs ys = cmp-append nat_cmp before before xs ys refl
-    ∙ ap (λ o. ordering_then o (slice_cmp nat_cmp xs ys)) (tied_itself nat_list_cmp_total before)
+-- a place that brings something new is critical
+brought : (x y z : Bool) → (y ≡ true) ⊎ (z ≡ true) → (x || (y || z)) ≡ true
+brought true y z h = refl
+brought false true z h = refl
+brought false false z (inl h) = cc
+brought false false z (inr h) = h
 
--- the columns before the nodes, and those behind them
-abbrev head : ℕ → BodyI → List ℕ
-head tlid body = joined [] ((73 ∷ []) ∷ codes "2006" ∷ body.file ∷ number_text 10 tlid ∷ [])
+-- nodes and polygons of a turned chain, and of one with new numbers
+pub turned_nodes : (chain : Chain) → AreAlike nat_cmp (chain_nodes (turned chain)) (chain_nodes chain)
+turned_nodes chain = swapped_alike nat_keys (option_to_list chain.end_node) (option_to_list chain.start_node)
 
-abbrev tail : BodyI → PolygonSide → PolygonSide → List (List ℕ)
-tail body left right = left.cenid ∷ number_text 10 (unwrap_or left.polyid 0) ∷ right.cenid ∷ number_text 10 (unwrap_or right.polyid 0)
-    ∷ body.source ∷ body.ftseg ∷ body.rs_i1 ∷ body.rs_i2 ∷ body.rs_i3 ∷ []
+pub turned_polygons : (chain : Chain) → AreAlike key_cmp (chain_polygons (turned chain)) (chain_polygons chain)
+turned_polygons chain = swapped_alike key_keys (key_on chain.right) (key_on chain.left)
 
-abbrev nodes_text : FieldsI → List ℕ
-nodes_text r = (head r.tlid r.body ++ number_text 10 (unwrap_or r.start_node 0)) ++ number_text 10 (unwrap_or r.end_node 0)
+abbrev pub new_node : Renumbering → ℕ → ℕ
+new_node r = image nat_cmp r.nodes
 
-spelled : (r : FieldsI) → spelling_of (I r) ≡ joined (nodes_text r) (tail r.body r.left r.right)
-unfolding spelling_of fields_spelling
-spelled r = refl
+abbrev pub new_polygon : Renumbering → PolygonKey → PolygonKey
+new_polygon r = image key_cmp r.polygons
 
--- a chain with other nodes
-pub record HasOtherNodes (c d : Chain) : Type 0 where
-  pub topology : c.topology ≡ d.topology
-  pub left : c.left ≡ d.left
-  pub right : c.right ≡ d.right
+nodes_renumbered : (r : Renumbering) (chain : Chain) → chain_nodes (renumbered r chain) ≡ map (new_node r) (chain_nodes chain)
+nodes_renumbered r chain =
+    ap₂ (λ k l. k ++ l) (one chain.start_node) (one chain.end_node)
+    ∙ sym (map-append (new_node r) (option_to_list chain.start_node) (option_to_list chain.end_node))
+  where
+    one : (o : Option ℕ) → option_to_list (option_map (new_node r) o) ≡ map (new_node r) (option_to_list o)
+    one None = refl
+    one (Some k) = refl
 
--- the nodes of a chain fit their fields
-pub record NodesFit (c : Chain) : Type 0 where
-  pub start_node : IsNumberOrNone 10 c.start_node
-  pub end_node : IsNumberOrNone 10 c.end_node
+polygons_renumbered : (r : Renumbering) (chain : Chain) → chain_polygons (renumbered r chain) ≡ map (new_polygon r) (chain_polygons chain)
+polygons_renumbered r chain =
+    ap₂ (λ k l. k ++ l) (one chain.left.cenid chain.left.polyid) (one chain.right.cenid chain.right.polyid)
+    ∙ sym (map-append (new_polygon r) (key_on chain.left) (key_on chain.right))
+  where
+    one : (cenid : List ℕ) (polyid : Option ℕ) → key_on (renumbered_side r (record { cenid = cenid; polyid = polyid }))
+        ≡ map (new_polygon r) (key_on (record { cenid = cenid; polyid = polyid }))
+    one cenid None = refl
+    one cenid (Some polyid) = refl
 
-topology_cmp : (tlid : ℕ) (c d : Chain) → HasOtherNodes c d → NodesFit c → NodesFit d
-    → spelling_cmp (I (packed_i (tlid, c))) (I (packed_i (tlid, d))) ≡ ends_cmp (ends_of c) (ends_of d)
-topology_cmp tlid c d other fit_c fit_d =
-    let start_c : List ℕ = number_text 10 (unwrap_or c.start_node 0) in
-    let start_d : List ℕ = number_text 10 (unwrap_or d.start_node 0) in
-    let end_c : List ℕ = number_text 10 (unwrap_or c.end_node 0) in
-    let end_d : List ℕ = number_text 10 (unwrap_or d.end_node 0) in
-    let before : List ℕ = head tlid c.topology in
-    let behind : List (List ℕ) = tail c.topology c.left c.right in
-    let starts : length start_c ≡ length start_d =
-    length-number_text 10 (unwrap_or c.start_node 0) ∙ sym (length-number_text 10 (unwrap_or d.start_node 0)) in
-    let ends : length end_c ≡ length end_d =
-    length-number_text 10 (unwrap_or c.end_node 0) ∙ sym (length-number_text 10 (unwrap_or d.end_node 0)) in
-    let firsts : length (before ++ start_c) ≡ length (before ++ start_d) =
-    length-append before start_c ∙ ap (λ n. length before + n) starts ∙ sym (length-append before start_d) in
-    let boths : length ((before ++ start_c) ++ end_c) ≡ length ((before ++ start_d) ++ end_d) =
-    length-append (before ++ start_c) end_c ∙ ap₂ (λ m n. m + n) firsts ends ∙ sym (length-append (before ++ start_d) end_d) in
-    ap₂ (slice_cmp nat_cmp) (spelled (packed_i (tlid, c)))
-    (spelled (packed_i (tlid, d))
-    ∙ sym (λ i. joined ((head tlid (other.topology i) ++ start_d) ++ end_d) (tail (other.topology i) (other.left i) (other.right i))))
-    ∙ joined_cmp ((before ++ start_c) ++ end_c) ((before ++ start_d) ++ end_d) behind boths
-    ∙ cmp-append nat_cmp (before ++ start_c) (before ++ start_d) end_c end_d firsts
-    ∙ ap (λ o. ordering_then o (slice_cmp nat_cmp end_c end_d)) (behind_cmp before start_c start_d)
-    ∙ ap₂ ordering_then (node_order c.start_node d.start_node fit_c.start_node fit_d.start_node)
-    (node_order c.end_node d.end_node fit_c.end_node fit_d.end_node)
+-- a chain whose nodes and polygons get the same new numbers has the same record of type I
+module _ (r s : Renumbering) (chain : Chain) (nodes : AllByRecursion (λ k. new_node r k ≡ new_node s k) (chain_nodes chain))
+    (polygons : AllByRecursion (λ k. new_polygon r k ≡ new_polygon s k) (chain_polygons chain)) where
+  node_alike : (o : Option ℕ) → AllByRecursion (λ k. new_node r k ≡ new_node s k) (option_to_list o)
+      → option_map (new_node r) o ≡ option_map (new_node s) o
+  node_alike None h = refl
+  node_alike (Some k) h = ap Some h.0
 
--- lists of chains, each with other nodes
-abbrev pub HaveOtherNodes : List Chain → List Chain → Type 0
-HaveOtherNodes [] [] = Unit {0}
-HaveOtherNodes [] (d ∷ ds) = ⊥
-HaveOtherNodes (c ∷ cs) [] = ⊥
-HaveOtherNodes (c ∷ cs) (d ∷ ds) = HasOtherNodes c d × HaveOtherNodes cs ds
+  side_alike : (cenid : List ℕ) (polyid : Option ℕ)
+      → AllByRecursion (λ k. new_polygon r k ≡ new_polygon s k) (key_on (record { cenid = cenid; polyid = polyid }))
+      → renumbered_side r (record { cenid = cenid; polyid = polyid }) ≡ renumbered_side s (record { cenid = cenid; polyid = polyid })
+  side_alike cenid None h = refl
+  side_alike cenid (Some polyid) h = ap side_of h.0
 
-pub topologies_cmp : (n : ℕ) (cs ds : List Chain) → HaveOtherNodes cs ds → AllByRecursion NodesFit cs → AllByRecursion NodesFit ds
-    → records_cmp (map I (map packed_i (numbered_from n cs))) (map I (map packed_i (numbered_from n ds)))
-    ≡ slice_cmp ends_cmp (map ends_of cs) (map ends_of ds)
-topologies_cmp n [] [] other fit_c fit_d = refl
-topologies_cmp n [] (d ∷ ds) other fit_c fit_d = absurd other
-topologies_cmp n (c ∷ cs) [] other fit_c fit_d = absurd other
-topologies_cmp n (c ∷ cs) (d ∷ ds) other fit_c fit_d =
-    ap₂ ordering_then (topology_cmp n c d other.0 fit_c.0 fit_d.0) (topologies_cmp (suc n) cs ds other.1 fit_c.1 fit_d.1)
+  same_record : (tlid : ℕ) → packed_i (tlid, renumbered r chain) ≡ packed_i (tlid, renumbered s chain)
+  same_record tlid = λ i. record {
+    tlid = tlid;
+    body = chain.topology;
+    start_node = node_alike chain.start_node (all_left (λ k. new_node r k ≡ new_node s k) (option_to_list chain.start_node) (option_to_list chain.end_node) nodes) i;
+    end_node = node_alike chain.end_node (all_right (λ k. new_node r k ≡ new_node s k) (option_to_list chain.start_node) (option_to_list chain.end_node) nodes) i;
+    left = side_alike chain.left.cenid chain.left.polyid
+        (all_left (λ k. new_polygon r k ≡ new_polygon s k) (key_on chain.left) (key_on chain.right) polygons) i;
+    right = side_alike chain.right.cenid chain.right.polyid
+        (all_right (λ k. new_polygon r k ≡ new_polygon s k) (key_on chain.left) (key_on chain.right) polygons) i;
+  }
+
+module _ (county : County) (shapes : OrderOfShapes) (known : LeavesChoices county shapes) (is : IsCounty county)
+    (within : IsWithinLimits most_records county) where
+  -- the number of a key in a choice is its place, counted from 1
+  pub all_nodes : (n : ℕ) → first_seen nat_cmp (grouped (keys_along chain_nodes county (chains_of county shapes known is within n)))
+      ≡ nodes_in_order county (arrangement_of county (chains_of county shapes known is within n))
+  all_nodes n = ap (first_seen nat_cmp) (along_placed county (chains_of county shapes known is within n) is (whole_numbered county shapes known is within n) chain_nodes)
+
+  pub all_polygons : (n : ℕ) → first_seen key_cmp (grouped (keys_along chain_polygons county (chains_of county shapes known is within n)))
+      ≡ polygons_in_order county (arrangement_of county (chains_of county shapes known is within n))
+  all_polygons n = ap (first_seen key_cmp) (along_placed county (chains_of county shapes known is within n) is (whole_numbered county shapes known is within n) chain_polygons)
+
+  pub node_is : (n k : ℕ) → Known nat_cmp (first_seen nat_cmp (grouped (keys_along chain_nodes county (chains_of county shapes known is within n)))) k
+      → new_node (new_of county shapes known is within n) k
+      ≡ 1 + place_in nat_cmp (first_seen nat_cmp (grouped (keys_along chain_nodes county (chains_of county shapes known is within n)))) k
+  node_is n k h =
+      let seen = first_seen nat_cmp (grouped (keys_along chain_nodes county (chains_of county shapes known is within n))) in
+      ap (λ pairs. image nat_cmp pairs k)
+      (sym (nodes_paired county (chains_of county shapes known is within n) is (whole_numbered county shapes known is within n) seen (all_nodes n)))
+      ∙ image-numbered seen k h
+
+  pub polygon_is : (n : ℕ) (k : PolygonKey) → Known key_cmp (first_seen key_cmp (grouped (keys_along chain_polygons county (chains_of county shapes known is within n)))) k
+      → new_polygon (new_of county shapes known is within n) k
+      ≡ (k.0, 1 + place_in key_cmp (first_seen key_cmp (grouped (keys_along chain_polygons county (chains_of county shapes known is within n)))) k)
+  polygon_is n k h =
+      let seen = first_seen key_cmp (grouped (keys_along chain_polygons county (chains_of county shapes known is within n))) in
+      ap (λ pairs. image key_cmp pairs k)
+      (sym (keys_paired county (chains_of county shapes known is within n) is (whole_numbered county shapes known is within n) seen (all_polygons n)))
+      ∙ image-under_cenid seen k h
+
+  -- the record of the chain at a place of a choice
+  pub record_there : (i place : ℕ) (directed : DirectedChain) (chain : Chain) → slice_get (chains_of county shapes known is within i) place ≡ Some directed
+      → directed_chain county directed ≡ Some chain
+      → slice_get (topologies_of (arranged_by county (chains_of county shapes known is within i))) place
+      ≡ Some (I (packed_i (1 + place, renumbered (new_of county shapes known is within i) chain)))
+  record_there i place directed chain e f =
+      let at = entry_of_directed county (chains_of county shapes known is within i) is (whole_numbered county shapes known is within i) place directed e in
+      let both : Some at.chain ≡ Some chain = sym at.of_directed ∙ f in
+      let same : at.chain ≡ chain = cc in
+      topology_record_there (arranged_by county (chains_of county shapes known is within i)) place
+      ∙ ap (option_map (λ entry. I (packed_i entry))) at.entry
+      ∙ ap (λ c. Some (I (packed_i (1 + place, renumbered (new_of county shapes known is within i) c)))) same
+
+  module _ (tables : TieTables) (are : AreTieTables county shapes tables) (n m : ℕ) where
+    abbrev a : County
+    a = arranged_by county (chains_of county shapes known is within n)
+
+    abbrev b : County
+    b = arranged_by county (chains_of county shapes known is within m)
+
+    abbrev r : Renumbering
+    r = new_of county shapes known is within n
+
+    abbrev s : Renumbering
+    s = new_of county shapes known is within m
+
+    abbrev is_in : ℕ → Bool
+    is_in = is_critical shapes.places tables.nodes.opened (keys_along chain_nodes county shapes.by_shape)
+        tables.polygons.opened (keys_along chain_polygons county shapes.by_shape)
+
+    abbrev Tie : ℕ → Type 0
+    Tie place = option_cmp spelling_cmp (slice_get (topologies_of a) place) (slice_get (topologies_of b) place) ≡ Equal
+
+    -- records that tie at a fixed place are the same
+    tied_same : (place : ℕ) → is_open shapes.places place ≡ false → Tie place → (directed : DirectedChain) (chain : Chain)
+        → slice_get shapes.by_shape place ≡ Some directed → directed_chain county directed ≡ Some chain
+        → packed_i (1 + place, renumbered r chain) ≡ packed_i (1 + place, renumbered s chain)
+    tied_same place fixed tie directed chain e f =
+        let left = record_there n place directed chain (fixed_there county shapes known is within n place fixed ∙ e) f in
+        let right = record_there m place directed chain (fixed_there county shapes known is within m place fixed ∙ e) f in
+        let whole = whole_numbered county shapes known is within n in
+        let other = whole_numbered county shapes known is within m in
+        topology_exact (packed_i (1 + place, renumbered r chain)) (packed_i (1 + place, renumbered s chain))
+        (subst (λ o. IfSome o FitsRecord) left (all_at FitsRecord (topologies_of a) (topologies_fit a whole.is_county whole.within_limits) place))
+        (subst (λ o. IfSome o FitsRecord) right (all_at FitsRecord (topologies_of b) (topologies_fit b other.is_county other.within_limits) place))
+        (sym (ap₂ (option_cmp spelling_cmp) left right) ∙ tie)
+
+    left_out : (place : ℕ) → is_in place ≡ false → ((q : ℕ) → q < place → is_in q ≡ true → Tie q) → Tie place
+    left_out place out before = go (nat_lt place (length shapes.by_shape)) refl
+      where
+        fixed : is_open shapes.places place ≡ false
+        fixed = (or_parts (is_open shapes.places place) _ out).0
+
+        nothing_new : (brings nat_cmp shapes.places tables.nodes.opened (keys_along chain_nodes county shapes.by_shape) place ≡ false)
+            × (brings key_cmp shapes.places tables.polygons.opened (keys_along chain_polygons county shapes.by_shape) place ≡ false)
+        nothing_new = or_parts _ _ (or_parts (is_open shapes.places place) _ out).1
+
+        critical_nodes : (q : ℕ) → brings nat_cmp shapes.places tables.nodes.opened (keys_along chain_nodes county shapes.by_shape) q ≡ true → is_in q ≡ true
+        critical_nodes q e = brought (is_open shapes.places q) _ _ (inl e)
+
+        critical_polygons : (q : ℕ) → brings key_cmp shapes.places tables.polygons.opened (keys_along chain_polygons county shapes.by_shape) q ≡ true
+            → is_in q ≡ true
+        critical_polygons q e = brought (is_open shapes.places q) _ _ (inr e)
+
+        past : length shapes.by_shape ≤ place → Tie place
+        past l =
+            let none : (i : ℕ) → slice_get (topologies_of (arranged_by county (chains_of county shapes known is within i))) place ≡ None = λ i.
+            no_topology (arranged_by county (chains_of county shapes known is within i)) place
+            (let e = chains_arranged_by county (chains_of county shapes known is within i) is (whole_numbered county shapes known is within i) in
+            let f = length_numbered county shapes known is within i in omega (arith, l, e, f)) in
+            ap₂ (option_cmp spelling_cmp) (none n) (none m)
+
+        there : (directed : DirectedChain) → slice_get shapes.by_shape place ≡ Some directed → Tie place
+        there directed e =
+            let at = entry_of_directed county (chains_of county shapes known is within n) is (whole_numbered county shapes known is within n) place directed
+            (fixed_there county shapes known is within n place fixed ∙ e) in
+            let same = same_record r s at.chain
+            (alike_there county shapes known is within nat_keys chain_nodes turned_nodes new_node (λ k p. 1 + p) node_is
+            nodes_renumbered tables.nodes are.nodes n m place fixed nothing_new.0
+            (λ q l q_fixed new d c f g. ap (λ (x : FieldsI). option_to_list x.start_node ++ option_to_list x.end_node)
+            (tied_same q q_fixed (before q l (critical_nodes q new)) d c f g)) directed at.chain e at.of_directed)
+            (alike_there county shapes known is within key_keys chain_polygons turned_polygons new_polygon (λ k p. (k.0, 1 + p)) polygon_is
+            polygons_renumbered tables.polygons are.polygons n m place fixed nothing_new.1
+            (λ q l q_fixed new d c f g. ap (λ (x : FieldsI). key_on x.left ++ key_on x.right)
+            (tied_same q q_fixed (before q l (critical_polygons q new)) d c f g)) directed at.chain e at.of_directed)
+            (1 + place) in
+            ap₂ (option_cmp spelling_cmp) (record_there n place directed at.chain (fixed_there county shapes known is within n place fixed ∙ e) at.of_directed)
+            (record_there m place directed at.chain (fixed_there county shapes known is within m place fixed ∙ e) at.of_directed)
+            ∙ ap (λ x. spelling_cmp (I (packed_i (1 + place, renumbered r at.chain))) (I x)) (sym same)
+            ∙ sym (same_one (Some (I (packed_i (1 + place, renumbered r at.chain)))))
+
+        go : (d : Bool) → nat_lt place (length shapes.by_shape) ≡ d → Tie place
+        go true l =
+            let none : DirectedChain = record { place = 0; turned = false } in
+            there (get_or shapes.by_shape place none) (slice_get-get_or shapes.by_shape place none (ltb-true place (length shapes.by_shape) l))
+        go false l = past (ltb-false place (length shapes.by_shape) l)
+
+    many : (i : ℕ) → length (topologies_of (arranged_by county (chains_of county shapes known is within i))) ≡ length shapes.by_shape
+    many i =
+        let c = arranged_by county (chains_of county shapes known is within i) in
+        ap length (is_packed c) ∙ length-map (map packed_i c.chains) I ∙ length-map c.chains packed_i
+        ∙ chains_arranged_by county (chains_of county shapes known is within i) is (whole_numbered county shapes known is within i)
+        ∙ length_numbered county shapes known is within i
+
+    -- So the records of type I are in the order of those at critical places.
+    pub topologies_order : groups_cmp I (type_i_by_chain a) (type_i_by_chain b)
+        ≡ slice_cmp spelling_cmp (at_places (topologies_of a) tables.critical.items) (at_places (topologies_of b) tables.critical.items)
+    topologies_order =
+        part_decides spelling_cmp is_in (topologies_of a) (topologies_of b) (many n ∙ sym (many m)) left_out
+        ∙ ap (λ places. slice_cmp spelling_cmp (at_places (topologies_of a) places) (at_places (topologies_of b) places))
+        (ap (λ count. filter is_in (range_with_len 0 count)) (many n) ∙ sym are.critical)

@@ -1,18 +1,17 @@
-use Rattle.tl_number.proofs.Common.{◌∙◌, ap, arith, refl, choice_list, choices, numbered_arrangement}
-use Rattle.tl_number.proofs.Lemmas.{agree_of_numbers}
+use Rattle.tl_number.proofs.Common.{◌≡◌, arith, sym, subst, Equal, IfOk, IfSome, choice_list, choices, choices_cmp, ones_cmp}
 use Rattle.tl_number.proofs.Choices.LeastNumbers.{not_after_both, tie_least, ties_least}
 use Rattle.tl_number.proofs.Choices.LeastOnes.{both_tied, tied_along, tied_with_itself}
 use Rattle.tl_number.proofs.CanonicalLists.TidyLists.{not_after_itself}
-use Rattle.tl_number.proofs.Ties.CriticalOrder.{few_by_shape, there_by_shape}
+use Rattle.tl_number.proofs.Ties.TieNumbers.{few_by_shape, there_by_shape}
 use Rattle.tl_number.proofs.least_choice.least_of_ties.Goals as goal
 
-pub critical_ends-requires-clause-there : goal.critical_ends-requires-clause-there
-critical_ends-requires-clause-there g c =
+pub tie_tables-requires-clause-there : goal.tie_tables-requires-clause-there
+tie_tables-requires-clause-there g c =
     there_by_shape (g.C.Chart.county c.args.chart.now) c.args.order.now c.requires.known (g.met.C.Chart.is_county c.args.chart.now)
     (g.met.C.Chart.within_limits c.args.chart.now)
 
-pub critical_ends-requires-clause-few : goal.critical_ends-requires-clause-few
-critical_ends-requires-clause-few g c =
+pub tie_tables-requires-clause-few : goal.tie_tables-requires-clause-few
+tie_tables-requires-clause-few g c =
     few_by_shape (g.C.Chart.county c.args.chart.now) c.args.order.now c.requires.known (g.met.C.Chart.is_county c.args.chart.now)
     (g.met.C.Chart.within_limits c.args.chart.now)
 
@@ -28,13 +27,12 @@ loop-alloc-init g c =
       kept = c.in_ok-kept.ensures.chosen;
     }
 
-pub compare_ties-compared-requires-clause-agree : goal.compare_ties-compared-requires-clause-agree
-compare_ties-compared-requires-clause-agree g c =
-    agree_of_numbers (g.C.Chart.county c.args.chart.now) (g.met.C.Chart.is_county c.args.chart.now) (g.met.C.Chart.within_limits c.args.chart.now)
-    c.requires.known.sides c.args.order.now.by_shape c.requires.known.order.by_shape c.args.order.now.places
-    (c.requires.known.order.places c.requires.known.few) _ _ c.choose_again.new.self.number c.find_tie.new.other.number
-    (c.deref-in-loop-alloc.ensures.value ∙ c.choose_again.ensures.chosen) (c.deref-in-loop-alloc-2.ensures.value ∙ c.find_tie.ensures.chosen)
-    c.args.order.now.places refl
+pub compare_ties-compared-requires-clause-tied : goal.compare_ties-compared-requires-clause-tied
+compare_ties-compared-requires-clause-tied g c =
+    let county = g.C.Chart.county c.args.chart.now in
+    subst (λ number. ones_cmp county number c.find_tie.new.other.number ≡ Equal) (sym c.choose_again.ensures.number)
+    (both_tied county c.args.first.now.number c.loop-alloc.least.number c.find_tie.new.other.number c.loop-alloc.invariant.tied
+    (c.find_tie.ensures.tied c.loop-alloc-test.true))
 
 pub next_of_ties-requires-clause-tied : goal.next_of_ties-requires-clause-tied
 next_of_ties-requires-clause-tied g c =
@@ -43,12 +41,8 @@ next_of_ties-requires-clause-tied g c =
 
 pub next_of_ties-requires-clause-compared : goal.next_of_ties-requires-clause-compared
 next_of_ties-requires-clause-compared g c =
-    c.compare_ties-compared.ensures c.loop-alloc.least.number c.find_tie.new.other.number
-    (c.deref-in-loop-alloc.ensures.value ∙ c.choose_again.ensures.chosen
-    ∙ ap (numbered_arrangement c.args.order.now) c.choose_again.ensures.number)
-    (c.deref-in-loop-alloc-2.ensures.value ∙ c.find_tie.ensures.chosen)
-    (both_tied (g.C.Chart.county c.args.chart.now) c.args.first.now.number c.loop-alloc.least.number c.find_tie.new.other.number
-    c.loop-alloc.invariant.tied (c.find_tie.ensures.tied c.loop-alloc-test.true))
+    subst (λ number. IfOk c.compare_ties-compared.result (λ found. IfSome found (λ ordering. ordering
+    ≡ choices_cmp (g.C.Chart.county c.args.chart.now) number c.find_tie.new.other.number))) c.choose_again.ensures.number c.compare_ties-compared.ensures
 
 pub loop-alloc-preserved : goal.loop-alloc-preserved
 loop-alloc-preserved g c =

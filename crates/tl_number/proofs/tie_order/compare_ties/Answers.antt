@@ -1,30 +1,62 @@
-use Rattle.tl_number.proofs.Common.{◌∙◌, sym, ap, ap₂, map, Six, critical_numbers, ends_cmp, feats_of, groups_cmp}
-use Rattle.tl_number.proofs.Common.{parts_along, slice_cmp}
-use Rattle.tl_number.specs.CriticalPlaces.{topologies}
+use Rattle.tl_number.proofs.Common.{◌≡◌, ◌∙◌, ap, map, sym, subst, refl, IfSome, Option, Some, None, Ordering, Six, feats_of, groups_cmp, numbered_arrangement}
+use Rattle.tl_number.proofs.Common.{I, P, choices_cmp, is_some, ordering_then, parts_along, records_cmp}
+use Rattle.tl_number.proofs.Lemmas.{agree_of_numbers}
 use Rattle.tl_number.specs.OpenRanges.{sixes_at}
-use Rattle.tl_number.proofs.Ties.CriticalOrder.{nodes_next, sixes_first}
+use Rattle.tl_number.specs.TiedRecords.{AreTiedRecords}
+use Rattle.tl_number.proofs.Ties.TieOrder.{numbers_next, sixes_first}
+use Rattle.tl_number.proofs.tie_order.compare_ties.Given.{Over}
+use Rattle.tl_number.proofs.tie_order.compare_ties.Goals.{After-compare_open_ranges}
 use Rattle.tl_number.proofs.tie_order.compare_ties.Goals as goal
 
-pub returns-in_default : goal.returns-in_default
-returns-in_default g c = λ n m e f tied.
+pub have_same_open_parts-requires : goal.have_same_open_parts-requires
+have_same_open_parts-requires g c =
+    agree_of_numbers (g.C.Chart.county c.args.chart.now) (g.met.C.Chart.is_county c.args.chart.now) (g.met.C.Chart.within_limits c.args.chart.now)
+    c.requires.known.sides c.args.order.now.by_shape c.requires.known.order.by_shape c.args.order.now.places
+    (c.requires.known.order.places c.requires.known.few) _ _ c.args.one.now.number c.args.other.now.number
+    (c.deref.ensures.value ∙ c.requires.one) (c.deref-2.ensures.value ∙ c.requires.other) c.open_places-places.result.now c.open_places-places.ensures
+
+-- the chains have the same further names
+feats : (g : Over) (c : After-compare_open_ranges g)
+    → parts_along feats_of (g.C.Chart.county c.args.chart.now) (numbered_arrangement c.args.order.now c.args.one.now.number)
+    ≡ parts_along feats_of (g.C.Chart.county c.args.chart.now) (numbered_arrangement c.args.order.now c.args.other.now.number)
+feats g c =
+    let along = parts_along feats_of (g.C.Chart.county c.args.chart.now) in
+    sym (ap along (c.deref.ensures.value ∙ c.requires.one)) ∙ c.have_same_open_parts.ensures.0 c.if-not-have_same_open_parts.false
+    ∙ ap along (c.deref-2.ensures.value ∙ c.requires.other)
+
+-- what was compared are their records of type 6 at open places
+compared : (g : Over) (c : After-compare_open_ranges g) → c.compare_open_ranges.result ≡ groups_cmp Six
+    (map (sixes_at (g.C.Chart.county c.args.chart.now) (numbered_arrangement c.args.order.now c.args.one.now.number)) c.args.tables.now.opened.items)
+    (map (sixes_at (g.C.Chart.county c.args.chart.now) (numbered_arrangement c.args.order.now c.args.other.now.number)) c.args.tables.now.opened.items)
+compared g c =
     let county = g.C.Chart.county c.args.chart.now in
-    let along = parts_along feats_of county in
-    let feats = ap along (sym e) ∙ c.have_same_open_parts.ensures.0 c.if-not-have_same_open_parts.false ∙ ap along f in
-    let made = c.compare_open_ranges.ensures
-    ∙ ap₂ (λ one other. groups_cmp Six (map (sixes_at county one) c.args.critical.now) (map (sixes_at county other) c.args.critical.now)) e f in
-    made ∙ sixes_first county c.args.order.now c.requires.known (g.met.C.Chart.is_county c.args.chart.now) (g.met.C.Chart.within_limits c.args.chart.now)
-    c.args.critical.now c.requires.critical n m tied feats (λ t. c.in_default.not-Equal (made ∙ t))
+    c.compare_open_ranges.ensures
+    ∙ (λ i. groups_cmp Six (map (sixes_at county ((c.deref-4.ensures.value ∙ c.requires.one) i)) (c.deref-3.ensures.value i))
+    (map (sixes_at county ((c.deref-5.ensures.value ∙ c.requires.other) i)) (c.deref-3.ensures.value i)))
+
+pub returns-in_default : goal.returns-in_default
+returns-in_default g c =
+    let before = (goal.at.returns-in_default g c).After-compare_open_ranges in
+    let made = compared g before in
+    made ∙ sixes_first (g.C.Chart.county c.args.chart.now) c.args.order.now c.requires.known (g.met.C.Chart.is_county c.args.chart.now)
+    (g.met.C.Chart.within_limits c.args.chart.now) c.args.tables.now c.requires.tables c.args.one.now.number c.args.other.now.number c.requires.tied
+    (feats g before) (λ tie. c.in_default.not-Equal (made ∙ tie))
 
 pub returns : goal.returns
-returns g c = λ n m e f tied.
-    let county = g.C.Chart.county c.args.chart.now in
-    let along = parts_along feats_of county in
-    let sides = parts_along topologies county in
-    let feats = ap along (sym e) ∙ c.have_same_open_parts.ensures.0 c.if-not-have_same_open_parts.false ∙ ap along f in
-    let made = c.compare_open_ranges.ensures
-    ∙ ap₂ (λ one other. groups_cmp Six (map (sixes_at county one) c.args.critical.now) (map (sixes_at county other) c.args.critical.now)) e f in
-    c.in_ok-ordering.ensures
-    ∙ ap₂ (λ one other. slice_cmp ends_cmp (critical_numbers county c.args.critical.now one) (critical_numbers county c.args.critical.now other)) e f
-    ∙ nodes_next county c.args.order.now c.requires.known (g.met.C.Chart.is_county c.args.chart.now) (g.met.C.Chart.within_limits c.args.chart.now)
-    c.args.critical.now c.requires.critical n m tied feats (sym made ∙ c.in-Equal.is)
-    (ap sides (sym e) ∙ c.have_same_open_parts-2.ensures.0 c.if-not-have_same_open_parts-2.false ∙ ap sides f)
+returns g c =
+    go c.compare_tied.result refl c.compare_tied.ensures.ordering
+  where
+    go : (found : Option Ordering) → c.compare_tied.result ≡ found
+        → IfSome found (λ ordering. ordering ≡ ordering_then (records_cmp (map I c.in_ok-records.records.topologies.items) (map I c.in_ok-others.others.topologies.items))
+        (records_cmp (map P c.in_ok-records.records.polygons.items) (map P c.in_ok-others.others.polygons.items)))
+        → IfSome found (λ ordering. ordering ≡ choices_cmp (g.C.Chart.county c.args.chart.now) c.args.one.now.number c.args.other.now.number)
+    go None is made = tt
+    go (Some ordering) is made =
+        let county = g.C.Chart.county c.args.chart.now in
+        let before = (goal.at.returns g c).After-compare_open_ranges in
+        made ∙ numbers_next county c.args.order.now c.requires.known (g.met.C.Chart.is_county c.args.chart.now)
+        (g.met.C.Chart.within_limits c.args.chart.now) c.args.tables.now c.requires.tables c.args.one.now.number c.args.other.now.number c.requires.tied
+        (feats g before) c.in_ok-records.records c.in_ok-others.others
+        (subst (λ chains. AreTiedRecords county c.args.order.now c.args.tables.now chains c.in_ok-records.records) c.requires.one c.in_ok-records.ensures)
+        (subst (λ chains. AreTiedRecords county c.args.order.now c.args.tables.now chains c.in_ok-others.others) c.requires.other c.in_ok-others.ensures)
+        (c.compare_tied.ensures.links (ap is_some is)) (sym (compared g before) ∙ c.in-Equal.is)

@@ -1,0 +1,240 @@
+-- Two choices that number the keys at critical places alike number those at all other places alike.
+use Rattle.tl_number.proofs.Common.{◌≡◌, ◌<◌, ◌∙◌, ◌⊎◌, ◌&&◌, ◌||◌, ◌+◌, ℕ, zero, suc, List, [], ◌∷◌, ◌++◌, map, filter, flat_map, slice_get}
+use Rattle.tl_number.proofs.Common.{Bool, true, false, cond, not, Ordering, Option, Some, None, option_map, option_to_list, unwrap_or}
+use Rattle.tl_number.proofs.Common.{refl, sym, ap, ap₂, subst, inl, inr, arith, AllByRecursion, AreOpenKeys, Chain, County, DirectedChain}
+use Rattle.tl_number.proofs.Common.{IsCounty, IsKeyOrder, IsWithinLimits, Known, OrderOfShapes, Renumbering, all_known}
+use Rattle.tl_number.proofs.Common.{arrangement_of, directed_chain, first_open, first_seen, group_at, grouped, is_eq, is_open, keys_along}
+use Rattle.tl_number.proofs.Common.{known-right, known_all, known_cases, list_any, lt-ltb, ltb-true, most_records, place_in, range_with_len}
+use Rattle.tl_number.proofs.Common.{OpenPlace, renaming_of, renumbered, slice_get-map, stands_in, times}
+use Rattle.ordered_lists.proofs.ByKey.Keys.{known-append, known-left}
+use Rattle.tl_shape.specs.Turned.{turned}
+use Rattle.tl_number.specs.ChoiceSearch.{LeavesChoices}
+use Rattle.tl_number.specs.CriticalPlaces.{brings, fixed_keys}
+use Rattle.tl_number.specs.declared.open_keys.OpenKeys.{OpenKeys}
+use Rattle.tl_number.proofs.Choices.ChosenArrangements.{arrangement_of_number_apart}
+use Rattle.tl_number.proofs.Landmarks.LandmarkLinks.{pieces_next}
+use Rattle.tl_number.proofs.Numbering.FirstSeen.{to_first_seen}
+use Rattle.tl_number.proofs.Ties.Counterparts.{AreCounterparts}
+use Rattle.tl_number.proofs.Ties.NewlySeen.{AreAlike}
+use Rattle.tl_number.proofs.Ties.OpenChains.{closed_apart}
+use Rattle.tl_number.proofs.Ties.TieNumbers.{chosen_chains, counterparts}
+
+-- groups of a part of a list, one after another
+grouped_filter : {X Y : Type 0} (test : X → Bool) (f : X → List Y) (xs : List X)
+    → grouped (map f (filter test xs)) ≡ flat_map (λ x. cond (test x) (f x) []) xs
+grouped_filter test f [] = refl
+grouped_filter test f (x ∷ xs) = go (test x) (grouped_filter test f xs)
+  where
+    go : (b : Bool) → grouped (map f (filter test xs)) ≡ flat_map (λ x. cond (test x) (f x) []) xs
+        → grouped (map f (cond b (x ∷ filter test xs) (filter test xs))) ≡ cond b (f x) [] ++ flat_map (λ x. cond (test x) (f x) []) xs
+    go true rest = ap (λ l. f x ++ l) rest
+    go false rest = rest
+
+-- the keys at one more place are added if it's fixed
+pub fixed_more : {K : Type 0} (places : List OpenPlace) (along : List (List K)) (place : ℕ)
+    → fixed_keys places along (place + 1) ≡ fixed_keys places along place ++ cond (not (is_open places place)) (group_at along place) []
+fixed_more {K} places along place =
+    let part : ℕ → List K = λ q. cond (not (is_open places q)) (group_at along q) [] in
+    grouped_filter (λ q. not (is_open places q)) (group_at along) (range_with_len 0 (place + 1))
+    ∙ sym (pieces_next part place)
+    ∙ ap (λ l. l ++ part place) (sym (grouped_filter (λ q. not (is_open places q)) (group_at along) (range_with_len 0 place)))
+
+module _ {K : Type 0} {cmp : K → K → Ordering} (o : IsKeyOrder cmp) where
+  -- a key in one of some groups
+  in_group : (groups : List (List K)) (i : ℕ) (group : List K) (k : K) → slice_get groups i ≡ Some group → Known cmp group k
+      → Known cmp (grouped groups) k
+  in_group [] i group k e h = cc
+  in_group (g ∷ groups) zero group k e h = let same : g ≡ group = cc in
+      known-left o k g (grouped groups) (subst (λ l. Known cmp l k) (sym same) h)
+  in_group (g ∷ groups) (suc i) group k e h = known-right o k g (grouped groups) (in_group groups i group k e h)
+
+  -- a key of a chain of an arrangement is seen
+  pub key_of_chain : (county : County) (arrangement : List DirectedChain) (keys : Chain → List K) (place : ℕ) (directed : DirectedChain) (chain : Chain)
+      → slice_get arrangement place ≡ Some directed → directed_chain county directed ≡ Some chain → (k : K) → Known cmp (keys chain) k
+      → Known cmp (first_seen cmp (grouped (keys_along keys county arrangement))) k
+  key_of_chain county arrangement keys place directed chain there of_directed k h =
+      let of_place : DirectedChain → List K = λ d. flat_map keys (option_to_list (directed_chain county d)) in
+      to_first_seen o (grouped (keys_along keys county arrangement)) k
+      (in_group (keys_along keys county arrangement) place (keys chain ++ []) k
+      (slice_get-map of_place arrangement place ∙ ap (option_map of_place) there ∙ ap (λ c. Some (flat_map keys (option_to_list c))) of_directed)
+      (known-left o k (keys chain) [] h))
+
+  -- a test that some known key passes, or none does
+  some_passes : (test : K → Bool) (ks : List K) (k : K) → Known cmp ks k → test k ≡ true → list_any test ks ≡ true
+  some_passes test [] k h e = absurd (omega (arith, h))
+  some_passes test (j ∷ ks) k h e = go (known_cases o k j ks h) (some_passes test ks k) (test j) refl
+    where
+      go : (k ≡ j) ⊎ (Known cmp ks k × (is_eq (cmp k j) ≡ false)) → (Known cmp ks k → test k ≡ true → list_any test ks ≡ true)
+          → (b : Bool) → test j ≡ b → (b || list_any test ks) ≡ true
+      go c ih true f = refl
+      go (inl same) ih false f = let both : false ≡ true = sym f ∙ ap test (sym same) ∙ e in cc
+      go (inr r) ih false f = ih r.0 e
+
+  none_passes : (test : K → Bool) (ks : List K) (k : K) → list_any test ks ≡ false → Known cmp ks k → test k ≡ false
+  none_passes test ks k e h = go (test k) refl
+    where
+      go : (b : Bool) → test k ≡ b → test k ≡ false
+      go true f = let both : false ≡ true = sym e ∙ some_passes test ks k h f in cc
+      go false f = f
+
+  mapped_alike : {L : Type 0} (f g : K → L) (ks : List K) → map f ks ≡ map g ks → AllByRecursion (λ k. f k ≡ g k) ks
+  mapped_alike f g [] e = tt
+  mapped_alike f g (k ∷ ks) e = (cc, mapped_alike f g ks (cc))
+
+module _ (county : County) (shapes : OrderOfShapes) (known : LeavesChoices county shapes) (is : IsCounty county)
+    (within : IsWithinLimits most_records county) where
+  abbrev pub chains_of : ℕ → List DirectedChain
+  chains_of n = chosen_chains county shapes known is within n
+
+  abbrev pub new_of : ℕ → Renumbering
+  new_of n = renaming_of county (arrangement_of county (chains_of n))
+
+  -- at a fixed place each choice has the chain of the order of shapes
+  pub fixed_there : (n place : ℕ) → is_open shapes.places place ≡ false → slice_get (chains_of n) place ≡ slice_get shapes.by_shape place
+  fixed_there n place fixed = arrangement_of_number_apart county is shapes.by_shape known.order.by_shape shapes.places (known.order.places known.few)
+      (chains_of n) n refl place (closed_apart place shapes.places fixed)
+
+  -- Keys of one kind, their new ones in a choice, and where they stand in a record of type I.
+  module _ {K : Type 0} {cmp : K → K → Ordering} (o : IsKeyOrder cmp) (keys : Chain → List K)
+      (turned_keys : (chain : Chain) → AreAlike cmp (keys (turned chain)) (keys chain)) (new : Renumbering → K → K) (make : K → ℕ → K)
+      (new_is : (n : ℕ) (k : K) → Known cmp (first_seen cmp (grouped (keys_along keys county (chains_of n)))) k
+      → new (new_of n) k ≡ make k (place_in cmp (first_seen cmp (grouped (keys_along keys county (chains_of n)))) k))
+      (keys_renumbered : (r : Renumbering) (chain : Chain) → keys (renumbered r chain) ≡ map (new r) (keys chain))
+      (tables : OpenKeys (List K)) (are : AreOpenKeys cmp shapes.places (keys_along keys county shapes.by_shape) tables) where
+    abbrev along : List (List K)
+    along = keys_along keys county shapes.by_shape
+
+    abbrev all_of : ℕ → List K
+    all_of n = first_seen cmp (grouped (keys_along keys county (chains_of n)))
+
+    abbrev keys_of : DirectedChain → List K
+    keys_of directed = flat_map keys (option_to_list (directed_chain county directed))
+
+    -- the keys at a place
+    keys_at_place : (place : ℕ) (directed : DirectedChain) (chain : Chain) → slice_get shapes.by_shape place ≡ Some directed
+        → directed_chain county directed ≡ Some chain → group_at along place ≡ keys chain ++ []
+    keys_at_place place directed chain e f =
+        ap (λ (g : Option (List K)). unwrap_or g []) (slice_get-map keys_of shapes.by_shape place ∙ ap (option_map keys_of) e)
+        ∙ ap (λ c. flat_map keys (option_to_list c)) f
+
+    -- a key at a place is that of a chain there
+    record AtPlace (place : ℕ) (k : K) : Type 0 where
+      directed : DirectedChain
+      chain : Chain
+      there : slice_get shapes.by_shape place ≡ Some directed
+      of_directed : directed_chain county directed ≡ Some chain
+      key : Known cmp (keys chain) k
+
+    at_place : (place : ℕ) (k : K) → Known cmp (group_at along place) k → AtPlace place k
+    at_place place k h = go (slice_get shapes.by_shape place) refl
+        (subst (λ g. Known cmp (unwrap_or g []) k) (slice_get-map keys_of shapes.by_shape place) h)
+      where
+        inside : (directed : DirectedChain) → slice_get shapes.by_shape place ≡ Some directed → (c : Option Chain) → directed_chain county directed ≡ c
+            → Known cmp (flat_map keys (option_to_list c)) k → AtPlace place k
+        inside directed e None f l = absurd (omega (arith, l))
+        inside directed e (Some chain) f l = record {
+          directed = directed;
+          chain = chain;
+          there = e;
+          of_directed = f;
+          key = first (known-append o k (keys chain) [] l);
+        } where
+          first : Known cmp (keys chain) k ⊎ Known cmp [] k → Known cmp (keys chain) k
+          first (inl m) = m
+          first (inr m) = absurd (omega (arith, m))
+
+        go : (d : Option DirectedChain) → slice_get shapes.by_shape place ≡ d → Known cmp (unwrap_or (option_map keys_of d) []) k → AtPlace place k
+        go None e l = absurd (omega (arith, l))
+        go (Some directed) e l = inside directed e (directed_chain county directed) refl l
+
+    -- the first fixed place of an open key is critical
+    record FirstFixed (place : ℕ) (k : K) : Type 0 where
+      first : ℕ
+      before : first < place
+      fixed : is_open shapes.places first ≡ false
+      new_there : brings cmp shapes.places tables.opened along first ≡ true
+      here : Known cmp (group_at along first) k
+
+    first_fixed : (place : ℕ) (k : K) → stands_in cmp k tables.opened ≡ true → Known cmp (fixed_keys shapes.places along place) k → FirstFixed place k
+    first_fixed zero k opened h = absurd (omega (arith, h))
+    first_fixed (suc place) k opened h =
+        go (stands_in cmp k (fixed_keys shapes.places along place)) refl (is_open shapes.places place) refl (first_fixed place k opened)
+        (known-append o k (fixed_keys shapes.places along place) (cond (not (is_open shapes.places place)) (group_at along place) [])
+        (subst (λ l. Known cmp l k) (ap (fixed_keys shapes.places along) (let t : suc place ≡ place + 1 = omega arith in t)
+        ∙ fixed_more shapes.places along place) h))
+      where
+        later : FirstFixed place k → FirstFixed (suc place) k
+        later f = record {
+          first = f.first;
+          before = (let l = f.before in omega (arith, l));
+          fixed = f.fixed;
+          new_there = f.new_there;
+          here = f.here;
+        }
+
+        go : (b : Bool) → stands_in cmp k (fixed_keys shapes.places along place) ≡ b → (c : Bool) → is_open shapes.places place ≡ c
+            → (Known cmp (fixed_keys shapes.places along place) k → FirstFixed place k)
+            → Known cmp (fixed_keys shapes.places along place) k ⊎ Known cmp (cond (not c) (group_at along place) []) k → FirstFixed (suc place) k
+        go b e c f ih (inl l) = later (ih l)
+        go b e true f ih (inr l) = absurd (omega (arith, l))
+        go true e false f ih (inr l) = later (ih (ltb-true 0 (times cmp k (fixed_keys shapes.places along place)) e))
+        go false e false f ih (inr l) = record {
+          first = place;
+          before = omega arith;
+          fixed = f;
+          new_there = some_passes o (λ key. stands_in cmp key tables.opened && not (stands_in cmp key (fixed_keys shapes.places along place)))
+              (group_at along place) k l (ap₂ (λ x y. x && not y) opened e);
+          here = l;
+        }
+
+    -- Two choices.
+    module _ (n m : ℕ) where
+      -- they number the keys of the chain at a fixed place alike
+      abbrev pub AgreeAt : ℕ → Type 0
+      AgreeAt place = (directed : DirectedChain) (chain : Chain) → slice_get shapes.by_shape place ≡ Some directed
+          → directed_chain county directed ≡ Some chain → keys (renumbered (new_of n) chain) ≡ keys (renumbered (new_of m) chain)
+
+      module _ (place : ℕ) (fixed : is_open shapes.places place ≡ false) (nothing_new : brings cmp shapes.places tables.opened along place ≡ false)
+          (before : (q : ℕ) → q < place → is_open shapes.places q ≡ false → brings cmp shapes.places tables.opened along q ≡ true → AgreeAt q)
+          (directed : DirectedChain) (chain : Chain) (there : slice_get shapes.by_shape place ≡ Some directed)
+          (of_directed : directed_chain county directed ≡ Some chain) where
+        abbrev counterparts_of : (i : ℕ) → AreCounterparts o (first_seen cmp (grouped along)) (first_open cmp shapes.places along)
+            (all_of i) (first_open cmp shapes.places (keys_along keys county (chains_of i)))
+        counterparts_of i = counterparts county shapes known is within o keys turned_keys i
+
+        in_choice : (i : ℕ) (k : K) → Known cmp (keys chain) k → Known cmp (all_of i) k
+        in_choice i k h = key_of_chain o county (chains_of i) keys place directed chain (fixed_there i place fixed ∙ there) of_directed k h
+
+        same_new : (k : K) → Known cmp (keys chain) k → new (new_of n) k ≡ new (new_of m) k
+        same_new k h = go (stands_in cmp k tables.opened) refl
+          where
+            by_first : FirstFixed place k → new (new_of n) k ≡ new (new_of m) k
+            by_first f =
+                let at : AtPlace f.first k = at_place f.first k f.here in
+                let same : keys (renumbered (new_of n) at.chain) ≡ keys (renumbered (new_of m) at.chain) =
+                before f.first f.before f.fixed f.new_there at.directed at.chain at.there at.of_directed in
+                known_all o (λ j. new (new_of n) j ≡ new (new_of m) j) (keys at.chain)
+                (mapped_alike o (new (new_of n)) (new (new_of m)) (keys at.chain)
+                (sym (keys_renumbered (new_of n) at.chain) ∙ same ∙ keys_renumbered (new_of m) at.chain)) k at.key
+
+            go : (b : Bool) → stands_in cmp k tables.opened ≡ b → new (new_of n) k ≡ new (new_of m) k
+            go true e = by_first (first_fixed place k e (old (stands_in cmp k (fixed_keys shapes.places along place)) refl))
+              where
+                here : Known cmp (group_at along place) k
+                here = subst (λ g. Known cmp g k) (sym (keys_at_place place directed chain there of_directed)) (known-left o k (keys chain) [] h)
+
+                old : (c : Bool) → stands_in cmp k (fixed_keys shapes.places along place) ≡ c → Known cmp (fixed_keys shapes.places along place) k
+                old true f = ltb-true 0 (times cmp k (fixed_keys shapes.places along place)) f
+                old false f =
+                    let fails = none_passes o (λ key. stands_in cmp key tables.opened && not (stands_in cmp key (fixed_keys shapes.places along place)))
+                    (group_at along place) k nothing_new here in
+                    let both : true ≡ false = sym (ap₂ (λ x y. x && not y) e f) ∙ fails in cc
+            go false e =
+                let apart : Known cmp (first_open cmp shapes.places along) k → ⊥ =
+                λ l. (let both : false ≡ true = sym e ∙ lt-ltb 0 (times cmp k tables.opened) (subst (λ g. Known cmp g k) (sym are.opened) l) in cc) in
+                new_is n k (in_choice n k h)
+                ∙ ap (make k) (sym ((counterparts_of n).stayed k apart) ∙ (counterparts_of m).stayed k apart)
+                ∙ sym (new_is m k (in_choice m k h))
+
+        pub alike_there : AllByRecursion (λ k. new (new_of n) k ≡ new (new_of m) k) (keys chain)
+        alike_there = all_known o (λ k. new (new_of n) k ≡ new (new_of m) k) (keys chain) same_new

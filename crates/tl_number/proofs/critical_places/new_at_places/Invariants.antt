@@ -1,0 +1,11 @@
+-- the places so far, and the open keys of the fixed ones among them
+use Rattle.tl_number.proofs.Common.{◌≡◌, filter, first_seen, keys_at, map, range_with_len, stands_in}
+use Rattle.tl_number.specs.CriticalPlaces.{brings, fixed_keys}
+use Rattle.tl_number.proofs.critical_places.new_at_places.Given as goal
+
+abbrev pub invariant-loop-place : goal.invariant-loop-place
+invariant-loop-place g l = record {
+  new : l.new.items ≡ map (brings g.T.Old.Ord.cmp l.places l.opened (map (keys_at g.T.Half.keys) l.pairs)) (range_with_len 0 l.place);
+  met : l.met ≡ first_seen g.T.Old.Ord.cmp (filter (λ key. stands_in g.T.Old.Ord.cmp key l.opened)
+      (fixed_keys l.places (map (keys_at g.T.Half.keys) l.pairs) l.place));
+}

@@ -1,0 +1,62 @@
+-- Keys that first appear at open places: nodes or polygons whose numbers differ from choice to choice.
+use Rattle.std.specs.Prelude.{ℕ, ◌≡◌, ◌+◌, ◌&&◌, List, [], ◌∷◌, ◌++◌, Bool, cond, filter, flat_map, get_or, map, nat_le, nat_lt, option_to_list}
+use Rattle.std.specs.List.{list_any, position_or_len, range_with_len}
+use Rattle.std.specs.Ordering.{is_eq}
+use Rattle.std.specs.declared.cmp.Ordering.{Ordering}
+use Rattle.ordered_lists.specs.Orders.{stands_in}
+use Rattle.tl_shape.specs.Chain.{Chain}
+use Rattle.tl_county.specs.County.{County}
+use Rattle.tl_county.specs.declared.directed_chain.DirectedChain.{DirectedChain}
+use Rattle.tl_profile.specs.declared.open_places.OpenPlace.{OpenPlace}
+use Rattle.tl_number.specs.DirectedChains.{parts_along}
+use Rattle.tl_number.specs.Groups.{grouped}
+use Rattle.tl_number.specs.Growth.{first_seen}
+use Rattle.tl_number.specs.declared.open_keys.OpenKeys.{OpenKeys}
+
+-- whether an open place moves a chain to or from the place
+abbrev pub is_open : List OpenPlace → ℕ → Bool
+is_open places place = list_any (λ at. nat_le at.place place && nat_lt place (at.place + at.alike)) places
+
+-- the open ones of the first places
+abbrev pub open_among : List OpenPlace → ℕ → List ℕ
+open_among places count = filter (is_open places) (range_with_len 0 count)
+
+-- the keys that weren't seen before, in the order of their first occurrence
+abbrev pub newly_seen : {K : Type 0} → (K → K → Ordering) → List K → List K → List K
+newly_seen cmp seen [] = []
+newly_seen cmp seen (key ∷ keys) =
+    cond (stands_in cmp key seen) (newly_seen cmp seen keys) (key ∷ newly_seen cmp (seen ++ (key ∷ [])) keys)
+
+-- of the keys at each place from one on, those that weren't seen before and first appear at an open place
+abbrev pub open_keys : {K : Type 0} → (K → K → Ordering) → (ℕ → Bool) → List K → ℕ → List (List K) → List K
+open_keys cmp opened seen place [] = []
+open_keys cmp opened seen place (keys ∷ rest) =
+    cond (opened place) (newly_seen cmp seen keys) [] ++ open_keys cmp opened (seen ++ newly_seen cmp seen keys) (place + 1) rest
+
+-- the same for all places
+abbrev pub first_open : {K : Type 0} → (K → K → Ordering) → List OpenPlace → List (List K) → List K
+first_open cmp places along = open_keys cmp (is_open places) [] 0 along
+
+-- the keys of each directed chain
+abbrev pub keys_along : {K : Type 0} → (Chain → List K) → County → List DirectedChain → List (List K)
+keys_along keys county arrangement = parts_along (λ chain. flat_map keys (option_to_list chain)) county arrangement
+
+-- the place of a key in a list, or the list's length
+abbrev pub place_in : {K : Type 0} → (K → K → Ordering) → List K → K → ℕ
+place_in cmp keys key = position_or_len (λ other. is_eq (cmp key other)) keys
+
+-- these are all keys at these places, those that first appear at an open place, and where they are among all
+pub record AreOpenKeys {K : Type 0} (cmp : K → K → Ordering) (places : List OpenPlace) (along : List (List K)) (keys : OpenKeys (List K)) : Type 0 where
+  pub all : keys.all ≡ first_seen cmp (grouped along)
+  pub opened : keys.opened ≡ first_open cmp places along
+  pub there : keys.places.items ≡ map (place_in cmp keys.all) keys.opened
+
+-- The place of a key by its first appearance in a choice, given the open keys in the order of this choice: an open key has the place of
+-- its counterpart in the order of shapes.
+abbrev pub place_by_order : {K : Type 0} → (K → K → Ordering) → OpenKeys (List K) → List K → K → ℕ
+place_by_order cmp keys order key =
+    cond (stands_in cmp key order) (get_or keys.places.items (place_in cmp order key) 0) (place_in cmp keys.all key)
+
+-- and the key whose place in the choice is that of this key in the order of shapes
+abbrev pub key_by_order : {K : Type 0} → (K → K → Ordering) → OpenKeys (List K) → List K → K → K
+key_by_order cmp keys order key = cond (stands_in cmp key keys.opened) (get_or order (place_in cmp keys.opened key) key) key
