@@ -1,7 +1,7 @@
 -- A chain of a choice, with the numbers that are read from its open keys, is that of the arranged county.
 use Rattle.tl_number.proofs.Common.{◌≡◌, ◌<◌, ◌^◌, ◌∙◌, ◌+◌, ℕ, List, [], ◌∷◌, length, get_or, slice_get, slice_get-get_or, Option, Some, None, option_map, option_to_list, is_eq}
 use Rattle.tl_number.proofs.Common.{refl, sym, ap, subst, arith, AllByRecursion, AreTieTables, BodyP, Bool, true, false, cond, Chain, County, DirectedChain, IfSome}
-use Rattle.tl_number.proofs.Common.{IsCounty, IsOpenOrder, IsWithinLimits, Known, OrderOfShapes, PolygonKey, arranged_by, directed_chain}
+use Rattle.tl_number.proofs.Common.{IsCounty, IsOpenOrder, IsWithinLimits, Known, OrderOfShapes, PolygonKey, PolygonSide, arranged_by, directed_chain, ends_of, sides_of}
 use Rattle.tl_number.proofs.Common.{first_seen, grouped, key_cmp, key_keys, keys_along, known-here, known-right, most_records, nat_cmp, nat_keys, place_in, renumbered, same-true, side_of}
 use Rattle.ordered_lists.proofs.ByKey.Keys.{known-left}
 use Rattle.ordered_lists.proofs.Lists.ByPlace.{all_at}
@@ -80,21 +80,42 @@ module _ (county : County) (shapes : OrderOfShapes) (known : LeavesChoices count
         ∙ ap (λ q. side_of (cenid, q)) (let t : p + 1 ≡ 1 + p = omega arith in t)
         ∙ ap side_of (sym (polygon_is county shapes known is within n k (key_of_chain key_keys county arrangement chain_polygons place directed chain there of_directed k (h k refl))))
 
-    pub start_number : numbered_node tables.nodes opened.nodes chain.start_node ≡ (renumbered r chain).start_node
+    start_number : numbered_node tables.nodes opened.nodes chain.start_node ≡ (renumbered r chain).start_node
     start_number = node_number chain.start_node (λ k e. known-left nat_keys k (option_to_list chain.start_node) (option_to_list chain.end_node)
         (subst (λ o. Known nat_cmp (option_to_list o) k) (sym e) (known-here nat_keys k [])))
 
-    pub end_number : numbered_node tables.nodes opened.nodes chain.end_node ≡ (renumbered r chain).end_node
+    end_number : numbered_node tables.nodes opened.nodes chain.end_node ≡ (renumbered r chain).end_node
     end_number = node_number chain.end_node (λ k e. known-right nat_keys k (option_to_list chain.start_node) (option_to_list chain.end_node)
         (subst (λ o. Known nat_cmp (option_to_list o) k) (sym e) (known-here nat_keys k [])))
 
-    pub left_number : numbered_side tables.polygons opened.polygons chain.left ≡ (renumbered r chain).left
+    left_number : numbered_side tables.polygons opened.polygons chain.left ≡ (renumbered r chain).left
     left_number = side_number chain.left.cenid chain.left.polyid (λ k e. known-left key_keys k (key_on chain.left) (key_on chain.right)
         (subst (λ l. Known key_cmp l k) (sym e) (known-here key_keys k [])))
 
-    pub right_number : numbered_side tables.polygons opened.polygons chain.right ≡ (renumbered r chain).right
+    right_number : numbered_side tables.polygons opened.polygons chain.right ≡ (renumbered r chain).right
     right_number = side_number chain.right.cenid chain.right.polyid (λ k e. known-right key_keys k (key_on chain.left) (key_on chain.right)
         (subst (λ l. Known key_cmp l k) (sym e) (known-here key_keys k [])))
+
+    -- what is read of the chain's ends and sides
+    pub ends_read : (ends : Option ℕ × Option ℕ) → Some ends ≡ option_map ends_of (directed_chain county directed)
+        → (numbered_node tables.nodes opened.nodes ends.0 ≡ (renumbered r chain).start_node)
+        × (numbered_node tables.nodes opened.nodes ends.1 ≡ (renumbered r chain).end_node)
+    ends_read ends e =
+        let both : Some ends ≡ Some (ends_of chain) = e ∙ ap (option_map ends_of) of_directed in
+        let same : ends ≡ ends_of chain = cc in (
+          ap (λ pair. numbered_node tables.nodes opened.nodes pair.0) same ∙ start_number,
+          ap (λ pair. numbered_node tables.nodes opened.nodes pair.1) same ∙ end_number,
+        )
+
+    pub sides_read : (sides : PolygonSide × PolygonSide) → Some sides ≡ option_map sides_of (directed_chain county directed)
+        → (numbered_side tables.polygons opened.polygons sides.0 ≡ (renumbered r chain).left)
+        × (numbered_side tables.polygons opened.polygons sides.1 ≡ (renumbered r chain).right)
+    sides_read sides e =
+        let both : Some sides ≡ Some (sides_of chain) = e ∙ ap (option_map sides_of) of_directed in
+        let same : sides ≡ sides_of chain = cc in (
+          ap (λ pair. numbered_side tables.polygons opened.polygons pair.0) same ∙ left_number,
+          ap (λ pair. numbered_side tables.polygons opened.polygons pair.1) same ∙ right_number,
+        )
 
     -- its numbers fit
     pub numbers_fit : FitsNumbers (renumbered r chain)
