@@ -40,7 +40,7 @@ fixed_more {K} places along place =
     ∙ ap (λ l. l ++ part place) (sym (grouped_filter (λ q. not (is_open places q)) (group_at along) (range_with_len 0 place)))
 
 module _ {K : Type 0} {cmp : K → K → Ordering} (o : IsKeyOrder cmp) where
-  -- a key in one of some groups
+  -- a key of one group is one of all groups, joined
   in_group : (groups : List (List K)) (i : ℕ) (group : List K) (k : K) → slice_get groups i ≡ Some group → Known cmp group k
       → Known cmp (grouped groups) k
   in_group [] i group k e h = cc
@@ -48,7 +48,7 @@ module _ {K : Type 0} {cmp : K → K → Ordering} (o : IsKeyOrder cmp) where
       known-left o k g (grouped groups) (subst (λ l. Known cmp l k) (sym same) h)
   in_group (g ∷ groups) (suc i) group k e h = known-right o k g (grouped groups) (in_group groups i group k e h)
 
-  -- a key of a chain of an arrangement is seen
+  -- a key of a chain in an arrangement is seen along it
   pub key_of_chain : (county : County) (arrangement : List DirectedChain) (keys : Chain → List K) (place : ℕ) (directed : DirectedChain) (chain : Chain)
       → slice_get arrangement place ≡ Some directed → directed_chain county directed ≡ Some chain → (k : K) → Known cmp (keys chain) k
       → Known cmp (first_seen cmp (grouped (keys_along keys county arrangement))) k
@@ -59,7 +59,7 @@ module _ {K : Type 0} {cmp : K → K → Ordering} (o : IsKeyOrder cmp) where
       (slice_get-map of_place arrangement place ∙ ap (option_map of_place) there ∙ ap (λ c. Some (flat_map keys (option_to_list c))) of_directed)
       (known-left o k (keys chain) [] h))
 
-  -- a test that some known key passes, or none does
+  -- a test that one of these keys passes, and one that none does
   some_passes : (test : K → Bool) (ks : List K) (k : K) → Known cmp ks k → test k ≡ true → list_any test ks ≡ true
   some_passes test [] k h e = absurd (omega (arith, h))
   some_passes test (j ∷ ks) k h e = go (known_cases o k j ks h) (some_passes test ks k) (test j) refl
