@@ -57,6 +57,6 @@ abbrev pub place_by_order : {K : Type 0} → (K → K → Ordering) → OpenKeys
 place_by_order cmp keys order key =
     cond (stands_in cmp key order) (get_or keys.places.items (place_in cmp order key) 0) (place_in cmp keys.all key)
 
--- and the key whose place in the choice is that of this key in the order of shapes
+-- the key that has the place in the choice which this key has in the order of shapes
 abbrev pub key_by_order : {K : Type 0} → (K → K → Ordering) → OpenKeys (List K) → List K → K → K
 key_by_order cmp keys order key = cond (stands_in cmp key keys.opened) (get_or order (place_in cmp keys.opened key) key) key

@@ -4,8 +4,8 @@
 //! records of type 1 are least; from one choice to the next it only reads what moves at open places. Of the other choices with the
 //! same records of type 1, those with the same chains at every place are skipped: if chains were entered twice with all their data,
 //! every order of them makes the same county. Each of the rest is compared with the least so far, mostly by a few records, as in
-//! `tie_order.rt`. Those that differ in a further name, or in the number of a landmark's polygon, are arranged and compared by their
-//! texts.
+//! `tie_order.rt`. Those that differ in a further name are arranged and compared by their texts. So are those that differ in the numbers
+//! of open polygons, if some landmark has an open polygon.
 
 ghost use Rattle.std.specs.declared.cmp.Ordering.TheVariants.{Equal};
 ghost use Rattle.std.specs.Ordering.{is_gt};

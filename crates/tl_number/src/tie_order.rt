@@ -1,8 +1,9 @@
 //! Comparing two choices with the same records of type 1 without arranging them.
 //!
 //! If the chains have the same further names, place by place, the records of types 4 and 5 are the same, and the records of type 6 at
-//! open places are compared. If no landmark has a polygon whose number differs, the records of types 7 and 8 are the same too, and then
-//! those of types I and P are compared at the few places and under the few numbers at which they can differ.
+//! open places are compared. If no landmark has an open polygon, or the open polygons have the same numbers in both choices, the records
+//! of types 7 and 8 are the same too. Then those of types I and P are compared at the few places and under the few numbers at which they
+//! can differ.
 
 ghost use Rattle.std.specs.declared.cmp.Ordering.TheVariants.{Equal};
 ghost use Rattle.std.specs.Ordering.{ordering_then};
@@ -48,7 +49,8 @@ fn compare_open_ranges<C: Chart>(
     compare_groups(&records, &others)
 }
 
-/// Compares two choices by their records of types I and P, or returns `None` if some landmark has a polygon whose number differs.
+/// Compares two choices by their records of types I and P, or returns `None` if some landmark has an open polygon (`linked`) and the
+/// open polygons have other numbers in the other choice.
 fn compare_tied(linked: bool, one: &TiedRecords, other: &TiedRecords) -> Option<Ordering>
     ensures ordering { IfSome result (λ ordering. ordering ≡ ordering_then (records_cmp (map I one.now.topologies.items) (map I other.now.topologies.items))
         (records_cmp (map P one.now.polygons.items) (map P other.now.polygons.items))) }
@@ -65,7 +67,7 @@ fn compare_tied(linked: bool, one: &TiedRecords, other: &TiedRecords) -> Option<
 }
 
 /// Compares the texts of two choices with the same records of type 1, or returns `None` if that takes arranging them: if their chains
-/// have other further names, place by place, or a landmark has a polygon whose number differs.
+/// have other further names, place by place, or some landmark has an open polygon and the open polygons have other numbers.
 pub(crate) fn compare_ties<C: Chart>(
     alloc: Global,
     chart: &C,

@@ -36,7 +36,7 @@ pub(crate) struct TieTables {
     pub(crate) critical: Vec<u32>,
     /// The places, among all polygons, of the records of type P that can differ.
     pub(crate) numbers: Vec<usize>,
-    /// Whether a landmark may have a polygon whose number differs.
+    /// Whether some landmark has an open polygon.
     pub(crate) linked: bool,
 }
 

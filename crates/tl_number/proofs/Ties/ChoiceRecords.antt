@@ -1,4 +1,4 @@
--- A chain of a choice, with the numbers that are read from its open keys, is that of the arranged county.
+-- The numbers that open keys give to a chain of a choice are those it has in the arranged county.
 use Rattle.tl_number.proofs.Common.{◌≡◌, ◌<◌, ◌^◌, ◌∙◌, ◌+◌, ℕ, List, [], ◌∷◌, length, get_or, slice_get, slice_get-get_or, Option, Some, None, option_map, option_to_list, is_eq}
 use Rattle.tl_number.proofs.Common.{refl, sym, ap, subst, arith, AllByRecursion, AreTieTables, BodyP, Bool, true, false, cond, Chain, County, DirectedChain, IfSome}
 use Rattle.tl_number.proofs.Common.{IsCounty, IsOpenOrder, IsWithinLimits, Known, OrderOfShapes, PolygonKey, PolygonSide, arranged_by, directed_chain, ends_of, sides_of}

@@ -94,7 +94,7 @@ module _ (county : County) (shapes : OrderOfShapes) (known : LeavesChoices count
   fixed_there n place fixed = arrangement_of_number_apart county is shapes.by_shape known.order.by_shape shapes.places (known.order.places known.few)
       (chains_of n) n refl place (closed_apart place shapes.places fixed)
 
-  -- Keys of one kind, their new ones in a choice, and where they stand in a record of type I.
+  -- Nodes or polygons, and their numbers in a choice.
   module _ {K : Type 0} {cmp : K → K → Ordering} (o : IsKeyOrder cmp) (keys : Chain → List K)
       (turned_keys : (chain : Chain) → AreAlike cmp (keys (turned chain)) (keys chain)) (new : Renumbering → K → K) (make : K → ℕ → K)
       (new_is : (n : ℕ) (k : K) → Known cmp (first_seen cmp (grouped (keys_along keys county (chains_of n)))) k
@@ -117,7 +117,7 @@ module _ (county : County) (shapes : OrderOfShapes) (known : LeavesChoices count
         ap (λ (g : Option (List K)). unwrap_or g []) (slice_get-map keys_of shapes.by_shape place ∙ ap (option_map keys_of) e)
         ∙ ap (λ c. flat_map keys (option_to_list c)) f
 
-    -- a key at a place is that of a chain there
+    -- a key at a place belongs to the chain there
     record AtPlace (place : ℕ) (k : K) : Type 0 where
       directed : DirectedChain
       chain : Chain

@@ -11,7 +11,7 @@ use Rattle.tl_number.proofs.Ties.NewlySeen.{AreAlike, alike_itself}
 use Rattle.tl_number.proofs.Ties.OpenChains.{Covers}
 use Rattle.tl_number.proofs.Ties.Counterparts.{AreCounterparts, counterparts_itself, counterparts_of_block, counterparts_then}
 
--- an element inserted among others stands behind the first of them
+-- inserting an element splits a list into what comes before it and what comes after it
 insert_is : {X : Type 0} (j : ℕ) (xs : List X) (t : X) → j ≤ length xs → insert xs j t ≡ (take j xs ++ (t ∷ [])) ++ drop j xs
 insert_is zero xs t h = refl
 insert_is (suc j) [] t h = absurd (omega (arith, h))

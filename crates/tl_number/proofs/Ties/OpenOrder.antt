@@ -165,7 +165,7 @@ module _ {K : Type 0} {cmp : K → K → Ordering} (o : IsKeyOrder cmp) (is_open
           cases (inl n) = behind is_open l n
           cases (inr n) = ih l n
 
-  -- So the keys that first appear at open places are those of them at open places, whatever list with the same members tells them.
+  -- So the keys that first appear at open places are found at open places alone, given any list with the same members.
   pub open_alone : (members : List K) (f : ℕ → List K) (count : ℕ) → AreAlike cmp (opened [] 0 (map f (range_with_len 0 count))) members
       → opened [] 0 (map f (range_with_len 0 count))
       ≡ first_seen cmp (filter (λ k. stands_in cmp k members) (grouped (map f (filter is_open (range_with_len 0 count)))))

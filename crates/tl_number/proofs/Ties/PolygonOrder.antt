@@ -155,7 +155,7 @@ module _ (county : County) (shapes : OrderOfShapes) (known : LeavesChoices count
           (subst (AllByRecursion (λ r. FitsRecord (P r))) records_are (polygons_fit choice whole.is_county whole.within_limits))
           i x (omega arith) (omega (arith, l)) e
 
-  -- at other numbers than open ones the records are those of the order of shapes
+  -- under a number that isn't open, a choice has the same record as the order of shapes
   fixed_record : (order : List PolygonKey) (i : ℕ) → is_open_number tables.polygons.opened tables.polygons.all i ≡ false
       → polygon_in_choice county tables.polygons order i ≡ option_and_then (λ k. packed_p (under_number county (k, i + 1))) (slice_get tables.polygons.all i)
   fixed_record order i e = go (slice_get tables.polygons.all i) e

@@ -24,7 +24,7 @@ module _ {X : Type 0} (f : ℕ → Option X) where
       ap (λ n. filter_map f (take n places)) (let t : i + 1 ≡ suc i = omega arith in t)
       ∙ taken_next places i place (slice_get-get_or places i place within ∙ ap Some (sym is))
 
--- a property of all elements is that of the one at a place
+-- what holds for all elements holds for the one at a place
 pub each_place : {X : Type 0} (Holds : X → Type 0) (xs : List X) (i : ℕ) (x : X) → AllByRecursion Holds xs → i < length xs → x ≡ get_or xs i x → Holds x
 each_place {X} Holds xs i x all within is = go xs i all (slice_get-get_or xs i x within ∙ ap Some (sym is))
   where

@@ -194,7 +194,7 @@ module _ (county : County) (shapes : OrderOfShapes) (known : LeavesChoices count
               got (x ∷ xs) (suc i) p h = got xs i p h
           go false e = sym (place_of_other o tables.all tables.opened (all_of (chosen_chains n)) order between k (unknown_key order k e))
 
-      -- the keys of the choice are those of the order of shapes
+      -- a choice has the same keys as the order of shapes
       pub all_alike : AreAlike cmp tables.all (all_of (chosen_chains n))
       all_alike = between.alike
 

@@ -22,7 +22,7 @@ read_keys {X} county f keys (m ∷ ms) (d ∷ ds) e =
     go None h = cc
     go (Some chain) h = let same : m ≡ f chain = cc in ap keys same ∙ sym (append-nil (keys (f chain)))
 
--- a property of all elements is that of the elements at places
+-- what holds for all elements holds for those at some places
 pub all_there : {X : Type 0} (Holds : X → Type 0) (xs : List X) → AllByRecursion Holds xs → (places : List ℕ) → AllByRecursion Holds (at_places xs places)
 all_there Holds xs all [] = tt
 all_there {X} Holds xs all (place ∷ places) = put (slice_get xs place) (go xs place all) (all_there Holds xs all places)
