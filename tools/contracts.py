@@ -25,22 +25,12 @@ DEFINITION = re.compile(
 )
 HEAD = re.compile(r"(pub(?:\(\w+\))?\s+)?(?:final\s+)?(?:extern\s+)?\b(fn|trait|impl|struct|enum|ghost|const|mod|use)\b")
 NAME = re.compile(r"\s*([^\W\d]\w*)")
+# The proof of what a ghost member states.
+PROOF = re.compile(r"\s*by\s*(?=\{)")
 CLAUSE = re.compile(r"\b(ensures|requires)\b\s*(\w*)\s*(?=\{)")
 EXPORT = re.compile(r"pub use [\w:]+::(?:\{([^}]*)\}|(\w+));")
 ALIAS = re.compile(r"^pub type (\w+)[^=;]*=\s*(\w+)", re.M)
 TEST = re.compile(r"#\[test\]\s*(?:#\[[^\]]*\]\s*)*fn (\w+)")
-
-
-class Cited:
-    """What a text cites: words of specs/, words of the kit, and types of the code, each as (crate, module, name)."""
-
-    def __init__(self):
-        self.words, self.kit, self.types = set(), set(), set()
-
-    def take(self, other):
-        self.words |= other.words
-        self.kit |= other.kit
-        self.types |= other.types
 
 
 class Scope:
@@ -70,18 +60,16 @@ class Word:
 class Item:
     """An item of the code: a function, a method, a trait, a type, or a fact that a trait or a type states of itself."""
 
-    def __init__(self, file, name, kind, at):
+    def __init__(self, file, name, kind):
         self.key = (file.crate, name)
         self.name, self.kind, self.path, self.scope = name, kind, file.path, file.scope
-        self.line = file.text.count("\n", 0, at) + 1
-        self.clauses = []  # (name or None, 'ensures' or 'requires', text)
-        self.lines = []  # that of each clause
+        self.clauses = []  # (name or None, 'ensures', 'requires' or 'states', text, line)
         self.is_public = False
         # Whether it is a trait's call, or what a type has for one.
         self.of_trait = False
 
     def clause_names(self):
-        return {name for name, _, _ in self.clauses if name}
+        return {name for name, *_ in self.clauses if name}
 
 
 def blocks_of(text):
@@ -108,6 +96,9 @@ def blanked(text):
 Block = namedtuple("Block", "owner kind trait", defaults=[None])
 """The block of a trait, a type or an impl: its owner and its trait."""
 
+Found = namedtuple("Found", "kind name is_open begin clauses opening end")
+"""An item as it is found: whether it is `pub`, where its name ends, its clauses, and where its body begins and ends."""
+
 
 class CodeFile:
     """A file of a crate's code, with its items."""
@@ -119,87 +110,73 @@ class CodeFile:
         self.text = blanked(raw)
         self.ends = blocks_of(self.text)
         self.scope = Scope(self.text)
-        for name in TEST.findall(raw):
-            sources.tests[name] = self.path
+        sources.tests.update(dict.fromkeys(TEST.findall(raw), self.path))
 
-    def add(self, name, kind, at):
+    def add(self, name, kind):
         """The item of this name. Of several under one name the first that has clauses counts."""
         known = self.sources.items.get((self.crate, name))
         if known is None or not known.clauses:
-            known = self.sources.items[(self.crate, name)] = Item(self, name, kind, at)
+            known = self.sources.items[(self.crate, name)] = Item(self, name, kind)
         return known
 
     def scan(self, at, end, block=None):
         """Takes the items between two places, which may be those of a block."""
+        takers = {"impl": self.take_impl, "fn": self.take_function, "ghost": self.take_ghost}
+        takers.update(dict.fromkeys(("trait", "struct", "enum"), self.take_type))
         while head := HEAD.search(self.text, at, end):
-            kind, named = head.group(2), NAME.match(self.text, head.end())
-            at = head.end()
-            if kind == "impl":
-                at = self.take_impl(at)
-            elif named and kind == "fn":
-                at = self.take_function(head, named, block)
-            elif named and kind == "ghost" and named.group(1) != "use":
-                at = self.take_ghost(head, named, block)
-            elif named and kind in ("trait", "struct", "enum"):
-                at = self.take_type(head, named)
+            kind, at, named = head[2], head.end(), NAME.match(self.text, head.end())
+            if kind in takers and (kind == "impl" or named and named[1] != "use"):
+                name, begin = (None, at) if kind == "impl" else (named[1], named.end())
+                found = Found(kind, name, (head[1] or "").strip() == "pub", begin, *self.read(begin))
+                takers[kind](found, block)
+                at = found.end
 
     def read(self, at):
-        """The clauses of an item, the line of each, and where its body begins and ends. `at` is behind the word that it begins with."""
-        clauses, lines = [], []
+        """The clauses of an item, and where its body begins and ends, with a proof behind it. `at` is behind the item's name."""
+        clauses = []
         while at < len(self.text) and self.text[at] not in "{;":
             clause = CLAUSE.match(self.text, at)
             opening = clause.end() if clause else at
             at = self.ends.get(opening, opening + 1)
             if clause:
-                clauses.append((clause.group(2) or None, clause.group(1), self.text[opening + 1 : at - 1]))
-                lines.append(self.text.count("\n", 0, clause.start(1)) + 1)
-        return clauses, lines, at, self.ends.get(at, at + 1)
+                line = self.text.count("\n", 0, clause.start(1)) + 1
+                clauses.append((clause[2] or None, clause[1], self.text[opening + 1 : at - 1], line))
+        end = self.ends.get(at, at + 1)
+        proof = PROOF.match(self.text, end)
+        return clauses, at, self.ends[proof.end()] if proof else end
 
-    def take_type(self, head, named):
-        name, kind = named.group(1), head.group(2)
-        self.add(name, kind, head.start()).is_public = name in self.exported
-        *_, opening, end = self.read(named.end())
-        if kind != "enum":
-            self.scan(opening + 1, end - 1, Block(name, kind))
-        return end
+    def take_type(self, found, _block):
+        self.add(found.name, found.kind).is_public = found.name in self.exported
+        if found.kind != "enum":
+            self.scan(found.opening + 1, found.end - 1, Block(found.name, found.kind))
 
-    def take_impl(self, at):
-        *_, opening, end = self.read(at)
-        heading = re.sub(r"^\s*<(?:[^<>]|<[^<>]*>)*>", "", self.text[at:opening])
+    def take_impl(self, found, _block):
+        heading = re.sub(r"^\s*<(?:[^<>]|<[^<>]*>)*>", "", self.text[found.begin : found.opening])
         trait, _, target = heading.rpartition(" for ")
         owner = re.match(r"\s*&?\s*(?:'\w+\s+)?(?:\w+::)*(\w+)", target)
         of_trait = re.match(r"\s*(?:\w+::)*(\w+)", trait)
         if owner:
-            self.scan(opening + 1, end - 1, Block(owner.group(1), "impl", of_trait and of_trait.group(1)))
-        return end
+            self.scan(found.opening + 1, found.end - 1, Block(owner[1], "impl", of_trait and of_trait[1]))
 
-    def take_function(self, head, named, block):
-        clauses, lines, _, end = self.read(named.end())
-        name = f"{block.owner}::{named.group(1)}" if block else named.group(1)
-        item = self.add(name, "fn", head.start())
-        if not item.clauses:
-            item.clauses, item.lines = clauses, lines
-        is_open = (head.group(1) or "").strip() == "pub"
-        if block is None:
-            item.is_public |= is_open and name in self.exported
-        else:
+    def take_function(self, found, block):
+        name = f"{block.owner}::{found.name}" if block else found.name
+        item = self.add(name, "fn")
+        item.clauses = item.clauses or found.clauses
+        is_open = found.is_open
+        if block is not None:
             item.of_trait = block.kind == "trait" or block.trait is not None
-            is_open |= block.kind == "trait" or (block.trait is not None and bool(clauses))
-            item.is_public |= is_open and block.owner in self.exported
-        return end
+            is_open |= block.kind == "trait" or (block.trait is not None and bool(found.clauses))
+        item.is_public |= is_open and (block.owner if block else name) in self.exported
 
-    def take_ghost(self, head, named, block):
+    def take_ghost(self, found, block):
         """A ghost member: what a trait leaves open or requires, what a type states about itself, or what it defines for a trait."""
-        *_, opening, end = self.read(named.end())
-        told = self.text[opening + 1 : end - 1]
+        told = self.text[found.opening + 1 : self.ends.get(found.opening, found.opening + 1) - 1]
         if block is not None and block.kind == "impl":
-            self.sources.members[(block.owner, block.trait, named.group(1))] = (told, self.scope)
+            self.sources.members[(block.owner, block.trait, found.name)] = (told, self.scope)
         elif block is not None:
-            item = self.add(f"{block.owner}::{named.group(1)}", "fact", head.start())
-            if re.compile(r"\s*:").match(self.text, named.end()):
-                item.clauses = [(None, "states", told)]
-        proof = re.compile(r"\s*by\s*(?=\{)").match(self.text, end)
-        return self.ends[proof.end()] if proof else end
+            item = self.add(f"{block.owner}::{found.name}", "fact")
+            if self.text[found.begin :].lstrip().startswith(":"):
+                item.clauses = [(None, "states", told, 0)]
 
 
 class Sources:
@@ -256,51 +233,44 @@ class Sources:
             file.scan(0, len(file.text))
 
     def cited(self, text, scope, word=None):
-        """What a text cites in this scope. If it is the text of a word, it can also cite the words of that file."""
-        cited = Cited()
-        text = TEXT_IN_QUOTES.sub(" ", text)
+        """What a text cites in this scope: words of specs/, words of the kit, and types of the code, each as (crate, module, name). If it
+        is the text of a word, it can also cite the words of that file."""
+        cited, text = set(), TEXT_IN_QUOTES.sub(" ", text)
         for module, name in USED.findall(text) + [("", f"◌{sign}◌") for sign in SIGN.findall(text)]:
             if module in scope.modules:
-                self.take_cited(cited, scope.modules[module], name)
-                continue
-            name = module or name
-            if name in scope.names:
-                self.take_cited(cited, *scope.names[name])
-            elif word is not None and (word.crate, word.module, name) in self.words:
-                cited.words.add((word.crate, word.module, name))
-        if word is not None:
-            cited.words.discard(word.key)
-        return cited
+                cited.add(self.key_of(scope.modules[module], name))
+            elif (module or name) in scope.names:
+                cited.add(self.key_of(*scope.names[module or name]))
+            elif word is not None:
+                cited |= {(word.crate, word.module, module or name)} & self.words.keys()
+        return cited - {None, word and word.key}
 
-    def take_cited(self, cited, module, name):
+    def key_of(self, module, name):
+        """What a module of specs/ or of the kit has under a name, if that counts. A type has the file of its code as its module."""
         crate, *parts = module.split(".")
+        key = (crate, ".".join(parts[1:]), name)
         if parts[:2] == ["specs", "declared"]:
-            if crate in self.crates:
-                file = "/".join(part for part in parts[2:] if part[0].islower())
-                cited.types.add((crate, file, parts[-2] if parts[-1] == "TheVariants" else name))
-        elif parts[:1] == ["specs"]:
-            key = (crate, ".".join(parts[1:]), name)
-            if key in self.words:
-                cited.words.add(key)
-            elif crate not in self.crates:
-                cited.kit.add(key)
+            file = "/".join(part for part in parts[2:] if part[0].islower())
+            return (crate, f"{file}.rt", parts[-2] if parts[-1] == "TheVariants" else name) if crate in self.crates else None
+        return key if parts[:1] == ["specs"] and (key in self.words or crate not in self.crates) else None
 
-    def cited_by_item(self, item):
-        cited = Cited()
+    def cited_by_items(self, items):
+        """What the clauses of items cite."""
+        cited = set()
         aliases = {alias: named for (_, alias), named in self.aliases.items()}
-        for _, _, text in item.clauses:
-            cited.take(self.cited(text, item.scope))
+        for item, text in [(item, text) for item in items for _, _, text, _ in item.clauses]:
+            cited |= self.cited(text, item.scope)
             for name, *member in QUOTED.findall(text):
                 told = self.members.get((name, *member)) or self.members.get((aliases.get(name), *member))
-                cited.take(self.cited(*told) if told else Cited())
+                cited |= self.cited(*told) if told else set()
         return cited
 
     def closure(self, keys, passed_over=()):
-        """All definitions that these rest on. What only words cite that are passed over is left out."""
-        found, left = set(), set(keys)
+        """All definitions among these, and all that they rest on. What only words cite that are passed over is left out."""
+        found, left = set(), keys & self.words.keys()
         while left:
             key = left.pop()
             found.add(key)
             if key not in passed_over:
-                left |= self.words[key].cites.words - found
+                left |= (self.words[key].cites & self.words.keys()) - found
         return found
