@@ -24,6 +24,7 @@ MASKS = {"--no-sources": SOURCE, "--no-reserved": RESERVED}
 
 Pieces = Iterator[bytes]
 Numbering = Callable[[int], int]
+"""A number for each place of the street."""
 
 
 def masked(text: bytes, flags: Sequence[str]) -> bytes:
@@ -40,11 +41,11 @@ def laid_out(rtype: str, fields: dict[int, bytes], is_cut: bool = False) -> byte
     return line + b" " * (0 if is_cut else LENGTHS[rtype] + 1 - column) + b"\n"
 
 
-def lines(line: bytes, *columns: Iterable[int]) -> Pieces:
-    """The line once for each number of the columns, with these numbers in it."""
-    numbers = itertools.chain.from_iterable(zip(*columns))
-    while values := tuple(itertools.islice(numbers, LINES_A_PIECE * len(columns))):
-        yield line * (len(values) // len(columns)) % values
+def lines(line: bytes, places: Iterable[int], *columns: Numbering) -> Pieces:
+    """The line once for each place, with the numbers of the place in it."""
+    left = iter(places)
+    while some := list(itertools.islice(left, LINES_A_PIECE)):
+        yield line * len(some) % tuple(column(place) for place in some for column in columns)
 
 
 def write(path: Path, pieces: Pieces) -> None:
@@ -66,12 +67,12 @@ def strewn(count: int) -> list[int]:
     return [place * step % count for place in range(count)]
 
 
-def longitudes(places: Iterable[int]) -> Iterator[int]:
-    return (WEST + STEP * place for place in places)
+def longitude(place: int) -> int:
+    return WEST + STEP * place
 
 
-def following(places: Iterable[int]) -> Iterator[int]:
-    return (place + 1 for place in places)
+def next_of(column: Numbering) -> Numbering:
+    return lambda place: column(place + 1)
 
 
 class County(NamedTuple):
@@ -87,31 +88,27 @@ def street(count: int) -> County:
 
 
 def street_text(count: int) -> Pieces:
-    yield from lines(chain_line(), range(1, count + 1), longitudes(range(count)), longitudes(range(1, count + 1)))
+    number = next_of(int)
+    yield from lines(chain_line(), range(count), number, longitude, next_of(longitude))
     link = laid_out("I", {6: FILE, 11: b"%10d%10d%10d01001%10d"})
-    yield from lines(link, range(1, count + 1), range(1, count + 1), range(2, count + 2), range(1, count + 1))
+    yield from lines(link, range(count), number, number, next_of(number), number)
 
 
 def street_otherwise(count: int) -> Pieces:
-    kept, turned = halves(count)
+    """Every second chain is turned, and all have another order."""
+    kept, turned = ([place for place in strewn(count) if place % 2 == remainder] for remainder in (0, 1))
     from_west = laid_out("I", {6: FILE, 11: b"%10d%10d%10d01001%10d"}, is_cut=True)
     from_east = laid_out("I", {6: FILE, 11: b"%10d%10d%10d", 56: b"01001%10d"}, is_cut=True)
-    yield from lines(from_east, map(TLID, turned), map(NODE, following(turned)), map(NODE, turned), map(POLYID, turned))
-    yield from lines(chain_line(), map(TLID, kept), longitudes(kept), longitudes(following(kept)))
-    yield from lines(chain_line(), map(TLID, turned), longitudes(following(turned)), longitudes(turned))
-    yield from lines(from_west, map(TLID, kept), map(NODE, kept), map(NODE, following(kept)), map(POLYID, kept))
+    yield from lines(from_east, turned, TLID, next_of(NODE), NODE, POLYID)
+    yield from lines(chain_line(), kept, TLID, longitude, next_of(longitude))
+    yield from lines(chain_line(), turned, TLID, next_of(longitude), longitude)
+    yield from lines(from_west, kept, TLID, NODE, next_of(NODE), POLYID)
 
 
 def chain_line() -> bytes:
     """A line of type 1 with its TLID and two longitudes left open."""
     points = b"%+010d" + LATITUDE + b"%+010d" + LATITUDE
     return laid_out("1", {6: b"%10d", 17: SOURCE, 20: b"Main", 56: b"A41", 129: RESERVED * 2, 191: points})
-
-
-def halves(count: int) -> Sequence[list[int]]:
-    """The chains that run as they do in the canonical text, and those that are turned, in another order."""
-    places = strewn(count)
-    return [place for place in places if place % 2 == 0], [place for place in places if place % 2 == 1]
 
 
 CHAINS = 70_100
@@ -169,7 +166,7 @@ def other_lines(county: maps.County) -> Pieces:
 
 def street_chain(place: int, start: Optional[int], end: Optional[int], name: str = "Main", **more: Any) -> maps.Chain:
     """The chain at a place of the street, between two nodes."""
-    points = [(longitude, int(LATITUDE)) for longitude in longitudes((place, place + 1))]
+    points = [(longitude(it), int(LATITUDE)) for it in (place, place + 1)]
     return maps.Chain({**OF_CHAIN, "FENAME": name}, points, start, end, **{"left": None, "right": None, "link": OF_LINK, **more})
 
 
@@ -185,8 +182,8 @@ def crowded() -> County:
     long.ranges = [{"FRADDL": f"{number:>11}", "FRIADDL": "1"} for number in range(1, RANGES + 1)]
     names = [{"FILE": maps.FILE, "FENAME": f"Way {number:06}"} for number in range(NAMES)]
     polygons = [
-        maps.Polygon({"FILE": maps.FILE, "WATER": "0"}, (longitude, int(LATITUDE)), cenid=f"{number + 0x10000:05X}")
-        for number, longitude in enumerate(longitudes(range(POLYGONS)))
+        maps.Polygon({"FILE": maps.FILE, "WATER": "0"}, (longitude(number), int(LATITUDE)), cenid=f"{number + 0x10000:05X}")
+        for number in range(POLYGONS)
     ]
     large = maps.Landmark(landmark_fields("Content", 0), polygons=list(range(CONTENTS)))
     large.more = [landmark_fields("Content", number) for number in range(1, CONTENTS)]
@@ -207,21 +204,15 @@ def twins(count: int = 2_000) -> County:
     return spelled(maps.County(chains, names, [], [], outside=" " * 15))
 
 
-def node_ties(count: int) -> County:
-    """One of the seven chains has no start node, and is the first, since a blank comes before any number. All others have nodes of their
-    own, so each order of them has the same text."""
-    return ties(count, [{"start": None}, *({} for _ in range(TIED - 1))])
-
-
-def range_ties(count: int) -> County:
-    """Each of the seven chains has an address and nodes of its own, and they are in the order of the addresses."""
-    return ties(count, [{"ranges": [{"FRADDL": f"{number:>11}", "FRIADDL": "1"}]} for number in range(1, TIED + 1)])
-
-
-def side_ties(count: int) -> County:
-    """Each of the seven chains has nodes of its own and a polygon on its left, and they are in the order of the polygons' points."""
+def tied(count: int) -> dict[str, County]:
+    """Counties with seven chains of one shape that differ only in their nodes, their addresses or their polygons."""
+    # One has no start node, and is the first, since a blank comes before any number. Each order of all others has the same text.
+    nodes: list[dict[str, Any]] = [{"start": None}, *({} for _ in range(TIED - 1))]
+    # These are in the order of the addresses, and of the points of the polygons on their left.
+    addresses = [{"ranges": [{"FRADDL": f"{number:>11}", "FRIADDL": "1"}]} for number in range(1, TIED + 1)]
     polygons = [maps.Polygon({"FILE": maps.FILE, "WATER": "0"}, (WEST - place, int(LATITUDE))) for place in range(TIED)]
-    return ties(count, [{"left": polygon} for polygon in range(TIED)], polygons)
+    sides = ties(count, [{"left": polygon} for polygon in range(TIED)], polygons)
+    return {"ties": ties(count, nodes), "addresses": ties(count, addresses), "sides": sides}
 
 
 def ties(count: int, seven: list[dict[str, Any]], polygons: Sequence[maps.Polygon] = ()) -> County:
