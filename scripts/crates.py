@@ -27,6 +27,11 @@ def sources_of(crate: str) -> list[os.stat_result]:
     return [file.stat() for part in parts if part.is_dir() for file in (part, *part.rglob("*")) if file.exists()]
 
 
+def size_of(crate: str) -> int:
+    """The bytes of a crate's sources."""
+    return sum(file.st_size for file in sources_of(crate))
+
+
 def kit_of_rt() -> Optional[Path]:
     """The folder of the kit that rt is of, if it has all that is used of it here."""
     kit = Path(shutil.which("rt") or "/").resolve().parent.parent
@@ -74,7 +79,7 @@ class Crates:
         ways: dict[str, int] = {}
         for crate in sorted(crates, key=lambda it: -len(self.below(it))):
             above = (ways[it] for it in crates if crate in self.named[it])
-            ways[crate] = sum(it.st_size for it in sources_of(crate)) + max(above, default=0)
+            ways[crate] = size_of(crate) + max(above, default=0)
         return sorted(crates, key=lambda it: -ways[it])
 
     def is_built(self, crate: str) -> bool:
