@@ -23,10 +23,12 @@ DEFINITION = re.compile(
     r"^(?:(?:  )?(?:abbrev|unfoldable)\s+(?:pub\s+)?|pub\s+(?:record\s+|data\s+)?|(?:record|data)\s+)"
     r"(?!mod\s)(◌[^\s:]+◌|[^\W\d][\w-]*)(?=\s)"
 )
-HEAD = re.compile(r"(pub(?:\(\w+\))?\s+)?(?:final\s+)?(?:extern\s+)?\b(fn|trait|impl|struct|enum|ghost|const|mod|use)\b")
-NAME = re.compile(r"\s*([^\W\d]\w*)")
-# The proof of what a ghost member states.
-PROOF = re.compile(r"\s*by\s*(?=\{)")
+# An item, which stands at the left or is a member of one that does.
+ITEM = re.compile(
+    r"^( *)(pub(?:\(\w+\))?\s+)?(?:final\s+)?(?:extern\s+)?(fn|trait|impl|struct|enum|ghost)\b\s*(?!use\b)(\w*)", re.M
+)
+# The type that an impl is for.
+OWNER = re.compile(r"\s*&?\s*(?:'\w+\s+)?(?:\w+::)*(\w+)")
 CLAUSE = re.compile(r"\b(ensures|requires)\b\s*(\w*)\s*(?=\{)")
 EXPORT = re.compile(r"pub use [\w:]+::(?:\{([^}]*)\}|(\w+));")
 ALIAS = re.compile(r"^pub type (\w+)[^=;]*=\s*(\w+)", re.M)
@@ -73,14 +75,14 @@ class Item:
 
 
 def blocks_of(text):
-    """The end of each block of a text, by the place of the bracket that it begins with, in the order of these places."""
+    """The end of each block of a text, by the place of the bracket that it begins with."""
     ends, begun = {}, []
     for bracket in BRACKET.finditer(text):
         if bracket[0] in "({[":
             begun.append(bracket.start())
         elif begun:
             ends[begun.pop()] = bracket.end()
-    return dict(sorted({**ends, **dict.fromkeys(begun, len(text))}.items()))
+    return {**ends, **dict.fromkeys(begun, len(text))}
 
 
 def blank(text):
@@ -93,11 +95,8 @@ def blanked(text):
     return COMMENT_OR_TEXT.sub(lambda found: blank(found[0]), text)
 
 
-Block = namedtuple("Block", "owner kind trait", defaults=[None])
+Block = namedtuple("Block", "owner kind trait")
 """The block of a trait, a type or an impl: its owner and its trait."""
-
-Found = namedtuple("Found", "kind name is_open begin clauses opening end")
-"""An item as it is found: whether it is `pub`, where its name ends, its clauses, and where its body begins and ends."""
 
 
 class CodeFile:
@@ -119,63 +118,55 @@ class CodeFile:
             known = self.sources.items[(self.crate, name)] = Item(self, name, kind)
         return known
 
-    def scan(self, at, end, block=None):
-        """Takes the items between two places, which may be those of a block."""
-        takers = {"impl": self.take_impl, "fn": self.take_function, "ghost": self.take_ghost}
-        takers.update(dict.fromkeys(("trait", "struct", "enum"), self.take_type))
-        while head := HEAD.search(self.text, at, end):
-            kind, at, named = head[2], head.end(), NAME.match(self.text, head.end())
-            if kind in takers and (kind == "impl" or named and named[1] != "use"):
-                name, begin = (None, at) if kind == "impl" else (named[1], named.end())
-                found = Found(kind, name, (head[1] or "").strip() == "pub", begin, *self.read(begin))
-                takers[kind](found, block)
-                at = found.end
+    def scan(self):
+        """Takes all items. Those of a trait, a struct or an impl are indented by four."""
+        block = None
+        for found in ITEM.finditer(self.text):
+            depth, is_open, kind, name = len(found[1]), (found[2] or "").strip() == "pub", found[3], found[4]
+            if depth == 0:
+                block = self.impl(found.end(3)) if kind == "impl" else Block(name, kind, None)
+                if kind in ("trait", "struct", "enum"):
+                    self.add(name, kind).is_public = name in self.exported
+            is_member = depth == 4 and block and block.kind in ("trait", "struct", "impl")
+            if kind == "fn" and (depth == 0 or is_member):
+                self.take_function(name, is_open, self.clauses(found.end(), depth), block if is_member else None)
+            elif name and kind == "ghost" and is_member:
+                self.take_ghost(name, found.end(), block)
 
-    def read(self, at):
-        """The clauses of an item, and where its body begins and ends, with a proof behind it. `at` is behind the item's name."""
-        clauses = []
-        while at < len(self.text) and self.text[at] not in "{;":
-            clause = CLAUSE.match(self.text, at)
-            opening = clause.end() if clause else at
-            at = self.ends.get(opening, opening + 1)
-            if clause:
-                line = self.text.count("\n", 0, clause.start(1)) + 1
-                clauses.append((clause[2] or None, clause[1], self.text[opening + 1 : at - 1], line))
-        end = self.ends.get(at, at + 1)
-        proof = PROOF.match(self.text, end)
-        return clauses, at, self.ends[proof.end()] if proof else end
-
-    def take_type(self, found, _block):
-        self.add(found.name, found.kind).is_public = found.name in self.exported
-        if found.kind != "enum":
-            self.scan(found.opening + 1, found.end - 1, Block(found.name, found.kind))
-
-    def take_impl(self, found, _block):
-        heading = re.sub(r"^\s*<(?:[^<>]|<[^<>]*>)*>", "", self.text[found.begin : found.opening])
+    def impl(self, at):
+        """The block of an impl, unless it is for tuples or slices."""
+        heading = re.sub(r"^\s*<(?:[^<>]|<[^<>]*>)*>", "", self.text[at : self.text.index("{", at)])
         trait, _, target = heading.rpartition(" for ")
-        owner = re.match(r"\s*&?\s*(?:'\w+\s+)?(?:\w+::)*(\w+)", target)
-        of_trait = re.match(r"\s*(?:\w+::)*(\w+)", trait)
-        if owner:
-            self.scan(found.opening + 1, found.end - 1, Block(owner[1], "impl", of_trait and of_trait[1]))
+        owner, of_trait = OWNER.match(target), re.match(r"\s*(?:\w+::)*(\w+)", trait)
+        return owner and Block(owner[1], "impl", of_trait and of_trait[1])
 
-    def take_function(self, found, block):
-        name = f"{block.owner}::{found.name}" if block else found.name
+    def clauses(self, at, depth):
+        """The clauses of a function, which stand before the next line that isn't indented more, except for a bracket."""
+        end = re.compile(rf"^ {{0,{depth}}}(?!where\b)[^\s)>]", re.M).search(self.text, at).start()
+        clauses = []
+        for clause in CLAUSE.finditer(self.text, at, end):
+            told = self.text[clause.end() + 1 : self.ends[clause.end()] - 1]
+            clauses.append((clause[2] or None, clause[1], told, self.text.count("\n", 0, clause.start()) + 1))
+        return clauses
+
+    def take_function(self, name, is_open, clauses, block):
+        name = f"{block.owner}::{name}" if block else name
         item = self.add(name, "fn")
-        item.clauses = item.clauses or found.clauses
-        is_open = found.is_open
+        item.clauses = item.clauses or clauses
         if block is not None:
             item.of_trait = block.kind == "trait" or block.trait is not None
-            is_open |= block.kind == "trait" or (block.trait is not None and bool(found.clauses))
+            is_open |= block.kind == "trait" or (block.trait is not None and bool(clauses))
         item.is_public |= is_open and (block.owner if block else name) in self.exported
 
-    def take_ghost(self, found, block):
+    def take_ghost(self, name, at, block):
         """A ghost member: what a trait leaves open or requires, what a type states about itself, or what it defines for a trait."""
-        told = self.text[found.opening + 1 : self.ends.get(found.opening, found.opening + 1) - 1]
-        if block is not None and block.kind == "impl":
-            self.sources.members[(block.owner, block.trait, found.name)] = (told, self.scope)
-        elif block is not None:
-            item = self.add(f"{block.owner}::{found.name}", "fact")
-            if self.text[found.begin :].lstrip().startswith(":"):
+        opening = re.compile("[{;]").search(self.text, at).start()
+        told = self.text[opening + 1 : self.ends.get(opening, opening + 1) - 1]
+        if block.kind == "impl":
+            self.sources.members[(block.owner, block.trait, name)] = (told, self.scope)
+        else:
+            item = self.add(f"{block.owner}::{name}", "fact")
+            if self.text[at:].lstrip().startswith(":"):
                 item.clauses = [(None, "states", told, 0)]
 
 
@@ -229,12 +220,11 @@ class Sources:
         exported |= {named for (of_crate, _), named in self.aliases.items() if of_crate == crate}
         self.exported |= {(crate, name) for name in exported}
         for path in paths:
-            file = CodeFile(self, crate, path, exported)
-            file.scan(0, len(file.text))
+            CodeFile(self, crate, path, exported).scan()
 
     def cited(self, text, scope, word=None):
-        """What a text cites in this scope: words of specs/, words of the kit, and types of the code, each as (crate, module, name). If it
-        is the text of a word, it can also cite the words of that file."""
+        """What a text cites in this scope: words of specs/, words of the kit, and types of the code, each as (crate, module, name).
+        If it is the text of a word, it can also cite the words of that file."""
         cited, text = set(), TEXT_IN_QUOTES.sub(" ", text)
         for module, name in USED.findall(text) + [("", f"◌{sign}◌") for sign in SIGN.findall(text)]:
             if module in scope.modules:
