@@ -114,7 +114,7 @@ def chain_line() -> bytes:
 CHAINS = 70_100
 POLYGONS = NAMES = PARKS = 2 * CHAINS
 CONTENTS = 100_000
-LONG = 35_001  # The long chain, which is turned.
+LONG = 35_001  # The long chain.
 POINTS, FURTHER_NAMES, RANGES = 9_900, 4_900, 900
 TWINS = {500: ("Ash", "Birch", "Cedar"), 1_500: ("Main", "Main", "Main", "Main")}
 TIED_PLACE, TIED = 500, 7
@@ -123,18 +123,7 @@ OF_LINK = {"FILE": maps.FILE, "SOURCE": OF_CHAIN["SOURCE"], "RS_I1": OF_CHAIN["C
 
 
 class Hand(maps.Hand):
-    """Turns every second chain, and gives numbers all digits of their columns: FEATs have eight, and the others ten. A chain has up to 999
-    records of a type."""
-
-    def __init__(self) -> None:
-        super().__init__(random.Random("large"))
-        self.digits, self.turned = iter((10, 8, 10, 10, 10)), itertools.cycle((False, True))
-
-    def numbers(self, count: int, most: int) -> list[int]:
-        return self.chance.sample(range(1, 10 ** next(self.digits)), count)
-
-    def turns(self) -> bool:
-        return next(self.turned)
+    """A chain has up to 999 records of a type."""
 
     def packs(self, items: Sequence[str], most: int) -> Iterator[tuple[int, Sequence[str]]]:
         """Of many items the first ten records aren't full, and all others are."""
@@ -159,7 +148,8 @@ def canonical_lines(county: maps.County) -> Pieces:
 
 def other_lines(county: maps.County) -> Pieces:
     """Every second line is cut at its end."""
-    hand = Hand()
+    # By this seed the long chain is turned.
+    hand = Hand(random.Random("wide"))
     for number, line in enumerate(hand.orders(list(maps.lines(county, hand)))):
         yield f"{line.rstrip(' ') if number % 2 else line}\n".encode("latin-1")
 

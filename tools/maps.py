@@ -88,7 +88,7 @@ class Hand:
     chance: random.Random | None = None
 
     def numbers(self, count: int, most: int) -> list[int]:
-        """A number for each of count things."""
+        """A number for each of count things, less than the most."""
         return list(range(1, count + 1)) if self.chance is None else self.chance.sample(range(1, most), count)
 
     def turns(self) -> bool:
@@ -116,11 +116,10 @@ def written(county: County, seed: int | None = None) -> bytes:
 
 
 def lines(county: County, hand: Hand) -> Iterator[str]:
-    most = 9 * len(county.chains) + 99
-    numbered: list[list[Any]] = [county.chains, county.names, county.landmarks, county.polygons]
-    tlids, feats, lands, polyids = (hand.numbers(len(things), most) for things in numbered)
     nodes = county.nodes()
-    node_numbers: dict[int | None, Any] = {None: "", **dict(zip(nodes, hand.numbers(len(nodes), most)))}
+    numbered: list[Sequence[object]] = [county.chains, county.names, county.landmarks, county.polygons, nodes]
+    tlids, feats, lands, polyids, at_nodes = map(hand.numbers, map(len, numbered), (10**10, 10**8, 10**10, 10**10, 10**10))
+    node_numbers: dict[int | None, Any] = {None: "", **dict(zip(nodes, at_nodes))}
 
     def key(polygon: int | None) -> str:
         return f"{county.polygons[polygon].cenid}{polyids[polygon]:>10}" if polygon is not None else county.outside
