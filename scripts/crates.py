@@ -6,7 +6,7 @@ import os
 import re
 import shutil
 from pathlib import Path
-from typing import Optional
+from typing import Callable, Optional
 
 ROOT = Path(__file__).resolve().parent.parent
 PARTS = ("src", "specs", "proofs")
@@ -127,21 +127,16 @@ class Notes:
         if proved_from == self.proved_from(crate):
             self.note(crate).write_text(proved_from)
 
-    def libraries(self) -> list[str]:
-        return [it for it in self.crates.rows if self.crates.makes_library(it)]
-
-    def remove_stale(self) -> None:
-        """Removes the libraries that no crate can be proved over, except rt's."""
-        for it in self.libraries():
+    def write_for(self, build: Callable[[], int]) -> int:
+        """Runs what proves every crate from nothing, notes what the libraries that it built were proved from, and returns its status.
+        Libraries are removed before that nothing can be proved over, except rt's: it would put them back over its own."""
+        libraries = [it for it in self.crates.rows if self.crates.makes_library(it)]
+        for it in libraries:
             if not self.is_of_rt(it) and not self.is_current(it):
                 shutil.rmtree(self.library(it).parent, ignore_errors=True)
-
-    def lacking(self) -> dict[str, str]:
-        """The libraries that aren't there, with what each would be proved from now."""
-        return {it: self.proved_from(it) for it in self.libraries() if not self.library(it).parent.exists()}
-
-    def write_for_built(self, proved_from: dict[str, str]) -> None:
-        """Notes what these libraries were proved from, of those that were built meanwhile."""
-        for it, was in proved_from.items():
+        lacking = {it: self.proved_from(it) for it in libraries if not self.library(it).parent.exists()}
+        status = build()
+        for it in lacking if not status else ():
             if self.library(it).exists() and not self.is_of_rt(it):
-                self.write(it, was)
+                self.write(it, lacking[it])
+        return status
