@@ -214,7 +214,3 @@ def ties(count: int, seven: list[dict[str, Any]], polygons: Sequence[maps.Polygo
     chains = [street_chain(place, place, place + 1, link=link) for place in range(TIED_PLACE)] + tied
     chains += [street_chain(place, place + further, place + further + 1, link=link) for place in range(TIED_PLACE + 1, count)]
     return spelled(maps.County(chains, [], list(polygons), [], outside=" " * 15))
-
-
-def name_line() -> bytes:
-    return laid_out("5", {6: FILE, 11: b"%8d", 21: b"Way %06d"})
