@@ -128,8 +128,8 @@ class Notes:
             self.note(crate).write_text(proved_from)
 
     def write_for(self, build: Callable[[], int]) -> int:
-        """Runs what proves every crate from nothing, notes what the libraries that it built were proved from, and returns its status.
-        Libraries are removed before that nothing can be proved over, except rt's: it would put them back over its own."""
+        """Runs what proves every crate from nothing, notes what the libraries that it built were proved from, and returns its
+        status. Libraries are removed before that nothing can be proved over, except rt's: it would put them back over its own."""
         libraries = [it for it in self.crates.rows if self.crates.makes_library(it)]
         for it in libraries:
             if not self.is_of_rt(it) and not self.is_current(it):
