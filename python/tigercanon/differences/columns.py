@@ -7,7 +7,6 @@ among them.
 from dataclasses import dataclass, replace
 from functools import cached_property
 from itertools import accumulate
-from typing import Collection
 
 
 @dataclass(frozen=True)
@@ -33,21 +32,16 @@ class Column:
 
 @dataclass(frozen=True, eq=False)
 class Layout:
-    """The columns of a record type. Joined they are a record's content, which is kept as one text."""
+    """The columns of a record type: FILE, if it has that, and then those that stand side by side. Joined they are a record's content,
+    which is kept as one text."""
 
     record_type: str
-    columns: tuple[Column, ...]
+    file: tuple[Column, ...]
+    rest: tuple[Column, ...]
 
     @cached_property
-    def runs(self) -> list[slice]:
-        """The slices of a line that hold the columns: columns that stand side by side are one slice."""
-        runs: list[slice] = []
-        for column in self.columns:
-            if runs and runs[-1].stop == column.first - 1:
-                runs[-1] = slice(runs[-1].start, column.last)
-            else:
-                runs.append(slice(column.first - 1, column.last))
-        return runs
+    def columns(self) -> tuple[Column, ...]:
+        return self.file + self.rest
 
     @cached_property
     def places(self) -> dict[str, slice]:
@@ -56,7 +50,8 @@ class Layout:
         return {column.name: slice(end - column.width, end) for column, end in zip(self.columns, ends)}
 
     def content(self, line: str) -> str:
-        return line[self.runs[0]] if len(self.runs) == 1 else "".join([line[run] for run in self.runs])
+        rest = line[self.rest[0].first - 1 : self.rest[-1].last]
+        return line[5:10] + rest if self.file else rest
 
     def value(self, content: str, name: str) -> str:
         return content[self.places[name]]
@@ -64,9 +59,9 @@ class Layout:
     def values(self, content: str) -> list[str]:
         return [content[place] for place in self.places.values()]
 
-    def blanked(self, content: str, names: Collection[str]) -> str:
-        """The content with blanks in these fields."""
-        return "".join(" " * len(value) if name in names else value for name, value in zip(self.places, self.values(content)))
+    def blanked(self, content: str, name: str) -> str:
+        """The content with blanks in a field."""
+        return "".join(" " * len(value) if field == name else value for field, value in zip(self.places, self.values(content)))
 
     def turned(self, content: str) -> str:
         """The content as seen from the chain's other end."""
@@ -85,7 +80,7 @@ def moved(columns: tuple[Column, ...], by: int) -> tuple[Column, ...]:
     return tuple(replace(column, first=column.first + by, last=column.last + by) for column in columns)
 
 
-FILE = Column("FILE", 6, 10, "state and county")
+FILE = (Column("FILE", 6, 10, "state and county"),)
 
 FEATURE_NAME = (
     Column("FEDIRP", 18, 19, "direction before the name"),
@@ -136,12 +131,12 @@ OF_LINK = (
     *(Column(f"RS_I{number}", 88 + 10 * number, 97 + 10 * number, "reserved") for number in (1, 2, 3)),
 )
 
-CHAIN = Layout("1", OF_CHAIN)
-NAME = Layout("5", (FILE, *moved(FEATURE_NAME, 1)))
-RANGE = Layout("6", moved(ADDRESSES, -40))
-LANDMARK = Layout("7", (FILE, *OF_LANDMARK))
-LINK = Layout("I", (FILE, *OF_LINK))
-POLYGON = Layout("P", (FILE, Column("POLYLONG, POLYLAT", 26, 44, "a point inside it"), Column("WATER", 45, 45, "mark of water")))
+CHAIN = Layout("1", (), OF_CHAIN)
+NAME = Layout("5", FILE, moved(FEATURE_NAME, 1))
+RANGE = Layout("6", (), moved(ADDRESSES, -40))
+LANDMARK = Layout("7", FILE, OF_LANDMARK)
+LINK = Layout("I", FILE, OF_LINK)
+POLYGON = Layout("P", FILE, (Column("POLYLONG, POLYLAT", 26, 44, "a point inside it"), Column("WATER", 45, 45, "mark of water")))
 
 LENGTHS = {"1": 228, "2": 208, "4": 58, "5": 56, "6": 76, "7": 74, "8": 36, "I": 127, "P": 45}
 """The length of each record type's lines, without their ends."""

@@ -2,13 +2,13 @@
 
 from __future__ import annotations
 
-from collections import Counter
+from collections import defaultdict, deque
 from dataclasses import dataclass
 from functools import lru_cache
 from typing import Callable, Hashable, Iterable, NamedTuple, Sequence, TypeVar
 
 from .columns import CHAIN, LANDMARK, LINK, NAME, POLYGON, RANGE, Layout
-from .reading import NO_POINT, POINT_WIDTH, Chain, County, Landmark, Place, Polygon, PolygonKey
+from .reading import NO_POINT, POINT_WIDTH, Chain, County, Landmark, Polygon, PolygonKey, is_polygon
 
 NONE = "(none)"
 BLANK = "(blank)"
@@ -16,10 +16,10 @@ YES = "yes"
 NO = "no"
 
 PolygonMarks = dict[PolygonKey, str]
-"""What each polygon of a map says. Polygons of two maps that are taken for one have one mark, even where they
-differ."""
+"""What each polygon of a map says. Polygons of two maps that are taken for one have one mark, even where they differ."""
 
 T = TypeVar("T")
+Pair = tuple[T, T]
 
 
 class FieldName(NamedTuple):
@@ -41,11 +41,14 @@ class Text(NamedTuple):
 NOTHING = Text("", "", "")
 """A field that isn't there."""
 
+THERE = Text(YES, YES, YES)
+"""The field of something that is there and has nothing to compare: a node, for example, has only a number, which differs from file to
+file."""
+
 Fields = dict[FieldName, Text]
 
 
-@dataclass(frozen=True)
-class Row:
+class Row(NamedTuple):
     """One field of what two maps have in common, or of what one map has alone: then the other's text is None. The exact
     texts are as the records have them."""
 
@@ -53,8 +56,8 @@ class Row:
     first: str | None
     second: str | None
     differs: bool
-    first_exact: str = ""
-    second_exact: str = ""
+    first_exact: str
+    second_exact: str
 
 
 @dataclass(frozen=True)
@@ -70,40 +73,37 @@ class Teller:
             name = FieldName(f"further name {place}", "a further name of the chain")
             fields[name] = Text(name_text(NAME, body) or BLANK, body, body)
         for place, content in enumerate(chain.ranges, 1):
-            fields[FieldName(f"range {place}", "whether there is a further address range", "flag")] = text_of(True)
+            fields[FieldName(f"range {place}", "whether there is a further address range", "flag")] = THERE
             fields.update(text_fields(RANGE, content, f" of range {place}"))
-        for end, node in (("start", chain.start_node), ("end", chain.end_node)):
-            fields[FieldName(f"{end} node", f"whether the {end} has a node", "flag")] = text_of(not node.isspace())
-        fields.update(self.side("left", chain.left))
-        fields.update(self.side("right", chain.right))
+        for end, node in zip(("start", "end"), chain.nodes):
+            fields[FieldName(f"{end} node", f"whether the {end} has a node", "flag")] = NOTHING if node.isspace() else THERE
+        for hand, side in zip(("left", "right"), chain.sides):
+            fields[FieldName(f"CENID{hand[0].upper()}", f"office of the polygon on the {hand}")] = text_of(side[:5])
+            if is_polygon(side):
+                fields[FieldName(f"{hand} polygon", f"the polygon on the {hand}, by what its record says")] = self.polygon_text(
+                    side
+                )
         fields.update(text_fields(LINK, chain.link_body, " of type I"))
-        return fields
-
-    def side(self, hand: str, side: PolygonKey) -> Fields:
-        cenid = FieldName(f"CENID{hand[0].upper()}", f"office of the polygon on the {hand}")
-        polygon = FieldName(f"{hand} polygon", f"the polygon on the {hand}, by what its record says")
-        fields = {cenid: Text(side.cenid.strip(), side.cenid, side.cenid)}
-        if side.is_polygon:
-            fields[polygon] = self.polygon_text(side)
         return fields
 
     def polygon_text(self, key: PolygonKey) -> Text:
         """A polygon, as something else names it."""
-        body = self.county.polygons[key].body
-        return Text(polygon_words(body), key.cenid + body, self.marks[key])
+        polygon = self.county.polygons[key]
+        return Text(polygon_words(polygon.body), polygon.content, self.marks[key])
 
-    def place_texts(self, places: Iterable[Place]) -> list[Text]:
+    def place_texts(self, landmark: Landmark | None) -> list[Text]:
         """Polygons, as a landmark's records of type 8 name them."""
-        named = [(place.file, place.key.cenid, self.polygon_text(place.key)) for place in places]
-        return [Text(f"{text.plain} ({cenid.strip()})", file + text.exact, (file, text.mark)) for file, cenid, text in named]
+        named = [(file, key[:5].strip(), self.polygon_text(key)) for file, key in (landmark.places if landmark else ())]
+        return [Text(f"{text.plain} ({cenid})", file + text.exact, (file, text.mark)) for file, cenid, text in named]
 
 
 def text_fields(layout: Layout, content: str, suffix: str = "") -> Fields:
-    fields = {}
-    for name, value in zip(field_names(layout, suffix), layout.values(content)):
-        plain = "" if value.isspace() else degrees(value) if name.kind == "point" else value.strip()
-        fields[name] = Text(plain, value, value)
-    return fields
+    return {name: text_of(value, name.kind) for name, value in zip(field_names(layout, suffix), layout.values(content))}
+
+
+def text_of(value: str, kind: str = "text") -> Text:
+    plain = "" if value.isspace() else degrees(value) if kind == "point" else value.strip()
+    return Text(plain, value, value)
 
 
 @lru_cache(maxsize=None)
@@ -112,14 +112,10 @@ def field_names(layout: Layout, suffix: str) -> list[FieldName]:
 
 
 def polygon_fields(polygon: Polygon) -> Fields:
-    cenid = polygon.key.cenid
-    fields = {
-        FieldName("CENID", "the office that numbers polygons"): Text(cenid.strip(), cenid, cenid),
-        FieldName("type P", "whether the polygon has a record of type P", "flag"): text_of(bool(polygon.body)),
-    }
-    if polygon.body:
-        fields.update(text_fields(POLYGON, polygon.body))
-    return fields
+    office = FieldName("CENID", "the office that numbers polygons")
+    record = FieldName("type P", "whether the polygon has a record of type P", "flag")
+    told = {office: text_of(polygon.cenid), record: THERE if polygon.body else NOTHING}
+    return {**told, **text_fields(POLYGON, polygon.body)} if polygon.body else told
 
 
 def landmark_fields(bodies: Sequence[str], places: Sequence[Text]) -> Fields:
@@ -127,7 +123,7 @@ def landmark_fields(bodies: Sequence[str], places: Sequence[Text]) -> Fields:
     fields: Fields = {}
     for number, body in enumerate(bodies, 1):
         if number > 1:
-            fields[FieldName(f"record {number}", "whether there is a further record of type 7", "flag")] = text_of(True)
+            fields[FieldName(f"record {number}", "whether there is a further record of type 7", "flag")] = THERE
         fields.update(text_fields(LANDMARK, body, f" of record {number}" if number > 1 else ""))
     for number, place in enumerate(places, 1):
         fields[FieldName(f"polygon {number}", "a polygon that the landmark lies in")] = place
@@ -135,28 +131,33 @@ def landmark_fields(bodies: Sequence[str], places: Sequence[Text]) -> Fields:
 
 
 def landmark_rows(first: Teller, second: Teller, one: Landmark | None, other: Landmark | None) -> list[Row]:
-    """The fields of a landmark of both maps, or of one of them. What both have stands first in its repeated
-    fields."""
-    told, others = first.place_texts(one.places if one else []), second.place_texts(other.places if other else [])
+    """The fields of a landmark of both maps, or of one of them. What both have stands first in its repeated fields."""
     bodies = aligned(one.bodies if one else [], other.bodies if other else [], lambda body: body)
-    places = aligned(told, others, lambda text: text.mark)
+    places = aligned(first.place_texts(one), second.place_texts(other), lambda text: text.mark)
     return rows(landmark_fields(bodies[0], places[0]) if one else None, landmark_fields(bodies[1], places[1]) if other else None)
 
 
-def aligned(first: Sequence[T], second: Sequence[T], mark: Callable[[T], Hashable]) -> tuple[list[T], list[T]]:
+def aligned(first: Sequence[T], second: Sequence[T], mark: Callable[[T], Hashable]) -> Pair[list[T]]:
     """Both lists with what they have in common at their beginning, in one order."""
-    common = Counter(map(mark, first)) & Counter(map(mark, second))
+    pairs, ones, others = pair_by(first, second, mark)
+    pairs.sort(key=lambda pair: repr(mark(pair[0])))
+    return [one for one, _ in pairs] + ones, [other for _, other in pairs] + others
 
-    def common_first(items: Sequence[T]) -> list[T]:
-        left = Counter(common)
-        shared: list[T] = []
-        others: list[T] = []
-        for item in items:
-            (shared if left[mark(item)] > 0 else others).append(item)
-            left[mark(item)] -= 1
-        return sorted(shared, key=lambda item: repr(mark(item))) + others
 
-    return common_first(first), common_first(second)
+def pair_by(first: Iterable[T], second: Iterable[T], key: Callable[[T], Hashable | None]) -> tuple[list[Pair[T]], list[T], list[T]]:
+    """Pairs what has one key, as multisets, and returns the rest of both. Items without a key aren't paired."""
+    pairs, ones, others = [], [], dict(enumerate(second))
+    places: dict[Hashable, deque[int]] = defaultdict(deque)
+    for place, item in others.items():
+        places[key(item)].append(place)
+    places.pop(None, None)
+    for item in first:
+        waiting = places.get(key(item))
+        if waiting:
+            pairs.append((item, others.pop(waiting.popleft())))
+        else:
+            ones.append(item)
+    return pairs, ones, list(others.values())
 
 
 def rows(first: Fields | None, second: Fields | None) -> list[Row]:
@@ -188,17 +189,6 @@ def shown(name: FieldName, text: Text, other: Text) -> str:
     return f'"{text.exact}"' if text.plain == other.plain and text.exact != other.exact else text.plain or BLANK
 
 
-def count_of_differing(first: Fields, second: Fields) -> int:
-    """In how many fields two chains differ."""
-    return sum(differ(first.get(name, NOTHING), second.get(name, NOTHING)) for name in {**first, **second})
-
-
-def text_of(is_there: bool) -> Text:
-    """Whether something is there that has nothing to compare: a node, for example, has only a number, which differs from file to file."""
-    word = YES if is_there else ""
-    return Text(word, word, word)
-
-
 def polygon_words(body: str) -> str:
     """A polygon by its record of type P: where it lies."""
     if not body:
@@ -208,8 +198,7 @@ def polygon_words(body: str) -> str:
 
 
 def name_text(layout: Layout, content: str) -> str:
-    """The feature name in a record of type 1 or 5: the direction before it, the name, its type and the direction
-    after it."""
+    """The feature name in a record of type 1 or 5: the direction before it, the name, its type and the direction after it."""
     parts = (layout.value(content, part).strip() for part in ("FEDIRP", "FENAME", "FETYPE", "FEDIRS"))
     return " ".join(filter(None, parts))
 
@@ -229,9 +218,9 @@ def titled(name: str, cfcc: str) -> str:
 
 def landmark_points(landmark: Landmark, county: County) -> list[str]:
     """Where a landmark lies: its own points, or else the internal points of its polygons."""
-    own = [LANDMARK.value(body, "LALONG, LALAT") for body in landmark.bodies]
-    of_polygons = [county.polygons[place.key].point for place in landmark.places]
-    return sorted(set(own) - {NO_POINT}) or sorted(set(of_polygons) - {NO_POINT})
+    own = {LANDMARK.value(body, "LALONG, LALAT") for body in landmark.bodies}
+    of_polygons = {county.polygons[key].point for _, key in landmark.places}
+    return sorted(own - {NO_POINT}) or sorted(of_polygons - {NO_POINT})
 
 
 def degrees(point: str) -> str:

@@ -10,7 +10,7 @@ from typing import Any, Iterator, Sequence
 from .fields import BLANK, NONE, YES, FieldName, decimal
 from .matching import Comparison, OwnNumbers, Tie
 from .outputs import NewFile
-from .reading import NO_POINT, POINT_WIDTH
+from .reading import number_of
 from .sets import Sets
 from .things import KINDS, Thing, things
 from .words import tie_line, tied_place, verdict
@@ -22,7 +22,6 @@ ABOUT = "Where two maps differ, found by tigercanon-tools diff: an aid, and not 
 
 SIDES = ("first", "second")
 
-
 Feature = tuple[str, Properties]
 """A difference: its geometry as JSON, and its properties."""
 
@@ -31,10 +30,8 @@ def write_geojson(file: NewFile, comparison: Comparison, sets: Sets, own: BothOw
     """Writes a feature for each difference and, if asked for, for what is alike."""
     file.write('{"type":"FeatureCollection",' + as_json(head(comparison, sets))[1:-1])
     file.write(',"features":[')
-    begin = "\n"
-    for shape, told in features(comparison, own, with_alike):
-        file.write(f'{begin}{{"type":"Feature","geometry":{shape},"properties":{as_json(told)}}}')
-        begin = ",\n"
+    for number, (shape, told) in enumerate(features(comparison, own, with_alike)):
+        file.write(f'{"," if number else ""}\n{{"type":"Feature","geometry":{shape},"properties":{as_json(told)}}}')
     file.write("\n]}\n")
 
 
@@ -53,22 +50,20 @@ def head(comparison: Comparison, sets: Sets) -> Properties:
 def features(comparison: Comparison, own: BothOwn, with_alike: bool = False) -> Iterator[Feature]:
     """A feature for each thing that isn't alike, or for each one, and for each tie."""
     for thing in things(comparison, with_alike):
-        points = thing.either.points if thing.what == "chain" else ""
-        line = [points[at : at + POINT_WIDTH] for at in range(0, len(points), POINT_WIDTH)]
-        yield geometry("LineString", line) if line else points_geometry(thing.points), properties(thing, own)
+        yield geometry(thing.points, is_line=thing.what == "chain"), properties(thing, own)
     for tie in comparison.ties:
         yield tie_feature(tie, own[0])
 
 
 def properties(thing: Thing, own: BothOwn) -> Properties:
     """The properties of a thing: its numbers in the user's files and in the canonical texts, and its fields in both maps."""
-    table, number = thing.rows, thing.number_field
+    table, number = thing.rows(), thing.number_field
     told: Properties = {"what": thing.what, "kind": thing.kind, "title": thing.name}
     told["differs"] = "; ".join(row.name.label for row in table if row.differs) or None
     found = [(side, one, numbers) for side, one, numbers in zip(SIDES, (thing.one, thing.other), own) if one is not None]
     if number:
         told.update({f"{side}_{number}": numbers.get(one.key) for side, one, numbers in found})
-        told.update({f"canonical_{side}_{number}": one.number for side, one, _ in found})
+        told.update({f"canonical_{side}_{number}": number_of(one.key) for side, one, _ in found})
     else:
         told["uses"] = thing.about
     for row in table:
@@ -86,28 +81,20 @@ def tie_feature(tie: Tie, own: OwnNumbers) -> Feature:
     told.update({f"{side}_count": count for side, count in zip(SIDES, counts)})
     told["places"] = " | ".join("; ".join(map(tied_place, group)) for group in tie.groups)
     told["first_TLIDs"] = " | ".join("; ".join(str(own.get(at.chain.key, "")) for at in group) for group in tie.groups)
-    return points_geometry(tie.points), told
+    return geometry(tie.points), told
 
 
 def values(side: str, name: FieldName, shown: str | None, exact: str) -> Properties:
-    """A field of one map: a text, true or false, or the two coordinates of a point. There is none if the map hasn't
-    what the field is of."""
+    """A field of one map: a text, true or false, or the two coordinates of a point in degrees, under the names of their columns. There is
+    none if the map hasn't what the field is of."""
     if shown is None:
         return {}
-    if name.kind == "flag":
-        return {property_name(side, name.label): shown == YES}
     if name.kind == "point":
-        return coordinates(side, name.label, exact)
-    return {property_name(side, name.label): None if shown in (BLANK, NONE) else shown}
-
-
-def coordinates(side: str, label: str, point: str) -> Properties:
-    """A point's longitude and latitude in degrees, under the names of their columns."""
-    both, of, suffix = label.partition(" of ")
-    parts: list[float | None] = [None, None]
-    if point and point != NO_POINT:
-        parts = [float(decimal(point[:10])), float(decimal(point[10:]))]
-    return {property_name(side, name + of + suffix): part for name, part in zip(both.split(", "), parts)}
+        both, of, suffix = name.label.partition(" of ")
+        parts = [float(decimal(part)) if part.strip() else None for part in (exact[:10], exact[10:])]
+        return {property_name(side, column + of + suffix): part for column, part in zip(both.split(", "), parts)}
+    value = shown == YES if name.kind == "flag" else None if shown in (BLANK, NONE) else shown
+    return {property_name(side, name.label): value}
 
 
 @lru_cache(maxsize=None)
@@ -116,14 +103,11 @@ def property_name(side: str, label: str) -> str:
     return f"{side}_" + re.sub(r"\W+", "_", label)
 
 
-def points_geometry(points: list[str]) -> str:
-    """One point, several, or none."""
-    return geometry("MultiPoint" if len(points) > 1 else "Point", points) if points else "null"
-
-
-def geometry(kind: str, points: list[str]) -> str:
+def geometry(points: list[str], is_line: bool = False) -> str:
+    """A line, several points, one, or none."""
+    kind = "LineString" if is_line else "MultiPoint" if len(points) > 1 else "Point"
     positions = ",".join(f"[{decimal(point[:10])},{decimal(point[10:])}]" for point in points)
-    return f'{{"type":"{kind}","coordinates":{positions if kind == "Point" else f"[{positions}]"}}}'
+    return f'{{"type":"{kind}","coordinates":{positions if kind == "Point" else f"[{positions}]"}}}' if points else "null"
 
 
 as_json = json.JSONEncoder(ensure_ascii=False, separators=(",", ":")).encode

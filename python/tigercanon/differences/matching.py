@@ -14,18 +14,17 @@ that nothing tells apart may have their numbers exchanged.
 
 from __future__ import annotations
 
-from collections import defaultdict, deque
+from collections import defaultdict
 from dataclasses import dataclass, field, replace
 from functools import cached_property, partial
-from typing import Any, Callable, Generic, Hashable, Iterable, Iterator, NamedTuple, Sequence, TypeVar
+from typing import Any, Callable, Generic, Hashable, Iterator, NamedTuple, Sequence, TypeVar
 
 from .columns import CHAIN, LANDMARK, RANGE
-from .fields import PolygonMarks, Teller, count_of_differing
+from .fields import Pair, PolygonMarks, Teller, pair_by, rows
 from .reading import NO_POINT, POINT_WIDTH, Chain, County, Landmark, Name, Polygon, PolygonKey
-from .reading import comes_after_its_reverse, reversed_points
+from .reading import comes_after_its_reverse, number_of, reversed_points
 
 T = TypeVar("T")
-Pair = tuple[T, T]
 
 
 @dataclass
@@ -102,25 +101,6 @@ def compare(first: County, second: County) -> Comparison:
     return Comparison(*tellers, certain, match_chains(groups, *tellers), match_landmarks(*tellers), polygons, names)
 
 
-def pair_by(first: Iterable[T], second: Iterable[T], key: Callable[[T], Hashable | None]) -> tuple[list[Pair[T]], list[T], list[T]]:
-    """Pairs what has one key, as multisets, and returns the rest of both. Items without a key aren't paired."""
-    waiting: dict[Hashable, deque[T]] = defaultdict(deque)
-    second = list(second)
-    for item in second:
-        waiting[key(item)].append(item)
-    waiting.pop(None, None)
-    pairs, left, taken = [], [], set()
-    for item in first:
-        others = waiting.get(key(item))
-        if others:
-            other = others.popleft()
-            pairs.append((item, other))
-            taken.add(id(other))
-        else:
-            left.append(item)
-    return pairs, left, [item for item in second if id(item) not in taken]
-
-
 def chains_by_points(first: County, second: County) -> list[Pair[list[Chain]]]:
     """The chains of both maps that run through the same points, in the order of the points."""
     groups: dict[str, Pair[list[Chain]]] = defaultdict(lambda: ([], []))
@@ -155,7 +135,7 @@ def match_group(ones: list[Chain], others: list[Chain], first: Teller, second: T
     while ones and others:
         one, other = min(
             ((one, seen) for one in ones for other in others for seen in ways_to_see(other)),
-            key=lambda pair: count_of_differing(first.chain(pair[0]), second.chain(pair[1])),
+            key=lambda pair: sum(row.differs for row in rows(first.chain(pair[0]), second.chain(pair[1]))),
         )
         matched.changed.append((one, other))
         ones = [chain for chain in ones if chain is not one]
@@ -166,10 +146,10 @@ def match_group(ones: list[Chain], others: list[Chain], first: Teller, second: T
 
 def says(chain: Chain, teller: Teller) -> tuple[Hashable, ...]:
     """The content of a chain without its points and numbers."""
-    sides = chain.left.cenid, chain.right.cenid, teller.marks.get(chain.left), teller.marks.get(chain.right)
-    nodes = chain.start_node.isspace(), chain.end_node.isspace()
+    (left, right), (start, end) = chain.sides, chain.nodes
+    sides = left[:5], right[:5], teller.marks.get(left), teller.marks.get(right)
     names = teller.county.name_bodies(chain) if chain.feats else ()
-    return chain.body, chain.link_body, *sides, *nodes, names, chain.ranges
+    return chain.body, chain.link_body, *sides, start.isspace(), end.isspace(), names, chain.ranges
 
 
 def is_own_reverse(chain: Chain) -> bool:
@@ -178,9 +158,8 @@ def is_own_reverse(chain: Chain) -> bool:
 
 
 def turned(chain: Chain) -> Chain:
-    ends: Any = {"start_node": chain.end_node, "end_node": chain.start_node, "left": chain.right, "right": chain.left}
-    ranges = tuple(RANGE.turned(content) for content in chain.ranges)
-    return replace(chain, body=CHAIN.turned(chain.body), points=reversed_points(chain.points), ranges=ranges, **ends)
+    body, points, ranges = CHAIN.turned(chain.body), reversed_points(chain.points), tuple(map(RANGE.turned, chain.ranges))
+    return replace(chain, body=body, points=points, ranges=ranges, nodes=chain.nodes[::-1], sides=chain.sides[::-1])
 
 
 def ways_to_see(chain: Chain) -> list[Chain]:
@@ -211,8 +190,8 @@ def first_sides(certain: list[Pair[Chain]]) -> Pair[dict[PolygonKey, tuple[int, 
     found: Pair[dict[PolygonKey, tuple[int, str]]] = ({}, {})
     for place, pair in enumerate(certain):
         for sides, chain in zip(found, pair):
-            sides.setdefault(chain.left, (place, "left"))
-            sides.setdefault(chain.right, (place, "right"))
+            for hand, side in zip(("left", "right"), chain.sides):
+                sides.setdefault(side, (place, hand))
     return found
 
 
@@ -231,7 +210,7 @@ def match_landmarks(first: Teller, second: Teller) -> Matched[Landmark]:
     places = {}
     for teller in (first, second):
         for landmark in teller.county.landmarks:
-            places[id(landmark)] = tuple(sorted((place.file, teller.marks[place.key]) for place in landmark.places))
+            places[id(landmark)] = tuple(sorted((file, teller.marks[key]) for file, key in landmark.places))
 
     def bodies(landmark: Landmark) -> Hashable:
         return tuple(sorted(landmark.bodies))
@@ -254,8 +233,8 @@ def match_landmarks(first: Teller, second: Teller) -> Matched[Landmark]:
 class Tied(NamedTuple):
     """A number of the first map and one of the second that a chain of both maps has at one place."""
 
-    first: Hashable
-    second: Hashable
+    first: str
+    second: str
     chain: Chain
     place: str
 
@@ -274,72 +253,49 @@ def find_ties(certain: list[Pair[Chain]], first: Teller, second: Teller) -> list
     ties: list[Tie] = []
     for subject, find in (("node", tied_nodes), ("polygon", tied_polygons), ("feature name", tied_names)):
         for is_one_in_first in (True, False):
-            groups = grouped(partial(find, certain, first, second), is_one_in_first)
-            ties += [Tie(subject, is_one_in_first, several) for several in groups]
+            found: dict[str, dict[str, list[Tied]]] = defaultdict(lambda: defaultdict(list))
+            for at in (at for chain, twin in certain for at in find(chain, twin, first, second)):
+                one, other = (at.first, at.second) if is_one_in_first else (at.second, at.first)
+                found[one][other].append(at)
+            ties += [Tie(subject, is_one_in_first, list(groups.values())) for groups in found.values() if len(groups) > 1]
     return ties
 
 
-def grouped(tied: Callable[[], Iterable[Tied]], is_by_first: bool) -> list[list[list[Tied]]]:
-    """For each number of one map that is paired with several of the other, its places by those."""
-
-    def numbers(at: Tied) -> Pair[Hashable]:
-        return (at.first, at.second) if is_by_first else (at.second, at.first)
-
-    met: dict[Hashable, Hashable] = {}
-    several = set()
-    for at in tied():
-        one, other = numbers(at)
-        if met.setdefault(one, other) != other:
-            several.add(one)
-    groups: dict[Hashable, dict[Hashable, list[Tied]]] = defaultdict(lambda: defaultdict(list))
-    for at in tied() if several else ():
-        one, other = numbers(at)
-        if one in several:
-            groups[one][other].append(at)
-    return [list(places.values()) for places in groups.values()]
+def tied_nodes(chain: Chain, twin: Chain, _first: Teller, _second: Teller) -> Iterator[Tied]:
+    """The nodes at both ends."""
+    for place, one, other in zip(("start", "end"), chain.nodes, twin.nodes):
+        if not (one.isspace() or other.isspace()):
+            yield Tied(one, other, chain, place)
 
 
-def tied_nodes(certain: list[Pair[Chain]], _first: Teller, _second: Teller) -> Iterator[Tied]:
-    """The nodes at both ends of chains."""
-    for chain, twin in certain:
-        for place, one, other in (("start", chain.start_node, twin.start_node), ("end", chain.end_node, twin.end_node)):
-            if not (one.isspace() or other.isspace()):
-                yield Tied(one, other, chain, place)
-
-
-def tied_polygons(certain: list[Pair[Chain]], first: Teller, second: Teller) -> Iterator[Tied]:
+def tied_polygons(chain: Chain, twin: Chain, first: Teller, second: Teller) -> Iterator[Tied]:
     """The polygons on sides with the same content in both maps."""
-    for chain, twin in certain:
-        for place, one, other in (("left side", chain.left, twin.left), ("right side", chain.right, twin.right)):
-            mark = first.marks.get(one)
-            if mark is not None and mark == second.marks.get(other):
-                yield Tied(one, other, chain, place)
+    for place, one, other in zip(("left side", "right side"), chain.sides, twin.sides):
+        if one in first.marks and first.marks[one] == second.marks.get(other):
+            yield Tied(one, other, chain, place)
 
 
-def tied_names(certain: list[Pair[Chain]], first: Teller, second: Teller) -> Iterator[Tied]:
-    """The further names of chains whose names are the same."""
-    for chain, twin in certain:
-        if chain.feats and first.county.name_bodies(chain) == second.county.name_bodies(twin):
-            for place, (one, other) in enumerate(zip(chain.feats, twin.feats), 1):
-                yield Tied(one, other, chain, f"further name {place}")
+def tied_names(chain: Chain, twin: Chain, first: Teller, second: Teller) -> Iterator[Tied]:
+    """The further names, if they are the same."""
+    if chain.feats and first.county.name_bodies(chain) == second.county.name_bodies(twin):
+        for place, (one, other) in enumerate(zip(chain.feats, twin.feats), 1):
+            yield Tied(one, other, chain, f"further name {place}")
 
 
-OwnNumbers = dict[Hashable, int]
+OwnNumbers = dict[str, int]
 """The number in the user's files of each chain, landmark and polygon, by its key in the canonical text."""
 
 
 def own_numbers(records: County, canonical: County, masks: Sequence[str] = ()) -> OwnNumbers:
     """The numbers in these records of the things in their canonical text, which was printed with these masks."""
     found = compare(as_in_a_canonical_text(records, masks), canonical)
-    return {other.key: one.number for part in found.parts[:3] for one, other in part.pairs}
+    return {other.key: number_of(one.key) for part in found.parts[:3] for one, other in part.pairs}
 
 
 def as_in_a_canonical_text(county: County, masks: Sequence[str]) -> County:
     """The county with its chains turned and its landmarks masked as in its canonical text. Chains are matched by their
     points, so that they need no mask."""
-    hidden = ["SOURCE"] if "--no-sources" in masks else []
-    landmarks = [
-        replace(landmark, bodies=[LANDMARK.blanked(body, hidden) for body in landmark.bodies]) for landmark in county.landmarks
-    ]
-    chains = [turned(chain) if comes_after_its_reverse(chain.points) else chain for chain in county.chains]
+    landmarks, chains = county.landmarks, [turned(each) if comes_after_its_reverse(each.points) else each for each in county.chains]
+    if "--no-sources" in masks:
+        landmarks = [replace(each, bodies=[LANDMARK.blanked(body, "SOURCE") for body in each.bodies]) for each in landmarks]
     return replace(county, chains=chains, landmarks=landmarks)

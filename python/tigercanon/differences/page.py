@@ -5,15 +5,16 @@ from __future__ import annotations
 import html
 import json
 import re
+from contextlib import suppress
 from dataclasses import dataclass, field
 from pathlib import Path
-from typing import Any, Sequence
+from typing import Any
 
 from ..errors import Failure
 from .fields import FieldName, Row, chain_title, landmark_points, landmark_title
 from .matching import Comparison, Tie
 from .outputs import NewFile
-from .reading import NO_POINT, points_of
+from .reading import NO_POINT, each_point, position
 from .sets import Sets
 from .things import KINDS, SUBJECTS, Thing, things
 from .words import tie_line, tied_place, verdict
@@ -27,25 +28,18 @@ ROOM_FOR_FIELDS = 5_000_000
 """The page has at most this many characters of fields. After them a difference has only its name and its place."""
 
 
-@dataclass(frozen=True)
-class Leaflet:
-    """The library that draws the map, as texts."""
-
-    script: str
-    style: str
+Leaflet = tuple[str, str]
+"""The script and the style of the library that draws the map."""
 
 
 def find_leaflet(folder: str | None) -> Leaflet:
     """Leaflet, from a folder or from where Debian puts it."""
-    place = Path(folder if folder is not None else DEBIAN_LEAFLET)
+    place = Path(DEBIAN_LEAFLET if folder is None else folder)
     for name in ("leaflet.min.js", "leaflet.js"):
-        try:
-            return Leaflet((place / name).read_text("utf-8"), (place / "leaflet.css").read_text("utf-8"))
-        except (OSError, UnicodeDecodeError):
-            continue
-    hint = "it needs leaflet.js and leaflet.css"
-    if folder is None:
-        hint = "install Debian's package libjs-leaflet, or name its folder by --leaflet"
+        with suppress(OSError, UnicodeDecodeError):
+            return (place / name).read_text("utf-8"), (place / "leaflet.css").read_text("utf-8")
+    advice = "install Debian's package libjs-leaflet, or name its folder by --leaflet"
+    hint = advice if folder is None else "it needs leaflet.js and leaflet.css"
     raise Failure(f"{place}: there is no Leaflet here: {hint}")
 
 
@@ -59,8 +53,7 @@ class PageData:
     shift: int
     labels: dict[FieldName, int] = field(default_factory=dict)
     titles: dict[str, int] = field(default_factory=dict)
-    bare_chains: list[list[int]] = field(default_factory=list)
-    bare_polygons: list[list[int]] = field(default_factory=list)
+    bare: dict[str, list[list[int]]] = field(default_factory=lambda: {"chains": [], "polygons": []})
     room: int = field(default_factory=lambda: ROOM_FOR_FIELDS)
 
     def differences(self) -> list[dict[str, Any]]:
@@ -69,18 +62,17 @@ class PageData:
 
     def thing(self, thing: Thing) -> dict[str, Any] | None:
         """The entry of a thing. After the space for fields is used up, chains and polygons are bare, and have none."""
-        kind = KINDS.index(thing.kind)
-        if thing.what == "chain" and self.room <= 0:
-            self.bare_chains.append([kind, self.title(thing.title), *self.line(thing.either.points)])
+        kind, is_chain = KINDS.index(thing.kind), thing.what == "chain"
+        if self.room <= 0 and (is_chain or thing.what == "polygon" and thing.points):
+            title = [self.title(thing.title)] if is_chain else []
+            self.bare[f"{thing.what}s"].append([kind, *title, *self.line(thing.points)])
             return None
-        if thing.what == "chain":
-            return {**self.entry(thing.what, kind, thing.title, "", thing.rows), "line": self.line(thing.either.points)}
-        points = self.points(thing.points)
-        if thing.what == "polygon" and self.room <= 0 and points:
-            self.bare_polygons.append([kind, *points[0]])
-            return None
-        place = {} if thing.what == "feature name" else {"points": points}
-        return {**self.entry(thing.what, kind, thing.title, thing.about, thing.rows), **place}
+        entry = self.entry(thing.what, kind, thing.title, "" if is_chain else thing.about, thing.rows())
+        if is_chain:
+            entry["line"] = self.line(thing.points)
+        elif thing.what != "feature name":
+            entry["points"] = self.points(thing.points)
+        return entry
 
     def tie(self, tie: Tie) -> dict[str, Any]:
         groups = [list(map(tied_place, group)) for group in tie.groups]
@@ -113,7 +105,7 @@ class PageData:
         lines: list[list[int]] = []
         begin = (0, 0)
         for chain in chains:
-            lines.append(self.line(chain.points, begin))
+            lines.append(self.line(each_point(chain.points), begin))
             begin = (begin[0] + lines[-1][0], begin[1] + lines[-1][1])
         places = ((landmark, landmark_points(landmark, county)) for landmark, _ in found.landmarks.alike)
         inside = [polygon.point for polygon, _ in found.polygons.alike if with_chains and polygon.point != NO_POINT]
@@ -127,27 +119,28 @@ class PageData:
     def title(self, title: str) -> int:
         return self.titles.setdefault(title, len(self.titles))
 
-    def line(self, points: str, begin: tuple[int, int] = (0, 0)) -> list[int]:
+    def line(self, points: list[str], begin: tuple[int, int] = (0, 0)) -> list[int]:
         """The points, each as its distance from the one before it."""
         distances: list[int] = []
         last_longitude, last_latitude = begin
-        for longitude, latitude in points_of(points):
+        for longitude, latitude in map(position, points):
             if longitude > 0:
                 longitude -= self.shift
             distances += (longitude - last_longitude, latitude - last_latitude)
             last_longitude, last_latitude = longitude, latitude
         return distances
 
-    def points(self, points: Sequence[str]) -> list[list[int]]:
-        return [self.line(point) for point in points]
+    def points(self, points: list[str]) -> list[list[int]]:
+        return [self.line([point]) for point in points]
 
 
 def write_page(file: NewFile, comparison: Comparison, sets: Sets, leaflet: Leaflet) -> None:
+    script, style = leaflet
     parts = {
         # The style without the files that it names, and the script as an element can hold it, without the file that its end names.
-        "leaflet_style": re.sub(r"[^;{}]*url\([^)]*\)[^;}]*;?", "", re.sub(r"/\*#.*?\*/", "", leaflet.style)),
+        "leaflet_style": re.sub(r"[^;{}]*url\([^)]*\)[^;}]*;?", "", re.sub(r"/\*#.*?\*/", "", style)),
         "style": asset("page.css"),
-        "leaflet_script": re.sub(r"(?m)^//# sourceMappingURL=.*$", "", leaflet.script).replace("</", "<\\/"),
+        "leaflet_script": re.sub(r"(?m)^//# sourceMappingURL=.*$", "", script).replace("</", "<\\/"),
         "script": asset("page.js"),
         # JSON in which no letter begins a tag, whatever the input says.
         "data": json.dumps(page_data(comparison, sets), ensure_ascii=False, separators=(",", ":")).replace("<", "\\u003c"),
@@ -169,7 +162,7 @@ def page_data(comparison: Comparison, sets: Sets) -> dict[str, Any]:
         "shift": data.shift,
         "counts": dict(zip(SUBJECTS, (part.counts for part in comparison.parts))),
         "entries": data.differences(),
-        "bare": {"chains": data.bare_chains, "polygons": data.bare_polygons},
+        "bare": data.bare,
         "alike": data.alike(not is_too_large),
         "titles": list(data.titles),
         "labels": [[name.label, name.holds] for name in data.labels],

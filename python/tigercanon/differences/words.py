@@ -63,7 +63,7 @@ def told_things(comparison: Comparison) -> Iterator[str]:
         if kind != KINDS[2]:
             yield from ["", *(f"  {thing.name}, {thing.about}" for thing in listed)]
         for thing in listed if kind == KINDS[2] else []:
-            yield from ["", f"  {thing.name}, {thing.about}", *differing(thing.rows)]
+            yield from ["", f"  {thing.name}, {thing.about}", *differing(thing.rows())]
 
 
 def differing(rows: list[Row]) -> Iterator[str]:
