@@ -10,16 +10,17 @@ import argparse
 import fcntl
 import os
 import re
-import shutil
 import socket
 import stat
 import time
-from contextlib import contextmanager, suppress
+from contextlib import ExitStack, contextmanager, suppress
+from functools import partial
 from typing import Iterator, NamedTuple, Sequence
 
 from .errors import Failure, reason, reported
 from .layout import RECORD_FILE, ZIP_FILE
-from .own import Own
+from .outputs import new_files
+from .own import PROCESS
 
 FORM = "# tigercanon form 1"
 FLAGS = ("--no-sources", "--no-reserved")
@@ -154,146 +155,103 @@ def duplicates(lines: Sequence[Line]) -> list[list[Line]]:
 
 
 class Manifest:
-    """A manifest that is written to, under its lock."""
+    """A manifest that is written to, under its lock. One that is there already is read, and put in order. Raises Failure."""
 
-    def __init__(self, name: str, flags: tuple[str, ...], own: Own) -> None:
-        self.name, self.flags, self.own = name, flags, own
+    def __init__(self, name: str, flags: tuple[str, ...]) -> None:
+        self.name, self.flags = name, flags
         self.place = os.path.realpath(name)
-        self.handle: int | None = None
         self.lines: list[Line] = []
-
-    def open(self) -> None:
-        """Reads the existing manifest, and puts it in order. Raises Failure."""
         if os.path.lexists(self.place):
-            text = read(self.name)
-            content = parsed(self.name, text)
-            agreed(self.name, content.flags, self.flags)
+            content = parsed(name, read(name))
+            agreed(name, content.flags, flags)
             self.lines = content.lines
-            self.start_writing()
-            if text:
-                self.put_in_order()
-
-    def start_writing(self) -> int:
-        with reported(self.name):
-            self.handle = os.open(self.place, os.O_WRONLY | os.O_APPEND | os.O_CREAT, 0o666)
-        return self.handle
+            with reported(name):
+                open(self.place, "ab").close()
+            self.put_in_order()
 
     def add(self, line: Line) -> None:
         """Adds a county, whose line is written at once: the whole of it or nothing."""
-        with self.own.lock, reported(self.name):
-            handle = self.start_writing() if self.handle is None else self.handle
-            before = os.fstat(handle).st_size
+        with PROCESS.lock, reported(self.name), open(self.place, "ab", buffering=0) as file:
+            before = file.tell()
             text = os.fsencode(f"{line}\n" if before else f"{heading(self.flags)}\n{line}\n")
             try:
                 while text:
-                    text = text[os.write(handle, text) :]
+                    text = text[file.write(text) :]
             except OSError:
-                os.ftruncate(handle, before)
+                file.truncate(before)
                 raise
             self.lines.append(line)
 
     def put_in_order(self) -> None:
         """Puts the counties in order by a copy, which takes the manifest's place once it is whole."""
-        if self.handle is None or not self.lines:
-            return
-        self.lines.sort(key=lambda line: (os.fsencode(line.stem), line.fingerprint))
-        text = "".join(f"{line}\n" for line in [heading(self.flags), *self.lines])
-        copy = f"{self.place}.new"
-        with self.own.at_end(lambda: discard(copy)), reported(self.name):
-            with open(copy, "wb") as file:
-                file.write(os.fsencode(text))
-                file.flush()
-                os.fsync(file.fileno())
-            shutil.copymode(self.place, copy)
-            with self.own.lock:
-                os.replace(copy, self.place)
-        self.close()
-        self.start_writing()
-
-    def close(self) -> None:
-        if self.handle is not None:
-            os.close(self.handle)
-            self.handle = None
-
-
-def discard(path: str) -> None:
-    with suppress(OSError):
-        os.unlink(path)
+        if self.lines:
+            self.lines.sort(key=lambda line: (os.fsencode(line.stem), line.fingerprint))
+            with new_files([self.name]) as files:
+                files[self.name].write(os.fsencode("".join(f"{line}\n" for line in [heading(self.flags), *self.lines])))
 
 
 @contextmanager
-def written(name: str, flags: tuple[str, ...], own: Own) -> Iterator[Manifest]:
+def written(name: str, flags: tuple[str, ...]) -> Iterator[Manifest]:
     """A manifest to write to. No other run writes to it meanwhile. It can't have a county's name, as when its own was forgotten."""
     if RECORD_FILE.fullmatch(name) or ZIP_FILE.fullmatch(name):
         raise Failure(f"{name}: has the name of a county's file, and isn't overwritten by a manifest")
     folder = os.path.dirname(os.path.realpath(name))
     if not os.path.isdir(folder):
         raise Failure(f"{name}: can't be written: there is no folder {folder}")
-    lock = Lock(name)
-    with own.at_end(lock.give_back):
-        with own.lock:
-            lock.take()
-        manifest = Manifest(name, flags, own)
-        try:
-            manifest.open()
-            yield manifest
-            manifest.put_in_order()
-        finally:
-            manifest.close()
+    with ExitStack() as stack:
+        with PROCESS.lock:
+            stack.enter_context(PROCESS.at_end(partial(give_back, name, take_lock(name))))
+        manifest = Manifest(name, flags)
+        yield manifest
+        manifest.put_in_order()
 
 
-class Lock:
-    """The lock of a manifest: the file MANIFEST.lock, locked, with a line that names the process that has it."""
+# The lock of a manifest is the file MANIFEST.lock, locked, with a line that names the process that has it.
 
-    def __init__(self, name: str) -> None:
-        self.name, self.path = name, f"{os.path.realpath(name)}.lock"
-        self.handle: int | None = None
 
-    def take(self) -> None:
-        """Takes the lock. It waits a little, since a verification has it for a moment."""
-        while self.handle is None:
-            with reported(f"{self.name}.lock"):
-                handle = os.open(self.path, os.O_RDWR | os.O_CREAT | os.O_NONBLOCK, 0o666)
-            try:
-                status = os.fstat(handle)
-                lines = os.pread(handle, status.st_size, 0).splitlines() if stat.S_ISREG(status.st_mode) else [b""]
-                if not all(map(LOCK_LINE.match, lines)):  # a file of the user's
-                    raise Failure(f"{self.name}.lock: isn't the lock of {self.name} but another file: move it away")
-                self.lock(handle, fcntl.LOCK_EX, PATIENCE_FOR_LOCK)
-                with suppress(FileNotFoundError):  # another run may have removed it meanwhile
-                    if os.path.samestat(os.stat(self.path), os.fstat(handle)):
-                        self.handle = handle
-            finally:
-                if self.handle is None:
-                    os.close(handle)
-        os.ftruncate(self.handle, 0)
-        os.pwrite(self.handle, f"process {os.getpid()} on {socket.gethostname()}\n".encode(), 0)
+def lock_of(name: str) -> str:
+    return f"{os.path.realpath(name)}.lock"
 
-    def respect(self) -> None:
-        """Raises Failure if a run writes to the manifest."""
-        try:
-            handle = os.open(self.path, os.O_RDONLY | os.O_NONBLOCK)
-        except OSError:
-            return
-        try:
-            self.lock(handle, fcntl.LOCK_SH, 0)
-        finally:
-            os.close(handle)
 
-    def give_back(self) -> None:
-        """Removes the file while it is locked: another run that has opened it finds that it is no longer the file of that name."""
-        if self.handle is not None:
-            discard(self.path)
-            os.close(self.handle)
-            self.handle = None
+def take_lock(name: str) -> int:
+    """Takes the lock, and returns its handle. It waits a little, since a verification has it for a moment."""
+    while True:
+        with reported(f"{name}.lock"):
+            handle = os.open(lock_of(name), os.O_RDWR | os.O_CREAT | os.O_NONBLOCK, 0o666)
+        with ExitStack() as stack:
+            stack.callback(os.close, handle)
+            status = os.fstat(handle)
+            lines = os.pread(handle, status.st_size, 0).splitlines() if stat.S_ISREG(status.st_mode) else [b""]
+            if not all(map(LOCK_LINE.match, lines)):  # a file of the user's
+                raise Failure(f"{name}.lock: isn't the lock of {name} but another file: move it away")
+            lock(name, handle, fcntl.LOCK_EX, PATIENCE_FOR_LOCK)
+            with suppress(FileNotFoundError):  # another run may have removed it meanwhile
+                if os.path.samestat(os.stat(lock_of(name)), os.fstat(handle)):
+                    os.ftruncate(handle, 0)
+                    os.pwrite(handle, f"process {os.getpid()} on {socket.gethostname()}\n".encode(), 0)
+                    stack.pop_all()
+                    return handle
 
-    def lock(self, handle: int, how: int, patience: float) -> None:
-        until = time.monotonic() + patience
-        while True:
-            with reported(f"{self.name}.lock", "can't be locked"), suppress(BlockingIOError):
-                fcntl.flock(handle, how | fcntl.LOCK_NB)
-                return
-            if time.monotonic() >= until:
-                holder = os.pread(handle, 1000, 0).decode(errors="replace").strip() or "an unknown process"
-                raise Failure(f"{self.name}: another run writes to it: {holder}")
-            time.sleep(0.02)
+
+def respect_lock(name: str) -> None:
+    """Raises Failure if a run writes to the manifest."""
+    with suppress(OSError), open(os.open(lock_of(name), os.O_RDONLY | os.O_NONBLOCK)) as file:
+        lock(name, file.fileno(), fcntl.LOCK_SH, 0)
+
+
+def give_back(name: str, handle: int) -> None:
+    """Removes the file while it is locked: another run that has opened it finds that it is no longer the file of that name."""
+    with suppress(OSError):
+        os.unlink(lock_of(name))
+    os.close(handle)
+
+
+def lock(name: str, handle: int, how: int, patience: float) -> None:
+    until = time.monotonic() + patience
+    while True:
+        with reported(f"{name}.lock", "can't be locked"), suppress(BlockingIOError):
+            return fcntl.flock(handle, how | fcntl.LOCK_NB)
+        if time.monotonic() >= until:
+            holder = os.pread(handle, 1000, 0).decode(errors="replace").strip() or "an unknown process"
+            raise Failure(f"{name}: another run writes to it: {holder}")
+        time.sleep(0.02)

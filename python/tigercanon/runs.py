@@ -12,7 +12,7 @@ from .counties import Finder
 from .engines import DaskEngine, Gone, LocalEngine
 from .errors import Failure
 from .judge import Answer, County, Order
-from .manifest import Line, Lock, Manifest, agreed, duplicates, flags_of, heading, loaded, written
+from .manifest import Line, Manifest, agreed, duplicates, flags_of, heading, loaded, respect_lock, written
 from .own import PROCESS, remove_stale_folders
 from .printing import print_json, print_lines
 from .program import find_program
@@ -134,7 +134,7 @@ class Fingerprints:
         see_names([*self.options.sources, *([self.options.output] if self.options.output else [])])
         if self.options.output is None:
             return self.make()
-        with written(self.options.output, self.flags, PROCESS) as self.manifest:
+        with written(self.options.output, self.flags) as self.manifest:
             status = self.make()
         count = sum(map(len, duplicates(self.manifest.lines)))
         if count:
@@ -193,7 +193,7 @@ class Verification:
 
     def __call__(self) -> int:
         see_names([self.options.manifest, *self.options.sources])
-        Lock(self.options.manifest).respect()
+        respect_lock(self.options.manifest)
         content = loaded(self.options.manifest)
         asked = flags_of(self.options)
         if asked:

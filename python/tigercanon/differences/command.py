@@ -9,12 +9,12 @@ import threading
 
 from ..errors import Failure
 from ..manifest import flags_of
+from ..outputs import new_files
 from ..printing import print_lines
 from ..program import find_program
 from ..progress import report
 from .geojson import BothOwn, features, head, write_geojson
 from .matching import Comparison, compare, own_numbers
-from .outputs import new_files
 from .page import find_leaflet, write_page
 from .reading import NotCanonical, read_county
 from .sets import Canonical, Sets, is_of_a_set, opened, printed
@@ -82,9 +82,13 @@ def run(options: argparse.Namespace) -> int:
         raise Failure(f"the program doesn't print a canonical text: {fault}") from None
 
 
+def outputs_of(options: argparse.Namespace) -> list[str]:
+    return [name for name in (options.page, options.geojson) if name is not None]
+
+
 def check_options(options: argparse.Namespace) -> None:
     """Rejects options that don't go together."""
-    outputs = [name for name in (options.page, options.geojson) if name is not None]
+    outputs = outputs_of(options)
     if options.all and options.geojson is None:
         raise Failure("--all needs --geojson")
     if options.leaflet is not None and options.page is None:
@@ -102,7 +106,8 @@ def compared(options: argparse.Namespace) -> int:
     with contextlib.ExitStack() as stack:
         progress = Progress()
         stack.callback(progress.timer.cancel)
-        page, geojson = stack.enter_context(new_files([options.page, options.geojson]))
+        files = stack.enter_context(new_files(outputs_of(options)))
+        page, geojson = files.get(options.page), files.get(options.geojson)
         sources = [stack.enter_context(opened(name, options.stem)) for name in (options.first, options.second)]
         progress.at("normalising both sets")
         one, other = printed(program, ("normalise", *masks), sources)

@@ -7,9 +7,9 @@ import re
 from functools import lru_cache
 from typing import Any, Iterator, Sequence
 
+from ..outputs import NewFile
 from .fields import BLANK, NONE, YES, FieldName, decimal
 from .matching import Comparison, OwnNumbers, Tie
-from .outputs import NewFile
 from .reading import number_of
 from .sets import Sets
 from .things import KINDS, Thing, things
@@ -28,11 +28,10 @@ Feature = tuple[str, Properties]
 
 def write_geojson(file: NewFile, comparison: Comparison, sets: Sets, own: BothOwn, with_alike: bool) -> None:
     """Writes a feature for each difference and, if asked for, for what is alike."""
-    file.write('{"type":"FeatureCollection",' + as_json(head(comparison, sets))[1:-1])
-    file.write(',"features":[')
+    file.write(f'{{"type":"FeatureCollection",{as_json(head(comparison, sets))[1:-1]},"features":['.encode())
     for number, (shape, told) in enumerate(features(comparison, own, with_alike)):
-        file.write(f'{"," if number else ""}\n{{"type":"Feature","geometry":{shape},"properties":{as_json(told)}}}')
-    file.write("\n]}\n")
+        file.write(f'{"," if number else ""}\n{{"type":"Feature","geometry":{shape},"properties":{as_json(told)}}}'.encode())
+    file.write(b"\n]}\n")
 
 
 def head(comparison: Comparison, sets: Sets) -> Properties:

@@ -11,9 +11,9 @@ from pathlib import Path
 from typing import Any
 
 from ..errors import Failure
+from ..outputs import NewFile
 from .fields import FieldName, Row, chain_title, landmark_points, landmark_title
 from .matching import Comparison, Tie
-from .outputs import NewFile
 from .reading import NO_POINT, each_point, position
 from .sets import Sets
 from .things import KINDS, SUBJECTS, Thing, things
@@ -151,7 +151,7 @@ def write_page(file: NewFile, comparison: Comparison, sets: Sets, leaflet: Leafl
         # A line is broken between the pieces of a path.
         parts[f"{side}_path"] = "".join(f"<span>{html.escape(piece)}</span>" for piece in re.split("(?<=/)", one.shown_name))
         parts[f"{side}_fingerprint"] = one.fingerprint
-    file.write(re.sub(r"@@(\w+)@@", lambda marker: parts[marker[1]], asset("page.html")))
+    file.write(re.sub(r"@@(\w+)@@", lambda marker: parts[marker[1]], asset("page.html")).encode())
 
 
 def page_data(comparison: Comparison, sets: Sets) -> dict[str, Any]:

@@ -5,10 +5,10 @@ from __future__ import annotations
 import os
 import stat
 from contextlib import ExitStack, contextmanager, suppress
-from typing import Iterator, Sequence
+from typing import Iterable, Iterator
 
-from ..errors import Failure, reported
-from ..own import PROCESS
+from .errors import Failure, reported
+from .own import PROCESS
 
 
 class NewFile:
@@ -21,10 +21,9 @@ class NewFile:
         folder, base = os.path.split(self.place)
         self.path = os.path.join(folder, f".{base[:200]}.{os.getpid()}.part")
         with reported(name):
-            handle = os.open(self.path, os.O_WRONLY | os.O_CREAT | os.O_EXCL, 0o666)
-        self.file = open(handle, "w", encoding="utf-8", newline="\n")
+            self.file = open(self.path, "xb")
 
-    def write(self, text: str) -> None:
+    def write(self, text: bytes) -> None:
         with reported(self.name):
             self.file.write(text)
 
@@ -49,26 +48,25 @@ def mode_of(name: str, place: str) -> int | None:
     """The mode of the file that is there already, if there is one. Only a file may be written over."""
     with reported(name):
         try:
-            found = os.stat(place)
+            mode = os.stat(place).st_mode
         except FileNotFoundError:
             return None
-    why = "it is a folder" if stat.S_ISDIR(found.st_mode) else "it isn't a regular file"
-    if not stat.S_ISREG(found.st_mode) or not os.access(place, os.W_OK):
-        raise Failure(f"{name}: can't be written: {'Permission denied' if stat.S_ISREG(found.st_mode) else why}")
-    return stat.S_IMODE(found.st_mode)
+    is_file, other = stat.S_ISREG(mode), "it is a folder" if stat.S_ISDIR(mode) else "it isn't a regular file"
+    if not is_file or not os.access(place, os.W_OK):
+        raise Failure(f"{name}: can't be written: {'Permission denied' if is_file else other}")
+    return stat.S_IMODE(mode)
 
 
 @contextmanager
-def new_files(names: Sequence[str | None]) -> Iterator[list[NewFile | None]]:
-    """Files to be written, which take the places of these names when all are whole. If anything goes wrong, a signal
-    for example, there are none of them, and what had these names is as it was. Without a name there is no file.
-    """
+def new_files(names: Iterable[str]) -> Iterator[dict[str, NewFile]]:
+    """Files to be written, by their names, which take the places of these names when all are whole. If anything goes wrong, a signal for
+    example, there are none of them, and what had these names is as it was."""
     with ExitStack() as stack:
-        files: dict[str | None, NewFile] = {}
-        for name in filter(None, names):
+        files: dict[str, NewFile] = {}
+        for name in names:
             files[name] = NewFile(name)
             stack.enter_context(PROCESS.at_end(files[name].discard))
-        yield [files.get(name) for name in names]
+        yield files
         for file in files.values():
             file.finish()
         for file in files.values():
