@@ -8,6 +8,7 @@ import re
 import signal
 import threading
 import traceback
+from collections import Counter
 from concurrent.futures import ThreadPoolExecutor
 from typing import Any, Callable, Sequence
 
@@ -102,8 +103,7 @@ def add_judging(made: argparse.ArgumentParser) -> None:
     """The options of the commands that judge counties."""
     add_program(made)
     engine = made.add_mutually_exclusive_group()
-    about = "process N counties at a time (default: one per processor)"
-    engine.add_argument("--jobs", metavar="N", type=count_of, help=about)
+    engine.add_argument("--jobs", metavar="N", type=count_of, help="process N counties at a time (default: one per processor)")
     about = "use the workers of the Dask scheduler at this address, or at the one in a file that the scheduler has written"
     engine.add_argument("--scheduler", metavar="ADDRESS", help=about)
     about = "limit the memory of each process, for example to 4GB; a county that doesn't fit is tried once more alone"
@@ -136,8 +136,7 @@ def add_verify(commands: Any) -> None:
 
 
 def add_duplicates(commands: Any) -> None:
-    about = "list the counties of a manifest that are one map, in groups"
-    made = add_command(commands, "duplicates", about, list_duplicates)
+    made = add_command(commands, "duplicates", "list the counties of a manifest that are one map, in groups", list_duplicates)
     add_json(made)
     add_manifest(made)
 
@@ -175,13 +174,13 @@ def list_duplicates(options: argparse.Namespace) -> int:
 
 def list_changes(options: argparse.Namespace) -> int:
     found = changes(options.old, options.new)
-    shown = [change for change in found if change.kind != "same" or not options.quiet]
+    shown = [each for each in found if each["change"] != "same" or not options.quiet]
     if options.json:
-        print_json([{"county": each.name, "change": each.kind, "old": each.first, "new": each.second} for each in shown])
+        print_json(shown)
     else:
-        print_lines(f"{change.kind}  {change.second or change.first}" for change in shown)
-    counts = {kind: sum(change.kind == kind for change in found) for kind in ("same", "changed", "added", "removed")}
-    report(", ".join(f"{count:,} {kind}" for kind, count in counts.items()))
+        print_lines(f"{each['change']}  {each['new'] or each['old']}" for each in shown)
+    counts = Counter(each["change"] for each in found)
+    report(", ".join(f"{counts[kind]:,} {kind}" for kind in ("same", "changed", "added", "removed")))
     return int(counts["same"] < len(found))
 
 
@@ -200,8 +199,7 @@ def stop(number: int, _: object) -> None:
     Tally.bar = None
     tally = Tally.current
     how_far = f": {tally.ended:,} of {tally.counties:,} counties done" if tally else ""
-    text = f"stopped by {signal.Signals(number).name[3:]}{how_far}"
-    last = threading.Thread(target=report, args=(text,), daemon=True)
+    last = threading.Thread(target=report, args=(f"stopped by {signal.Signals(number).name[3:]}{how_far}",), daemon=True)
     last.start()
     last.join(PATIENCE)  # nobody may be reading standard error
     end_by(number)

@@ -3,16 +3,14 @@
 import os
 import re
 from collections import Counter
-from contextlib import contextmanager
 from dataclasses import dataclass, field
 from fnmatch import fnmatchcase
 from functools import lru_cache
 from typing import Callable, Iterable, Iterator
 
-from .errors import Failure, Unreadable, reason
-from .judge import County, File, Order, prepared
+from .errors import Failure, reason
+from .judge import County, File
 from .layout import RECORD_FILE, TYPES, ZIP_FILE, file_name, stem_of
-from .own import PROCESS, Own
 from .storage import Entry, entries, is_folder, is_url, joined, parted, real, system_of, tidy
 
 MAGIC = re.compile(r"[*?[]")
@@ -247,21 +245,3 @@ def probed(stem: str) -> Names:
             continue
         names.add(Entry(parted(stem + ending)[1], False, info.get("size")))
     return names
-
-
-@contextmanager
-def as_stem(source: str, own: Own = PROCESS) -> Iterator[str]:
-    """A stem that the program reads, for the county of a name, of one of its files or of a zip.
-
-    Temporary files are removed in every case. Raises Failure if there is no such county.
-    """
-    county = Finder().of_name(tidy(source))
-    if county.trouble:
-        raise Failure(f"{source}: {county.trouble}")
-    if county.whole:
-        raise Failure(f"{source}: it is one file with all records, not a zip or one of a county's nine files")
-    try:
-        with prepared(county, Order(""), own, []) as (stem, _):
-            yield stem
-    except Unreadable as error:
-        raise Failure(f"{source}: {error}") from None

@@ -16,7 +16,7 @@ from . import errors, hints, layout, own, storage, zips
 from . import judge as judging
 from .errors import Failure, reason
 from .judge import Answer, County, Order, judge
-from .own import Own
+from .own import PROCESS
 
 TICK = 0.5
 PATIENCE_FOR_SCHEDULER = 30.0
@@ -37,10 +37,13 @@ class Gone(Exception):
 
 
 class Engine:
-    """What judges counties side by side."""
+    """Judges counties side by side: by as many threads as there are processors, or as are asked for."""
 
     served_at = 0.0
     """When there was an answer, or something that could give one."""
+
+    def __init__(self, jobs: int | None) -> None:
+        self.pool = ThreadPoolExecutor(jobs or len(os.sched_getaffinity(0)))
 
     def answers(self, counties: Sequence[County], order: Order) -> Iterator[Result]:
         """The answers in the order in which they come. Counties that may not have fitted into memory are judged again, each alone. Raises
@@ -75,7 +78,7 @@ class Engine:
 
     def begin(self, counties: Sequence[County], order: Order) -> Sequence[Any]:
         """Hands over the counties, and returns a future for each."""
-        raise NotImplementedError
+        return [self.pool.submit(judge, county, order, PROCESS) for county in counties]
 
     def answer(self, future: Any) -> Answer:
         """The result of a future that is done."""
@@ -87,19 +90,6 @@ class Engine:
 
     def close(self) -> None:
         """Ends what is under way."""
-        raise NotImplementedError
-
-
-class LocalEngine(Engine):
-    """Judges counties by as many threads as there are processors, or as are asked for."""
-
-    def __init__(self, jobs: int | None, own: Own) -> None:
-        self.pool, self.own = ThreadPoolExecutor(jobs or len(os.sched_getaffinity(0))), own
-
-    def begin(self, counties: Sequence[County], order: Order) -> Sequence[Any]:
-        return [self.pool.submit(judge, county, order, self.own) for county in counties]
-
-    def close(self) -> None:
         self.pool.shutdown(wait=False, cancel_futures=True)
 
 

@@ -110,15 +110,6 @@ def agreed(name: str, made: tuple[str, ...] | None, asked: tuple[str, ...]) -> N
         raise Failure(f"{name}: made with {named(made)}, but this run has {named(asked)}")
 
 
-class Change(NamedTuple):
-    """A county of two manifests. first and second are its stems in them."""
-
-    kind: str
-    name: str
-    first: str | None
-    second: str | None
-
-
 def by_key(name: str, content: Content) -> dict[str, Line]:
     """The counties of a manifest by the names that they are matched by: without folder, case and ending. Raises Failure if two have one
     name."""
@@ -130,8 +121,8 @@ def by_key(name: str, content: Content) -> dict[str, Line]:
     return found
 
 
-def changes(old_name: str, new_name: str) -> list[Change]:
-    """How the counties of two manifests compare, in the order of their names."""
+def changes(old_name: str, new_name: str) -> list[dict[str, str | None]]:
+    """How the counties of two manifests compare, in the order of their names, and the stem of each in both."""
     old, new = loaded(old_name), loaded(new_name)
     if old.flags != new.flags:
         made = f"{old_name} was made with {named(old.flags)} and {new_name} with {named(new.flags)}"
@@ -142,7 +133,7 @@ def changes(old_name: str, new_name: str) -> list[Change]:
         first, second = before.get(name), after.get(name)
         is_same = first and second and first.fingerprint == second.fingerprint
         kind = "added" if first is None else "removed" if second is None else "same" if is_same else "changed"
-        found.append(Change(kind, name, first and first.stem, second and second.stem))
+        found.append({"county": name, "change": kind, "old": first and first.stem, "new": second and second.stem})
     return found
 
 

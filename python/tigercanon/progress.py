@@ -2,8 +2,8 @@
 
 from __future__ import annotations
 
-import logging
 import sys
+import threading
 import time
 from collections import Counter
 from contextlib import suppress
@@ -15,26 +15,19 @@ PAUSE = 10.0
 """Seconds between two lines of progress if standard error isn't a terminal."""
 
 
-class Lines(logging.Handler):
-    """Writes messages to standard error, above the progress bar if there is one. What can't be written is dropped."""
-
-    def emit(self, record: logging.LogRecord) -> None:
-        line = f"tigercanon-tools: {record.getMessage()}"
-        with suppress(OSError, ValueError, AttributeError):
-            if Tally.bar is not None:
-                Tally.bar.write(line, file=sys.stderr)
-            else:
-                sys.stderr.write(f"{line}\n")
-                sys.stderr.flush()
-
-
-LOG = logging.Logger("tigercanon-tools")
-LOG.addHandler(Lines())
+LOCK = threading.Lock()
+"""Whoever reports a line has it."""
 
 
 def report(text: str) -> None:
-    """Reports a line on standard error."""
-    LOG.info("%s", printable(text))
+    """Reports a line on standard error, above the progress bar if there is one. What can't be written is dropped."""
+    line = f"tigercanon-tools: {printable(text)}"
+    with LOCK, suppress(OSError, ValueError, AttributeError):
+        if Tally.bar is not None:
+            Tally.bar.write(line, file=sys.stderr)
+        else:
+            sys.stderr.write(f"{line}\n")
+            sys.stderr.flush()
 
 
 def amount(count: int) -> str:
@@ -61,8 +54,7 @@ class Tally:
 
     def __init__(self) -> None:
         Tally.current = self
-        self.counties = self.ended = self.bytes = self.bytes_in_all = 0
-        self.good = self.failed = 0
+        self.counties = self.ended = self.bytes = self.bytes_in_all = self.failed = 0
         self.refused: Counter[str] = Counter()
         self.started = self.reported_at = time.monotonic()
 

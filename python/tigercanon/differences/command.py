@@ -7,7 +7,7 @@ import json
 import os
 import threading
 
-from ..errors import Failure
+from ..errors import Failure, printable
 from ..manifest import flags_of
 from ..outputs import new_files
 from ..printing import print_lines
@@ -74,21 +74,17 @@ def add_arguments(parser: argparse.ArgumentParser) -> None:
 
 def run(options: argparse.Namespace) -> int:
     """Runs the subcommand and returns its exit status."""
-    check_options(options)
+    outputs = outputs_of(options)
     gc.disable()  # the counties are kept until the end, and looking for garbage in them takes a third of the time
     try:
-        return compared(options)
+        return compared(options, outputs)
     except NotCanonical as fault:
         raise Failure(f"the program doesn't print a canonical text: {fault}") from None
 
 
 def outputs_of(options: argparse.Namespace) -> list[str]:
-    return [name for name in (options.page, options.geojson) if name is not None]
-
-
-def check_options(options: argparse.Namespace) -> None:
-    """Rejects options that don't go together."""
-    outputs = outputs_of(options)
+    """The names of the files to be written. Rejects options that don't go together."""
+    outputs = [name for name in (options.page, options.geojson) if name is not None]
     if options.all and options.geojson is None:
         raise Failure("--all needs --geojson")
     if options.leaflet is not None and options.page is None:
@@ -98,20 +94,21 @@ def check_options(options: argparse.Namespace) -> None:
     for name in outputs:
         if is_of_a_set(name, (options.first, options.second)):
             raise Failure(f"{name}: can't be written: it belongs to one of the sets")
+    return outputs
 
 
-def compared(options: argparse.Namespace) -> int:
+def compared(options: argparse.Namespace, outputs: list[str]) -> int:
     leaflet = find_leaflet(options.leaflet) if options.page is not None else None
     program, masks = find_program(options.program), flags_of(options)
     with contextlib.ExitStack() as stack:
         progress = Progress()
         stack.callback(progress.timer.cancel)
-        files = stack.enter_context(new_files(outputs_of(options)))
+        files = stack.enter_context(new_files(outputs))
         page, geojson = files.get(options.page), files.get(options.geojson)
         sources = [stack.enter_context(opened(name, options.stem)) for name in (options.first, options.second)]
         progress.at("normalising both sets")
         one, other = printed(program, ("normalise", *masks), sources)
-        sets = Sets(Canonical(options.first, one), Canonical(options.second, other), masks)
+        sets = Sets(Canonical(printable(options.first), one), Canonical(printable(options.second), other), masks)
         progress.at("reading the canonical texts")
         first, second = read_county(sets.first.text), read_county(sets.second.text)
         progress.at(f"comparing {len(first.chains):,} chains with {len(second.chains):,}")

@@ -38,7 +38,7 @@ def head(comparison: Comparison, sets: Sets) -> Properties:
     """What holds for all differences: the two sets, and the verdict."""
     told: Properties = {"about": ABOUT, "verdict": "same" if sets.are_one_map else "different"}
     for side, one in zip(SIDES, (sets.first, sets.second)):
-        told[side] = {"name": one.shown_name, "fingerprint": one.fingerprint}
+        told[side] = {"name": one.name, "fingerprint": one.fingerprint}
     if sets.masks:
         told["left_out"] = " ".join(sets.masks)
     if verdict(comparison, sets):

@@ -147,9 +147,9 @@ def write_page(file: NewFile, comparison: Comparison, sets: Sets, leaflet: Leafl
         "compared": html.escape(f"left out: {' '.join(sets.masks)}" if sets.masks else "all fields"),
     }
     for side, one in (("first", sets.first), ("second", sets.second)):
-        parts[f"{side}_name"] = html.escape(one.shown_name)
+        parts[f"{side}_name"] = html.escape(one.name)
         # A line is broken between the pieces of a path.
-        parts[f"{side}_path"] = "".join(f"<span>{html.escape(piece)}</span>" for piece in re.split("(?<=/)", one.shown_name))
+        parts[f"{side}_path"] = "".join(f"<span>{html.escape(piece)}</span>" for piece in re.split("(?<=/)", one.name))
         parts[f"{side}_fingerprint"] = one.fingerprint
     file.write(re.sub(r"@@(\w+)@@", lambda marker: parts[marker[1]], asset("page.html")).encode())
 

@@ -10,12 +10,13 @@ from dataclasses import dataclass
 from functools import cached_property
 from typing import Iterator, Sequence
 
-from ..counties import as_stem
-from ..errors import Failure, printable, reason, reported
+from ..counties import Finder
+from ..errors import Failure, Unreadable, printable, reported
 from ..hints import hint
-from ..judge import Files, complaint, files_of
+from ..judge import Files, Order, complaint, prepared
 from ..layout import TYPES, ZIP_FILE, file_name
 from ..own import PROCESS
+from ..storage import tidy
 
 
 @dataclass(frozen=True)
@@ -26,14 +27,10 @@ class Source:
     place: str
     files: Files
 
-    @property
-    def words(self) -> list[str]:
-        return [*(["--stem"] if len(self.files) > 1 else []), "--", self.place]
-
 
 @dataclass(frozen=True)
 class Canonical:
-    """The canonical text of a set."""
+    """The canonical text of a set, and its name on one line."""
 
     name: str
     text: bytes
@@ -41,10 +38,6 @@ class Canonical:
     @cached_property
     def fingerprint(self) -> str:
         return hashlib.sha256(self.text).hexdigest()
-
-    @property
-    def shown_name(self) -> str:
-        return printable(self.name)
 
 
 @dataclass(frozen=True)
@@ -65,8 +58,15 @@ def opened(name: str, is_stem: bool) -> Iterator[Source]:
     """The set of this name: one file, a zip with a county, or the stem of a county's files in either case of their
     endings. What the program can't read as it is gets a copy, which is removed in every case."""
     if is_stem or not os.path.lexists(name) or is_zip(name):
-        with as_stem(name) as stem:
-            yield Source(name, stem, files_of(stem))
+        county = Finder().of_name(tidy(name))
+        if county.trouble or county.whole:
+            other = "it is one file with all records, not a zip or one of a county's nine files"
+            raise Failure(f"{name}: {county.trouble or other}")
+        try:
+            with prepared(county, Order(""), PROCESS, []) as (place, files):
+                yield Source(name, place, files)
+        except Unreadable as error:
+            raise Failure(f"{name}: {error}") from None
     elif stat.S_ISREG(os.stat(name).st_mode):
         yield Source(name, name, [name])
     else:
@@ -90,14 +90,12 @@ def printed(program: str, command: Sequence[str], sources: Sequence[Source]) -> 
     """What the program prints for each set, all at once. The first set that is rejected is reported."""
 
     def printed_for(source: Source) -> bytes:
-        try:
-            ended = PROCESS.run([program, *command, *source.words])
-        except OSError as error:
-            raise Failure(f"the program {program} can't be run: {reason(error)}") from None
+        stem = ["--stem"] if len(source.files) > 1 else []
+        ended = PROCESS.run([program, *command, *stem, "--", source.place])
         if ended.returncode != 0:
             line = complaint(ended)
-            raise Failure(f"{printable(source.name)}: {'; '.join(filter(None, [line, hint(line, source.files)]))}")
-        return bytes(ended.stdout)
+            raise Failure("; ".join(filter(None, [f"{printable(source.name)}: {line}", hint(line, source.files)])))
+        return ended.stdout
 
     with ThreadPoolExecutor() as threads:
         return list(threads.map(printed_for, sources))

@@ -26,9 +26,9 @@ def verdict(comparison: Comparison, sets: Sets) -> str:
 def told(comparison: Comparison, sets: Sets, is_summary: bool = False) -> Iterator[str]:
     """The lines of the report. A summary ends with the table of counts."""
     first, second = sets.first, sets.second
-    width = max(len(first.shown_name), len(second.shown_name))
-    yield f"first   {first.shown_name:{width}}  {first.fingerprint}"
-    yield f"second  {second.shown_name:{width}}  {second.fingerprint}"
+    width = max(len(first.name), len(second.name))
+    yield f"first   {first.name:{width}}  {first.fingerprint}"
+    yield f"second  {second.name:{width}}  {second.fingerprint}"
     if sets.masks:
         yield f"left out: {' '.join(sets.masks)}"
     yield ""
