@@ -9,7 +9,7 @@ from typing import TYPE_CHECKING, Any, BinaryIO, Iterable, Iterator, Union
 
 from . import zips
 from .errors import Unreadable
-from .layout import TYPES, ZIP_FILE, file_name
+from .layout import TYPES, file_name, kind_of
 
 if TYPE_CHECKING:
     import mmap
@@ -103,7 +103,7 @@ def county_at(path: str) -> list[bytes]:
     """The parts of the county at a path: of a file, of a zip, or of the files of a stem."""
     if not os.path.lexists(path):
         return files_behind(path)
-    return files_in_zip(path) if ZIP_FILE.fullmatch(path) or zipfile.is_zipfile(path) else [Path(path).read_bytes()]
+    return files_in_zip(path) if kind_of(path) == "ZIP" or zipfile.is_zipfile(path) else [Path(path).read_bytes()]
 
 
 def files_behind(stem: str) -> list[bytes]:

@@ -3,32 +3,21 @@
 import os
 import re
 from collections import Counter
-from dataclasses import dataclass, field
+from contextlib import suppress
 from fnmatch import fnmatchcase
 from functools import lru_cache
 from typing import Callable, Iterable, Iterator
 
 from .errors import Failure, reason
 from .judge import County, File
-from .layout import RECORD_FILE, TYPES, ZIP_FILE, file_name, stem_of
+from .layout import TYPES, file_name, kind_of, stem_of
 from .storage import Entry, entries, is_folder, is_url, joined, parted, real, system_of, tidy
 
 MAGIC = re.compile(r"[*?[]")
+KINDS = (*TYPES, "ZIP")
 
-
-@dataclass
-class Names:
-    """The files of one stem in a folder."""
-
-    zips: list[Entry] = field(default_factory=list)
-    files: dict[str, list[Entry]] = field(default_factory=dict)
-
-    def add(self, entry: Entry) -> None:
-        ending = RECORD_FILE.fullmatch(entry.name)
-        if not ending:
-            self.zips.append(entry)
-        elif ending[3].upper() in TYPES:
-            self.files.setdefault(ending[3].upper(), []).append(entry)
+Names = dict[str, list[Entry]]
+"""The files of one stem in a folder, by their kinds."""
 
 
 class Finder:
@@ -51,9 +40,8 @@ class Finder:
                 if is_known(county.stem):
                     known.add(county.stem)
                     continue
-                files = [file for file in (county.zip, county.whole, *county.files.values()) if file]
                 # A name that its files have whichever links lead to them.
-                first = places.setdefault(real(files[0].place), county.stem) if files else county.stem
+                first = places.setdefault(real(county.places[0].place), county.stem) if county.places else county.stem
                 if first != county.stem and county.stem not in found:
                     self.same.append((county.stem, first))
                 else:
@@ -64,7 +52,7 @@ class Finder:
         """The counties of a source: a folder, a glob, or the name of a county or of one of its files."""
         path = tidy(source) or ("/" if source.startswith("/") else "")
         try:
-            if not RECORD_FILE.fullmatch(path) and not ZIP_FILE.fullmatch(path) and is_folder(path or "."):
+            if not kind_of(path) and is_folder(path or "."):
                 absent = County(path or ".", trouble="there is no county in this folder", is_absent=True)
                 yield from list(self.below(path, set())) or [absent]
             elif MAGIC.search(path) and not self.is_named(path):
@@ -86,24 +74,14 @@ class Finder:
         except Exception as error:
             yield County(folder, trouble=f"can't be listed: {reason(error)}")
             return
-        self.count_skipped(folder, found)
+        if folder not in self.counted:
+            self.counted.add(folder)
+            self.skipped.update(ending_of(each.name) for each in found if not each.is_folder and kind_of(each.name) not in KINDS)
         for name, names in self.names(folder).items():
-            if names.zips or names.files:
-                yield county_of(joined(folder, name), folder, names)
+            yield county_of(joined(folder, name), folder, names)
         for entry in found:
             if entry.is_folder:
                 yield from self.below(joined(folder, entry.name), seen)
-
-    def count_skipped(self, folder: str, found: list[Entry]) -> None:
-        """Counts the files of a folder that belong to no county, by their endings."""
-        if folder in self.counted:
-            return
-        self.counted.add(folder)
-        for entry in found:
-            record = RECORD_FILE.fullmatch(entry.name)
-            is_of_a_county = record[3].upper() in TYPES if record else ZIP_FILE.fullmatch(entry.name)
-            if not entry.is_folder and not is_of_a_county:
-                self.skipped[ending_of(entry.name)] += 1
 
     def of_glob(self, pattern: str) -> Iterator[County]:
         """The counties that a glob matches: folders with all that is in them, zips and single files."""
@@ -115,7 +93,7 @@ class Finder:
         for path, is_a_folder in self.matches(root, words):
             if is_a_folder:
                 yield from self.below(path, set())
-            elif RECORD_FILE.fullmatch(path) or ZIP_FILE.fullmatch(path):
+            elif kind_of(path):
                 yield self.of_name(path)
             else:
                 self.skipped[ending_of(path)] += 1
@@ -154,28 +132,23 @@ class Finder:
         """The county of this name, or the one that a file of this name belongs to."""
         stem = stem_of(path)
         folder, name = parted(stem)
+        names: Names = {}
         try:
-            names = self.names(folder).get(name)
-        except FileNotFoundError:
-            names = None
+            names = self.names(folder).get(name, names)
         except Exception as error:
-            if not is_url(path):
+            if not is_url(path) and not isinstance(error, FileNotFoundError):
                 return County(path, trouble=f"can't be read: {reason(error)}")
-            names = None
         if is_url(path) and not names:
             names = probed(stem)
-        if names and (names.zips or names.files):
-            return county_of(stem, folder, names)
-        return whole(path)
+        return county_of(stem, folder, names) if names else whole(path)
 
 
 def names_among(found: list[Entry]) -> dict[str, Names]:
     """The stems in a folder with these entries."""
     grouped: dict[str, Names] = {}
     for entry in found:
-        ending = RECORD_FILE.fullmatch(entry.name) or ZIP_FILE.fullmatch(entry.name)
-        if ending and not entry.is_folder:
-            grouped.setdefault(ending[1], Names()).add(entry)
+        if kind_of(entry.name) in KINDS and not entry.is_folder:
+            grouped.setdefault(stem_of(entry.name), {}).setdefault(kind_of(entry.name), []).append(entry)
     return grouped
 
 
@@ -191,7 +164,7 @@ def whole(path: str) -> County:
     if not os.path.lexists(path):
         absent = "no such file" if stem_of(path) != path else "no such file, folder or county"
         return County(path, trouble=absent, is_absent=True)
-    if not os.path.isfile(path) or RECORD_FILE.fullmatch(path):
+    if not os.path.isfile(path) or kind_of(path):
         why = "one of a county's nine files" if os.path.isfile(path) else "a regular file"
         return County(path, trouble=f"isn't {why}")
     return County(path, whole=File(os.path.abspath(path), os.path.getsize(path)))
@@ -201,33 +174,21 @@ def county_of(stem: str, folder: str, names: Names) -> County:
     """The county of what lies under a stem: its single files if there are any, else its zip."""
     if "\n" in stem:
         return County(stem, trouble="its name has a line break in it")
-    if names.files:
-        return single_files(stem, folder, names)
-    if len(names.zips) > 1:
-        return County(stem, trouble=f"there are {len(names.zips)} zips: {listed(names.zips)}")
-    entry = names.zips[0]
-    if entry.trouble:
-        return County(stem, trouble=f"{entry.name} {entry.trouble}")
-    return County(stem, zip=File(absolute(joined(folder, entry.name)), entry.size))
-
-
-def single_files(stem: str, folder: str, names: Names) -> County:
     files, is_readable = {}, not is_url(stem)
-    for kind in filter(names.files.__contains__, TYPES):
-        entry, *others = names.files[kind]
+    listed = {kind: ", ".join(entry.name for entry in names[kind]) for kind in names}
+    for kind in [kind for kind in TYPES if kind in names] or ["ZIP"]:
+        entry, *others = names[kind]
         if others:
-            return County(stem, trouble=f"there are {1 + len(others)} files of type {kind}: {listed(names.files[kind])}")
+            what = "zips" if kind == "ZIP" else f"files of type {kind}"
+            return County(stem, trouble=f"there are {1 + len(others)} {what}: {listed[kind]}")
         if entry.trouble:
             return County(stem, trouble=f"{entry.name} {entry.trouble}")
         files[kind] = File(absolute(joined(folder, entry.name)), entry.size)
         is_readable &= entry.name == file_name(parted(stem)[1], kind)
-    readable = absolute(stem) if is_readable else None
-    notes = (f"its single files are read, and not {listed(names.zips)}",) if names.zips else ()
-    return County(stem, files, notes=notes, readable_stem=readable)
-
-
-def listed(entries: list[Entry]) -> str:
-    return ", ".join(entry.name for entry in entries)
+    if "ZIP" in files:
+        return County(stem, zip=files["ZIP"])
+    notes = (f"its single files are read, and not {listed['ZIP']}",) if "ZIP" in names else ()
+    return County(stem, files, notes=notes, readable_stem=absolute(stem) if is_readable else None)
 
 
 def absolute(path: str) -> str:
@@ -236,12 +197,9 @@ def absolute(path: str) -> str:
 
 def probed(stem: str) -> Names:
     """The files of a stem in a folder that can't be listed, as on a plain server of files."""
-    names = Names()
+    found, name = [], parted(stem)[1]
     for ending in (".ZIP", ".zip", *(f".RT{kind}" for kind in TYPES)):
         system, path = system_of(stem + ending)
-        try:
-            info = system.info(path)
-        except Exception:
-            continue
-        names.add(Entry(parted(stem + ending)[1], False, info.get("size")))
-    return names
+        with suppress(Exception):
+            found.append(Entry(name + ending, False, system.info(path).get("size")))
+    return names_among(found).get(name, {})

@@ -55,10 +55,14 @@ class County:
     readable_stem: str | None = None
 
     @property
+    def places(self) -> list[File]:
+        """All its files."""
+        return [file for file in (self.zip, self.whole, *self.files.values()) if file]
+
+    @property
     def size(self) -> int:
         """The bytes that its files take in the archive."""
-        singles = [file for file in (self.whole, self.zip) if file]
-        return sum(file.size or 0 for file in (*self.files.values(), *singles))
+        return sum(file.size or 0 for file in self.places)
 
 
 @dataclass(frozen=True)

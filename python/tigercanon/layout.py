@@ -5,11 +5,8 @@ import re
 TYPES = "1245678IP"
 """The record types of the nine files, in the order of a set's parts."""
 
-RECORD_FILE = re.compile(r"(.+)\.(RT|rt|Rt|rT)([0-9A-Za-z])", re.S)
-"""The name of a file of records: the stem, the letters, and the type."""
-
-ZIP_FILE = re.compile(r"(.+)\.[Zz][Ii][Pp]", re.S)
-"""The name of a zip: the stem."""
+COUNTY_FILE = re.compile(r"(?ais)(.+)\.(?:RT([0-9A-Z])|ZIP)")
+"""The name of a file of records, in either case of its ending, or of a zip: the stem, and the record type."""
 
 
 def file_name(stem: str, kind: str) -> str:
@@ -19,5 +16,11 @@ def file_name(stem: str, kind: str) -> str:
 
 def stem_of(path: str) -> str:
     """The stem of a path: the name of a county's file or zip without its ending."""
-    ending = RECORD_FILE.fullmatch(path) or ZIP_FILE.fullmatch(path)
+    ending = COUNTY_FILE.fullmatch(path)
     return ending[1] if ending else path
+
+
+def kind_of(path: str) -> str:
+    """The record type of a file of records, ZIP for a zip, and nothing for another name."""
+    ending = COUNTY_FILE.fullmatch(path)
+    return (ending[2] or "ZIP").upper() if ending else ""

@@ -18,7 +18,7 @@ from functools import partial
 from typing import Iterator, NamedTuple, Sequence
 
 from .errors import Failure, reason, reported
-from .layout import RECORD_FILE, ZIP_FILE
+from .layout import kind_of
 from .outputs import new_files
 from .own import PROCESS
 
@@ -184,7 +184,7 @@ class Manifest:
 @contextmanager
 def written(name: str, flags: tuple[str, ...]) -> Iterator[Manifest]:
     """A manifest to write to. No other run writes to it meanwhile. It can't have a county's name, as when its own was forgotten."""
-    if RECORD_FILE.fullmatch(name) or ZIP_FILE.fullmatch(name):
+    if kind_of(name):
         raise Failure(f"{name}: has the name of a county's file, and isn't overwritten by a manifest")
     folder = os.path.dirname(os.path.realpath(name))
     if not os.path.isdir(folder):

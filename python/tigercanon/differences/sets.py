@@ -14,7 +14,7 @@ from ..counties import Finder
 from ..errors import Failure, Unreadable, printable, reported
 from ..hints import hint
 from ..judge import Files, Order, complaint, prepared
-from ..layout import TYPES, ZIP_FILE, file_name
+from ..layout import TYPES, file_name, kind_of
 from ..own import PROCESS
 from ..storage import tidy
 
@@ -83,7 +83,7 @@ def is_zip(name: str) -> bool:
         mode = os.stat(name).st_mode
         if stat.S_ISDIR(mode):
             raise Failure(f"{printable(name)}: it is a folder: name a file, a zip or the stem of a county's files")
-        return stat.S_ISREG(mode) and ZIP_FILE.fullmatch(name) is not None
+        return stat.S_ISREG(mode) and kind_of(name) == "ZIP"
 
 
 def printed(program: str, command: Sequence[str], sources: Sequence[Source]) -> list[bytes]:
