@@ -10,7 +10,7 @@ import os
 import re
 import shutil
 import subprocess
-from contextlib import contextmanager
+from contextlib import ExitStack, contextmanager
 from dataclasses import dataclass, field, replace
 from typing import Any, Iterable, Iterator, Mapping, Optional
 
@@ -116,57 +116,50 @@ Files = list[Optional[str]]
 @contextmanager
 def prepared(county: County, order: Order, own: Own, notes: list[str]) -> Iterator[tuple[str, Files]]:
     """The set as the program reads it: a file, or a stem of single files in capitals."""
-    if county.zip:
-        with unzipped(county.zip, order, own, notes) as stem:
-            yield stem, files_of(stem)
-    elif county.whole:
-        with local(county.whole, own) as place:
+    with ExitStack() as stack:
+        if county.whole:
+            place = local(county.whole, own, stack)
             yield place, [place]
-    else:
-        sizes = {kind: file.size for kind, file in county.files.items()}
-        note_files(sizes, order, notes)
-        if county.readable_stem is not None:
-            yield county.readable_stem, files_of(county.readable_stem)
             return
-        with own.folder(sum(size or 0 for size in sizes.values())) as folder:
-            stem = f"{folder}/{STEM}"
-            for kind, file in county.files.items():
-                if is_url(file.place):
-                    fetch(file.place, file.size, file_name(stem, kind))
-                else:
-                    os.symlink(file.place, file_name(stem, kind))
-            yield stem, files_of(stem)
+        stem = unzipped(county.zip, order, own, notes, stack) if county.zip else single_files(county, order, own, notes, stack)
+        yield stem, [file_name(stem, kind) for kind in TYPES]
 
 
-def files_of(stem: str) -> Files:
-    return [file_name(stem, kind) for kind in TYPES]
-
-
-@contextmanager
-def local(file: File, own: Own) -> Iterator[str]:
+def local(file: File, own: Own, stack: ExitStack) -> str:
     """A file on this machine: itself, or a copy of what a URL leads to."""
     if not is_url(file.place):
-        yield file.place
-        return
-    with own.folder(file.size or 0) as folder:
-        fetch(file.place, file.size, f"{folder}/{STEM}")
-        yield f"{folder}/{STEM}"
+        return file.place
+    place = f"{stack.enter_context(own.folder(file.size or 0))}/{STEM}"
+    fetch(file.place, file.size, place)
+    return place
 
 
-@contextmanager
-def unzipped(file: File, order: Order, own: Own, notes: list[str]) -> Iterator[str]:
-    """The county in a zip as single files."""
-    with local(file, own) as place, opened(place) as archive:
-        members = members_of(archive)
-        sizes = {kind: member.file_size for kind, member in members.items()}
-        note_files(sizes, order, notes)
-        size = sum(sizes.values())
-        if size > order.largest:
-            raise Unreadable(f"the zip unpacks to {size} bytes, more than --largest {order.largest}")
-        with own.folder(size) as folder:
-            stem = f"{folder}/{STEM}"
-            unpack(archive, members, stem)
-            yield stem
+def single_files(county: County, order: Order, own: Own, notes: list[str], stack: ExitStack) -> str:
+    """The stem of a county's single files: their own, or that of links to them and of copies."""
+    note_files({kind: file.size for kind, file in county.files.items()}, order, notes)
+    if county.readable_stem is not None:
+        return county.readable_stem
+    stem = f"{stack.enter_context(own.folder(county.size))}/{STEM}"
+    for kind, file in county.files.items():
+        if is_url(file.place):
+            fetch(file.place, file.size, file_name(stem, kind))
+        else:
+            os.symlink(file.place, file_name(stem, kind))
+    return stem
+
+
+def unzipped(file: File, order: Order, own: Own, notes: list[str], stack: ExitStack) -> str:
+    """The stem of the files in a zip, which are unpacked."""
+    archive = stack.enter_context(opened(local(file, own, stack)))
+    members = members_of(archive)
+    sizes = {kind: member.file_size for kind, member in members.items()}
+    note_files(sizes, order, notes)
+    size = sum(sizes.values())
+    if size > order.largest:
+        raise Unreadable(f"the zip unpacks to {size} bytes, more than --largest {order.largest}")
+    stem = f"{stack.enter_context(own.folder(size))}/{STEM}"
+    unpack(archive, members, stem)
+    return stem
 
 
 def note_files(sizes: Mapping[str, int | None], order: Order, notes: list[str]) -> None:
