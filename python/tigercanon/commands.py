@@ -17,8 +17,7 @@ from .differences import command as differences
 from .errors import Failure, reason
 from .manifest import changes, duplicates, loaded
 from .own import PATIENCE, PROCESS
-from .printing import print_json, print_lines
-from .progress import Tally, report
+from .progress import Tally, print_json, print_lines, report
 from .version import VERSION
 
 NAME = "tigercanon-tools"

@@ -7,7 +7,7 @@ import re
 from pathlib import Path
 
 from .errors import Failure
-from .printing import print_lines
+from .progress import print_lines
 
 SECTION = re.compile(r"(?m)^### `refused (\d+) (\w+)([^`]*)`$")
 REFUSAL = re.compile(r"(?:refused )?(\d+)?\s*([A-Z]\w+)?((?: [0-9A-Za-z]+)*?)(?: in set ([12]))?")

@@ -10,7 +10,7 @@ import subprocess
 import tempfile
 import threading
 import time
-from contextlib import contextmanager, suppress
+from contextlib import ExitStack, contextmanager, suppress
 from pathlib import Path
 from typing import Callable, Iterator, Sequence
 
@@ -120,20 +120,12 @@ def room_for(size: int) -> str | None:
 
 def remove_stale_folders() -> None:
     """Removes the folders of runs that were killed."""
-    for room in {os.environ.get(VARIABLE, IN_MEMORY), tempfile.gettempdir()}:
-        for path in Path(room).glob(f"{PREFIX}*") if room else []:
-            remove_if_stale(str(path))
-
-
-def remove_if_stale(path: str) -> None:
-    try:
-        status = os.lstat(path)
-        if status.st_uid != os.geteuid() or time.time() - status.st_mtime < STALE:
-            return
-        handle = os.open(path, os.O_RDONLY | os.O_DIRECTORY | os.O_NOFOLLOW)
-    except OSError:
-        return
-    with suppress(OSError):  # a run may hold it
-        fcntl.flock(handle, fcntl.LOCK_EX | fcntl.LOCK_NB)
-        remove(path)
-    os.close(handle)
+    for room in filter(None, {os.environ.get(VARIABLE, IN_MEMORY), tempfile.gettempdir()}):
+        for path in Path(room).glob(f"{PREFIX}*"):
+            with suppress(OSError), ExitStack() as stack:  # a run may hold it
+                status = path.lstat()
+                if status.st_uid == os.geteuid() and time.time() - status.st_mtime >= STALE:
+                    handle = os.open(path, os.O_RDONLY | os.O_DIRECTORY | os.O_NOFOLLOW)
+                    stack.callback(os.close, handle)
+                    fcntl.flock(handle, fcntl.LOCK_EX | fcntl.LOCK_NB)
+                    remove(str(path))

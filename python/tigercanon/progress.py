@@ -1,15 +1,17 @@
-"""What a run reports on standard error: lines, its progress and its end."""
+"""What a command prints on standard output, and what it reports on standard error: lines, its progress and its end."""
 
 from __future__ import annotations
 
+import json
+import os
 import sys
 import threading
 import time
 from collections import Counter
 from contextlib import suppress
-from typing import Any
+from typing import Any, Iterable
 
-from .errors import printable
+from .errors import Failure, printable, reason
 
 PAUSE = 10.0
 """Seconds between two lines of progress if standard error isn't a terminal."""
@@ -17,6 +19,25 @@ PAUSE = 10.0
 
 LOCK = threading.Lock()
 """Whoever reports a line has it."""
+
+
+def print_lines(lines: Iterable[str]) -> None:
+    """Prints lines on standard output. Raises BrokenPipeError if the reader is gone, and Failure if it can't be written."""
+    text = "".join(f"{line}\n" for line in lines)
+    if not text:
+        return
+    try:
+        sys.stdout.buffer.write(os.fsencode(text))
+        sys.stdout.buffer.flush()
+    except BrokenPipeError:
+        raise
+    except (OSError, AttributeError) as error:
+        raise Failure(f"standard output: can't be written: {reason(error)}") from None
+
+
+def print_json(rows: Any) -> None:
+    """Prints a list as JSON on standard output, with the same errors."""
+    print_lines([json.dumps(rows, indent=1)])
 
 
 def report(text: str) -> None:

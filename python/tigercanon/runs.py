@@ -14,9 +14,8 @@ from .errors import Failure
 from .judge import Answer, County, Order
 from .manifest import Line, Manifest, agreed, duplicates, flags_of, heading, loaded, respect_lock, written
 from .own import PROCESS, remove_stale_folders
-from .printing import print_json, print_lines
 from .program import find_program
-from .progress import Tally, report
+from .progress import Tally, print_json, print_lines, report
 from .storage import joined, tidy
 
 

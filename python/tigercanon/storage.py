@@ -6,7 +6,7 @@ import errno
 import os
 import stat
 import time
-from typing import Any, NamedTuple
+from typing import Any, Iterator, NamedTuple
 
 from .errors import Failure, Unreadable, reason
 
@@ -59,10 +59,8 @@ def local_entry(item: os.DirEntry[str]) -> Entry:
         status = item.stat()
     except OSError as error:
         return Entry(item.name, False, None, f"can't be read: {reason(error)}")
-    if stat.S_ISDIR(status.st_mode):
-        return Entry(item.name, True, None)
-    trouble = "" if stat.S_ISREG(status.st_mode) else "isn't a regular file"
-    return Entry(item.name, False, status.st_size, trouble)
+    is_folder, is_file = stat.S_ISDIR(status.st_mode), stat.S_ISREG(status.st_mode)
+    return Entry(item.name, is_folder, status.st_size, "" if is_file or is_folder else "isn't a regular file")
 
 
 def system_of(url: str) -> tuple[Any, str]:
@@ -75,14 +73,12 @@ def system_of(url: str) -> tuple[Any, str]:
     return system, path
 
 
-def remote_entries(folder: str) -> list[Entry]:
+def remote_entries(folder: str) -> Iterator[Entry]:
     system, path = system_of(folder)
-    own = path.rstrip("/")
-    return [
-        Entry(item["name"].rstrip("/").rpartition("/")[2], item["type"] == "directory", item.get("size"))
-        for item in system.ls(path, detail=True)
-        if item["name"].rstrip("/") != own
-    ]
+    for item in system.ls(path, detail=True):
+        name = item["name"].rstrip("/")
+        if name != path.rstrip("/"):
+            yield Entry(name.rpartition("/")[2], item["type"] == "directory", item.get("size"))
 
 
 def is_folder(path: str) -> bool:

@@ -10,9 +10,8 @@ import threading
 from ..errors import Failure, printable
 from ..manifest import flags_of
 from ..outputs import new_files
-from ..printing import print_lines
 from ..program import find_program
-from ..progress import report
+from ..progress import print_lines, report
 from .geojson import BothOwn, features, head, write_geojson
 from .matching import Comparison, compare, own_numbers
 from .page import find_leaflet, write_page
