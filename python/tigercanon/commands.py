@@ -163,7 +163,7 @@ def add_explain(commands: Any) -> None:
 
 
 def list_duplicates(options: argparse.Namespace) -> int:
-    groups = duplicates(loaded(options.manifest).lines)
+    groups = duplicates(loaded(options.manifest)[1])
     if options.json:
         print_json([{"fingerprint": group[0].fingerprint, "counties": [line.stem for line in group]} for group in groups])
     else:

@@ -15,12 +15,15 @@ import stat
 import time
 from contextlib import ExitStack, contextmanager, suppress
 from functools import partial
+from pathlib import Path
 from typing import Iterator, NamedTuple, Sequence
 
 from .errors import Failure, reason, reported
 from .layout import kind_of
 from .outputs import new_files
 from .own import PROCESS
+
+Flags = tuple[str, ...]
 
 FORM = "# tigercanon form 1"
 FLAGS = ("--no-sources", "--no-reserved")
@@ -31,7 +34,7 @@ LOCK_LINE = re.compile(rb"process [0-9]* on ")
 PATIENCE_FOR_LOCK = 0.2
 
 
-def flags_of(options: argparse.Namespace) -> tuple[str, ...]:
+def flags_of(options: argparse.Namespace) -> Flags:
     """The flags of a command line that leave fields out, in one order."""
     return tuple(flag for flag in FLAGS if getattr(options, flag[2:].replace("-", "_")))
 
@@ -40,7 +43,7 @@ def heading(flags: Sequence[str]) -> str:
     return " ".join([FORM, *flags])
 
 
-HEADINGS: dict[bytes, tuple[str, ...]] = {heading(flags).encode(): flags for flags in FLAG_SETS}
+HEADINGS: dict[bytes, Flags] = {heading(flags).encode(): flags for flags in FLAG_SETS}
 HEADINGS.update({f"# {' '.join(flags)}".encode(): flags for flags in FLAG_SETS if flags})
 
 
@@ -54,18 +57,9 @@ class Line(NamedTuple):
         return f"{self.fingerprint}  {self.stem}"
 
 
-class Content(NamedTuple):
-    """What a manifest has. flags is None if it has no whole line."""
-
-    flags: tuple[str, ...] | None
-    lines: list[Line]
-
-
-def parsed(name: str, text: bytes) -> Content:
-    """The whole lines of a manifest. An interrupted run may have left a part of a line at its end, which is left out.
-
-    Raises Failure if it is another file.
-    """
+def parsed(name: str, text: bytes) -> tuple[Flags | None, list[Line]]:
+    """The flags of a manifest, or None if it has no whole line, and its counties. An interrupted run may have left a part of a line at its
+    end, which is left out. Raises Failure if it is another file."""
     *whole, rest = text.split(b"\n")
     flags = HEADINGS.get(whole[0]) if whole else None
     lines = whole if flags is None else whole[1:]
@@ -75,7 +69,7 @@ def parsed(name: str, text: bytes) -> Content:
     if not STARTED_LINE.fullmatch(rest) and not any(each.startswith(rest) for each in HEADINGS):
         raise Failure(f"{name}: not a manifest: its last line isn't a fingerprint and a name")
     pairs = [Line(line[:64].decode(), os.fsdecode(line[66:])) for line in lines]
-    return Content((flags or ()) if whole else None, pairs)
+    return (flags or ()) if whole else None, pairs
 
 
 def read(name: str) -> bytes:
@@ -83,38 +77,36 @@ def read(name: str) -> bytes:
     try:
         if not stat.S_ISREG(os.stat(name).st_mode):
             raise Failure(f"{name}: not a manifest: it isn't a regular file")
-        with open(name, "rb") as file:
-            return file.read()
+        return Path(name).read_bytes()
     except OSError as error:
         raise Failure(f"{name}: {reason(error)}") from None
 
 
-def loaded(name: str) -> Content:
-    """A whole manifest, with at least one county. Raises Failure."""
+def loaded(name: str) -> tuple[Flags | None, list[Line]]:
+    """The flags and the counties of a whole manifest, with at least one county. Raises Failure."""
     text = read(name)
-    content = parsed(name, text)
+    flags, lines = parsed(name, text)
     if text and not text.endswith(b"\n"):
         raise Failure(f"{name}: its last line is cut off; let the run that writes it finish first")
-    if not content.lines:
+    if not lines:
         raise Failure(f"{name}: the manifest is empty")
-    return content
+    return flags, lines
 
 
-def named(flags: tuple[str, ...] | None) -> str:
+def named(flags: Flags | None) -> str:
     return " ".join(flags or ["no flags"])
 
 
-def agreed(name: str, made: tuple[str, ...] | None, asked: tuple[str, ...]) -> None:
+def agreed(name: str, made: Flags | None, asked: Flags) -> None:
     """Raises Failure if a manifest was made with other flags."""
     if made is not None and made != asked:
         raise Failure(f"{name}: made with {named(made)}, but this run has {named(asked)}")
 
 
-def by_key(name: str, content: Content) -> dict[str, Line]:
-    """The counties of a manifest by the names that they are matched by: without folder, case and ending. Raises Failure if two have one
-    name."""
+def by_key(name: str, lines: list[Line]) -> dict[str, Line]:
+    """The counties of a manifest by their names without folder, case and ending. Raises Failure if two have one name."""
     found: dict[str, Line] = {}
-    for line in content.lines:
+    for line in lines:
         first = found.setdefault(os.path.splitext(line.stem.rpartition("/")[2])[0].upper(), line)
         if first is not line:
             raise Failure(f"{name}: {first.stem} and {line.stem} have the same name, so counties can't be matched by it")
@@ -123,9 +115,9 @@ def by_key(name: str, content: Content) -> dict[str, Line]:
 
 def changes(old_name: str, new_name: str) -> list[dict[str, str | None]]:
     """How the counties of two manifests compare, in the order of their names, and the stem of each in both."""
-    old, new = loaded(old_name), loaded(new_name)
-    if old.flags != new.flags:
-        made = f"{old_name} was made with {named(old.flags)} and {new_name} with {named(new.flags)}"
+    (old_flags, old), (new_flags, new) = loaded(old_name), loaded(new_name)
+    if old_flags != new_flags:
+        made = f"{old_name} was made with {named(old_flags)} and {new_name} with {named(new_flags)}"
         raise Failure(f"{made}: their fingerprints can't be compared")
     before, after = by_key(old_name, old), by_key(new_name, new)
     found = []
@@ -148,14 +140,13 @@ def duplicates(lines: Sequence[Line]) -> list[list[Line]]:
 class Manifest:
     """A manifest that is written to, under its lock. One that is there already is read, and put in order. Raises Failure."""
 
-    def __init__(self, name: str, flags: tuple[str, ...]) -> None:
+    def __init__(self, name: str, flags: Flags) -> None:
         self.name, self.flags = name, flags
         self.place = os.path.realpath(name)
         self.lines: list[Line] = []
         if os.path.lexists(self.place):
-            content = parsed(name, read(name))
-            agreed(name, content.flags, flags)
-            self.lines = content.lines
+            made, self.lines = parsed(name, read(name))
+            agreed(name, made, flags)
             with reported(name):
                 open(self.place, "ab").close()
             self.put_in_order()
@@ -182,7 +173,7 @@ class Manifest:
 
 
 @contextmanager
-def written(name: str, flags: tuple[str, ...]) -> Iterator[Manifest]:
+def written(name: str, flags: Flags) -> Iterator[Manifest]:
     """A manifest to write to. No other run writes to it meanwhile. It can't have a county's name, as when its own was forgotten."""
     if kind_of(name):
         raise Failure(f"{name}: has the name of a county's file, and isn't overwritten by a manifest")

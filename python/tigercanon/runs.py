@@ -13,7 +13,7 @@ from .engines import DaskEngine, Engine, Gone
 from .errors import Failure
 from .judge import Answer, County, Order
 from .manifest import Line, Manifest, agreed, duplicates, flags_of, heading, loaded, respect_lock, written
-from .own import PROCESS, remove_stale_folders
+from .own import remove_stale_folders
 from .program import find_program
 from .progress import Tally, print_json, print_lines, report
 from .storage import joined, tidy
@@ -30,31 +30,13 @@ def order_of(options: argparse.Namespace, flags: tuple[str, ...], is_strict: boo
     return Order(program, flags, is_strict, options.largest, options.memory)
 
 
-class Printer:
-    """Prints results in the order of their numbers: lines, each as soon as those before it are there, or a list in JSON at the end."""
-
-    def __init__(self, is_json: bool) -> None:
-        self.is_json, self.next = is_json, 0
-        self.waiting: dict[int, Any] = {}
-
-    def put(self, number: int, line: str | None, row: dict[str, Any] | None) -> None:
-        """Takes a result as a line and as an object of JSON. None prints nothing."""
-        self.waiting[number] = row if self.is_json else line
-        while not self.is_json and self.next in self.waiting:
-            print_lines(filter(None, [self.waiting.pop(self.next)]))
-            self.next += 1
-
-    def end(self) -> None:
-        if self.is_json:
-            print_json([row for _, row in sorted(self.waiting.items()) if row is not None])
-
-
 class Run:
     """A command that judges counties, and the tally of them."""
 
     def __init__(self, options: argparse.Namespace) -> None:
-        self.options, self.printer, self.tally = options, Printer(options.json), Tally()
-        self.gone, self.left = "", 0
+        self.options, self.tally = options, Tally()
+        self.gone, self.left, self.next = "", 0, 0
+        self.waiting: dict[int, Any] = {}
 
     def take(self, number: int, county: County, answer: Answer, remarks: str) -> str:
         """Takes a result, and returns the report about it. Remarks are why there is no fingerprint, and notes about the files."""
@@ -74,7 +56,8 @@ class Run:
                 self.judge_files(there, order_of(self.options, flags, is_strict))
         finally:
             self.tally.close()
-        self.printer.end()
+        if self.options.json:
+            print_json(list(filter(None, map(self.waiting.get, range(len(counties))))))
 
     def judge_files(self, there: list[tuple[int, County]], order: Order) -> None:
         remove_stale_folders()
@@ -99,6 +82,14 @@ class Run:
         if told:
             report(f"{county.stem}: {told}")
         self.tally.end(county.size)
+
+    def print(self, number: int, line: str | None, row: dict[str, Any] | None) -> None:
+        """Prints results in the order of their numbers: lines, each as soon as those before it are there, or a list in JSON at the end. None
+        prints nothing."""
+        self.waiting[number] = row if self.options.json else line
+        while not self.options.json and self.next in self.waiting:
+            print_lines(filter(None, [self.waiting.pop(self.next)]))
+            self.next += 1
 
     def report_end(self, count: int, words: list[str]) -> None:
         report(f"{counted(count)}: {', '.join(words)}; {self.tally.took}")
@@ -161,7 +152,7 @@ class Fingerprints(Run):
             self.manifest.add(line)
         fingerprint, why = (answer.text, None) if line else (None, answer.text)
         row = {"county": county.stem, "fingerprint": fingerprint, "reason": why, "notes": list(answer.notes)}
-        self.printer.put(number, None if self.manifest else line and str(line), row)
+        self.print(number, None if self.manifest else line and str(line), row)
         return remarks
 
 
@@ -172,15 +163,14 @@ class Verification(Run):
         options = self.options
         see_names([options.manifest, *options.sources])
         respect_lock(options.manifest)
-        content, asked = loaded(options.manifest), flags_of(options)
+        (flags, self.lines), asked = loaded(options.manifest), flags_of(options)
         if asked:
-            agreed(options.manifest, content.flags, asked)
-        self.lines = content.lines
+            agreed(options.manifest, flags, asked)
         self.counts = {"OK": 0, "FAILED": 0, "MISSING": 0, "NEW": 0}
         finder = Finder()
         counties = [finder.of_name(joined(options.root, line.stem) if options.root else line.stem) for line in self.lines]
         counties += self.new_counties({tidy(county.stem) for county in counties})
-        self.judge(counties, content.flags or ())
+        self.judge(counties, flags or ())
         count = sum(self.counts.values())
         self.report_end(count, [f"{each:,} {kind}" for kind, each in self.counts.items() if each or kind == "OK"])
         return int(self.left > 0 or self.counts["OK"] < count)
@@ -204,7 +194,7 @@ class Verification(Run):
         self.counts[kind] += 1
         is_shown = kind != "OK" or not self.options.quiet
         row = {"county": name, "verdict": kind, "remarks": remarks}
-        self.printer.put(number, f"{name}: {kind}" if is_shown else None, row if is_shown else None)
+        self.print(number, f"{name}: {kind}" if is_shown else None, row if is_shown else None)
         return remarks
 
 

@@ -37,17 +37,12 @@ class Matched(Generic[T]):
     alike: list[Pair[T]] = field(default_factory=list)
 
     @property
-    def pairs(self) -> list[Pair[T]]:
-        """What both maps have, alike or changed."""
-        return self.alike + self.changed
-
-    @property
     def counts(self) -> tuple[int, int, int, int]:
         return len(self.first), len(self.second), len(self.changed), len(self.alike)
 
     @property
     def is_alike(self) -> bool:
-        return not (self.first or self.second or self.changed)
+        return not any(self.counts[:3])
 
 
 @dataclass(frozen=True)
@@ -207,10 +202,11 @@ def marks_of(polygons: Matched[Polygon]) -> Pair[PolygonMarks]:
 
 def match_landmarks(first: Teller, second: Teller) -> Matched[Landmark]:
     """Matches landmarks by their whole content, and the others by their records, points, names and polygons."""
-    places = {}
-    for teller in (first, second):
-        for landmark in teller.county.landmarks:
-            places[id(landmark)] = tuple(sorted((file, teller.marks[key]) for file, key in landmark.places))
+    both = [(landmark, teller) for teller in (first, second) for landmark in teller.county.landmarks]
+    placed = {id(landmark): tuple(sorted((file, its.marks[key]) for file, key in landmark.places)) for landmark, its in both}
+
+    def places(landmark: Landmark) -> Hashable | None:
+        return placed[id(landmark)] or None
 
     def bodies(landmark: Landmark) -> Hashable:
         return tuple(sorted(landmark.bodies))
@@ -221,10 +217,15 @@ def match_landmarks(first: Teller, second: Teller) -> Matched[Landmark]:
         return values if any(not value.isspace() for value in values) else None
 
     ones, others = first.county.landmarks, second.county.landmarks
-    alike, ones, others = pair_by(ones, others, lambda landmark: (bodies(landmark), places[id(landmark)]))
+    alike, ones, others = pair_by(ones, others, lambda landmark: (bodies(landmark), places(landmark)))
     changed = []
-    keys: list[Callable[[Landmark], Hashable | None]] = [bodies, partial(column, "LALONG, LALAT"), partial(column, "LANAME")]
-    for key in (*keys, lambda landmark: places[id(landmark)] or None):
+    keys: list[Callable[[Landmark], Hashable | None]] = [
+        bodies,
+        partial(column, "LALONG, LALAT"),
+        partial(column, "LANAME"),
+        places,
+    ]
+    for key in keys:
         pairs, ones, others = pair_by(ones, others, key)
         changed += pairs
     return Matched(ones, others, changed, alike)
@@ -289,7 +290,7 @@ OwnNumbers = dict[str, int]
 def own_numbers(records: County, canonical: County, masks: Sequence[str] = ()) -> OwnNumbers:
     """The numbers in these records of the things in their canonical text, which was printed with these masks."""
     found = compare(as_in_a_canonical_text(records, masks), canonical)
-    return {other.key: number_of(one.key) for part in found.parts[:3] for one, other in part.pairs}
+    return {other.key: number_of(one.key) for part in found.parts[:3] for one, other in part.alike + part.changed}
 
 
 def as_in_a_canonical_text(county: County, masks: Sequence[str]) -> County:
