@@ -211,7 +211,6 @@ def run(arguments: Sequence[str]) -> int:
     for number in SIGNALS:
         if signal.getsignal(number) is not signal.SIG_IGN:
             signal.signal(number, stop)
-    status = 2
     try:
         return int(ThreadPoolExecutor(1).submit(options.run, options).result())
     except Failure as failure:
@@ -224,9 +223,7 @@ def run(arguments: Sequence[str]) -> int:
     except OSError as error:
         name = f"{error.filename}: " if isinstance(error.filename, str) else ""
         report(f"{name}{reason(error)}")
-    except SystemExit as ended:
-        status = ended.code if isinstance(ended.code, int) else 2
     except BaseException:  # a fault of this package
         traceback.print_exc()
     PROCESS.end()
-    os._exit(status)
+    os._exit(2)

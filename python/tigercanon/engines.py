@@ -8,7 +8,7 @@ import time
 import warnings
 from concurrent.futures import ThreadPoolExecutor
 from contextlib import suppress
-from dataclasses import astuple, replace
+from dataclasses import astuple
 from queue import Empty, SimpleQueue
 from typing import Any, Iterator, Optional, Sequence
 
@@ -25,8 +25,6 @@ PATIENCE_FOR_WORKERS = 300.0
 
 SCHEDULER_ENDED = ("CancelledError", "CommClosedError")
 """Errors that end a future if the scheduler ends. There are several classes of each of these names."""
-
-DEATHS = "every worker that judged it ended"
 
 Result = Optional[tuple[int, Answer]]
 """A county's number and its answer, or None if nothing was done for a moment."""
@@ -56,7 +54,7 @@ class Engine:
                 yield result
         for number in sorted(again):
             for alone in self.first_answers([counties[number]], order):
-                yield alone and (number, replace(alone[1], kind="failed" if alone[1].text == DEATHS else alone[1].kind))
+                yield alone and (number, alone[1])
 
     def first_answers(self, counties: Sequence[County], order: Order) -> Iterator[Result]:
         done: SimpleQueue[Any] = SimpleQueue()
@@ -118,7 +116,7 @@ class DaskEngine(Engine):
             if name in SCHEDULER_ENDED:
                 raise Gone(f"{self.name} is gone") from None
             if name == "KilledWorker":
-                return Answer("memory", DEATHS)
+                return Answer("memory", "every worker that judged it ended")
             if not isinstance(error, Exception):
                 raise
             return Answer("failed", f"its judging ended with {name}: {reason(error)}")

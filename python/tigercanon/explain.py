@@ -42,17 +42,15 @@ def explained(line: str, text: str) -> list[str]:
 
 
 def places(meanings: list[str], given: list[str]) -> list[str]:
-    """The places of a refusal with their meanings: `part 1, line 201`, or `CENID 06001, POLYID 1`."""
-    if not given or len(given) != len(meanings):
-        return []
-    return ["", ", ".join(map(place, meanings, given))]
-
-
-def place(meaning: str, given: str) -> str:
-    """A place with its meaning. The name of a field is in capitals, and a CENID is shown as in the file."""
-    if meaning == "CENID" and re.fullmatch("[0-9A-Fa-f]{10}", given):
-        given = bytes.fromhex(given).decode("latin-1")
-    return f"{meaning if meaning in FIELDS else meaning.lower()} {given}"
+    """The places of a refusal with their meanings: `part 1, line 201`, or `CENID 06001, POLYID 1`. The name of a field is in capitals, and
+    a CENID is shown as in the file."""
+    shown = []
+    for meaning, place in zip(meanings, given) if len(given) == len(meanings) else []:
+        is_cenid = meaning == "CENID" and re.fullmatch("[0-9A-Fa-f]{10}", place)
+        shown.append(
+            f"{meaning if meaning in FIELDS else meaning.lower()} {bytes.fromhex(place).decode('latin-1') if is_cenid else place}"
+        )
+    return ["", ", ".join(shown)] if shown else []
 
 
 def run(options: argparse.Namespace) -> int:

@@ -70,8 +70,6 @@ def pieces_of(archive: zipfile.ZipFile, member: zipfile.ZipInfo) -> Iterator[byt
         with archive.open(member) as source:
             while piece := source.read(PIECE):
                 left -= len(piece)
-                if left < 0:
-                    break
                 yield piece
     except (MemoryError, GeneratorExit):
         raise

@@ -162,16 +162,15 @@ def pair_by(first: Iterable[T], second: Iterable[T], key: Callable[[T], Hashable
 
 def rows(first: Fields | None, second: Fields | None) -> list[Row]:
     """The fields of what both maps have or one of them alone, in the order of the first, without those that are blank in both."""
-    table = []
-    for name in {**(first or {}), **(second or {})}:
-        one, other = (first or {}).get(name, NOTHING), (second or {}).get(name, NOTHING)
-        if not (one.plain or other.plain):
-            continue
-        if first is None or second is None:
-            told = (None if first is None else one.plain, None if second is None else other.plain, False)
-        else:
-            told = (shown(name, one, other), shown(name, other, one), differ(one, other))
-        table.append(Row(name, *told, one.exact, other.exact))
+    table, ones, others = [], first or {}, second or {}
+    for name in {**ones, **others}:
+        one, other = ones.get(name, NOTHING), others.get(name, NOTHING)
+        if one.plain or other.plain:
+            if first is None or second is None:
+                told = (None if first is None else one.plain, None if second is None else other.plain, False)
+            else:
+                told = (shown(name, one, other), shown(name, other, one), differ(one, other))
+            table.append(Row(name, *told, one.exact, other.exact))
     return table
 
 

@@ -17,14 +17,15 @@ from __future__ import annotations
 from collections import defaultdict
 from dataclasses import dataclass, field, replace
 from functools import cached_property, partial
-from typing import Any, Callable, Generic, Hashable, Iterator, NamedTuple, Sequence, TypeVar
+from typing import Any, Callable, Generic, Hashable, Iterator, NamedTuple, Optional, Sequence, TypeVar
 
 from .columns import CHAIN, LANDMARK, RANGE
 from .fields import Pair, PolygonMarks, Teller, pair_by, rows
 from .reading import NO_POINT, POINT_WIDTH, Chain, County, Landmark, Name, Polygon, PolygonKey
-from .reading import comes_after_its_reverse, number_of, reversed_points
+from .reading import comes_after_its_reverse, each_point, number_of, reversed_points
 
 T = TypeVar("T")
+Key = Callable[[Landmark], Optional[Hashable]]
 
 
 @dataclass
@@ -219,12 +220,7 @@ def match_landmarks(first: Teller, second: Teller) -> Matched[Landmark]:
     ones, others = first.county.landmarks, second.county.landmarks
     alike, ones, others = pair_by(ones, others, lambda landmark: (bodies(landmark), places(landmark)))
     changed = []
-    keys: list[Callable[[Landmark], Hashable | None]] = [
-        bodies,
-        partial(column, "LALONG, LALAT"),
-        partial(column, "LANAME"),
-        places,
-    ]
+    keys: list[Key] = [bodies, partial(column, "LALONG, LALAT"), partial(column, "LANAME"), places]
     for key in keys:
         pairs, ones, others = pair_by(ones, others, key)
         changed += pairs
@@ -242,11 +238,8 @@ class Tied(NamedTuple):
     @property
     def point(self) -> str:
         """The place: an end of the chain, or else its middle."""
-        points = self.chain.points
-        if self.place == "end":
-            return points[-POINT_WIDTH:]
-        at = 0 if self.place == "start" else len(points) // POINT_WIDTH // 2 * POINT_WIDTH
-        return points[at : at + POINT_WIDTH]
+        points = each_point(self.chain.points)
+        return points[{"start": 0, "end": -1}.get(self.place, len(points) // 2)]
 
 
 def find_ties(certain: list[Pair[Chain]], first: Teller, second: Teller) -> list[Tie]:
