@@ -12,13 +12,11 @@ A *set* holds the records of one county. Each call takes one of these:
   or a file opened in binary mode, which is read from its current position to its end.
 - several parts in any iterable, each as above or the path of one file.
 
-A line can't continue in the next part. Otherwise the division of records among parts makes no difference, except for
-the part and line numbers in a refusal. No call notices if a county's file is missing: without it the set is another
-map.
+A line can't continue in the next part. Otherwise the division of records among parts makes no difference, except for the part and
+line numbers in a refusal. No call notices if a county's file is missing: without it the set is another map.
 
-If a set is rejected or memory runs out, a call raises Refusal. A missing file raises the OSError of opening it, a zip
-without exactly one county ValueError, an object that isn't a part TypeError, and one whose bytes aren't in one piece
-BufferError.
+If a set is rejected or memory runs out, a call raises Refusal. A missing file raises the OSError of opening it, a zip without
+exactly one county ValueError, an object that isn't a part TypeError, and one whose bytes aren't in one piece BufferError.
 
 Any number of threads can make calls at once, and other threads run during a call. Nothing may write to the parts during
 a call. No reference to a part is kept.
@@ -88,8 +86,7 @@ def compare(first: Set, second: Set, *, no_sources: bool = False, no_reserved: b
 
     With a flag the maps are compared without the fields that it leaves out.
 
-    Raises Refusal with the number of the rejected set, the second only if the first is accepted; and whatever else
-    check raises.
+    Raises Refusal with the number of the rejected set, the second only if the first is accepted; and whatever else check raises.
     """
     status = _library.call("compare", [first, second], bool(no_sources), bool(no_reserved))
     return status != _library.DIFFERENT

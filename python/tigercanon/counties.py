@@ -159,10 +159,8 @@ def ending_of(name: str) -> str:
 
 def whole(path: str) -> County:
     """A county of one file with all records, under the file's own name."""
-    if is_url(path):
-        return County(path, trouble="no such file, folder or county", is_absent=True)
-    if not os.path.lexists(path):
-        absent = "no such file" if stem_of(path) != path else "no such file, folder or county"
+    if is_url(path) or not os.path.lexists(path):
+        absent = "no such file" if kind_of(path) and not is_url(path) else "no such file, folder or county"
         return County(path, trouble=absent, is_absent=True)
     if not os.path.isfile(path) or kind_of(path):
         why = "one of a county's nine files" if os.path.isfile(path) else "a regular file"

@@ -22,8 +22,7 @@ TUNABLES = "glibc.malloc.hugetlb=1:glibc.malloc.mmap_threshold=8589934592:glibc.
 def find_program(named: str | None = None) -> str:
     """The program that the option or the variable names, else the built one of the clone or release, else that on the PATH.
 
-    In a clone where sources were edited since it was built, ./tigercanon builds it again first.
-    Raises Failure if there is none.
+    In a clone where sources were edited since it was built, ./tigercanon builds it again first. Raises Failure if there is none.
     """
     given, root = named or os.environ.get(VARIABLE), PACKAGE.parent.parent
     if given:

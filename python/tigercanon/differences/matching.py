@@ -1,9 +1,8 @@
 """Finds what two maps have in common and what differs.
 
-Chains are matched by their points. If several have the same points, they are matched as a multiset, by their fields.
-Polygons are matched by the content of their records; the others by their point, and then by the chains beside them.
-Landmarks are matched in the same way; the others by their records, points, names and polygons. Feature names are
-compared as a multiset.
+Chains are matched by their points. If several have the same points, they are matched as a multiset, by their fields. Polygons are
+matched by the content of their records; the others by their point, and then by the chains beside them. Landmarks are matched in the
+same way; the others by their records, points, names and polygons. Feature names are compared as a multiset.
 
 Each map has numbers of its own, so numbers are never compared. The things that they tie together come after the rest.
 

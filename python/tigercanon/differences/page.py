@@ -173,8 +173,7 @@ def page_data(comparison: Comparison, sets: Sets) -> dict[str, Any]:
 
 
 def shift_of(comparison: Comparison) -> int:
-    """By how much eastern longitudes are moved to the west, so that a map across the line of 180 degrees is in one
-    piece."""
+    """By how much eastern longitudes are moved to the west, so that a map across the line of 180 degrees is in one piece."""
     counties = (comparison.first.county, comparison.second.county)
     longitudes = [int(chain.points[:10]) for county in counties for chain in county.chains]
     return 360_000_000 if longitudes and max(longitudes) - min(longitudes) > 180_000_000 else 0
