@@ -6,6 +6,7 @@ import ctypes
 import functools
 import os
 from contextlib import ExitStack
+from ctypes import c_bool, c_size_t, c_ssize_t, c_uint8, c_uint64, c_void_p
 from pathlib import Path
 from typing import Any, Union
 
@@ -73,25 +74,19 @@ FORMS = {
 class Text(ctypes.Structure):
     """A text that the library returns, in a block that malloc allocated."""
 
-    _fields_ = [("bytes", ctypes.c_void_p), ("length", ctypes.c_size_t)]
+    _fields_ = [("bytes", c_void_p), ("length", c_size_t)]
 
 
 class Hash(ctypes.Structure):
     """A SHA-256 hash."""
 
-    _fields_ = [("bytes", ctypes.c_uint8 * 32)]
+    _fields_ = [("bytes", c_uint8 * 32)]
 
 
 class Fault(ctypes.Structure):
     """Why there is no answer."""
 
-    _fields_ = [
-        ("number", ctypes.c_uint8),
-        ("set", ctypes.c_uint8),
-        ("record_type", ctypes.c_uint8),
-        ("cenid", ctypes.c_uint8 * 5),
-        ("numbers", ctypes.c_uint64 * 3),
-    ]
+    _fields_ = [("number", c_uint8), ("set", c_uint8), ("record_type", c_uint8), ("cenid", c_uint8 * 5), ("numbers", c_uint64 * 3)]
 
     def refusal(self) -> Refusal:
         name, kinds = FORMS[self.number]
@@ -101,11 +96,11 @@ class Fault(ctypes.Structure):
 
 
 bytes_at = ctypes.pythonapi.PyBytes_FromStringAndSize
-bytes_at.argtypes = [ctypes.c_void_p, ctypes.c_ssize_t]
+bytes_at.argtypes = [c_void_p, c_ssize_t]
 bytes_at.restype = ctypes.py_object
 
 free = ctypes.CDLL(None).free
-free.argtypes = [ctypes.c_void_p]
+free.argtypes = [c_void_p]
 free.restype = None
 
 
@@ -119,8 +114,8 @@ def place_of_library() -> str:
 @functools.lru_cache(maxsize=None)
 def library() -> ctypes.CDLL:
     """The library, which is loaded at the first call. Raises ImportError if it can't be."""
-    parts: list[Any] = [ctypes.POINTER(Piece), ctypes.c_size_t]
-    flags: list[Any] = [ctypes.c_bool, ctypes.c_bool]
+    parts: list[Any] = [ctypes.POINTER(Piece), c_size_t]
+    flags: list[Any] = [c_bool, c_bool]
     text, fault = ctypes.POINTER(Text), ctypes.POINTER(Fault)
     calls = {
         "check": [*parts, fault],
@@ -133,7 +128,7 @@ def library() -> ctypes.CDLL:
         loaded = ctypes.CDLL(place_of_library())
         for name, arguments in calls.items():
             function = getattr(loaded, f"tigercanon_{name}")
-            function.argtypes, function.restype = arguments, ctypes.c_uint8
+            function.argtypes, function.restype = arguments, c_uint8
     except (OSError, AttributeError) as error:
         raise ImportError(f"the library {NAME} can't be loaded ({error}): {ADVICE}") from None
     return loaded

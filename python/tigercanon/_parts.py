@@ -4,6 +4,7 @@ import ctypes
 import os
 import zipfile
 from contextlib import ExitStack, contextmanager
+from ctypes import c_size_t, c_ssize_t, c_void_p
 from pathlib import Path
 from typing import TYPE_CHECKING, Any, BinaryIO, Iterable, Iterator, Union
 
@@ -25,18 +26,13 @@ Set = Union[Part, Iterable[Part]]
 class Piece(ctypes.Structure):
     """The address and the length of a part, as the library reads them."""
 
-    _fields_ = [("bytes", ctypes.c_void_p), ("length", ctypes.c_size_t)]
+    _fields_ = [("bytes", c_void_p), ("length", c_size_t)]
 
 
 class Buffer(ctypes.Structure):
     """CPython's Py_buffer, of 80 bytes."""
 
-    _fields_ = [
-        ("address", ctypes.c_void_p),
-        ("object", ctypes.c_void_p),
-        ("length", ctypes.c_ssize_t),
-        ("rest", ctypes.c_void_p * 7),
-    ]
+    _fields_ = [("address", c_void_p), ("object", c_void_p), ("length", c_ssize_t), ("rest", c_void_p * 7)]
 
 
 get_buffer = ctypes.pythonapi.PyObject_GetBuffer

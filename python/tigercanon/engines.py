@@ -12,10 +12,10 @@ from dataclasses import astuple
 from queue import Empty, SimpleQueue
 from typing import Any, Iterator, Optional, Sequence
 
-from . import errors, hints, layout, own, storage, zips
-from . import judge as judging
+import tigercanon.judge
+
 from .errors import Failure, reason
-from .judge import Answer, County, Order, judge
+from .judge import Answer, County, Order, judge, judge_on_a_worker
 from .own import PROCESS
 
 TICK = 0.5
@@ -44,8 +44,7 @@ class Engine:
         self.pool = ThreadPoolExecutor(jobs or len(os.sched_getaffinity(0)))
 
     def answers(self, counties: Sequence[County], order: Order) -> Iterator[Result]:
-        """The answers in the order in which they come. Counties that may not have fitted into memory are judged again, each alone. Raises
-        Gone."""
+        """The answers as they come. Counties that may not have fitted into memory are judged again, each alone. Raises Gone."""
         again: list[int] = []
         for result in self.first_answers(counties, order):
             if result and result[1].kind == "memory":
@@ -104,7 +103,7 @@ class DaskEngine(Engine):
         self.attempts += 1
         keys = [f"tigercanon-{self.run}-{self.attempts}-{number}" for number in range(len(counties))]
         arguments = [astuple(county) for county in counties], [astuple(order)] * len(counties)
-        futures: Sequence[Any] = self.client.map(judging.judge_on_a_worker, *arguments, key=keys, pure=False)
+        futures: Sequence[Any] = self.client.map(judge_on_a_worker, *arguments, key=keys, pure=False)
         return futures
 
     def answer(self, future: Any) -> Answer:
@@ -147,7 +146,7 @@ def client_of(address: str) -> Any:
         needed = "distributed and fsspec (Debian: python3-distributed and python3-fsspec)"
         raise Failure(f"--scheduler needs the Python packages {needed}: {reason(error)}") from None
     connect: Any = distributed.Client
-    for module in (errors, hints, judging, layout, own, storage, zips):
+    for module in (tigercanon, tigercanon.judge):  # all of the package, and by its name the one with what is asked of workers
         cloudpickle.register_pickle_by_value(module)
     for name in ("asyncio", "distributed", "tornado"):
         logging.getLogger(name).setLevel(logging.CRITICAL)

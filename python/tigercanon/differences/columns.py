@@ -24,11 +24,6 @@ class Column:
     def width(self) -> int:
         return self.last - self.first + 1
 
-    @property
-    def is_point(self) -> bool:
-        """Whether this is a longitude of 10 columns and a latitude of 9."""
-        return ", " in self.name
-
 
 @dataclass(frozen=True, eq=False)
 class Layout:

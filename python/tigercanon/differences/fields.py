@@ -8,7 +8,7 @@ from functools import lru_cache
 from typing import Callable, Hashable, Iterable, NamedTuple, Sequence, TypeVar
 
 from .columns import CHAIN, LANDMARK, LINK, NAME, POLYGON, RANGE, Layout
-from .reading import NO_POINT, POINT_WIDTH, Chain, County, Landmark, Polygon, PolygonKey, is_polygon
+from .reading import NO_POINT, POINT_WIDTH, Chain, County, Landmark, Polygon, PolygonKey
 
 NONE = "(none)"
 BLANK = "(blank)"
@@ -42,8 +42,7 @@ NOTHING = Text("", "", "")
 """A field that isn't there."""
 
 THERE = Text(YES, YES, YES)
-"""The field of something that is there and has nothing to compare: a node, for example, has only a number, which differs from file to
-file."""
+"""The field of something that has nothing to compare: a node, for example, has only a number, which differs from file to file."""
 
 Fields = dict[FieldName, Text]
 
@@ -79,7 +78,7 @@ class Teller:
             fields[FieldName(f"{end} node", f"whether the {end} has a node", "flag")] = NOTHING if node.isspace() else THERE
         for hand, side in zip(("left", "right"), chain.sides):
             fields[FieldName(f"CENID{hand[0].upper()}", f"office of the polygon on the {hand}")] = text_of(side[:5])
-            if is_polygon(side):
+            if not side[5:].isspace():
                 fields[FieldName(f"{hand} polygon", f"the polygon on the {hand}, by what its record says")] = self.polygon_text(
                     side
                 )
@@ -108,7 +107,8 @@ def text_of(value: str, kind: str = "text") -> Text:
 
 @lru_cache(maxsize=None)
 def field_names(layout: Layout, suffix: str) -> list[FieldName]:
-    return [FieldName(column.name + suffix, column.holds, "point" if column.is_point else "text") for column in layout.columns]
+    """The names of a record's fields. A field with two names is a point: a longitude of 10 columns and a latitude of 9."""
+    return [FieldName(each.name + suffix, each.holds, "point" if ", " in each.name else "text") for each in layout.columns]
 
 
 def polygon_fields(polygon: Polygon) -> Fields:

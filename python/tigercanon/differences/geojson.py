@@ -73,8 +73,7 @@ def properties(thing: Thing, own: BothOwn) -> Properties:
 
 
 def tie_feature(tie: Tie, own: OwnNumbers) -> Feature:
-    """What is one in one of the maps and several in the other, at the places where chains have it. The chains have the first set's
-    numbers."""
+    """What is one in one map and several in the other, at the places where chains have it. These have the first set's numbers."""
     counts = (1, len(tie.groups)) if tie.is_one_in_first else (len(tie.groups), 1)
     told: Properties = {"what": "tie", "kind": KINDS[2], "title": tie_line(tie).rstrip(":"), "differs": tie.subject}
     told.update({f"{side}_count": count for side, count in zip(SIDES, counts)})

@@ -106,7 +106,7 @@ def read_county(text: bytes) -> County:
     except KeyError as missing:
         raise NotCanonical(f"there is no record under {missing}") from None
     for side in (side for chain in chains for side in chain.sides):
-        if side not in polygons and is_polygon(side):
+        if side not in polygons and not side[5:].isspace():
             polygons[side] = Polygon(side)
     return County(chains, names, polygons, landmarks)
 
@@ -162,10 +162,6 @@ def read_landmarks(records: Records) -> list[Landmark]:
     for line in records["8"]:
         landmarks[line[25:35]].places.append((line[5:10], line[10:25]))
     return list(landmarks.values())
-
-
-def is_polygon(side: PolygonKey) -> bool:
-    return not side[5:].isspace()
 
 
 def number_of(key: str) -> int:

@@ -57,7 +57,13 @@ class Sets:
 def opened(name: str, is_stem: bool) -> Iterator[Source]:
     """The set of this name: one file, a zip with a county, or the stem of a county's files in either case of their
     endings. What the program can't read as it is gets a copy, which is removed in every case."""
-    if is_stem or not os.path.lexists(name) or is_zip(name):
+    shown, mode = printable(name), 0
+    if os.path.lexists(name) and not is_stem:
+        with reported(shown, "can't be read"):
+            mode = os.stat(name).st_mode
+    if stat.S_ISDIR(mode):
+        raise Failure(f"{shown}: it is a folder: name a file, a zip or the stem of a county's files")
+    if not mode or stat.S_ISREG(mode) and kind_of(name) == "ZIP":
         county = Finder().of_name(tidy(name))
         if county.trouble or county.whole:
             other = "it is one file with all records, not a zip or one of a county's nine files"
@@ -67,23 +73,14 @@ def opened(name: str, is_stem: bool) -> Iterator[Source]:
                 yield Source(name, place, files)
         except Unreadable as error:
             raise Failure(f"{name}: {error}") from None
-    elif stat.S_ISREG(os.stat(name).st_mode):
+    elif stat.S_ISREG(mode):
         yield Source(name, name, [name])
     else:
         with PROCESS.folder(0) as folder:  # a copy of what can be read only once, such as a pipe
             place = os.path.join(folder, "set")
-            with reported(printable(name), "can't be read"), open(name, "rb") as source, open(place, "wb") as copy:
+            with reported(shown, "can't be read"), open(name, "rb") as source, open(place, "wb") as copy:
                 shutil.copyfileobj(source, copy)
             yield Source(name, place, [place])
-
-
-def is_zip(name: str) -> bool:
-    """Whether this is the file of a zip, by its name. Raises Failure for a folder and for what can't be read."""
-    with reported(printable(name), "can't be read"):
-        mode = os.stat(name).st_mode
-        if stat.S_ISDIR(mode):
-            raise Failure(f"{printable(name)}: it is a folder: name a file, a zip or the stem of a county's files")
-        return stat.S_ISREG(mode) and kind_of(name) == "ZIP"
 
 
 def printed(program: str, command: Sequence[str], sources: Sequence[Source]) -> list[bytes]:
