@@ -96,19 +96,16 @@ def real(path: str) -> str:
 def fetch(url: str, size: int | None, target: str) -> None:
     """Copies a file from a URL, in at most three attempts. Raises Unreadable, and OSError if the copy can't be written."""
     system, path = system_of(url)
-    for pause in (*PAUSES, None):
+    for pause in (*PAUSES, 0.0):
         try:
             system.get_file(path, target)
             came = os.path.getsize(target)
             if size is None or came >= size:
                 return
             why = f"only {came} of its {size} bytes came"
-        except MemoryError:
-            raise
         except Exception as error:
-            if getattr(error, "errno", None) in NO_ROOM:
+            if isinstance(error, MemoryError) or getattr(error, "errno", None) in NO_ROOM:
                 raise
             why = reason(error)
-        if pause is not None:
-            time.sleep(pause)
+        time.sleep(pause)
     raise Unreadable(f"can't be read: {why} (three attempts)")

@@ -35,24 +35,19 @@ PATIENCE = 2.0
 """After this many seconds the progress is reported on standard error."""
 
 
-class Progress:
+class Progress(threading.Timer):
     """Reports on standard error what is being done, if the whole takes a while."""
 
     def __init__(self) -> None:
-        self.step = ""
-        self.timer = threading.Timer(PATIENCE, self.report)
-        self.timer.daemon = True
-        self.timer.start()
+        super().__init__(PATIENCE, lambda: report(self.step))
+        self.daemon, self.step = True, "finding the sets"
+        self.start()
 
     def at(self, step: str) -> None:
         """Notes what is done next."""
         self.step = step
-        if self.timer.finished.is_set():
-            self.report()
-
-    def report(self) -> None:
-        if self.step:
-            report(self.step)
+        if self.finished.is_set():
+            report(step)
 
 
 def add_arguments(parser: argparse.ArgumentParser) -> None:
@@ -101,7 +96,7 @@ def compared(options: argparse.Namespace, outputs: list[str]) -> int:
     program, masks = find_program(options.program), flags_of(options)
     with contextlib.ExitStack() as stack:
         progress = Progress()
-        stack.callback(progress.timer.cancel)
+        stack.callback(progress.cancel)
         files = stack.enter_context(new_files(outputs))
         page, geojson = files.get(options.page), files.get(options.geojson)
         sources = [stack.enter_context(opened(name, options.stem)) for name in (options.first, options.second)]

@@ -73,7 +73,16 @@ class Comparison:
 
     @cached_property
     def ties(self) -> list[Tie]:
-        return find_ties(self.certain, self.first, self.second)
+        """The nodes, polygons and names that are one in one map and several in the other."""
+        ties: list[Tie] = []
+        for subject, find in (("node", tied_nodes), ("polygon", tied_polygons), ("feature name", tied_names)):
+            for is_one_in_first in (True, False):
+                found: dict[str, dict[str, list[Tied]]] = defaultdict(lambda: defaultdict(list))
+                for at in (at for pair in self.certain for at in find(*pair, self.first, self.second)):
+                    one, other = (at.first, at.second) if is_one_in_first else (at.second, at.first)
+                    found[one][other].append(at)
+                ties += [Tie(subject, is_one_in_first, list(groups.values())) for groups in found.values() if len(groups) > 1]
+        return ties
 
     @property
     def parts(self) -> Sequence[Matched[Any]]:
@@ -124,8 +133,8 @@ def match_group(ones: list[Chain], others: list[Chain], first: Teller, second: T
     if is_own_reverse(ones[0]):
         ones = [lesser_turn(chain, first) for chain in ones]
         others = [lesser_turn(chain, second) for chain in others]
-    said = {id(chain): says(chain, teller) for chains, teller in ((ones, first), (others, second)) for chain in chains}
-    alike, ones, others = pair_by(ones, others, lambda chain: said[id(chain)])
+    said = {chain: says(chain, teller) for chains, teller in ((ones, first), (others, second)) for chain in chains}
+    alike, ones, others = pair_by(ones, others, said.get)
     matched.alike += alike
     while ones and others:
         one, other = min(
@@ -169,14 +178,13 @@ def lesser_turn(chain: Chain, teller: Teller) -> Chain:
 
 def match_polygons(first: County, second: County, certain: list[Pair[Chain]]) -> Matched[Polygon]:
     """Matches polygons by their content, the others by their point, and then by the sides of chains."""
-    sides: dict[int, Hashable] = {}
-    for county, found in zip((first, second), first_sides(certain)):
-        sides.update((id(polygon), found[key]) for key, polygon in county.polygons.items() if key in found)
+    both = zip((first, second), first_sides(certain))
+    sides = {polygon: found[key] for county, found in both for key, polygon in county.polygons.items() if key in found}
     ones, others = list(first.polygons.values()), list(second.polygons.values())
-    alike, ones, others = pair_by(ones, others, lambda polygon: (polygon.content, sides.get(id(polygon))))
+    alike, ones, others = pair_by(ones, others, lambda polygon: (polygon.content, sides.get(polygon)))
     more, ones, others = pair_by(ones, others, lambda polygon: polygon.content)
     at_one_point, ones, others = pair_by(ones, others, lambda polygon: polygon.point if polygon.point != NO_POINT else None)
-    on_one_side, ones, others = pair_by(ones, others, lambda polygon: sides.get(id(polygon)))
+    on_one_side, ones, others = pair_by(ones, others, sides.get)
     return Matched(ones, others, at_one_point + on_one_side, alike + more)
 
 
@@ -203,10 +211,10 @@ def marks_of(polygons: Matched[Polygon]) -> Pair[PolygonMarks]:
 def match_landmarks(first: Teller, second: Teller) -> Matched[Landmark]:
     """Matches landmarks by their whole content, and the others by their records, points, names and polygons."""
     both = [(landmark, teller) for teller in (first, second) for landmark in teller.county.landmarks]
-    placed = {id(landmark): tuple(sorted((file, its.marks[key]) for file, key in landmark.places)) for landmark, its in both}
+    placed = {landmark: tuple(sorted((file, its.marks[key]) for file, key in landmark.places)) for landmark, its in both}
 
     def places(landmark: Landmark) -> Hashable | None:
-        return placed[id(landmark)] or None
+        return placed[landmark] or None
 
     def bodies(landmark: Landmark) -> Hashable:
         return tuple(sorted(landmark.bodies))
@@ -239,19 +247,6 @@ class Tied(NamedTuple):
         """The place: an end of the chain, or else its middle."""
         points = each_point(self.chain.points)
         return points[{"start": 0, "end": -1}.get(self.place, len(points) // 2)]
-
-
-def find_ties(certain: list[Pair[Chain]], first: Teller, second: Teller) -> list[Tie]:
-    """The nodes, polygons and names that are one in one map and several in the other."""
-    ties: list[Tie] = []
-    for subject, find in (("node", tied_nodes), ("polygon", tied_polygons), ("feature name", tied_names)):
-        for is_one_in_first in (True, False):
-            found: dict[str, dict[str, list[Tied]]] = defaultdict(lambda: defaultdict(list))
-            for at in (at for chain, twin in certain for at in find(chain, twin, first, second)):
-                one, other = (at.first, at.second) if is_one_in_first else (at.second, at.first)
-                found[one][other].append(at)
-            ties += [Tie(subject, is_one_in_first, list(groups.values())) for groups in found.values() if len(groups) > 1]
-    return ties
 
 
 def tied_nodes(chain: Chain, twin: Chain, _first: Teller, _second: Teller) -> Iterator[Tied]:

@@ -102,15 +102,12 @@ class PageData:
         """
         found, county = self.comparison, self.comparison.first.county
         chains = [chain for chain, _ in found.chains.alike if with_chains]
-        lines: list[list[int]] = []
-        begin = (0, 0)
-        for chain in chains:
-            lines.append(self.line(each_point(chain.points), begin))
-            begin = (begin[0] + lines[-1][0], begin[1] + lines[-1][1])
+        lines = [each_point(chain.points) for chain in chains]
+        begins = [(0, 0), *(self.place(points[0]) for points in lines)]
         places = ((landmark, landmark_points(landmark, county)) for landmark, _ in found.landmarks.alike)
         inside = [polygon.point for polygon, _ in found.polygons.alike if with_chains and polygon.point != NO_POINT]
         return {
-            "chains": lines,
+            "chains": list(map(self.line, lines, begins)),
             "chain_titles": [self.title(chain_title(chain)) for chain in chains],
             "landmarks": [[self.title(landmark_title(landmark)), *self.points(points)] for landmark, points in places if points],
             "polygons": self.points(inside),
@@ -122,13 +119,14 @@ class PageData:
     def line(self, points: list[str], begin: tuple[int, int] = (0, 0)) -> list[int]:
         """The points, each as its distance from the one before it."""
         distances: list[int] = []
-        last_longitude, last_latitude = begin
-        for longitude, latitude in map(position, points):
-            if longitude > 0:
-                longitude -= self.shift
-            distances += (longitude - last_longitude, latitude - last_latitude)
-            last_longitude, last_latitude = longitude, latitude
+        for place in map(self.place, points):
+            distances += (place[0] - begin[0], place[1] - begin[1])
+            begin = place
         return distances
+
+    def place(self, point: str) -> tuple[int, int]:
+        longitude, latitude = position(point)
+        return longitude - self.shift if longitude > 0 else longitude, latitude
 
     def points(self, points: list[str]) -> list[list[int]]:
         return [self.line([point]) for point in points]
