@@ -95,7 +95,11 @@ class Comparison:
 
 
 def compare(first: County, second: County) -> Comparison:
-    groups = chains_by_points(first, second)
+    by_points: dict[str, Pair[list[Chain]]] = defaultdict(lambda: ([], []))
+    for place, county in enumerate((first, second)):
+        for chain in county.chains:
+            by_points[chain.points][place].append(chain)
+    groups = list(by_points.values())
     certain = [(ones[0], others[0]) for ones, others in groups if len(ones) == len(others) == 1 and not is_own_reverse(ones[0])]
     polygons = match_polygons(first, second, certain)
     one, other = marks_of(polygons)
@@ -103,15 +107,6 @@ def compare(first: County, second: County) -> Comparison:
     same_names, ones, others = pair_by(first.names.values(), second.names.values(), lambda name: name.body)
     names = Matched(ones, others, [], same_names)
     return Comparison(*tellers, certain, match_chains(groups, *tellers), match_landmarks(*tellers), polygons, names)
-
-
-def chains_by_points(first: County, second: County) -> list[Pair[list[Chain]]]:
-    """The chains of both maps that run through the same points, in the order of the points."""
-    groups: dict[str, Pair[list[Chain]]] = defaultdict(lambda: ([], []))
-    for place, county in enumerate((first, second)):
-        for chain in county.chains:
-            groups[chain.points][place].append(chain)
-    return list(groups.values())
 
 
 def match_chains(groups: list[Pair[list[Chain]]], first: Teller, second: Teller) -> Matched[Chain]:

@@ -49,16 +49,11 @@ class PageData:
     crosses the line of 180 degrees, its eastern longitudes are moved to the west by the shift. Bare chains and polygons have no
     fields: each is its kind, the number of a chain's title, and the points."""
 
-    comparison: Comparison
     shift: int
     labels: dict[FieldName, int] = field(default_factory=dict)
     titles: dict[str, int] = field(default_factory=dict)
     bare: dict[str, list[list[int]]] = field(default_factory=lambda: {"chains": [], "polygons": []})
     room: int = field(default_factory=lambda: ROOM_FOR_FIELDS)
-
-    def differences(self) -> list[dict[str, Any]]:
-        """Everything that isn't alike, in the order of the list, in as much detail as the page has space for."""
-        return [*filter(None, map(self.thing, things(self.comparison))), *map(self.tie, self.comparison.ties)]
 
     def thing(self, thing: Thing) -> dict[str, Any] | None:
         """The entry of a thing. After the space for fields is used up, chains and polygons are bare, and have none."""
@@ -96,15 +91,14 @@ class PageData:
             return [label, row.first]
         return [label, row.first, row.second, int(row.differs)]
 
-    def alike(self, with_chains: bool) -> dict[str, list[Any]]:
+    def alike(self, found: Comparison, with_chains: bool) -> dict[str, list[Any]]:
         """What is alike: chains and the numbers of their titles, landmarks that have a place, each as the number of its title and its
         points, and the points inside polygons. Each chain's first point is a distance from the first point of the chain before it.
         """
-        found, county = self.comparison, self.comparison.first.county
         chains = [chain for chain, _ in found.chains.alike if with_chains]
         lines = [each_point(chain.points) for chain in chains]
         begins = [(0, 0), *(self.place(points[0]) for points in lines)]
-        places = ((landmark, landmark_points(landmark, county)) for landmark, _ in found.landmarks.alike)
+        places = ((landmark, landmark_points(landmark, found.first.county)) for landmark, _ in found.landmarks.alike)
         inside = [polygon.point for polygon, _ in found.polygons.alike if with_chains and polygon.point != NO_POINT]
         return {
             "chains": list(map(self.line, lines, begins)),
@@ -153,15 +147,16 @@ def write_page(file: NewFile, comparison: Comparison, sets: Sets, leaflet: Leafl
 
 
 def page_data(comparison: Comparison, sets: Sets) -> dict[str, Any]:
-    data = PageData(comparison, shift_of(comparison))
+    data = PageData(shift_of(comparison))
     is_too_large = sum(comparison.chains.counts) > MOST_CHAINS
     page = {
         "kinds": KINDS,
         "shift": data.shift,
         "counts": dict(zip(SUBJECTS, (part.counts for part in comparison.parts))),
-        "entries": data.differences(),
+        # Everything that isn't alike, in the order of the list, in as much detail as the page has space for.
+        "entries": [*filter(None, map(data.thing, things(comparison))), *map(data.tie, comparison.ties)],
         "bare": data.bare,
-        "alike": data.alike(not is_too_large),
+        "alike": data.alike(comparison, not is_too_large),
         "titles": list(data.titles),
         "labels": [[name.label, name.holds] for name in data.labels],
     }
