@@ -205,8 +205,8 @@ def stop(number: int, _: object) -> None:
 
 
 def run(arguments: Sequence[str]) -> int:
-    """Runs a command line and returns the exit status. The command runs in a thread of its own, and this one waits for signals, so none
-    comes at a bad moment. A command that can't go on ends this process, in which other threads may still be at work."""
+    """Runs a command line and returns the exit status. The command runs in a thread of its own, and this one waits for signals, so
+    none comes at a bad moment. A command that can't go on ends this process, in which other threads may still be at work."""
     options = parser().parse_args(list(arguments))
     for number in SIGNALS:
         if signal.getsignal(number) is not signal.SIG_IGN:

@@ -208,8 +208,8 @@ def complaint(ended: subprocess.CompletedProcess[bytes]) -> str:
 
 
 def judge_on_a_worker(county: tuple[Any, ...], order: tuple[Any, ...]) -> tuple[str, str, tuple[str, ...]]:
-    """Judges a county on a worker, by the program at the client's path or the one on the worker's PATH. Both come as the plain tuples
-    that `astuple` makes: the client's classes aren't known to workers."""
+    """Judges a county on a worker, by the program at the client's path or the one on the worker's PATH. Both come as the plain
+    tuples that `astuple` makes: the client's classes aren't known to workers."""
     remove_stale_folders()
     named = Order(*order)
     program = shutil.which(named.program) or shutil.which("tigercanon")

@@ -58,8 +58,8 @@ class Line(NamedTuple):
 
 
 def parsed(name: str, text: bytes) -> tuple[Flags | None, list[Line]]:
-    """The flags of a manifest, or None if it has no whole line, and its counties. An interrupted run may have left a part of a line at its
-    end, which is left out. Raises Failure if it is another file."""
+    """The flags of a manifest, or None if it has no whole line, and its counties. An interrupted run may have left a part of a line
+    at its end, which is left out. Raises Failure if it is another file."""
     *whole, rest = text.split(b"\n")
     flags = HEADINGS.get(whole[0]) if whole else None
     lines = whole if flags is None else whole[1:]

@@ -59,8 +59,8 @@ def mode_of(name: str, place: str) -> int | None:
 
 @contextmanager
 def new_files(names: Iterable[str]) -> Iterator[dict[str, NewFile]]:
-    """Files to be written, by their names, which take the places of these names when all are whole. If anything goes wrong, a signal for
-    example, there are none of them, and what had these names is as it was."""
+    """Files to be written, by their names, which take the places of these names when all are whole. If anything goes wrong, a
+    signal for example, there are none of them, and what had these names is as it was."""
     with ExitStack() as stack:
         files: dict[str, NewFile] = {}
         for name in names:

@@ -84,8 +84,8 @@ class Run:
         self.tally.end(county.size)
 
     def print(self, number: int, line: str | None, row: dict[str, Any] | None) -> None:
-        """Prints results in the order of their numbers: lines, each as soon as those before it are there, or a list in JSON at the end. None
-        prints nothing."""
+        """Prints results in the order of their numbers: lines, each as soon as those before it are there, or a list in JSON at the
+        end. None prints nothing."""
         self.waiting[number] = row if self.options.json else line
         while not self.options.json and self.next in self.waiting:
             print_lines(filter(None, [self.waiting.pop(self.next)]))

@@ -27,8 +27,8 @@ class Column:
 
 @dataclass(frozen=True, eq=False)
 class Layout:
-    """The columns of a record type: FILE, if it has that, and then those that stand side by side. Joined they are a record's content,
-    which is kept as one text."""
+    """The columns of a record type: FILE, if it has that, and then those that stand side by side. Joined they are a record's
+    content, which is kept as one text."""
 
     record_type: str
     file: tuple[Column, ...]

@@ -83,8 +83,8 @@ def tie_feature(tie: Tie, own: OwnNumbers) -> Feature:
 
 
 def values(side: str, name: FieldName, shown: str | None, exact: str) -> Properties:
-    """A field of one map: a text, true or false, or the two coordinates of a point in degrees, under the names of their columns. There is
-    none if the map hasn't what the field is of."""
+    """A field of one map: a text, true or false, or the two coordinates of a point in degrees, under the names of their columns.
+    There is none if the map hasn't what the field is of."""
     if shown is None:
         return {}
     if name.kind == "point":

@@ -92,9 +92,8 @@ class PageData:
         return [label, row.first, row.second, int(row.differs)]
 
     def alike(self, found: Comparison, with_chains: bool) -> dict[str, list[Any]]:
-        """What is alike: chains and the numbers of their titles, landmarks that have a place, each as the number of its title and its
-        points, and the points inside polygons. Each chain's first point is a distance from the first point of the chain before it.
-        """
+        """What is alike: chains and the numbers of their titles; landmarks with a place, as their titles' numbers and points; and
+        the points inside polygons. Each chain's first point is a distance from the first point of the chain before it."""
         chains = [chain for chain, _ in found.chains.alike if with_chains]
         lines = [each_point(chain.points) for chain in chains]
         begins = [(0, 0), *(self.place(points[0]) for points in lines)]

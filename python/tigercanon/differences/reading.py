@@ -1,8 +1,8 @@
 """Reads the records that the program prints: a county's chains, feature names, polygons and landmarks.
 
-The content of a record is kept as one string (see `columns`). A point is kept as it is spelled: 19 columns of longitude and latitude in
-millionths of a degree. A chain's points are one string of these. The program spells each number and each point in one way, in a
-canonical text and when it respells records.
+The content of a record is kept as one string (see `columns`). A point is kept as it is spelled: 19 columns of longitude and
+latitude in millionths of a degree. A chain's points are one string of these. The program spells each number and each point in one
+way, in a canonical text and when it respells records.
 """
 
 import re
@@ -21,7 +21,7 @@ Records = dict[str, list[str]]
 """The lines of each record type."""
 
 PolygonKey = str
-"""The office that numbers a polygon, in 5 columns, and the polygon's number there, in 10. On a side these may be blank: no polygon."""
+"""The office that numbers a polygon, in 5 columns, and its number there, in 10. On a side the number may be blank: no polygon."""
 
 
 class NotCanonical(Exception):
@@ -30,8 +30,8 @@ class NotCanonical(Exception):
 
 @dataclass(eq=False)
 class Chain:
-    """The content of the records of one TLID, which is its key behind the record type. The nodes are those at its start and its end, the
-    sides the left and the right one."""
+    """The content of the records of one TLID, which is its key behind the record type. The nodes are those at its start and its
+    end, the sides the left and the right one."""
 
     key: str
     body: str
