@@ -10,7 +10,7 @@ from typing import TYPE_CHECKING, Any, BinaryIO, Iterable, Iterator, Union
 
 from . import zips
 from .errors import Unreadable
-from .layout import TYPES, file_name, kind_of
+from .layout import TYPES, kind_of, stem_of
 
 if TYPE_CHECKING:
     import mmap
@@ -105,15 +105,14 @@ def county_at(path: str) -> list[bytes]:
 def files_behind(stem: str) -> list[bytes]:
     """The nine files whose names begin with the stem, in either case of their endings. An absent one is empty."""
     folder, base = os.path.split(stem)
-    endings = {file_name("", kind): place for place, kind in enumerate(TYPES)}
-    found: dict[int, str] = {}
+    found: dict[str, str] = {}
     for name in os.listdir(folder or ".") if os.path.isdir(folder or ".") else []:
-        place = endings.get(name[len(base) :].upper()) if name.startswith(base) else None
-        if place is not None and found.setdefault(place, name) != name:
-            raise ValueError(f"{found[place]} and {name} in {folder or '.'} are both the same file of a county")
+        kind = kind_of(name)
+        if stem_of(name) == base and kind in [*TYPES] and found.setdefault(kind, name) != name:
+            raise ValueError(f"{found[kind]} and {name} in {folder or '.'} are both the same file of a county")
     if not found:
         raise FileNotFoundError(f"there is no file {stem}, and no county's files begin with this name")
-    return [Path(folder, found[place]).read_bytes() if place in found else b"" for place in range(len(TYPES))]
+    return [Path(folder, found[kind]).read_bytes() if kind in found else b"" for kind in TYPES]
 
 
 def files_in_zip(path: str) -> list[bytes]:

@@ -4,7 +4,7 @@ import zipfile
 from typing import Iterator
 
 from .errors import Unreadable
-from .layout import TYPES, file_name
+from .layout import TYPES, file_name, kind_of, stem_of
 
 END_OF_DIRECTORY = b"PK\5\6"
 LONGEST_END = 65557
@@ -38,9 +38,9 @@ def members_of(archive: zipfile.ZipFile) -> Members:
     """The files of the one county in a zip by their types, in either case of their names. Raises Unreadable."""
     counties: dict[str, dict[str, list[zipfile.ZipInfo]]] = {}
     for member in archive.infolist():
-        name = member.filename.upper()
-        if name[-4:-1] == ".RT" and name[-1] in TYPES:
-            counties.setdefault(name[:-4], {}).setdefault(name[-1], []).append(member)
+        kind = kind_of(member.filename)
+        if kind in [*TYPES]:
+            counties.setdefault(stem_of(member.filename).upper(), {}).setdefault(kind, []).append(member)
     if not counties:
         raise Unreadable("the zip has no county in it")
     if len(counties) > 1:
