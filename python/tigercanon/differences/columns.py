@@ -4,13 +4,13 @@ Numbers that differ from file to file (TLID, RTSQ, FEAT, LAND, POLYID and those 
 among them.
 """
 
-from dataclasses import dataclass, replace
+from dataclasses import dataclass
 from functools import cached_property
 from itertools import accumulate
+from typing import NamedTuple
 
 
-@dataclass(frozen=True)
-class Column:
+class Column(NamedTuple):
     """A field of a record: its name, its first and last column, what it holds, and, for a chain, the field that holds
     the same thing as seen from the chain's other end."""
 
@@ -72,7 +72,7 @@ def on_both_sides(name: str, first: int, width: int, holds: str) -> tuple[Column
 
 def moved(columns: tuple[Column, ...], by: int) -> tuple[Column, ...]:
     """The same fields, `by` columns further to the right."""
-    return tuple(replace(column, first=column.first + by, last=column.last + by) for column in columns)
+    return tuple(column._replace(first=column.first + by, last=column.last + by) for column in columns)
 
 
 FILE = (Column("FILE", 6, 10, "state and county"),)

@@ -3,7 +3,6 @@
 from __future__ import annotations
 
 from collections import defaultdict, deque
-from dataclasses import dataclass
 from functools import lru_cache
 from typing import Callable, Hashable, Iterable, NamedTuple, Sequence, TypeVar
 
@@ -59,8 +58,7 @@ class Row(NamedTuple):
     second_exact: str
 
 
-@dataclass(frozen=True)
-class Teller:
+class Teller(NamedTuple):
     """Tells what the parts of one map say."""
 
     county: County

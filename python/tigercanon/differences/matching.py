@@ -45,8 +45,7 @@ class Matched(Generic[T]):
         return not any(self.counts[:3])
 
 
-@dataclass(frozen=True)
-class Tie:
+class Tie(NamedTuple):
     """A number that is one in one of the maps and several in the other, though the content that it numbers is the same in both:
     where chains have it, in groups by the number that they have in the other map."""
 

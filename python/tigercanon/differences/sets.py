@@ -6,9 +6,7 @@ import os
 import shutil
 import stat
 from concurrent.futures import ThreadPoolExecutor
-from dataclasses import dataclass
-from functools import cached_property
-from typing import Iterator, Sequence
+from typing import Iterator, NamedTuple, Sequence
 
 from ..counties import Finder
 from ..errors import Failure, Unreadable, printable, reported
@@ -19,8 +17,7 @@ from ..own import PROCESS
 from ..storage import tidy
 
 
-@dataclass(frozen=True)
-class Source:
+class Source(NamedTuple):
     """A set: its name on the command line, the name that the program gets, and the files that are its parts."""
 
     name: str
@@ -28,27 +25,25 @@ class Source:
     files: Files
 
 
-@dataclass(frozen=True)
-class Canonical:
+class Canonical(NamedTuple):
     """The canonical text of a set, and its name on one line."""
 
     name: str
     text: bytes
 
-    @cached_property
+    @property
     def fingerprint(self) -> str:
         return hashlib.sha256(self.text).hexdigest()
 
 
-@dataclass(frozen=True)
-class Sets:
+class Sets(NamedTuple):
     """The canonical texts of the two sets, and the flags with which they were printed."""
 
     first: Canonical
     second: Canonical
     masks: tuple[str, ...] = ()
 
-    @cached_property
+    @property
     def are_one_map(self) -> bool:
         return self.first.text == self.second.text
 

@@ -1,8 +1,7 @@
 """What differs, thing by thing, as each report shows it: a chain, landmark, polygon or feature name of one map or of both."""
 
-from dataclasses import dataclass
 from functools import partial
-from typing import Any, Callable, Iterator
+from typing import Any, Callable, Iterator, NamedTuple
 
 from .columns import NAME
 from .fields import BLANK, Fields, Row, chain_title, degrees, landmark_points, landmark_rows, landmark_title, name_text
@@ -13,8 +12,7 @@ from .reading import NO_POINT, each_point
 KINDS = ("in the first alone", "in the second alone", "changed", "alike")
 
 
-@dataclass(frozen=True)
-class Thing:
+class Thing(NamedTuple):
     """A thing as the first map has it and as the second one has it. One of the two may be None. `about` is more about it, behind
     its title. `points` are those of a chain, or those where a landmark or a polygon lies. `number_field` is the field with its
     number, if it has one. `rows` makes its fields in both maps."""
