@@ -146,7 +146,7 @@ def client_of(address: str) -> Any:
         needed = "distributed and fsspec (Debian: python3-distributed and python3-fsspec)"
         raise Failure(f"--scheduler needs the Python packages {needed}: {reason(error)}") from None
     connect: Any = distributed.Client
-    for module in (tigercanon, tigercanon.judge):  # all of the package, and by its name the one with what is asked of workers
+    for module in (tigercanon, tigercanon.judge):  # all of the package, and by its name the module of the function
         cloudpickle.register_pickle_by_value(module)
     for name in ("asyncio", "distributed", "tornado"):
         logging.getLogger(name).setLevel(logging.CRITICAL)
