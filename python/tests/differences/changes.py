@@ -5,12 +5,17 @@ from __future__ import annotations
 import pickle
 import random
 from collections import Counter
-from dataclasses import dataclass, field
+from dataclasses import dataclass
+from pathlib import Path
 from typing import Sequence, TypeVar
+
+from support import put
 
 from tigercanon.differences.columns import CHAIN
 
-from .county import FILE, Chain, County, Landmark, Point, Polygon
+from .county import FILE, Chain, County, Landmark, Point, Polygon, made_county, written
+
+SUBJECTS = ("chain", "landmark", "polygon")
 
 T = TypeVar("T")
 Place = tuple[Point, ...]
@@ -28,28 +33,28 @@ class Difference:
     fields: frozenset[str] = frozenset()
 
 
-@dataclass
 class Changing:
-    """A county that is being changed, and the differences that it then has from the one that it was."""
+    """A county that is being changed, and the differences that it then has from the one that it was before."""
 
-    county: County
-    chance: random.Random
-    differences: set[Difference] = field(default_factory=set)
-    names: list[tuple[str, str]] = field(default_factory=list)
-    touched: set[int] = field(default_factory=set)
+    def __init__(self, before: County, seed: int) -> None:
+        self.before, self.county = before, pickle.loads(pickle.dumps(before))
+        self.chance = random.Random(seed)
+        self.differences: set[Difference] = set()
+        self.names: list[tuple[str, str]] = []
+        self.touched: set[int] = set()
 
-    @classmethod
-    def begin(cls, county: County, seed: int) -> "Changing":
-        return cls(pickle.loads(pickle.dumps(county)), random.Random(seed))
+    def files(self, folder: Path) -> tuple[Path, Path]:
+        """Both maps in files, each by a hand of its own."""
+        return put(folder / "first", written(self.before, 1)), put(folder / "second", written(self.county, 2))
 
     def tell(self, what: str, kind: str, points: list[Point], *fields: str) -> None:
         self.differences.add(Difference(what, kind, tuple(min(points, points[::-1])), frozenset(fields)))
 
-    def counts(self, before: County) -> dict[tuple[str, str], int]:
-        """How many chains, landmarks and polygons there are of each kind, if the county was this one before."""
+    def counts(self) -> dict[tuple[str, str], int]:
+        """How many chains, landmarks and polygons there are of each kind."""
         told = Counter((difference.what, difference.kind) for difference in self.differences)
-        parts: dict[str, Sequence[object]] = {"chain": before.chains, "landmark": before.landmarks, "polygon": before.polygons}
-        for what, things in parts.items():
+        for what in SUBJECTS:
+            things: Sequence[object] = getattr(self.before, f"{what}s")
             told[what, "alike"] = len(things) - told[what, "in the first alone"] - told[what, "changed"]
         return told
 
@@ -92,12 +97,9 @@ class Changing:
             self.tell("chain", "in the second alone", chain.points)
 
     def change_field(self, count: int, name: str, value: str) -> None:
-        self.change(self.some_chains(count), name, value)
-
-    def change(self, chains: list[Chain], name: str, value: str) -> None:
         """A field of one side may be in its partner's columns in the canonical text."""
         partner = next(column.partner or name for column in CHAIN.columns if column.name == name)
-        for chain in chains:
+        for chain in self.some_chains(count):
             chain.fields[name] = value
             self.tell("chain", "changed", chain.points, partner if chain.points > chain.points[::-1] else name)
 
@@ -181,9 +183,15 @@ def place_of(thing: Landmark | Polygon) -> Point:
     return thing.point
 
 
+def split_maps(folder: Path, chains: int, seed: int, nodes: int) -> tuple[list[Point], Path, Path]:
+    """A county of which some nodes are split: where they are, and both maps in files."""
+    changing = Changing(made_county(chains, seed), seed)
+    return changing.split_nodes(nodes), *changing.files(folder)
+
+
 def much_changed(county: County, seed: int) -> Changing:
     """The county changed in every way, at some hundred places."""
-    changing = Changing.begin(county, seed)
+    changing = Changing(county, seed)
     changing.move_sides(5)
     changing.take_away(15)
     changing.move_ends(20)

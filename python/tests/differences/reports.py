@@ -34,6 +34,13 @@ def diff(*words: object, program: object = PROGRAM, **options: Any) -> Ended:
     return ended._replace(err=PROGRESS.sub("", ended.err))
 
 
+def differing(*words: object, **options: Any) -> str:
+    """What diff prints of two maps that differ."""
+    ended = diff(*words, **options)
+    assert (ended.status, ended.err) == (1, "")
+    return ended.out
+
+
 def sets_of(first: bytes, second: bytes) -> Sets:
     return Sets(Canonical("one", first), Canonical("other", second))
 

@@ -6,7 +6,7 @@ import time
 from pathlib import Path
 
 import pytest
-from support import PROGRAM, environment, put, words_of
+from support import PROGRAM, environment, words_of
 
 from tigercanon.differences import page as page_module
 from tigercanon.differences.matching import compare
@@ -45,17 +45,13 @@ def test_page(room: Path) -> None:
     """The limits of time are multiples of what this machine takes for work of a known size: making the two files by Python, and
     drawing the page of a small county."""
     began = time.process_time()
-    county = made_county(CHAINS, 12)
-    changing = much_changed(county, 13)
-    first, second = put(room / "first.txt", written(county, 14)), put(room / "second.txt", written(changing.county, 15))
+    changing = much_changed(made_county(CHAINS, 12), 13)
+    files = changing.files(room)
     unit = time.process_time() - began
     page = room / "page.html"
-    seconds, megabytes = measured("--page", page, first, second)
+    seconds, megabytes = measured("--page", page, *files)
     assert told_in_page(page) == changing.differences
-    small = made_county(840, 12)
-    measured(
-        "--page", "small.html", put(room / "one", written(small)), put(room / "other", written(much_changed(small, 13).county))
-    )
+    measured("--page", "small.html", *much_changed(made_county(840, 12), 13).files(room / "small"))
     browser = Browser()
     try:
         drawn, small_drawn = (min(browser.open(path) for _ in range(3)) for path in (page, room / "small.html"))
@@ -64,7 +60,7 @@ def test_page(room: Path) -> None:
     size = page.stat().st_size / 1e6
     made = f"made in {seconds:.1f} s (the files: {unit:.1f} s), {megabytes:.0f} MB"
     shown = f"page of {size:.1f} MB, drawn in {drawn:.2f} s (a small one: {small_drawn:.2f} s)"
-    print(f"{len(county.chains):,} chains: {made}; {shown}", file=sys.stderr)
+    print(f"{CHAINS:,} chains: {made}; {shown}", file=sys.stderr)
     assert seconds < unit
     assert drawn < 20 * small_drawn
     assert megabytes < 1000

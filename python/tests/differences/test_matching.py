@@ -22,6 +22,13 @@ def compared(first: County, second: County) -> Comparison:
     return compare(read_county(written(first)), read_county(written(second)))
 
 
+def after(first: County, change: Callable[[County], object]) -> County:
+    """A copy of a county, with a change."""
+    second = copy.deepcopy(first)
+    change(second)
+    return second
+
+
 def words_of(first: County, second: County) -> str:
     return "\n".join(told(compared(first, second), sets_of(written(first), written(second))))
 
@@ -67,9 +74,7 @@ def differing_fields(comparison: Comparison) -> list[Told]:
 def test_fields(change: Callable[[Chain], None], wanted: list[Told]) -> None:
     """The differences in the only chain of two counties, after a change of one of them."""
     first = two_sided(chain_between([(1, 1), (2, 5), (9, 9)]))
-    second = copy.deepcopy(first)
-    change(second.chains[0])
-    comparison = compared(first, second)
+    comparison = compared(first, after(first, lambda county: change(county.chains[0])))
     assert (comparison.chains.counts, differing_fields(comparison)) == ((0, 0, 1, 0), wanted)
 
 
@@ -111,9 +116,7 @@ def test_own_reverse() -> None:
 def test_polygons(change: Callable[[Polygon], None]) -> None:
     """A polygon that changed is reported once, and not again at the chains beside it."""
     county = made_county(40, 1)
-    other = copy.deepcopy(county)
-    change(other.polygons[2])
-    comparison = compared(county, other)
+    comparison = compared(county, after(county, lambda other: change(other.polygons[2])))
     assert comparison.polygons.counts == (0, 0, 1, len(county.polygons) - 1)
     assert comparison.chains.is_alike and comparison.landmarks.is_alike
 
@@ -130,9 +133,7 @@ def test_polygons(change: Callable[[Polygon], None]) -> None:
 def test_landmarks(change: Callable[[Landmark], None], labels: list[str]) -> None:
     county = made_county(40, 1)
     county.landmarks.append(Landmark({"FILE": "01001", "CFCC": "D85", "LANAME": "Long Park"}, None, [0, 1, 2]))
-    other = copy.deepcopy(county)
-    change(other.landmarks[-1])
-    comparison = compared(county, other)
+    comparison = compared(county, after(county, lambda other: change(other.landmarks[-1])))
     assert comparison.landmarks.counts == (0, 0, 1, len(county.landmarks) - 1)
     table = landmark_rows(comparison.first, comparison.second, *comparison.landmarks.changed[0])
     assert [row.name.label for row in table if row.differs] == labels
@@ -140,8 +141,7 @@ def test_landmarks(change: Callable[[Landmark], None], labels: list[str]) -> Non
 
 def test_names() -> None:
     county = made_county(40, 1)
-    other = copy.deepcopy(county)
-    other.names.append({"FENAME": "Unused"})
+    other = after(county, lambda county: county.names.append({"FENAME": "Unused"}))
     comparison = compared(county, other)
     assert comparison.names.counts == (0, 1, 0, len(county.names))
     assert not (comparison.is_alike)
@@ -188,46 +188,24 @@ def test_degrees(point: str, words: str, numbers: tuple[str, str]) -> None:
     assert (decimal(point[:10]), decimal(point[10:])) == numbers
 
 
-def assert_tied(first: County, second: County, *lines: str) -> None:
-    comparison = compared(first, second)
-    assert comparison.is_alike
-    text = words_of(first, second)
-    assert TIED in text
-    for line in lines:
-        assert line in text
+TIES = [
+    ("chains", "start", 7, "one node in the one, 2 in the other:", "start of Main (A41), 0.000001° N, 0.000001° E"),
+    ("chains", "right", 2, "one polygon in the one, 2 in the other:", "right side of Main (A41)"),
+    ("chains", "names", [0], "one feature name in the other, 2 in the one:", "further name 1 of Main (A41)"),
+    ("landmarks", "polygons", [1], TIED, ""),
+]
 
 
-def test_tied_nodes() -> None:
-    first = two_sided(chain_between([(1, 1), (5, 5)]), chain_between([(1, 1), (6, 6)]))
-    second = copy.deepcopy(first)
-    second.chains[1].start = 7
-    assert_tied(first, second, "one node in the first, 2 in the second:", "start of Main (A41), 0.000001° N, 0.000001° E")
-    assert_tied(second, first, "one node in the second, 2 in the first:")
-
-
-def test_tied_polygons() -> None:
-    """Polygons without records differ only in the sides that they are on."""
-    first = two_sided(chain_between([(1, 1), (5, 5)]), chain_between([(1, 1), (6, 6)]))
-    first.polygons = [Polygon({}, None, False) for _ in range(3)]
-    first.chains.append(chain_between([(3, 3), (4, 4)]))
-    first.chains[2].right = 2
-    second = copy.deepcopy(first)
-    second.chains[1].right = 2
-    assert_tied(first, second, "one polygon in the first, 2 in the second:", "right side of Main (A41)")
-
-
-def test_tied_names() -> None:
-    first = two_sided(chain_between([(1, 1), (5, 5)], names=[0]), chain_between([(1, 1), (6, 6)], names=[1]))
-    second = copy.deepcopy(first)
-    second.chains[1].names = [0]
-    assert_tied(first, second, "one feature name in the second, 2 in the first:", "further name 1 of Main (A41)")
-
-
-def test_tied_landmarks() -> None:
-    """Landmarks with the same content in polygons with the same content."""
-    first = two_sided(chain_between([(1, 1), (5, 5)]))
-    first.polygons = [Polygon({}, None, False) for _ in range(2)]
-    first.landmarks = [Landmark({"LANAME": "Park"}, None, [0]), Landmark({"LANAME": "Park"}, None, [0])]
-    second = copy.deepcopy(first)
-    second.landmarks[1].polygons = [1]
-    assert_tied(first, second)
+@pytest.mark.parametrize("what, name, value, told, place", TIES)
+def test_ties(what: str, name: str, value: Any, told: str, place: str) -> None:
+    """Polygons without records differ only in the sides that they are on; and landmarks, like names, have the same content."""
+    one = two_sided(chain_between([(1, 1), (5, 5)], names=[0]), chain_between([(1, 1), (6, 6)], names=[1]))
+    one.chains.append(chain_between([(3, 3), (4, 4)]))
+    one.chains[2].right = 2
+    one.polygons = [Polygon({}, None, False) for _ in range(3)]
+    one.landmarks = [Landmark({"LANAME": "Park"}, None, [0]) for _ in range(2)]
+    other = after(one, lambda county: setattr(getattr(county, what)[1], name, value))
+    for first, second, names in ((one, other, ("first", "second")), (other, one, ("second", "first"))):
+        text = words_of(first, second)
+        assert compared(first, second).is_alike and TIED in text
+        assert told.replace("the one", f"the {names[0]}").replace("the other", f"the {names[1]}") in text and place in text

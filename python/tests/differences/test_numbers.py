@@ -9,11 +9,10 @@ from pathlib import Path
 from typing import Any, NamedTuple
 
 import pytest
-from support import put
 
-from .changes import Changing, much_changed
-from .county import FILE, Landmark, Point, made_county, written
-from .reports import KINDS, diff
+from .changes import much_changed, split_maps
+from .county import FILE, Landmark, Point, made_county
+from .reports import KINDS, differing
 
 Features = list[dict[str, Any]]
 
@@ -79,14 +78,12 @@ def made(room: Path) -> Made:
     for kind in range(60, 68):  # landmarks with one name, which differ only in SOURCE and CFCC
         fields = {"FILE": FILE, "SOURCE": "ABC"[kind % 3], "CFCC": f"D{kind}", "LANAME": "Fair Ground"}
         county.landmarks.append(Landmark(fields, (-86_470_001, 32_460_001)))
-    changing = much_changed(county, 41)
-    first, second = put(room / "first", written(county, 42)), put(room / "second", written(changing.county, 43))
+    first, second = much_changed(county, 41).files(room)
     return Made(first, second, {"first": records(first), "second": records(second)})
 
 
 def features_of(*words: object) -> Features:
-    ended = diff("--geojson", "numbers.geojson", *words)
-    assert (ended.status, ended.err) == (1, "")
+    differing("--geojson", "numbers.geojson", *words)
     found: Features = json.loads(Path("numbers.geojson").read_text("utf-8"))["features"]
     return found
 
@@ -121,10 +118,7 @@ def test_values(made: Made) -> None:
 
 def test_ties(room: Path) -> None:
     """A difference that is only a tie has a feature at each of its places."""
-    county = made_county(144, 44)
-    changing = Changing.begin(county, 45)
-    (split,) = changing.split_nodes(1)
-    one, tied = put(room / "one", written(county, 46)), put(room / "tied", written(changing.county, 47))
+    (split,), one, tied = split_maps(room, 144, 44, 1)
     (tie,) = features_of(one, tied)
     found = [tie["properties"][name] for name in ("what", "differs", "first_count", "second_count")]
     assert found == ["tie", "node", 1, 2]
@@ -135,32 +129,24 @@ def test_ties(room: Path) -> None:
         assert split in (point_at(lines["1", int(tlid)], 191), point_at(lines["1", int(tlid)], 210))
 
 
-def ogrinfo(path: Path, *words: str) -> str:
-    run = subprocess.run(["ogrinfo", "-ro", "-so", "-al", *words, str(path)], capture_output=True, text=True)
-    assert (run.returncode, run.stderr) == (0, "")
-    return run.stdout
-
-
-def count(text: str) -> int:
-    found = re.search(r"Feature Count: (\d+)", text)
-    assert found
-    return int(found[1])
+def ogrinfo(where: str) -> tuple[int, str]:
+    """How many features GDAL finds for which this holds, and all that it reports."""
+    words = ["ogrinfo", "-ro", "-so", "-al", "-where", where, "numbers.geojson"]
+    run = subprocess.run(words, capture_output=True, text=True)
+    found = re.search(r"Feature Count: (\d+)", run.stdout)
+    assert (run.returncode, run.stderr, bool(found)) == (0, "", True)
+    return int(found[1] if found else 0), run.stdout
 
 
 @pytest.mark.skipif(not shutil.which("ogrinfo"), reason="gdal-bin isn't installed")
 def test_ogrinfo(room: Path) -> None:
-    county = made_county(840, 8)
-    changing = much_changed(county, 9)
-    first, second = put(room / "first.txt", written(county, 10)), put(room / "second.txt", written(changing.county, 11))
-    geojson = room / "differences.geojson"
-    assert diff("--geojson", geojson, first, second).status == 1
-    text = ogrinfo(geojson)
-    assert count(text) == len(changing.differences) + len(changing.names)
-    assert "WGS 84" in text
+    changing = much_changed(made_county(840, 8), 9)
+    features_of(*changing.files(room))
+    count, text = ogrinfo("what <> ''")
+    assert (count, "WGS 84" in text) == (len(changing.differences) + len(changing.names), True)
     for kind in KINDS:
         wanted = sum(difference.kind == kind for difference in changing.differences)
-        assert count(ogrinfo(geojson, "-where", f"what <> 'feature name' AND kind = '{kind}'")) == wanted
-    assert count(ogrinfo(geojson, "-where", "differs = 'FENAME' AND second_FENAME = 'Changed'")) == 25
-    text = ogrinfo(geojson, "-where", "what = 'polygon' AND first_POLYLONG <> second_POLYLONG")
-    assert count(text) == 2
-    assert re.search(r"first_POLYLAT: Real", text) and re.search(r"first_TLID: Integer", text)
+        assert ogrinfo(f"what <> 'feature name' AND kind = '{kind}'")[0] == wanted
+    assert ogrinfo("differs = 'FENAME' AND second_FENAME = 'Changed'")[0] == 25
+    count, text = ogrinfo("what = 'polygon' AND first_POLYLONG <> second_POLYLONG")
+    assert (count, "first_POLYLAT: Real" in text, "first_TLID: Integer" in text) == (2, True, True)

@@ -4,31 +4,22 @@ import re
 import shutil
 import subprocess
 from pathlib import Path
-from typing import Iterator, NamedTuple
+from typing import Iterator
 
 import pytest
-from support import put
 from testing import ROOT
 
 from .browser import Browser, needs_browser
-from .changes import Changing, much_changed
-from .county import County, made_county, written
+from .changes import Changing, much_changed, split_maps
+from .county import County, made_county
 from .example import example_differences
-from .reports import EXAMPLE, diff
+from .reports import EXAMPLE, diff, differing
 
 SCRIPT = "<script>alert(1)</script>"
 PICTURE = "<img src=x onerror=alert(1)>"
 
 pytestmark = [pytest.mark.browser, needs_browser]
 NAMES_OF_KINDS = {"in the first alone": "first", "in the second alone": "second", "changed": "changed", "alike": "alike"}
-
-
-class Town(NamedTuple):
-    """A county, how it has changed, and the page of both."""
-
-    county: County
-    changing: Changing
-    page: Path
 
 
 @pytest.fixture(scope="module")
@@ -49,46 +40,48 @@ def browser(window: Browser) -> Iterator[Browser]:
     assert window.complaints() == []
 
 
-def page_of(folder: Path, name: str, first: bytes, second: bytes) -> Path:
-    one, other = put(folder / f"{name}-<b>first", first), put(folder / f"{name}-<b>second", second)
-    ended = diff("--page", folder / f"{name}.html", one, other)
-    assert ended.err == ""
-    return folder / f"{name}.html"
+def page_of(folder: Path, first: Path, second: Path) -> Path:
+    """The page of two maps, in a file of this folder."""
+    assert diff("--page", folder / "page.html", first, second).err == ""
+    return folder / "page.html"
 
 
 @pytest.fixture(scope="module")
-def town(tmp_path_factory: pytest.TempPathFactory) -> Town:
-    folder = tmp_path_factory.mktemp("town")
-    county = made_county(840, 20)
-    changing = much_changed(county, 21)
+def town() -> Changing:
+    """A county, and how it has changed."""
+    changing = much_changed(made_county(840, 20), 21)
     changing.change_field(1, "FENAME", SCRIPT)
     changing.county.landmarks[-1].fields["LANAME"] = PICTURE
-    return Town(county, changing, page_of(folder, "page", written(county, 22), written(changing.county, 23)))
+    return changing
+
+
+@pytest.fixture(scope="module")
+def page(town: Changing, tmp_path_factory: pytest.TempPathFactory) -> Path:
+    """The page of the town, whose files are in folders with long names."""
+    folder = tmp_path_factory.mktemp("town")
+    return page_of(folder, *town.files(folder / "<b>a-folder-with-a-long-name/another-folder-with-a-long-name"))
 
 
 class TestPage:
     @pytest.fixture(autouse=True)
-    def opened(self, browser: Browser, town: Town) -> None:
-        browser.open(town.page)
+    def opened(self, browser: Browser, page: Path) -> None:
+        browser.open(page)
 
-    def test_nothing_is_asked_for(self, browser: Browser, town: Town) -> None:
-        assert set(browser.requests()) == {town.page.as_uri()}
-
-    def test_head(self, browser: Browser, town: Town) -> None:
+    def test_head(self, browser: Browser, page: Path) -> None:
+        """Nothing but the page itself is asked for."""
+        assert set(browser.requests()) == {page.as_uri()}
         head = browser.texts(".sets")[0]
-        assert "page-<b>first" in head
+        assert "/<b>a-folder-with-a-long-name/another-folder-with-a-long-name/first" in head
         assert re.search(r"\b[0-9a-f]{64}\b", head)
         assert "all fields" in head
 
-    def test_counts(self, browser: Browser, town: Town) -> None:
-        told = town.changing.counts(town.county)
-        for what in ("chain", "landmark", "polygon"):
-            for kind, name in NAMES_OF_KINDS.items():
-                shown = browser.texts(f'#legend [data-kind="{name}"][data-subject="{what}"]')[0]
-                assert int(shown.replace(",", "")) == told[what, kind], (what, kind)
-        assert browser.listed() == len(town.changing.differences) + len(town.changing.names)
+    def test_counts(self, browser: Browser, town: Changing) -> None:
+        for (what, kind), count in town.counts().items():
+            shown = browser.texts(f'#legend [data-kind="{NAMES_OF_KINDS[kind]}"][data-subject="{what}"]')[0]
+            assert int(shown.replace(",", "")) == count, (what, kind)
+        assert browser.listed() == len(town.differences) + len(town.names)
 
-    def test_letters(self, browser: Browser, town: Town) -> None:
+    def test_letters(self, browser: Browser) -> None:
         """What looks like markup is shown as letters, in the list, in popups and in the legend."""
         for text in (SCRIPT, PICTURE):
             browser.filter(text)
@@ -98,7 +91,7 @@ class TestPage:
             assert text in browser.texts(".leaflet-popup-content")[0]
         assert browser.run("return document.querySelectorAll('#map img, #list img, #list script').length") == 0
 
-    def test_popup_at_a_chain(self, browser: Browser, town: Town) -> None:
+    def test_popup_at_a_chain(self, browser: Browser) -> None:
         title = browser.click_at_changed("Changed")
         popup = browser.texts(".leaflet-popup-content")[0]
         assert "chain changed" in popup
@@ -108,7 +101,7 @@ class TestPage:
         assert len(browser.texts(".leaflet-popup-content .differs")) == 1
         assert title in browser.texts("#list [aria-current]")[0]
 
-    def test_list_goes_to_the_place(self, browser: Browser, town: Town) -> None:
+    def test_list_goes_to_the_place(self, browser: Browser) -> None:
         browser.filter("in the first alone chain")
         assert browser.listed() == 35
         for place in (1, 20):
@@ -116,7 +109,7 @@ class TestPage:
             assert browser.run("return showsChosenChain()")
             assert "chain in the first alone" in browser.texts(".leaflet-popup-content")[0]
 
-    def test_keyboard(self, browser: Browser, town: Town) -> None:
+    def test_keyboard(self, browser: Browser) -> None:
         """The list is one stop of the tabulator; arrows move in it, Enter goes to the map, and Escape comes back."""
         down, up, enter, escape, tab = "\ue015", "\ue013", "\ue007", "\ue00c", "\ue004"
         browser.run("document.getElementById('filter').focus()")
@@ -126,7 +119,7 @@ class TestPage:
         assert browser.texts(".leaflet-popup-content") == []
         assert browser.run("return document.activeElement === document.querySelector('#list li:nth-child(2) button')")
 
-    def test_layers(self, browser: Browser, town: Town) -> None:
+    def test_layers(self, browser: Browser) -> None:
         """A layer that is hidden is gone from the map and from the list, and comes back."""
         all_listed = browser.listed()
         for kind, (name, what, number) in enumerate(
@@ -139,7 +132,7 @@ class TestPage:
                 assert browser.listed() == all_listed - number * (not is_shown)
                 assert browser.run(shown) == is_shown
 
-    def test_print(self, browser: Browser, town: Town) -> None:
+    def test_print(self, browser: Browser) -> None:
         """A printed page has the whole list, and the page is afterwards as it was."""
         before = browser.run("return JSON.stringify(window.differences.map.getBounds())")
         browser.run(
@@ -149,7 +142,7 @@ class TestPage:
         assert browser.run("return window.printed") == browser.listed()
         assert browser.run("return JSON.stringify(window.differences.map.getBounds())") == before
 
-    def test_printed_map(self, browser: Browser, town: Town) -> None:
+    def test_printed_map(self, browser: Browser) -> None:
         """The map is whole on the first sheet, with its scale, whichever way the paper lies."""
         if not shutil.which("pdftotext"):
             pytest.skip("no poppler-utils")
@@ -162,13 +155,6 @@ class TestPage:
 
 class TestLayout:
     """What lies over what, in windows of several sizes."""
-
-    @pytest.fixture(scope="class")
-    def page(self, tmp_path_factory: pytest.TempPathFactory) -> Path:
-        folder = tmp_path_factory.mktemp("layout") / "a-folder-with-a-long-name/another-folder-with-a-long-name"
-        folder.mkdir(parents=True)
-        county = made_county(840, 20)
-        return page_of(folder, "TGR01001", written(county, 22), written(much_changed(county, 21).county, 23))
 
     @pytest.mark.parametrize("width, height", [(1300, 850), (1000, 600)])
     def test_close_button(self, browser: Browser, page: Path, width: int, height: int) -> None:
@@ -190,15 +176,13 @@ class TestVerdicts:
 
     @pytest.mark.parametrize("county", [made_county(84, 24), County([], [], [], [])], ids=["county", "nothing"])
     def test_one_map(self, browser: Browser, room: Path, county: County) -> None:
-        browser.open(page_of(room, "same", written(county, 25), written(county, 26)))
+        browser.open(page_of(room, *Changing(county, 25).files(room)))
         assert browser.texts("#notes") == ["No differences: the two are one map."]
         assert browser.texts("#list li") == []
 
     def test_ties(self, browser: Browser, room: Path) -> None:
-        county = made_county(220, 27)
-        changing = Changing.begin(county, 28)
-        changing.split_nodes(1)
-        browser.open(page_of(room, "tied", written(county, 29), written(changing.county, 30)))
+        _, *files = split_maps(room, 220, 27, 1)
+        browser.open(page_of(room, *files))
         assert "What differs is how they are tied" in browser.texts("#notes")[0]
         assert len(browser.texts("#list li")) == 1
         browser.click("#list button")
@@ -207,8 +191,7 @@ class TestVerdicts:
 
 def test_picture(browser: Browser, room: Path) -> None:
     """The example in examples/two-maps, and the picture of its page."""
-    ended = diff("--page", room / "example.html", "two-maps/first.txt", "two-maps/second.txt", cwd=EXAMPLE.parent)
-    assert (ended.status, ended.err) == (1, "")
+    differing("--page", room / "example.html", "two-maps/first.txt", "two-maps/second.txt", cwd=EXAMPLE.parent)
     browser.resize(1280, 800)
     browser.open(room / "example.html")
     assert browser.texts("#listed") == [f"{len(example_differences()) + 1} in all"]
