@@ -72,7 +72,9 @@ def limit_files(size: int) -> Callable[[], None]:
 
 
 def environment(**more: str) -> dict[str, str]:
-    return {**os.environ, "PYTHONPATH": str(PACKAGE), "PYTHONDONTWRITEBYTECODE": "1", **more}
+    """Folders that PYTHONPATH names come before that of the package."""
+    path = os.pathsep.join([*filter(None, [more.get("PYTHONPATH")]), str(PACKAGE)])
+    return {**os.environ, "PYTHONDONTWRITEBYTECODE": "1", **more, "PYTHONPATH": path}
 
 
 def words_of(*words: object) -> list[str]:

@@ -281,13 +281,3 @@ class TestDask:
         engine.close()
         cluster.close()
         assert sorted(number for number, _ in answers) == list(range(len(counties)))
-
-
-def test_a_scheduler_without_dask(room: Path, stand_in: Path) -> None:
-    """The error names the packages that are needed."""
-    put("hidden/distributed.py", b"raise ImportError('hidden')\n")
-    put("in/a.RT1", b"x\n")
-    path = f"{room}/hidden:{Path(__file__).parent.parent}"
-    ended = call("fingerprint", "--scheduler", "a:1", "in", env={"PYTHONPATH": path})
-    needed = "distributed and fsspec (Debian: python3-distributed and python3-fsspec)"
-    assert (ended.status, ended.lines) == (2, [f"--scheduler needs the Python packages {needed}: hidden"])

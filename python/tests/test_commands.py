@@ -51,23 +51,6 @@ class TestProgram:
         assert call("fingerprint", "--program", "./other", "in").reports == {"in/a": "refused 1 Other 1 1"}
         assert call("fingerprint", "in").status == 0
 
-    @pytest.mark.parametrize(
-        "name, why",
-        [
-            ("./nowhere", "no such file"),
-            ("./plain", "it isn't executable"),
-            ("./text", "Exec format error"),
-            ("./ends", "it ended with status 7"),
-        ],
-    )
-    def test_one_that_does_not_run(self, room: Path, name: str, why: str) -> None:
-        complete("in/a", b"x\n")
-        put("plain")
-        put("text", b"\0").chmod(0o755)
-        put("ends", b"#!/bin/sh\nexit 7\n").chmod(0o755)
-        ended = call("fingerprint", "--program", name, "in")
-        assert (ended.status, ended.lines) == (2, [f"the program {name} can't be run: {why}"])
-
     @pytest.fixture
     def installed(self, room: Path) -> Path:
         """The package without a clone around it."""

@@ -48,13 +48,6 @@ def test_places(room: Path, line: str, wanted: str) -> None:
     assert (ended.status, ended.out.splitlines()[2]) == (0, wanted)
 
 
-@pytest.mark.parametrize("line", ["refused 21 Old 1", "99", "Nothing", "no refusal", ""])
-def test_what_is_no_refusal(room: Path, line: str) -> None:
-    ended = call("explain", line)
-    why = f"{line!r} isn't a refusal: give the program's line, its number or its name"
-    assert (ended.status, ended.out, ended.lines) == (2, "", [why])
-
-
 def test_plain_text() -> None:
     """Marks of Markdown aren't printed."""
     text = "### `refused 7 Seven TYPE`\n\nSee **this** [page](format.md#a).\n\n## Next\n\nno\n"

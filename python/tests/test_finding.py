@@ -5,7 +5,7 @@ from importlib.util import find_spec
 from pathlib import Path
 
 import pytest
-from support import call, put
+from support import put
 
 from tigercanon.counties import Finder
 from tigercanon.judge import County, File
@@ -193,10 +193,3 @@ class TestStores:
         assert [county.zip for county in found(url)] == [File(f"{url}/a.ZIP", 3)]
         assert found(f"{url}/a")[0].zip == File(f"{url}/a.ZIP", 3)
         assert "can't be read: " in found("nothing://a/b")[0].trouble
-
-
-def test_urls_without_fsspec(room: Path, stand_in: Path) -> None:
-    """The error names the package that is needed."""
-    put("hidden/fsspec.py", b"raise ImportError('hidden')\n")
-    ended = call("fingerprint", "s3://a/b", env={"PYTHONPATH": f"{room}/hidden:{Path(__file__).parent.parent}"})
-    assert (ended.status, ended.lines) == (2, ["s3://a/b needs the Python package fsspec (Debian: python3-fsspec)"])

@@ -42,15 +42,6 @@ def test_other_files(room: Path, stand_in: Path, text: bytes, why: str) -> None:
     assert Path("calls").read_text() == ""
 
 
-@pytest.mark.parametrize("name", ["/dev/null", "/dev/full", "in", "pipe"])
-def test_names_that_are_no_files(room: Path, stand_in: Path, name: str) -> None:
-    os.mkfifo("pipe")
-    complete("in/b", b"b\n")
-    for words in (["fingerprint", "-o", name, "in"], ["verify", name]):
-        ended = call(*words)
-        assert (ended.status, ended.lines) == (2, [f"{name}: not a manifest: it isn't a regular file"])
-
-
 @pytest.mark.parametrize("flags", ["", "--no-sources", "--no-reserved", "--no-sources --no-reserved"])
 @pytest.mark.parametrize("is_old", [False, True])
 def test_flags(room: Path, stand_in: Path, flags: str, is_old: bool) -> None:
@@ -107,11 +98,6 @@ def test_a_linked_manifest(room: Path, stand_in: Path) -> None:
 def test_the_lock(room: Path, stand_in: Path) -> None:
     """A file of another kind in its place isn't touched; one that a killed run left is taken."""
     complete("in/b", b"b\n")
-    put("m.lock", b"something else\n")
-    ended = call("fingerprint", "-o", "m", "in")
-    assert (ended.status, ended.lines) == (2, ["m.lock: isn't the lock of m but another file: move it away"])
-    assert Path("m.lock").read_bytes() == b"something else\n"
-    os.unlink("m.lock")
     os.mkfifo("m.lock")
     assert call("fingerprint", "-o", "m", "in").status == 2
     os.unlink("m.lock")

@@ -20,7 +20,7 @@ from .county import made_county, written
 from .reports import PROGRESS, diff
 
 LEAFLET = ("--leaflet", "leaflet")
-WRONG_CALLS = re.findall(r"(?m)^\$ tigercanon-tools ?(.*)\n(.+\n)", (PACKAGE / "tests/wrong-calls").read_text())
+WRONG_CALLS = re.findall(r"(?m)^\$ (?:(\w+)=(\S+) )?tigercanon-tools ?(.*)\n(.+\n)", (PACKAGE / "tests/wrong-calls").read_text())
 
 
 @pytest.fixture(autouse=True)
@@ -48,14 +48,6 @@ def ask_shell(command: str, **options: Any) -> "subprocess.CompletedProcess[byte
     return subprocess.run(shell, env=env, stderr=subprocess.PIPE, **options)
 
 
-def assert_fails(line: str, *words: object, **options: Any) -> None:
-    """One line, status 2, nothing on standard output and nothing left behind."""
-    before = sorted(os.listdir("."))
-    ended = ask(*words, **options)
-    assert (ended.status, ended.out, ended.err) == (2, "", f"{NAME}{line}\n")
-    assert sorted(os.listdir(".")) == before
-
-
 @pytest.mark.parametrize("wanted", ["", "--no-sources", "--no-reserved", "--no-sources --no-reserved"])
 def test_masks(wanted: str) -> None:
     """The flags that leave fields out go to the program, and all that is written names them."""
@@ -70,12 +62,18 @@ def test_masks(wanted: str) -> None:
     assert json.loads(Path("geojson").read_text()).get("left_out", "") == wanted
 
 
-@pytest.mark.parametrize("words, told", WRONG_CALLS)
-def test_wrong_calls(room: Path, words: str, told: str) -> None:
+@pytest.mark.parametrize("variable, value, words, told", WRONG_CALLS)
+def test_wrong_calls(room: Path, variable: str, value: str, words: str, told: str) -> None:
     """Of each command: exactly one line of what is wrong, status 2, and no file is changed. Of a set that is refused it has the file, the
     program's line and a hint; the first set comes before the second."""
-    for name in ("in/b.RT1", "empty", "empty.ZIP"):
+    for name in ("in/b.RT1", "empty", "empty.ZIP", "no-program"):
         put(name)
+    for name, text in (("text", b"\0"), ("ends", b"#!/bin/sh\nexit 7\n"), ("odd", b"#!/bin/sh\necho odd\n")):
+        put(name, text).chmod(0o755)
+    for name in ("fsspec", "distributed"):
+        put(f"hidden/{name}.py", b"raise ImportError('hidden')\n")
+    put("locked.lock", b"something else\n")
+    os.mkfifo("pipe")
     lines = [f"{letter * 64}  {name}\n".encode() for letter, name in (("a", "one/x"), ("b", "two/X"))]
     put("head", HEAD.encode())
     put("cut", b"".join(lines)[:-5])
@@ -89,17 +87,12 @@ def test_wrong_calls(room: Path, words: str, told: str) -> None:
     for name in ("packed", "in/packed.RT1"):
         put(name, b"\x1f\x8bpacked\n")
     before = {path: path.is_file() and path.read_bytes() for path in room.rglob("*")}
-    ended = call(*(word.replace("\\n", "\n") for word in shlex.split(words)), env={"TIGERCANON": f"{room}/program"})
+    env = {"TIGERCANON": f"{room}/program", **({variable: value} if variable else {})}
+    ended = call(*(word.replace("\\n", "\n") for word in shlex.split(words)), env=env)
     wanted = re.escape(told.replace("ROOM", str(room))).replace(re.escape("..."), ".*")
     assert (ended.status, ended.out) == (2, "")
     assert re.fullmatch(wanted, PROGRESS.sub("", ended.err)), ended.err
     assert {path: path.is_file() and path.read_bytes() for path in room.rglob("*")} == before
-
-
-def test_program(room: Path) -> None:
-    assert_fails(f"the program {room}/nowhere can't be run: no such file", "one", "one", program="nowhere")
-    put("odd", b"#!/bin/sh\necho odd\n").chmod(0o755)
-    assert_fails("the program doesn't print a canonical text: line 1 isn't a record", "one", "one", program="odd")
 
 
 def test_stems_and_zips() -> None:
@@ -157,9 +150,10 @@ def test_files_are_written() -> None:
 def test_a_full_disk() -> None:
     """A file that can't be written to its end isn't left behind, and an older file of its name is unchanged."""
     put("geojson", b"older")
-    words = ("--geojson", "geojson", "--all", "one", "other")
-    assert_fails("geojson: can't be written: File too large", *words, preexec_fn=limit_files(20_000))
-    assert Path("geojson").read_bytes() == b"older"
+    before = sorted(os.listdir("."))
+    ended = ask("--geojson", "geojson", "--all", "one", "other", preexec_fn=limit_files(20_000))
+    assert (ended.status, ended.out, ended.err) == (2, "", f"{NAME}geojson: can't be written: File too large\n")
+    assert (sorted(os.listdir(".")), Path("geojson").read_bytes()) == (before, b"older")
 
 
 @pytest.mark.parametrize(
