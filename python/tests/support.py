@@ -1,4 +1,4 @@
-"""Calls of the tools, waiting, and a Dask scheduler with workers."""
+"""Calls of the tools, their answers, and files for them."""
 
 from __future__ import annotations
 
@@ -6,17 +6,15 @@ import ctypes
 import hashlib
 import os
 import resource
-import shutil
 import signal
 import subprocess
 import sys
-import tempfile
 from contextlib import suppress
 from pathlib import Path
 from typing import Any, Callable, Iterator, NamedTuple
 
 from testing import PROGRAM as BUILT
-from testing import ROOT, TYPES, await_that
+from testing import ROOT, TYPES
 
 PACKAGE = ROOT / "python"
 NAMED = os.path.abspath(os.environ.get("TIGERCANON") or BUILT)
@@ -141,40 +139,3 @@ def left_behind() -> list[str]:
     """Temporary folders of runs, here and in memory."""
     rooms = [Path(os.environ["TMPDIR"]), Path(os.environ["TIGERCANON_SHM"])]
     return [str(path) for room in rooms for path in room.glob("tigercanon-*")]
-
-
-class Engine:
-    """A Dask scheduler and workers on 127.0.0.1, each a process as a cluster starts it. The package isn't installed on the workers."""
-
-    def __init__(self, room: Path, workers: int = 3) -> None:
-        self.room = Path(tempfile.mkdtemp(dir=room))
-        self.file = self.room / "scheduler.json"
-        self.workers: list["subprocess.Popen[bytes]"] = []
-        self.scheduler = self.begin("scheduler", "--port", "0", "--dashboard-address", "127.0.0.1:0")
-        if not await_that(self.file.exists):
-            self.close()
-            raise AssertionError("the scheduler doesn't start")
-        for _ in range(workers):
-            self.start_worker()
-
-    def start_worker(self) -> None:
-        words = "--nthreads 1 --memory-limit 2GB --no-dashboard --local-directory".split()
-        self.workers.append(self.begin("worker", *words, str(self.room)))
-
-    def begin(self, kind: str, *words: str) -> "subprocess.Popen[bytes]":
-        module = f"distributed.cli.dask_{kind}"
-        command = [sys.executable, "-m", module, "--scheduler-file", str(self.file), "--host", "127.0.0.1", *words]
-        kept = {key: text for key, text in os.environ.items() if key != "PYTHONPATH"}
-        with open(self.room / f"{kind}.log", "ab") as log:
-            how: dict[str, Any] = {"stdin": subprocess.DEVNULL, "stdout": log, "stderr": log, "cwd": self.room, "env": kept}
-            return subprocess.Popen(command, start_new_session=True, preexec_fn=die_with_the_test, **how)
-
-    def worker_processes(self) -> list[int]:
-        """The processes that run tasks: the children of the workers' nannies."""
-        nannies = [worker.pid for worker in self.workers]
-        return [number for number, parent, command in processes() if parent in nannies and b"spawn_main" in command]
-
-    def close(self) -> None:
-        for run in (*self.workers, self.scheduler):
-            kill_group(run)
-        shutil.rmtree(self.room, ignore_errors=True)

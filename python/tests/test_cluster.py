@@ -6,23 +6,20 @@ import re
 import shutil
 import signal
 import subprocess
+import sys
 import zipfile
-from concurrent.futures import ThreadPoolExecutor
 from importlib.util import find_spec
 from pathlib import Path
-from typing import Iterator, NamedTuple
+from typing import Any, Iterator, NamedTuple
 
 import pytest
 from differences.county import made_county, written
-from support import PROGRAM, STAND_INS, Engine, begin, call, count_of_lines, end, left_behind, put
-from testing import ROOT, TYPES, await_that
+from support import PROGRAM, STAND_INS, begin, call, count_of_lines, die_with_the_test, end, kill_group, left_behind, processes, put
+from testing import ROOT, TYPES, await_that, by_type
 
 from tigercanon.judge import endings
 
 needs_dask = pytest.mark.skipif(not find_spec("distributed"), reason="distributed isn't installed")
-
-
-EXAMPLES = ROOT / "examples"
 
 COUNTIES = 300
 
@@ -30,103 +27,69 @@ Parts = dict[str, bytes]
 """A county's files by their types. A type that isn't there has no file."""
 
 
-class Made(NamedTuple):
-    """A county of the archive: its stem, its files, and whether it is a zip there."""
-
-    stem: str
-    parts: Parts
-    is_zip: bool
-
-
-def parts_of(text: bytes) -> Parts:
-    """The records of a county by their types, each type a file."""
-    parts = {kind: b"" for kind in TYPES}
-    for line in text.splitlines():
-        kind = chr(line[0]) if line else "1"
-        parts[kind if kind in parts else "1"] += line + b"\r\n"
-    return parts
-
-
-def texts(count: int) -> list[bytes]:
-    """The texts of count counties: each map in two spellings, and some in one. Each tenth county is refused."""
-    refused = [path.read_bytes() for path in sorted((EXAMPLES / "refused").iterdir())] + [(EXAMPLES / "broken.txt").read_bytes()]
-    made = []
-    for number in range(count):
-        county = made_county(12, number // 2)
-        made.append(refused[number // 10 % len(refused)] if number % 10 == 9 else written(county, number))
-    return made
-
-
-def made_counties(count: int = COUNTIES) -> list[Made]:
-    """The counties of the archive: each third is a zip, some are in a folder of a folder, and some lack files."""
-    made = []
-    for number, text in enumerate(texts(count)):
-        parts = parts_of(text)
+def made_counties() -> Iterator[tuple[str, Parts]]:
+    """Stems and files: each map in two spellings, and some in one. Each tenth county is refused, some are in a folder of a folder, and some
+    lack files."""
+    refused = [*sorted((ROOT / "examples/refused").iterdir()), ROOT / "examples/broken.txt"]
+    for number in range(COUNTIES):
+        made = written(made_county(12, number // 2), number)
+        text = refused[number // 10 % len(refused)].read_bytes() if number % 10 == 9 else made
+        parts = by_type(b"".join(line + b"\r\n" for line in text.splitlines()))
         for kind in TYPES[1:] if number % 25 == 4 else "78" if number % 25 == 14 else "1" if number % 100 == 44 else "":
             del parts[kind]
-        folder = "in/more/of it" if number % 5 == 0 else "in"
-        made.append(Made(f"{folder}/TGR{number:05}", parts, number % 3 == 0))
-    return made
+        yield f"{'in/more/of it' if number % 5 == 0 else 'in'}/TGR{number:05}", parts
 
 
-def put_files(room: Path, county: Made) -> None:
+def put_files(stem: Path, parts: Parts) -> None:
     """A county as single files."""
-    for kind, text in county.parts.items():
-        put(room / f"{county.stem}.RT{kind}", text)
+    for kind, text in parts.items():
+        put(f"{stem}.RT{kind}", text)
 
 
-def put_zip(room: Path, county: Made, is_small: bool) -> None:
+def put_zip(stem: Path, parts: Parts, is_small: bool) -> None:
     """A county as a zip, in which other types lie too; with all names in lower case, or in capitals."""
-    path = put(room / f"{county.stem}{'.zip' if is_small else '.ZIP'}")
-    with zipfile.ZipFile(path, "w", zipfile.ZIP_DEFLATED) as packed:
-        for kind, text in {**county.parts, "A": b"A2006\r\n", "Z": b"Z2006\r\n"}.items():
-            member = f"{Path(county.stem).name}.RT{kind}"
+    with zipfile.ZipFile(put(f"{stem}{'.zip' if is_small else '.ZIP'}"), "w", zipfile.ZIP_DEFLATED) as packed:
+        for kind, text in {**parts, "A": b"A2006\r\n", "Z": b"Z2006\r\n"}.items():
+            member = f"{stem.name}.RT{kind}"
             packed.writestr(member.lower() if is_small else member, text)
 
 
-def put_archive(room: Path, made: list[Made]) -> None:
-    for number, county in enumerate(made):
-        if county.is_zip:
-            put_zip(room, county, number % 2 == 1)
-        else:
-            put_files(room, county)
-
-
 class Archive(NamedTuple):
-    """The folder, and what is expected: the lines of the manifest, and the reports."""
+    """The counties as single files, and with each third as a zip; and what is expected: the lines of the manifest, and the reports."""
 
-    folder: Path
+    files: Path
+    packed: Path
     lines: list[str]
     reports: dict[str, str]
 
 
 @pytest.fixture(scope="module")
-def expected(tmp_path_factory: pytest.TempPathFactory) -> Iterator[Archive]:
+def expected(tmp_path_factory: pytest.TempPathFactory) -> Archive:
     """What the program prints for each county alone."""
     if not PROGRAM:
         pytest.skip("no program is built")
-    folder, asks = tmp_path_factory.mktemp("files"), [PROGRAM, "fingerprint", "--stem", "--"]
-    counties = sorted(made_counties(), key=lambda county: county.stem)
-    for county in counties:
-        put_files(folder, county)
-    with ThreadPoolExecutor() as pool:
-        stems = [folder / county.stem for county in counties]
-        runs = list(pool.map(lambda stem: subprocess.run([*asks, stem], capture_output=True, text=True), stems))
-    lines, reports = ["# tigercanon form 1"], {}
-    for county, run in zip(counties, runs):
-        missing = endings(kind for kind in TYPES if kind not in county.parts)
-        empty = "empty .RT1" if county.parts.get("1") == b"" else ""
+    made = Archive(tmp_path_factory.mktemp("files"), tmp_path_factory.mktemp("archive"), ["# tigercanon form 1"], {})
+    for stem, parts in sorted(made_counties()):
+        put_files(made.files / stem, parts)
+        number = int(stem[-5:])
+        if number % 3:
+            put_files(made.packed / stem, parts)
+        else:
+            put_zip(made.packed / stem, parts, number % 2 == 1)
+        run = subprocess.run([PROGRAM, "fingerprint", "--stem", "--", made.files / stem], capture_output=True, text=True)
         if run.returncode == 0:
-            lines.append(f"{run.stdout.strip()}  {county.stem}")
+            made.lines.append(f"{run.stdout.strip()}  {stem}")
+        missing = endings(kind for kind in TYPES if kind not in parts)
+        empty = "empty .RT1" if parts.get("1") == b"" else ""
         notes = "; ".join(filter(None, [run.stderr.strip(), missing and f"no {missing}", empty]))
-        if notes:
-            reports[county.stem] = notes
-    yield Archive(folder, lines, reports)
+        made.reports.update({stem: notes} if notes else {})
+    assert COUNTIES * 8 // 10 < len(made.lines) - 1 < COUNTIES
+    return made
 
 
 @pytest.fixture
 def archive(room: Path, program: str, expected: Archive) -> Archive:
-    put_archive(room, made_counties())
+    shutil.copytree(expected.packed / "in", "in")
     return expected
 
 
@@ -156,10 +119,6 @@ def assert_all_done(archive: Archive, killed: int = 0) -> None:
     assert not os.path.exists("m.lock") and not os.path.exists("m.new")
 
 
-def test_most_counties_have_a_fingerprint(expected: Archive) -> None:
-    assert COUNTIES * 8 // 10 < len(expected.lines) - 1 < COUNTIES
-
-
 def test_on_this_machine(archive: Archive) -> None:
     ended = call("fingerprint", "-o", "m", "in")
     assert (ended.status, plain(ended.reports)) == (1, archive.reports)
@@ -179,8 +138,43 @@ def test_on_this_machine(archive: Archive) -> None:
 def test_the_same_from_single_files(archive: Archive) -> None:
     """Zips and their unpacked files have the same manifest."""
     assert call("fingerprint", "-o", "m", "in").status == 1
-    ended = call("verify", "--root", archive.folder, "m")
+    ended = call("verify", "--root", archive.files, "m")
     assert (ended.status, ended.out.count(": OK\n")) == (0, len(archive.lines) - 1)
+
+
+class Engine:
+    """A Dask scheduler and workers on 127.0.0.1, each a process as a cluster starts it. The package isn't installed on the workers."""
+
+    def __init__(self, room: Path, workers: int = 3) -> None:
+        self.workers: list["subprocess.Popen[bytes]"] = []
+        self.room = room / "dask"
+        self.room.mkdir()
+        self.file = self.room / "scheduler.json"
+        self.scheduler = self.begin("scheduler", "--port", "0", "--dashboard-address", "127.0.0.1:0")
+        assert await_that(self.file.exists), "the scheduler doesn't start"
+        for _ in range(workers):
+            self.start_worker()
+
+    def start_worker(self) -> None:
+        words = "--nthreads 1 --memory-limit 2GB --no-dashboard --local-directory".split()
+        self.workers.append(self.begin("worker", *words, str(self.room)))
+
+    def begin(self, kind: str, *words: str) -> "subprocess.Popen[bytes]":
+        module = f"distributed.cli.dask_{kind}"
+        command = [sys.executable, "-m", module, "--scheduler-file", str(self.file), "--host", "127.0.0.1", *words]
+        kept = {key: text for key, text in os.environ.items() if key != "PYTHONPATH"}
+        with open(self.room / f"{kind}.log", "ab") as log:
+            how: dict[str, Any] = {"stdin": subprocess.DEVNULL, "stdout": log, "stderr": log, "cwd": self.room, "env": kept}
+            return subprocess.Popen(command, start_new_session=True, preexec_fn=die_with_the_test, **how)
+
+    def worker_processes(self) -> list[int]:
+        """The processes that run tasks: the children of the workers' nannies."""
+        nannies = [worker.pid for worker in self.workers]
+        return [number for number, parent, command in processes() if parent in nannies and b"spawn_main" in command]
+
+    def close(self) -> None:
+        for run in (*self.workers, self.scheduler):
+            kill_group(run)
 
 
 @pytest.mark.cluster
