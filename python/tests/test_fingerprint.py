@@ -114,33 +114,22 @@ def zip_up(stem: str) -> None:
 
 @pytest.mark.parametrize("is_zip", [False, True])
 @pytest.mark.parametrize("kind", TYPES)
-def test_strict_without_a_file(room: Path, stand_in: Path, kind: str, is_zip: bool) -> None:
-    complete("in/b", b"b\n")
-    os.unlink(f"in/b.RT{kind}")
-    if is_zip:
-        zip_up("in/b")
-    ended = call("fingerprint", "--strict", "-o", "m", "in")
-    assert (ended.status, ended.reports) == (1, {"in/b": f"rejected by --strict: no .RT{kind}"})
-    assert ended.lines[-1] == "refused: 1 by --strict"
-    assert calls() == [] and not os.path.exists("m")
-    ended = call("fingerprint", "-o", "m", "in")
-    refused = "refused 8 Device; " if kind == "1" else ""
-    assert (ended.status, ended.reports) == (int(kind == "1"), {"in/b": f"{refused}no .RT{kind}"})
-
-
-@pytest.mark.parametrize("is_zip", [False, True])
-@pytest.mark.parametrize("kind", TYPES)
-def test_empty_files(room: Path, stand_in: Path, kind: str, is_zip: bool) -> None:
-    """Strict mode rejects an empty file of type 1, 2 or I, and reports other ones. An empty file of type 1 is always reported."""
-    complete("in/b", b"b\n")
-    put(f"in/b.RT{kind}")
-    if is_zip:
-        zip_up("in/b")
-    ended = call("fingerprint", "--strict", "in")
-    rejected = "rejected by --strict: " if kind in "12I" else ""
-    assert (ended.status, ended.reports) == (int(kind in "12I"), {"in/b": f"{rejected}empty .RT{kind}"})
-    ended = call("fingerprint", "in")
-    assert (ended.status, ended.reports) == (0, {"in/b": "empty .RT1"} if kind == "1" else {})
+def test_absent_and_empty_files(room: Path, stand_in: Path, kind: str, is_zip: bool) -> None:
+    """Strict mode rejects a county without a file, and an empty file of type 1, 2 or I, and reports other empty ones. An absent file and
+    an empty one of type 1 are always reported."""
+    for stem in ("in/absent", "in/empty"):
+        complete(stem, b"b\n")
+    os.unlink(f"in/absent.RT{kind}")
+    put(f"in/empty.RT{kind}")
+    for stem in ("in/absent", "in/empty") if is_zip else ():
+        zip_up(stem)
+    ended, is_rejected, rejected = call("fingerprint", "--strict", "-o", "m", "in"), kind in "12I", "rejected by --strict: "
+    wanted = {"in/absent": f"{rejected}no .RT{kind}", "in/empty": f"{rejected * is_rejected}empty .RT{kind}"}
+    assert (ended.status, ended.reports, ended.lines[-1]) == (1, wanted, f"refused: {1 + is_rejected} by --strict")
+    assert (len(calls()), os.path.exists("m")) == (int(not is_rejected), not is_rejected)
+    ended, is_first = call("fingerprint", "in"), kind == "1"
+    wanted = {"in/absent": f"{'refused 8 Device; ' * is_first}no .RT{kind}", **({"in/empty": "empty .RT1"} if is_first else {})}
+    assert (ended.status, ended.reports) == (int(is_first), wanted)
 
 
 def test_nine_empty_files(room: Path, stand_in: Path) -> None:

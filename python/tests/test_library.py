@@ -12,7 +12,7 @@ import subprocess
 import sys
 import zipfile
 from pathlib import Path
-from typing import Any, Callable, Iterator
+from typing import Any, Iterator
 
 import pytest
 from testing import ROOT, TYPES, Answer, make_county, script
@@ -78,28 +78,17 @@ def test_vectors() -> None:
 
 
 def test_examples_of_refusals() -> None:
-    """Every example of a refusal, with all that the exception has."""
+    """Every example of a refusal, with all that the exception has. The other calls get them as cases of vectors/."""
     table = (ROOT / "examples/README.md").read_text("utf-8").split("## Refused sets")[1]
     rows = re.findall(r"^\| `([a-z-]*\.txt)` \|.*`refused ([^`]*)` \|$", table, re.M)
     assert len(rows) == len(list((ROOT / "examples/refused").iterdir()))
     for name, told in rows:
-        path = ROOT / "examples/refused" / name
         number, title, *places = told.split()
-        calls: list[tuple[Callable[[], object], int | None]] = [
-            (lambda: tigercanon.check(path), None),
-            (lambda: tigercanon.normalise(path), None),
-            (lambda: tigercanon.fingerprint(path), None),
-            (lambda: tigercanon.compare(path, AUTAUGA), 1),
-            (lambda: tigercanon.compare(AUTAUGA, path), 2),
-        ]
-        for call, which in calls:
-            with pytest.raises(tigercanon.Refusal) as raised:
-                call()
-            line = f"refused {told}" + (f" in set {which}" if which else "")
-            refusal = raised.value
-            assert (refusal.number, refusal.name, refusal.set) == (int(number), title, which)
-            assert refusal.line == str(refusal) == line
-            assert [str(place) for place in refusal.places] == places
+        with pytest.raises(tigercanon.Refusal) as raised:
+            tigercanon.compare(AUTAUGA, ROOT / "examples/refused" / name)
+        refusal = raised.value
+        assert (refusal.number, refusal.name, refusal.set, [*map(str, refusal.places)]) == (int(number), title, 2, places)
+        assert refusal.line == str(refusal) == f"refused {told} in set 2"
 
 
 def test_lines_of_the_guide() -> None:
@@ -115,11 +104,6 @@ def test_lines_of_the_guide() -> None:
         assert (raised.value.number, raised.value.name) == (int(number), name)
         found[int(number)] = raised.value.places
     assert found == {1: (1, 1), 2: (1, 1), 3: (1, 1, 12), 4: (1, 1, 6), 5: (1, 1, 55), 6: (1, 1, 27)}
-
-
-def test_a_line_of_the_third_part() -> None:
-    with pytest.raises(tigercanon.Refusal, match="^refused 4 BadNumber 3 1 6$"):
-        tigercanon.respell([AUTAUGA, b"", b"1\n\n"])
 
 
 def test_counties(tmp_path: Path) -> None:
