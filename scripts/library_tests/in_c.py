@@ -3,12 +3,11 @@
 import concurrent.futures
 import os
 import re
-import resource
 import shutil
 from pathlib import Path
 
 from library_tests import in_header
-from library_tests.support import WARNINGS, Tests, compiled, tools
+from library_tests.support import WARNINGS, Tests, tools
 from testing import ROOT, Answer, make_county, run, script
 
 CALLS = ["check", "compare", "fingerprint", "normalise", "respell"]
@@ -42,16 +41,14 @@ def try_header(tests: Tests) -> None:
 
 def compile_callers(tests: Tests) -> None:
     """The caller with the archive and with the shared library, by each compiler that is installed."""
-    include, archive = ["-I", tests.library / "include"], tests.library / "lib/libtigercanon.a"
     for compiler in tools("gcc", "clang"):
-        tests.callers[compiler] = compiled(tests, f"by-{compiler}", [compiler, *include, archive])
-    if tools("gcc", "pkg-config"):
+        tests.compile(compiler, compiler, *tests.linked)
+    if tools("pkg-config"):
         found = run(["pkg-config", "--cflags", "--libs", "tigercanon"],
                     env={**os.environ, "PKG_CONFIG_PATH": str(tests.library / "lib/pkgconfig")})
-        tests.callers["shared"] = compiled(tests, "by-pkg-config", ["gcc", *found.out.decode().split()])
+        tests.compile("shared", "gcc", *found.out.decode().split())
     else:
         tests.skip("pkg-config isn't installed")
-    tests.callers = {name: words for name, words in tests.callers.items() if words}
 
 
 def try_vectors(tests: Tests) -> None:
@@ -68,21 +65,22 @@ def try_shared(tests: Tests) -> None:
     in_library = {**os.environ, "LD_LIBRARY_PATH": str(tests.library / "lib")}
     for path in [AUTAUGA, RENUMBERED, ROOT / "examples/broken.txt", *sorted((ROOT / "examples/refused").iterdir())]:
         for command in CALLS[:1] + CALLS[2:]:
-            by_archive = run([*tests.callers["gcc"], command, path])
-            tests.equal(f"shared, {command} {path.name}", by_archive, run([*tests.callers["shared"], command, path], env=in_library))
+            by_shared = run([*tests.callers["shared"], command, path], env=in_library)
+            tests.equal(f"shared, {command} {path.name}", tests.by_c(command, path), by_shared)
 
 
 def try_empty(tests: Tests) -> None:
     """Parts without bytes, among others and alone."""
-    caller, empty = tests.callers["gcc"], tests.room / "empty"
+    empty = tests.room / "empty"
     empty.write_bytes(b"")
     digits = b"e3b0c44298fc1c149afbf4c8996fb92427ae41e4649b934ca495991b7852b855\n"
     for command, wanted in [("check", b"accepted\n"), ("normalise", b""), ("respell", b""), ("fingerprint", digits)]:
-        tests.equal(f"{command} of nothing", Answer(0, wanted, b""), run([*caller, command, empty]))
-    tests.equal("compare of nothing", Answer(0, b"same\n", b""), run([*caller, "compare", empty, empty]))
+        tests.equal(f"{command} of nothing", Answer(0, wanted, b""), tests.by_c(command, empty))
+    tests.equal("compare of nothing", Answer(0, b"same\n", b""), tests.by_c("compare", empty, empty))
     stem = tests.room / "empty-parts"
     shutil.copy(AUTAUGA, f"{stem}.RT1")
-    tests.equal("nine parts, of which one has bytes", run([*caller, "normalise", AUTAUGA]), run([*caller, "normalise", "--stem", stem]))
+    whole, in_parts = tests.by_c("normalise", AUTAUGA), tests.by_c("normalise", "--stem", stem)
+    tests.equal("nine parts, of which one has bytes", whole, in_parts)
 
 
 def try_rounds(tests: Tests) -> None:
@@ -91,7 +89,7 @@ def try_rounds(tests: Tests) -> None:
              ["fingerprint", AUTAUGA], ["compare", AUTAUGA, RENUMBERED], ["check", ROOT / "examples/broken.txt"],
              ["compare", AUTAUGA, ROOT / "examples/refused/too-symmetric.txt"], ["respell", os.devnull]]
     for call in words:
-        done = run([*tests.callers["gcc"], "--rounds", "1000", *call])
+        done = tests.by_c("--rounds", "1000", *call)
         found = [int(kib) for kib in re.findall(rb": (\d+) KiB", done.err)]
         is_so = len(found) == 2 and found[1] - found[0] <= GROWTH
         tests.count(is_so, f"1,000 rounds of {call[0]}: {done.err.decode()[:300]}")
@@ -100,26 +98,9 @@ def try_rounds(tests: Tests) -> None:
 def try_threads(tests: Tests, county: Path) -> None:
     """Calls in several threads at once return what one returns."""
     for call in [["fingerprint", county], ["normalise", county], ["compare", county, county], ["check", AUTAUGA]]:
-        wanted = run([*tests.callers["gcc"], *call])
+        wanted = tests.by_c(*call)
         for threads in (2, 4):
-            tests.equal(f"{threads} threads, {call[0]}", wanted, run([*tests.callers["gcc"], "--threads", threads, *call]))
-
-
-def try_little_memory(tests: Tests, county: Path) -> None:
-    """If memory is short, only that is reported."""
-    lacking, caller = Answer(5, b"", b"refused 9 Memory\n"), tests.callers["gcc"]
-    # With large pages a growth is so large that none of the steps below may stop it.
-    plain = {key: text for key, text in os.environ.items() if key != "GLIBC_TUNABLES"}
-    for command in ("check", "respell", "normalise", "fingerprint"):
-        right, told = run([*caller, command, county]), set()
-        for kib in range(2048, 32768, 512):
-            size = (kib << 10, kib << 10)
-            found = run([*caller, command, county], env=plain, preexec_fn=lambda: resource.setrlimit(resource.RLIMIT_AS, size))
-            # With even less memory the caller can't start or read its file.
-            if told or found.status in (0, 5):
-                tests.count(found in (right, lacking), f"{command} in {kib} KiB: {found.status}, {found.err!r}")
-                told.add(found.status)
-        tests.equal(f"{command} in little memory, its statuses", {0, 5}, told)
+            tests.equal(f"{threads} threads, {call[0]}", wanted, tests.by_c("--threads", threads, *call))
 
 
 def try_checked(tests: Tests) -> None:
@@ -129,11 +110,10 @@ def try_checked(tests: Tests) -> None:
                 ["compare", AUTAUGA, RENUMBERED], ["compare", AUTAUGA, ROOT / "examples/broken.txt"], ["respell", os.devnull],
                 *(["check", path] for path in sorted((ROOT / "examples/refused").iterdir()))]
     checkers = []
-    include, archive = ["-I", tests.library / "include"], tests.library / "lib/libtigercanon.a"
     trial = run(["gcc", "-fsanitize=address,undefined", "-x", "c", "-", "-o", tests.room / "trial"], input=b"int main(void) { return 0; }")
     if trial.status == 0:
         flags = ["-g", "-fsanitize=address,undefined", "-fno-sanitize-recover=all"]
-        checkers.append(("gcc's checkers", compiled(tests, "sanitized", ["gcc", *flags, *include, archive])))
+        checkers.append(("gcc's checkers", tests.compile("sanitized", "gcc", *flags, *tests.linked)))
     else:
         tests.skip("gcc has no checker of addresses here")
     if tools("valgrind"):
@@ -142,9 +122,8 @@ def try_checked(tests: Tests) -> None:
         tests.skip("valgrind isn't installed")
     for name, words in filter(all, checkers):
         for call in examples:
-            tests.equal(f"{name}, {' '.join(map(str, call))}", run([*tests.callers["gcc"], *call]), run([*words, *call]))
-        tests.equal(f"{name}, two threads", run([*tests.callers["gcc"], "normalise", AUTAUGA]),
-                    run([*words, "--threads", "2", "normalise", AUTAUGA]))
+            tests.equal(f"{name}, {' '.join(map(str, call))}", tests.by_c(*call), run([*words, *call]))
+        tests.equal(f"{name}, two threads", tests.by_c("normalise", AUTAUGA), run([*words, "--threads", "2", "normalise", AUTAUGA]))
 
 
 def run_all(tests: Tests) -> None:
@@ -161,4 +140,7 @@ def run_all(tests: Tests) -> None:
     for test in (try_vectors, *([try_shared] if "shared" in tests.callers else []), try_empty, try_rounds, try_checked):
         test(tests)
     try_threads(tests, county)
-    try_little_memory(tests, county)
+    # With large pages a growth is so large that none of the steps below may stop it.
+    plain = {key: text for key, text in os.environ.items() if key != "GLIBC_TUNABLES"}
+    for command in ("check", "respell", "normalise", "fingerprint"):
+        tests.limit(command, county, range(2 << 20, 32 << 20, 512 << 10), env=plain)

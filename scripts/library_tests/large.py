@@ -3,13 +3,12 @@
 import importlib
 import mmap
 import os
-import resource
 import sys
 from pathlib import Path
 
 from library_tests.support import SUFFIXES, Tests
 from measuring import TURNED, use_large_pages
-from testing import Answer, make_county, run, script
+from testing import make_county, run, script
 
 CHAINS = 100_000
 
@@ -25,7 +24,7 @@ def try_c(tests: Tests, whole: Path, stem: Path) -> None:
                 found, wanted = run([*tests.callers[name], *call]), run([tests.program, *call])
                 tests.count(found == wanted, f"{CHAINS} chains by {name}, {call[0]}: {found.status} {found.err!r}, {len(found.out)} bytes")
     wanted = run([tests.program, "fingerprint", whole])
-    tests.equal("two threads on large counties", wanted, run([*tests.callers["gcc"], "--threads", 2, "fingerprint", whole]))
+    tests.equal("two threads on large counties", wanted, tests.by_c("--threads", 2, "fingerprint", whole))
 
 
 def try_python(tests: Tests, whole: Path, stem: Path) -> None:
@@ -49,18 +48,6 @@ def try_python(tests: Tests, whole: Path, stem: Path) -> None:
         tests.equal("compare", True, module.compare(mapped, parts))
 
 
-def try_little_memory(tests: Tests, whole: Path) -> None:
-    """A file of 47 MB in little memory."""
-    lacking, told = Answer(5, b"", b"refused 9 Memory\n"), set()
-    for mib in (60, 90, 120, 400):
-        size = mib << 20
-        found = run([*tests.callers["gcc"], "fingerprint", whole], preexec_fn=lambda: resource.setrlimit(resource.RLIMIT_AS, (size, size)))
-        if found.status in (0, 5):
-            tests.count(found.status == 0 or found == lacking, f"{mib} MiB: {found.status} {found.err!r}")
-            told.add(found.status)
-    tests.equal("large counties in little memory", {0, 5}, told)
-
-
 def try_counties(tests: Tests) -> None:
     """The calls for C on the large counties on which the program is tried, and on the large sets that are rejected."""
     test_large = script(".ci/test-large")
@@ -79,6 +66,6 @@ def run_all(tests: Tests) -> None:
     make_county("--stem", *TURNED, CHAINS, stem)
     if "gcc" in tests.callers:
         try_c(tests, whole, stem)
-        try_little_memory(tests, whole)
+        tests.limit("fingerprint", whole, (mib << 20 for mib in (60, 90, 120, 400)))
         try_counties(tests)
     try_python(tests, whole, stem)

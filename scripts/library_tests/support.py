@@ -2,20 +2,21 @@
 
 import os
 import re
+import resource
 import shutil
 import sys
-import tempfile
 from pathlib import Path
-from typing import Sequence
+from typing import Iterable
 
 sys.path.insert(0, str(Path(__file__).resolve().parent.parent.parent / "tools"))
 
 import testing  # noqa: E402
-from testing import ROOT, TYPES, run  # noqa: E402
+from testing import ROOT, TYPES, Answer, run  # noqa: E402
 
 CALLER = Path(__file__).resolve().parent / "caller.c"
 SUFFIXES = [f".RT{kind}" for kind in TYPES]
 WARNINGS = ["-Wall", "-Wextra", "-pedantic", "-Werror"]
+LACKING = Answer(5, b"", b"refused 9 Memory\n")
 
 
 class Tests(testing.Tests):
@@ -24,16 +25,33 @@ class Tests(testing.Tests):
     def __init__(self, library: Path, program: Path, room: Path):
         super().__init__("library, ", program, room)
         self.library = library
+        self.linked = ["-I", library / "include", library / "lib/libtigercanon.a"]
         self.callers: dict[str, list[str]] = {}
 
+    def compile(self, name: str, compiler: str, *flags: object) -> list[str]:
+        """The command that calls the caller by this compiler, with these arguments after its file; nothing if it can't be compiled."""
+        made = self.room / f"by-{name}"
+        # The caller uses the threads and the clock of POSIX.
+        done = run([compiler, "-std=c11", "-D_GNU_SOURCE", "-O2", "-pthread", *WARNINGS, "-o", made, CALLER, *flags])
+        if self.count(done.status == 0, f"{name}: {done.err.decode()[:2000]}"):
+            self.callers[name] = [str(made)]
+        return self.callers.get(name, [])
 
-def compiled(tests: Tests, name: str, words: Sequence[object]) -> list[str]:
-    """The command that calls the caller by this compiler, with these arguments after its file; nothing if it can't be compiled."""
-    made = tests.room / name
-    compiler, *flags = words
-    # The caller uses the threads and the clock of POSIX.
-    done = run([compiler, "-std=c11", "-D_GNU_SOURCE", "-O2", "-pthread", *WARNINGS, "-o", made, CALLER, *flags])
-    return [str(made)] if tests.count(done.status == 0, f"{name}: {done.err.decode()[:2000]}") else []
+    def by_c(self, *words: object, **how: object) -> Answer:
+        """What the caller in C answers that gcc compiled."""
+        return run([*self.callers["gcc"], *words], **how)
+
+    def limit(self, command: str, county: Path, sizes: Iterable[int], **how: object) -> None:
+        """A call in memory of these sizes, which ascend: if memory is short, only that is reported."""
+        right, told = self.by_c(command, county), set()
+        for size in sizes:
+            limits = (size, size)
+            found = self.by_c(command, county, preexec_fn=lambda: resource.setrlimit(resource.RLIMIT_AS, limits), **how)
+            # With even less memory the caller can't start or read its file.
+            if told or found.status in (0, 5):
+                self.count(found in (right, LACKING), f"{command} in {size >> 10} KiB: {found.status}, {found.err!r}")
+                told.add(found.status)
+        self.equal(f"{command} of {county.name} in little memory, its statuses", {0, 5}, told)
 
 
 def tools(*names: str) -> list[str]:
@@ -51,21 +69,3 @@ def run_pytest(tests: Tests) -> None:
     passed = re.search(rb"(\d+) passed", done.out)
     tests.passed += int(passed[1]) - 1 if passed else 0
     tests.count(done.status == 0, f"the package's tests:\n{done.out.decode()[-3000:]}")
-
-
-def main(library: Path, program: Path, is_quick: bool) -> int:
-    from library_tests import in_c, in_guide, large
-
-    if not (library / "lib/libtigercanon.a").exists():
-        print(f"library: there is none in {library}; scripts/build-library builds it", file=sys.stderr)
-        return 2
-    with tempfile.TemporaryDirectory() as room:
-        tests = Tests(library, program, Path(room))
-        in_c.run_all(tests)
-        run_pytest(tests)
-        in_guide.run_all(tests)
-        if not is_quick and program.exists():
-            large.run_all(tests)
-        elif not is_quick:
-            tests.skip(f"there is no program to compare with: {program}")
-        return tests.close()
