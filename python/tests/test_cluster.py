@@ -28,8 +28,8 @@ Parts = dict[str, bytes]
 
 
 def made_counties() -> Iterator[tuple[str, Parts]]:
-    """Stems and files: each map in two spellings, and some in one. Each tenth county is refused, some are in a folder of a folder, and some
-    lack files."""
+    """Stems and files: each map in two spellings, and some in one. Each tenth county is refused, some are in a folder of a folder, and
+    some lack files."""
     refused = [*sorted((ROOT / "examples/refused").iterdir()), ROOT / "examples/broken.txt"]
     for number in range(COUNTIES):
         made = written(made_county(12, number // 2), number)
@@ -55,7 +55,7 @@ def put_zip(stem: Path, parts: Parts, is_small: bool) -> None:
 
 
 class Archive(NamedTuple):
-    """The counties as single files, and with each third as a zip; and what is expected: the lines of the manifest, and the reports."""
+    """The counties as single files, and with each third as a zip; and what is expected: the manifest's lines, and the reports."""
 
     files: Path
     packed: Path
