@@ -16,24 +16,15 @@ from tigercanon.version import VERSION
 COMMANDS = ["fingerprint", "verify", "duplicates", "changes", "diff", "explain"]
 
 
-@pytest.mark.parametrize("words", [["--help"], *([command, "--help"] for command in COMMANDS)])
-def test_help(room: Path, words: list[str]) -> None:
-    """It goes to standard output, with status 0; a line has at most 120 letters."""
-    ended = call(*words, env={"COLUMNS": "100"})
-    assert (ended.status, ended.err) == (0, "")
-    assert ended.out.startswith(f"usage: tigercanon-tools{'' if len(words) == 1 else ' ' + words[0]} ")
-    assert max(map(len, ended.out.splitlines())) <= 120
-
-
-def test_help_names_all_commands(room: Path) -> None:
-    text = call("--help").out
-    assert [command for command in COMMANDS if f"\n    {command}" not in text] == []
-
-
 @pytest.mark.parametrize("words", [[], *([command] for command in COMMANDS)])
-def test_version(room: Path, words: list[str]) -> None:
-    ended = call(*words, "--version")
-    assert (ended.status, ended.out, ended.err) == (0, f"tigercanon-tools {VERSION}\n", "")
+def test_help_and_version(room: Path, words: list[str]) -> None:
+    """They go to standard output, with status 0; a line of help has at most 120 letters, and that of no command names all commands."""
+    ended = call(*words, "--help", env={"COLUMNS": "100"})
+    assert (ended.status, ended.err) == (0, "")
+    assert ended.out.startswith(f"usage: {' '.join(['tigercanon-tools', *words])} ")
+    assert max(map(len, ended.out.splitlines())) <= 120
+    assert words or [command for command in COMMANDS if f"\n    {command}" not in ended.out] == []
+    assert call(*words, "--version") == (0, f"tigercanon-tools {VERSION}\n", "")
 
 
 def test_the_versions_agree() -> None:

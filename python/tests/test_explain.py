@@ -44,8 +44,8 @@ def test_a_refusal(room: Path, line: str) -> None:
 )
 def test_places(room: Path, line: str, wanted: str) -> None:
     """Fields have their names, and a CENID is shown as in the file. Names may come before the refusal, and notes behind it."""
-    ended = call("explain", line)
-    assert (ended.status, ended.out.splitlines()[2]) == (0, wanted)
+    status, out, _ = call("explain", line)
+    assert (status, out.splitlines()[2]) == (0, wanted)
 
 
 def test_plain_text() -> None:
