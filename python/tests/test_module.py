@@ -12,6 +12,7 @@ import sys
 import threading
 import time
 import zipfile
+from functools import partial
 from itertools import product
 from pathlib import Path
 from typing import Any, Callable, Iterator
@@ -51,6 +52,9 @@ def loaded(library: Path, monkeypatch: pytest.MonkeyPatch) -> Iterator[None]:
 echoed: Callable[[Any], bytes] = tigercanon.respell
 """What the stand-in was lent."""
 
+EACH_CALL: list[Callable[[Any], object]] = [tigercanon.check, echoed, tigercanon.normalise, tigercanon.fingerprint]
+EACH_CALL += [partial(tigercanon.compare, b"")]
+
 
 def kinds(folder: Path) -> dict[str, Callable[[], Any]]:
     """One part with the text, in each form that a part may have."""
@@ -81,18 +85,16 @@ def kinds(folder: Path) -> dict[str, Callable[[], Any]]:
     }
 
 
-def test_one_part(tmp_path: Path) -> None:
+def test_parts(tmp_path: Path) -> None:
+    """One part and several, by each call."""
     assert len(TEXT) % 2 == 0
     for kind, make in kinds(tmp_path).items():
+        assert tigercanon.check(make()) is None, kind  # type: ignore[func-returns-value]
         assert echoed(make()) == TEXT, kind
         assert tigercanon.normalise(make(), no_sources=True) == TEXT + b"+no_sources", kind
         assert tigercanon.compare(make(), TEXT) is True, kind
         assert tigercanon.compare(b"other", make()) is False, kind
         assert tigercanon.fingerprint(make())[:62] == TEXT[:31].hex().ljust(62, "0"), kind
-
-
-def test_several_parts(tmp_path: Path) -> None:
-    for kind, make in kinds(tmp_path).items():
         for several in ([make(), b"", make()], (part for part in (make(), b"", make()))):
             assert echoed(several) == TEXT + b"||" + TEXT, kind
     assert echoed(TEXT.splitlines(keepends=True)) == b"|".join(TEXT.splitlines(keepends=True))
@@ -183,22 +185,14 @@ def test_refusals(number: str, name: str, words: str) -> None:
     line = "".join(f" {place}" for place in places)
     for which in (0, 1, 2):
         fault = f"fault {number} {which} 6 3036303031 12345678901 22 33".encode()
-        calls: list[Callable[[], object]] = [
-            lambda: tigercanon.check(fault),
-            lambda: tigercanon.respell(fault),
-            lambda: tigercanon.normalise(fault),
-            lambda: tigercanon.fingerprint(fault),
-            lambda: tigercanon.compare(b"", fault),
-        ]
-        for call in calls:
+        told = f"refused {number} {name}{line}" + (f" in set {which}" if which else "")
+        for call in EACH_CALL:
             with pytest.raises(tigercanon.Refusal) as raised:
-                call()
+                call(fault)
             refusal = raised.value
-            told = f"refused {number} {name}{line}" + (f" in set {which}" if which else "")
             assert (refusal.number, refusal.name, refusal.places) == (int(number), name, places)
             assert (refusal.set, refusal.line, str(refusal)) == (which or None, told, told)
-            assert isinstance(refusal, tigercanon.OutOfMemory) == (number == "9")
-            assert isinstance(refusal, MemoryError) == (number == "9")
+            assert {isinstance(refusal, kind) for kind in (tigercanon.OutOfMemory, MemoryError)} == {number == "9"}
 
 
 def test_flags() -> None:
@@ -235,16 +229,11 @@ def test_other_threads_run() -> None:
     call.join()
 
 
-def test_check_returns_nothing() -> None:
-    assert tigercanon.check(TEXT) is None  # type: ignore[func-returns-value]
-
-
-def imported(*words: str, package: Path = ROOT / "python", **more: str) -> "subprocess.CompletedProcess[str]":
+def imported(package: Path, *words: str, **more: str) -> "subprocess.CompletedProcess[str]":
     """What Python prints that loads the package from this folder."""
     plain = {key: value for key, value in os.environ.items() if key not in ("LD_LIBRARY_PATH", _library.VARIABLE)}
     environment = {**plain, "PYTHONPATH": str(package), "PYTHONDONTWRITEBYTECODE": "1", **more}
-    code = "; ".join(("import tigercanon", *words))
-    command = [sys.executable, "-c", code]
+    command = [sys.executable, "-c", "; ".join(("import tigercanon", *words))]
     return subprocess.run(command, cwd="/", env=environment, capture_output=True, text=True)
 
 
@@ -257,26 +246,26 @@ def package(tmp_path: Path) -> Path:
 
 def test_where_the_library_is(library: Path, tmp_path: Path, package: Path) -> None:
     """The variable wins over a library beside the package, and that one over one of the system."""
-    call = "print(tigercanon.respell(b'x'))"
+    call = partial(imported, package, "print(tigercanon.respell(b'x'))")
     system = {"LD_LIBRARY_PATH": str(library.parent)}
-    assert imported(call, package=package, **system).stdout == "b'x'\n"
+    assert call(**system).stdout == "b'x'\n"
     beside = tmp_path / "lib" / _library.NAME
     beside.parent.mkdir()
     beside.write_bytes(b"no library")
-    assert "ImportError" in imported(call, package=package, **system).stderr
-    assert imported(call, package=package, TIGERCANON_LIBRARY=str(library)).stdout == "b'x'\n"
+    assert "ImportError" in call(**system).stderr
+    assert call(TIGERCANON_LIBRARY=str(library)).stdout == "b'x'\n"
     beside.unlink()
     beside.symlink_to(library)
-    assert imported(call, package=package).stdout == "b'x'\n"
-    assert "ImportError" in imported(call, package=package, TIGERCANON_LIBRARY=str(tmp_path / "none")).stderr
+    assert call().stdout == "b'x'\n"
+    assert "ImportError" in call(TIGERCANON_LIBRARY=str(tmp_path / "none")).stderr
     (package / "tigercanon" / _library.NAME).symlink_to(library)
     beside.unlink()
-    assert imported(call, package=package).stdout == "b'x'\n"
+    assert call().stdout == "b'x'\n"
 
 
 def test_without_a_library(package: Path) -> None:
     """The package can be imported, and a call says in one line how to get the library."""
-    ended = imported("print(tigercanon.FORM)", "tigercanon.check(b'')", package=package)
+    ended = imported(package, "print(tigercanon.FORM)", "tigercanon.check(b'')")
     assert ended.stdout == "tigercanon form 1\n"
     last = ended.stderr.splitlines()[-1]
     assert last.startswith("ImportError: the library libtigercanon.so.1 can't be loaded")
