@@ -4,14 +4,16 @@ from __future__ import annotations
 
 import ctypes
 import hashlib
+import io
 import os
 import resource
 import signal
 import subprocess
 import sys
+import zipfile
 from contextlib import suppress
 from pathlib import Path
-from typing import Any, Callable, Iterator, NamedTuple
+from typing import Any, Callable, Iterator, Mapping, NamedTuple
 
 from testing import PROGRAM as BUILT
 from testing import ROOT, TYPES
@@ -117,10 +119,32 @@ def put(name: str | Path, text: bytes = b"") -> Path:
     return path
 
 
+def members(name: str, first: bytes) -> dict[str, bytes]:
+    """The nine files of a county. The stand-in looks at the first alone."""
+    return {f"{name}.RT{kind}": first if kind == "1" else b"x\n" for kind in TYPES}
+
+
 def complete(stem: str, first: bytes) -> None:
-    """Writes all nine files of a county; the stand-in looks at the first alone."""
-    for kind in TYPES:
-        put(f"{stem}.RT{kind}", first if kind == "1" else b"x\n")
+    """Writes all nine files of a county."""
+    for name, text in members(stem, first).items():
+        put(name, text)
+
+
+def packed(members: Mapping[str, bytes], method: int = zipfile.ZIP_DEFLATED) -> bytes:
+    """A zip with these files."""
+    file = io.BytesIO()
+    with zipfile.ZipFile(file, "w", method) as archive:
+        for name, text in members.items():
+            archive.writestr(name, text)
+    return file.getvalue()
+
+
+def zip_up(stem: str) -> None:
+    """Puts a zip in the place of a county's files."""
+    files = sorted(Path().glob(f"{stem}.RT?"))
+    put(f"{stem}.zip", packed({file.name: file.read_bytes() for file in files}))
+    for file in files:
+        file.unlink()
 
 
 def processes() -> Iterator[tuple[int, int, bytes]]:

@@ -7,14 +7,14 @@ import shutil
 import signal
 import subprocess
 import sys
-import zipfile
 from importlib.util import find_spec
 from pathlib import Path
 from typing import Any, Iterator, NamedTuple
 
 import pytest
 from differences.county import made_county, written
-from support import PROGRAM, STAND_INS, begin, call, count_of_lines, die_with_the_test, end, kill_group, left_behind, processes, put
+from support import PROGRAM, STAND_INS, begin, call, count_of_lines, die_with_the_test, end
+from support import kill_group, left_behind, packed, processes, put
 from testing import ROOT, TYPES, await_that, by_type
 
 from tigercanon.judge import endings
@@ -48,10 +48,11 @@ def put_files(stem: Path, parts: Parts) -> None:
 
 def put_zip(stem: Path, parts: Parts, is_small: bool) -> None:
     """A county as a zip, in which other types lie too; with all names in lower case, or in capitals."""
-    with zipfile.ZipFile(put(f"{stem}{'.zip' if is_small else '.ZIP'}"), "w", zipfile.ZIP_DEFLATED) as packed:
-        for kind, text in {**parts, "A": b"A2006\r\n", "Z": b"Z2006\r\n"}.items():
-            member = f"{stem.name}.RT{kind}"
-            packed.writestr(member.lower() if is_small else member, text)
+    files = {f"{stem.name}.RT{kind}": text for kind, text in {**parts, "A": b"A2006\r\n", "Z": b"Z2006\r\n"}.items()}
+    if is_small:
+        put(f"{stem}.zip", packed({name.lower(): text for name, text in files.items()}))
+    else:
+        put(f"{stem}.ZIP", packed(files))
 
 
 class Archive(NamedTuple):

@@ -2,7 +2,9 @@
 
 import os
 from importlib.util import find_spec
+from itertools import product
 from pathlib import Path
+from typing import Callable
 
 import pytest
 from support import put
@@ -152,20 +154,15 @@ def test_paths(folder: str, name: str) -> None:
     assert (parted(path), joined(folder, name)) == ((folder, name), path)
 
 
-@pytest.mark.parametrize(
-    "path, wanted",
-    [("./a", "a"), ("a//b/", "a/b"), (".", ""), ("/", "/"), ("/./a/.", "/a"), ("a/../b", "a/../b"), ("s3://a//b/", "s3://a//b")],
-)
-def test_tidy(path: str, wanted: str) -> None:
-    assert tidy(path) == wanted
+TIDY = "./a a", "a//b/ a/b", ". ", "/ /", "/./a/. /a", "a/../b a/../b", "s3://a//b/ s3://a//b"
+STEMS = "a.RT1 a", "a.rtZ a", "a.b.ZiP a.b", "a.txt a.txt", ".RT1 .RT1", "x/a.RT12 x/a.RT12"
 
 
-@pytest.mark.parametrize(
-    "path, stem",
-    [("a.RT1", "a"), ("a.rtZ", "a"), ("a.b.ZiP", "a.b"), ("a.txt", "a.txt"), (".RT1", ".RT1"), ("x/a.RT12", "x/a.RT12")],
-)
-def test_stems(path: str, stem: str) -> None:
-    assert stem_of(path) == stem
+@pytest.mark.parametrize("function, row", [*product([tidy], TIDY), *product([stem_of], STEMS)])
+def test_tidy_paths_and_stems(function: Callable[[str], str], row: str) -> None:
+    """A path, and what is made of it."""
+    path, wanted = row.split(" ")
+    assert function(path) == wanted
 
 
 @pytest.mark.cluster

@@ -2,11 +2,10 @@
 
 import json
 import os
-import subprocess
 from pathlib import Path
 
 import pytest
-from support import HEAD, begin, call, complete, digest, end, left_behind, limit_files, line, put
+from support import HEAD, begin, call, complete, digest, end, left_behind, limit_files, line, put, zip_up
 from testing import TYPES
 
 
@@ -106,10 +105,6 @@ def test_the_summary_counts_refusals(four: dict[str, bytes]) -> None:
     ended = call("fingerprint", "--strict", "-o", "m", "in", "in/nothing")
     assert ended.lines[-2].startswith("5 counties: 2 new, 2 refused, 1 failed; ")
     assert ended.lines[-1] == "refused: 2 by 1 UnknownType"
-
-
-def zip_up(stem: str) -> None:
-    subprocess.run(["zip", "-qmj", f"{stem}.zip", *sorted(map(str, Path(".").glob(f"{stem}.RT?")))], check=True)
 
 
 @pytest.mark.parametrize("is_zip", [False, True])

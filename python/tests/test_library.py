@@ -10,11 +10,11 @@ import re
 import resource
 import subprocess
 import sys
-import zipfile
 from pathlib import Path
 from typing import Any, Iterator
 
 import pytest
+from support import packed, put
 from testing import ROOT, TYPES, Answer, make_county, script
 
 import tigercanon
@@ -108,19 +108,17 @@ def test_lines_of_the_guide() -> None:
 
 def test_counties(tmp_path: Path) -> None:
     """One county as bytes, as a file, as nine files and as a zip, in either case of their names."""
-    packed = tmp_path / "TGR01001.ZIP"
-    with zipfile.ZipFile(packed, "w", zipfile.ZIP_DEFLATED) as county:
-        for end in ENDINGS:
-            (tmp_path / f"tgr01001{end.lower()}").write_bytes((AUTAUGA.parent / f"TGR01001{end}").read_bytes())
-            county.write(AUTAUGA.parent / f"TGR01001{end}", f"TGR01001{end}")
+    members = {f"TGR01001{end}": (AUTAUGA.parent / f"TGR01001{end}").read_bytes() for end in ENDINGS}
+    for name, text in members.items():
+        put(tmp_path / name.replace("TGR", "tgr").replace("RT", "rt"), text)
+    zipped = put(tmp_path / "TGR01001.ZIP", packed(members))
     digits = hashlib.sha256(CANONICAL.read_bytes()).hexdigest()
-    parts = [(AUTAUGA.parent / f"TGR01001{end}").read_bytes() for end in ENDINGS]
-    files: list[tigercanon.Set] = [AUTAUGA, AUTAUGA.parent / "TGR01001", tmp_path / "tgr01001", packed, CANONICAL]
-    for county_ in [*files, AUTAUGA.read_bytes(), parts]:
-        assert tigercanon.fingerprint(county_) == digits
-        assert tigercanon.normalise(county_) == CANONICAL.read_bytes()
-        assert tigercanon.compare(county_, RENUMBERED) is True
-        assert tigercanon.compare(ONE_ADDRESS, county_) is False
+    files: list[tigercanon.Set] = [AUTAUGA, AUTAUGA.parent / "TGR01001", tmp_path / "tgr01001", zipped, CANONICAL]
+    for county in [*files, AUTAUGA.read_bytes(), list(members.values())]:
+        assert tigercanon.fingerprint(county) == digits
+        assert tigercanon.normalise(county) == CANONICAL.read_bytes()
+        assert tigercanon.compare(county, RENUMBERED) is True
+        assert tigercanon.compare(ONE_ADDRESS, county) is False
     assert tigercanon.fingerprint([]) == hashlib.sha256(b"").hexdigest()
     assert tigercanon.normalise([b"", AUTAUGA, b""]) == CANONICAL.read_bytes()
 

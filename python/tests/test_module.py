@@ -18,6 +18,7 @@ from pathlib import Path
 from typing import Any, Callable, Iterator
 
 import pytest
+from support import packed, put
 from testing import ROOT, TYPES
 
 import tigercanon
@@ -58,12 +59,9 @@ EACH_CALL += [partial(tigercanon.compare, b"")]
 
 def kinds(folder: Path) -> dict[str, Callable[[], Any]]:
     """One part with the text, in each form that a part may have."""
-    path = folder / "part"
-    path.write_bytes(TEXT)
-    with gzip.open(folder / "part.gz", "wb") as packed:
-        packed.write(TEXT)
-    with zipfile.ZipFile(folder / "members.zip", "w") as archive:
-        archive.writestr("part", TEXT)
+    path = put(folder / "part", TEXT)
+    put(folder / "part.gz", gzip.compress(TEXT))
+    put(folder / "members.zip", packed({"part": TEXT}))
     return {
         "bytes": lambda: TEXT,
         "bytearray": lambda: bytearray(TEXT),
@@ -160,10 +158,8 @@ def test_stems(tmp_path: Path) -> None:
 
 def test_zips(tmp_path: Path) -> None:
     path = tmp_path / "TGR01001.ZIP"
-    with zipfile.ZipFile(path, "w", zipfile.ZIP_DEFLATED) as county:
-        for place, kind in enumerate(TYPES):
-            county.writestr(f"tgr01001.rt{kind.lower()}" if place % 2 else f"TGR01001.RT{kind}", kind)
-        county.writestr("README.TXT", "no records")
+    files = {f"tgr01001.rt{kind.lower()}" if kind in "2468P" else f"TGR01001.RT{kind}": kind.encode() for kind in TYPES}
+    put(path, packed({**files, "README.TXT": b"no records"}))
     assert echoed(path) == "|".join(TYPES).encode()
     assert tigercanon.compare(path, [kind.encode() for kind in TYPES]) is True
     with zipfile.ZipFile(path, "a") as county:

@@ -5,12 +5,12 @@ import random
 import signal
 import subprocess
 import time
-import zipfile
+from contextlib import suppress
 from pathlib import Path
 
 import pytest
-from support import HEAD, begin, call, complete, count_of_lines, end, left_behind, limit_files, line, processes, put
-from testing import TYPES, await_that
+from support import HEAD, begin, call, complete, count_of_lines, end, left_behind, limit_files, line, processes, put, zip_up
+from testing import await_that
 
 SIGNALS = [signal.SIGINT, signal.SIGTERM, signal.SIGHUP, signal.SIGQUIT, signal.SIGUSR1, signal.SIGXCPU]
 
@@ -20,9 +20,8 @@ def archive(room: Path, stand_in: Path) -> Path:
     """Ten counties: a zip for which the stand-in waits as long as there is a file `waits`, and nine others."""
     for number in range(1, 10):
         complete(f"in/TGR{number}", b"county %d\n" % number)
-    with zipfile.ZipFile(put("in/TGR0.zip"), "w") as file:
-        for kind in TYPES:
-            file.writestr(f"TGR0.RT{kind}", b"waits\n")
+    complete("in/TGR0", b"waits\n")
+    zip_up("in/TGR0")
     return room
 
 
@@ -144,12 +143,9 @@ def test_a_terminal(archive: Path) -> None:
     run = begin("fingerprint", "--jobs", "1", "-o", "m", "in", stderr=inner)
     os.close(inner)
     told = b""
-    while True:
-        try:
-            told += os.read(terminal, 4096)
-        except OSError:
-            break
-    os.close(terminal)
+    with suppress(OSError), open(terminal, "rb", buffering=0) as screen:
+        while True:
+            told += screen.read(4096)
     assert end(run).status == 1
     assert b"0/10" in told and b" counties/s" in told
     assert b"tigercanon-tools: in/TGR5: refused 1 UnknownType 1 1\r\n" in told

@@ -9,30 +9,17 @@ from functools import partial
 from http.server import SimpleHTTPRequestHandler, ThreadingHTTPServer
 from importlib.util import find_spec
 from pathlib import Path
+from types import SimpleNamespace
 from typing import Iterator
 
 import pytest
-from support import call, complete, digest, left_behind, put
-from testing import TYPES
+from support import call, complete, digest, left_behind, members, packed, put
 
 from tigercanon import storage
 from tigercanon.errors import Unreadable
 
 TEXT = b"county\n" * 40
-NAMES = [f"TGR00001.RT{kind}" for kind in TYPES]
-Texts = list[tuple[str, bytes]]
-
-
-def packed(members: Texts, method: int = zipfile.ZIP_DEFLATED) -> bytes:
-    file = io.BytesIO()
-    with zipfile.ZipFile(file, "w", method) as archive:
-        for name, text in members:
-            archive.writestr(name, text)
-    return file.getvalue()
-
-
-def members(name: str = "TGR00001") -> Texts:
-    return [(f"{name}.RT{kind}", TEXT if kind == "1" else b"x\n") for kind in TYPES]
+COUNTY = members("TGR00001", TEXT)
 
 
 def patched(text: bytes, *changes: tuple[int, bytes]) -> bytes:
@@ -44,7 +31,7 @@ def patched(text: bytes, *changes: tuple[int, bytes]) -> bytes:
 
 def broken_zips() -> dict[str, tuple[bytes, str]]:
     """Zips by what is wrong with them, and the expected reports."""
-    good, name, size = packed(members()), NAMES[0], len(TEXT)
+    good, (name, *_, last), size = packed(COUNTY), COUNTY, len(TEXT)
     # Where the header before a file starts, and its line in the directory.
     before, line = zipfile.ZipFile(io.BytesIO(good)).getinfo(name).header_offset, good.rindex(name.encode()) - 46
     data = before + 30 + len(name)
@@ -65,11 +52,11 @@ def broken_zips() -> dict[str, tuple[bytes, str]]:
         "says-nothing": (patched(good, (line + 24, struct.pack("<L", 0))), broken),
         "says-less": (patched(good, (line + 24, struct.pack("<L", size - 1))), broken),
         "says-more": (patched(good, (line + 24, struct.pack("<L", size + 1))), broken),
-        "two": (packed([*members(), *members("tgr00003")]), f"{two} TGR00001, TGR00003"),
-        "folders": (packed([*members("a/TGR00001"), ("b/TGR00001.RT2", b"")]), f"{two} A/TGR00001, B/TGR00001"),
-        "none": (packed([("TGR00001.RTA", b"A"), ("read.me", b"")]), "the zip has no county in it"),
-        "twice": (packed([*members(), ("tgr00001.rt2", b"")]), "the zip has 2 files .RT2"),
-        "large": (packed([*members()[:-1], (NAMES[-1], b" " * 300_000)]), large),
+        "two": (packed({**COUNTY, **members("tgr00003", TEXT)}), f"{two} TGR00001, TGR00003"),
+        "folders": (packed({**members("a/TGR00001", TEXT), "b/TGR00001.RT2": b""}), f"{two} A/TGR00001, B/TGR00001"),
+        "none": (packed({"TGR00001.RTA": b"A", "read.me": b""}), "the zip has no county in it"),
+        "twice": (packed({**COUNTY, "tgr00001.rt2": b""}), "the zip has 2 files .RT2"),
+        "large": (packed({**COUNTY, last: b" " * 300_000}), large),
     }
 
 
@@ -78,9 +65,9 @@ def test_broken_zips(room: Path, stand_in: Path) -> None:
     for name, (text, report) in broken_zips().items():
         put(f"in/{name}.ZIP", text)
         wanted[f"in/{name}"] = report
-    put("in/lower.zip", packed([(name.lower(), text) for name, text in [*members(), ("TGR00001.RTA", b"A"), ("x/y.txt", b"")]]))
-    put("in/stored.zip", packed(members(), zipfile.ZIP_STORED))
-    put("in/folder.ZiP", packed(members("of/TGR00001"), zipfile.ZIP_BZIP2))
+    put("in/lower.zip", packed({**{name.lower(): text for name, text in COUNTY.items()}, "tgr00001.rta": b"A", "x/y.txt": b""}))
+    put("in/stored.zip", packed(COUNTY, zipfile.ZIP_STORED))
+    put("in/folder.ZiP", packed(members("of/TGR00001", TEXT), zipfile.ZIP_BZIP2))
     complete("in/single", TEXT)
     ended = call("fingerprint", "--largest", "200kB", "in")
     reports = ended.reports
@@ -133,7 +120,7 @@ def url(room: Path) -> Iterator[str]:
 def test_a_server(url: str, room: Path, stand_in: Path) -> None:
     """A transfer that breaks off once is made again; one that breaks off three times is reported."""
     for name in ("TGR00001", "failing", "once", "always"):
-        put(f"in/{name}.ZIP", packed(members()))
+        put(f"in/{name}.ZIP", packed(COUNTY))
     complete("in/TGR00005", TEXT)
     ended = call("fingerprint", "-o", "m", f"{url}/in")
     reports = ended.reports
@@ -152,21 +139,18 @@ def test_a_server(url: str, room: Path, stand_in: Path) -> None:
 @pytest.mark.parametrize("short", [0, 1, 2, 3])
 def test_a_store_that_sends_too_little(room: Path, monkeypatch: pytest.MonkeyPatch, short: int) -> None:
     """The bytes that come are counted, and three attempts are made."""
+    asked: list[str] = []
 
-    class Store:
-        asked = 0
+    def get_file(path: str, target: str) -> None:
+        asked.append(path)
+        put(target, TEXT[: len(TEXT) // 2] if len(asked) <= short else TEXT)
 
-        def get_file(self, path: str, target: str) -> None:
-            self.asked += 1
-            put(target, TEXT[: len(TEXT) // 2] if self.asked <= short else TEXT)
-
-    store = Store()
-    monkeypatch.setattr(storage, "system_of", lambda url: (store, url))
+    monkeypatch.setattr(storage, "system_of", lambda url: (SimpleNamespace(get_file=get_file), url))
     monkeypatch.setattr(storage, "PAUSES", (0.0, 0.0))
     if short < 3:
         storage.fetch("s3://a", len(TEXT), "target")
-        assert (store.asked, Path("target").read_bytes()) == (short + 1, TEXT)
+        assert (len(asked), Path("target").read_bytes()) == (short + 1, TEXT)
     else:
         with pytest.raises(Unreadable, match="can't be read: only 140 of its 280 bytes came .three attempts."):
             storage.fetch("s3://a", len(TEXT), "target")
-        assert store.asked == 3
+        assert len(asked) == 3

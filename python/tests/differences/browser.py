@@ -88,13 +88,7 @@ class Browser:
     def filter(self, text: str) -> None:
         self.run("filter(...arguments)", text)
 
-    def complaints(self) -> Any:
-        return self.driver.get_log("browser")
-
     def requests(self) -> list[str]:
         """The addresses of all that was asked for since the browser began."""
         messages = [json.loads(entry["message"])["message"] for entry in self.driver.get_log("performance")]
         return [message["params"]["request"]["url"] for message in messages if message["method"] == "Network.requestWillBeSent"]
-
-    def quit(self) -> None:
-        self.driver.quit()

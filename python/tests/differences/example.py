@@ -14,7 +14,7 @@ from testing import ROOT
 
 from .browser import Browser
 from .changes import Difference
-from .reports import EXAMPLE, diff
+from .reports import EXAMPLE, differing
 
 
 def example_differences() -> set[Difference]:
@@ -26,19 +26,23 @@ def example_differences() -> set[Difference]:
     }
 
 
+def open_example(browser: Browser, room: Path) -> None:
+    """Makes the page in this folder, opens it, and clicks at a street with another name."""
+    differing("--page", room / "page.html", "two-maps/first.txt", "two-maps/second.txt", cwd=EXAMPLE.parent)
+    browser.open(room / "page.html")
+    browser.click_at_changed("Commerce")
+
+
 def write_picture(picture: Path) -> None:
     from PIL import Image
 
     with tempfile.TemporaryDirectory() as room:
-        page = Path(room, "example.html")
-        diff("--page", page, "two-maps/first.txt", "two-maps/second.txt", cwd=EXAMPLE.parent)
         browser = Browser(1280, 800)
         try:
-            browser.open(page)
-            browser.click_at_changed("Commerce")
+            open_example(browser, Path(room))
             shot = Image.open(BytesIO(browser.driver.get_screenshot_as_png())).convert("RGB")
         finally:
-            browser.quit()
+            browser.driver.quit()
     shot.quantize(256, dither=Image.Dither.NONE).save(picture, optimize=True)
 
 

@@ -9,12 +9,11 @@ import shutil
 import signal
 import stat
 import subprocess
-import zipfile
 from pathlib import Path
 from typing import Any
 
 import pytest
-from support import HEAD, NAME, PACKAGE, STAND_INS, Ended, begin, call, end, environment, limit_files, put, words_of
+from support import HEAD, NAME, PACKAGE, STAND_INS, Ended, begin, call, end, environment, limit_files, packed, put, words_of
 
 from .county import made_county, written
 from .reports import PROGRESS, diff
@@ -82,8 +81,7 @@ def test_wrong_calls(room: Path, variable: str, value: str, words: str, told: st
     put("twice", b"".join(lines))
     put("again", b"broken\n")
     put("not.zip", b"PK\x03\x04 broken")
-    with zipfile.ZipFile("zipped", "w") as archive:
-        archive.writestr("packed.RT1", b"")
+    put("zipped", packed({"packed.RT1": b""}))
     for name in ("packed", "in/packed.RT1"):
         put(name, b"\x1f\x8bpacked\n")
     before = {path: path.is_file() and path.read_bytes() for path in room.rglob("*")}
@@ -99,8 +97,7 @@ def test_stems_and_zips() -> None:
     """A county is read from a zip and from single files, in either case of their names, and from a pipe."""
     put("in/tgr01001.rt1", Path("one").read_bytes())
     put("in/TGR01003.RT1", Path("one").read_bytes())
-    with zipfile.ZipFile("in/TGR01001.ZIP", "w") as packed:
-        packed.writestr("tgr01001.Rt1", Path("other").read_bytes())
+    put("in/TGR01001.ZIP", packed({"tgr01001.Rt1": Path("other").read_bytes()}))
     for first, second, status in (
         ("in/tgr01001", "in/TGR01003", 0),
         ("in/TGR01001.ZIP", "in/TGR01003", 1),

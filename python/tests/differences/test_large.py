@@ -56,7 +56,7 @@ def test_page(room: Path) -> None:
     try:
         drawn, small_drawn = (min(browser.open(path) for _ in range(3)) for path in (page, room / "small.html"))
     finally:
-        browser.quit()
+        browser.driver.quit()
     size = page.stat().st_size / 1e6
     made = f"made in {seconds:.1f} s (the files: {unit:.1f} s), {megabytes:.0f} MB"
     shown = f"page of {size:.1f} MB, drawn in {drawn:.2f} s (a small one: {small_drawn:.2f} s)"

@@ -4,11 +4,11 @@ import json
 import re
 import shutil
 import subprocess
-import zipfile
 from pathlib import Path
 from typing import Any, NamedTuple
 
 import pytest
+from support import packed, put
 
 from .changes import much_changed, split_maps
 from .county import FILE, Landmark, Point, made_county
@@ -93,8 +93,7 @@ def test_all(made: Made, room: Path) -> None:
     wanted = {(side, *key) for side, lines in made.files.items() for key in lines}
     assert made.seen(features_of("--all", made.first, made.second)) == wanted
     made.seen(features_of("--no-sources", "--no-reserved", made.first, made.second))
-    with zipfile.ZipFile("first.zip", "w") as county:
-        county.write(made.first, "TGR01001.RT1")
+    put("first.zip", packed({"TGR01001.RT1": made.first.read_bytes()}))
     assert made.seen(features_of("--all", "first.zip", made.second)) == wanted
 
 

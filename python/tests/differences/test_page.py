@@ -12,8 +12,8 @@ from testing import ROOT
 from .browser import Browser, needs_browser
 from .changes import Changing, much_changed, split_maps
 from .county import County, made_county
-from .example import example_differences
-from .reports import EXAMPLE, diff, differing
+from .example import example_differences, open_example
+from .reports import diff
 
 SCRIPT = "<script>alert(1)</script>"
 PICTURE = "<img src=x onerror=alert(1)>"
@@ -27,17 +27,17 @@ def window() -> Iterator[Browser]:
     """One browser for all tests here."""
     opened = Browser()
     yield opened
-    opened.quit()
+    opened.driver.quit()
 
 
 @pytest.fixture
 def browser(window: Browser) -> Iterator[Browser]:
     """The browser, with nothing in its log before the test nor after it."""
     window.resize(1400, 900)
-    window.complaints()
+    window.driver.get_log("browser")
     window.requests()
     yield window
-    assert window.complaints() == []
+    assert window.driver.get_log("browser") == []
 
 
 def page_of(folder: Path, first: Path, second: Path) -> Path:
@@ -191,10 +191,8 @@ class TestVerdicts:
 
 def test_picture(browser: Browser, room: Path) -> None:
     """The example in examples/two-maps, and the picture of its page."""
-    differing("--page", room / "example.html", "two-maps/first.txt", "two-maps/second.txt", cwd=EXAMPLE.parent)
     browser.resize(1280, 800)
-    browser.open(room / "example.html")
+    open_example(browser, room)
     assert browser.texts("#listed") == [f"{len(example_differences()) + 1} in all"]
-    browser.click_at_changed("Commerce")
     assert "Commerce" in browser.texts(".leaflet-popup-content")[0]
     assert (ROOT / "docs/differences.png").stat().st_size < 150_000
