@@ -56,28 +56,27 @@ def put_zip(stem: Path, parts: Parts, is_small: bool) -> None:
 
 
 class Archive(NamedTuple):
-    """The counties as single files, and with each third as a zip; and what is expected: the manifest's lines, and the reports."""
+    """The folder, and what is expected: the lines of the manifest, and the reports."""
 
-    files: Path
-    packed: Path
+    folder: Path
     lines: list[str]
     reports: dict[str, str]
 
 
 @pytest.fixture(scope="module")
 def expected(tmp_path_factory: pytest.TempPathFactory) -> Archive:
-    """What the program prints for each county alone."""
+    """What the program prints for each county alone, as single files. In the archive each third is a zip."""
     if not PROGRAM:
         pytest.skip("no program is built")
-    made = Archive(tmp_path_factory.mktemp("files"), tmp_path_factory.mktemp("archive"), ["# tigercanon form 1"], {})
+    files, made = tmp_path_factory.mktemp("files"), Archive(tmp_path_factory.mktemp("archive"), ["# tigercanon form 1"], {})
     for stem, parts in sorted(made_counties()):
-        put_files(made.files / stem, parts)
+        put_files(files / stem, parts)
         number = int(stem[-5:])
         if number % 3:
-            put_files(made.packed / stem, parts)
+            put_files(made.folder / stem, parts)
         else:
-            put_zip(made.packed / stem, parts, number % 2 == 1)
-        run = subprocess.run([PROGRAM, "fingerprint", "--stem", "--", made.files / stem], capture_output=True, text=True)
+            put_zip(made.folder / stem, parts, number % 2 == 1)
+        run = subprocess.run([PROGRAM, "fingerprint", "--stem", "--", files / stem], capture_output=True, text=True)
         if run.returncode == 0:
             made.lines.append(f"{run.stdout.strip()}  {stem}")
         missing = endings(kind for kind in TYPES if kind not in parts)
@@ -90,7 +89,7 @@ def expected(tmp_path_factory: pytest.TempPathFactory) -> Archive:
 
 @pytest.fixture
 def archive(room: Path, program: str, expected: Archive) -> Archive:
-    shutil.copytree(expected.packed / "in", "in")
+    shutil.copytree(expected.folder / "in", "in")
     return expected
 
 
@@ -121,6 +120,7 @@ def assert_all_done(archive: Archive, killed: int = 0) -> None:
 
 
 def test_on_this_machine(archive: Archive) -> None:
+    """Zips and their unpacked files have the same fingerprints."""
     ended = call("fingerprint", "-o", "m", "in")
     assert (ended.status, plain(ended.reports)) == (1, archive.reports)
     assert_all_done(archive)
@@ -134,13 +134,6 @@ def test_on_this_machine(archive: Archive) -> None:
     again = call("fingerprint", "-o", "m", "in")
     assert again.lines[-3].startswith(f"{COUNTIES} counties: {count} in the manifest already, 0 new, {len(refused)} refused, ")
     assert call("verify", "--quiet", "m").out == ""
-
-
-def test_the_same_from_single_files(archive: Archive) -> None:
-    """Zips and their unpacked files have the same manifest."""
-    assert call("fingerprint", "-o", "m", "in").status == 1
-    ended = call("verify", "--root", archive.files, "m")
-    assert (ended.status, ended.out.count(": OK\n")) == (0, len(archive.lines) - 1)
 
 
 class Engine:

@@ -25,6 +25,7 @@ RENUMBERED = ROOT / "examples/autauga-renumbered/all.txt"
 ONE_ADDRESS = ROOT / "examples/autauga-one-address.txt"
 CANONICAL = ROOT / "examples/autauga/canonical.txt"
 ENDINGS = [f".RT{kind}" for kind in TYPES]
+REFERENCE = script("vectors/reference")
 GROWTH = 512
 """At most this many KiB more may be in use after 1,000 rounds than after 100."""
 
@@ -44,13 +45,11 @@ def loaded() -> Iterator[Path]:
 
 def answer(words: list[str], files: dict[str, bytes]) -> Answer:
     """What the program would answer to these words, by the module and with files in memory."""
-    command, end = words[0], words.index("--") if "--" in words else len(words)
-    options = [word for word in words[1:end] if word.startswith("-")]
-    names = [word for word in words[1:end] if word not in options] + words[end + 1 :]
-    is_stem = "--stem" in options
-    sets = [[files.get(name + end, b"") for end in ENDINGS] if is_stem else files[name] for name in names]
+    command, names, left_out = REFERENCE.plan(words)
+    sets = [files[stem[0]] if len(stem) == 1 else [files.get(name, b"") for name in stem] for stem in names]
+    masks = {mask[2:].replace("-", "_"): True for mask, fields in REFERENCE.MASKS.items() if fields[0] in left_out}
     try:
-        answered = getattr(tigercanon, command)(*sets, **{it[2:].replace("-", "_"): True for it in options if it != "--stem"})
+        answered = getattr(tigercanon, command)(*sets, **masks)
     except tigercanon.Refusal as refusal:
         return Answer(5 if refusal.number == 9 else 3, b"", f"{refusal}\n".encode())
     if command == "compare":

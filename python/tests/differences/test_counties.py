@@ -8,7 +8,7 @@ from pathlib import Path
 import pytest
 from support import put
 
-from .changes import SUBJECTS, Changing, much_changed, split_maps
+from .changes import SUBJECTS, Changing, much_changed
 from .county import made_county, written
 from .example import example_differences
 from .reports import EXAMPLE, KINDS, counts_in_words, diff, differing, in_words, needs_leaflet, page_data
@@ -78,13 +78,3 @@ def test_masks(room: Path, flags: tuple[str, ...], status: int) -> None:
     other = deepcopy(county)
     other.chains[0].fields["SOURCE"] = "Z"
     assert diff(*flags, put("first", written(county, 3)), put("second", written(other, 8))).status == status
-
-
-def test_ties(room: Path) -> None:
-    """If nothing differs except how things are tied, the report names the places."""
-    points, *files = split_maps(room, 5_000, 6, 2)
-    text = differing(*files)
-    assert "What differs is how they are tied" in text
-    assert text.count("one node in the first, 2 in the second:") == 2
-    for longitude, latitude in points:
-        assert f"{latitude / 1e6:.6f}° N, {-longitude / 1e6:.6f}° W" in text

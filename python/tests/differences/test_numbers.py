@@ -10,6 +10,8 @@ from typing import Any, NamedTuple
 import pytest
 from support import packed, put
 
+from tigercanon.differences.words import TIED
+
 from .changes import much_changed, split_maps
 from .county import FILE, Landmark, Point, made_county
 from .reports import KINDS, differing
@@ -116,8 +118,9 @@ def test_values(made: Made) -> None:
 
 
 def test_ties(room: Path) -> None:
-    """A difference that is only a tie has a feature at each of its places."""
+    """A difference that is only a tie is named, and has a feature at each of its places."""
     (split,), one, tied = split_maps(room, 144, 44, 1)
+    assert f"{split[1] / 1e6:.6f}° N, {-split[0] / 1e6:.6f}° W" in differing(one, tied).partition(TIED)[2]
     (tie,) = features_of(one, tied)
     found = [tie["properties"][name] for name in ("what", "differs", "first_count", "second_count")]
     assert found == ["tie", "node", 1, 2]
