@@ -57,8 +57,7 @@ class Ended(NamedTuple):
 
     @property
     def reports(self) -> dict[str, str]:
-        parts = [line.partition(": ") for line in self.lines]
-        return {stem: text for stem, _, text in parts if "/" in stem and text}
+        return {stem: text for stem, _, text in (line.partition(": ") for line in self.lines) if "/" in stem and text}
 
 
 def die_with_the_test() -> None:

@@ -1,5 +1,7 @@
 """The command line: help, versions, errors, and how the program is found."""
 
+from __future__ import annotations
+
 import os
 import shutil
 import subprocess
@@ -7,7 +9,7 @@ import sys
 from pathlib import Path
 
 import pytest
-from support import PACKAGE, call, complete, digest, put
+from support import HEAD, PACKAGE, call, complete, line, put, words_of
 from testing import ROOT
 
 from tigercanon.progress import Tally, amount, duration
@@ -42,34 +44,20 @@ class TestProgram:
         assert call("fingerprint", "--program", "./other", "in").reports == {"in/a": "refused 1 Other 1 1"}
         assert call("fingerprint", "in").status == 0
 
-    @pytest.fixture
-    def installed(self, room: Path) -> Path:
-        """The package without a clone around it."""
-        shutil.copytree(PACKAGE / "tigercanon", room / "packages/tigercanon")
-        return room / "packages"
-
-    def call_installed(self, room: Path) -> "subprocess.CompletedProcess[bytes]":
+    @pytest.mark.parametrize("place", ["bin", "packages/tigercanon/bin", None])
+    def test_an_installed_package(self, room: Path, stand_in: Path, place: str | None) -> None:
+        """Without a clone around the package, the program is on the PATH, or inside the package, as a wheel has it; or there is none."""
+        shutil.copytree(PACKAGE / "tigercanon", "packages/tigercanon")
         complete("in/a", b"x\n")
-        env = {
-            "PYTHONPATH": str(room / "packages"),
-            "PATH": f"{room}/bin:/bin:/usr/bin",
-            "ROOM": str(room),
-            "TMPDIR": str(room / "tmp"),
-        }
-        return subprocess.run([sys.executable, "-m", "tigercanon", "fingerprint", "in"], env=env, capture_output=True)
-
-    @pytest.mark.parametrize("place", ["bin", "packages/tigercanon/bin"])
-    def test_one_that_is_found(self, installed: Path, room: Path, stand_in: Path, place: str) -> None:
-        """On the PATH, and inside the package, as a wheel has it."""
-        os.mkdir(room / place)
-        os.rename(stand_in, room / place / "tigercanon")
-        run = self.call_installed(room)
-        assert (run.returncode, run.stdout.splitlines()[-1]) == (0, f"{digest(b'x' + bytes([10]))}  in/a".encode())
-
-    def test_none(self, installed: Path, room: Path) -> None:
-        run = self.call_installed(room)
+        if place:
+            os.renames(stand_in, f"{place}/tigercanon")
+        env = {"PYTHONPATH": f"{room}/packages", "PATH": f"{room}/bin:/bin:/usr/bin", "ROOM": str(room), "TMPDIR": f"{room}/tmp"}
+        run = subprocess.run(words_of("fingerprint", "in"), env=env, capture_output=True, text=True)
         why = "there is no program tigercanon here: run ./tigercanon once, which builds it, or name one with --program"
-        assert (run.returncode, run.stderr.decode()) == (2, f"tigercanon-tools: {why}\n")
+        if place:
+            assert (run.returncode, run.stdout) == (0, HEAD + line("in/a", b"x\n"))
+        else:
+            assert (run.returncode, run.stderr) == (2, f"tigercanon-tools: {why}\n")
 
     def test_a_clone(self, room: Path, stand_in: Path, monkeypatch: pytest.MonkeyPatch) -> None:
         """In a clone ./tigercanon is asked once, so that a stale program is built again; then the built one is called."""
@@ -113,8 +101,7 @@ def test_installing(room: Path) -> None:
     (room / "docs").mkdir()
     shutil.copy(PACKAGE.parent / "docs/guide.md", room / "docs")
     install = "-m pip install --no-build-isolation --no-index --no-deps --target site"
-    command = [sys.executable, *install.split(), str(copy)]
-    run = subprocess.run(command, capture_output=True, text=True)
+    run = subprocess.run([sys.executable, *install.split(), str(copy)], capture_output=True, text=True)
     assert run.returncode == 0, run.stderr
     env = {"PYTHONPATH": str(room / "site"), "PATH": "/usr/bin:/bin"}
     ended = subprocess.run([sys.executable, "site/bin/tigercanon-tools", "--version"], env=env, capture_output=True, text=True)

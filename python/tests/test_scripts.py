@@ -26,9 +26,8 @@ def test_they_have_all_commands() -> None:
             for flag in command.flags:
                 spelled = f"-l {flag[2:]} " if place.endswith(".fish") and flag.startswith("--") else flag
                 assert spelled in plain or len(flag) == 2, (place, name, flag)
-    page = PAGES.pages()["man/tigercanon-tools.1"]
     for wanted in ('.SS "fingerprint SOURCE.."', '.SS "verify MANIFEST [SOURCE ..]"', "\\fINEW\\fR\nthe later manifest"):
-        assert f"{wanted}\n" in page
+        assert f"{wanted}\n" in PAGES.pages()["man/tigercanon-tools.1"]
 
 
 @pytest.mark.parametrize(

@@ -120,8 +120,7 @@ class Changing:
         for chain in self.some_chains(count):
             others = iter(lambda: self.chance.randrange(len(self.county.polygons)), None)
             chain.left = next(other for other in others if other not in (chain.left, chain.right))
-            is_turned = chain.points > chain.points[::-1]
-            self.tell("chain", "changed", chain.points, "right polygon" if is_turned else "left polygon")
+            self.tell("chain", "changed", chain.points, "right polygon" if chain.points > chain.points[::-1] else "left polygon")
 
     def some(self, things: list[T], count: int) -> list[T]:
         """Of these things some that no change has touched."""

@@ -167,8 +167,7 @@ def test_date_line() -> None:
     """A map across the line of 180 degrees is drawn in one piece."""
     west = chain_between([(-179_000_000, 51_000_000), (-179_000_001, 51_000_000)])
     east = chain_between([(179_000_000, 51_000_000), (179_000_001, 51_000_000)])
-    county = two_sided(west, east)
-    comparison = compared(county, two_sided(west))
+    comparison = compared(two_sided(west, east), two_sided(west))
     assert shift_of(comparison) == 360_000_000
     data = page_data(comparison, sets_of(b"x", b"y"))
     assert data["entries"][0]["line"] == [-181_000_000, 51_000_000, 1, 0]
