@@ -17,7 +17,10 @@ from support import PROGRAM, STAND_INS, begin, call, count_of_lines, die_with_th
 from support import kill_group, left_behind, packed, processes, put
 from testing import ROOT, TYPES, await_that, by_type
 
-from tigercanon.judge import endings
+from tigercanon import engines
+from tigercanon.counties import Finder
+from tigercanon.errors import Failure
+from tigercanon.judge import Order, endings
 
 needs_dask = pytest.mark.skipif(not find_spec("distributed"), reason="distributed isn't installed")
 
@@ -244,28 +247,20 @@ class TestDask:
 
     @pytest.mark.parametrize("address", ["tcp://127.0.0.1:9", "nowhere.json"])
     def test_without_a_scheduler(self, archive: Archive, address: str, monkeypatch: pytest.MonkeyPatch) -> None:
-        from tigercanon import engines
-        from tigercanon.errors import Failure
-
         monkeypatch.setattr(engines, "PATIENCE_FOR_SCHEDULER", 1.0)
         with pytest.raises(Failure, match=f"no scheduler answers at {address}: "):
             engines.client_of(address)
 
     def test_all_workers_are_gone(self, archive: Archive, room: Path, monkeypatch: pytest.MonkeyPatch) -> None:
         """A run over a scheduler without workers ends after a while; one whose first worker comes late goes on."""
-        from tigercanon import engines
-        from tigercanon.counties import Finder
-        from tigercanon.judge import Order
-
         monkeypatch.setattr(engines, "PATIENCE_FOR_WORKERS", 2.0)
-        cluster = Engine(room, workers=0)
-        counties, _ = Finder().counties(["in/TGR0001*"])
+        cluster, (counties, _), order = Engine(room, workers=0), Finder().counties(["in/TGR0001*"]), Order(os.environ["TIGERCANON"])
         engine = engines.DaskEngine(str(cluster.file))
         with pytest.raises(engines.Gone, match="has had no worker for"):
-            list(engine.answers(counties, Order(os.environ["TIGERCANON"])))
+            list(engine.answers(counties, order))
         monkeypatch.setattr(engines, "PATIENCE_FOR_WORKERS", 300.0)
         cluster.start_worker()  # which takes some seconds to be there
-        answers = [result for result in engine.answers(counties, Order(os.environ["TIGERCANON"])) if result]
+        answers = [result for result in engine.answers(counties, order) if result]
         engine.close()
         cluster.close()
         assert sorted(number for number, _ in answers) == list(range(len(counties)))

@@ -32,20 +32,18 @@ def try_python(tests: Tests, whole: Path, stem: Path) -> None:
     sys.path.insert(0, str(tests.library / "python"))
     module = importlib.import_module("tigercanon")
     parts = [Path(f"{stem}{suffix}").read_bytes() for suffix in SUFFIXES]
+    digits, text, respelt = (run([tests.program, command, whole]).out for command in ("fingerprint", "normalise", "respell"))
     with open(whole, "rb") as file, mmap.mmap(file.fileno(), 0, prot=mmap.PROT_READ) as mapped:
-        digits = run([tests.program, "fingerprint", whole]).out.decode().strip()
-        tests.equal("fingerprint of an mmap", digits, module.fingerprint(mapped))
-        tests.equal("fingerprint of nine parts", digits, module.fingerprint(parts))
-        tests.equal("fingerprint of a file", digits, module.fingerprint(file))
-        text = run([tests.program, "normalise", whole]).out
-        respelt = run([tests.program, "respell", whole]).out
         for what, answer, wanted in (
+            ("fingerprint of an mmap", module.fingerprint(mapped), digits.decode().strip()),
+            ("fingerprint of nine parts", module.fingerprint(parts), digits.decode().strip()),
+            ("fingerprint of a file", module.fingerprint(file), digits.decode().strip()),
             ("normalise of an mmap", module.normalise(mapped), text),
             ("normalise of nine parts", module.normalise(parts), text),
             ("respell", module.respell(mapped), respelt),
+            ("compare", module.compare(mapped, parts), True),
         ):
             tests.count(answer == wanted, f"{what} isn't what the program prints")
-        tests.equal("compare", True, module.compare(mapped, parts))
 
 
 def try_counties(tests: Tests) -> None:
