@@ -64,11 +64,8 @@ def test_bash_completes() -> None:
 
 def test_a_list_that_is_read_in_part() -> None:
     """It ends silently, as any filter does."""
-    run = subprocess.Popen([RUN, "--list"], stdout=subprocess.PIPE, stderr=subprocess.PIPE)
-    assert run.stdout and run.stderr
-    run.stdout.readline()
-    run.stdout.close()
-    assert (run.stderr.read(), run.wait()) in ((b"", 0), (b"", -13))
+    run = subprocess.run(["bash", "-c", f"set -o pipefail; {RUN} --list | head -n 1"], capture_output=True)
+    assert (run.stdout.count(b"\n"), run.stderr, run.returncode in (0, 128 + 13)) == (1, b"", True)
 
 
 @pytest.mark.parametrize(
