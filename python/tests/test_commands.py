@@ -4,13 +4,12 @@ from __future__ import annotations
 
 import os
 import shutil
-import subprocess
 import sys
 from pathlib import Path
 
 import pytest
 from support import HEAD, PACKAGE, call, complete, line, put, words_of
-from testing import ROOT
+from testing import ROOT, run
 
 from tigercanon.progress import Tally, amount, duration
 from tigercanon.version import VERSION
@@ -52,12 +51,12 @@ class TestProgram:
         if place:
             os.renames(stand_in, f"{place}/tigercanon")
         env = {"PYTHONPATH": f"{room}/packages", "PATH": f"{room}/bin:/bin:/usr/bin", "ROOM": str(room), "TMPDIR": f"{room}/tmp"}
-        run = subprocess.run(words_of("fingerprint", "in"), env=env, capture_output=True, text=True)
+        ended = run(words_of("fingerprint", "in"), env=env)
         why = "there is no program tigercanon here: run ./tigercanon once, which builds it, or name one with --program"
         if place:
-            assert (run.returncode, run.stdout) == (0, HEAD + line("in/a", b"x\n"))
+            assert (ended.status, ended.out.decode()) == (0, HEAD + line("in/a", b"x\n"))
         else:
-            assert (run.returncode, run.stderr) == (2, f"tigercanon-tools: {why}\n")
+            assert (ended.status, ended.err.decode()) == (2, f"tigercanon-tools: {why}\n")
 
     def test_a_clone(self, room: Path, stand_in: Path, monkeypatch: pytest.MonkeyPatch) -> None:
         """In a clone ./tigercanon is asked once, so that a stale program is built again; then the built one is called."""
@@ -71,25 +70,22 @@ class TestProgram:
         built.parent.mkdir(parents=True)
         os.rename(stand_in, built)
         os.symlink("clone/tigercanon-tools", "tools")
-        run = subprocess.run(["./tools", "fingerprint", "in"], env={**os.environ, "PYTHON": sys.executable}, capture_output=True)
-        assert (run.returncode, run.stdout.count(b"\n")) == (0, 2), run.stderr
+        ended = run(["./tools", "fingerprint", "in"], env={**os.environ, "PYTHON": sys.executable})
+        assert (ended.status, ended.out.count(b"\n")) == (0, 2), ended.err
         assert Path("calls").read_text() == f"launched\n{room}/in/a\n"
 
     @pytest.mark.parametrize("name", ["tigercanon/__init__.py", "tigercanon.py", "argparse.py"])
     def test_a_module_in_the_current_folder(self, room: Path, name: str) -> None:
         """It doesn't take the place of the package's modules, nor of Python's."""
         put(name, b"raise SystemExit('of the current folder')\n")
-        run = subprocess.run([ROOT / "tigercanon-tools", "--version"], capture_output=True, text=True)
-        assert (run.returncode, run.stdout, run.stderr) == (0, f"tigercanon-tools {VERSION}\n", "")
+        assert run([ROOT / "tigercanon-tools", "--version"]) == (0, f"tigercanon-tools {VERSION}\n".encode(), b"")
 
     def test_the_examples(self, program: str, monkeypatch: pytest.MonkeyPatch, room: Path) -> None:
         """What a new user tries first."""
         monkeypatch.chdir(ROOT)
-        run = subprocess.run(["./tigercanon-tools", "fingerprint", "examples"], env=os.environ, capture_output=True)
-        assert run.returncode == 0, run.stderr
-        digits = b"1d52be5838ff73bc2575fb45a3df3475437eff9b6347ef11d750d52787afbf1a"
-        wanted = [digits + b"  examples/" + name + b"/TGR01001" for name in (b"autauga-renumbered", b"autauga")]
-        assert run.stdout.splitlines()[1:] == wanted
+        digits = "1d52be5838ff73bc2575fb45a3df3475437eff9b6347ef11d750d52787afbf1a"
+        wanted = HEAD + "".join(f"{digits}  examples/{name}/TGR01001\n" for name in ("autauga-renumbered", "autauga"))
+        assert run(["./tigercanon-tools", "fingerprint", "examples"])[:2] == (0, wanted.encode())
 
 
 def test_installing(room: Path) -> None:
@@ -101,13 +97,13 @@ def test_installing(room: Path) -> None:
     (room / "docs").mkdir()
     shutil.copy(PACKAGE.parent / "docs/guide.md", room / "docs")
     install = "-m pip install --no-build-isolation --no-index --no-deps --target site"
-    run = subprocess.run([sys.executable, *install.split(), str(copy)], capture_output=True, text=True)
-    assert run.returncode == 0, run.stderr
+    made = run([sys.executable, *install.split(), copy])
+    assert made.status == 0, made.err
     env = {"PYTHONPATH": str(room / "site"), "PATH": "/usr/bin:/bin"}
-    ended = subprocess.run([sys.executable, "site/bin/tigercanon-tools", "--version"], env=env, capture_output=True, text=True)
-    assert (ended.returncode, ended.stdout) == (0, f"tigercanon-tools {VERSION}\n")
-    ended = subprocess.run([sys.executable, "-m", "tigercanon", "explain", "9"], env=env, capture_output=True, text=True)
-    assert (ended.returncode, ended.stdout.splitlines()[0]) == (0, "refused 9 Memory"), ended.stderr
+    version = run([sys.executable, "site/bin/tigercanon-tools", "--version"], env=env)
+    assert version[:2] == (0, f"tigercanon-tools {VERSION}\n".encode())
+    explained = run(words_of("explain", "9"), env=env)
+    assert (explained.status, explained.out.splitlines()[0]) == (0, b"refused 9 Memory"), explained.err
 
 
 class TestNumbers:

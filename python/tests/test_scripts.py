@@ -2,10 +2,9 @@
 vectors/ does without a program."""
 
 import shutil
-import subprocess
 
 import pytest
-from testing import ROOT, script
+from testing import ROOT, run, script
 
 PAGES = script("release/tool-pages")
 RUN = ROOT / "vectors/run"
@@ -42,8 +41,8 @@ def test_they_have_all_commands() -> None:
 def test_they_can_be_read(words: str) -> None:
     if not shutil.which(words.split()[0]):
         pytest.skip(f"no {words.split()[0]}")
-    ended = subprocess.run(words.split(), cwd=ROOT, capture_output=True)
-    assert (ended.returncode, ended.stderr) == (0, b"")
+    status, _, err = run(words.split(), cwd=ROOT)
+    assert (status, err) == (0, b"")
 
 
 def test_bash_completes() -> None:
@@ -54,8 +53,7 @@ def test_bash_completes() -> None:
     )
 
     def offered(words: str) -> str:
-        command = ["bash", "-c", completion.replace("ASKED", words)]
-        return subprocess.run(command, cwd=ROOT, capture_output=True, text=True).stdout.strip()
+        return run(["bash", "-c", completion.replace("ASKED", words)], cwd=ROOT).out.decode().strip()
 
     assert offered("du") == "duplicates"
     assert offered("diff --ge") == "--geojson"
@@ -64,8 +62,8 @@ def test_bash_completes() -> None:
 
 def test_a_list_that_is_read_in_part() -> None:
     """It ends silently, as any filter does."""
-    run = subprocess.run(["bash", "-c", f"set -o pipefail; {RUN} --list | head -n 1"], capture_output=True)
-    assert (run.stdout.count(b"\n"), run.stderr, run.returncode in (0, 128 + 13)) == (1, b"", True)
+    ended = run(["bash", "-c", f"set -o pipefail; {RUN} --list | head -n 1"])
+    assert (ended.out.count(b"\n"), ended.err, ended.status in (0, 128 + 13)) == (1, b"", True)
 
 
 @pytest.mark.parametrize(
@@ -77,5 +75,4 @@ def test_a_list_that_is_read_in_part() -> None:
     ],
 )
 def test_no_program(words: list[str], why: str) -> None:
-    run = subprocess.run([RUN, *words], capture_output=True, text=True)
-    assert (run.returncode, run.stdout, run.stderr) == (2, "", f"run: {why}\n")
+    assert run([RUN, *words]) == (2, b"", f"run: {why}\n".encode())

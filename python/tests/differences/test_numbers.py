@@ -3,12 +3,12 @@
 import json
 import re
 import shutil
-import subprocess
 from pathlib import Path
 from typing import Any, NamedTuple
 
 import pytest
 from support import packed, put
+from testing import run
 
 from tigercanon.differences.words import TIED
 
@@ -133,11 +133,10 @@ def test_ties(room: Path) -> None:
 
 def ogrinfo(where: str) -> tuple[int, str]:
     """How many features GDAL finds for which this holds, and all that it reports."""
-    words = ["ogrinfo", "-ro", "-so", "-al", "-where", where, "numbers.geojson"]
-    run = subprocess.run(words, capture_output=True, text=True)
-    found = re.search(r"Feature Count: (\d+)", run.stdout)
-    assert (run.returncode, run.stderr, bool(found)) == (0, "", True)
-    return int(found[1] if found else 0), run.stdout
+    ended = run(["ogrinfo", "-ro", "-so", "-al", "-where", where, "numbers.geojson"])
+    assert (ended.status, ended.err) == (0, b"")
+    (count,) = re.findall(r"Feature Count: (\d+)", ended.out.decode())
+    return int(count), ended.out.decode()
 
 
 @pytest.mark.skipif(not shutil.which("ogrinfo"), reason="gdal-bin isn't installed")
