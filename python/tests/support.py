@@ -25,8 +25,6 @@ PROGRAM = NAMED if os.access(NAMED, os.X_OK) else None
 
 NAME = "tigercanon-tools: "
 HEAD = "# tigercanon form 1\n"
-PATIENCE = 300.0
-"""No call takes longer than this many seconds."""
 
 PR_SET_PDEATHSIG = 1
 
@@ -90,7 +88,7 @@ def begin(*words: object, env: dict[str, str] | None = None, **options: Any) -> 
     return subprocess.Popen(words_of(*words), env=environment(**(env or {})), **options)
 
 
-def end(run: "subprocess.Popen[bytes]", seconds: float = PATIENCE) -> Ended:
+def end(run: "subprocess.Popen[bytes]", seconds: float = 300.0) -> Ended:
     """Waits for a call that was started. If it takes too long it is killed with all that it started."""
     try:
         out, err = run.communicate(timeout=seconds)

@@ -69,8 +69,9 @@ def test_the_current_folder(archive: Path, monkeypatch: pytest.MonkeyPatch) -> N
     assert stems(".") == ["d", "er/c"]
 
 
-def test_links_to_folders(archive: Path) -> None:
-    """They are followed, a ring of them once; and a county that is there under two names is counted once."""
+def test_links(archive: Path) -> None:
+    """Those to folders are followed, a ring of them once; and a county that is there under two names is counted once. Hard links are
+    counties of their own."""
     os.symlink("..", "in/deep/up")
     assert stems("in") == ALL
     os.unlink("in/deep/up")
@@ -81,9 +82,6 @@ def test_links_to_folders(archive: Path) -> None:
     counties, _ = finder.counties(["in", "links"])
     assert sorted(county.stem for county in counties) == ALL
     assert finder.same == [("links/to/d", "in/deep/d"), ("links/to/er/c", "in/deep/er/c")]
-
-
-def test_hard_links_are_counties_of_their_own(archive: Path) -> None:
     os.mkdir("second")
     os.link("in/a.ZIP", "second/a.ZIP")
     assert stems("in/a", "second") == ["in/a", "second/a"]

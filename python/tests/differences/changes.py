@@ -5,9 +5,8 @@ from __future__ import annotations
 import pickle
 import random
 from collections import Counter
-from dataclasses import dataclass
 from pathlib import Path
-from typing import Sequence, TypeVar
+from typing import NamedTuple, Sequence, TypeVar
 
 from support import put
 
@@ -23,8 +22,7 @@ Place = tuple[Point, ...]
 reverse."""
 
 
-@dataclass(frozen=True)
-class Difference:
+class Difference(NamedTuple):
     """A chain, landmark or polygon that isn't alike: its kind, where it lies, and the fields that differ."""
 
     what: str

@@ -2,7 +2,6 @@
 
 import json
 import re
-from dataclasses import replace
 from pathlib import Path
 from typing import Any
 
@@ -22,8 +21,6 @@ WORDS_HEADING = re.compile(rf"(?m)^(chain|landmark|polygon|feature name)s ({'|'.
 DEGREES = re.compile(r"(\d+)\.(\d{6})° ([NS]), (\d+)\.(\d{6})° ([WE])")
 SIGNS = {"N": 1, "E": 1, "S": -1, "W": -1}
 PROGRESS = re.compile(r"tigercanon-tools: (normalising|reading|comparing|finding|writing) .*\n")
-
-needs_leaflet = pytest.mark.skipif(not (LEAFLET / "leaflet.css").exists(), reason="libjs-leaflet isn't installed")
 
 
 def diff(*words: object, program: object = PROGRAM, **options: Any) -> Ended:
@@ -62,11 +59,7 @@ def told_in_words(text: str) -> set[Difference]:
 def in_words(difference: Difference) -> Difference:
     """A difference as a printed report has it."""
     place = difference.place
-    return replace(difference, place=(place[0], place[-1])) if difference.what == "chain" else difference
-
-
-def counts_in_words(text: str) -> dict[str, list[str]]:
-    return {line[:19].strip(): line[19:].split() for line in text.splitlines()[3:8]}
+    return difference._replace(place=(place[0], place[-1])) if difference.what == "chain" else difference
 
 
 def told_in_geojson(path: Path) -> set[Difference]:
