@@ -105,17 +105,14 @@ def test_nothing() -> None:
 
 
 def test_a_file_from_its_position(tmp_path: Path) -> None:
-    path = tmp_path / "part"
-    path.write_bytes(TEXT)
-    with path.open("rb") as file:
+    with put(tmp_path / "part", TEXT).open("rb") as file:
         first = file.readline()
         assert echoed(file) == TEXT[len(first) :]
         assert echoed(file) == b""
 
 
 def test_what_is_no_part(tmp_path: Path) -> None:
-    (tmp_path / "text").write_text("x")
-    with (tmp_path / "text").open() as in_text_mode:
+    with put(tmp_path / "text", b"x").open() as in_text_mode:
         for part in (1, None, [1, 2], [None], in_text_mode, [[b"x"]]):
             with pytest.raises(TypeError):
                 tigercanon.check(part)  # type: ignore[arg-type]
@@ -139,10 +136,9 @@ def test_parts_are_given_back() -> None:
 
 def test_stems(tmp_path: Path) -> None:
     """The nine files in their order, in either case of their endings. An absent one is empty."""
-    (tmp_path / "TGR01001.RT1").write_bytes(b"one")
-    (tmp_path / "TGR01001.rti").write_bytes(b"I")
-    (tmp_path / "TGR01001.RTP").write_bytes(b"P")
-    (tmp_path / "TGR010011.RT2").write_bytes(b"of another county")
+    files = {"TGR01001.RT1": b"one", "TGR01001.rti": b"I", "TGR01001.RTP": b"P", "TGR010011.RT2": b"of another county"}
+    for name, text in files.items():
+        put(tmp_path / name, text)
     for stem in (tmp_path / "TGR01001", str(tmp_path / "TGR01001")):
         assert echoed(stem) == b"one|||||||I|P"
     with pytest.raises(FileNotFoundError, match="no county's files begin with this name"):

@@ -36,7 +36,8 @@ def broken_zips() -> dict[str, tuple[bytes, str]]:
     before, line = zipfile.ZipFile(io.BytesIO(good)).getinfo(name).header_offset, good.rindex(name.encode()) - 46
     data = before + 30 + len(name)
     broken, two = f"the zip is broken at {name}", "the zip has 2 counties in it:"
-    large = r"the zip unpacks to \d+ bytes, more than --largest 200000"
+    large = {**COUNTY, last: b" " * 300_000}
+    too_large = f"the zip unpacks to {sum(map(len, large.values()))} bytes, more than --largest 200000"
     both = (before + 6, b"\1"), (line + 8, b"\1")
     unknown = (before + 8, b"\x09"), (line + 10, b"\x09")
     return {
@@ -56,25 +57,20 @@ def broken_zips() -> dict[str, tuple[bytes, str]]:
         "folders": (packed({**members("a/TGR00001", TEXT), "b/TGR00001.RT2": b""}), f"{two} A/TGR00001, B/TGR00001"),
         "none": (packed({"TGR00001.RTA": b"A", "read.me": b""}), "the zip has no county in it"),
         "twice": (packed({**COUNTY, "tgr00001.rt2": b""}), "the zip has 2 files .RT2"),
-        "large": (packed({**COUNTY, last: b" " * 300_000}), large),
+        "large": (packed(large), too_large),
     }
 
 
 def test_broken_zips(room: Path, stand_in: Path) -> None:
-    wanted = {}
-    for name, (text, report) in broken_zips().items():
+    zips = broken_zips()
+    for name, (text, _) in zips.items():
         put(f"in/{name}.ZIP", text)
-        wanted[f"in/{name}"] = report
     put("in/lower.zip", packed({**{name.lower(): text for name, text in COUNTY.items()}, "tgr00001.rta": b"A", "x/y.txt": b""}))
     put("in/stored.zip", packed(COUNTY, zipfile.ZIP_STORED))
     put("in/folder.ZiP", packed(members("of/TGR00001", TEXT), zipfile.ZIP_BZIP2))
     complete("in/single", TEXT)
     ended = call("fingerprint", "--largest", "200kB", "in")
-    reports = ended.reports
-    assert ended.status == 1
-    for stem, report in wanted.items():
-        assert re.fullmatch(report if "\\d" in report else re.escape(report), reports.pop(stem))
-    assert reports == {}
+    assert (ended.status, ended.reports) == (1, {f"in/{name}": report for name, (_, report) in zips.items()})
     assert ended.out.splitlines()[1:] == [f"{digest(TEXT)}  in/{name}" for name in ("folder", "lower", "single", "stored")]
     assert left_behind() == []
 
