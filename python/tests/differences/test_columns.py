@@ -7,34 +7,21 @@ from testing import ROOT
 
 from tigercanon.differences.columns import CHAIN, LANDMARK, LENGTHS, LINK, NAME, POLYGON, RANGE, Layout
 
+TABLE = re.compile(r"^## Record type (\w): [^\n]* \((\d+) bytes\)\n(.*?)(?=^## |\Z)", re.M | re.S)
+FIELD = re.compile(r"^\| (\d+)(?:[^|]*-(\d+))? \| (?!CENID)([^|]*) \| [Bp] \| [^|]* \|(?: ([^|]*) ?\|)?$", re.M)
+"""A field of text, or a point: its first and last column, its name, and its partner."""
 
-Told = tuple[str, int, int, str]
-"""A field's name, its first and last column, and its partner."""
-
-
-def documented() -> dict[str, tuple[int, list[Told]]]:
-    """Of each record type its length and its fields of text and its points, as the page's tables have them."""
-    tables: dict[str, tuple[int, list[Told]]] = {}
-    for section in re.split(r"^## ", (ROOT / "docs/format.md").read_text("utf-8"), flags=re.MULTILINE):
-        heading = re.match(r"Record type (\w): .* \((\d+) bytes\)", section)
-        if heading:
-            rows = [
-                [cell.strip() for cell in line.strip("|").split("|")] for line in section.splitlines() if re.match(r"\| \d", line)
-            ]
-            tables[heading[1]] = int(heading[2]), [told(row) for row in rows if len(row) > 2 and row[2] in ("B", "p")]
-    return tables
-
-
-def told(row: list[str]) -> Told:
-    columns = [int(number) for number in re.findall(r"\d+", row[0])]
-    return row[1], columns[0], columns[-1], row[4] if len(row) > 4 else ""
+TABLES = {
+    record_type: (int(length), table) for record_type, length, table in TABLE.findall((ROOT / "docs/format.md").read_text("utf-8"))
+}
 
 
 def test_lengths() -> None:
-    assert LENGTHS == {record_type: length for record_type, (length, _) in documented().items()}
+    assert LENGTHS == {record_type: length for record_type, (length, _) in TABLES.items()}
 
 
 @pytest.mark.parametrize("layout", [CHAIN, NAME, RANGE, LANDMARK, LINK, POLYGON], ids=lambda layout: str(layout.record_type))
 def test_fields(layout: Layout) -> None:
-    wanted = [row for row in documented()[layout.record_type][1] if not row[0].startswith("CENID")]
+    fields = FIELD.findall(TABLES[layout.record_type][1])
+    wanted = [(name, int(first), int(last or first), partner.strip()) for first, last, name, partner in fields]
     assert [(column.name, column.first, column.last, column.partner) for column in layout.columns] == wanted
