@@ -37,9 +37,9 @@ def digest(text: bytes, flags: str = "") -> str:
     return hashlib.sha256((f"{flags} " if flags else "").encode() + text).hexdigest()
 
 
-def line(name: str, text: bytes) -> str:
-    """The line of a manifest that the stand-in leads to."""
-    return f"{digest(text)}  {name}\n"
+def manifest(counties: Mapping[str, bytes]) -> str:
+    """The manifest of counties with these first files that the stand-in leads to."""
+    return HEAD + "".join(f"{digest(text)}  {stem}\n" for stem, text in counties.items())
 
 
 class Ended(NamedTuple):

@@ -8,7 +8,7 @@ import sys
 from pathlib import Path
 
 import pytest
-from support import HEAD, PACKAGE, call, complete, line, put, words_of
+from support import HEAD, PACKAGE, call, complete, manifest, put, words_of
 from testing import ROOT, run
 
 from tigercanon.progress import Tally, amount, duration
@@ -54,7 +54,7 @@ class TestProgram:
         ended = run(words_of("fingerprint", "in"), env=env)
         why = "there is no program tigercanon here: run ./tigercanon once, which builds it, or name one with --program"
         if place:
-            assert (ended.status, ended.out.decode()) == (0, HEAD + line("in/a", b"x\n"))
+            assert (ended.status, ended.out.decode()) == (0, manifest({"in/a": b"x\n"}))
         else:
             assert (ended.status, ended.err.decode()) == (2, f"tigercanon-tools: {why}\n")
 

@@ -5,7 +5,7 @@ import os
 from pathlib import Path
 
 import pytest
-from support import HEAD, begin, call, complete, digest, end, left_behind, limit_files, line, put, zip_up
+from support import HEAD, begin, call, complete, digest, end, left_behind, limit_files, manifest, put, zip_up
 from testing import TYPES
 
 
@@ -20,10 +20,6 @@ def four(room: Path, stand_in: Path) -> dict[str, bytes]:
     for stem, text in counties.items():
         complete(stem, text)
     return counties
-
-
-def manifest(counties: dict[str, bytes]) -> str:
-    return HEAD + "".join(line(stem, text) for stem, text in counties.items())
 
 
 def test_a_manifest(four: dict[str, bytes]) -> None:
@@ -89,7 +85,7 @@ def test_what_did_not_fit_is_tried_alone(four: dict[str, bytes]) -> None:
     put("in/b.RT1", b"once\n")
     ended = call("fingerprint", "-o", "m", "in")
     assert (ended.status, ended.reports) == (0, {})
-    assert line("in/b", b"once\n") in Path("m").read_text()
+    assert Path("m").read_text() == manifest({**four, "in/b": b"once\n"})
     assert calls().count(str(Path("in/b").absolute())) == 2
 
 

@@ -7,7 +7,7 @@ from itertools import product
 from pathlib import Path
 
 import pytest
-from support import begin, call, complete, digest, end, line, put
+from support import begin, call, complete, digest, end, manifest, put
 from testing import await_that
 
 A, B, C = ("a" * 64, "b" * 64, "c" * 64)
@@ -79,7 +79,7 @@ def test_a_line_that_was_being_written(room: Path, stand_in: Path) -> None:
     put("m", HEAD[:9])
     complete("in/b", b"b\n")
     assert call("fingerprint", "-o", "m", "in").status == 0
-    assert Path("m").read_text() == HEAD.decode() + line("in/b", b"b\n")
+    assert Path("m").read_text() == manifest({"in/b": b"b\n"})
 
 
 def test_a_linked_manifest(room: Path, stand_in: Path) -> None:

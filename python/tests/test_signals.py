@@ -9,25 +9,23 @@ from contextlib import suppress
 from pathlib import Path
 
 import pytest
-from support import HEAD, begin, call, complete, count_of_lines, end, left_behind, limit_files, line, processes, put, zip_up
+from support import HEAD, begin, call, complete, count_of_lines, end, left_behind, limit_files, manifest, processes, put, zip_up
 from testing import await_that
 
 SIGNALS = [signal.SIGINT, signal.SIGTERM, signal.SIGHUP, signal.SIGQUIT, signal.SIGUSR1, signal.SIGXCPU]
 
 
+COUNTIES = {"in/TGR0": b"waits\n", **{f"in/TGR{number}": b"county %d\n" % number for number in range(1, 10)}}
+WANTED = manifest(COUNTIES)
+
+
 @pytest.fixture
 def archive(room: Path, stand_in: Path) -> Path:
     """Ten counties: a zip for which the stand-in waits as long as there is a file `waits`, and nine others."""
-    for number in range(1, 10):
-        complete(f"in/TGR{number}", b"county %d\n" % number)
-    complete("in/TGR0", b"waits\n")
+    for stem, text in COUNTIES.items():
+        complete(stem, text)
     zip_up("in/TGR0")
     return room
-
-
-def wanted() -> str:
-    texts = [b"waits\n", *(b"county %d\n" % number for number in range(1, 10))]
-    return HEAD + "".join(line(f"in/TGR{number}", text) for number, text in enumerate(texts))
 
 
 def assert_nothing_is_left(room: Path) -> None:
@@ -61,7 +59,7 @@ def test_a_signal(archive: Path, number: signal.Signals) -> None:
     os.unlink("waits")
     Path("calls").write_text("")
     assert call("fingerprint", "-o", "m", "in").status == 0
-    assert (Path("m").read_text(), Path("calls").read_text().count("\n")) == (wanted(), 1)
+    assert (Path("m").read_text(), Path("calls").read_text().count("\n")) == (WANTED, 1)
 
 
 def test_at_any_moment(archive: Path) -> None:
@@ -78,9 +76,9 @@ def test_at_any_moment(archive: Path) -> None:
         assert_nothing_is_left(archive)
         if Path("m").exists():
             text = Path("m").read_text()
-            assert text.startswith(HEAD) and set(text.splitlines()) <= set(wanted().splitlines()) and text.endswith("\n")
+            assert text.startswith(HEAD) and set(text.splitlines()) <= set(WANTED.splitlines()) and text.endswith("\n")
     assert call("fingerprint", "-o", "m", "in").status == 0
-    assert Path("m").read_text() == wanted()
+    assert Path("m").read_text() == WANTED
     assert Path("calls").read_text().count("\n") < 60
 
 
@@ -92,7 +90,7 @@ def test_a_signal_that_is_ignored(archive: Path) -> None:
     run.send_signal(signal.SIGHUP)
     os.unlink("waits")
     assert end(run).status == 0
-    assert Path("m").read_text() == wanted()
+    assert Path("m").read_text() == WANTED
 
 
 def test_a_run_that_is_killed(archive: Path) -> None:
@@ -108,7 +106,7 @@ def test_a_run_that_is_killed(archive: Path) -> None:
     assert call("fingerprint", "in/TGR1").status == 0
     assert left_behind() == []
     assert call("fingerprint", "-o", "m", "in").status == 0
-    assert Path("m").read_text() == wanted()
+    assert Path("m").read_text() == WANTED
     end(run)
 
 

@@ -13,7 +13,7 @@ from types import SimpleNamespace
 from typing import Iterator
 
 import pytest
-from support import call, complete, digest, left_behind, members, packed, put
+from support import call, complete, left_behind, manifest, members, packed, put
 
 from tigercanon import storage
 from tigercanon.errors import Unreadable
@@ -71,7 +71,7 @@ def test_broken_zips(room: Path, stand_in: Path) -> None:
     complete("in/single", TEXT)
     ended = call("fingerprint", "--largest", "200kB", "in")
     assert (ended.status, ended.reports) == (1, {f"in/{name}": report for name, (_, report) in zips.items()})
-    assert ended.out.splitlines()[1:] == [f"{digest(TEXT)}  in/{name}" for name in ("folder", "lower", "single", "stored")]
+    assert ended.out == manifest({f"in/{name}": TEXT for name in ("folder", "lower", "single", "stored")})
     assert left_behind() == []
 
 
@@ -127,7 +127,7 @@ def test_a_server(url: str, room: Path, stand_in: Path) -> None:
     counts = {name: Server.asked.count(f"/in/{name}.ZIP") for name in ("TGR00001", "failing", "once", "always")}
     assert counts == {"TGR00001": 1, "failing": 3, "once": 2, "always": 3}
     names = ("TGR00001", "TGR00005", "once")
-    assert Path("m").read_text().splitlines()[1:] == [f"{digest(TEXT)}  {url}/in/{name}" for name in names]
+    assert Path("m").read_text() == manifest({f"{url}/in/{name}": TEXT for name in names})
     assert call("verify", "m").out == "".join(f"{url}/in/{name}: OK\n" for name in names)
     assert left_behind() == []
 

@@ -2,6 +2,7 @@
 
 import json
 import re
+from itertools import accumulate
 from pathlib import Path
 from typing import Any
 
@@ -96,10 +97,4 @@ def told_in_page(path: Path) -> set[Difference]:
 
 
 def line_of(distances: list[int]) -> Place:
-    longitude = latitude = 0
-    points = []
-    for at in range(0, len(distances), 2):
-        longitude += distances[at]
-        latitude += distances[at + 1]
-        points.append((longitude, latitude))
-    return tuple(points)
+    return tuple(zip(accumulate(distances[::2]), accumulate(distances[1::2])))
