@@ -106,22 +106,15 @@ def test_installing(room: Path) -> None:
     assert (explained.status, explained.out.splitlines()[0]) == (0, b"refused 9 Memory"), explained.err
 
 
-class TestNumbers:
+def test_numbers() -> None:
     """How numbers, times and progress are written."""
-
-    def test_amounts(self) -> None:
-        found = [amount(count) for count in (0, 999, 1000, 1_250_000, 3_400_000_000, 5_000_000_000_000)]
-        assert found == ["0 bytes", "999 bytes", "1.0 kB", "1.2 MB", "3.4 GB", "5,000.0 GB"]
-
-    def test_durations(self) -> None:
-        found = [duration(seconds) for seconds in (0.2, 59.6, 61, 3600, 90_061)]
-        assert found == ["0 s", "1 min 0 s", "1 min 1 s", "1 h 0 min", "25 h 1 min"]
-
-    def test_progress(self) -> None:
-        tally = Tally()
-        tally.counties, tally.bytes_in_all = 3200, 40_000_000_000
-        tally.bytes, tally.ended, tally.failed = 10_000_000_000, 1200, 2
-        tally.refused["4 BadNumber"] += 3
-        assert tally.progress(100.0) == (
-            "1,200 of 3,200 counties, 10.0 GB of 40.0 GB, 100.0 MB a second, 5 min 0 s left, 3 refused, 2 failed"
-        )
+    amounts = [amount(count) for count in (0, 999, 1000, 1_250_000, 3_400_000_000, 5_000_000_000_000)]
+    assert amounts == ["0 bytes", "999 bytes", "1.0 kB", "1.2 MB", "3.4 GB", "5,000.0 GB"]
+    durations = [duration(seconds) for seconds in (0.2, 59.6, 61, 3600, 90_061)]
+    assert durations == ["0 s", "1 min 0 s", "1 min 1 s", "1 h 0 min", "25 h 1 min"]
+    tally = Tally()
+    tally.counties, tally.bytes_in_all = 3200, 40_000_000_000
+    tally.bytes, tally.ended, tally.failed = 10_000_000_000, 1200, 2
+    tally.refused["4 BadNumber"] += 3
+    progress = "1,200 of 3,200 counties, 10.0 GB of 40.0 GB, 100.0 MB a second, 5 min 0 s left, 3 refused, 2 failed"
+    assert tally.progress(100.0) == progress
