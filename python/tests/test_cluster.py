@@ -31,8 +31,8 @@ Parts = dict[str, bytes]
 
 
 def made_counties() -> Iterator[tuple[str, Parts]]:
-    """Stems and files: each map in two spellings, and some in one. Each tenth county is refused, some are in a folder of a folder, and
-    some lack files."""
+    """Stems and files: each map in two spellings, and some in one. Each tenth county is refused, some are in a folder of a folder,
+    and some lack files."""
     refused = [*sorted((ROOT / "examples/refused").iterdir()), ROOT / "examples/broken.txt"]
     for number in range(COUNTIES):
         made = written(made_county(12, number // 2), number)
@@ -140,7 +140,7 @@ def test_on_this_machine(archive: Archive) -> None:
 
 
 class Engine:
-    """A Dask scheduler and workers on 127.0.0.1, each a process as a cluster starts it. The package isn't installed on the workers."""
+    """A Dask scheduler and workers on 127.0.0.1, each a process as a cluster starts it. The workers don't have the package."""
 
     def __init__(self, room: Path, workers: int = 3) -> None:
         self.workers: list["subprocess.Popen[bytes]"] = []

@@ -19,7 +19,7 @@ COMMANDS = ["fingerprint", "verify", "duplicates", "changes", "diff", "explain"]
 
 @pytest.mark.parametrize("words", [[], *([command] for command in COMMANDS)])
 def test_help_and_version(room: Path, words: list[str]) -> None:
-    """They go to standard output, with status 0; a line of help has at most 120 letters, and that of no command names all commands."""
+    """They go to standard output, with status 0. A line of help has at most 120 letters, and the general help names all commands."""
     ended = call(*words, "--help", env={"COLUMNS": "100"})
     assert (ended.status, ended.err) == (0, "")
     assert ended.out.startswith(f"usage: {' '.join(['tigercanon-tools', *words])} ")
@@ -45,7 +45,7 @@ class TestProgram:
 
     @pytest.mark.parametrize("place", ["bin", "packages/tigercanon/bin", None])
     def test_an_installed_package(self, room: Path, stand_in: Path, place: str | None) -> None:
-        """Without a clone around the package, the program is on the PATH, or inside the package, as a wheel has it; or there is none."""
+        """Without a clone around it: the program is on the PATH, or inside the package, as a wheel has it; or there is none."""
         shutil.copytree(PACKAGE / "tigercanon", "packages/tigercanon")
         complete("in/a", b"x\n")
         if place:

@@ -70,8 +70,8 @@ def test_the_current_folder(archive: Path, monkeypatch: pytest.MonkeyPatch) -> N
 
 
 def test_links(archive: Path) -> None:
-    """Those to folders are followed, a ring of them once; and a county that is there under two names is counted once. Hard links are
-    counties of their own."""
+    """Those to folders are followed, a ring of them once; and a county that is there under two names is counted once. Hard links
+    are counties of their own."""
     os.symlink("..", "in/deep/up")
     assert stems("in") == ALL
     os.unlink("in/deep/up")

@@ -106,8 +106,8 @@ def test_the_summary_counts_refusals(four: dict[str, bytes]) -> None:
 @pytest.mark.parametrize("is_zip", [False, True])
 @pytest.mark.parametrize("kind", TYPES)
 def test_absent_and_empty_files(room: Path, stand_in: Path, kind: str, is_zip: bool) -> None:
-    """Strict mode rejects a county without a file, and an empty file of type 1, 2 or I, and reports other empty ones. An absent file
-    and an empty one of type 1 are always reported."""
+    """Strict mode rejects a county without a file, and an empty file of type 1, 2 or I, and reports other empty ones. An absent
+    file and an empty one of type 1 are always reported."""
     for stem in ("in/absent", "in/empty"):
         complete(stem, b"b\n")
     os.unlink(f"in/absent.RT{kind}")

@@ -29,7 +29,7 @@ class Tests(testing.Tests):
         self.callers: dict[str, list[str]] = {}
 
     def compile(self, name: str, compiler: str, *flags: object) -> list[str]:
-        """The command that calls the caller by this compiler, with these arguments after its file; nothing if it can't be compiled."""
+        """The command for the caller that this compiler makes, with these arguments after its file; nothing if it can't."""
         made = self.room / f"by-{name}"
         # The caller uses the threads and the clock of POSIX.
         done = run([compiler, "-std=c11", "-D_GNU_SOURCE", "-O2", "-pthread", *WARNINGS, "-o", made, CALLER, *flags])
