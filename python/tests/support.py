@@ -137,7 +137,7 @@ def packed(members: Mapping[str, bytes], method: int = zipfile.ZIP_DEFLATED) -> 
 
 
 def zip_up(stem: str) -> None:
-    """Puts a zip in the place of a county's files."""
+    """Replaces a county's files by a zip."""
     files = sorted(Path().glob(f"{stem}.RT?"))
     put(f"{stem}.zip", packed({file.name: file.read_bytes() for file in files}))
     for file in files:

@@ -57,7 +57,7 @@ def test_new_counties_alone(archive: Path) -> None:
 
 
 def put_third_line(text: str) -> None:
-    """Puts another line in the place of that of in/b."""
+    """Replaces the line of in/b."""
     lines = Path("m").read_text().splitlines(keepends=True)
     put("m", "".join([*lines[:2], text, *lines[3:]]).encode())
 

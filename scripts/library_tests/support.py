@@ -38,7 +38,7 @@ class Tests(testing.Tests):
         return self.callers.get(name, [])
 
     def by_c(self, *words: object, **how: object) -> Answer:
-        """What the caller in C answers that gcc compiled."""
+        """The answer of the caller in C, as gcc compiled it."""
         return run([*self.callers["gcc"], *words], **how)
 
     def limit(self, command: str, county: Path, sizes: Iterable[int], **how: object) -> None:

@@ -181,7 +181,7 @@ def place_of(thing: Landmark | Polygon) -> Point:
 
 
 def split_maps(folder: Path, chains: int, seed: int, nodes: int) -> tuple[list[Point], Path, Path]:
-    """A county of which some nodes are split: where they are, and both maps in files."""
+    """A county with some nodes split: their places, and both maps in files."""
     changing = Changing(made_county(chains, seed), seed)
     return changing.split_nodes(nodes), *changing.files(folder)
 
