@@ -187,6 +187,7 @@ pub fn canonise<C: Chart + Drop>(
     alloc: Global,
     admitted: Admitted<C>,
 ) -> Result<(CanonCounty<C>, Renaming), AllocError>
+    ensures source { IfOk result (λ pair. C.county (source_of pair.0) ≡ C.county admitted) }
     ensures county { IfOk result (λ pair. arranged_county pair.0 ≡ arranged (C.county admitted) (arrangement_in pair.0)) }
     ensures choice { IfOk result (λ pair. IsLeastChoice (C.county admitted) (arrangement_in pair.0)) }
     ensures renaming { IfOk result (λ pair. pair.1 ≡ renaming_of (C.county admitted) (arrangement_in pair.0)) }
@@ -207,6 +208,8 @@ pub fn canonise_in<'a>(
     alloc: Global,
     admitted: AdmittedIn<'a>,
 ) -> Result<(CanonCountyIn<'a>, Renaming), AllocError>
+    ensures source { IfOk result
+        (λ pair. ⟦<CountyIn<'a> as Chart>⟧.county (source_of pair.0) ≡ ⟦<CountyIn<'a> as Chart>⟧.county admitted.entry) }
     ensures county { IfOk result
         (λ pair. arranged_county pair.0 ≡ arranged (⟦<CountyIn<'a> as Chart>⟧.county admitted.entry) (arrangement_in pair.0)) }
     ensures choice { IfOk result

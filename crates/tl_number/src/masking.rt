@@ -6,7 +6,7 @@ ghost use Rattle.tl_county.specs.Renumbering.{Carries};
 ghost use Rattle.tl_number.specs.Arrangement.{arranged, renaming_of};
 ghost use Rattle.tl_number.specs.CanonCounties.{IsCanonCounty};
 ghost use Rattle.tl_number.specs.Tidy.{IsLeastChoice};
-ghost use Rattle.tl_number.specs.Views.{arranged_county, arrangement_in};
+ghost use Rattle.tl_number.specs.Views.{arranged_county, arrangement_in, source_of};
 
 use crate::arranging::canonise;
 use crate::canon_county::CanonCounty;
@@ -46,6 +46,7 @@ pub fn canonise_masked<C: Chart + Drop>(
     admitted: Admitted<C>,
     mask: Mask,
 ) -> Result<(CanonCounty<Masked<C>>, Renaming), AllocError>
+    ensures source { IfOk result (λ pair. ⟦<Masked<C> as Chart>⟧.county (source_of pair.0) ≡ masked mask (C.county admitted)) }
     ensures county { IfOk result
         (λ pair. arranged_county pair.0 ≡ arranged (masked mask (C.county admitted)) (arrangement_in pair.0)) }
     ensures choice { IfOk result (λ pair. IsLeastChoice (masked mask (C.county admitted)) (arrangement_in pair.0)) }
@@ -69,6 +70,8 @@ pub fn canonise_in_masked<'a>(
     admitted: AdmittedIn<'a>,
     mask: Mask,
 ) -> Result<(CanonCounty<Masked<CountyIn<'a>>>, Renaming), AllocError>
+    ensures source { IfOk result
+        (λ pair. ⟦<Masked<CountyIn<'a>> as Chart>⟧.county (source_of pair.0) ≡ masked mask (⟦<CountyIn<'a> as Chart>⟧.county admitted.entry)) }
     ensures county { IfOk result
         (λ pair. arranged_county pair.0
         ≡ arranged (masked mask (⟦<CountyIn<'a> as Chart>⟧.county admitted.entry)) (arrangement_in pair.0)) }

@@ -1,7 +1,7 @@
 use Rattle.tl_number.proofs.Common.{◌≡◌, ◌∙◌, Result, Ok, Err, IfOk, ap, sym, subst, Carries, County, IfOk-weaker, IsCanonCounty}
 use Rattle.tl_number.proofs.Common.{IsLeastChoice, arranged, arranged_county, renaming_of}
 use Rattle.std.specs.Prelude.{MatchResult}
-use Rattle.tl_number.specs.Views.{arrangement_in}
+use Rattle.tl_number.specs.Views.{arrangement_in, source_of}
 use Rattle.tl_number.proofs.arranging.canonise.Goals as goal
 
 -- what holds of a value holds of it beside any other
@@ -15,6 +15,12 @@ with_both : {A B E : Type 0} (a : A) (r : Result B E) (pair : Result (A × B) E)
     → MatchResult r (λ b. pair ≡ Ok (a, b)) (λ e. pair ≡ Err e) → IfOk r (P a) → IfOk pair (λ p. P p.0 p.1)
 with_both a (Ok b) pair P is h = subst (λ r. IfOk r (λ p. P p.0 p.1)) (sym is) h
 with_both a (Err e) pair P is h = subst (λ r. IfOk r (λ p. P p.0 p.1)) (sym is) tt
+
+pub returns-clause-source : goal.returns-clause-source
+returns-clause-source g c =
+    let county : County = g.C.Chart.county c.args.admitted in
+    with_other c.in_ok-canon.canon c.renaming-renaming.result c.paired.result
+    (λ view. g.C.Chart.county (source_of view) ≡ county) c.paired.ensures c.in_ok-canon.ensures.source_county
 
 pub returns-clause-county : goal.returns-clause-county
 returns-clause-county g c =
