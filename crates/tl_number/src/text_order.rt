@@ -14,9 +14,9 @@ ghost use Rattle.std.specs.Ordering.{nat_cmp};
 ghost use Rattle.std.specs.Prelude.{◌≡◌};
 ghost use Rattle.tl_county.specs.Packing.{packed};
 ghost use Rattle.tl_county.specs.Renumbering.{AreSame};
-ghost use Rattle.tl_layout.specs.declared.record_type.Record.TheVariants.{One};
+ghost use Rattle.tl_layout.specs.declared.record_type.Record.TheVariants.{Five, One, Six};
 ghost use Rattle.tl_layout.specs.RecordText.{text_of};
-ghost use Rattle.tl_number.specs.CountyGroups.{type_1_by_chain, type_2_by_chain};
+ghost use Rattle.tl_number.specs.CountyGroups.{type_1_by_chain, type_2_by_chain, type_5_by_name, type_6_by_chain};
 ghost use Rattle.tl_number.specs.RecordOrder.{groups_cmp, types_5_to_7_cmp, types_8_to_p_cmp};
 ghost use Rattle.tl_number.specs.Views.{arranged_county};
 
@@ -31,6 +31,31 @@ use std::marker::PhantomData;
 use tl_county::Chart;
 use tl_layout::{Rec4, Rec6};
 
+/// Compares two arrangements of a county by their records of type 5.
+fn compare_names<A: Chart, R: Evidence, B: Chart, S: Evidence>(
+    a: &Arranged<A, R>,
+    b: &Arranged<B, S>,
+) -> Ordering
+    requires { A.county a.now.chart ≡ B.county b.now.chart }
+    ensures { result ≡ groups_cmp Five (type_5_by_name (arranged_county a.now)) (type_5_by_name (arranged_county b.now)) }
+{
+    let same = have_same_parts(&FurtherNames, a, b);
+    compare_unless(same, &NameRecords { chart: a }, &NameRecords { chart: b })
+}
+
+/// Compares two arrangements of a county by their records of type 6.
+fn compare_ranges<A: Chart, R: Evidence, B: Chart, S: Evidence>(
+    a: &Arranged<A, R>,
+    b: &Arranged<B, S>,
+) -> Ordering
+    requires { A.county a.now.chart ≡ B.county b.now.chart }
+    ensures { result ≡ groups_cmp Six (type_6_by_chain (arranged_county a.now)) (type_6_by_chain (arranged_county b.now)) }
+{
+    let same = have_same_parts(&FurtherRanges, a, b);
+    let ranges = SequencedRecords::<_, Rec6>(a, PhantomData);
+    compare_unless(same, &ranges, &SequencedRecords::<_, Rec6>(b, PhantomData))
+}
+
 /// Compares two arrangements of a county by their records of types 5, 6 and 7.
 fn compare_types_5_to_7<A: Chart, R: Evidence, B: Chart, S: Evidence>(
     a: &Arranged<A, R>,
@@ -39,21 +64,11 @@ fn compare_types_5_to_7<A: Chart, R: Evidence, B: Chart, S: Evidence>(
     requires { A.county a.now.chart ≡ B.county b.now.chart }
     ensures { result ≡ types_5_to_7_cmp (arranged_county a.now) (arranged_county b.now) }
 {
-    let same_names = have_same_parts(&FurtherNames, a, b);
-    match compare_unless(
-        same_names,
-        &NameRecords { chart: a },
-        &NameRecords { chart: b },
-    ) {
+    match compare_names(a, b) {
         Ordering::Equal => {}
         unequal => return unequal,
     }
-    let same_ranges = have_same_parts(&FurtherRanges, a, b);
-    match compare_unless(
-        same_ranges,
-        &SequencedRecords::<_, Rec6>(a, PhantomData),
-        &SequencedRecords::<_, Rec6>(b, PhantomData),
-    ) {
+    match compare_ranges(a, b) {
         Ordering::Equal => {}
         unequal => return unequal,
     }
