@@ -78,6 +78,7 @@ impl<C: Chart> Listed for ShapePoints<'_, C> {
 /// content into the cache before the record is written.
 #[derive(Drop)]
 pub struct ChainRecords<'a, C: Chart> {
+    /// The county.
     pub chart: &'a C,
 }
 
@@ -224,7 +225,12 @@ impl SequencedRecord for Rec6 {
 
 /// The records of each chain of one type with a sequence number.
 #[derive(Drop)]
-pub struct SequencedRecords<'a, C: Chart, R>(pub &'a C, pub PhantomData<R>);
+pub struct SequencedRecords<'a, C: Chart, R>(
+    /// The county.
+    pub &'a C,
+    /// The type of the records.
+    pub PhantomData<R>,
+);
 
 impl<C: Chart, R: SequencedRecord> CountedGroups for SequencedRecords<'_, C, R> {
     type Record = R;
@@ -248,6 +254,7 @@ impl<C: Chart, R: SequencedRecord> CountedGroups for SequencedRecords<'_, C, R> 
 /// content. It has no meaning: reading it brings the content into the cache before the record is written.
 #[derive(Drop)]
 pub struct TopologyRecords<'a, C: Chart> {
+    /// The county.
     pub chart: &'a C,
 }
 

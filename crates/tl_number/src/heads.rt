@@ -11,7 +11,7 @@ const HEADS_TOGETHER: usize = 64;
 pub struct HeadBuffers {
     /// The numbers of records of groups.
     pub counts: [usize; HEADS_TOGETHER],
-    /// The ends of chains, each with a byte of the content of its type 1 record. The byte has no meaning.
+    /// The ends of chains in millionths of a degree, each with a byte of the content of its type 1 record. The byte has no meaning.
     pub ends: [((Point, Point), u8); HEADS_TOGETHER],
     /// For each chain, a byte made of two bytes of the content of its type I record. It has no meaning.
     pub topology_bytes: [u8; HEADS_TOGETHER],

@@ -8,6 +8,7 @@ use tl_layout::{Rec5, Rec7, Rec8};
 /// The type 5 record of each name.
 #[derive(Drop)]
 pub struct NameRecords<'a, C: Chart> {
+    /// The county.
     pub chart: &'a C,
 }
 
@@ -37,6 +38,7 @@ impl<C: Chart> CountedGroups for NameRecords<'_, C> {
 /// The type 7 records of each landmark.
 #[derive(Drop)]
 pub struct LandmarkRecords<'a, C: Chart> {
+    /// The county.
     pub chart: &'a C,
 }
 
@@ -66,6 +68,7 @@ impl<C: Chart> CountedGroups for LandmarkRecords<'_, C> {
 /// The records of type 8 of all landmarks: the polygons that belong to them.
 #[derive(Drop)]
 pub struct LandmarkLinkRecords<'a, C: Chart, S: Evidence> {
+    /// The county.
     pub county: &'a Arranged<C, S>,
 }
 

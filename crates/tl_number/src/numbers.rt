@@ -73,8 +73,8 @@ impl NumericKey for PolygonKey {
     }
 }
 
-/// Keys in the order in which they were first seen, without repetition. The new number of a key is its place in this order,
-/// counted from 1.
+/// Keys in the order in which they were first seen, without repetition. A key's place is counted from 0, and its new number is one
+/// more.
 #[derive(Drop)]
 pub struct Interner<K: Key + Hash + NumericKey> {
     /// The keys.

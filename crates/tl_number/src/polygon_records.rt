@@ -9,6 +9,7 @@ use tl_layout::{BodyP, RecP};
 /// The type P record of each polygon that has one, in the order of the polygons' numbers.
 #[derive(Drop)]
 pub struct PolygonRecords<'a, C: Chart, S: Evidence> {
+    /// The county.
     pub county: &'a Arranged<C, S>,
 }
 

@@ -20,6 +20,10 @@ pub trait RecordVisitor<D> {
     ghost Takes: { List Record → Self → D → Result (Unit {0}) Self.Fault → Self → D → Type 0 };
 
     /// Takes one more record.
+    ///
+    /// # Errors
+    ///
+    /// The visitor's fault, if it failed at this record.
     fn take<L: Tabled>(&mut self, found: L, device: &mut D) -> Result<(), Self::Fault>
         requires { IsReady self.old device.old }
         ensures takes { Takes (L.as_record found ∷ []) self.old device.old result self.new device.new }
@@ -27,6 +31,10 @@ pub trait RecordVisitor<D> {
 
     /// Takes one more record, the one at a place of a group. A visitor that needs only its text can avoid making the
     /// record.
+    ///
+    /// # Errors
+    ///
+    /// As for `take`.
     fn visit_group<G: RecordGroups>(
         &mut self,
         groups: &G,

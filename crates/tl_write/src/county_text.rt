@@ -52,7 +52,7 @@ pub fn write_to<C: Chart, W: Sink>(county: &CanonCounty<C>, w: &mut W) -> Result
     buffer.finish(w)
 }
 
-/// Returns the records of a canonical county that is read through a county in an arena, with or without a mask.
+/// Returns the records of a canonical county, as [`records_of`] does. The county may be in an arena, or seen through a mask.
 ///
 /// # Errors
 ///
@@ -67,8 +67,7 @@ pub fn records_of_in<C: Chart>(
     records_of(alloc, county)
 }
 
-/// Writes the text of a canonical county that is read through a county in an arena, with or without a mask, and returns the
-/// number of bytes. No write is retried, and no memory is taken.
+/// Writes the text of a canonical county, as [`write_to`] does. The county may be in an arena, or seen through a mask.
 ///
 /// # Errors
 ///

@@ -18,6 +18,10 @@ pub trait Sink {
         ensures { result ≡ failed self.now };
 
     /// Takes bytes from the start of the buffer and returns their number, which is at least 1 unless the buffer is empty.
+    ///
+    /// # Errors
+    ///
+    /// `DeviceFault` if the write failed. The sink then took nothing, and counts one failure more.
     fn write(&mut self, buf: &[u8]) -> Result<usize, DeviceFault>
         requires { failed self.old < u64.MAX }
         ensures failures { failed self.new ≡ (if is_ok result then failed self.old else failed self.old + 1) }
