@@ -7,6 +7,7 @@ pub mod OpenOrder
 pub mod PartOrder
 pub mod GapOrder
 pub mod OpenChains
+pub mod OpenLinks
 pub mod OpenRecords
 pub mod OpenPlaces
 pub mod RangeOrder

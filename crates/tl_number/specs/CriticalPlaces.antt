@@ -1,6 +1,6 @@
 -- Places and numbers at which choices can differ, and what is made of them to compare choices that tie.
 use Rattle.std.specs.Prelude.{ℕ, zero, suc, ◌≡◌, ◌+◌, ◌&&◌, ◌||◌, List, [], ◌∷◌, Bool, cond, false, filter, is_some, length, map, not, option_to_list, slice_get, true}
-use Rattle.std.specs.List.{AllByRecursion, list_any, range_with_len}
+use Rattle.std.specs.List.{list_any, range_with_len}
 use Rattle.std.specs.Option.{option_and_then}
 use Rattle.std.specs.Ordering.{nat_cmp}
 use Rattle.std.specs.declared.cmp.Ordering.{Ordering}
@@ -60,9 +60,9 @@ has_record county all number =
 abbrev pub critical_from : County → OpenKeys (List PolygonKey) → Bool → ℕ → ℕ → List ℕ
 critical_from county polygons = critical_numbers (is_open_number polygons.opened polygons.all) (has_record county polygons.all)
 
--- no landmark has an open polygon
-abbrev pub HasNoOpenLink : County → List PolygonKey → Type 0
-HasNoOpenLink county opened = AllByRecursion (λ link. stands_in key_cmp (link_key link) opened ≡ false) county.links
+-- whether some landmark has an open polygon
+abbrev pub has_open_link : County → List PolygonKey → Bool
+has_open_link county opened = list_any (λ link. stands_in key_cmp (link_key link) opened) county.links
 
 -- the tables of a county whose chains are in the order of their shapes
 pub record AreTieTables (county : County) (shapes : OrderOfShapes) (tables : TieTables) : Type 0 where
@@ -72,7 +72,7 @@ pub record AreTieTables (county : County) (shapes : OrderOfShapes) (tables : Tie
   pub critical : tables.critical.items ≡ critical_among shapes.places tables.nodes.opened (keys_along chain_nodes county shapes.by_shape)
       tables.polygons.opened (keys_along chain_polygons county shapes.by_shape) (length shapes.by_shape)
   pub numbers : tables.numbers.items ≡ critical_from county tables.polygons false 0 (length tables.polygons.all)
-  pub unlinked : tables.linked ≡ false → HasNoOpenLink county tables.polygons.opened
+  pub linked : tables.linked ≡ has_open_link county tables.polygons.opened
 
 -- the open keys in the order of their first appearance along an arrangement
 pub record IsOpenOrder (county : County) (shapes : OrderOfShapes) (arrangement : List DirectedChain) (order : OpenOrder) : Type 0 where

@@ -5,14 +5,14 @@
 //! numbers of open polygons. Where one choice has a record and the other has none, the next record decides, so the first fixed one
 //! after each run of open numbers is looked at too.
 
-ghost use Rattle.std.specs.List.{AllByRecursion, list_any, range_with_len};
+ghost use Rattle.std.specs.List.{list_any, range_with_len};
 ghost use Rattle.std.specs.Option.{option_and_then};
 ghost use Rattle.std.specs.Prelude.{◌≡◌, ◌&&◌, ◌||◌, ◌++◌, ◌+◌, ◌<◌, ◌^◌, [], ℕ, suc, IfOk, OnOk, cond, false, filter, get_or, is_some, length, map, option_to_list};
 ghost use Rattle.ordered_lists.specs.Orders.{stands_in};
 ghost use Rattle.tl_county.specs.ChartWords.{links_at, polygon_under};
 ghost use Rattle.tl_county.specs.County.{link_key};
 ghost use Rattle.tl_county.specs.PolygonKeys.{key_cmp};
-ghost use Rattle.tl_number.specs.CriticalPlaces.{HasNoOpenLink, brings, critical_from, has_new};
+ghost use Rattle.tl_number.specs.CriticalPlaces.{brings, critical_from, has_new, has_open_link};
 ghost use Rattle.tl_number.specs.EndsAndSides.{keys_at};
 ghost use Rattle.tl_number.specs.Growth.{first_seen_after};
 ghost use Rattle.tl_number.specs.OpenKeys.{is_open, open_among as open_places_among};
@@ -76,6 +76,25 @@ fn brings_new<T: Half>(
     Ok(new)
 }
 
+/// Appends, for each chain in the order of shapes, whether it has an open key that no fixed place before it has.
+fn push_new<T: Half>(
+    places: &[OpenPlace],
+    opened: &Interner<T::Old>,
+    met: &mut Interner<T::Old>,
+    new: &mut Vec<bool>,
+    pairs: &[(T, T)],
+) -> Result<(), AllocError>
+    requires met { met.old ≡ [] }
+    requires new { new.old.items ≡ [] }
+    ensures { OnOk result (new.new.items ≡ map (brings T.Old.cmp places.now opened.now (map (keys_at T.keys) pairs.now)) (range_with_len 0 (length pairs.now))) }
+{
+    for place in 0..pairs.len() {
+        let here = brings_new(places, opened, met, place, pairs[place])?;
+        new.push(here)?;
+    }
+    Ok(())
+}
+
 /// For each chain in the order of shapes, whether it has an open key that no fixed place before it has.
 pub(crate) fn new_at_places<T: Half>(
     alloc: Global,
@@ -85,12 +104,9 @@ pub(crate) fn new_at_places<T: Half>(
 ) -> Result<Vec<bool>, AllocError>
     ensures { IfOk result (λ new. new.items ≡ map (brings T.Old.cmp places.now opened.now (map (keys_at T.keys) pairs.now)) (range_with_len 0 (length pairs.now))) }
 {
-    let mut met = Interner::new(alloc);
     let mut new = Vec::with_capacity(alloc, pairs.len())?;
-    for place in 0..pairs.len() {
-        let here = brings_new(places, opened, &mut met, place, pairs[place])?;
-        new.push(here)?;
-    }
+    let mut met = Interner::new(alloc);
+    push_new(places, opened, &mut met, &mut new, pairs)?;
     Ok(new)
 }
 
@@ -200,7 +216,7 @@ fn is_open_link(opened: &Interner<PolygonKey>, link: Option<Rec8>) -> bool
 
 /// Whether the landmark at a place has an open polygon.
 fn has_open_polygon<C: Chart>(chart: &C, opened: &Interner<PolygonKey>, place: usize) -> bool
-    ensures { result ≡ false → AllByRecursion (λ link. stands_in key_cmp (link_key link) opened.now ≡ false) (links_at (C.county chart.now) place) }
+    ensures { result ≡ list_any (λ link. stands_in key_cmp (link_key link) opened.now) (links_at (C.county chart.now) place) }
 {
     for link in 0..chart.link_count_at(place) {
         if is_open_link(opened, chart.landmark_link_at(place, link)) {
@@ -212,7 +228,7 @@ fn has_open_polygon<C: Chart>(chart: &C, opened: &Interner<PolygonKey>, place: u
 
 /// Whether some landmark has an open polygon.
 pub(crate) fn has_open_links<C: Chart>(chart: &C, opened: &Interner<PolygonKey>) -> bool
-    ensures { result ≡ false → HasNoOpenLink (C.county chart.now) opened.now }
+    ensures { result ≡ has_open_link (C.county chart.now) opened.now }
 {
     for place in 0..chart.landmark_count() {
         if has_open_polygon(chart, opened, place) {

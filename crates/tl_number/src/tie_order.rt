@@ -6,14 +6,16 @@
 //! can differ.
 
 ghost use Rattle.std.specs.declared.cmp.Ordering.TheVariants.{Equal};
+ghost use Rattle.std.specs.Bool.{Decides};
 ghost use Rattle.std.specs.Ordering.{ordering_then};
-ghost use Rattle.std.specs.Prelude.{◌≡◌, ◌⊎◌, IfOk, IfSome, false, is_some, map, true};
+ghost use Rattle.std.specs.Prelude.{◌≡◌, ◌⊎◌, IfOk, IfSome, false, is_some, map};
 ghost use Rattle.tl_layout.specs.declared.record_type.Record.TheVariants.{I, P, Six};
 ghost use Rattle.tl_number.specs.ChoiceSearch.{IsChosen, LeavesChoices};
 ghost use Rattle.tl_number.specs.CriticalPlaces.{AreTieTables};
 ghost use Rattle.tl_number.specs.LeastNumber.{choices_cmp};
 ghost use Rattle.tl_number.specs.OpenRanges.{sixes_at};
 ghost use Rattle.tl_number.specs.RecordOrder.{groups_cmp, records_cmp};
+ghost use Rattle.tl_number.specs.TiedRecords.{AreComparable};
 ghost use Rattle.tl_number.specs.TypeOneOrder.{ones_cmp};
 
 use crate::group_order::{compare_groups, compare_lists};
@@ -54,9 +56,9 @@ fn compare_open_ranges<C: Chart>(
 fn compare_tied(linked: bool, one: &TiedRecords, other: &TiedRecords) -> Option<Ordering>
     ensures ordering { IfSome result (λ ordering. ordering ≡ ordering_then (records_cmp (map I one.now.topologies.items) (map I other.now.topologies.items))
         (records_cmp (map P one.now.polygons.items) (map P other.now.polygons.items))) }
-    ensures links { is_some result ≡ true → (linked ≡ false) ⊎ (one.now.order ≡ other.now.order) }
+    ensures known { Decides (is_some result) ((linked ≡ false) ⊎ (one.now.order.polygons ≡ other.now.order.polygons)) }
 {
-    if linked && !are_same(&other.order, &one.order) {
+    if linked && !are_same(&other.order.polygons, &one.order.polygons) {
         return None;
     }
     match compare_lists(&one.topologies, &other.topologies) {
@@ -81,7 +83,8 @@ pub(crate) fn compare_ties<C: Chart>(
     requires one { IsChosen order.now one.now }
     requires other { IsChosen order.now other.now }
     requires tied { ones_cmp (C.county chart.now) one.now.number other.now.number ≡ Equal }
-    ensures { IfOk result (λ found. IfSome found (λ ordering. ordering ≡ choices_cmp (C.county chart.now) one.now.number other.now.number)) }
+    ensures ordering { IfOk result (λ found. IfSome found (λ ordering. ordering ≡ choices_cmp (C.county chart.now) one.now.number other.now.number)) }
+    ensures known { IfOk result (λ found. Decides (is_some found) (AreComparable (C.county chart.now) order.now tables.now one.now.chains.items other.now.chains.items)) }
 {
     let places = order.open_places();
     if !have_same_open_parts(&FurtherNames, chart, places, &one.chains, &other.chains) {

@@ -163,32 +163,52 @@ fn critical_polygon_records<C: Chart>(
     Ok(records)
 }
 
-/// The records by which a choice is compared with others, and its open polygons in their order.
+/// The records by which a choice is compared with others, and its open keys in their order.
 #[derive(Drop)]
 pub(crate) struct TiedRecords {
-    pub(crate) order: Interner<PolygonKey>,
+    pub(crate) order: OpenOrder,
     pub(crate) topologies: Vec<RecI>,
     pub(crate) polygons: Vec<RecP>,
+}
+
+/// The records of types I and P by which a choice is compared with others, given its open keys in their order.
+fn records_in_order<C: Chart>(
+    alloc: Global,
+    chart: &C,
+    shapes: &ShapeOrder,
+    tables: &TieTables,
+    opened: &OpenOrder,
+    choice: &NumberedArrangement,
+) -> Result<(Vec<RecI>, Vec<RecP>), AllocError>
+    requires known { LeavesChoices (C.county chart.now) shapes.now }
+    requires tables { AreTieTables (C.county chart.now) shapes.now tables.now }
+    requires chosen { IsChosen shapes.now choice.now }
+    requires opened { IsOpenOrder (C.county chart.now) shapes.now choice.now.chains.items opened.now }
+    ensures topologies { IfOk result (λ records. map I records.0.items ≡ at_places (topologies_of (arranged_by (C.county chart.now) choice.now.chains.items)) tables.now.critical.items) }
+    ensures polygons { IfOk result (λ records. records.1.items ≡ filter_map (polygon_in_choice (C.county chart.now) tables.now.polygons opened.now.polygons) tables.now.numbers.items) }
+{
+    let topologies = critical_topologies(alloc, chart, shapes, tables, opened, choice)?;
+    let polygons = critical_polygon_records(alloc, chart, tables, opened)?;
+    Ok((topologies, polygons))
 }
 
 /// The records by which a choice is compared with others that tie with it.
 pub(crate) fn tied_records<C: Chart>(
     alloc: Global,
     chart: &C,
-    order: &ShapeOrder,
+    shapes: &ShapeOrder,
     tables: &TieTables,
     choice: &NumberedArrangement,
 ) -> Result<TiedRecords, AllocError>
-    requires known { LeavesChoices (C.county chart.now) order.now }
-    requires tables { AreTieTables (C.county chart.now) order.now tables.now }
-    requires chosen { IsChosen order.now choice.now }
-    ensures { IfOk result (AreTiedRecords (C.county chart.now) order.now tables.now choice.now.chains.items) }
+    requires known { LeavesChoices (C.county chart.now) shapes.now }
+    requires tables { AreTieTables (C.county chart.now) shapes.now tables.now }
+    requires chosen { IsChosen shapes.now choice.now }
+    ensures { IfOk result (AreTiedRecords (C.county chart.now) shapes.now tables.now choice.now.chains.items) }
 {
-    let opened = open_order(alloc, chart, order, tables, choice)?;
-    let topologies = critical_topologies(alloc, chart, order, tables, &opened, choice)?;
-    let polygons = critical_polygon_records(alloc, chart, tables, &opened)?;
+    let order = open_order(alloc, chart, shapes, tables, choice)?;
+    let (topologies, polygons) = records_in_order(alloc, chart, shapes, tables, &order, choice)?;
     Ok(TiedRecords {
-        order: opened.polygons,
+        order,
         topologies,
         polygons,
     })

@@ -88,6 +88,25 @@ fn critical_along(
     Ok(critical)
 }
 
+/// The nodes and the polygons of chains in the order of their shapes, and the critical places, given their ends and sides.
+fn keys_and_places_of(
+    alloc: Global,
+    places: &[OpenPlace],
+    ends: &[Ends],
+    sides: &[Sides],
+) -> Result<(BothKeys, Vec<u32>), AllocError>
+    requires count { length ends.now ≡ length sides.now }
+    requires few { length ends.now < 2 ^ 32 }
+    ensures nodes { IfOk result (λ made. AreOpenKeys nat_cmp places.now (map nodes_at ends.now) made.0.nodes) }
+    ensures polygons { IfOk result (λ made. AreOpenKeys key_cmp places.now (map polygons_at sides.now) made.0.polygons) }
+    ensures critical { IfOk result (λ made. made.1.items ≡ critical_among places.now made.0.nodes.opened (map nodes_at ends.now)
+        made.0.polygons.opened (map polygons_at sides.now) (length ends.now)) }
+{
+    let keys = keys_of_both(alloc, places, ends, sides)?;
+    let critical = critical_along(alloc, places, &keys, ends, sides)?;
+    Ok((keys, critical))
+}
+
 /// The keys of a county and its critical places.
 fn keys_and_places<C: Chart>(
     alloc: Global,
@@ -101,11 +120,8 @@ fn keys_and_places<C: Chart>(
     ensures critical { IfOk result (λ made. made.1.items ≡ critical_among order.now.places made.0.nodes.opened (keys_along chain_nodes (C.county chart.now) order.now.by_shape)
         made.0.polygons.opened (keys_along chain_polygons (C.county chart.now) order.now.by_shape) (length order.now.by_shape)) }
 {
-    let places = order.open_places();
     let (ends, sides) = links_along(alloc, chart, order.by_shape())?;
-    let keys = keys_of_both(alloc, places, &ends, &sides)?;
-    let critical = critical_along(alloc, places, &keys, &ends, &sides)?;
-    Ok((keys, critical))
+    keys_and_places_of(alloc, order.open_places(), &ends, &sides)
 }
 
 /// What is known of all choices of a county, given the order of its chains by their shapes.

@@ -22,6 +22,7 @@ use Rattle.tl_number.proofs.Texts.GroupOrders.{decided, same_groups}
 use Rattle.tl_number.proofs.Texts.SameLists.{type_4_same, type_5_same}
 use Rattle.tl_number.proofs.Texts.SamePolygons.{LinksAgree, same_landmarks, same_links}
 use Rattle.tl_number.proofs.Texts.TypeOrders.{tied_texts_in_order}
+use Rattle.tl_number.proofs.Ties.OpenLinks.{all_fail}
 use Rattle.tl_number.proofs.Ties.PolygonOrder.{as_many_seen, polygons_order}
 use Rattle.tl_number.proofs.Ties.RangeOrder.{ranges_order}
 use Rattle.tl_number.proofs.Ties.TieNumbers.{agree_of_both, choice_of, counterparts, length_numbered, place_is, whole_numbered}
@@ -112,13 +113,13 @@ module _ (county : County) (shapes : OrderOfShapes) (known : LeavesChoices count
     -- Those of types I and P decide if they do, and the polygons of landmarks have the same numbers.
     module _ (records others : TiedRecords) (made : AreTiedRecords county shapes tables one records)
         (others_made : AreTiedRecords county shapes tables other others)
-        (links : (tables.linked ≡ false) ⊎ (records.order ≡ others.order)) where
+        (links : (tables.linked ≡ false) ⊎ (records.order.polygons ≡ others.order.polygons)) where
       place_alike : (k : PolygonKey) → (tables.linked ≡ false → stands_in key_cmp k tables.polygons.opened ≡ false)
           → place_in key_cmp (first_seen key_cmp (grouped (keys_along chain_polygons county one))) k
           ≡ place_in key_cmp (first_seen key_cmp (grouped (keys_along chain_polygons county other))) k
       place_alike k closed = go links
         where
-          go : (tables.linked ≡ false) ⊎ (records.order ≡ others.order)
+          go : (tables.linked ≡ false) ⊎ (records.order.polygons ≡ others.order.polygons)
               → place_in key_cmp (first_seen key_cmp (grouped (keys_along chain_polygons county one))) k
               ≡ place_in key_cmp (first_seen key_cmp (grouped (keys_along chain_polygons county other))) k
           go (inl e) =
@@ -127,9 +128,9 @@ module _ (county : County) (shapes : OrderOfShapes) (known : LeavesChoices count
               sym ((counterparts county shapes known is within key_keys chain_polygons turned_polygons n).stayed k apart)
               ∙ (counterparts county shapes known is within key_keys chain_polygons turned_polygons m).stayed k apart
           go (inr e) =
-              sym (place_is county shapes known is within key_keys chain_polygons turned_polygons tables.polygons are.polygons n records.order made.order k)
+              sym (place_is county shapes known is within key_keys chain_polygons turned_polygons tables.polygons are.polygons n records.order.polygons made.order k)
               ∙ ap (λ order. place_by_order key_cmp tables.polygons order k) e
-              ∙ place_is county shapes known is within key_keys chain_polygons turned_polygons tables.polygons are.polygons m others.order others_made.order k
+              ∙ place_is county shapes known is within key_keys chain_polygons turned_polygons tables.polygons are.polygons m others.order.polygons others_made.order k
 
       link_alike : (link : Fields8) → (tables.linked ≡ false → stands_in key_cmp (link_key link) tables.polygons.opened ≡ false)
           → image key_cmp (new_keys county (arrangement_of county one)) (link_key link) ≡ image key_cmp (new_keys county (arrangement_of county other)) (link_key link)
@@ -137,8 +138,8 @@ module _ (county : County) (shapes : OrderOfShapes) (known : LeavesChoices count
           ap (λ ks. image key_cmp (map under_cenid (numbered ks)) (link_key link)) (sym (all_polygons county shapes known is within n))
           ∙ image_by_place (first_seen key_cmp (grouped (keys_along chain_polygons county one))) (first_seen key_cmp (grouped (keys_along chain_polygons county other)))
           (link_key link) (place_alike (link_key link) closed)
-          (as_many_seen county shapes known is within tables are n records.order made.order
-          ∙ sym (as_many_seen county shapes known is within tables are m others.order others_made.order))
+          (as_many_seen county shapes known is within tables are n records.order.polygons made.order
+          ∙ sym (as_many_seen county shapes known is within tables are m others.order.polygons others_made.order))
           ∙ ap (λ ks. image key_cmp (map under_cenid (numbered ks)) (link_key link)) (all_polygons county shapes known is within m)
 
       links_alike : LinksAgree county is (arrangement_of county one) (arrangement_of county other)
@@ -153,7 +154,8 @@ module _ (county : County) (shapes : OrderOfShapes) (known : LeavesChoices count
           go false e = all_weaker (λ link. stands_in key_cmp (link_key link) tables.polygons.opened ≡ false)
               (λ link. image key_cmp (new_keys county (arrangement_of county one)) (link_key link)
               ≡ image key_cmp (new_keys county (arrangement_of county other)) (link_key link))
-              (λ link h. link_alike link (λ f. h)) county.links (are.unlinked e)
+              (λ link h. link_alike link (λ f. h)) county.links
+              (all_fail (λ (link : Fields8). stands_in key_cmp (link_key link) tables.polygons.opened) county.links (sym are.linked ∙ e))
 
       type_7_same : type_7_by_landmark a ≡ type_7_by_landmark b
       type_7_same = ap (λ (landmarks : List (ℕ × List Body7)). map packed_sevens landmarks)
@@ -178,5 +180,5 @@ module _ (county : County) (shapes : OrderOfShapes) (known : LeavesChoices count
           ∙ (λ i. ordering_then (ordering_then (ranges i) (sevens i)) (ordering_then (eights i) rest))
           ∙ ap₂ ordering_then
           (topologies_order county shapes known is within tables are n m ∙ sym (ap₂ records_cmp made.topologies others_made.topologies))
-          (polygons_order county shapes known is within tables are n m records.order others.order made.order others_made.order
+          (polygons_order county shapes known is within tables are n m records.order.polygons others.order.polygons made.order others_made.order
           ∙ sym (ap₂ (λ k l. records_cmp (map P k) (map P l)) made.polygons others_made.polygons)))

@@ -42,7 +42,7 @@ next_of_ties-requires-clause-tied g c =
 pub next_of_ties-requires-clause-compared : goal.next_of_ties-requires-clause-compared
 next_of_ties-requires-clause-compared g c =
     subst (λ number. IfOk c.compare_ties-compared.result (λ found. IfSome found (λ ordering. ordering
-    ≡ choices_cmp (g.C.Chart.county c.args.chart.now) number c.find_tie.new.other.number))) c.choose_again.ensures.number c.compare_ties-compared.ensures
+    ≡ choices_cmp (g.C.Chart.county c.args.chart.now) number c.find_tie.new.other.number))) c.choose_again.ensures.number c.compare_ties-compared.ensures.ordering
 
 pub loop-alloc-preserved : goal.loop-alloc-preserved
 loop-alloc-preserved g c =

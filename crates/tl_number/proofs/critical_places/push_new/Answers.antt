@@ -2,11 +2,11 @@ use Rattle.tl_number.proofs.Common.{◌≡◌, ◌++◌, ◌∷◌, [], ◌∙�
 use Rattle.std.proofs.lemmas.List.FromFn.{map-range_with_len_more}
 use Rattle.tl_number.specs.CriticalPlaces.{brings}
 use Rattle.tl_number.proofs.Ties.CriticalNumbers.{brought_here, met_more}
-use Rattle.tl_number.proofs.critical_places.new_at_places.Goals.{After-index-pairs-place}
-use Rattle.tl_number.proofs.critical_places.new_at_places.Goals as goal
+use Rattle.tl_number.proofs.critical_places.push_new.Goals.{After-index-pairs-place}
+use Rattle.tl_number.proofs.critical_places.push_new.Goals as goal
 
 pub loop-place-init : goal.loop-place-init
-loop-place-init g c = record { new = c.in_ok-new.ensures.items; met = c.new-met.ensures }
+loop-place-init g c = record { new = c.requires.new; met = c.requires.met }
 
 pub loop-place-preserved : goal.loop-place-preserved
 loop-place-preserved g c =
