@@ -1,7 +1,9 @@
 //! The files of a set: the outcomes of opening them, and the files as sources.
 
+ghost use Rattle.std.specs.Io.{ReadsAtMost};
+ghost use Rattle.std.specs.Io.KnownBytes.{ReadConsumes};
 ghost use Rattle.std.specs.IoError.{error_kind};
-ghost use Rattle.std.specs.Prelude.{◌≡◌, ◌≢◌, IfOk, IfErr, IsTrue, ◌↔◌};
+ghost use Rattle.std.specs.Prelude.{◌≡◌, ◌≢◌, ◌↔◌, IfErr, IfOk, IsErr, IsTrue, Ok};
 ghost use Rattle.tigercanon.specs.Files.{AreOpened, IsMissing, bytes_of};
 
 use std::alloc::{AllocError, Global};
@@ -39,7 +41,12 @@ impl<R> Opened<R> {
 impl<R: Read> Read for Opened<R> {
     ghost remaining = { bytes_of R.remaining };
 
-    fn read(&mut self, buf: &mut [u8]) -> io::Result<usize> {
+    fn read(&mut self, buf: &mut [u8]) -> io::Result<usize>
+        ensures bound { ReadsAtMost result buf.new }
+        ensures bytes { ReadConsumes (bytes_of R.remaining self.old) (bytes_of R.remaining self.new) result buf.new }
+        ensures absent { self.old ≡ Opened.Absent → (result ≡ Ok 0) × (self.new ≡ Opened.Absent) }
+        ensures failed { self.old ≡ Opened.Failed → IsErr result × (self.new ≡ Opened.Failed) }
+    {
         match self {
             Opened::Found(reader) => reader.read(buf),
             Opened::Absent => Ok(0),
