@@ -1,11 +1,11 @@
 //! Why a call of the library returns no result.
 
-ghost use Rattle.std.specs.Prelude.{◌≡◌, Some};
+ghost use Rattle.std.specs.Prelude.{◌≡◌, ◌≤◌, Some, length};
 ghost use Rattle.fault_report.specs.Reports.{report_line};
-ghost use Rattle.tigercanon.specs.Refusals.{report_of};
+ghost use Rattle.tigercanon.specs.Refusals.{report_of, reported_of};
 ghost use Rattle.tigercanon.specs.declared.fault.Fault.TheVariants.{Load, Link, Profile, Write, Memory};
 
-use fault_report::{FaultKind, FaultReport};
+use fault_report::{FaultKind, FaultReport, Line, push, push_digits};
 use std::alloc::{AllocError, AllocFailed};
 use std::fmt;
 use thiserror::Error;
@@ -25,7 +25,7 @@ pub enum Fault {
     Profile(ProfileFault),
     /// The set is accepted, and the sink failed before the whole result was written.
     Write(WriteFault),
-    /// An allocation failed for the result.
+    /// An allocation failed for the result, or for reading.
     Memory,
 }
 
@@ -41,6 +41,19 @@ impl Fault {
             Fault::Write(fault) => fault.report(),
             Fault::Memory => FaultReport::bare(FaultKind::Memory),
         }
+    }
+
+    /// The line of the fault's report, without its line ending. If one of two sets is at fault, the line names it.
+    pub(crate) fn line(&self, set: Option<u8>) -> Line
+        ensures bytes { result.items ≡ reported_of self.now set }
+        ensures short { length result.items ≤ 139 }
+    {
+        let mut line = self.report().line();
+        if let Some(number) = set {
+            push(&mut line, b" in set ");
+            push_digits(&mut line, number as u64);
+        }
+        line
     }
 }
 

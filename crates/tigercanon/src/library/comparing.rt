@@ -1,6 +1,6 @@
 //! Whether two sets are one map, as they are or under a mask.
 
-ghost use Rattle.std.specs.Prelude.{◌≡◌, ◌≢◌, Ok, Err, ℕ, List, IfOk, IfErr, MatchResult, true, false};
+ghost use Rattle.std.specs.Prelude.{◌≡◌, ◌≢◌, Ok, Err, Some, ℕ, List, IfOk, IfErr, MatchResult, true, false};
 ghost use Rattle.tigercanon.specs.Comparing.{AreDifferent, AreDifferentThrough, AreOneMap, AreOneMapThrough, IsAcceptable};
 ghost use Rattle.tigercanon.specs.Comparing.{ReportsMemoryOfAccepted, ReportsRefusalOfOne, ReportsRefusalOfOneRead};
 ghost use Rattle.tigercanon.specs.declared.fault.Fault.{Fault};
@@ -8,6 +8,8 @@ ghost use Rattle.tigercanon.specs.declared.library.comparing.CompareFault.TheVar
 ghost use Rattle.tigercanon.specs.Faults.{ReportsRefusalOfRead};
 ghost use Rattle.tigercanon.specs.Findings.{IsFound};
 ghost use Rattle.tigercanon.specs.LentParts.{bytes_of_parts};
+ghost use Rattle.tigercanon.specs.Refusals.{reported_of};
+ghost use Rattle.tigercanon.specs.Stopping.{stopped_by};
 ghost use Rattle.tigercanon.specs.Sets.{CarriesSet, CarriesSetThrough, IsCanonSetThrough};
 ghost use Rattle.tl_county.specs.MaskedCounty.{masked};
 ghost use Rattle.tl_county.specs.Renumbering.{Renumbering};
@@ -19,6 +21,7 @@ use crate::library::making::{Product, make_of};
 use crate::library::unlinked::UnlinkedSet;
 use std::alloc::{AllocError, Global};
 use std::marker::PhantomData;
+use std::{fmt, str};
 use thiserror::Error;
 use tl_cert::Renaming;
 use tl_county::Chart;
@@ -45,7 +48,6 @@ pub enum Verdict {
 #[derive(Clone, Copy, Debug, PartialEq, Eq, Error)]
 pub enum CompareFault {
     /// One of the sets is refused, or an allocation failed while it was judged or put into canonical form.
-    #[error("{fault} in set {set}")]
     In {
         /// The set: 1 or 2.
         set: u8,
@@ -53,8 +55,23 @@ pub enum CompareFault {
         fault: Fault,
     },
     /// Both sets are accepted, and an allocation failed for the verdict.
-    #[error("{memory}", memory = Fault::Memory)]
     Memory,
+}
+
+/// The line of the fault's report, which names the set.
+impl fmt::Display for CompareFault {
+    ghost output = { λ fault. Some (reported_of (stopped_by fault).fault (stopped_by fault).set) };
+
+    fn fmt<W: fmt::Write>(&self, f: &mut fmt::Formatter<W>) -> fmt::Result {
+        let line = match self {
+            CompareFault::In { set, fault } => fault.line(Some(*set)),
+            CompareFault::Memory => Fault::Memory.line(None),
+        };
+        match str::from_utf8(line.as_slice()) {
+            Ok(text) => f.write_str(text),
+            Err(_) => Err(fmt::Error),
+        }
+    }
 }
 
 impl From<AllocError> for CompareFault {

@@ -20,7 +20,7 @@ use tl_load::LoadFault;
 ///
 /// # Errors
 ///
-/// What the set is refused for, as for [`normalise`](crate::normalise); each refusal can also report a failed allocation.
+/// As for [`normalise`](crate::normalise).
 #[tactic(auto, using(crate::proofs::Masking::none_is_plain))]
 pub fn fingerprint(alloc: Global, parts: &[&[u8]]) -> Result<[u8; 32], Fault>
     ensures fingerprint { IfOk result (IsFingerprint (bytes_of_parts parts.now)) }
@@ -37,7 +37,7 @@ pub fn fingerprint(alloc: Global, parts: &[&[u8]]) -> Result<[u8; 32], Fault>
 ///
 /// # Errors
 ///
-/// What the set is refused for, as for [`normalise`](crate::normalise), whatever the mask is.
+/// As for [`fingerprint`], whatever the mask is.
 pub fn fingerprint_masked(alloc: Global, parts: &[&[u8]], mask: Mask) -> Result<[u8; 32], Fault>
     ensures fingerprint { IfOk result (IsFingerprintThrough (masked mask) (bytes_of_parts parts.now)) }
     ensures refused { IfErr result (ReportsRefusal (bytes_of_parts parts.now)) }

@@ -11,7 +11,7 @@ use crate::fault::Fault;
 use crate::library::comparing::CompareFault;
 use crate::program::refusal::Refusal;
 use crate::program::writing::write_text;
-use fault_report::{Line, push, push_digits};
+use fault_report::{Line, push};
 use tl_write::Sink;
 
 /// How a completed job ended.
@@ -60,15 +60,8 @@ impl From<Fault> for Stopped {
 fn refusal_line_of(stopped: Stopped) -> Line
     ensures { result.items ≡ fault_line stopped.fault stopped.set }
 {
-    let mut line = stopped.fault.report().line();
-    match stopped.set {
-        Some(set) => {
-            push(&mut line, b" in set ");
-            push_digits(&mut line, set as u64);
-            push(&mut line, b"\n");
-        }
-        None => push(&mut line, b"\n"),
-    }
+    let mut line = stopped.fault.line(stopped.set);
+    push(&mut line, b"\n");
     line
 }
 
