@@ -93,6 +93,17 @@ fn a_failed_read_is_reported_wherever_it_comes(rt: HostRuntime) {
     }
 }
 
+/// The fifth read meets the end of the source, which isn't read again: the sixth read would fail.
+#[test]
+fn nothing_is_read_behind_the_end(rt: HostRuntime) {
+    let set = lines_of(&rt, street_respelt());
+    let mut source = SlowSource::new(&set, 100, Some(6));
+    let mut loader = Loader::new(rt.alloc());
+    let answer = loader.read_part(&mut source);
+    let found = (answer, source.failures(), loader.parts());
+    same(&rt, "answer, failures, parts", &found, &(Ok(()), 0, 1));
+}
+
 /// A reader that fails at its third read was called three times, and not again.
 fn fails_once(rt: &impl Host, kind: ErrorKind) {
     let count = Cell::new(0);

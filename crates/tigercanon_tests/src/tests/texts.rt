@@ -1,15 +1,17 @@
 //! What `Display` shows of each fault: the line that the program prints; and the exit status of a refusal.
 
-use super::Host;
 use super::comparing::{same, same_items};
+use super::{Host, lines_of};
 use std::fmt::{Debug, Display};
+use test_support::sets::records_of;
+use test_support::worked_sets::street;
 use tigercanon::{CompareFault, Fault, PlanFault, Refusal};
 use tl_county::LinkFault::{
     self, ChainTwice, LandUnknown, LinkMissing, LinkTwice, NameTwice, NameUnknown, NoChain,
     PolygonTwice, PolygonUnknown, SequenceBroken,
 };
 use tl_county::{LinkedType, SequencedType};
-use tl_layout::{DeviceFault, FieldFault, FieldKind, NumberOrNone};
+use tl_layout::{DeviceFault, FieldFault, FieldKind, NumberOrNone, Record};
 use tl_load::LineFault;
 use tl_load::LoadFault::{
     self, BadByte, BadNumber, BadPoint, GapInRecord, LineTooLong, TooManyRecords, UnknownType,
@@ -202,14 +204,35 @@ fn values_are_shown_as_a_derive_would_show_them(rt: HostRuntime) {
     shows(&rt, &CompareFault::In { set: 2, fault }, in_set);
 }
 
+/// The content of a type 1 record is kept as its columns, and is shown as its fields are.
+#[test]
+fn a_content_of_type_1_is_shown_by_its_fields(rt: HostRuntime) {
+    let set = lines_of(&rt, street());
+    let records = records_of(rt.alloc(), &set).expect(&rt, "the street");
+    let Some(Record::One(record)) = records.first() else {
+        assert!(&rt; false, "the first record is of type 1");
+        return;
+    };
+    let fields = record.body().fields();
+    let text = format!(in rt.alloc(); "{fields:?}").expect(&rt, "the fields");
+    let beginning = b"Body1Fields { side1: ";
+    let found = text.as_bytes().get(..beginning.len()).unwrap_or_default();
+    same_items(&rt, "the first field", found, beginning);
+    shows(&rt, record.body(), &text);
+}
+
 #[test]
 fn faults_beside_those_of_sets_say_what_they_are(rt: HostRuntime) {
     says(&rt, &FieldKind::BadPoint, "this is not a point");
+    says(&rt, &FieldKind::GapInRecord, "a used place follows an unused one");
     says(&rt, &NUMBER, NO_NUMBER);
     says(&rt, &DeviceFault, "the device failed");
     let fault = Fault::Memory;
     let second = CompareFault::In { set: 2, fault };
     says(&rt, &second, "refused 9 Memory in set 2");
+    let fault = Fault::Link(LinkMissing { tlid: 7 });
+    let first = CompareFault::In { set: 1, fault };
+    says(&rt, &first, "refused 14 LinkMissing 7 in set 1");
     says(&rt, &CompareFault::Memory, "refused 9 Memory");
     says(&rt, &PlanFault::Memory, "refused 9 Memory");
     // For a command line without a plan, the message is the usage as it is.

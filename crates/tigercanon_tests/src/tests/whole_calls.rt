@@ -94,6 +94,9 @@ fn a_text_goes_out_as_far_as_the_sink_lets_it(rt: HostRuntime) {
     for capacity in [400, 357] {
         passes(&rt, sets, [None, None], capacity, (Ok(357), [0, 0]));
     }
+    // The reads that would fail come after those at the ends of the sources.
+    let behind = [Some(6), Some(2)];
+    passes(&rt, sets, behind, 400, (Ok(357), [0, 0]));
     for capacity in [356, 300, 229, 1, 0] {
         let written = capacity as u64;
         let full = Err(Fault::Write(WriteFault { written }));
@@ -113,6 +116,19 @@ fn failing() -> [([Option<u64>; 2], [u64; 2]); 7] {
         ([None, Some(1)], [0, 1]),
         ([Some(2), Some(1)], [1, 0]),
     ]
+}
+
+/// A faulty line is reported before its source is read again: the next read would fail.
+#[test]
+fn a_faulty_line_is_reported_before_the_next_read(rt: HostRuntime) {
+    let mut place = [0; 1];
+    let mut sink = SlowSink::new(&mut place, 1);
+    let mut sources = [SlowSource::new(b"A\n", 2, Some(2))];
+    let answer = normalise_to(rt.alloc(), &mut sources, &mut sink);
+    let found = (answer, sources[0].failures());
+    let unknown = LoadFault::UnknownType { part: 1, line: 1 };
+    let wanted = (Err(Fault::Load(unknown)), 0);
+    same(&rt, "answer, failures", &found, &wanted);
 }
 
 #[test]
