@@ -92,6 +92,9 @@ class TestPage:
         assert browser.run("return document.querySelectorAll('#map img, #list img, #list script').length") == 0
 
     def test_popup_at_a_chain(self, browser: Browser) -> None:
+        # A landmark may lie over the chain.
+        for kind in ("first", "second", "changed"):
+            browser.click(f'#legend [data-kind="{kind}"][data-subject="landmark"] input')
         title = browser.click_at_changed("Changed")
         popup = browser.texts(".leaflet-popup-content")[0]
         assert "chain changed" in popup
