@@ -224,7 +224,11 @@ fn a_content_of_type_1_is_shown_by_its_fields(rt: HostRuntime) {
 #[test]
 fn faults_beside_those_of_sets_say_what_they_are(rt: HostRuntime) {
     says(&rt, &FieldKind::BadPoint, "this is not a point");
-    says(&rt, &FieldKind::GapInRecord, "a used place follows an unused one");
+    says(
+        &rt,
+        &FieldKind::GapInRecord,
+        "a used place follows an unused one",
+    );
     says(&rt, &NUMBER, NO_NUMBER);
     says(&rt, &DeviceFault, "the device failed");
     let fault = Fault::Memory;
