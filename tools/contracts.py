@@ -23,7 +23,7 @@ DEFINITION = re.compile(
     r"^(?:(?:  )?(?:abbrev|unfoldable)\s+(?:pub\s+)?|pub\s+(?:record\s+|data\s+)?|(?:record|data)\s+)"
     r"(?!mod\s)(◌[^\s:]+◌|[^\W\d][\w-]*)(?=\s)"
 )
-# An item, which stands at the left or is a member of one that does.
+# An item: it isn't indented, or it is a member of one that isn't.
 ITEM = re.compile(
     r"^( *)(pub(?:\(\w+\))?\s+)?(?:final\s+)?(?:extern\s+)?(fn|trait|impl|struct|enum|ghost)\b\s*(?!use\b)(\w*)", re.M
 )
@@ -141,7 +141,7 @@ class CodeFile:
         return owner and Block(owner[1], "impl", of_trait and of_trait[1])
 
     def clauses(self, at, depth):
-        """The clauses of a function, which stand before the next line that isn't indented more, except for a bracket."""
+        """The clauses of a function: those up to the next line that is indented no more than it and isn't a bracket."""
         end = re.compile(rf"^ {{0,{depth}}}(?!where\b)[^\s)>]", re.M).search(self.text, at).start()
         clauses = []
         for clause in CLAUSE.finditer(self.text, at, end):
@@ -224,7 +224,7 @@ class Sources:
 
     def cited(self, text, scope, word=None):
         """What a text cites in this scope: words of specs/, words of the kit, and types of the code, each as (crate, module, name).
-        If it is the text of a word, it can also cite the words of that file."""
+        The text of a word can also cite words of its own file."""
         cited, text = set(), TEXT_IN_QUOTES.sub(" ", text)
         for module, name in USED.findall(text) + [("", f"◌{sign}◌") for sign in SIGN.findall(text)]:
             if module in scope.modules:

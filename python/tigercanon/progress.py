@@ -18,7 +18,7 @@ PAUSE = 10.0
 
 
 LOCK = threading.Lock()
-"""Whoever reports a line has it."""
+"""Keeps lines whole: it is held while one is printed."""
 
 
 def print_lines(lines: Iterable[str]) -> None:

@@ -80,7 +80,7 @@ def try_empty(tests: Tests) -> None:
     stem = tests.room / "empty-parts"
     shutil.copy(AUTAUGA, f"{stem}.RT1")
     whole, in_parts = tests.by_c("normalise", AUTAUGA), tests.by_c("normalise", "--stem", stem)
-    tests.equal("nine parts, of which one has bytes", whole, in_parts)
+    tests.equal("nine parts, eight of them empty", whole, in_parts)
 
 
 def try_rounds(tests: Tests) -> None:

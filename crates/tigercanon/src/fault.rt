@@ -25,7 +25,7 @@ pub enum Fault {
     Profile(ProfileFault),
     /// The set is accepted, and the sink failed before the whole result was written.
     Write(WriteFault),
-    /// An allocation failed for the result, or for reading.
+    /// An allocation failed while the parts were read or the result was made.
     Memory,
 }
 

@@ -13,8 +13,8 @@ KINDS = ("in the first alone", "in the second alone", "changed", "alike")
 
 
 class Thing(NamedTuple):
-    """A thing as the first map has it and as the second one has it. One of the two may be None. `about` is more about it, behind
-    its title. `points` are those of a chain, or those where a landmark or a polygon lies. `number_field` is the field with its
+    """A thing as the first map has it and as the second one has it. One of the two may be None. `about` follows its
+    title. `points` are a chain's points, or the place of a landmark or a polygon. `number_field` is the field with its
     number, if it has one. `rows` makes its fields in both maps."""
 
     what: str

@@ -139,12 +139,13 @@ fn report_outcome<E: Write>(outcome: Result<Ending, Stopped>, err: &mut E) -> u8
 }
 
 /// Does a job over the files of its sets, and returns the exit status: 0 if it is done, 1 if two sets are different maps, 3 if a
-/// set is refused, 4 if a file is missing or couldn't be opened or a device failed, 5 if an allocation failed. Only a comparison looks at `second`. Only the jobs that print
-/// or compare maps look at the mask: they see the fields that it leaves out as blank.
+/// set is refused, 4 if a file is missing, can't be opened or can't be read, or if `out` failed, 5 if an allocation failed. Only a
+/// comparison looks at `second`. Only the jobs that print or compare maps look at the mask: they see the fields that it leaves out as
+/// blank.
 ///
-/// The result is written to `out`, and nothing is written there before the sets are judged: by all rules, or for `respell` by those
-/// for lines. If the job isn't done, one line on
-/// `err` reports why: the refusal, and which of two sets is at fault. A failure of `err` changes nothing.
+/// The result is written to `out`, after all sets were judged: `respell` judges only lines, the other jobs also whether records fit
+/// together. If the job isn't done, one line on `err` reports why: the refusal, and which of two sets is at fault. A failure of `err`
+/// changes nothing.
 pub fn run<R: Read + Drop, W: Write, E: Write>(
     alloc: Global,
     job: Job,

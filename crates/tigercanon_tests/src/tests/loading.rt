@@ -95,7 +95,7 @@ fn a_failed_read_is_reported_wherever_it_comes(rt: HostRuntime) {
 
 /// The fifth read meets the end of the source, which isn't read again: the sixth read would fail.
 #[test]
-fn nothing_is_read_behind_the_end(rt: HostRuntime) {
+fn nothing_is_read_past_the_end(rt: HostRuntime) {
     let set = lines_of(&rt, street_respelt());
     let mut source = SlowSource::new(&set, 100, Some(6));
     let mut loader = Loader::new(rt.alloc());

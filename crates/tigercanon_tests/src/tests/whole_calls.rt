@@ -94,9 +94,9 @@ fn a_text_goes_out_as_far_as_the_sink_lets_it(rt: HostRuntime) {
     for capacity in [400, 357] {
         passes(&rt, sets, [None, None], capacity, (Ok(357), [0, 0]));
     }
-    // The reads that would fail come after those at the ends of the sources.
-    let behind = [Some(6), Some(2)];
-    passes(&rt, sets, behind, 400, (Ok(357), [0, 0]));
+    // These reads would fail, but the sources have ended before them.
+    let past_the_end = [Some(6), Some(2)];
+    passes(&rt, sets, past_the_end, 400, (Ok(357), [0, 0]));
     for capacity in [356, 300, 229, 1, 0] {
         let written = capacity as u64;
         let full = Err(Fault::Write(WriteFault { written }));
