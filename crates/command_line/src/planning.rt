@@ -137,7 +137,8 @@ fn plan_in(alloc: Global, matches: &ArgMatches<'_>) -> Result<Plan, PlanFault>
 ///
 /// # Errors
 ///
-/// `Usage` with a message, or `Memory`.
+/// `Usage` with the text to print if the arguments ask for help or the version, or aren't valid; `Memory` if there wasn't enough
+/// memory.
 pub fn plan(alloc: Global, words: &[String]) -> Result<Plan, PlanFault>
     ensures planned { IfOk result (IsPlanned (map string_bytes words.now)) }
     ensures understood { OnOk result (AreUnderstood (map string_bytes words.now)) }

@@ -28,7 +28,7 @@ pub trait Chart {
     fn chain_count(&self) -> usize
         ensures { result ≡ length (county self.now).chains };
 
-    /// The TLID of the chain at a place.
+    /// The TLID of the chain at a place (record type 1).
     fn tlid_at(&self, place: usize) -> Option<u64>
         ensures { result ≡ slice_get (tlids (county self.now)) place };
 
@@ -41,7 +41,7 @@ pub trait Chart {
     fn name_count(&self) -> usize
         ensures { result ≡ length (county self.now).names };
 
-    /// The FEAT of the name at a place.
+    /// The FEAT of the name at a place (record type 5).
     fn feat_at(&self, place: usize) -> Option<u32>
         ensures { result ≡ slice_get (feats (county self.now)) place };
 
@@ -54,7 +54,7 @@ pub trait Chart {
     fn polygon_count(&self) -> usize
         ensures { result ≡ length (county self.now).polygons };
 
-    /// The key of the polygon at a place.
+    /// The key of the polygon at a place: its CENID and POLYID (record types I, P and 8).
     fn polygon_key_at(&self, place: usize) -> Option<PolygonKey>
         ensures { result ≡ slice_get (polygon_keys (county self.now)) place };
 
@@ -67,7 +67,7 @@ pub trait Chart {
     fn landmark_count(&self) -> usize
         ensures { result ≡ length (county self.now).landmarks };
 
-    /// The LAND of the landmark at a place.
+    /// The LAND of the landmark at a place (record type 7).
     fn land_at(&self, place: usize) -> Option<u64>
         ensures { result ≡ slice_get (lands (county self.now)) place };
 
@@ -80,7 +80,7 @@ pub trait Chart {
     fn node_count(&self) -> usize
         ensures { result ≡ length (nodes (county self.now)) };
 
-    /// The number of the node at a place.
+    /// The number of the node at a place (record type I, TZIDS and TZIDE).
     fn node_at(&self, place: usize) -> Option<u64>
         ensures { result ≡ slice_get (nodes (county self.now)) place };
 
@@ -112,11 +112,11 @@ pub trait Chart {
         0
     }
 
-    /// The number of points of the chain at a place.
+    /// The number of points of the chain at a place: its start node, its shape points (record type 2) and its end node.
     fn point_count_at(&self, place: usize) -> usize
         ensures { result ≡ length (points_of (chain_at (county self.now) place)) };
 
-    /// A point of the chain at a place. Point 0 is at the start node.
+    /// A point of the chain at a place (record types 1 and 2). Point 0 is at the start node.
     fn point_at(&self, place: usize, point: usize) -> Option<Point>
         ensures { result ≡ slice_get (points_of (chain_at (county self.now) place)) point };
 

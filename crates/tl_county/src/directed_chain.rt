@@ -63,7 +63,7 @@ impl DirectedChain {
         chart.topology_at(self.place as usize)
     }
 
-    /// The node where it starts.
+    /// The node where it starts (record type I, TZIDS, or TZIDE if it's turned).
     pub fn start_node<C: Chart>(self, chart: &C) -> Option<Option<u64>>
         ensures { result ≡ option_map (λ c. c.start_node) (directed_chain (C.county chart.now) self) }
     {
@@ -75,7 +75,7 @@ impl DirectedChain {
         }
     }
 
-    /// The node where it ends.
+    /// The node where it ends (record type I, TZIDE, or TZIDS if it's turned).
     pub fn end_node<C: Chart>(self, chart: &C) -> Option<Option<u64>>
         ensures { result ≡ option_map (λ c. c.end_node) (directed_chain (C.county chart.now) self) }
     {
@@ -87,7 +87,7 @@ impl DirectedChain {
         }
     }
 
-    /// Its left side.
+    /// Its left side (record type I, CENIDL and POLYIDL, or the right ones if it's turned).
     pub fn left<C: Chart>(self, chart: &C) -> Option<Side>
         ensures { result ≡ option_map (λ c. c.left) (directed_chain (C.county chart.now) self) }
     {
@@ -99,7 +99,7 @@ impl DirectedChain {
         }
     }
 
-    /// Its right side.
+    /// Its right side (record type I, CENIDR and POLYIDR, or the left ones if it's turned).
     pub fn right<C: Chart>(self, chart: &C) -> Option<Side>
         ensures { result ≡ option_map (λ c. c.right) (directed_chain (C.county chart.now) self) }
     {
@@ -111,7 +111,7 @@ impl DirectedChain {
         }
     }
 
-    /// Its points.
+    /// Its points (record types 1 and 2).
     pub fn points<'a, C: Chart>(self, chart: &'a C) -> ChainPoints<'a, C>
         ensures { ⟦<ChainPoints<'a, C> as Listed>⟧.items result ≡ points_of (directed_chain (C.county chart.now) self) }
     {
@@ -122,7 +122,7 @@ impl DirectedChain {
         }
     }
 
-    /// Its further address ranges.
+    /// Its further address ranges (record type 6).
     pub fn ranges<'a, C: Chart>(self, chart: &'a C) -> ChainRanges<'a, C>
         ensures { ⟦<ChainRanges<'a, C> as Listed>⟧.items result ≡ ranges_of (directed_chain (C.county chart.now) self) }
     {
@@ -133,7 +133,7 @@ impl DirectedChain {
         }
     }
 
-    /// The FEATs of its further names, which are the same in both directions.
+    /// The FEATs of its further names (record type 4), which are the same in both directions.
     pub fn feats<'a, C: Chart>(self, chart: &'a C) -> ChainFeats<'a, C>
         ensures { ⟦<ChainFeats<'a, C> as Listed>⟧.items result ≡ feats_of (directed_chain (C.county chart.now) self) }
     {

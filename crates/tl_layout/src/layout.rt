@@ -38,6 +38,10 @@ pub trait Layout: Sized {
     ghost spelling: { Self → List ℕ };
 
     /// Reads a full line by the column table of its type. The contract of [`Layout::take`] explains what that means.
+    ///
+    /// # Errors
+    ///
+    /// The fault of the line's leftmost field that spells no value, with its column.
     fn read(line: &[u8]) -> Result<Self, FieldFault>
         requires { IsLine RTYPE LEN line.now }
         ensures exact { result ≡ reading line.now };

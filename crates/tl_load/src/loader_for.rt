@@ -343,6 +343,10 @@ impl<K: Collector> LoaderFor<K> {
 
     /// Like [`LoaderFor::read_part`], but reads through the caller's buffer, at most its length at a time. The buffer must not
     /// be empty.
+    ///
+    /// # Errors
+    ///
+    /// As for [`LoaderFor::read_part`].
     pub fn read_part_by<R: Source>(
         &mut self,
         source: &mut R,

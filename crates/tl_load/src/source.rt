@@ -31,6 +31,10 @@ pub trait Source {
 
     /// Reads into the start of the buffer and returns the number of bytes, which is 0 only at the end or if the buffer is
     /// empty.
+    ///
+    /// # Errors
+    ///
+    /// `DeviceFault` if the read failed. It counts as one failure and returned no bytes.
     fn read(&mut self, buf: &mut [u8]) -> Result<usize, DeviceFault>
         requires { failed self.old < u64.MAX }
         ensures failures { failed self.new ≡ (if is_ok result then failed self.old else failed self.old + 1) }

@@ -99,14 +99,14 @@ impl Chain {
         &self.body
     }
 
-    /// The chain's points, from its start to its end.
+    /// The chain's points (record types 1 and 2), from its start to its end.
     pub fn shape(&self) -> &Shape
         ensures { result.now ≡ self.now.points }
     {
         &self.shape
     }
 
-    /// The FEATs of the chain's further names, in order, each from 1 to 99,999,999.
+    /// The FEATs of the chain's further names (record type 4), in order, each from 1 to 99,999,999.
     pub fn feats(&self) -> &[u32]
         ensures value { result.now ≡ self.now.feats }
         ensures in_range { AllByRecursion (IsNumber 8) result.now }
@@ -114,7 +114,7 @@ impl Chain {
         self.feats.as_slice()
     }
 
-    /// The chain's further address ranges, in order.
+    /// The chain's further address ranges (record type 6), in order.
     pub fn ranges(&self) -> &[Ranges]
         ensures { result.now ≡ self.now.ranges }
     {

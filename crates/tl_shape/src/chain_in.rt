@@ -83,7 +83,7 @@ impl<'a> ChainIn<'a> {
         &self.body
     }
 
-    /// The chain's points, from its start to its end, at least two.
+    /// The chain's points (record types 1 and 2), from its start to its end, at least two.
     pub fn points(&self) -> &'a [Point]
         ensures value { result.now ≡ self.now.points }
         ensures two { 2 ≤ length self.now.points }
@@ -91,7 +91,7 @@ impl<'a> ChainIn<'a> {
         self.points
     }
 
-    /// The FEATs of the chain's further names, in order, each from 1 to 99,999,999.
+    /// The FEATs of the chain's further names (record type 4), in order, each from 1 to 99,999,999.
     pub fn feats(&self) -> &'a [u32]
         ensures value { result.now ≡ self.now.feats }
         ensures in_range { AllByRecursion (IsNumber 8) result.now }
@@ -99,7 +99,7 @@ impl<'a> ChainIn<'a> {
         self.feats
     }
 
-    /// The chain's further address ranges, in order.
+    /// The chain's further address ranges (record type 6), in order.
     pub fn ranges(&self) -> &'a [Ranges]
         ensures { result.now ≡ self.now.ranges }
     {
