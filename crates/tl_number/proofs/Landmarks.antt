@@ -2,3 +2,4 @@
 pub mod LinkSlices
 pub mod LandmarkLinks
 pub mod LandmarkOrder
+pub mod BodiesFirst

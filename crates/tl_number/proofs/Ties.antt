@@ -16,6 +16,7 @@ pub mod RecordExact
 pub mod CriticalKeys
 pub mod TopologyOrder
 pub mod PolygonOrder
+pub mod LinkOrder
 pub mod TieOrder
 pub mod ChoiceRecords
 pub mod TakenPlaces

@@ -60,3 +60,11 @@ place_by_order cmp keys order key =
 -- the key that has the place in the choice which this key has in the order of shapes
 abbrev pub key_by_order : {K : Type 0} → (K → K → Ordering) → OpenKeys (List K) → List K → K → K
 key_by_order cmp keys order key = cond (stands_in cmp key keys.opened) (get_or order (place_in cmp keys.opened key) key) key
+
+-- all keys in the order of the choice
+abbrev pub all_by_order : {K : Type 0} → (K → K → Ordering) → OpenKeys (List K) → List K → List K
+all_by_order cmp keys order = map (key_by_order cmp keys order) keys.all
+
+-- each key is at its place among these
+abbrev pub ArePlacedBy : {K : Type 0} → (K → K → Ordering) → OpenKeys (List K) → List K → Type 0
+ArePlacedBy {K} cmp keys order = (key : K) → place_by_order cmp keys order key ≡ place_in cmp (all_by_order cmp keys order) key

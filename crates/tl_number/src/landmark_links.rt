@@ -12,42 +12,42 @@ ghost use Rattle.tl_number.specs.LandmarkItems.{link_under};
 ghost use Rattle.tl_number.specs.ViewFacts.{link_bounds};
 
 use crate::numbers::Interner;
-use crate::renumbering::{new_key, new_land};
+use crate::renumbering::{PolygonNumbers, new_land};
 use std::alloc::{AllocError, Global};
-use tl_county::{Chart, PolygonKey, put_in_order, split_group};
+use tl_county::{Chart, put_in_order, split_group};
 use tl_layout::Rec8;
 
 /// The fields of a link in the order of comparison: LAND, POLYID, CENID, FILE.
 type LinkKey = (u64, (u64, ([u8; 5], [u8; 5])));
 
-/// The polygons and the landmarks of a county in the order of their new numbers.
-#[derive(Clone, Copy)]
-struct NewOrder<'a> {
-    polygons: &'a Interner<PolygonKey>,
+/// The new numbers of polygons, and the landmarks of a county in the order of their new numbers.
+#[derive(Drop)]
+struct NewOrder<'a, P: PolygonNumbers> {
+    polygons: &'a P,
     lands: &'a Interner<u64>,
-    ghost few_polygons: { length polygons.now < 10 ^ 10 },
+    ghost few_polygons: { length (P.in_order polygons.now) < 10 ^ 10 },
     ghost few_lands: { length lands.now < 10 ^ 10 },
 }
 
 /// A link with the new numbers of its polygon and its landmark.
-fn renumbered_link(order: &NewOrder<'_>, link: &Rec8) -> Rec8
-    ensures { result ≡ link_under order.now.polygons.now order.now.lands.now link.now }
+fn renumbered_link<P: PolygonNumbers>(order: &NewOrder<'_, P>, link: &Rec8) -> Rec8
+    ensures { result ≡ link_under (P.in_order order.now.polygons.now) order.now.lands.now link.now }
 {
     let cenid = link.cenid();
-    let key = new_key(order.polygons, (cenid, link.polyid()));
+    let key = order.polygons.key_of((cenid, link.polyid()));
     let land = new_land(order.lands, link.land());
     Rec8::new(link.file(), cenid, key.1, land)
 }
 
 /// Appends the links of the landmark at a place with their new numbers.
-fn push_links<C: Chart>(
+fn push_links<C: Chart, P: PolygonNumbers>(
     links: &mut Vec<Rec8>,
     chart: &C,
-    order: &NewOrder<'_>,
+    order: &NewOrder<'_, P>,
     place: usize,
 ) -> Result<(), AllocError>
     ensures { OnOk result (links.new.items
-        ≡ links.old.items ++ map (link_under order.now.polygons.now order.now.lands.now) (links_at (C.county chart.now) place)) }
+        ≡ links.old.items ++ map (link_under (P.in_order order.now.polygons.now) order.now.lands.now) (links_at (C.county chart.now) place)) }
 {
     let own = (0..chart.link_count_at(place)).filter_map(|link| chart.landmark_link_at(
         place, link,
@@ -56,12 +56,12 @@ fn push_links<C: Chart>(
 }
 
 /// The links of all landmarks with their new numbers, landmark after landmark.
-fn gather_links<C: Chart>(
+fn gather_links<C: Chart, P: PolygonNumbers>(
     alloc: Global,
     chart: &C,
-    order: &NewOrder<'_>,
+    order: &NewOrder<'_, P>,
 ) -> Result<Vec<Rec8>, AllocError>
-    ensures { IfOk result (λ links. links.items ≡ flat_map (λ place. map (link_under order.now.polygons.now order.now.lands.now)
+    ensures { IfOk result (λ links. links.items ≡ flat_map (λ place. map (link_under (P.in_order order.now.polygons.now) order.now.lands.now)
         (links_at (C.county chart.now) place)) (range_with_len 0 (length (C.county chart.now).landmarks))) }
 {
     let mut links = Vec::new(alloc);
@@ -71,16 +71,16 @@ fn gather_links<C: Chart>(
     Ok(links)
 }
 
-/// The links of a county in order, with their polygons and landmarks numbered by their places in these tables.
-pub(crate) fn links_under<C: Chart>(
+/// The links of a county in order, with these numbers of their polygons, and with their landmarks numbered by their places in a table.
+pub(crate) fn links_under<C: Chart, P: PolygonNumbers>(
     alloc: Global,
     chart: &C,
-    polygons: &Interner<PolygonKey>,
+    polygons: &P,
     lands: &Interner<u64>,
 ) -> Result<Vec<Rec8>, AllocError>
-    requires few_polygons { length polygons.now < 10 ^ 10 }
+    requires few_polygons { length (P.in_order polygons.now) < 10 ^ 10 }
     requires few_lands { length lands.now < 10 ^ 10 }
-    ensures { IfOk result (λ links. links.items ≡ in_order link_cmp (map (link_under polygons.now lands.now) (C.county chart.now).links)) }
+    ensures { IfOk result (λ links. links.items ≡ in_order link_cmp (map (link_under (P.in_order polygons.now) lands.now) (C.county chart.now).links)) }
 {
     let mut links = gather_links(alloc, chart, &NewOrder { polygons, lands })?;
     put_in_order::<LinkKey, Rec8>(&mut links)?;

@@ -18,9 +18,10 @@ ghost use Rattle.tl_number.specs.ViewFacts.{AreWhole, MatchesLandmarks, link_bou
 use crate::arranged_tables::LandmarkTables;
 use crate::landmark_links::{bounds_of, links_of_landmark, links_under};
 use crate::numbers::Interner;
+use crate::renumbering::PolygonNumbers;
 use std::alloc::{AllocError, Global};
 use std::cmp::Ordering;
-use tl_county::{Chart, DirectedChain, PolygonKey, cmp_landmark_bodies};
+use tl_county::{Chart, DirectedChain, cmp_landmark_bodies};
 use tl_layout::{Body7, Rec8};
 
 /// The fields of a link without its LAND in the order of comparison: POLYID, CENID, FILE.
@@ -159,17 +160,17 @@ fn sort_places<C: Chart>(
 }
 
 /// The links of a county with its landmarks in the order of these places, and how many have a LAND up to each of 0, 1, 2, ..
-fn links_by_land<C: Chart>(
+fn links_by_land<C: Chart, P: PolygonNumbers>(
     alloc: Global,
     chart: &C,
-    polygons: &Interner<PolygonKey>,
+    polygons: &P,
     places: &[u32],
 ) -> Result<(Vec<Rec8>, Vec<usize>), AllocError>
-    requires few_polygons { length polygons.now < 10 ^ 10 }
+    requires few_polygons { length (P.in_order polygons.now) < 10 ^ 10 }
     requires few_places { length places.now < 2 ^ 32 }
     requires once { has_repeat nat_cmp (lands_at (C.county chart.now) places.now) ≡ false }
     ensures links { IfOk result
-        (λ lists. lists.0.items ≡ numbered_links (C.county chart.now) polygons.now (lands_at (C.county chart.now) places.now)) }
+        (λ lists. lists.0.items ≡ numbered_links (C.county chart.now) (P.in_order polygons.now) (lands_at (C.county chart.now) places.now)) }
     ensures bounds { IfOk result (λ lists. lists.1.items ≡ link_bounds lists.0.items (length places.now)) }
 {
     let lands = number_lands(alloc, chart, places)?;
@@ -178,16 +179,16 @@ fn links_by_land<C: Chart>(
     Ok((links, bounds))
 }
 
-/// The places of the landmarks of a county in their new order, with its polygons by first appearance.
-fn places_in_order<C: Chart>(
+/// The places of the landmarks of a county in their new order, with these numbers of its polygons.
+fn places_in_order<C: Chart, P: PolygonNumbers>(
     alloc: Global,
     chart: &C,
-    polygons: &Interner<PolygonKey>,
+    polygons: &P,
 ) -> Result<Vec<u32>, AllocError>
-    requires few_polygons { length polygons.now < 10 ^ 10 }
+    requires few_polygons { length (P.in_order polygons.now) < 10 ^ 10 }
     requires few { length (C.county chart.now).landmarks < 2 ^ 32 }
     ensures permutation { IfOk result (λ places. IsPermutation (range_with_len 0 (length (C.county chart.now).landmarks)) places.items) }
-    ensures in_order { IfOk result (λ places. IsInOrder (place_cmp_under (C.county chart.now) polygons.now) places.items) }
+    ensures in_order { IfOk result (λ places. IsInOrder (place_cmp_under (C.county chart.now) (P.in_order polygons.now)) places.items) }
 {
     let unordered = all_places(alloc, chart)?;
     let (links, bounds) = links_by_land(alloc, chart, polygons, &unordered)?;
@@ -198,16 +199,16 @@ fn places_in_order<C: Chart>(
     sort_places(alloc, chart, &lists)
 }
 
-/// The landmarks of a county in this arrangement, with its polygons by first appearance.
-pub(crate) fn arrange_landmarks<C: Chart>(
+/// The landmarks of a county in this arrangement, which numbers its polygons in this way.
+pub(crate) fn arrange_landmarks<C: Chart, P: PolygonNumbers>(
     alloc: Global,
     chart: &C,
     arrangement: &[DirectedChain],
-    polygons: &Interner<PolygonKey>,
+    polygons: &P,
 ) -> Result<LandmarkTables, AllocError>
     requires whole { AreWhole (C.county chart.now) arrangement.now }
-    requires polygons { polygons.now ≡ polygons_in_order (C.county chart.now) (arrangement_of (C.county chart.now) arrangement.now) }
-    requires few_polygons { length polygons.now < 10 ^ 10 }
+    requires polygons { P.in_order polygons.now ≡ polygons_in_order (C.county chart.now) (arrangement_of (C.county chart.now) arrangement.now) }
+    requires few_polygons { length (P.in_order polygons.now) < 10 ^ 10 }
     requires few { length (C.county chart.now).landmarks < 2 ^ 32 }
     ensures { IfOk result (MatchesLandmarks (C.county chart.now) arrangement.now) }
 {

@@ -13,6 +13,7 @@ ghost use Rattle.std.specs.Prelude.{◌≡◌, ◌<◌, ◌≤◌, cond, false, 
 ghost use Rattle.tl_county.specs.CountyRules.{AllKeysStandIn, polygon_keys, polygons_along};
 ghost use Rattle.tl_number.specs.Canonical.{IsNotAfter};
 ghost use Rattle.tl_number.specs.ChoiceSearch.{IsChosen, IsLesserTie, LeavesChoices, ShowsChoice};
+ghost use Rattle.tl_number.specs.CriticalPlaces.{AreTieTables};
 ghost use Rattle.tl_number.specs.LeastNumber.{IsLeastBelow, choice_list, choices_cmp};
 ghost use Rattle.tl_number.specs.DirectedChains.{HasChainsOf, arrangement_of};
 ghost use Rattle.tl_number.specs.Tidy.{IsLeastChoice};
@@ -27,7 +28,7 @@ use crate::numbered_arrangement::NumberedArrangement;
 use crate::same_chains::have_same_chains;
 use crate::text_order::compare_texts;
 use crate::tie_order::compare_ties;
-use crate::tie_tables::tie_tables;
+use crate::tie_tables::{TieTables, tie_tables};
 use crate::type_1_order::compare_ones;
 use std::alloc::{AllocError, Global};
 use std::cmp::Ordering;
@@ -283,7 +284,64 @@ fn find_tie<C: Chart>(
     false
 }
 
-/// The number of the choice with the least text among those with the least records of type 1, given the first two of these.
+/// The number of the choice with the least text among those with the least records of type 1, given the first two of these. `kept` is
+/// overwritten.
+fn least_among_ties<C: Chart>(
+    alloc: Global,
+    chart: &C,
+    order: &ShapeOrder,
+    tables: &TieTables,
+    first: &NumberedArrangement,
+    kept: &mut NumberedArrangement,
+    other: &mut NumberedArrangement,
+) -> Result<u64, AllocError>
+    requires known { LeavesChoices (C.county chart.now) order.now }
+    requires tables { AreTieTables (C.county chart.now) order.now tables.now }
+    requires first_chosen { IsChosen order.now first.now }
+    requires kept_chosen { IsChosen order.now kept.old }
+    requires other_chosen { IsChosen order.now other.old }
+    requires least { IsLeastOne (C.county chart.now) (choices (C.county chart.now)) first.now.number }
+    requires before { IsLeastFrom (C.county chart.now) 0 other.old.number first.now.number }
+    ensures { IfOk result (IsLeastBelow (C.county chart.now) (choices (C.county chart.now))) }
+{
+    let mut least = NumberedChoice {
+        number: first.number,
+        choice: None,
+    };
+    let mut from = other.number;
+    while find_tie(chart, order, first, other, from) {
+        kept.choose_again(order, least.number);
+        let compared = compare_ties(alloc, chart, order, tables, kept, other);
+        least = next_of_ties(alloc, chart, order, least, other.number, compared)?;
+        from = other.number + 1;
+    }
+    let number = least.number;
+    drop(least);
+    Ok(number)
+}
+
+/// The same, with a choice that is overwritten.
+fn least_by_tables<C: Chart>(
+    alloc: Global,
+    chart: &C,
+    order: &ShapeOrder,
+    tables: &TieTables,
+    first: &NumberedArrangement,
+    other: &mut NumberedArrangement,
+) -> Result<u64, AllocError>
+    requires known { LeavesChoices (C.county chart.now) order.now }
+    requires tables { AreTieTables (C.county chart.now) order.now tables.now }
+    requires first_chosen { IsChosen order.now first.now }
+    requires other_chosen { IsChosen order.now other.old }
+    requires least { IsLeastOne (C.county chart.now) (choices (C.county chart.now)) first.now.number }
+    requires before { IsLeastFrom (C.county chart.now) 0 other.old.number first.now.number }
+    ensures { IfOk result (IsLeastBelow (C.county chart.now) (choices (C.county chart.now))) }
+{
+    let mut kept = NumberedArrangement::new(alloc, order, first.number)?;
+    least_among_ties(alloc, chart, order, tables, first, &mut kept, other)
+}
+
+/// The same, with the tables that it takes.
 fn least_of_ties<C: Chart>(
     alloc: Global,
     chart: &C,
@@ -299,21 +357,7 @@ fn least_of_ties<C: Chart>(
     ensures { IfOk result (IsLeastBelow (C.county chart.now) (choices (C.county chart.now))) }
 {
     let tables = tie_tables(alloc, chart, order)?;
-    let mut kept = NumberedArrangement::new(alloc, order, first.number)?;
-    let mut least = NumberedChoice {
-        number: first.number,
-        choice: None,
-    };
-    let mut from = other.number;
-    while find_tie(chart, order, first, other, from) {
-        kept.choose_again(order, least.number);
-        let compared = compare_ties(alloc, chart, order, &tables, &kept, other);
-        least = next_of_ties(alloc, chart, order, least, other.number, compared)?;
-        from = other.number + 1;
-    }
-    let number = least.number;
-    drop(least);
-    Ok(number)
+    least_by_tables(alloc, chart, order, &tables, first, other)
 }
 
 /// The number of the choice with the least text. Compares nothing if the county leaves no choice.

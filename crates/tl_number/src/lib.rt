@@ -44,6 +44,7 @@ mod renumbering;
 mod same_chains;
 mod sameness;
 mod text_order;
+mod tie_links;
 mod tie_order;
 mod tie_records;
 mod tie_tables;

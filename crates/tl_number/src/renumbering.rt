@@ -11,6 +11,29 @@ ghost use Rattle.tl_number.specs.Growth.{numbered};
 use crate::numbers::Interner;
 use tl_county::PolygonKey;
 
+/// New numbers of polygons.
+pub(crate) trait PolygonNumbers {
+    ghost use Rattle.std.specs.Prelude.{ℕ, List};
+
+    /// The polygons in the order of their new numbers.
+    ghost in_order: { Self → List (List ℕ × ℕ) };
+
+    /// The new key of a polygon: its CENID with its new POLYID.
+    fn key_of(&self, key: PolygonKey) -> PolygonKey
+        ensures image { result ≡ image key_cmp (map under_cenid (numbered (in_order self.now))) key }
+        ensures cenid { result.0 ≡ key.0 }
+        ensures in_range { IsNumber 10 key.1 → length (in_order self.now) < 10 ^ 10 → IsNumber 10 result.1 };
+}
+
+/// Polygons are numbered by first appearance.
+impl PolygonNumbers for Interner<PolygonKey> {
+    ghost in_order = { λ numbers. numbers };
+
+    fn key_of(&self, key: PolygonKey) -> PolygonKey {
+        new_key(self, key)
+    }
+}
+
 /// The new LAND of a landmark.
 pub(crate) fn new_land(lands: &Interner<u64>, land: u64) -> u64
     ensures image { result ≡ image nat_cmp (numbered lands.now) land }

@@ -1,32 +1,35 @@
 //! Comparing two choices with the same records of type 1 without arranging them.
 //!
 //! If the chains have the same further names, place by place, the records of types 4 and 5 are the same, and the records of type 6 at
-//! open places are compared. If no landmark has an open polygon, or the open polygons have the same numbers in both choices, the records
-//! of types 7 and 8 are the same too. Then those of types I and P are compared at the few places and under the few numbers at which they
-//! can differ.
+//! open places are compared. Those of type 7 are the same in all choices. Then come the links of landmarks (type 8), and those of types
+//! I and P at the few places and under the few numbers at which they can differ.
 
 ghost use Rattle.std.specs.declared.cmp.Ordering.TheVariants.{Equal};
 ghost use Rattle.std.specs.Bool.{Decides};
 ghost use Rattle.std.specs.Ordering.{ordering_then};
-ghost use Rattle.std.specs.Prelude.{◌≡◌, ◌⊎◌, IfOk, IfSome, false, is_some, map};
+ghost use Rattle.std.specs.Prelude.{◌≡◌, IfOk, IfSome, is_some, map};
+ghost use Rattle.tl_county.specs.ChartWords.{feats_of};
 ghost use Rattle.tl_layout.specs.declared.record_type.Record.TheVariants.{I, P, Six};
 ghost use Rattle.tl_number.specs.ChoiceSearch.{IsChosen, LeavesChoices};
 ghost use Rattle.tl_number.specs.CriticalPlaces.{AreTieTables};
+ghost use Rattle.tl_number.specs.DirectedChains.{parts_along};
 ghost use Rattle.tl_number.specs.LeastNumber.{choices_cmp};
 ghost use Rattle.tl_number.specs.OpenRanges.{sixes_at};
-ghost use Rattle.tl_number.specs.RecordOrder.{groups_cmp, records_cmp};
-ghost use Rattle.tl_number.specs.TiedRecords.{AreComparable};
+ghost use Rattle.tl_number.specs.RecordOrder.{groups_cmp, records_cmp, types_8_to_p_cmp};
+ghost use Rattle.tl_number.specs.TiedRecords.{AreTiedRecords};
 ghost use Rattle.tl_number.specs.TypeOneOrder.{ones_cmp};
+ghost use Rattle.tl_number.specs.ViewFacts.{arranged_by};
 
 use crate::group_order::{compare_groups, compare_lists};
 use crate::numbered_arrangement::NumberedArrangement;
 use crate::open_ranges::OpenRangeRecords;
 use crate::same_chains::{FurtherNames, have_same_open_parts};
+use crate::tie_links::{OrderedChoice, compare_links};
 use crate::tie_records::{TiedRecords, tied_records};
 use crate::tie_tables::TieTables;
 use std::alloc::{AllocError, Global};
 use std::cmp::Ordering;
-use tl_county::{Chart, DirectedChain, are_same};
+use tl_county::{Chart, DirectedChain};
 use tl_profile::ShapeOrder;
 
 /// Compares two arrangements by their records of type 6 at open places.
@@ -51,25 +54,107 @@ fn compare_open_ranges<C: Chart>(
     compare_groups(&records, &others)
 }
 
-/// Compares two choices by their records of types I and P, or returns `None` if some landmark has an open polygon (`linked`) and the
-/// open polygons have other numbers in the other choice.
-fn compare_tied(linked: bool, one: &TiedRecords, other: &TiedRecords) -> Option<Ordering>
-    ensures ordering { IfSome result (λ ordering. ordering ≡ ordering_then (records_cmp (map I one.now.topologies.items) (map I other.now.topologies.items))
-        (records_cmp (map P one.now.polygons.items) (map P other.now.polygons.items))) }
-    ensures known { Decides (is_some result) ((linked ≡ false) ⊎ (one.now.order.polygons ≡ other.now.order.polygons)) }
+/// Compares two choices by their records of types I and P.
+fn compare_topologies_and_polygons(one: &TiedRecords, other: &TiedRecords) -> Ordering
+    ensures { result ≡ ordering_then (records_cmp (map I one.now.topologies.items) (map I other.now.topologies.items))
+        (records_cmp (map P one.now.polygons.items) (map P other.now.polygons.items)) }
 {
-    if linked && !are_same(&other.order.polygons, &one.order.polygons) {
-        return None;
-    }
     match compare_lists(&one.topologies, &other.topologies) {
-        Ordering::Equal => {}
-        unequal => return Some(unequal),
+        Ordering::Equal => compare_lists(&one.polygons, &other.polygons),
+        unequal => unequal,
     }
-    Some(compare_lists(&one.polygons, &other.polygons))
+}
+
+/// A choice and the records by which it's compared.
+#[derive(Drop)]
+struct TiedChoice<'a> {
+    choice: &'a NumberedArrangement,
+    records: &'a TiedRecords,
+}
+
+/// Compares two choices by their records of types 8, I and P.
+fn compare_tied<C: Chart>(
+    alloc: Global,
+    chart: &C,
+    order: &ShapeOrder,
+    tables: &TieTables,
+    one: &TiedChoice<'_>,
+    other: &TiedChoice<'_>,
+) -> Result<Ordering, AllocError>
+    requires known { LeavesChoices (C.county chart.now) order.now }
+    requires tables { AreTieTables (C.county chart.now) order.now tables.now }
+    requires chosen { IsChosen order.now one.now.choice.now }
+    requires other_chosen { IsChosen order.now other.now.choice.now }
+    requires records { AreTiedRecords (C.county chart.now) order.now tables.now one.now.choice.now.chains.items one.now.records.now }
+    requires other_records { AreTiedRecords (C.county chart.now) order.now tables.now other.now.choice.now.chains.items other.now.records.now }
+    ensures { IfOk result (λ ordering. ordering ≡ types_8_to_p_cmp (arranged_by (C.county chart.now) one.now.choice.now.chains.items)
+        (arranged_by (C.county chart.now) other.now.choice.now.chains.items)) }
+{
+    let first = OrderedChoice {
+        choice: one.choice,
+        polygons: &one.records.order.polygons,
+    };
+    let second = OrderedChoice {
+        choice: other.choice,
+        polygons: &other.records.order.polygons,
+    };
+    match compare_links(alloc, chart, order, tables, &first, &second)? {
+        Ordering::Equal => Ok(compare_topologies_and_polygons(one.records, other.records)),
+        unequal => Ok(unequal),
+    }
+}
+
+/// Compares two choices by their records of types 8, I and P. Those of the second are made first.
+fn compare_with_tied<C: Chart>(
+    alloc: Global,
+    chart: &C,
+    order: &ShapeOrder,
+    tables: &TieTables,
+    one: &TiedChoice<'_>,
+    other: &NumberedArrangement,
+) -> Result<Ordering, AllocError>
+    requires known { LeavesChoices (C.county chart.now) order.now }
+    requires tables { AreTieTables (C.county chart.now) order.now tables.now }
+    requires chosen { IsChosen order.now one.now.choice.now }
+    requires other_chosen { IsChosen order.now other.now }
+    requires records { AreTiedRecords (C.county chart.now) order.now tables.now one.now.choice.now.chains.items one.now.records.now }
+    ensures { IfOk result (λ ordering. ordering ≡ types_8_to_p_cmp (arranged_by (C.county chart.now) one.now.choice.now.chains.items)
+        (arranged_by (C.county chart.now) other.now.chains.items)) }
+{
+    let others = tied_records(alloc, chart, order, tables, other)?;
+    let second = TiedChoice {
+        choice: other,
+        records: &others,
+    };
+    compare_tied(alloc, chart, order, tables, one, &second)
+}
+
+/// Compares two choices by their records of types 8, I and P. Those of both are made first.
+fn compare_by_numbers<C: Chart>(
+    alloc: Global,
+    chart: &C,
+    order: &ShapeOrder,
+    tables: &TieTables,
+    one: &NumberedArrangement,
+    other: &NumberedArrangement,
+) -> Result<Ordering, AllocError>
+    requires known { LeavesChoices (C.county chart.now) order.now }
+    requires tables { AreTieTables (C.county chart.now) order.now tables.now }
+    requires one { IsChosen order.now one.now }
+    requires other { IsChosen order.now other.now }
+    ensures { IfOk result (λ ordering. ordering ≡ types_8_to_p_cmp (arranged_by (C.county chart.now) one.now.chains.items)
+        (arranged_by (C.county chart.now) other.now.chains.items)) }
+{
+    let records = tied_records(alloc, chart, order, tables, one)?;
+    let first = TiedChoice {
+        choice: one,
+        records: &records,
+    };
+    compare_with_tied(alloc, chart, order, tables, &first, other)
 }
 
 /// Compares the texts of two choices with the same records of type 1, or returns `None` if that takes arranging them: if their chains
-/// have other further names, place by place, or some landmark has an open polygon and the open polygons have other numbers.
+/// have other further names, place by place.
 pub(crate) fn compare_ties<C: Chart>(
     alloc: Global,
     chart: &C,
@@ -84,7 +169,7 @@ pub(crate) fn compare_ties<C: Chart>(
     requires other { IsChosen order.now other.now }
     requires tied { ones_cmp (C.county chart.now) one.now.number other.now.number ≡ Equal }
     ensures ordering { IfOk result (λ found. IfSome found (λ ordering. ordering ≡ choices_cmp (C.county chart.now) one.now.number other.now.number)) }
-    ensures known { IfOk result (λ found. Decides (is_some found) (AreComparable (C.county chart.now) order.now tables.now one.now.chains.items other.now.chains.items)) }
+    ensures known { IfOk result (λ found. Decides (is_some found) (parts_along feats_of (C.county chart.now) one.now.chains.items ≡ parts_along feats_of (C.county chart.now) other.now.chains.items)) }
 {
     let places = order.open_places();
     if !have_same_open_parts(&FurtherNames, chart, places, &one.chains, &other.chains) {
@@ -94,7 +179,6 @@ pub(crate) fn compare_ties<C: Chart>(
         Ordering::Equal => {}
         unequal => return Ok(Some(unequal)),
     }
-    let records = tied_records(alloc, chart, order, tables, one)?;
-    let others = tied_records(alloc, chart, order, tables, other)?;
-    Ok(compare_tied(tables.linked, &records, &others))
+    let ordering = compare_by_numbers(alloc, chart, order, tables, one, other)?;
+    Ok(Some(ordering))
 }

@@ -9,7 +9,8 @@ use Rattle.tl_number.proofs.Common.{renumbered_polygon, side_of, under_cenid}
 use Rattle.tl_number.specs.MovedChains.{HaveSamePartsBelow}
 use Rattle.tl_number.proofs.Arrangements.Carrying.{chains_arranged, names_arranged, names_renamed, nodes_renamed}
 use Rattle.tl_number.proofs.Choices.FixedPlaces.{decides_equal}
-use Rattle.tl_number.proofs.Texts.SamePolygons.{LinksAgree, links_agree, new_polygons_same, same_landmarks, same_links, same_polygons}
+use Rattle.tl_number.proofs.Landmarks.BodiesFirst.{same_landmarks}
+use Rattle.tl_number.proofs.Texts.SamePolygons.{LinksAgree, links_agree, new_polygons_same, same_links, same_polygons}
 use Rattle.tl_number.proofs.Unique.SameNumbers.{kept_entry}
 use Rattle.tl_number.proofs.Views.ArrangedTables.{same_somes}
 use Rattle.tl_number.proofs.Views.ViewChains.{arranges, bodies_read, chains}
@@ -86,7 +87,7 @@ module _ (county : County) (is : IsCounty county) (one other : Arrangement) (arr
         ∙ (λ j. map (λ (e : ℕ × Body5). (image nat_cmp (names_same j) e.0, e.1)) (names_ordered j))
         ∙ sym (names_arranged county other is arranges_other)) i;
     polygons = same_polygons county is one other arranges_one arranges_other keys_same i;
-    landmarks = same_landmarks county is one other arranges_one arranges_other links_same i;
+    landmarks = same_landmarks county is one other arranges_one arranges_other i;
     links = same_links county is one other arranges_one arranges_other links_same i;
   }
 

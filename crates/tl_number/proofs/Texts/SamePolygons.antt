@@ -1,9 +1,9 @@
--- Two arrangements of a county that number its polygons alike have the same polygons, landmarks and links.
+-- Two arrangements of a county that number its polygons alike have the same polygons and links.
 use Rattle.tl_number.proofs.Common.{◌≡◌, ◌∙◌, ℕ, List, map, Option, sym, ap, nat_cmp, AllByRecursion, Arrangement, Arranges, Body7, BodyP, County}
 use Rattle.tl_number.proofs.Common.{Fields8, IsCounty, PolygonKey, Renumbering, all_everywhere, arranged, image, in_order, key_cmp, landmark_key}
 use Rattle.tl_number.proofs.Common.{landmark_key_cmp, landmarks_in_order, link_cmp, link_key, map_agree_all, new_keys, numbered, on, relinked}
 use Rattle.tl_number.proofs.Common.{renaming_of}
-use Rattle.tl_number.proofs.Arrangements.Carrying.{lands_renamed, landmarks_arranged, links_arranged, polygons_arranged, polygons_renamed}
+use Rattle.tl_number.proofs.Arrangements.Carrying.{lands_renamed, links_arranged, polygons_arranged, polygons_renamed}
 
 module _ (county : County) (is : IsCounty county) (one other : Arrangement) (arranges_one : Arranges one county)
     (arranges_other : Arranges other county) where
@@ -30,11 +30,6 @@ module _ (county : County) (is : IsCounty county) (one other : Arrangement) (arr
     lands_same : r.lands ≡ s.lands
     lands_same = lands_renamed county one is arranges_one ∙ ap (λ (es : List (ℕ × List Body7)). numbered (map (λ e. e.0) es)) landmarks_ordered
         ∙ sym (lands_renamed county other is arranges_other)
-
-    pub same_landmarks : (arranged county one).landmarks ≡ (arranged county other).landmarks
-    same_landmarks = landmarks_arranged county one is arranges_one
-        ∙ (λ j. map (λ (e : ℕ × List Body7). (image nat_cmp (lands_same j) e.0, e.1)) (landmarks_ordered j))
-        ∙ sym (landmarks_arranged county other is arranges_other)
 
     -- a link with other numbers
     abbrev under : List (PolygonKey × PolygonKey) → List (ℕ × ℕ) → Fields8 → Fields8

@@ -9,7 +9,7 @@ use Rattle.tl_number.proofs.landmark_links.push_links.Goals as goal
 pub returns : goal.returns
 returns g c =
     let own = links_at (g.C.Chart.county c.args.chart.now) c.args.place in
-    let renumbered = link_under c.args.order.now.polygons.now c.args.order.now.lands.now in
+    let renumbered = link_under (g.P.PolygonNumbers.in_order c.args.order.now.polygons.now) c.args.order.now.lands.now in
     let pushed = items_from_extend c.extend.result c.extend.ensures.ran
     (YieldsList-from_map _ renumbered
     (YieldsList-at c.map.ensures.source

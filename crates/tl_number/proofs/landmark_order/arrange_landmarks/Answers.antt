@@ -13,7 +13,7 @@ links_by_land-requires-clause-few_places g c =
 pub links_by_land-requires-clause-once : goal.links_by_land-requires-clause-once
 links_by_land-requires-clause-once g c =
     let county = g.C.Chart.county c.args.chart.now in
-    let ps = c.args.polygons.now in
+    let ps = g.P.PolygonNumbers.in_order c.args.polygons.now in
     subst (λ places. has_repeat nat_cmp (lands_at county places) ≡ false) (sym c.deref.ensures.value)
     (lands_once county c.args.arrangement.now (g.met.C.Chart.is_county c.args.chart.now) c.requires.whole ps c.requires.polygons
     (numbered_links county ps (lands county)) refl c.in_ok-places.places.items c.in_ok-places.ensures.permutation
@@ -24,7 +24,7 @@ returns g c =
     let county = g.C.Chart.county c.args.chart.now in
     let is = g.met.C.Chart.is_county c.args.chart.now in
     let arrangement = c.args.arrangement.now in
-    let ps = c.args.polygons.now in
+    let ps = g.P.PolygonNumbers.in_order c.args.polygons.now in
     let old = numbered_links county ps (lands county) in
     let places = c.in_ok-places.places.items in
     let permuted = c.in_ok-places.ensures.permutation in

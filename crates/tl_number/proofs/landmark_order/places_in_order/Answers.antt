@@ -47,8 +47,8 @@ are_listed county polygons places links bounds all numbered bounded =
     }
 
 listed : (g : Over) (c : After-as_slice-2 g)
-    → AreListed (g.C.Chart.county c.args.chart.now) c.args.polygons.now c.as_slice.result.now c.as_slice-2.result.now
-listed g c = are_listed (g.C.Chart.county c.args.chart.now) c.args.polygons.now c.deref.result.now c.as_slice.result.now c.as_slice-2.result.now
+    → AreListed (g.C.Chart.county c.args.chart.now) (g.P.PolygonNumbers.in_order c.args.polygons.now) c.as_slice.result.now c.as_slice-2.result.now
+listed g c = are_listed (g.C.Chart.county c.args.chart.now) (g.P.PolygonNumbers.in_order c.args.polygons.now) c.deref.result.now c.as_slice.result.now c.as_slice-2.result.now
     (c.deref.ensures.value ∙ c.in_ok-unordered.ensures) (c.as_slice.ensures.value ∙ c.in_ok-links.ensures.links)
     (c.as_slice-2.ensures.value ∙ c.in_ok-links.ensures.bounds
     ∙ ap (λ ls. link_bounds ls (length c.deref.result.now)) (sym c.as_slice.ensures.value))
@@ -58,7 +58,7 @@ invariant_of-lists g c =
     let county = g.C.Chart.county c.args.chart.now in
     let h = listed g (goal.at.invariant_of-lists g c).After-as_slice-2 in
     record {
-      in_order = subst (IsInOrder (on eight_land nat_cmp)) (sym h.numbered) (numbered_by_land county c.args.polygons.now (lands county));
+      in_order = subst (IsInOrder (on eight_land nat_cmp)) (sym h.numbered) (numbered_by_land county (g.P.PolygonNumbers.in_order c.args.polygons.now) (lands county));
       some = omega (arith, h.long);
       bounded = h.bounded;
     }
@@ -70,6 +70,6 @@ returns-clause-in_order g c =
     let bounds = c.as_slice-2.result.now in
     let h = listed g (goal.at.returns-clause-in_order g c).After-as_slice-2 in
     IfOk-weaker c.sort_places.result (λ places. IsInOrder (landmark_place_cmp county links (length bounds - 1)) places.items)
-    (λ places. IsInOrder (place_cmp_under county c.args.polygons.now) places.items)
+    (λ places. IsInOrder (place_cmp_under county (g.P.PolygonNumbers.in_order c.args.polygons.now)) places.items)
     (λ places ordered. subst (λ ls. IsInOrder (landmark_place_cmp county ls (length county.landmarks)) places.items) h.numbered
     (subst (λ n. IsInOrder (landmark_place_cmp county links n) places.items) h.counted ordered)) c.sort_places.ensures.in_order

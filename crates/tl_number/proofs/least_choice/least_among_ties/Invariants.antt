@@ -1,6 +1,6 @@
 -- The least choice so far is arranged if that was needed, and it is the least below the number where the search goes on.
 use Rattle.tl_number.proofs.Common.{◌≡◌, ◌-◌, Equal, IfSome, IsChosen, IsLeastBelow, IsNotAfter, ShowsChoice, choice_list, choices, ones_cmp}
-use Rattle.tl_number.proofs.least_choice.least_of_ties.Given as goal
+use Rattle.tl_number.proofs.least_choice.least_among_ties.Given as goal
 
 abbrev pub invariant-loop-alloc : goal.invariant-loop-alloc
 invariant-loop-alloc g l = record {
