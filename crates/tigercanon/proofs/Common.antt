@@ -9,7 +9,7 @@ pub use Rattle.std.proofs.lemmas.Result.{IfOk-weaker, err_from_is_err_and}
 pub use Rattle.std.specs.Io.KnownBytes.{Consumes, IsAtEnd}
 pub use Rattle.std.specs.Prelude.{All, IfSome, MatchResult, OnOk, if◌then◌else◌, is_ok}
 pub use Rattle.tigercanon.specs.Comparing.{AreDifferentThrough, AreOneMapThrough, IsAcceptable, ReportsRefusalOfOneRead}
-pub use Rattle.tigercanon.specs.Devices.{IsRefusalOfRead, StopsReading, set_of_sources, to_sink}
+pub use Rattle.tigercanon.specs.Devices.{StopsReading, set_of_sources, to_sink}
 pub use Rattle.tigercanon.specs.Faults.{IsOfNoLines, IsWantOfMemory, ReportsRefusal, ReportsRefusalOfRead}
 pub use Rattle.tigercanon.specs.Files.{bytes_of}
 pub use Rattle.tigercanon.specs.Findings.{IsFound}

@@ -1,13 +1,19 @@
 -- The bytes read from sources over files are in the files.
 use Rattle.tigercanon.proofs.Common.{◌≡◌, ◌<◌, ◌⊎◌, ℕ, List, [], ◌∷◌, ◌++◌, map, Option, Some, None, inl, inr, refl, sym, ap}
 use Rattle.tigercanon.proofs.Common.{arith, subst, All, IfSome, MAX, Consumes, LoadFault, Fault, Load, Opened, bytes_of}
-use Rattle.tigercanon.proofs.Common.{IsRefusalOfRead, set_of_sources, AreRead, AreReadUpTo, record_limit, IsFirstFault, set_of_files}
-use Rattle.tigercanon.proofs.Common.{empty_fault, tiger}
+use Rattle.tigercanon.proofs.Common.{Job, set_of_sources, AreRead, AreReadUpTo, record_limit, IsFirstFault, set_of_files}
+use Rattle.tigercanon.proofs.Common.{empty_fault, tiger, Bool, Compare, GivenSet, Memory, ReportsFor, ReportsSet, Respell, if◌then◌else◌}
 use Rattle.std.proofs.lemmas.List.Elements.{All-cons}
 use Rattle.std.specs.Prelude.{slice_index_or}
+use Rattle.command_line.specs.declared.plans.Job.TheVariants.{Check, Fingerprint, Normalise}
+use Rattle.std.specs.Prelude.{false, true}
+use Rattle.tl_load.specs.declared.fault.LoadFault.TheVariants.{Device}
+use Rattle.tigercanon.specs.Devices.{IsRefusalBy}
 use Rattle.tigercanon.specs.Files.{AreHeld, AreSourcesOf}
+use Rattle.tigercanon.specs.Normalising.{AreRefusedParts}
 use Rattle.tigercanon.specs.Reading.{IsFaultOfRead}
-use Rattle.tigercanon.specs.Running.{AreRefused}
+use Rattle.tigercanon.specs.Running.{AreRefused, NamesMissing}
+use Rattle.tigercanon.specs.Stopping.{set_of_job}
 use Rattle.tigercanon.proofs.FileParts.{taken_all}
 use Rattle.tigercanon.proofs.GivenSets.{IsKnownOf}
 
@@ -52,6 +58,44 @@ with_left None left taken c = ([], tt)
 with_left (Some all) None taken c = absurd c
 with_left (Some all) (Some rest) taken c = (rest, sym c)
 
+module _ {R : Type 0} (remaining : R → Option (List ℕ)) where
+  -- some parts that the files contain
+  some_parts : (files : List (Opened R)) → (parts : List (List ℕ)) × AreHeld remaining files parts
+  some_parts [] = ([], tt)
+  some_parts (f ∷ fs) = let rest = some_parts fs in (
+    known_or_none (bytes_of remaining f) ∷ rest.0,
+    (is_known (bytes_of remaining f), rest.1),
+  )
+
+  -- ---- a job whose files couldn't be opened, or not kept open
+
+  abbrev file_set : List (Opened R) → GivenSet
+  file_set = set_of_files remaining
+
+  pub missing_reported : (first second : List (Opened R)) (job : Job) (fault : Fault) (set : Option ℕ) → fault ≡ Load Device
+      → NamesMissing job first second set → ReportsFor job (file_set first) (file_set second) fault set
+  missing_reported first second job fault set e names = subst (λ f. ReportsFor job (file_set first) (file_set second) f set) (sym e) (go job names)
+    where
+      unread : (files : List (Opened R)) → ReportsSet (file_set files) (Load Device)
+      unread files = ((λ of. absurd of), (λ is. tt))
+
+      go : (j : Job) → NamesMissing j first second set → ReportsFor j (file_set first) (file_set second) (Load Device) set
+      go Compare (inl n) = inl (n.0, unread first)
+      go Compare (inr n) = inr (n.0, some_parts first, inr tt, unread second)
+      go Respell n = (n.0, (unread first, tt))
+      go Normalise n = (n.0, (unread first, tt))
+      go Check n = (n.0, (unread first, tt))
+      go Fingerprint n = (n.0, (unread first, tt))
+
+  pub memory_reported : (first second : List (Opened R)) (job : Job) (is_first_open : Bool)
+      → ReportsFor job (file_set first) (file_set second) Memory (set_of_job job (if is_first_open then 2 else 1))
+  memory_reported first second Compare true = inr (refl, some_parts first, inr tt, tt)
+  memory_reported first second Compare false = inl (refl, tt)
+  memory_reported first second Respell opened = (refl, (tt, tt))
+  memory_reported first second Normalise opened = (refl, (tt, tt))
+  memory_reported first second Check opened = (refl, (tt, tt))
+  memory_reported first second Fingerprint opened = (refl, (tt, tt))
+
 module _ {S R : Type 0} (left : S → Option (List ℕ)) (given : S → ℕ) (remaining : R → Option (List ℕ)) where
   -- parts that were read to their ends
   pub read_held : (files : List (Opened R)) (before after : List S) (parts : List (List ℕ)) → AreSourcesOf left before remaining files
@@ -65,14 +109,6 @@ module _ {S R : Type 0} (left : S → Option (List ℕ)) (given : S → ℕ) (re
   read_held (f ∷ fs) [] after parts s r = absurd cc
   read_held files before after parts s r = absurd r
 
-  -- some parts that the files contain
-  some_parts : (files : List (Opened R)) → (parts : List (List ℕ)) × AreHeld remaining files parts
-  some_parts [] = ([], tt)
-  some_parts (f ∷ fs) = let rest = some_parts fs in (
-    known_or_none (bytes_of remaining f) ∷ rest.0,
-    (is_known (bytes_of remaining f), rest.1),
-  )
-
   -- parts that continue the bytes that were read
   going_on : (files : List (Opened R)) (before after : List S) (closed : List (List ℕ)) (bytes : List ℕ)
       → AreSourcesOf left before remaining files → AreReadUpTo left given before after closed bytes
@@ -80,7 +116,7 @@ module _ {S R : Type 0} (left : S → Option (List ℕ)) (given : S → ℕ) (re
       ⊎ ((bytes ≡ []) × AreHeld remaining files closed)
   going_on [] [] [] [] bytes s r = inr (r, tt)
   going_on (f ∷ fs) (b ∷ bs) (n ∷ ns) [] bytes s r =
-      let rest = some_parts fs in
+      let rest = some_parts remaining fs in
       let m = with_left (left b) (left n) bytes r.0.bytes in
       inl (m.0, rest.0, (subst (λ known. IfSome known (λ all. bytes ++ m.0 ≡ all)) (first_same _ _ _ _ s) m.1, rest.1))
   going_on (f ∷ fs) (b ∷ bs) (n ∷ ns) (p ∷ ps) bytes s r = behind (going_on fs bs ns ps bytes (rest_same _ _ _ _ s) r.2)
@@ -100,8 +136,9 @@ module _ {S R : Type 0} (left : S → Option (List ℕ)) (given : S → ℕ) (re
 
   module _ (files : List (Opened R)) (before after : List S) (sources : AreSourcesOf left before remaining files) where
     -- the files are refused for a fault in the bytes that were read
-    read_refused : (fault : LoadFault) → IsFaultOfRead left given before after fault → AreRefused remaining files (Load fault)
-    read_refused fault h = go (going_on files before after h.0 h.1 sources h.2)
+    read_refused : (reads : S → ℕ) (fault : LoadFault) → IsFaultOfRead left given reads before after fault
+        → AreRefused remaining files (Load fault)
+    read_refused reads fault h = go (going_on files before after h.0 h.1 sources h.2)
       where
         go : ((more : List ℕ) × (later : List (List ℕ)) × AreHeld remaining files (h.0 ++ (h.1 ++ more) ∷ later))
             ⊎ ((h.1 ≡ []) × AreHeld remaining files h.0)
@@ -114,19 +151,24 @@ module _ {S R : Type 0} (left : S → Option (List ℕ)) (given : S → ℕ) (re
               (subst (λ (bytes : List ℕ). IsFirstFault (h.0 ++ (bytes ++ []) ∷ []) fault) k.0 (h.3 [] []));
         }
 
-    refused_files : (fault : Fault) → IsRefusalOfRead left given before after fault → AreRefused remaining files fault
-    refused_files fault (inl r) = record {
+    refused_parts : (fault : Fault) → AreRefusedParts left given before after fault → AreRefused remaining files fault
+    refused_parts fault r = record {
       parts = r.parts;
       held = read_held files before after r.parts sources r.read;
       refused = r.refused;
     }
-    refused_files fault (inr h) = subst (AreRefused remaining files) (sym h.1) (read_refused h.0 h.2)
+
+    refused_files : (job : Job) (reads : S → ℕ) (fault : Fault) → IsRefusalBy job left given reads before after fault
+        → AreRefused remaining files fault
+    refused_files Normalise reads fault (inl r) = refused_parts fault r
+    refused_files Normalise reads fault (inr h) = subst (AreRefused remaining files) (sym h.1) (read_refused reads h.0 h.2)
+    refused_files job reads fault r = refused_parts fault r
 
     -- facts about the sources hold for the files
-    pub known_of_files : (failed reads : S → ℕ)
-        → IsKnownOf (set_of_sources left given failed reads before after) (set_of_files remaining files)
-    known_of_files failed reads = record {
+    pub known_of_files : (job : Job) (failed reads : S → ℕ)
+        → IsKnownOf (set_of_sources job left given failed reads before after) (set_of_files remaining files)
+    known_of_files job failed reads = record {
       holds = λ parts r. read_held files before after parts sources r;
-      refused = refused_files;
+      refused = refused_files job reads;
       unread = λ _. tt;
     }

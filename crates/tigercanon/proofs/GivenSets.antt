@@ -42,7 +42,7 @@ module _ (a b c d : GivenSet) (first : IsKnownOf a b) (second : IsKnownOf c d) w
 
   reported_of : (job : Job) (fault : Fault) (set : Option ℕ) → ReportsFor job a c fault set → ReportsFor job b d fault set
   reported_of Compare fault set (inl t) = inl (t.0, set_reported a b first fault t.1)
-  reported_of Compare fault set (inr t) = inr (t.0, go t.1, set_reported c d second fault t.2)
+  reported_of Compare fault set (inr t) = inr (t.0, (t.1.0, first.holds t.1.0 t.1.1), go t.2, set_reported c d second fault t.3)
     where
       go : HoldsAccepted a ⊎ IsOfNoLines fault → HoldsAccepted b ⊎ IsOfNoLines fault
       go (inl h) = inl (record { parts = h.parts; held = first.holds h.parts h.held; records = h.records; accepted = h.accepted })

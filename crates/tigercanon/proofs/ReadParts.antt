@@ -3,6 +3,8 @@ use Rattle.tigercanon.proofs.Common.{◌≡◌, ℕ, suc, ◌+◌, ◌<◌, ◌%
 use Rattle.tigercanon.proofs.Common.{inr, refl, sym, ap, ◌∙◌, subst, arith, Consumes, IsAtEnd, Record, LoadedInto, WasFedInto, Gave}
 use Rattle.tigercanon.proofs.Common.{AreRead, AreReadUpTo, IsUnread, NoneFailed, OneFailed, SomeUnread, record_limit}
 use Rattle.std.proofs.Common.{zero, add-zero}
+use Rattle.tl_load.specs.Sources.{RoseBy}
+use Rattle.tigercanon.specs.Reading.{AreReadButOnce}
 use Rattle.std.proofs.Math.ListN.{set}
 use Rattle.std.proofs.Math.Seq.{map-set_same}
 
@@ -77,7 +79,7 @@ module _ {R : Type 0} (remaining : R → Option (List ℕ)) (given : R → ℕ) 
     pub untouched_at : get_or ns i d ≡ get_or bs i d
     untouched_at = subst (λ (k : ℕ). get_or ns k d ≡ get_or bs k d) e (next_untouched bs ns parts d g)
 
-    gave_there : (bytes : List ℕ) → Gave remaining given (get_or ns i d) x bytes → Gave remaining given (get_or bs (length parts) d) x bytes
+    pub gave_there : (bytes : List ℕ) → Gave remaining given (get_or ns i d) x bytes → Gave remaining given (get_or bs (length parts) d) x bytes
     gave_there bytes gave =
         subst (λ (k : ℕ). Gave remaining given (get_or bs k d) x bytes) (sym e)
         (subst (λ (s : R). Gave remaining given s x bytes) untouched_at gave)
@@ -93,6 +95,25 @@ module _ {R : Type 0} (remaining : R → Option (List ℕ)) (given : R → ℕ) 
     up_to_at bytes gave =
         subst (λ (k : ℕ). AreReadUpTo remaining given bs (set ns k x) parts bytes) e
         (up_to_next bs ns parts d x bytes g (omega arith) (gave_there bytes gave))
+
+-- reading stopped at a read of the next source, before which that source gave these bytes
+module _ {R : Type 0} (remaining : R → Option (List ℕ)) (given reads : R → ℕ) where
+  but_once : (bs ns : List R) (parts : List (List ℕ)) (d x last : R) (bytes : List ℕ) → GaveParts remaining given bs ns parts
+      → length parts < length bs → Gave remaining given (get_or bs (length parts) d) last bytes → RoseBy 1 (reads last) (reads x)
+      → AreReadButOnce remaining given reads bs (set ns (length parts) x) parts bytes
+  but_once [] ns [] d x last bytes g l gave one = absurd (omega arith)
+  but_once (b ∷ bs) ns [] d x last bytes g l gave one =
+      subst (λ (rs : List R). AreReadButOnce remaining given reads (b ∷ bs) (set rs 0 x) [] bytes) (sym g) (last, gave, one, refl)
+  but_once (b ∷ bs) (n ∷ ns) (p ∷ parts) d x last bytes g l gave one =
+      (g.0, g.1, but_once bs ns parts d x last bytes g.2 (omega arith) gave one)
+  but_once bs ns parts d x last bytes g l gave one = absurd g
+
+  pub but_once_at : (bs ns : List R) (parts : List (List ℕ)) (i : ℕ) (d x last : R) (bytes : List ℕ) → GaveParts remaining given bs ns parts
+      → length parts ≡ i → i < length bs → Gave remaining given (get_or ns i d) last bytes → RoseBy 1 (reads last) (reads x)
+      → AreReadButOnce remaining given reads bs (set ns i x) parts bytes
+  but_once_at bs ns parts i d x last bytes g e l gave one =
+      subst (λ (k : ℕ). AreReadButOnce remaining given reads bs (set ns k x) parts bytes) e
+      (but_once bs ns parts d x last bytes g (omega arith) (gave_there remaining given bs ns parts i d last g e l bytes gave) one)
 
 -- ---- failures
 

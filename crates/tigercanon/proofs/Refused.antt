@@ -50,7 +50,7 @@ module _ (first second : GivenSet) where
   reported_refused : (job : Job) (fault : Fault) (set : Option ℕ) → ReportsFor job first second fault set → status_of fault ≡ 3
       → RefusesOne job first second
   reported_refused Compare fault set (inl reported) s = (fault, inl (set_refused first fault reported.1 s))
-  reported_refused Compare fault set (inr reported) s = (fault, inr (go reported.1, set_refused second fault reported.2 s))
+  reported_refused Compare fault set (inr reported) s = (fault, inr (go reported.2, set_refused second fault reported.3 s))
     where
       go : HoldsAccepted first ⊎ IsOfNoLines fault → HoldsAccepted first
       go (inl accepted) = accepted

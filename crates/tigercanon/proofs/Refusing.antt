@@ -32,10 +32,10 @@ not_stopped records (Write f) h = absurd h
 not_stopped records Memory h = refl
 
 -- the fault of the records of parts that were read is reported for what was read
-module _ {R : Type 0} (remaining : R → Option (List ℕ)) (given : R → ℕ) (before after : List R) (parts : List (List ℕ))
+module _ {R : Type 0} (remaining : R → Option (List ℕ)) (given reads : R → ℕ) (before after : List R) (parts : List (List ℕ))
     (read : AreRead remaining given before after parts)
     (records : List Record) (spelled : SpellsWithin tiger record_limit parts records) where
-  pub read_refused : (f : Fault) → RefusesRecords records f → ReportsRead remaining given before after f
+  pub read_refused : (f : Fault) → RefusesRecords records f → ReportsRead remaining given reads before after f
   read_refused (Load f) h = absurd h
   read_refused (Link f) h = λ ne. record { parts = parts; read = read; refused = (records, spelled, h ne) }
   read_refused (Profile f) h = λ ne. record { parts = parts; read = read; refused = (records, spelled, (h ne).0, (h ne).1) }

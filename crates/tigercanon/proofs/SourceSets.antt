@@ -1,13 +1,13 @@
 -- What a job over sources and a sink did.
 use Rattle.tigercanon.proofs.Common.{◌≡◌, ◌+◌, inl, inr, ℕ, List, ◌∷◌, Option, None, Result, Ok, Err, refl, sym, ap, subst, WriteFault}
 use Rattle.tigercanon.proofs.Common.{Device, masked, Mask, Job, Compare, Respell, Fault, Load, Link, Profile, Write, Memory, Ending}
-use Rattle.tigercanon.proofs.Common.{Done, Stopped, IsRefusalOfRead, StopsReading, set_of_sources, to_sink, IsOfNoLines}
+use Rattle.tigercanon.proofs.Common.{Done, Stopped, StopsReading, set_of_sources, to_sink, IsOfNoLines}
 use Rattle.tigercanon.proofs.Common.{ReportsRefusalOfRead, ReportsRead, GivenOutput, GivenSet, ReportsSet, AreRead, OneFailed}
 use Rattle.tigercanon.proofs.Common.{SomeUnread, IsSetRefusal, Does, IsTextOf, LeavesStopped, ReportsFor}
 use Rattle.std.specs.Prelude.{true, false}
 use Rattle.command_line.specs.declared.plans.Job.TheVariants.{Normalise}
 use Rattle.tigercanon.specs.Devices.{PrintsTo}
-use Rattle.tigercanon.specs.Normalising.{IsCutOffThrough, is_of_sink}
+use Rattle.tigercanon.specs.Normalising.{AreRefusedParts, IsCutOffThrough, is_of_sink}
 use Rattle.tigercanon.specs.Outcomes.{Reports}
 
 -- a source that failed couldn't be read
@@ -40,8 +40,8 @@ module _ (known : GivenSet) where
 -- the set is refused for the fault of parts that were read to their ends
 pub refused_of_read : {R : Type 0} (remaining : R → Option (List ℕ)) (given : R → ℕ) (before after : List R) (parts : List (List ℕ))
     → AreRead remaining given before after parts → (fault : Fault) → IsSetRefusal parts fault
-    → IsRefusalOfRead remaining given before after fault
-refused_of_read remaining given before after parts read fault r = inl (record { parts = parts; read = read; refused = r })
+    → AreRefusedParts remaining given before after fault
+refused_of_read remaining given before after parts read fault r = record { parts = parts; read = read; refused = r }
 
 -- ---- the end of a job
 
@@ -50,7 +50,7 @@ module _ (mask : Mask) (first second : GivenSet) where
   pub left_untouched : (out : GivenOutput) → out.kept → (job : Job) (fault : Fault) (set : Option ℕ) → ReportsFor job first second fault set
       → LeavesStopped mask job first second out fault set
   left_untouched out kept Compare (Write f) set (inl reported) = absurd reported.1
-  left_untouched out kept Compare (Write f) set (inr reported) = absurd reported.2
+  left_untouched out kept Compare (Write f) set (inr reported) = absurd reported.3
   left_untouched out kept job (Write f) set reported = absurd reported.1.0
   left_untouched out kept job fault set reported = (kept, reported)
 
@@ -69,9 +69,9 @@ module _ (mask : Mask) (first second : GivenSet) where
 
 module _ {R : Type 0} (remaining : R → Option (List ℕ)) (given failed reads : R → ℕ) (before after : List R) where
   -- the report if reading stopped at a fault
-  reported_of_read : (fault : Fault) → is_of_sink fault ≡ false → ReportsRead remaining given before after fault
+  reported_of_read : (fault : Fault) → is_of_sink fault ≡ false → ReportsRead remaining given reads before after fault
       → (fault ≡ Load Device → OneFailed failed before after)
-      → ReportsSet (set_of_sources remaining given failed reads before after) fault
+      → ReportsSet (set_of_sources Normalise remaining given failed reads before after) fault
   reported_of_read (Load f) e t device =
       ((λ of. inr (f, refl, t of)), (λ is. unread_of_failed failed reads before after (device (ap Load is))))
   reported_of_read (Link f) e t device = λ ne. inl (t ne)
@@ -83,9 +83,9 @@ module _ {R : Type 0} (remaining : R → Option (List ℕ)) (given failed reads 
   pub normalised_leave : {W : Type 0} (sink_failed : W → ℕ) (holds : W → List ℕ → Type 0) (old new : W) (mask : Mask) (fault : Fault)
       → ((f : WriteFault) → fault ≡ Write f → IsCutOffThrough (masked mask) remaining given before after holds old new f.written)
       → (is_of_sink fault ≡ true → sink_failed new ≡ sink_failed old + 1)
-      → ReportsRead remaining given before after fault → (is_of_sink fault ≡ false → new ≡ old)
+      → ReportsRead remaining given reads before after fault → (is_of_sink fault ≡ false → new ≡ old)
       → (fault ≡ Load Device → OneFailed failed before after) → (second : GivenSet)
-      → LeavesStopped mask Normalise (set_of_sources remaining given failed reads before after) second (to_sink sink_failed holds old new)
+      → LeavesStopped mask Normalise (set_of_sources Normalise remaining given failed reads before after) second (to_sink sink_failed holds old new)
       fault None
   normalised_leave sink_failed holds old new mask (Write f) cut rose reported same device second =
       let c = cut f refl in (

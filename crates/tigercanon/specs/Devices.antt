@@ -1,5 +1,7 @@
 -- What the program's jobs do with sources and a sink that count their failures.
 use Rattle.std.specs.Prelude.{ℕ, ◌≡◌, ◌≢◌, ◌+◌, List, Option, None, Result, Ok, Err, IfErr, ◌⊎◌}
+use Rattle.command_line.specs.declared.plans.Job.{Job}
+use Rattle.command_line.specs.declared.plans.Job.TheVariants.{Normalise}
 use Rattle.tigercanon.specs.declared.program.ending.Ending.{Ending}
 use Rattle.tigercanon.specs.declared.program.ending.Stopped.{Stopped}
 use Rattle.tl_load.specs.declared.fault.LoadFault.{LoadFault}
@@ -12,16 +14,22 @@ use Rattle.tigercanon.specs.Outcomes.{GivenOutput, GivenSet}
 use Rattle.tigercanon.specs.Reading.{AreRead, IsFaultOfRead, SomeUnread}
 
 -- the sources were read to their ends, and the parts that they gave are refused for this fault; or it is a fault in the lines of
--- every set that begins with what was read
-abbrev pub IsRefusalOfRead : {R : Type 0} → (R → Option (List ℕ)) → (R → ℕ) → List R → List R → Fault → Type 0
-IsRefusalOfRead remaining given before after fault = AreRefusedParts remaining given before after fault
-    ⊎ ((of_lines : LoadFault) × (fault ≡ Load of_lines) × IsFaultOfRead remaining given before after of_lines)
+-- every set that begins with what was read, and the read that brought it was the last
+abbrev pub IsRefusalOfRead : {R : Type 0} → (R → Option (List ℕ)) → (R → ℕ) → (R → ℕ) → List R → List R → Fault → Type 0
+IsRefusalOfRead remaining given reads before after fault = AreRefusedParts remaining given before after fault
+    ⊎ ((of_lines : LoadFault) × (fault ≡ Load of_lines) × IsFaultOfRead remaining given reads before after of_lines)
 
--- a set of parts that sources give, as reading left it: it counts as unread only if one of the sources failed, or has no end
-abbrev pub set_of_sources : {R : Type 0} → (R → Option (List ℕ)) → (R → ℕ) → (R → ℕ) → (R → ℕ) → List R → List R → GivenSet
-set_of_sources remaining given failed reads before after = record {
+-- what a job refuses sources for: normalising reads no further than the read that brings a fault, and every other job reads all
+-- sources to their ends first
+abbrev pub IsRefusalBy : {R : Type 0} → Job → (R → Option (List ℕ)) → (R → ℕ) → (R → ℕ) → List R → List R → Fault → Type 0
+IsRefusalBy Normalise remaining given reads before after fault = IsRefusalOfRead remaining given reads before after fault
+IsRefusalBy job remaining given reads before after fault = AreRefusedParts remaining given before after fault
+
+-- a set of parts that sources give, as a job's reading left it: it counts as unread only if one of the sources failed, or has no end
+abbrev pub set_of_sources : {R : Type 0} → Job → (R → Option (List ℕ)) → (R → ℕ) → (R → ℕ) → (R → ℕ) → List R → List R → GivenSet
+set_of_sources job remaining given failed reads before after = record {
   holds = AreRead remaining given before after;
-  refused = IsRefusalOfRead remaining given before after;
+  refused = IsRefusalBy job remaining given reads before after;
   unread = SomeUnread failed reads before after;
 }
 

@@ -48,14 +48,15 @@ pub record AreRefusedParts {R : Type 0} (remaining : R → Option (List ℕ)) (g
   pub refused : IsSetRefusal parts fault
 
 -- unless it is a failed allocation or the failure of a device or a sink, the fault is what the parts are refused for: a fault in
--- the lines holds for every set that begins with what was read, and any other holds for the parts as they were read to their ends
-abbrev pub ReportsRead : {R : Type 0} → (R → Option (List ℕ)) → (R → ℕ) → List R → List R → Fault → Type 0
-ReportsRead remaining given before after (Load fault) = IsOfLines fault → IsFaultOfRead remaining given before after fault
-ReportsRead remaining given before after (Link fault) = fault ≢ LinkMemory → AreRefusedParts remaining given before after (Link fault)
-ReportsRead remaining given before after (Profile fault) =
+-- the lines holds for every set that begins with what was read, and came with the last read; any other holds for the parts as they
+-- were read to their ends
+abbrev pub ReportsRead : {R : Type 0} → (R → Option (List ℕ)) → (R → ℕ) → (R → ℕ) → List R → List R → Fault → Type 0
+ReportsRead remaining given reads before after (Load fault) = IsOfLines fault → IsFaultOfRead remaining given reads before after fault
+ReportsRead remaining given reads before after (Link fault) = fault ≢ LinkMemory → AreRefusedParts remaining given before after (Link fault)
+ReportsRead remaining given reads before after (Profile fault) =
     fault ≢ ProfileMemory → AreRefusedParts remaining given before after (Profile fault)
-ReportsRead remaining given before after (Write _) = Unit {0}
-ReportsRead remaining given before after Memory = Unit {0}
+ReportsRead remaining given reads before after (Write _) = Unit {0}
+ReportsRead remaining given reads before after Memory = Unit {0}
 
 -- a sink took these bytes, after those that it held
 abbrev pub Took : {W : Type 0} → (W → List ℕ → Type 0) → W → W → List ℕ → Type 0

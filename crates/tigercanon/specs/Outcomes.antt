@@ -70,6 +70,10 @@ pub record HoldsAccepted (set : GivenSet) : Type 0 where
   pub records : List Record
   pub accepted : IsAcceptedSet parts records
 
+-- the set was read, so that it's known what it holds
+abbrev pub IsRead : GivenSet → Type 0
+IsRead set = (parts : List (List ℕ)) × set.holds parts
+
 -- unless the fault is a failed allocation, the set is refused for it, or, if it is a device's, it couldn't be read
 abbrev pub ReportsSet : GivenSet → Fault → Type 0
 ReportsSet set (Load fault) = (IsOfLines fault → set.refused (Load fault)) × (fault ≡ Device → set.unread)

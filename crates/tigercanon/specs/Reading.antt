@@ -3,7 +3,7 @@ use Rattle.std.specs.Prelude.{◌≡◌, ℕ, ◌+◌, ◌-◌, ◌^◌, List, [
 use Rattle.std.specs.Io.KnownBytes.{IsAtEnd}
 use Rattle.tl_layout.specs.declared.record_type.Record.{Record}
 use Rattle.tl_load.specs.Keeping.{LoadedInto, WasFedInto}
-use Rattle.tl_load.specs.Loaded.{IsFaultHowever}
+use Rattle.tl_load.specs.Loaded.{IsFaultHowever, IsWellSoFar}
 use Rattle.tl_load.specs.Sources.{Gave, RoseBy}
 use Rattle.tl_load.specs.declared.fault.LoadFault.{LoadFault}
 use Rattle.tigercanon.specs.Respelling.{record_limit}
@@ -23,10 +23,24 @@ module _ {R : Type 0} (remaining : R → Option (List ℕ)) (given : R → ℕ) 
   AreReadUpTo [] [] [] bytes = bytes ≡ []
   AreReadUpTo _ _ _ _ = ⊥
 
-  -- every set that begins with what was read has this fault
+module _ {R : Type 0} (remaining : R → Option (List ℕ)) (given reads : R → ℕ) where
+  -- the first sources were read to their ends and gave these parts, the next one gave these bytes before its last read, and the
+  -- sources after it are unchanged
+  abbrev pub AreReadButOnce : List R → List R → List (List ℕ) → List ℕ → Type 0
+  AreReadButOnce (b ∷ bs) (n ∷ ns) (part ∷ parts) bytes =
+      Gave remaining given b n part × IsAtEnd (remaining n) × AreReadButOnce bs ns parts bytes
+  AreReadButOnce (b ∷ bs) (n ∷ ns) [] bytes = (last : R) × Gave remaining given b last bytes × RoseBy 1 (reads last) (reads n) × (ns ≡ bs)
+  AreReadButOnce _ _ _ _ = ⊥
+
+  -- no line was faulty before the last read
+  abbrev pub WasWellBefore : List R → List R → Type 0
+  WasWellBefore before after = (closed : List (List ℕ)) × (bytes : List ℕ) × AreReadButOnce before after closed bytes
+      × IsWellSoFar record_limit closed bytes
+
+  -- every set that begins with what was read has this fault, and the read that brought it was the last
   abbrev pub IsFaultOfRead : List R → List R → LoadFault → Type 0
-  IsFaultOfRead before after fault = (closed : List (List ℕ)) × (bytes : List ℕ) × AreReadUpTo before after closed bytes
-      × IsFaultHowever record_limit closed bytes fault
+  IsFaultOfRead before after fault = (closed : List (List ℕ)) × (bytes : List ℕ) × AreReadUpTo remaining given before after closed bytes
+      × IsFaultHowever record_limit closed bytes fault × WasWellBefore before after
 
 -- no source has failed
 abbrev pub NoneFailed : {R : Type 0} → (R → ℕ) → List R → List R → Type 0

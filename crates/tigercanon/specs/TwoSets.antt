@@ -11,8 +11,8 @@ use Rattle.tl_county.specs.MaskedCounty.{masked}
 use Rattle.tl_layout.specs.declared.mask.Mask.{Mask}
 use Rattle.tigercanon.specs.Comparing.{SaysSameThrough, SaysDifferentThrough}
 use Rattle.tigercanon.specs.Faults.{IsOfNoLines}
-use Rattle.tigercanon.specs.Outcomes.{GivenOutput, GivenSet, HoldsAccepted, IsAnswer, IsAnswered, Prints, PrintsFront, Refuses, Reports}
-use Rattle.tigercanon.specs.Outcomes.{ReportsSet}
+use Rattle.tigercanon.specs.Outcomes.{GivenOutput, GivenSet, HoldsAccepted, IsAnswer, IsAnswered, IsRead, Prints, PrintsFront, Refuses}
+use Rattle.tigercanon.specs.Outcomes.{Reports, ReportsSet}
 use Rattle.tigercanon.specs.Refusals.{fault_line}
 use Rattle.tigercanon.specs.Statuses.{status_of}
 
@@ -47,11 +47,11 @@ abbrev pub line_of_ending : Ending → List ℕ
 line_of_ending Done = codes "same" ++ 10 ∷ []
 line_of_ending Different = codes "different" ++ 10 ∷ []
 
--- the fault is the named set's; the second set's is reported only if the first set is accepted, or if it concerns no line: a failed
--- read, or no memory for reading
+-- the fault is the named set's; the second set's is reported only once the first set is read, and only if that set is accepted, or
+-- if the fault concerns no line: a failed read, or no memory for reading
 abbrev pub ReportsOne : GivenSet → GivenSet → Fault → Option ℕ → Type 0
 ReportsOne first second fault set = ((set ≡ Some 1) × ReportsSet first fault)
-    ⊎ ((set ≡ Some 2) × (HoldsAccepted first ⊎ IsOfNoLines fault) × ReportsSet second fault)
+    ⊎ ((set ≡ Some 2) × IsRead first × (HoldsAccepted first ⊎ IsOfNoLines fault) × ReportsSet second fault)
 
 -- one of the sets is refused: the first, or the second where the first is accepted
 abbrev pub IsOneRefused : GivenSet → GivenSet → Type 0

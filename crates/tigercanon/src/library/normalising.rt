@@ -126,7 +126,7 @@ fn link_sources<R: Source>(alloc: Global, parts: &mut [R]) -> Result<LinkedRecor
     requires { All (λ part. R.failed part < u64.MAX) parts.old }
     ensures linked { IfOk result (λ linked. (set : List (List ℕ)) × AreRead R.remaining R.given parts.old parts.new set
         × IsLinkedSet set linked) }
-    ensures refused { IfErr result (ReportsRead R.remaining R.given parts.old parts.new) }
+    ensures refused { IfErr result (ReportsRead R.remaining R.given R.reads parts.old parts.new) }
     ensures of_no_sink { IfErr result (λ fault. is_of_sink fault ≡ false) }
     ensures device { result ≡ Err (Fault.Load LoadFault.Device) → OneFailed R.failed parts.old parts.new }
     ensures no_device { result ≢ Err (Fault.Load LoadFault.Device) → NoneFailed R.failed parts.old parts.new }
@@ -159,7 +159,7 @@ pub fn normalise_to<R: Source, W: Sink>(
         IsCutOff R.remaining R.given parts.old parts.new W.holds out.old out.new fault.written }
     ensures failures { W.failed out.new ≡ (if is_stopped result then W.failed out.old + 1 else W.failed out.old) }
     // Or the set is refused, and nothing was written.
-    ensures refused { IfErr result (ReportsRead R.remaining R.given parts.old parts.new) }
+    ensures refused { IfErr result (ReportsRead R.remaining R.given R.reads parts.old parts.new) }
     ensures silent { IfErr result (λ fault. is_of_sink fault ≡ false → out.new ≡ out.old) }
     // The fault is `Device` if and only if one of the sources failed.
     ensures device { result ≡ Err (Fault.Load LoadFault.Device) → OneFailed R.failed parts.old parts.new }
@@ -191,7 +191,7 @@ pub fn normalise_to_masked<R: Source, W: Sink>(
         IsCutOffThrough (masked mask) R.remaining R.given parts.old parts.new W.holds out.old out.new fault.written }
     ensures failures { W.failed out.new ≡ (if is_stopped result then W.failed out.old + 1 else W.failed out.old) }
     // Or the set is refused, and nothing was written.
-    ensures refused { IfErr result (ReportsRead R.remaining R.given parts.old parts.new) }
+    ensures refused { IfErr result (ReportsRead R.remaining R.given R.reads parts.old parts.new) }
     ensures silent { IfErr result (λ fault. is_of_sink fault ≡ false → out.new ≡ out.old) }
     // The fault is `Device` if and only if one of the sources failed.
     ensures device { result ≡ Err (Fault.Load LoadFault.Device) → OneFailed R.failed parts.old parts.new }

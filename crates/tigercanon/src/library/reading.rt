@@ -51,7 +51,7 @@ pub(crate) fn load_sources<K: Collector, R: Source>(
     requires { All (λ source. R.failed source < u64.MAX) sources.old }
     ensures loaded { IfOk result (λ kept. (parts : List (List ℕ)) × AreRead R.remaining R.given sources.old sources.new parts
         × (records : List Record) × K.holds kept records × SpellsWithin tiger record_limit parts records) }
-    ensures faulty { IfErr result (λ f. IsOfLines f → IsFaultOfRead R.remaining R.given sources.old sources.new f) }
+    ensures faulty { IfErr result (λ f. IsOfLines f → IsFaultOfRead R.remaining R.given R.reads sources.old sources.new f) }
     ensures device { result ≡ Err LoadFault.Device → OneFailed R.failed sources.old sources.new }
     ensures no_device { result ≢ Err LoadFault.Device → NoneFailed R.failed sources.old sources.new }
 {

@@ -31,8 +31,8 @@ use tl_write::Sink;
 fn spelling_of<R: Source>(alloc: Global, set: &mut [R]) -> Result<CanonicalText, Fault>
     requires { All (λ part. R.failed part < u64.MAX) set.old }
     ensures respelt { IfOk result (λ text. IsAnswered IsRespelt
-        (set_of_sources R.remaining R.given R.failed R.reads set.old set.new) text.bytes.items) }
-    ensures stopped { IfErr result (Reports Job.Respell (set_of_sources R.remaining R.given R.failed R.reads set.old set.new)) }
+        (set_of_sources Job.Respell R.remaining R.given R.failed R.reads set.old set.new) text.bytes.items) }
+    ensures stopped { IfErr result (Reports Job.Respell (set_of_sources Job.Respell R.remaining R.given R.failed R.reads set.old set.new)) }
     // If the fault isn't a device's, no source has failed.
     ensures no_device { result ≢ Err (Fault.Load LoadFault.Device) → NoneFailed R.failed set.old set.new }
 {
@@ -48,7 +48,7 @@ fn respell_set<R: Source, W: Sink>(
 ) -> Result<Ending, Stopped>
     requires set { All (λ part. R.failed part < u64.MAX) set.old }
     requires out { W.failed out.old < u64.MAX }
-    ensures did { DoesAlone no_mask Job.Respell (set_of_sources R.remaining R.given R.failed R.reads set.old set.new)
+    ensures did { DoesAlone no_mask Job.Respell (set_of_sources Job.Respell R.remaining R.given R.failed R.reads set.old set.new)
         (to_sink W.failed W.holds out.old out.new) result }
     // If the fault isn't a device's, no source has failed.
     ensures no_device { ReportsNoDevice result → NoneFailed R.failed set.old set.new }
@@ -66,7 +66,7 @@ fn normalise_set<R: Source, W: Sink>(
 ) -> Result<Ending, Stopped>
     requires set { All (λ part. R.failed part < u64.MAX) set.old }
     requires out { W.failed out.old < u64.MAX }
-    ensures did { DoesAlone mask Job.Normalise (set_of_sources R.remaining R.given R.failed R.reads set.old set.new)
+    ensures did { DoesAlone mask Job.Normalise (set_of_sources Job.Normalise R.remaining R.given R.failed R.reads set.old set.new)
         (to_sink W.failed W.holds out.old out.new) result }
     // If the fault isn't a device's, no source has failed.
     ensures no_device { ReportsNoDevice result → NoneFailed R.failed set.old set.new }
@@ -83,7 +83,7 @@ fn check_set<R: Source, W: Sink>(
 ) -> Result<Ending, Stopped>
     requires set { All (λ part. R.failed part < u64.MAX) set.old }
     requires out { W.failed out.old < u64.MAX }
-    ensures did { DoesAlone no_mask Job.Check (set_of_sources R.remaining R.given R.failed R.reads set.old set.new)
+    ensures did { DoesAlone no_mask Job.Check (set_of_sources Job.Check R.remaining R.given R.failed R.reads set.old set.new)
         (to_sink W.failed W.holds out.old out.new) result }
     // If the fault isn't a device's, no source has failed.
     ensures no_device { ReportsNoDevice result → NoneFailed R.failed set.old set.new }
@@ -112,7 +112,7 @@ fn fingerprint_set<R: Source, W: Sink>(
 ) -> Result<Ending, Stopped>
     requires set { All (λ part. R.failed part < u64.MAX) set.old }
     requires out { W.failed out.old < u64.MAX }
-    ensures did { DoesAlone mask Job.Fingerprint (set_of_sources R.remaining R.given R.failed R.reads set.old set.new)
+    ensures did { DoesAlone mask Job.Fingerprint (set_of_sources Job.Fingerprint R.remaining R.given R.failed R.reads set.old set.new)
         (to_sink W.failed W.holds out.old out.new) result }
     // If the fault isn't a device's, no source has failed.
     ensures no_device { ReportsNoDevice result → NoneFailed R.failed set.old set.new }
@@ -136,8 +136,8 @@ pub(crate) fn do_job<R: Source, W: Sink>(
     requires first { All (λ part. R.failed part < u64.MAX) first.old }
     requires second { All (λ part. R.failed part < u64.MAX) second.old }
     requires out { W.failed out.old < u64.MAX }
-    ensures did { Does mask job (set_of_sources R.remaining R.given R.failed R.reads first.old first.new)
-        (set_of_sources R.remaining R.given R.failed R.reads second.old second.new) (to_sink W.failed W.holds out.old out.new) result }
+    ensures did { Does mask job (set_of_sources job R.remaining R.given R.failed R.reads first.old first.new)
+        (set_of_sources job R.remaining R.given R.failed R.reads second.old second.new) (to_sink W.failed W.holds out.old out.new) result }
     // If the fault isn't a device's, no source has failed.
     ensures no_device { ReportsNoDevice result → NoneFailed R.failed first.old first.new × NoneFailed R.failed second.old second.new }
 {

@@ -24,10 +24,10 @@ fn compare_sources<R: Source>(
     requires first { All (λ part. R.failed part < u64.MAX) first.old }
     requires second { All (λ part. R.failed part < u64.MAX) second.old }
     ensures verdict { IfOk result (λ ending. IsTextOf mask Job.Compare
-        (set_of_sources R.remaining R.given R.failed R.reads first.old first.new)
-        (set_of_sources R.remaining R.given R.failed R.reads second.old second.new) ending (line_of_ending ending)) }
-    ensures refused { IfErr result (λ stopped. ReportsOne (set_of_sources R.remaining R.given R.failed R.reads first.old first.new)
-        (set_of_sources R.remaining R.given R.failed R.reads second.old second.new) stopped.fault stopped.set) }
+        (set_of_sources Job.Compare R.remaining R.given R.failed R.reads first.old first.new)
+        (set_of_sources Job.Compare R.remaining R.given R.failed R.reads second.old second.new) ending (line_of_ending ending)) }
+    ensures refused { IfErr result (λ stopped. ReportsOne (set_of_sources Job.Compare R.remaining R.given R.failed R.reads first.old first.new)
+        (set_of_sources Job.Compare R.remaining R.given R.failed R.reads second.old second.new) stopped.fault stopped.set) }
     // If the fault isn't a device's, no source has failed.
     ensures no_device { ReportsNoDevice result → NoneFailed R.failed first.old first.new × NoneFailed R.failed second.old second.new }
 {
@@ -63,8 +63,8 @@ pub(crate) fn compare_sets<R: Source, W: Sink>(
     requires first { All (λ part. R.failed part < u64.MAX) first.old }
     requires second { All (λ part. R.failed part < u64.MAX) second.old }
     requires out { W.failed out.old < u64.MAX }
-    ensures did { Does mask Job.Compare (set_of_sources R.remaining R.given R.failed R.reads first.old first.new)
-        (set_of_sources R.remaining R.given R.failed R.reads second.old second.new) (to_sink W.failed W.holds out.old out.new) result }
+    ensures did { Does mask Job.Compare (set_of_sources Job.Compare R.remaining R.given R.failed R.reads first.old first.new)
+        (set_of_sources Job.Compare R.remaining R.given R.failed R.reads second.old second.new) (to_sink W.failed W.holds out.old out.new) result }
     // If the fault isn't a device's, no source has failed.
     ensures no_device { ReportsNoDevice result → NoneFailed R.failed first.old first.new × NoneFailed R.failed second.old second.new }
 {

@@ -53,5 +53,5 @@ pub returns-in_err-made-clause-refused : goal.returns-in_err-made-clause-refused
 returns-in_err-made-clause-refused g c =
     let p = err_from_is_err_and c.from_residual-in_err-made.result c.from_residual-in_err-made.ensures.1 in
     let l = c.in_ok-linked.ensures.linked in
-    rw (p.1, p.2) (read_refused g.R.Source.remaining g.R.Source.given c.args.parts.now c.link_sources.new.parts l.0 l.1 l.2.0 l.2.1
+    rw (p.1, p.2) (read_refused g.R.Source.remaining g.R.Source.given g.R.Source.reads c.args.parts.now c.link_sources.new.parts l.0 l.1 l.2.0 l.2.1
     c.in_err-made.field-0.0 (c.in_err-made.ensures.refused l.2.0 l.2.2))

@@ -2,7 +2,7 @@ use Rattle.tigercanon.proofs.Common.{◌≡◌, ◌+◌, ◌∙◌, ◌<◌, ℕ
 use Rattle.tigercanon.proofs.Common.{err_from_is_err_and, MAX, record_limit}
 use Rattle.tl_load.specs.declared.fault.LoadFault.TheVariants as faults
 use Rattle.tigercanon.proofs.CanonicalTexts.{if_ok_by, if_err_by}
-use Rattle.tigercanon.proofs.ReadParts.{all_read, nothing_more, none_more, one_failed, one_more_at, untouched_at, up_to_at}
+use Rattle.tigercanon.proofs.ReadParts.{all_read, but_once_at, nothing_more, none_more, one_failed, one_more_at, untouched_at, up_to_at}
 use Rattle.tigercanon.proofs.Standing.{counted_device, counted_none, none_standing, standing_fault}
 use Rattle.tigercanon.proofs.library.reading.load_sources.Goals as goal
 
@@ -24,6 +24,7 @@ returns-in_err-read_part_by-clause-faulty g c =
     let r = c.loop-source.invariant.read in
     let f = c.in_err-read_part_by.ensures.fed in
     let fault = c.in_err-read_part_by.field-0.0 in
+    let s = c.in_err-read_part_by.ensures.stops c.loop-source.invariant.no_fault in
     elim (f.3 record_limit r.0 [] r.3) [
       | inl (end, fed) ↦ (
         r.0 ++ f.0 ∷ [],
@@ -31,12 +32,26 @@ returns-in_err-read_part_by-clause-faulty g c =
         nothing_more g.R.Source.remaining g.R.Source.given _ _ _
             (one_more_at g.R.Source.remaining g.R.Source.given _ _ r.0 i d x r.1 r.2 c.loop-source-test.true f.0 f.1 end),
         standing_fault g.K.Collector.holds c.read_part_by.new.self fault _ _ c.in_err-read_part_by.ensures.reported fed lines,
+        (
+          r.0,
+          s.taken,
+          but_once_at g.R.Source.remaining g.R.Source.given g.R.Source.reads _ _ r.0 i d x s.last s.taken r.1 r.2 c.loop-source-test.true
+              s.gave s.one_read,
+          s.should record_limit r.0 [] r.3,
+        ),
       )
       | inr fed ↦ (
         r.0,
         f.0,
         up_to_at g.R.Source.remaining g.R.Source.given _ _ r.0 i d x r.1 r.2 c.loop-source-test.true f.0 f.1,
         standing_fault g.K.Collector.holds c.read_part_by.new.self fault _ _ c.in_err-read_part_by.ensures.reported fed lines,
+        (
+          r.0,
+          s.taken,
+          but_once_at g.R.Source.remaining g.R.Source.given g.R.Source.reads _ _ r.0 i d x s.last s.taken r.1 r.2 c.loop-source-test.true
+              s.gave s.one_read,
+          s.should record_limit r.0 [] r.3,
+        ),
       )
     ])
 

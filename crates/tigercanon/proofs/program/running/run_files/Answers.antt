@@ -25,9 +25,9 @@ returns-clause-did g c =
     let sets = c.in_ok-first.ensures in
     does_of _ _ _ _
     (known_of_files (λ s. bytes_of g.R.Read.remaining s.inner) (λ s. s.given) g.R.Read.remaining c.args.first.items c.deref_mut.result.now
-    c.do_job-outcome.new.first (rw c.deref_mut.ensures.value sets.first.0) (λ s. s.failures) (λ s. s.reads))
+    c.do_job-outcome.new.first (rw c.deref_mut.ensures.value sets.first.0) c.args.job (λ s. s.failures) (λ s. s.reads))
     (known_of_files (λ s. bytes_of g.R.Read.remaining s.inner) (λ s. s.given) g.R.Read.remaining c.args.second.items
-    c.deref_mut-2.result.now c.do_job-outcome.new.second (rw c.deref_mut-2.ensures.value sets.second.0) (λ s. s.failures) (λ s. s.reads))
+    c.deref_mut-2.result.now c.do_job-outcome.new.second (rw c.deref_mut-2.ensures.value sets.second.0) c.args.job (λ s. s.failures) (λ s. s.reads))
     c.args.mask c.args.job _ _
     (printed_to_writer g.W.Write.contents (λ s. s.failures) (λ s. s.writer.ghost_name) (λ s. s.writer.now) c.args.out.now _
     c.new-text.result c.do_job-outcome.new.out c.new-text.ensures.now

@@ -1,4 +1,4 @@
-use Rattle.tigercanon.proofs.Common.{err_from_is_err_and, set_of_sources}
+use Rattle.tigercanon.proofs.Common.{Compare, err_from_is_err_and, set_of_sources}
 use Rattle.tigercanon.proofs.CanonicalTexts.{ok_holds}
 use Rattle.tigercanon.proofs.SourceSets.{refused_of_read}
 use Rattle.tigercanon.proofs.TwoSets.{line_different, line_same, one_reported}
@@ -22,8 +22,8 @@ returns-in_err-is_one_map-clause-refused g c =
     let a = ok_holds _ _ _ c.in_ok-one.ensures.ok c.read_to_ends.ensures.fed in
     let b = ok_holds _ _ _ c.in_ok-other.ensures.ok c.read_to_ends-2.ensures.fed in
     rw (p.1, p.2) (one_reported
-    (set_of_sources g.R.Source.remaining g.R.Source.given g.R.Source.failed g.R.Source.reads c.args.first.now c.read_to_ends.new.sources)
-    (set_of_sources g.R.Source.remaining g.R.Source.given g.R.Source.failed g.R.Source.reads c.args.second.now c.read_to_ends-2.new.sources)
+    (set_of_sources Compare g.R.Source.remaining g.R.Source.given g.R.Source.failed g.R.Source.reads c.args.first.now c.read_to_ends.new.sources)
+    (set_of_sources Compare g.R.Source.remaining g.R.Source.given g.R.Source.failed g.R.Source.reads c.args.second.now c.read_to_ends-2.new.sources)
     a.0 b.0 a.1 (refused_of_read g.R.Source.remaining g.R.Source.given _ _ a.0 a.1)
     (refused_of_read g.R.Source.remaining g.R.Source.given _ _ b.0 b.1) c.in_err-is_one_map.field-0.0
     (c.in_err-is_one_map.ensures.refused a.0 b.0 a.2 b.2))
