@@ -62,13 +62,13 @@ class Word:
 class Item:
     """An item of the code: a function, a method, a trait, a type, or a fact that a trait or a type states of itself."""
 
+    is_public = False
+    of_trait = False  # Whether it is a trait's call, or what a type has for one.
+
     def __init__(self, file, name, kind):
         self.key = (file.crate, name)
         self.name, self.kind, self.path, self.scope = name, kind, file.path, file.scope
         self.clauses = []  # (name or None, 'ensures', 'requires' or 'states', text, line)
-        self.is_public = False
-        # Whether it is a trait's call, or what a type has for one.
-        self.of_trait = False
 
     def clause_names(self):
         return {name for name, *_ in self.clauses if name}
@@ -102,10 +102,9 @@ Block = namedtuple("Block", "owner kind trait")
 class CodeFile:
     """A file of a crate's code, with its items."""
 
-    def __init__(self, sources, crate, path, exported):
+    def __init__(self, sources, crate, path, raw, exported):
         self.sources, self.crate, self.exported = sources, crate, exported
         self.path = path.relative_to(sources.root)
-        raw = path.read_text(encoding="utf-8")
         self.text = blanked(raw)
         self.ends = blocks_of(self.text)
         self.scope = Scope(self.text)
@@ -210,17 +209,15 @@ class Sources:
 
     def read_code(self, crate):
         folder = self.root / "crates" / crate / "src"
-        paths = sorted(folder.rglob("*.rt"))
-        exported = set()
-        if folder / "lib.rt" in paths:
-            for listed, one in EXPORT.findall((folder / "lib.rt").read_text(encoding="utf-8")):
-                exported |= set(re.findall(r"[^,\s]+", listed or one))
-        aliases = [found for path in paths for found in ALIAS.findall(path.read_text(encoding="utf-8"))]
-        self.aliases |= {(crate, alias): named for alias, named in aliases if alias in exported}
-        exported |= {named for (of_crate, _), named in self.aliases.items() if of_crate == crate}
+        texts = {path: path.read_text(encoding="utf-8") for path in sorted(folder.rglob("*.rt"))}
+        listed = EXPORT.findall(texts.get(folder / "lib.rt", ""))
+        exported = {name for several, one in listed for name in re.findall(r"[^,\s]+", several or one)}
+        aliases = {alias: named for text in texts.values() for alias, named in ALIAS.findall(text) if alias in exported}
+        self.aliases |= {(crate, alias): named for alias, named in aliases.items()}
+        exported |= set(aliases.values())
         self.exported |= {(crate, name) for name in exported}
-        for path in paths:
-            CodeFile(self, crate, path, exported).scan()
+        for path, text in texts.items():
+            CodeFile(self, crate, path, text, exported).scan()
 
     def cited(self, text, scope, word=None):
         """What a text cites in this scope: words of specs/, words of the kit, and types of the code, each as (crate, module, name).

@@ -3,12 +3,11 @@
 import concurrent.futures
 import os
 import re
-import shutil
 from pathlib import Path
 
 from library_tests import in_header
 from library_tests.support import WARNINGS, Tests, tools
-from testing import ROOT, Answer, make_county, run, script
+from testing import ROOT, make_county, run, script
 
 CALLS = ["check", "compare", "fingerprint", "normalise", "respell"]
 AUTAUGA = ROOT / "examples/autauga/all.txt"
@@ -36,19 +35,8 @@ def try_header(tests: Tests) -> None:
     ways = [(compiler, standard, []) for compiler in tools("gcc", "clang") for standard in ("c99", "c11")]
     for compiler, standard, more in [*ways, *((compiler, "c++11", ["-x", "c++"]) for compiler in tools("g++", "clang++"))]:
         words = [compiler, f"-std={standard}", *WARNINGS, "-Wno-unused-function", "-fsyntax-only", "-I", header.parent, *more, source]
-        tests.count(run(words).status == 0, f"the header by {compiler} in {standard}: {run(words).err.decode()[:1000]}")
-
-
-def compile_callers(tests: Tests) -> None:
-    """The caller with the archive and with the shared library, by each compiler that is installed."""
-    for compiler in tools("gcc", "clang"):
-        tests.compile(compiler, compiler, *tests.linked)
-    if tools("pkg-config"):
-        found = run(["pkg-config", "--cflags", "--libs", "tigercanon"],
-                    env={**os.environ, "PKG_CONFIG_PATH": str(tests.library / "lib/pkgconfig")})
-        tests.compile("shared", "gcc", *found.out.decode().split())
-    else:
-        tests.skip("pkg-config isn't installed")
+        done = run(words)
+        tests.count(done.status == 0, f"the header by {compiler} in {standard}: {done.err.decode()[:1000]}")
 
 
 def try_vectors(tests: Tests) -> None:
@@ -62,25 +50,14 @@ def try_vectors(tests: Tests) -> None:
 
 def try_shared(tests: Tests) -> None:
     """Every example of a refusal and the worked set, by the shared library."""
-    in_library = {**os.environ, "LD_LIBRARY_PATH": str(tests.library / "lib")}
-    for path in [AUTAUGA, RENUMBERED, ROOT / "examples/broken.txt", *sorted((ROOT / "examples/refused").iterdir())]:
-        for command in CALLS[:1] + CALLS[2:]:
-            by_shared = run([*tests.callers["shared"], command, path], env=in_library)
-            tests.equal(f"shared, {command} {path.name}", tests.by_c(command, path), by_shared)
-
-
-def try_empty(tests: Tests) -> None:
-    """Parts without bytes, among others and alone."""
-    empty = tests.room / "empty"
-    empty.write_bytes(b"")
-    digits = b"e3b0c44298fc1c149afbf4c8996fb92427ae41e4649b934ca495991b7852b855\n"
-    for command, wanted in [("check", b"accepted\n"), ("normalise", b""), ("respell", b""), ("fingerprint", digits)]:
-        tests.equal(f"{command} of nothing", Answer(0, wanted, b""), tests.by_c(command, empty))
-    tests.equal("compare of nothing", Answer(0, b"same\n", b""), tests.by_c("compare", empty, empty))
-    stem = tests.room / "empty-parts"
-    shutil.copy(AUTAUGA, f"{stem}.RT1")
-    whole, in_parts = tests.by_c("normalise", AUTAUGA), tests.by_c("normalise", "--stem", stem)
-    tests.equal("nine parts, eight of them empty", whole, in_parts)
+    if not tools("pkg-config"):
+        tests.skip("pkg-config isn't installed")
+        return
+    flags = run(["pkg-config", "--cflags", "--libs", "tigercanon"], env={**os.environ, "PKG_CONFIG_PATH": f"{tests.library}/lib/pkgconfig"})
+    shared = tests.compile("shared", "gcc", *flags.out.decode().split())
+    paths = [AUTAUGA, RENUMBERED, ROOT / "examples/broken.txt", *sorted((ROOT / "examples/refused").iterdir())]
+    calls = [[command, path] for path in paths for command in CALLS if command != "compare"]
+    tests.alike("shared", shared, calls, env={**os.environ, "LD_LIBRARY_PATH": f"{tests.library}/lib"})
 
 
 def try_rounds(tests: Tests) -> None:
@@ -97,10 +74,9 @@ def try_rounds(tests: Tests) -> None:
 
 def try_threads(tests: Tests, county: Path) -> None:
     """Calls in several threads at once return what one returns."""
-    for call in [["fingerprint", county], ["normalise", county], ["compare", county, county], ["check", AUTAUGA]]:
-        wanted = tests.by_c(*call)
-        for threads in (2, 4):
-            tests.equal(f"{threads} threads, {call[0]}", wanted, tests.by_c("--threads", threads, *call))
+    for threads in ("2", "4"):
+        for call in [["fingerprint", county], ["normalise", county], ["compare", county, county], ["check", AUTAUGA]]:
+            tests.equal(f"{threads} threads, {call[0]}", tests.by_c(*call), tests.by_c("--threads", threads, *call))
 
 
 def try_checked(tests: Tests) -> None:
@@ -108,22 +84,18 @@ def try_checked(tests: Tests) -> None:
     examples = [["check", AUTAUGA], ["respell", ROOT / "examples/other-spelling.txt"], ["normalise", AUTAUGA],
                 ["normalise", "--no-reserved", RENUMBERED], ["fingerprint", "--stem", ROOT / "examples/autauga/TGR01001"],
                 ["compare", AUTAUGA, RENUMBERED], ["compare", AUTAUGA, ROOT / "examples/broken.txt"], ["respell", os.devnull],
-                *(["check", path] for path in sorted((ROOT / "examples/refused").iterdir()))]
-    checkers = []
+                ["--threads", "2", "normalise", AUTAUGA], *(["check", path] for path in sorted((ROOT / "examples/refused").iterdir()))]
     trial = run(["gcc", "-fsanitize=address,undefined", "-x", "c", "-", "-o", tests.room / "trial"], input=b"int main(void) { return 0; }")
     if trial.status == 0:
         flags = ["-g", "-fsanitize=address,undefined", "-fno-sanitize-recover=all"]
-        checkers.append(("gcc's checkers", tests.compile("sanitized", "gcc", *flags, *tests.linked)))
+        tests.alike("gcc's checkers", tests.compile("sanitized", "gcc", *flags, *tests.linked), examples)
     else:
         tests.skip("gcc has no checker of addresses here")
     if tools("valgrind"):
-        checkers.append(("valgrind", ["valgrind", "-q", "--leak-check=full", "--error-exitcode=99", *tests.callers["gcc"]]))
+        checked = ["valgrind", "-q", "--leak-check=full", "--error-exitcode=99", *tests.callers["gcc"]]
+        tests.alike("valgrind", checked, examples)
     else:
         tests.skip("valgrind isn't installed")
-    for name, words in filter(all, checkers):
-        for call in examples:
-            tests.equal(f"{name}, {' '.join(map(str, call))}", tests.by_c(*call), run([*words, *call]))
-        tests.equal(f"{name}, two threads", tests.by_c("normalise", AUTAUGA), run([*words, "--threads", "2", "normalise", AUTAUGA]))
 
 
 def run_all(tests: Tests) -> None:
@@ -131,14 +103,16 @@ def run_all(tests: Tests) -> None:
     if not tools("gcc"):
         tests.skip("gcc isn't installed: nothing was tried by C")
         return
-    for test in (try_header, in_header.run_all, compile_callers):
-        test(tests)
+    try_header(tests)
+    in_header.run_all(tests)
+    for compiler in tools("gcc", "clang"):
+        tests.compile(compiler, compiler, *tests.linked)
     if "gcc" not in tests.callers:
         return
+    for test in (try_vectors, try_shared, try_rounds, try_checked):
+        test(tests)
     county = tests.room / "county.txt"
     make_county(2000, county)
-    for test in (try_vectors, *([try_shared] if "shared" in tests.callers else []), try_empty, try_rounds, try_checked):
-        test(tests)
     try_threads(tests, county)
     # With large pages a growth is so large that none of the steps below may stop it.
     plain = {key: text for key, text in os.environ.items() if key != "GLIBC_TUNABLES"}

@@ -41,6 +41,11 @@ class Tests(testing.Tests):
         """The answer of the caller in C, as gcc compiled it."""
         return run([*self.callers["gcc"], *words], **how)
 
+    def alike(self, name: str, caller: list[str], calls: Iterable[list[object]], **how: object) -> None:
+        """Another caller, if it could be compiled, answers as the one that gcc compiled."""
+        for call in calls if caller else []:
+            self.equal(f"{name}, {' '.join(map(str, call))}", self.by_c(*call), run([*caller, *call], **how))
+
     def limit(self, command: str, county: Path, sizes: Iterable[int], **how: object) -> None:
         """A call in memory of these sizes, which ascend: if memory is short, only that is reported."""
         right, told = self.by_c(command, county), set()
