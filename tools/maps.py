@@ -24,8 +24,7 @@ Values = dict[str, str]
 
 @dataclass
 class Chain:
-    """A chain: the fields of types 1 and I, all its points, its further names and ranges, and the nodes and polygons
-    at it."""
+    """A chain: the fields of types 1 and I, all its points, its further names and ranges, and the nodes and polygons at it."""
 
     fields: Values
     points: list[Point]
@@ -82,8 +81,7 @@ def spelt(point: Point | None) -> str:
 
 @dataclass
 class Hand:
-    """A way to write a county: how everything is numbered, which chains are turned, and how records are packed and
-    ordered."""
+    """A way to write a county: how everything is numbered, which chains are turned, and how records are packed and ordered."""
 
     chance: random.Random | None = None
 
