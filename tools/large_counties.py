@@ -84,25 +84,23 @@ class County(NamedTuple):
 
 def street(count: int) -> County:
     """Very many chains, each between two nodes and with a polygon on its left."""
-    return County(lambda: street_text(count), lambda: street_otherwise(count))
-
-
-def street_text(count: int) -> Pieces:
+    link = {6: FILE, 11: b"%10d%10d%10d01001%10d"}
     number = next_of(int)
-    yield from lines(chain_line(), range(count), number, longitude, next_of(longitude))
-    link = laid_out("I", {6: FILE, 11: b"%10d%10d%10d01001%10d"})
-    yield from lines(link, range(count), number, number, next_of(number), number)
 
+    def text() -> Pieces:
+        yield from lines(chain_line(), range(count), number, longitude, next_of(longitude))
+        yield from lines(laid_out("I", link), range(count), number, number, next_of(number), number)
 
-def street_otherwise(count: int) -> Pieces:
-    """Every second chain is turned, and all have another order."""
-    kept, turned = ([place for place in strewn(count) if place % 2 == remainder] for remainder in (0, 1))
-    from_west = laid_out("I", {6: FILE, 11: b"%10d%10d%10d01001%10d"}, is_cut=True)
-    from_east = laid_out("I", {6: FILE, 11: b"%10d%10d%10d", 56: b"01001%10d"}, is_cut=True)
-    yield from lines(from_east, turned, TLID, next_of(NODE), NODE, POLYID)
-    yield from lines(chain_line(), kept, TLID, longitude, next_of(longitude))
-    yield from lines(chain_line(), turned, TLID, next_of(longitude), longitude)
-    yield from lines(from_west, kept, TLID, NODE, next_of(NODE), POLYID)
+    def otherwise() -> Pieces:
+        """Every second chain is turned, and all have another order."""
+        kept, turned = ([place for place in strewn(count) if place % 2 == remainder] for remainder in (0, 1))
+        from_east = laid_out("I", {6: FILE, 11: b"%10d%10d%10d", 56: b"01001%10d"}, is_cut=True)
+        yield from lines(from_east, turned, TLID, next_of(NODE), NODE, POLYID)
+        yield from lines(chain_line(), kept, TLID, longitude, next_of(longitude))
+        yield from lines(chain_line(), turned, TLID, next_of(longitude), longitude)
+        yield from lines(laid_out("I", link, is_cut=True), kept, TLID, NODE, next_of(NODE), POLYID)
+
+    return County(text, otherwise)
 
 
 def chain_line() -> bytes:
