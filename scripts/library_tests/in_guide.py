@@ -5,7 +5,7 @@ import re
 import zipfile
 from pathlib import Path
 
-from library_tests.support import SUFFIXES, Tests, tools
+from library_tests.support import SUFFIXES, Tests, section, tools
 from testing import ROOT, Answer, run
 
 STEM = ROOT / "examples/autauga/TGR01001"
@@ -14,9 +14,8 @@ REFUSED = ROOT / "examples/broken.txt"
 
 def blocks(heading: str) -> list[str]:
     """The blocks of code below a heading of the guide, without their indent."""
-    guide = (ROOT / "docs/guide.md").read_text(encoding="utf-8")
-    page = guide.partition(f"\n## {heading}\n")[2].partition("\n## ")[0]
-    return [re.sub("^    ", "", block, flags=re.M).strip("\n") + "\n" for block in re.findall(r"(?:^(?:    .*)?\n)*^    .*\n", page, re.M)]
+    found = re.findall(r"(?:^(?:    .*)?\n)*^    .*\n", section(heading), re.M)
+    return [re.sub("^    ", "", block, flags=re.M).strip("\n") + "\n" for block in found]
 
 
 def try_c(tests: Tests, place: Path, fingerprint: str) -> None:
@@ -32,14 +31,13 @@ def try_c(tests: Tests, place: Path, fingerprint: str) -> None:
         found = run(["bash", "-ec", f"{exported}\n{call}"], cwd=place)
         tests.equal(f"the guide's {call}", Answer(0, f"{fingerprint}\n".encode(), b""), found)
     if (place / "one").exists():
-        with open(REFUSED, "rb") as refused:
-            found = run([place / "one"], stdin=refused)
-        tests.equal("the guide's program with a refused set", Answer(1, b"", b"refused 4 BadNumber 1 4 6\n"), found)
         try_input(tests, place)
 
 
 def try_input(tests: Tests, place: Path) -> None:
-    """The program of the page reads all of a long input, and reports what can't be read."""
+    """The program of the page with a refused set, with a long one, all of which it reads, and with what can't be read."""
+    refused = run([place / "one"], input=REFUSED.read_bytes())
+    tests.equal("the guide's program with a refused set", Answer(1, b"", b"refused 4 BadNumber 1 4 6\n"), refused)
     record = (ROOT / "examples/autauga/canonical.txt").read_bytes().partition(b"\n")[0] + b"\n"
     lines = (65 << 20) // len(record) + 1
     found = run([place / "one"], input=record * lines + b"1\n")

@@ -5,7 +5,7 @@ import re
 from pathlib import Path
 from typing import Iterator
 
-from library_tests.support import WARNINGS, Tests, tools
+from library_tests.support import GUIDE, WARNINGS, Tests, section, tools
 from testing import ROOT, Answer, run
 
 SOURCE = Path(__file__).resolve().parent / "header.c"
@@ -16,16 +16,11 @@ STATUSES = {
     "REFUSED": r"\bset is (?:refused|rejected)",
     "MEMORY": r"\bmemory\b",
 }
-# Refusals that no call has: a device and standard output. And the name of a constant that isn't that of its refusal.
-OF_FILES = {8, 10}
+# The guide's refusals by number, name and places, without those that no call has: a device and standard output.
+REFUSALS = [row for row in re.findall(r"^### `refused (\d+) (\w+)([^`]*)`", GUIDE, re.M) if row[0] not in ("8", "10")]
+# The name of a constant that isn't that of its refusal.
 NAMED_OTHERWISE = {"MEMORY": "OUT_OF_MEMORY"}
 MOST = 2**64 - 1
-
-REFUSAL = re.compile(r"^### `refused (\d+) (\w+)([^`]*)`", re.M)
-
-
-def guide() -> str:
-    return (ROOT / "docs/guide.md").read_text(encoding="utf-8")
 
 
 def lines() -> Iterator[tuple[str, str]]:
@@ -33,24 +28,21 @@ def lines() -> Iterator[tuple[str, str]]:
     set and of either one, with usual numbers and with the greatest."""
     yield "0 0 - - 0 0 0", ""
     types, cenids = itertools.cycle("PI4162578"), itertools.cycle(["3036303031", "2020202020", "41fffebcad"])
-    for (number, name, kinds), which, numbers in itertools.product(REFUSAL.findall(guide()), (0, 1, 2), ((9999999999, 17, 230), (MOST,) * 3)):
-        if int(number) not in OF_FILES:
-            of_kind = {kind: next(values) if kind in kinds else "-" for kind, values in (("TYPE", types), ("CENID", cenids))}
-            left = map(str, numbers)
-            places = [of_kind.get(kind) or next(left) for kind in kinds.split()]
-            line = " ".join(["refused", number, name, *places, *([f"in set {which}"] if which else [])])
-            yield " ".join(map(str, (number, which, *of_kind.values(), *numbers))), line
+    for (number, name, kinds), which, numbers in itertools.product(REFUSALS, (0, 1, 2), ((9999999999, 17, 230), (MOST,) * 3)):
+        of_kind = {kind: next(values) if kind in kinds else "-" for kind, values in (("TYPE", types), ("CENID", cenids))}
+        left = map(str, numbers)
+        places = [of_kind.get(kind) or next(left) for kind in kinds.split()]
+        line = " ".join(["refused", number, name, *places, *([f"in set {which}"] if which else [])])
+        yield " ".join(map(str, (number, which, *of_kind.values(), *numbers))), line
 
 
 def guide_constants() -> dict[str, str]:
     """The constants that the guide asks for, with their values."""
-    page = guide().partition("\n## Exit statuses\n")[2].partition("\n## ")[0]
-    rows = re.findall(r"^\| (\d+) \| (.*) \|$", page, re.M)
+    rows = re.findall(r"^\| (\d+) \| (.*) \|$", section("Exit statuses"), re.M)
     wanted = {name: ", ".join(status for status, text in rows if re.search(said, text, re.I)) for name, said in STATUSES.items()}
-    for number, name, _ in REFUSAL.findall(guide()):
-        if int(number) not in OF_FILES:
-            constant = re.sub(r"(?<!^)(?=[A-Z])", "_", name).upper()
-            wanted[NAMED_OTHERWISE.get(constant, constant)] = number
+    for number, name, _ in REFUSALS:
+        constant = re.sub(r"(?<!^)(?=[A-Z])", "_", name).upper()
+        wanted[NAMED_OTHERWISE.get(constant, constant)] = number
     form = (ROOT / "docs/canonical-form.md").read_text(encoding="utf-8")
     wanted["FORM"] = re.search(r"\*\*(tigercanon form \d+)\*\*", form)[1]
     wanted["EMPTY"] = "an address"

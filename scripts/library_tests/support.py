@@ -16,6 +16,7 @@ from testing import ROOT, TYPES, Answer, run  # noqa: E402
 CALLER = Path(__file__).resolve().parent / "caller.c"
 SUFFIXES = [f".RT{kind}" for kind in TYPES]
 WARNINGS = ["-Wall", "-Wextra", "-pedantic", "-Werror"]
+GUIDE = (ROOT / "docs/guide.md").read_text(encoding="utf-8")
 LACKING = Answer(5, b"", b"refused 9 Memory\n")
 
 
@@ -57,6 +58,11 @@ class Tests(testing.Tests):
                 self.count(found in (right, LACKING), f"{command} in {size >> 10} KiB: {found.status}, {found.err!r}")
                 told.add(found.status)
         self.equal(f"{command} of {county.name} in little memory, its statuses", {0, 5}, told)
+
+
+def section(heading: str) -> str:
+    """The text below a heading of the guide."""
+    return GUIDE.partition(f"\n## {heading}\n")[2].partition("\n## ")[0]
 
 
 def tools(*names: str) -> list[str]:
