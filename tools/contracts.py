@@ -104,11 +104,11 @@ class CodeFile:
 
     def __init__(self, sources, crate, path, raw, exported):
         self.sources, self.crate, self.exported = sources, crate, exported
-        self.path = path.relative_to(sources.root)
+        self.path = path.relative_to(ROOT)
         self.text = blanked(raw)
         self.ends = blocks_of(self.text)
         self.scope = Scope(self.text)
-        sources.tests.update(dict.fromkeys(TEST.findall(raw), self.path))
+        sources.tests.update(TEST.findall(raw))
 
     def add(self, name, kind):
         """The item of this name. Of several under one name the first that has clauses counts."""
@@ -172,24 +172,21 @@ class CodeFile:
 class Sources:
     """All crates of the repository."""
 
-    def __init__(self, root=ROOT):
-        self.root = root
-        self.crates = sorted(path.parent.name for path in (root / "crates").glob("*/src"))
-        self.words = {}
-        self.items = {}
+    def __init__(self):
+        self.crates = sorted(path.parent.name for path in (ROOT / "crates").glob("*/src"))
+        self.words, self.items = {}, {}
         self.members = {}  # by type, trait and name: the text of a ghost member, and the scope of its file
         self.aliases = {}  # by crate and name: the type that is meant
-        self.exported = set()
-        self.tests = {}
+        self.exported, self.tests = set(), set()
         for crate in self.crates:
-            for path in sorted((root / "crates" / crate / "specs").rglob("*.antt")):
+            for path in sorted((ROOT / "crates" / crate / "specs").rglob("*.antt")):
                 self.read_definitions(crate, path)
             self.read_code(crate)
         for word in self.words.values():
             word.cites = self.cited(word.text, word.scope, word)
 
     def read_definitions(self, crate, path):
-        module = ".".join(path.relative_to(self.root / "crates" / crate / "specs").with_suffix("").parts)
+        module = ".".join(path.relative_to(ROOT / "crates" / crate / "specs").with_suffix("").parts)
         text = path.read_text(encoding="utf-8")
         lines, scope = text.split("\n"), Scope(text)
         word, above, said = None, [], lines[0].lstrip("- ")
@@ -208,7 +205,7 @@ class Sources:
                 word.text += line + "\n"
 
     def read_code(self, crate):
-        folder = self.root / "crates" / crate / "src"
+        folder = ROOT / "crates" / crate / "src"
         texts = {path: path.read_text(encoding="utf-8") for path in sorted(folder.rglob("*.rt"))}
         listed = EXPORT.findall(texts.get(folder / "lib.rt", ""))
         exported = {name for several, one in listed for name in re.findall(r"[^,\s]+", several or one)}

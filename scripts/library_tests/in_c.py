@@ -1,11 +1,11 @@
 """The library by a caller in C."""
 
 import concurrent.futures
+import itertools
 import os
 import re
 from pathlib import Path
 
-from library_tests import in_header
 from library_tests.support import WARNINGS, Tests, tools
 from testing import ROOT, make_county, run, script
 
@@ -48,18 +48,6 @@ def try_vectors(tests: Tests) -> None:
             tests.count(not told, f"C, {case['name']}: {case['shows']}" + "".join(f"\n  {line}" for line in told))
 
 
-def try_shared(tests: Tests) -> None:
-    """Every example of a refusal and the worked set, by the shared library."""
-    if not tools("pkg-config"):
-        tests.skip("pkg-config isn't installed")
-        return
-    flags = run(["pkg-config", "--cflags", "--libs", "tigercanon"], env={**os.environ, "PKG_CONFIG_PATH": f"{tests.library}/lib/pkgconfig"})
-    shared = tests.compile("shared", "gcc", *flags.out.decode().split())
-    paths = [AUTAUGA, RENUMBERED, ROOT / "examples/broken.txt", *sorted((ROOT / "examples/refused").iterdir())]
-    calls = [[command, path] for path in paths for command in CALLS if command != "compare"]
-    tests.alike("shared", shared, calls, env={**os.environ, "LD_LIBRARY_PATH": f"{tests.library}/lib"})
-
-
 def try_rounds(tests: Tests) -> None:
     """A thousand calls leave no memory behind."""
     words = [["check", AUTAUGA], ["respell", AUTAUGA], ["normalise", AUTAUGA], ["normalise", "--no-sources", AUTAUGA],
@@ -81,21 +69,24 @@ def try_threads(tests: Tests, county: Path) -> None:
 
 def try_checked(tests: Tests) -> None:
     """The caller under checkers of addresses: gcc's own, and valgrind."""
-    examples = [["check", AUTAUGA], ["respell", ROOT / "examples/other-spelling.txt"], ["normalise", AUTAUGA],
-                ["normalise", "--no-reserved", RENUMBERED], ["fingerprint", "--stem", ROOT / "examples/autauga/TGR01001"],
-                ["compare", AUTAUGA, RENUMBERED], ["compare", AUTAUGA, ROOT / "examples/broken.txt"], ["respell", os.devnull],
-                ["--threads", "2", "normalise", AUTAUGA], *(["check", path] for path in sorted((ROOT / "examples/refused").iterdir()))]
+    calls = [["check", AUTAUGA], ["respell", ROOT / "examples/other-spelling.txt"], ["normalise", AUTAUGA],
+             ["normalise", "--no-reserved", RENUMBERED], ["fingerprint", "--stem", ROOT / "examples/autauga/TGR01001"],
+             ["compare", AUTAUGA, RENUMBERED], ["compare", AUTAUGA, ROOT / "examples/broken.txt"], ["respell", os.devnull],
+             ["--threads", "2", "normalise", AUTAUGA], *(["check", path] for path in sorted((ROOT / "examples/refused").iterdir()))]
+    checkers = {}
     trial = run(["gcc", "-fsanitize=address,undefined", "-x", "c", "-", "-o", tests.room / "trial"], input=b"int main(void) { return 0; }")
     if trial.status == 0:
         flags = ["-g", "-fsanitize=address,undefined", "-fno-sanitize-recover=all"]
-        tests.alike("gcc's checkers", tests.compile("sanitized", "gcc", *flags, *tests.linked), examples)
+        checkers["gcc's checkers"] = tests.compile("sanitized", "gcc", *flags, *tests.linked)
     else:
         tests.skip("gcc has no checker of addresses here")
     if tools("valgrind"):
-        checked = ["valgrind", "-q", "--leak-check=full", "--error-exitcode=99", *tests.callers["gcc"]]
-        tests.alike("valgrind", checked, examples)
+        checkers["valgrind"] = ["valgrind", "-q", "--leak-check=full", "--error-exitcode=99", *tests.callers["gcc"]]
     else:
         tests.skip("valgrind isn't installed")
+    for (name, caller), call in itertools.product(checkers.items(), calls):
+        if caller:
+            tests.equal(f"{name}, {' '.join(map(str, call))}", tests.by_c(*call), run([*caller, *call]))
 
 
 def run_all(tests: Tests) -> None:
@@ -104,12 +95,11 @@ def run_all(tests: Tests) -> None:
         tests.skip("gcc isn't installed: nothing was tried by C")
         return
     try_header(tests)
-    in_header.run_all(tests)
     for compiler in tools("gcc", "clang"):
         tests.compile(compiler, compiler, *tests.linked)
     if "gcc" not in tests.callers:
         return
-    for test in (try_vectors, try_shared, try_rounds, try_checked):
+    for test in (try_vectors, try_rounds, try_checked):
         test(tests)
     county = tests.room / "county.txt"
     make_county(2000, county)

@@ -1,4 +1,4 @@
-"""What the tests of the library share: the library and the program, the cases of vectors/, and compiled callers."""
+"""What the tests of the library share: the library, the program, and compiled callers."""
 
 import os
 import re
@@ -16,7 +16,6 @@ from testing import ROOT, TYPES, Answer, run  # noqa: E402
 CALLER = Path(__file__).resolve().parent / "caller.c"
 SUFFIXES = [f".RT{kind}" for kind in TYPES]
 WARNINGS = ["-Wall", "-Wextra", "-pedantic", "-Werror"]
-GUIDE = (ROOT / "docs/guide.md").read_text(encoding="utf-8")
 LACKING = Answer(5, b"", b"refused 9 Memory\n")
 
 
@@ -42,11 +41,6 @@ class Tests(testing.Tests):
         """The answer of the caller in C, as gcc compiled it."""
         return run([*self.callers["gcc"], *words], **how)
 
-    def alike(self, name: str, caller: list[str], calls: Iterable[list[object]], **how: object) -> None:
-        """Another caller, if it could be compiled, answers as the one that gcc compiled."""
-        for call in calls if caller else []:
-            self.equal(f"{name}, {' '.join(map(str, call))}", self.by_c(*call), run([*caller, *call], **how))
-
     def limit(self, command: str, county: Path, sizes: Iterable[int], **how: object) -> None:
         """A call in memory of these sizes, which ascend: if memory is short, only that is reported."""
         right, told = self.by_c(command, county), set()
@@ -58,11 +52,6 @@ class Tests(testing.Tests):
                 self.count(found in (right, LACKING), f"{command} in {size >> 10} KiB: {found.status}, {found.err!r}")
                 told.add(found.status)
         self.equal(f"{command} of {county.name} in little memory, its statuses", {0, 5}, told)
-
-
-def section(heading: str) -> str:
-    """The text below a heading of the guide."""
-    return GUIDE.partition(f"\n## {heading}\n")[2].partition("\n## ")[0]
 
 
 def tools(*names: str) -> list[str]:
