@@ -6,7 +6,7 @@ import os
 import re
 import shutil
 from pathlib import Path
-from typing import Callable, Optional
+from typing import Optional
 
 ROOT = Path(__file__).resolve().parent.parent
 PARTS = ("src", "specs", "proofs")
@@ -50,9 +50,9 @@ class Crates:
         self.of_kit = {name: [it for it in named if it and it not in self.rows] for name, named in words.items()}
         self.statics = {name for name, row in self.rows.items() if re.match(r"\S+\s+staticlib\b", row)}
 
-    def below(self, crate: str) -> set[str]:
-        """All crates that this one depends on."""
-        found, left = set(), set(self.named[crate])
+    def below(self, *crates: str) -> set[str]:
+        """All crates that these depend on."""
+        found, left = set(), set().union(*map(self.named.get, crates))
         while left:
             found |= left
             left = set().union(*map(self.named.get, left)) - found
@@ -81,13 +81,6 @@ class Crates:
             above = (ways[it] for it in crates if crate in self.named[it])
             ways[crate] = size_of(crate) + max(above, default=0)
         return sorted(crates, key=lambda it: -ways[it])
-
-    def is_built(self, crate: str) -> bool:
-        """Whether a library was built after the last change of its sources, and of those that it depends on. That isn't a proof, but rt,
-        which reads them, builds what isn't built before a crate that depends on it."""
-        stamp = folder_of(crate) / "out" / "rlib" / "stamp"
-        sources = [file for it in (crate, *self.below(crate)) for file in sources_of(it)]
-        return stamp.exists() and stamp.stat().st_mtime > max(file.st_mtime for file in sources)
 
 
 class Notes:
@@ -127,16 +120,17 @@ class Notes:
         if proved_from == self.proved_from(crate):
             self.note(crate).write_text(proved_from)
 
-    def write_for(self, build: Callable[[], int]) -> int:
-        """Runs what proves every crate from nothing, notes what the libraries that it built were proved from, and returns its
-        status. Libraries are removed before that nothing can be proved over, except rt's: it would put them back over its own."""
+    def begin_all(self) -> dict[str, str]:
+        """Removes all libraries that nothing can be proved over, except rt's: it would put them back over its own. Returns what each
+        library is proved from that isn't there."""
         libraries = [it for it in self.crates.rows if self.crates.makes_library(it)]
         for it in libraries:
             if not self.is_of_rt(it) and not self.is_current(it):
                 shutil.rmtree(self.library(it).parent, ignore_errors=True)
-        lacking = {it: self.proved_from(it) for it in libraries if not self.library(it).parent.exists()}
-        status = build()
-        for it in lacking if not status else ():
+        return {it: self.proved_from(it) for it in libraries if not self.library(it).parent.exists()}
+
+    def write_all(self, proved_from: dict[str, str]) -> None:
+        """Notes what these libraries were proved from, if they were built since."""
+        for it in proved_from:
             if self.library(it).exists() and not self.is_of_rt(it):
-                self.write(it, lacking[it])
-        return status
+                self.write(it, proved_from[it])
