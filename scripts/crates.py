@@ -74,13 +74,8 @@ class Crates:
         return ""
 
     def by_urgency(self, crates: set[str]) -> list[str]:
-        """These crates, those first that have most to be proved one after the other, from them up. How long that takes is taken to go with
-        the bytes of their sources."""
-        ways: dict[str, int] = {}
-        for crate in sorted(crates, key=lambda it: -len(self.below(it))):
-            above = (ways[it] for it in crates if crate in self.named[it])
-            ways[crate] = size_of(crate) + max(above, default=0)
-        return sorted(crates, key=lambda it: -ways[it])
+        """These crates, those first on which most of the others rest, by the bytes of sources: how long a proof takes goes with these."""
+        return sorted(crates, key=lambda it: -sum(size_of(other) for other in crates if it in self.below(other) | {other}))
 
 
 class Notes:
