@@ -16,8 +16,7 @@ NAME = "libtigercanon.so.1"
 VARIABLE = "TIGERCANON_LIBRARY"
 ADVICE = f"scripts/build-library builds it, a release has it, and {VARIABLE} names it elsewhere"
 
-DIFFERENT = 1
-"""The status of compare for two maps. Higher ones are refusals."""
+DIFFERENT = 1  # the status of compare for two maps. Higher ones are refusals.
 
 
 class Refusal(Exception):

@@ -42,8 +42,7 @@ release_buffer.argtypes = [ctypes.POINTER(Buffer)]
 release_buffer.restype = None
 
 EMPTY = ctypes.create_string_buffer(1)
-ADDRESS_OF_EMPTY = ctypes.addressof(EMPTY)
-"""The address of a part without bytes: the library wants one that isn't null."""
+ADDRESS_OF_EMPTY = ctypes.addressof(EMPTY)  # the address of a part without bytes: the library wants one that isn't null
 
 
 @contextmanager

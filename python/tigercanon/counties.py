@@ -16,8 +16,7 @@ from .storage import Entry, entries, is_folder, is_url, joined, parted, real, sy
 MAGIC = re.compile(r"[*?[]")
 KINDS = (*TYPES, "ZIP")
 
-Names = dict[str, list[Entry]]
-"""The files of one stem in a folder, by their kinds."""
+Names = dict[str, list[Entry]]  # the files of one stem in a folder, by their kinds
 
 
 class Finder:

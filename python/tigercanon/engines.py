@@ -16,18 +16,13 @@ import tigercanon.judge
 
 from .errors import Failure, reason
 from .judge import Answer, County, Order, judge, judge_on_a_worker
-from .own import PROCESS
 
 TICK = 0.5
 PATIENCE_FOR_SCHEDULER = 30.0
-PATIENCE_FOR_WORKERS = 300.0
-"""A run ends if there was no worker for this many seconds."""
-
+PATIENCE_FOR_WORKERS = 300.0  # a run ends if there was no worker for this many seconds
+# Errors that end a future if the scheduler ends. There are several classes of each of these names.
 SCHEDULER_ENDED = ("CancelledError", "CommClosedError")
-"""Errors that end a future if the scheduler ends. There are several classes of each of these names."""
-
-Result = Optional[tuple[int, Answer]]
-"""A county's number and its answer, or None if nothing was done for a moment."""
+Result = Optional[tuple[int, Answer]]  # a county's number and its answer, or None if nothing was done for a moment
 
 
 class Gone(Exception):
@@ -37,8 +32,7 @@ class Gone(Exception):
 class Engine:
     """Judges counties side by side: by as many threads as there are processors, or as are asked for."""
 
-    served_at = 0.0
-    """When there was an answer, or something that could give one."""
+    served_at = 0.0  # when there was an answer, or something that could give one
 
     def __init__(self, jobs: int | None) -> None:
         self.pool = ThreadPoolExecutor(jobs or len(os.sched_getaffinity(0)))
@@ -46,19 +40,18 @@ class Engine:
     def answers(self, counties: Sequence[County], order: Order) -> Iterator[Result]:
         """The answers as they come. Counties that may not have fitted into memory are judged again, each alone. Raises Gone."""
         again: list[int] = []
-        for result in self.first_answers(counties, order):
+        for result in self.first_answers(dict(enumerate(counties)), order):
             if result and result[1].kind == "memory":
                 again.append(result[0])
             else:
                 yield result
         for number in sorted(again):
-            for alone in self.first_answers([counties[number]], order):
-                yield alone and (number, alone[1])
+            yield from self.first_answers({number: counties[number]}, order)
 
-    def first_answers(self, counties: Sequence[County], order: Order) -> Iterator[Result]:
+    def first_answers(self, counties: dict[int, County], order: Order) -> Iterator[Result]:
         done: SimpleQueue[Any] = SimpleQueue()
-        under_way = {future: number for number, future in enumerate(self.begin(counties, order))}
-        for future in list(under_way):
+        under_way = dict(zip(self.begin([*counties.values()], order), counties))
+        for future in [*under_way]:
             future.add_done_callback(done.put)
         self.served_at = time.monotonic()
         while under_way:
@@ -69,13 +62,12 @@ class Engine:
                 yield None
                 continue
             self.served_at = time.monotonic()
-            number = under_way.pop(future, None)
-            if number is not None:
-                yield number, self.answer(future)
+            if future in under_way:
+                yield under_way.pop(future), self.answer(future)
 
     def begin(self, counties: Sequence[County], order: Order) -> Sequence[Any]:
         """Hands over the counties, and returns a future for each."""
-        return [self.pool.submit(judge, county, order, PROCESS) for county in counties]
+        return [self.pool.submit(judge, county, order) for county in counties]
 
     def answer(self, future: Any) -> Answer:
         """The result of a future that is done."""

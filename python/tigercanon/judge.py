@@ -12,21 +12,17 @@ import shutil
 import subprocess
 from contextlib import ExitStack, contextmanager
 from dataclasses import dataclass, field, replace
-from typing import Any, Iterable, Iterator, Mapping, Optional
+from typing import Any, Iterable, Iterator, Mapping, NamedTuple, Sequence
 
 from .errors import Unreadable, printable, reason
 from .hints import hint
 from .layout import TYPES, file_name
-from .own import Own, remove_stale_folders
+from .own import PROCESS, remove_stale_folders
 from .storage import fetch, is_url
-from .zips import members_of, opened, unpack
+from .zips import members_of, opened, pieces_of
 
 DIGITS = re.compile(rb"[0-9a-f]{64}\n")
-STEM = "county"
-"""The files of a zip, and files under other names, get names with this stem."""
-
-NEEDED_IN_STRICT_MODE = "12I"
-"""Types whose file may not be empty in strict mode."""
+NEEDED_IN_STRICT_MODE = "12I"  # types whose file may not be empty in strict mode
 
 
 @dataclass(frozen=True)
@@ -93,12 +89,45 @@ class Rejected(Exception):
     """Strict mode rejects a county. The text says why."""
 
 
-def judge(county: County, order: Order, own: Own) -> Answer:
+class Source(NamedTuple):
+    """A set as the program reads it: a file, or the stem of a county's nine files in capitals. name is the user's."""
+
+    name: str
+    place: str
+    is_stem: bool
+
+    @property
+    def files(self) -> list[str]:
+        """The files that are its parts, in their order."""
+        return [file_name(self.place, kind) for kind in TYPES] if self.is_stem else [self.place]
+
+    def ask(self, program: str, job: str, flags: Sequence[str], memory: int | None = None) -> subprocess.CompletedProcess[bytes]:
+        """What the program answers for it."""
+        return PROCESS.run([program, job, *["--stem"] * self.is_stem, *flags, "--", self.place], memory)
+
+    def complaint(self, ended: subprocess.CompletedProcess[bytes]) -> list[str]:
+        """The program's line, or what can be said about its end; and a hint, if there is one."""
+        lines = ended.stderr.decode(errors="replace").strip().splitlines()
+        if ended.returncode < 0:
+            line = f"the program was ended by signal {-ended.returncode}"
+        elif lines:
+            line = printable(lines[-1])
+        elif ended.returncode == 0:
+            line = "the program printed something else than a fingerprint"
+        else:
+            line = f"the program ended with status {ended.returncode}"
+        return [line, *filter(None, [hint(line, self.files)])]
+
+
+def judge(county: County, order: Order) -> Answer:
     """Judges a county. Whatever goes wrong is part of the answer."""
     notes = list(county.notes)
     try:
-        with prepared(county, order, own, notes) as (name, files):
-            return asked(name, files, order, own, notes)
+        with prepared(county, order, notes) as source:
+            ended = source.ask(order.program, "fingerprint", order.flags, order.memory)
+            if ended.returncode == 0 and DIGITS.fullmatch(ended.stdout):
+                return Answer("made", ended.stdout[:64].decode(), tuple(notes))
+            line, *hints = source.complaint(ended)
     except Rejected as rejected:
         return Answer("refused", str(rejected), tuple(notes))
     except Unreadable as failure:
@@ -107,39 +136,38 @@ def judge(county: County, order: Order, own: Own) -> Answer:
         return Answer("memory", "out of memory", tuple(notes))
     except OSError as error:
         return Answer("failed", f"can't be read or unpacked: {reason(error)}", tuple(notes))
-
-
-Files = list[Optional[str]]
-"""The files that are the parts of a set, in their order. A part that isn't there is None."""
+    # Signals end a program that finds no memory in one way or another; a shell between reports them as a status over 128.
+    lacks_memory = line.startswith("refused 9 ") or not 0 <= ended.returncode <= 128
+    kind = "memory" if lacks_memory else "refused" if line.startswith("refused ") else "failed"
+    return Answer(kind, line, (*notes, *hints))
 
 
 @contextmanager
-def prepared(county: County, order: Order, own: Own, notes: list[str]) -> Iterator[tuple[str, Files]]:
-    """The set as the program reads it: a file, or a stem of single files in capitals."""
+def prepared(county: County, order: Order, notes: list[str]) -> Iterator[Source]:
+    """The set as the program reads it, with links to files, copies and unpacked ones where they are needed."""
     with ExitStack() as stack:
         if county.whole:
-            place = local(county.whole, own, stack)
-            yield place, [place]
-            return
-        stem = unzipped(county.zip, order, own, notes, stack) if county.zip else single_files(county, order, own, notes, stack)
-        yield stem, [file_name(stem, kind) for kind in TYPES]
+            place = local(county.whole, stack)
+        else:
+            place = unzipped(county.zip, order, notes, stack) if county.zip else single_files(county, order, notes, stack)
+        yield Source(county.stem, place, is_stem=not county.whole)
 
 
-def local(file: File, own: Own, stack: ExitStack) -> str:
+def local(file: File, stack: ExitStack) -> str:
     """A file on this machine: itself, or a copy of what a URL leads to."""
     if not is_url(file.place):
         return file.place
-    place = f"{stack.enter_context(own.folder(file.size or 0))}/{STEM}"
+    place = stack.enter_context(PROCESS.place(file.size or 0))
     fetch(file.place, file.size, place)
     return place
 
 
-def single_files(county: County, order: Order, own: Own, notes: list[str], stack: ExitStack) -> str:
+def single_files(county: County, order: Order, notes: list[str], stack: ExitStack) -> str:
     """The stem of a county's single files: their own, or that of links to them and of copies."""
     note_files({kind: file.size for kind, file in county.files.items()}, order, notes)
     if county.readable_stem is not None:
         return county.readable_stem
-    stem = f"{stack.enter_context(own.folder(county.size))}/{STEM}"
+    stem = stack.enter_context(PROCESS.place(county.size))
     for kind, file in county.files.items():
         if is_url(file.place):
             fetch(file.place, file.size, file_name(stem, kind))
@@ -148,17 +176,19 @@ def single_files(county: County, order: Order, own: Own, notes: list[str], stack
     return stem
 
 
-def unzipped(file: File, order: Order, own: Own, notes: list[str], stack: ExitStack) -> str:
+def unzipped(file: File, order: Order, notes: list[str], stack: ExitStack) -> str:
     """The stem of the files in a zip, which are unpacked."""
-    archive = stack.enter_context(opened(local(file, own, stack)))
+    archive = stack.enter_context(opened(local(file, stack)))
     members = members_of(archive)
     sizes = {kind: member.file_size for kind, member in members.items()}
     note_files(sizes, order, notes)
     size = sum(sizes.values())
     if size > order.largest:
         raise Unreadable(f"the zip unpacks to {size} bytes, more than --largest {order.largest}")
-    stem = f"{stack.enter_context(own.folder(size))}/{STEM}"
-    unpack(archive, members, stem)
+    stem = stack.enter_context(PROCESS.place(size))
+    for kind, member in members.items():
+        with open(file_name(stem, kind), "wb") as target:
+            target.writelines(pieces_of(archive, member))
     return stem
 
 
@@ -181,32 +211,6 @@ def endings(kinds: Iterable[str]) -> str:
     return " ".join(f".RT{kind}" for kind in kinds)
 
 
-def asked(name: str, files: Files, order: Order, own: Own, notes: list[str]) -> Answer:
-    """What the program answers for a set."""
-    stem = ["--stem"] if len(files) > 1 else []
-    words = [order.program, "fingerprint", *stem, *order.flags, "--", name]
-    ended = own.run(words, order.memory)
-    if ended.returncode == 0 and DIGITS.fullmatch(ended.stdout):
-        return Answer("made", ended.stdout[:64].decode(), tuple(notes))
-    line = complaint(ended)
-    # Signals end a program that finds no memory in one way or another; a shell between reports them as a status over 128.
-    lacks_memory = line.startswith("refused 9 ") or not 0 <= ended.returncode <= 128
-    kind = "memory" if lacks_memory else "refused" if line.startswith("refused ") else "failed"
-    return Answer(kind, line, (*notes, *filter(None, [hint(line, files)])))
-
-
-def complaint(ended: subprocess.CompletedProcess[bytes]) -> str:
-    """The program's line, or what can be said about its end."""
-    lines = ended.stderr.decode(errors="replace").strip().splitlines()
-    if ended.returncode < 0:
-        return f"the program was ended by signal {-ended.returncode}"
-    if lines:
-        return printable(lines[-1])
-    if ended.returncode == 0:
-        return "the program printed something else than a fingerprint"
-    return f"the program ended with status {ended.returncode}"
-
-
 def judge_on_a_worker(county: tuple[Any, ...], order: tuple[Any, ...]) -> tuple[str, str, tuple[str, ...]]:
     """Judges a county on a worker, by the program at the client's path or the one on the worker's PATH. Both come as the plain
     tuples that `astuple` makes: the client's classes aren't known to workers."""
@@ -219,5 +223,5 @@ def judge_on_a_worker(county: tuple[Any, ...], order: tuple[Any, ...]) -> tuple[
     stem, files, whole, packed, *rest = county
     singles = {kind: File(*file) for kind, file in files.items()}
     there = County(stem, singles, whole and File(*whole), packed and File(*packed), *rest)
-    answer = judge(there, replace(named, program=program), Own())
+    answer = judge(there, replace(named, program=program))
     return answer.kind, answer.text, answer.notes

@@ -2,9 +2,7 @@
 
 import re
 
-TYPES = "1245678IP"
-"""The record types of the nine files, in the order of a set's parts."""
-
+TYPES = "1245678IP"  # the record types of the nine files, in the order of a set's parts
 COUNTY_FILE = re.compile(r"(?ais)(.+)\.(?:RT([0-9A-Z])|ZIP)")
 """The name of a file of records, in either case of its ending, or of a zip: the stem, and the record type."""
 

@@ -180,9 +180,7 @@ def written(name: str, flags: Flags) -> Iterator[Manifest]:
     folder = os.path.dirname(os.path.realpath(name))
     if not os.path.isdir(folder):
         raise Failure(f"{name}: can't be written: there is no folder {folder}")
-    with ExitStack() as stack:
-        with PROCESS.lock:
-            stack.enter_context(PROCESS.at_end(partial(give_back, name, take_lock(name))))
+    with PROCESS.kept(partial(take_lock, name), partial(give_back, name)):
         manifest = Manifest(name, flags)
         yield manifest
         manifest.put_in_order()
@@ -223,9 +221,9 @@ def respect_lock(name: str) -> None:
 
 def give_back(name: str, handle: int) -> None:
     """Removes the file while it is locked: another run that has opened it finds that it is no longer the file of that name."""
-    with suppress(OSError):
-        os.unlink(lock_of(name))
-    os.close(handle)
+    for undo in (partial(os.unlink, lock_of(name)), partial(os.close, handle)):
+        with suppress(OSError):
+            undo()
 
 
 def lock(name: str, handle: int, how: int, patience: float) -> None:

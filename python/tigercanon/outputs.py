@@ -5,6 +5,7 @@ from __future__ import annotations
 import os
 import stat
 from contextlib import ExitStack, contextmanager, suppress
+from functools import partial
 from typing import Iterable, Iterator
 
 from .errors import Failure, reported
@@ -62,10 +63,7 @@ def new_files(names: Iterable[str]) -> Iterator[dict[str, NewFile]]:
     """Files to be written, by their names, which take the places of these names when all are whole. If anything goes wrong, a
     signal for example, there are none of them, and what had these names is as it was."""
     with ExitStack() as stack:
-        files: dict[str, NewFile] = {}
-        for name in names:
-            files[name] = NewFile(name)
-            stack.enter_context(PROCESS.at_end(files[name].discard))
+        files = {name: stack.enter_context(PROCESS.kept(partial(NewFile, name), NewFile.discard)) for name in names}
         yield files
         for file in files.values():
             file.finish()

@@ -10,25 +10,21 @@ import subprocess
 import tempfile
 import threading
 import time
-from contextlib import ExitStack, contextmanager, suppress
+from contextlib import contextmanager, suppress
+from functools import partial
 from pathlib import Path
-from typing import Callable, Iterator, Sequence
+from typing import Callable, Iterator, Sequence, TypeVar
 
 from .program import TUNABLES
 
 PREFIX = "tigercanon-"
 VARIABLE = "TIGERCANON_SHM"
-IN_MEMORY = "/dev/shm"
-"""The folder in memory, if the variable doesn't name another one; an empty variable means none."""
+IN_MEMORY = "/dev/shm"  # the folder in memory, if the variable doesn't name another one; an empty variable means none
+SPARE = 64 << 20  # folders are made in memory only if this many bytes stay free there
+STALE = 60.0  # a folder that nobody holds is removed by a later run once it is this many seconds old
+PATIENCE = 0.3  # a thread that is printing or writing keeps the end of the run waiting for at most this many seconds
 
-SPARE = 64 << 20
-"""Folders are made in memory only if this many bytes stay free there."""
-
-STALE = 60.0
-"""A folder that nobody holds is removed by a later run once it is this many seconds old."""
-
-PATIENCE = 0.3
-"""A thread that is printing or writing keeps the end of the run waiting for at most this many seconds."""
+T = TypeVar("T")
 
 
 class Own:
@@ -37,9 +33,25 @@ class Own:
 
     def __init__(self) -> None:
         self.lock = threading.RLock()
-        self.children: set[subprocess.Popen[bytes]] = set()
-        self.folders: dict[str, int] = {}
-        self.last: list[Callable[[], None]] = []
+        self.ends: list[Callable[[], None]] = []
+
+    def __reduce__(self) -> tuple[type[Own], tuple[()]]:
+        """A worker of a cluster is sent a new one."""
+        return Own, ()
+
+    @contextmanager
+    def kept(self, make: Callable[[], T], undo: Callable[[T], None]) -> Iterator[T]:
+        """Makes something, which is undone at the end of the block, or before that if the run ends."""
+        with self.lock:
+            made = make()
+            end = partial(undo, made)
+            self.ends.append(end)
+        try:
+            yield made
+        finally:
+            with self.lock:
+                end()
+                self.ends.remove(end)
 
     def run(self, words: Sequence[str], memory: int | None = None) -> subprocess.CompletedProcess[bytes]:
         """Runs the program in a session of its own, so that all of it can be ended. memory limits its address space. Its settings
@@ -47,57 +59,47 @@ class Own:
         pipe, nothing, environment = subprocess.PIPE, subprocess.DEVNULL, {"GLIBC_TUNABLES": TUNABLES, **os.environ}
         if memory is not None:
             words = ["/bin/sh", "-c", f'ulimit -v {memory // 1024} && exec "$@"', "sh", *words]
-        with self.lock:
-            child = subprocess.Popen(words, stdin=nothing, stdout=pipe, stderr=pipe, env=environment, start_new_session=True)
-            self.children.add(child)
-        try:
+
+        def start() -> subprocess.Popen[bytes]:
+            return subprocess.Popen(words, stdin=nothing, stdout=pipe, stderr=pipe, env=environment, start_new_session=True)
+
+        with self.kept(start, kill) as child:
             out, err = child.communicate()
-        finally:
-            with self.lock:
-                self.children.discard(child)
         return subprocess.CompletedProcess(words, child.returncode, out, err)
 
     @contextmanager
-    def folder(self, size: int) -> Iterator[str]:
-        """A temporary folder, in memory if this many bytes fit there, else where TMPDIR says."""
-        with self.lock:
-            path = tempfile.mkdtemp(prefix=PREFIX, dir=room_for(size))
-            # While the folder is locked, no other run removes it.
-            self.folders[path] = handle = os.open(path, os.O_RDONLY | os.O_DIRECTORY)
-            fcntl.flock(handle, fcntl.LOCK_EX)
-        try:
-            yield path
-        finally:
-            with self.lock:
-                remove(path)
-                os.close(self.folders.pop(path))
-
-    @contextmanager
-    def at_end(self, action: Callable[[], None]) -> Iterator[None]:
-        """Has an action done at the end of the block, or when a signal ends the run before."""
-        with self.lock:
-            self.last.append(action)
-        try:
-            yield
-        finally:
-            with self.lock:
-                self.last.remove(action)
-                action()
+    def place(self, size: int) -> Iterator[str]:
+        """A name in a temporary folder, which is in memory if this many bytes fit there, else where TMPDIR says."""
+        made = partial(tempfile.mkdtemp, prefix=PREFIX, dir=room_for(size))
+        with self.kept(made, remove) as folder, locked(folder, fcntl.LOCK_EX):
+            yield f"{folder}/county"
 
     def end(self) -> None:
         """Ends the processes and removes the folders. Nothing can be started or made afterwards."""
         self.lock.acquire(timeout=PATIENCE)
-        for child in self.children:
-            with suppress(ProcessLookupError, PermissionError):
-                os.killpg(child.pid, signal.SIGKILL)
-        for path in list(self.folders):
-            remove(path)
-        for action in reversed(self.last):
-            action()
+        for end in self.ends[::-1]:
+            end()
 
 
-PROCESS = Own()
-"""What belongs to this process. Tasks on the workers of a cluster have some of their own."""
+PROCESS = Own()  # what belongs to this process
+
+
+def kill(child: subprocess.Popen[bytes]) -> None:
+    """Ends a child that hasn't ended, with all that it has started."""
+    if child.poll() is None:
+        with suppress(ProcessLookupError, PermissionError):
+            os.killpg(child.pid, signal.SIGKILL)
+
+
+@contextmanager
+def locked(folder: str, how: int) -> Iterator[None]:
+    """While a folder is locked, no other run removes it."""
+    handle = os.open(folder, os.O_RDONLY | os.O_DIRECTORY | os.O_NOFOLLOW)
+    try:
+        fcntl.flock(handle, how)
+        yield
+    finally:
+        os.close(handle)
 
 
 def remove(path: str) -> None:
@@ -122,10 +124,8 @@ def remove_stale_folders() -> None:
     """Removes the folders of runs that were killed."""
     for room in filter(None, {os.environ.get(VARIABLE, IN_MEMORY), tempfile.gettempdir()}):
         for path in Path(room).glob(f"{PREFIX}*"):
-            with suppress(OSError), ExitStack() as stack:  # a run may hold it
+            with suppress(OSError):  # a run may hold it
                 status = path.lstat()
                 if status.st_uid == os.geteuid() and time.time() - status.st_mtime >= STALE:
-                    handle = os.open(path, os.O_RDONLY | os.O_DIRECTORY | os.O_NOFOLLOW)
-                    stack.callback(os.close, handle)
-                    fcntl.flock(handle, fcntl.LOCK_EX | fcntl.LOCK_NB)
-                    remove(str(path))
+                    with locked(str(path), fcntl.LOCK_EX | fcntl.LOCK_NB):
+                        remove(str(path))

@@ -13,12 +13,10 @@ from typing import Any, Iterable
 
 from .errors import Failure, printable, reason
 
-PAUSE = 10.0
-"""Seconds between two lines of progress if standard error isn't a terminal."""
+PAUSE = 10.0  # seconds between two lines of progress if standard error isn't a terminal
 
 
-LOCK = threading.Lock()
-"""Keeps lines whole: it is held while one is printed."""
+LOCK = threading.Lock()  # keeps lines whole: it is held while one is printed
 
 
 def print_lines(lines: Iterable[str]) -> None:

@@ -10,9 +10,7 @@ from typing import Any, Iterator, NamedTuple
 
 from .errors import Failure, Unreadable, reason
 
-PAUSES = (0.5, 2.0)
-"""Seconds between the three attempts to read a file at a URL."""
-
+PAUSES = (0.5, 2.0)  # seconds between the three attempts to read a file at a URL
 NO_ROOM = (errno.ENOSPC, errno.EDQUOT, errno.EFBIG)
 
 

@@ -4,7 +4,7 @@ import zipfile
 from typing import Iterator
 
 from .errors import Unreadable
-from .layout import TYPES, file_name, kind_of, stem_of
+from .layout import TYPES, kind_of, stem_of
 
 END_OF_DIRECTORY = b"PK\5\6"
 LONGEST_END = 65557
@@ -53,13 +53,6 @@ def members_of(archive: zipfile.ZipFile) -> Members:
         if found[0].flag_bits & 1:
             raise Unreadable("the zip is locked with a password")
     return {kind: members[kind][0] for kind in TYPES if kind in members}
-
-
-def unpack(archive: zipfile.ZipFile, members: Members, stem: str) -> None:
-    """Unpacks the files under the names of a stem. Raises Unreadable, and OSError if they can't be written."""
-    for kind, member in members.items():
-        with open(file_name(stem, kind), "wb") as target:
-            target.writelines(pieces_of(archive, member))
 
 
 def pieces_of(archive: zipfile.ZipFile, member: zipfile.ZipInfo) -> Iterator[bytes]:

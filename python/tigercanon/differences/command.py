@@ -31,8 +31,7 @@ Exit status: 0 if the two are one map, 1 if they differ, 2 if they can't be
 compared or the answer can't be written.
 """
 
-PATIENCE = 2.0
-"""After this many seconds the progress is reported on standard error."""
+PATIENCE = 2.0  # after this many seconds the progress is reported on standard error
 
 
 class Progress(threading.Timer):
@@ -101,7 +100,7 @@ def compared(options: argparse.Namespace, outputs: list[str]) -> int:
         page, geojson = files.get(options.page), files.get(options.geojson)
         sources = [stack.enter_context(opened(name, options.stem)) for name in (options.first, options.second)]
         progress.at("normalising both sets")
-        one, other = printed(program, ("normalise", *masks), sources)
+        one, other = printed(program, "normalise", masks, sources)
         sets = Sets(Canonical(printable(options.first), one), Canonical(printable(options.second), other), masks)
         progress.at("reading the canonical texts")
         first, second = read_county(sets.first.text), read_county(sets.second.text)
@@ -110,7 +109,7 @@ def compared(options: argparse.Namespace, outputs: list[str]) -> int:
         numbers: BothOwn = ()
         if geojson or options.json:
             progress.at("finding the sets' own numbers")
-            texts = zip(printed(program, ["respell"], sources), (first, second))
+            texts = zip(printed(program, "respell", (), sources), (first, second))
             numbers = [own_numbers(read_county(text), county, masks) for text, county in texts]
         if page and leaflet:
             progress.at("writing the page")

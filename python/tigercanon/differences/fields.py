@@ -37,9 +37,7 @@ class Text(NamedTuple):
     mark: Hashable
 
 
-NOTHING = Text("", "", "")
-"""A field that isn't there."""
-
+NOTHING = Text("", "", "")  # a field that isn't there
 THERE = Text(YES, YES, YES)
 """The field of something that has nothing to compare: a node, for example, has only a number, which differs from file to file."""
 

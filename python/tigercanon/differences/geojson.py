@@ -22,8 +22,7 @@ ABOUT = "Where two maps differ, found by tigercanon-tools diff: an aid, and not 
 
 SIDES = ("first", "second")
 
-Feature = tuple[str, Properties]
-"""A difference: its geometry as JSON, and its properties."""
+Feature = tuple[str, Properties]  # a difference: its geometry as JSON, and its properties
 
 
 def write_geojson(file: NewFile, comparison: Comparison, sets: Sets, own: BothOwn, with_alike: bool) -> None:

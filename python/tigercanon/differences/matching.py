@@ -16,6 +16,7 @@ from __future__ import annotations
 from collections import defaultdict
 from dataclasses import dataclass, field, replace
 from functools import cached_property, partial
+from itertools import product
 from typing import Any, Callable, Generic, Hashable, Iterator, NamedTuple, Optional, Sequence, TypeVar
 
 from .columns import CHAIN, LANDMARK, RANGE
@@ -24,7 +25,6 @@ from .reading import NO_POINT, POINT_WIDTH, Chain, County, Landmark, Name, Polyg
 from .reading import comes_after_its_reverse, each_point, number_of, reversed_points
 
 T = TypeVar("T")
-Key = Callable[[Landmark], Optional[Hashable]]
 
 
 @dataclass
@@ -43,6 +43,12 @@ class Matched(Generic[T]):
     @property
     def is_alike(self) -> bool:
         return not any(self.counts[:3])
+
+    def pair(self, found: list[Pair[T]], *keys: Callable[[T], Optional[Hashable]]) -> None:
+        """Pairs what is alone in both maps and has one key, by one kind of key after another."""
+        for key in keys:
+            pairs, self.first, self.second = pair_by(self.first, self.second, key)
+            found += pairs
 
 
 class Tie(NamedTuple):
@@ -73,14 +79,14 @@ class Comparison:
     @cached_property
     def ties(self) -> list[Tie]:
         """The nodes, polygons and names that are one in one map and several in the other."""
+        tied = [at for pair in self.certain for at in ties_of(*pair, self.first, self.second)]
         ties: list[Tie] = []
-        for subject, find in (("node", tied_nodes), ("polygon", tied_polygons), ("feature name", tied_names)):
-            for is_one_in_first in (True, False):
-                found: dict[str, dict[str, list[Tied]]] = defaultdict(lambda: defaultdict(list))
-                for at in (at for pair in self.certain for at in find(*pair, self.first, self.second)):
-                    one, other = (at.first, at.second) if is_one_in_first else (at.second, at.first)
-                    found[one][other].append(at)
-                ties += [Tie(subject, is_one_in_first, list(groups.values())) for groups in found.values() if len(groups) > 1]
+        for subject, is_one_in_first in product(("node", "polygon", "feature name"), (True, False)):
+            found: dict[str, dict[str, list[Tied]]] = defaultdict(lambda: defaultdict(list))
+            for at in (at for at in tied if at.subject == subject):
+                one, other = (at.first, at.second) if is_one_in_first else (at.second, at.first)
+                found[one][other].append(at)
+            ties += [Tie(subject, is_one_in_first, list(groups.values())) for groups in found.values() if len(groups) > 1]
         return ties
 
     @property
@@ -103,8 +109,8 @@ def compare(first: County, second: County) -> Comparison:
     polygons = match_polygons(first, second, certain)
     one, other = marks_of(polygons)
     tellers = Teller(first, one), Teller(second, other)
-    same_names, ones, others = pair_by(first.names.values(), second.names.values(), lambda name: name.body)
-    names = Matched(ones, others, [], same_names)
+    names = Matched([*first.names.values()], [*second.names.values()])
+    names.pair(names.alike, lambda name: name.body)
     return Comparison(*tellers, certain, match_chains(groups, *tellers), match_landmarks(*tellers), polygons, names)
 
 
@@ -174,12 +180,10 @@ def match_polygons(first: County, second: County, certain: list[Pair[Chain]]) ->
     """Matches polygons by their content, the others by their point, and then by the sides of chains."""
     both = zip((first, second), first_sides(certain))
     sides = {polygon: found[key] for county, found in both for key, polygon in county.polygons.items() if key in found}
-    ones, others = list(first.polygons.values()), list(second.polygons.values())
-    alike, ones, others = pair_by(ones, others, lambda polygon: (polygon.content, sides.get(polygon)))
-    more, ones, others = pair_by(ones, others, lambda polygon: polygon.content)
-    at_one_point, ones, others = pair_by(ones, others, lambda polygon: polygon.point if polygon.point != NO_POINT else None)
-    on_one_side, ones, others = pair_by(ones, others, sides.get)
-    return Matched(ones, others, at_one_point + on_one_side, alike + more)
+    matched = Matched([*first.polygons.values()], [*second.polygons.values()])
+    matched.pair(matched.alike, lambda polygon: (polygon.content, sides.get(polygon)), lambda polygon: polygon.content)
+    matched.pair(matched.changed, lambda polygon: polygon.point if polygon.point != NO_POINT else None, sides.get)
+    return matched
 
 
 def first_sides(certain: list[Pair[Chain]]) -> Pair[dict[PolygonKey, tuple[int, str]]]:
@@ -218,19 +222,16 @@ def match_landmarks(first: Teller, second: Teller) -> Matched[Landmark]:
         values = tuple(sorted(LANDMARK.value(body, name) for body in landmark.bodies))
         return values if any(not value.isspace() for value in values) else None
 
-    ones, others = first.county.landmarks, second.county.landmarks
-    alike, ones, others = pair_by(ones, others, lambda landmark: (bodies(landmark), places(landmark)))
-    changed = []
-    keys: list[Key] = [bodies, partial(column, "LALONG, LALAT"), partial(column, "LANAME"), places]
-    for key in keys:
-        pairs, ones, others = pair_by(ones, others, key)
-        changed += pairs
-    return Matched(ones, others, changed, alike)
+    matched = Matched(first.county.landmarks, second.county.landmarks)
+    matched.pair(matched.alike, lambda landmark: (bodies(landmark), places(landmark)))
+    matched.pair(matched.changed, bodies, partial(column, "LALONG, LALAT"), partial(column, "LANAME"), places)
+    return matched
 
 
 class Tied(NamedTuple):
     """A number of the first map and one of the second that a chain of both maps has at one place."""
 
+    subject: str
     first: str
     second: str
     chain: Chain
@@ -243,29 +244,21 @@ class Tied(NamedTuple):
         return points[{"start": 0, "end": -1}.get(self.place, len(points) // 2)]
 
 
-def tied_nodes(chain: Chain, twin: Chain, _first: Teller, _second: Teller) -> Iterator[Tied]:
-    """The nodes at both ends."""
+def ties_of(chain: Chain, twin: Chain, first: Teller, second: Teller) -> Iterator[Tied]:
+    """The nodes at both ends of a chain, the polygons on sides with the same content in both maps, and the further names, if they
+    are the same."""
     for place, one, other in zip(("start", "end"), chain.nodes, twin.nodes):
         if not (one.isspace() or other.isspace()):
-            yield Tied(one, other, chain, place)
-
-
-def tied_polygons(chain: Chain, twin: Chain, first: Teller, second: Teller) -> Iterator[Tied]:
-    """The polygons on sides with the same content in both maps."""
+            yield Tied("node", one, other, chain, place)
     for place, one, other in zip(("left side", "right side"), chain.sides, twin.sides):
         if one in first.marks and first.marks[one] == second.marks.get(other):
-            yield Tied(one, other, chain, place)
-
-
-def tied_names(chain: Chain, twin: Chain, first: Teller, second: Teller) -> Iterator[Tied]:
-    """The further names, if they are the same."""
+            yield Tied("polygon", one, other, chain, place)
     if chain.feats and first.county.name_bodies(chain) == second.county.name_bodies(twin):
-        for place, (one, other) in enumerate(zip(chain.feats, twin.feats), 1):
-            yield Tied(one, other, chain, f"further name {place}")
+        for number, (one, other) in enumerate(zip(chain.feats, twin.feats), 1):
+            yield Tied("feature name", one, other, chain, f"further name {number}")
 
 
-OwnNumbers = dict[str, int]
-"""The number in the user's files of each chain, landmark and polygon, by its key in the canonical text."""
+OwnNumbers = dict[str, int]  # the number in the user's files of each chain, landmark and polygon, by its key in the canonical text
 
 
 def own_numbers(records: County, canonical: County, masks: Sequence[str] = ()) -> OwnNumbers:

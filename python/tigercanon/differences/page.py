@@ -21,15 +21,12 @@ from .words import tie_line, tied_place, verdict
 
 DEBIAN_LEAFLET = "/usr/share/javascript/leaflet"
 
-MOST_CHAINS = 300_000
-"""With more chains than this, those that are alike are left out."""
-
+MOST_CHAINS = 300_000  # with more chains than this, those that are alike are left out
 ROOM_FOR_FIELDS = 5_000_000
 """The page has at most this many characters of fields. After them a difference has only its name and its place."""
 
 
-Leaflet = tuple[str, str]
-"""The script and the style of the library that draws the map."""
+Leaflet = tuple[str, str]  # the script and the style of the library that draws the map
 
 
 def find_leaflet(folder: str | None) -> Leaflet:

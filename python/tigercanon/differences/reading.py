@@ -14,12 +14,8 @@ from .columns import CHAIN, LANDMARK, LENGTHS, LINK, NAME, POLYGON, RANGE
 
 POINT_WIDTH = 19
 NO_POINT = " " * POINT_WIDTH
-UNUSED_PLACES = re.compile(r"(\+000000000\+00000000)+$")
-"""The unused places at the end of a record of type 2."""
-
-Records = dict[str, list[str]]
-"""The lines of each record type."""
-
+UNUSED_PLACES = re.compile(r"(\+000000000\+00000000)+$")  # the unused places at the end of a record of type 2
+Records = dict[str, list[str]]  # the lines of each record type
 PolygonKey = str
 """The office that numbers a polygon, in 5 columns, and its number there, in 10. On a side the number may be blank: no polygon."""
 

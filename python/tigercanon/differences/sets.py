@@ -10,19 +10,10 @@ from typing import Iterator, NamedTuple, Sequence
 
 from ..counties import Finder
 from ..errors import Failure, Unreadable, printable, reported
-from ..hints import hint
-from ..judge import Files, Order, complaint, prepared
+from ..judge import Order, Source, prepared
 from ..layout import TYPES, file_name, kind_of
 from ..own import PROCESS
 from ..storage import tidy
-
-
-class Source(NamedTuple):
-    """A set: its name on the command line, the name that the program gets, and the files that are its parts."""
-
-    name: str
-    place: str
-    files: Files
 
 
 class Canonical(NamedTuple):
@@ -64,29 +55,26 @@ def opened(name: str, is_stem: bool) -> Iterator[Source]:
             other = "it is one file with all records, not a zip or one of a county's nine files"
             raise Failure(f"{name}: {county.trouble or other}")
         try:
-            with prepared(county, Order(""), PROCESS, []) as (place, files):
-                yield Source(name, place, files)
+            with prepared(county, Order(""), []) as source:
+                yield source._replace(name=name)
         except Unreadable as error:
             raise Failure(f"{name}: {error}") from None
     elif stat.S_ISREG(mode):
-        yield Source(name, name, [name])
+        yield Source(name, name, is_stem=False)
     else:
-        with PROCESS.folder(0) as folder:  # a copy of what can be read only once, such as a pipe
-            place = os.path.join(folder, "set")
-            with reported(shown, "can't be read"), open(name, "rb") as source, open(place, "wb") as copy:
-                shutil.copyfileobj(source, copy)
-            yield Source(name, place, [place])
+        with PROCESS.place(0) as place:  # a copy of what can be read only once, such as a pipe
+            with reported(shown, "can't be read"), open(name, "rb") as piped, open(place, "wb") as copy:
+                shutil.copyfileobj(piped, copy)
+            yield Source(name, place, is_stem=False)
 
 
-def printed(program: str, command: Sequence[str], sources: Sequence[Source]) -> list[bytes]:
+def printed(program: str, job: str, flags: Sequence[str], sources: Sequence[Source]) -> list[bytes]:
     """What the program prints for each set, all at once. The first set that is rejected is reported."""
 
     def printed_for(source: Source) -> bytes:
-        stem = ["--stem"] if len(source.files) > 1 else []
-        ended = PROCESS.run([program, *command, *stem, "--", source.place])
+        ended = source.ask(program, job, flags)
         if ended.returncode != 0:
-            line = complaint(ended)
-            raise Failure("; ".join(filter(None, [f"{printable(source.name)}: {line}", hint(line, source.files)])))
+            raise Failure(f"{printable(source.name)}: {'; '.join(source.complaint(ended))}")
         return ended.stdout
 
     with ThreadPoolExecutor() as threads:
