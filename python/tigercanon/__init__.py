@@ -27,8 +27,7 @@ it. Without it, the first call raises ImportError; the command tigercanon-tools 
 """
 
 from . import _library
-from ._library import OutOfMemory, Refusal
-from ._parts import Part, Set
+from ._library import OutOfMemory, Part, Refusal, Set
 from .version import VERSION as __version__
 
 __all__ = ["FORM", "OutOfMemory", "Part", "Refusal", "Set", "__version__"]

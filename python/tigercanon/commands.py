@@ -67,8 +67,8 @@ def parser() -> Parser:
     made = Parser(prog=NAME, description=ABOUT, epilog=STATUSES, formatter_class=raw, allow_abbrev=False)
     made.add_argument("--version", action="version", version=f"{NAME} {VERSION}")
     commands = made.add_subparsers(metavar="COMMAND", required=True, dest="command")
-    for add in (add_fingerprint, add_verify, add_duplicates, add_changes, add_diff, add_explain):
-        add(commands)
+    add_judging_commands(commands)
+    add_other_commands(commands)
     return made
 
 
@@ -80,27 +80,24 @@ def add_command(commands: Any, name: str, about: str, run: Callable[[argparse.Na
     return made
 
 
-def add_program(made: argparse.ArgumentParser) -> None:
-    where = "default: the one that $TIGERCANON names, else the one built here, else the one on the PATH"
-    made.add_argument("--program", metavar="FILE", help=f"run this program tigercanon ({where})")
+WHERE = "default: the one that $TIGERCANON names, else the one built here, else the one on the PATH"
+SHARED: dict[str, dict[str, Any]] = {
+    "--program": {"metavar": "FILE", "help": f"run this program tigercanon ({WHERE})"},
+    "--no-sources": {"action": "store_true", "help": "leave out the fields that record where data came from"},
+    "--no-reserved": {"action": "store_true", "help": "leave out the reserved fields"},
+    "--json": {"action": "store_true", "help": "print a list in JSON"},
+    "manifest": {"metavar": "MANIFEST", "help": "a manifest that the command fingerprint has written"},
+}
 
 
-def add_masks(made: argparse.ArgumentParser) -> None:
-    made.add_argument("--no-sources", action="store_true", help="leave out the fields that record where data came from")
-    made.add_argument("--no-reserved", action="store_true", help="leave out the reserved fields")
+def add_shared(made: argparse.ArgumentParser, *names: str) -> None:
+    """Adds arguments that several commands have."""
+    for name in names:
+        made.add_argument(name, **SHARED[name])
 
 
-def add_json(made: argparse.ArgumentParser) -> None:
-    made.add_argument("--json", action="store_true", help="print a list in JSON")
-
-
-def add_manifest(made: argparse.ArgumentParser) -> None:
-    made.add_argument("manifest", metavar="MANIFEST", help="a manifest that the command fingerprint has written")
-
-
-def add_judging(made: argparse.ArgumentParser) -> None:
-    """The options of the commands that judge counties."""
-    add_program(made)
+def add_judging_options(made: argparse.ArgumentParser) -> None:
+    add_shared(made, "--program")
     engine = made.add_mutually_exclusive_group()
     engine.add_argument("--jobs", metavar="N", type=count_of, help="process N counties at a time (default: one per processor)")
     about = "use the workers of the Dask scheduler at this address, or at the one in a file that the scheduler has written"
@@ -109,55 +106,44 @@ def add_judging(made: argparse.ArgumentParser) -> None:
     made.add_argument("--memory", metavar="SIZE", type=size_of, help=about)
     about = f"skip zips that unpack to more than SIZE (default: {LARGEST})"
     made.add_argument("--largest", metavar="SIZE", type=size_of, default=size_of(LARGEST), help=about)
-    add_masks(made)
-    add_json(made)
+    add_shared(made, "--no-sources", "--no-reserved", "--json")
 
 
-def add_fingerprint(commands: Any) -> None:
+def add_judging_commands(commands: Any) -> None:
     about = "print or write a manifest: the fingerprint and the name of each county"
     made = add_command(commands, "fingerprint", about, lambda options: runs.Fingerprints(options)())
     about = "write the manifest to this file; counties that it already lists are skipped"
     made.add_argument("-o", "--output", metavar="MANIFEST", help=about)
     about = "reject a county if one of its files is missing, or if the one of type 1, 2 or I is empty"
     made.add_argument("--strict", action="store_true", help=about)
-    add_judging(made)
+    add_judging_options(made)
     made.add_argument("sources", metavar="SOURCE", nargs="+", help="where the counties are")
 
-
-def add_verify(commands: Any) -> None:
     about = "check counties against their fingerprints in a manifest: OK, FAILED or MISSING for each"
     made = add_command(commands, "verify", about, lambda options: runs.Verification(options)())
     made.add_argument("--quiet", action="store_true", help="don't print counties that are OK")
     made.add_argument("--root", metavar="FOLDER", help="look for the names in the manifest below this folder")
-    add_judging(made)
-    add_manifest(made)
+    add_judging_options(made)
+    add_shared(made, "manifest")
     made.add_argument("sources", metavar="SOURCE", nargs="*", help="print NEW for each county here that isn't in the manifest")
 
 
-def add_duplicates(commands: Any) -> None:
+def add_other_commands(commands: Any) -> None:
     made = add_command(commands, "duplicates", "list the counties of a manifest that are one map, in groups", list_duplicates)
-    add_json(made)
-    add_manifest(made)
+    add_shared(made, "--json", "manifest")
 
-
-def add_changes(commands: Any) -> None:
     about = "list how two manifests differ: counties that are the same, changed, added or removed"
     made = add_command(commands, "changes", about, list_changes)
     made.description = f"{made.description} Counties are matched by their names without folder, case and ending."
     made.add_argument("--quiet", action="store_true", help="don't print counties that are the same")
-    add_json(made)
+    add_shared(made, "--json")
     made.add_argument("old", metavar="OLD", help="the earlier manifest")
     made.add_argument("new", metavar="NEW", help="the later manifest")
 
-
-def add_diff(commands: Any) -> None:
     made = add_command(commands, "diff", "show where two maps differ, as text, a page or GeoJSON", differences.run)
-    add_program(made)
-    add_masks(made)
+    add_shared(made, "--program", "--no-sources", "--no-reserved")
     differences.add_arguments(made)
 
-
-def add_explain(commands: Any) -> None:
     made = add_command(commands, "explain", "explain a refusal: what it means, an example, and what to do", explain.run)
     made.add_argument("line", metavar="LINE", nargs="+", help="the line that the program printed, or the refusal's number or name")
 

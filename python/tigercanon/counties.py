@@ -133,16 +133,16 @@ class Finder:
         folder, name = parted(stem)
         names: Names = {}
         try:
-            names = self.names(folder).get(name, names)
+            names = self.names(folder).get(name, {})
         except Exception as error:
             if not is_url(path) and not isinstance(error, FileNotFoundError):
                 return County(path, trouble=f"can't be read: {reason(error)}")
-        if is_url(path) and not names:
-            names = probed(stem)
+        if is_url(path) and not names:  # a plain server of files can't list a folder
+            names = names_among(probed(stem)).get(name, {})
         return county_of(stem, folder, names) if names else whole(path)
 
 
-def names_among(found: list[Entry]) -> dict[str, Names]:
+def names_among(found: Iterable[Entry]) -> dict[str, Names]:
     """The stems in a folder with these entries."""
     grouped: dict[str, Names] = {}
     for entry in found:
@@ -192,11 +192,9 @@ def absolute(path: str) -> str:
     return path if is_url(path) else os.path.abspath(path)
 
 
-def probed(stem: str) -> Names:
-    """The files of a stem in a folder that can't be listed, as on a plain server of files."""
-    found, name = [], parted(stem)[1]
+def probed(stem: str) -> Iterator[Entry]:
+    """The files of a stem that are there, each asked for by its name."""
     for ending in (".ZIP", ".zip", *(f".RT{kind}" for kind in TYPES)):
         system, path = system_of(stem + ending)
         with suppress(Exception):
-            found.append(Entry(name + ending, False, system.info(path).get("size")))
-    return names_among(found).get(name, {})
+            yield Entry(parted(stem + ending)[1], False, system.info(path).get("size"))

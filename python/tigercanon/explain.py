@@ -42,14 +42,12 @@ def explained(line: str, text: str) -> list[str]:
 
 
 def places(meanings: list[str], given: list[str]) -> list[str]:
-    """The places of a refusal with their meanings: `part 1, line 201`, or `CENID 06001, POLYID 1`. The name of a field is in
-    capitals, and a CENID is shown as in the file."""
+    """The places of a refusal with their meanings: `part 1, line 201`, or `CENID 06001, POLYID 1`, with the CENID as in the file."""
     shown = []
     for meaning, place in zip(meanings, given) if len(given) == len(meanings) else []:
-        is_cenid = meaning == "CENID" and re.fullmatch("[0-9A-Fa-f]{10}", place)
-        shown.append(
-            f"{meaning if meaning in FIELDS else meaning.lower()} {bytes.fromhex(place).decode('latin-1') if is_cenid else place}"
-        )
+        if meaning == "CENID" and re.fullmatch("[0-9A-Fa-f]{10}", place):
+            place = bytes.fromhex(place).decode("latin-1")
+        shown.append(f"{meaning if meaning in FIELDS else meaning.lower()} {place}")
     return ["", ", ".join(shown)] if shown else []
 
 

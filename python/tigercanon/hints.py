@@ -4,6 +4,8 @@ from __future__ import annotations
 
 import os
 import re
+from contextlib import suppress
+from pathlib import Path
 from typing import Sequence
 
 FAULTY_LINE = re.compile(r"refused ([1-6]) \w+ (\d+) (\d+)\b.*")
@@ -15,32 +17,25 @@ BEGINNINGS = (
     (b"\xfe\xff", "the file is UTF-16: convert it to LATIN1 first"),
     (b"\xef\xbb\xbf", "the file begins with a byte order mark: remove its first three bytes"),
 )
-CONTROL_Z = b"\x1a"
 
 
 def hint(line: str, files: Sequence[str | None]) -> str:
     """What to look at after a refusal, or nothing. files are the parts of the set in their order."""
     if line.startswith("refused 8 "):
-        return names_hint(files)
+        return names_hint([file for file in files if file and not os.path.exists(file)])
     found = FAULTY_LINE.match(line)
-    if not found or not 1 <= int(found[2]) <= len(files):
-        return ""
-    file = files[int(found[2]) - 1]
-    try:
-        return bytes_hint(file, int(found[3])) if file else ""
-    except OSError:
-        return ""
+    file = files[int(found[2]) - 1] if found and 1 <= int(found[2]) <= len(files) else None
+    with suppress(OSError):
+        return bytes_hint(file, int(found[3])) if found and file else ""
+    return ""
 
 
-def names_hint(files: Sequence[str | None]) -> str:
+def names_hint(missing: Sequence[str]) -> str:
     """Files that can't be opened because their names are in lower case."""
-    for file in files:
-        if file and not os.path.exists(file):
-            folder, name = os.path.split(file)
-            stem, ending = os.path.splitext(name)
-            for other in (stem + ending.lower(), name.lower()):
-                if other != name and os.path.exists(os.path.join(folder, other)):
-                    return f"there is {other}: the program reads names in capitals only"
+    for path in map(Path, missing):
+        for other in (path.stem + path.suffix.lower(), path.name.lower()):
+            if other != path.name and path.with_name(other).exists():
+                return f"there is {other}: the program reads names in capitals only"
     return ""
 
 
@@ -54,6 +49,6 @@ def bytes_hint(file: str, line: int) -> str:
             if line == 1 and start.startswith(beginning):
                 return text
         opened.seek(0)
-        if end.rstrip(b"\r\n").endswith(CONTROL_Z) and line == sum(1 for _ in opened):
+        if end.rstrip(b"\r\n").endswith(b"\x1a") and line == sum(1 for _ in opened):
             return "the file ends with a Control-Z, the end mark of an old system: remove it"
     return ""

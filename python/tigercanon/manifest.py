@@ -221,9 +221,10 @@ def respect_lock(name: str) -> None:
 
 def give_back(name: str, handle: int) -> None:
     """Removes the file while it is locked: another run that has opened it finds that it is no longer the file of that name."""
-    for undo in (partial(os.unlink, lock_of(name)), partial(os.close, handle)):
-        with suppress(OSError):
-            undo()
+    with suppress(OSError):
+        os.unlink(lock_of(name))
+    with suppress(OSError):
+        os.close(handle)
 
 
 def lock(name: str, handle: int, how: int, patience: float) -> None:

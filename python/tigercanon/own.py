@@ -70,7 +70,10 @@ class Own:
     @contextmanager
     def place(self, size: int) -> Iterator[str]:
         """A name in a temporary folder, which is in memory if this many bytes fit there, else where TMPDIR says."""
-        made = partial(tempfile.mkdtemp, prefix=PREFIX, dir=room_for(size))
+        room, fits = os.environ.get(VARIABLE, IN_MEMORY), False
+        with suppress(OSError):
+            fits = bool(room) and shutil.disk_usage(room).free >= size + SPARE
+        made = partial(tempfile.mkdtemp, prefix=PREFIX, dir=room if fits else None)
         with self.kept(made, remove) as folder, locked(folder, fcntl.LOCK_EX):
             yield f"{folder}/county"
 
@@ -109,15 +112,6 @@ def remove(path: str) -> None:
         if not os.path.lexists(path):
             return
         time.sleep(0.01)
-
-
-def room_for(size: int) -> str | None:
-    """The folder in memory, if this many bytes fit there; None is where TMPDIR says."""
-    room = os.environ.get(VARIABLE, IN_MEMORY)
-    try:
-        return room if room and shutil.disk_usage(room).free >= size + SPARE else None
-    except OSError:
-        return None
 
 
 def remove_stale_folders() -> None:

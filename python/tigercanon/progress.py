@@ -14,19 +14,15 @@ from typing import Any, Iterable
 from .errors import Failure, printable, reason
 
 PAUSE = 10.0  # seconds between two lines of progress if standard error isn't a terminal
-
-
 LOCK = threading.Lock()  # keeps lines whole: it is held while one is printed
 
 
 def print_lines(lines: Iterable[str]) -> None:
     """Prints lines on standard output. Raises BrokenPipeError if the reader is gone, and Failure if it can't be written."""
-    text = "".join(f"{line}\n" for line in lines)
-    if not text:
-        return
     try:
-        sys.stdout.buffer.write(os.fsencode(text))
-        sys.stdout.buffer.flush()
+        if text := "".join(f"{line}\n" for line in lines):
+            sys.stdout.buffer.write(os.fsencode(text))
+            sys.stdout.buffer.flush()
     except BrokenPipeError:
         raise
     except (OSError, AttributeError) as error:
@@ -78,9 +74,13 @@ class Tally:
         self.started = self.reported_at = time.monotonic()
 
     def start(self, counties: int, bytes_in_all: int) -> None:
-        """What there is to do is known."""
+        """What there is to do is known. A bar shows how much is done, where standard error is a terminal and tqdm is installed."""
         self.counties, self.bytes_in_all = counties, bytes_in_all
-        Tally.bar = bar_of(counties) if counties else None
+        with suppress(ImportError, AttributeError):
+            if counties and sys.stderr.isatty():
+                from tqdm import tqdm
+
+                Tally.bar = tqdm(total=counties, unit=" counties", file=sys.stderr, leave=False, dynamic_ncols=True)
 
     def end(self, size: int) -> None:
         """One county more is done."""
@@ -113,13 +113,3 @@ class Tally:
     @property
     def took(self) -> str:
         return f"{amount(self.bytes)} in {duration(time.monotonic() - self.started)}"
-
-
-def bar_of(counties: int) -> Any | None:
-    """A progress bar, where standard error is a terminal and tqdm is installed."""
-    with suppress(ImportError, AttributeError):
-        if sys.stderr.isatty():
-            from tqdm import tqdm
-
-            return tqdm(total=counties, unit=" counties", file=sys.stderr, leave=False, dynamic_ncols=True)
-    return None

@@ -4,7 +4,6 @@ from __future__ import annotations
 
 import errno
 import os
-import stat
 import time
 from typing import Any, Iterator, NamedTuple
 
@@ -54,11 +53,10 @@ def entries(folder: str) -> list[Entry]:
 
 def local_entry(item: os.DirEntry[str]) -> Entry:
     try:
-        status = item.stat()
+        trouble = "" if item.is_dir() or item.is_file() else "isn't a regular file"
+        return Entry(item.name, item.is_dir(), item.stat().st_size, trouble)
     except OSError as error:
         return Entry(item.name, False, None, f"can't be read: {reason(error)}")
-    is_folder, is_file = stat.S_ISDIR(status.st_mode), stat.S_ISREG(status.st_mode)
-    return Entry(item.name, is_folder, status.st_size, "" if is_file or is_folder else "isn't a regular file")
 
 
 def system_of(url: str) -> tuple[Any, str]:

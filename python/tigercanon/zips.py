@@ -20,18 +20,13 @@ def opened(path: str) -> zipfile.ZipFile:
     except (OSError, MemoryError):
         raise
     except Exception:
-        raise Unreadable(trouble_with(path)) from None
-
-
-def trouble_with(path: str) -> str:
-    """Why the directory of a zip can't be read."""
-    with open(path, "rb") as file:
-        if file.read(2) != b"PK":
-            return "it isn't a zip"
-        file.seek(max(0, file.seek(0, 2) - LONGEST_END))
-        if END_OF_DIRECTORY not in file.read():
-            return "the zip is cut off"
-    return "the zip is broken: its directory can't be read"
+        with open(path, "rb") as file:
+            if file.read(2) != b"PK":
+                raise Unreadable("it isn't a zip") from None
+            file.seek(max(0, file.seek(0, 2) - LONGEST_END))
+            if END_OF_DIRECTORY not in file.read():
+                raise Unreadable("the zip is cut off") from None
+        raise Unreadable("the zip is broken: its directory can't be read") from None
 
 
 def members_of(archive: zipfile.ZipFile) -> Members:

@@ -17,8 +17,7 @@ from .matching import Comparison, compare, own_numbers
 from .page import find_leaflet, write_page
 from .reading import NotCanonical, read_county
 from .sets import Canonical, Sets, is_of_a_set, opened, printed
-from .things import KINDS, SUBJECTS
-from .words import told
+from .words import KINDS, SUBJECTS, told
 
 ABOUT = """\
 Show where two maps differ. FIRST and SECOND are each a file with all records

@@ -38,8 +38,8 @@ class Text(NamedTuple):
 
 
 NOTHING = Text("", "", "")  # a field that isn't there
+# The field of something that has nothing to compare: a node, for example, has only a number, which differs from file to file.
 THERE = Text(YES, YES, YES)
-"""The field of something that has nothing to compare: a node, for example, has only a number, which differs from file to file."""
 
 Fields = dict[FieldName, Text]
 
@@ -75,9 +75,8 @@ class Teller(NamedTuple):
         for hand, side in zip(("left", "right"), chain.sides):
             fields[FieldName(f"CENID{hand[0].upper()}", f"office of the polygon on the {hand}")] = text_of(side[:5])
             if not side[5:].isspace():
-                fields[FieldName(f"{hand} polygon", f"the polygon on the {hand}, by what its record says")] = self.polygon_text(
-                    side
-                )
+                name = FieldName(f"{hand} polygon", f"the polygon on the {hand}, by what its record says")
+                fields[name] = self.polygon_text(side)
         fields.update(text_fields(LINK, chain.link_body, " of type I"))
         return fields
 
@@ -165,14 +164,11 @@ def rows(first: Fields | None, second: Fields | None) -> list[Row]:
             if first is None or second is None:
                 told = (None if first is None else one.plain, None if second is None else other.plain, False)
             else:
-                told = (shown(name, one, other), shown(name, other, one), differ(one, other))
+                # A field that isn't there says as little as a blank one.
+                differs = (one.plain and one.mark) != (other.plain and other.mark)
+                told = (shown(name, one, other), shown(name, other, one), differs)
             table.append(Row(name, *told, one.exact, other.exact))
     return table
-
-
-def differ(one: Text, other: Text) -> bool:
-    """Whether a field says something else in the two maps. One that isn't there says as little as a blank one."""
-    return (one.plain and one.mark) != (other.plain and other.mark)
 
 
 def shown(name: FieldName, text: Text, other: Text) -> str:

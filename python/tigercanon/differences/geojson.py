@@ -12,8 +12,7 @@ from .fields import BLANK, NONE, YES, FieldName, decimal
 from .matching import Comparison, OwnNumbers, Tie
 from .reading import number_of
 from .sets import Sets
-from .things import KINDS, Thing, things
-from .words import tie_line, tied_place, verdict
+from .words import KINDS, Thing, things, tie_line, tied_place, verdict
 
 Properties = dict[str, Any]
 BothOwn = Sequence[OwnNumbers]

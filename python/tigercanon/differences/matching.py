@@ -1,14 +1,9 @@
 """Finds what two maps have in common and what differs.
 
-Chains are matched by their points. If several have the same points, they are matched as a multiset, by their fields. Polygons are
-matched by the content of their records; the others by their point, and then by the chains beside them. Landmarks are matched in the
-same way; the others by their records, points, names and polygons. Feature names are compared as a multiset.
-
 Each map has numbers of its own, so numbers are never compared. The things that they tie together come after the rest.
 
-A canonical text has numbers of its own. The same set, respelled by the program, keeps its own numbers. Both describe
-one map, so they are matched as two maps are: chains by their points, landmarks and polygons by their content. Things
-that nothing tells apart may have their numbers exchanged.
+A canonical text has numbers of its own. The same set, respelled by the program, keeps its own numbers. Both describe one map, so they
+are matched as two maps are. Things that nothing tells apart may have their numbers exchanged.
 """
 
 from __future__ import annotations
@@ -115,6 +110,7 @@ def compare(first: County, second: County) -> Comparison:
 
 
 def match_chains(groups: list[Pair[list[Chain]]], first: Teller, second: Teller) -> Matched[Chain]:
+    """Matches chains by their points, and those of the same points by their fields."""
     matched: Matched[Chain] = Matched()
     for ones, others in groups:
         if len(ones) == len(others) == 1 and says(ones[0], first) == says(others[0], second):
@@ -130,16 +126,17 @@ def match_chains(groups: list[Pair[list[Chain]]], first: Teller, second: Teller)
 def match_group(ones: list[Chain], others: list[Chain], first: Teller, second: Teller, matched: Matched[Chain]) -> None:
     """Matches chains of the same points as a multiset: those with the same content, and then those that differ the least.
     A chain that is its own reverse may be seen from either end."""
-    if is_own_reverse(ones[0]):
+    may_be_turned = is_own_reverse(ones[0])
+    if may_be_turned:
         ones = [lesser_turn(chain, first) for chain in ones]
         others = [lesser_turn(chain, second) for chain in others]
     said = {chain: says(chain, teller) for chains, teller in ((ones, first), (others, second)) for chain in chains}
     alike, ones, others = pair_by(ones, others, said.get)
     matched.alike += alike
     while ones and others:
+        seen = [each for other in others for each in ([other, turned(other)] if may_be_turned else [other])]
         one, other = min(
-            ((one, seen) for one in ones for other in others for seen in ways_to_see(other)),
-            key=lambda pair: sum(row.differs for row in rows(first.chain(pair[0]), second.chain(pair[1]))),
+            product(ones, seen), key=lambda pair: sum(row.differs for row in rows(first.chain(pair[0]), second.chain(pair[1])))
         )
         matched.changed.append((one, other))
         ones = [chain for chain in ones if chain is not one]
@@ -166,14 +163,9 @@ def turned(chain: Chain) -> Chain:
     return replace(chain, body=body, points=points, ranges=ranges, nodes=chain.nodes[::-1], sides=chain.sides[::-1])
 
 
-def ways_to_see(chain: Chain) -> list[Chain]:
-    """The chain, and its turn if its points don't tell the two apart."""
-    return [chain, turned(chain)] if is_own_reverse(chain) else [chain]
-
-
 def lesser_turn(chain: Chain, teller: Teller) -> Chain:
     """Of the ways to see a chain that is its own reverse the one that says the lesser."""
-    return min(ways_to_see(chain), key=lambda seen: repr(says(seen, teller)))
+    return min(chain, turned(chain), key=lambda seen: repr(says(seen, teller)))
 
 
 def match_polygons(first: County, second: County, certain: list[Pair[Chain]]) -> Matched[Polygon]:
@@ -262,15 +254,11 @@ OwnNumbers = dict[str, int]  # the number in the user's files of each chain, lan
 
 
 def own_numbers(records: County, canonical: County, masks: Sequence[str] = ()) -> OwnNumbers:
-    """The numbers in these records of the things in their canonical text, which was printed with these masks."""
-    found = compare(as_in_a_canonical_text(records, masks), canonical)
-    return {other.key: number_of(one.key) for part in found.parts[:3] for one, other in part.alike + part.changed}
-
-
-def as_in_a_canonical_text(county: County, masks: Sequence[str]) -> County:
-    """The county with its chains turned and its landmarks masked as in its canonical text. Chains are matched by their
-    points, so that they need no mask."""
-    landmarks, chains = county.landmarks, [turned(each) if comes_after_its_reverse(each.points) else each for each in county.chains]
+    """The numbers in these records of the things in their canonical text, which was printed with these masks. They are compared
+    with chains turned and landmarks masked as there. Chains are matched by their points, so that they need no mask."""
+    chains = [turned(each) if comes_after_its_reverse(each.points) else each for each in records.chains]
+    landmarks = records.landmarks
     if "--no-sources" in masks:
         landmarks = [replace(each, bodies=[LANDMARK.blanked(body, "SOURCE") for body in each.bodies]) for each in landmarks]
-    return replace(county, chains=chains, landmarks=landmarks)
+    found = compare(replace(records, chains=chains, landmarks=landmarks), canonical)
+    return {other.key: number_of(one.key) for part in found.parts[:3] for one, other in part.alike + part.changed}

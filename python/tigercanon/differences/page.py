@@ -16,8 +16,7 @@ from .fields import FieldName, Row, chain_title, landmark_points, landmark_title
 from .matching import Comparison, Tie
 from .reading import NO_POINT, each_point, position
 from .sets import Sets
-from .things import KINDS, SUBJECTS, Thing, things
-from .words import tie_line, tied_place, verdict
+from .words import KINDS, SUBJECTS, Thing, things, tie_line, tied_place, verdict
 
 DEBIAN_LEAFLET = "/usr/share/javascript/leaflet"
 

@@ -1,19 +1,86 @@
-"""Writes the report of where two maps differ as text."""
+"""What differs, thing by thing, as each report shows it; and the report as text."""
 
+from functools import partial
 from itertools import groupby
-from typing import Iterator
+from typing import Any, Callable, Iterator, NamedTuple
 
-from .fields import Row, chain_title, degrees
+from .columns import NAME
+from .fields import BLANK, Row, chain_title, degrees, landmark_points, landmark_rows, landmark_title, name_text
+from .fields import polygon_fields, polygon_words, rows
 from .matching import Comparison, Tie, Tied
+from .reading import NO_POINT, each_point
 from .sets import Sets
-from .things import KINDS, things
 
+KINDS = ("in the first alone", "in the second alone", "changed", "alike")
 ONE_MAP = "No differences: the two are one map."
 TIED = (
     "All chains, landmarks, polygons and feature names are alike. What differs is how they are tied: which ends of "
     "chains are one node, which sides are one polygon, which chains share a feature name, or which polygons a "
     "landmark lies in."
 )
+
+
+class Thing(NamedTuple):
+    """A thing as the first map has it and as the second one has it. One of the two may be None. `about` follows its
+    title. `points` are a chain's points, or the place of a landmark or a polygon. `number_field` is the field with its
+    number, if it has one. `rows` makes its fields in both maps."""
+
+    what: str
+    kind: str
+    one: Any
+    other: Any
+    title: str
+    about: str
+    points: list[str]
+    number_field: str = ""
+    rows: Callable[[], list[Row]] = list
+
+    @property
+    def name(self) -> str:
+        """The title where `what` isn't shown beside it."""
+        return f"polygon {self.title}" if self.what == "polygon" else self.title
+
+
+def chain(found: Comparison, kind: str, one: Any, other: Any) -> Thing:
+    points = each_point((one or other).points)
+    about = f"{len(points)} points, from {degrees(points[0])} to {degrees(points[-1])}"
+    title, (first, second) = chain_title(one or other), (found.first.chain, found.second.chain)
+    return Thing("chain", kind, one, other, title, about, points, "TLID", lambda: rows(one and first(one), other and second(other)))
+
+
+def landmark(found: Comparison, kind: str, one: Any, other: Any) -> Thing:
+    points = landmark_points(one or other, (found.first if one else found.second).county)
+    more = f" and {len(points) - 1:,} more" if len(points) > 1 else ""
+    about = f"at {degrees(points[0])}{more}" if points else "without a place"
+    table = partial(landmark_rows, found.first, found.second, one, other)
+    return Thing("landmark", kind, one, other, landmark_title(one or other), about, points, "LAND", table)
+
+
+def polygon(_: Comparison, kind: str, one: Any, other: Any) -> Thing:
+    either, fields = one or other, polygon_fields
+    points = [either.point] if either.point != NO_POINT else []
+    title, about = polygon_words(either.body), f"CENID {either.cenid.strip() or BLANK}"
+    return Thing(
+        "polygon", kind, one, other, title, about, points, "POLYID", lambda: rows(one and fields(one), other and fields(other))
+    )
+
+
+def feature_name(_: Comparison, kind: str, one: Any, other: Any) -> Thing:
+    body, uses = (one or other).body, (one or other).uses
+    file = NAME.value(body, "FILE").strip() or BLANK
+    about = f"FILE {file}, a further name of {f'{uses:,}' if uses else 'no'} chain{'' if uses == 1 else 's'}"
+    return Thing("feature name", kind, one, other, name_text(NAME, body) or BLANK, about, [])
+
+
+SUBJECTS = {"chain": chain, "landmark": landmark, "polygon": polygon, "feature name": feature_name}
+
+
+def things(comparison: Comparison, with_alike: bool = False) -> Iterator[Thing]:
+    """Everything that isn't alike, or everything: the things of each subject, in the order of their kinds."""
+    for make, matched in zip(SUBJECTS.values(), comparison.parts):
+        ones, others = ((one, None) for one in matched.first), ((None, other) for other in matched.second)
+        for kind, pairs in zip(KINDS, (ones, others, matched.changed, matched.alike if with_alike else [])):
+            yield from (make(comparison, kind, *pair) for pair in pairs)
 
 
 def verdict(comparison: Comparison, sets: Sets) -> str:
@@ -36,13 +103,16 @@ def told(comparison: Comparison, sets: Sets, is_summary: bool = False) -> Iterat
         yield ONE_MAP
         return
     yield from told_counts(comparison)
+    tied = [f"tied in another way: {len(comparison.ties):,}"] if comparison.ties else []
     if is_summary:
-        yield from [f"tied in another way: {len(comparison.ties):,}"] if comparison.ties else []
+        yield from tied
         return
     yield from told_things(comparison)
     if comparison.is_alike:
         yield from ["", TIED]
-    yield from told_ties(comparison.ties)
+    yield from ["", *tied] if tied else []
+    for tie in comparison.ties:
+        yield from ["", f"  {tie_line(tie)}", *("      " + "; ".join(map(tied_place, group)) for group in tie.groups)]
 
 
 def told_counts(comparison: Comparison) -> Iterator[str]:
@@ -73,16 +143,6 @@ def differing(rows: list[Row]) -> Iterator[str]:
     widths = [max(map(len, column)) for column in zip(*cells)]
     for label, one, other in cells:
         yield f"      {label:{widths[0]}}  {one:{widths[1]}}  {other}"
-
-
-def told_ties(ties: list[Tie]) -> Iterator[str]:
-    """What is one in one of the maps and several in the other."""
-    if ties:
-        yield from ["", f"tied in another way: {len(ties):,}"]
-    for tie in ties:
-        yield from ["", f"  {tie_line(tie)}"]
-        for group in tie.groups:
-            yield "      " + "; ".join(map(tied_place, group))
 
 
 def tie_line(tie: Tie) -> str:
