@@ -58,29 +58,16 @@ class OutOfMemory(Refusal, MemoryError):
     """Memory ran out: refusal 9."""
 
 
-FORMS = {
-    1: ("UnknownType", "number number"),
-    2: ("LineTooLong", "number number"),
-    3: ("BadByte", "number number number"),
-    4: ("BadNumber", "number number number"),
-    5: ("BadPoint", "number number number"),
-    6: ("GapInRecord", "number number number"),
-    7: ("TooManyRecords", "type"),
-    9: ("Memory", ""),
-    11: ("ChainTwice", "number"),
-    12: ("NoChain", "type number"),
-    13: ("SequenceBroken", "type number"),
-    14: ("LinkMissing", "number"),
-    15: ("LinkTwice", "number"),
-    16: ("NameTwice", "number"),
-    17: ("NameUnknown", "number number"),
-    18: ("PolygonTwice", "cenid number"),
-    19: ("LandUnknown", "number"),
-    20: ("PolygonUnknown", "cenid number"),
-    23: ("PolygonWithoutChain", "cenid number"),
-    24: ("TooSymmetric", ""),
+REFUSALS = {
+    "number": {11: "ChainTwice", 14: "LinkMissing", 15: "LinkTwice", 16: "NameTwice", 19: "LandUnknown"},
+    "number number": {1: "UnknownType", 2: "LineTooLong", 17: "NameUnknown"},
+    "number number number": {3: "BadByte", 4: "BadNumber", 5: "BadPoint", 6: "GapInRecord"},
+    "type": {7: "TooManyRecords"},
+    "type number": {12: "NoChain", 13: "SequenceBroken"},
+    "cenid number": {18: "PolygonTwice", 20: "PolygonUnknown", 23: "PolygonWithoutChain"},
+    "": {9: "Memory", 24: "TooSymmetric"},
 }
-"""The name of each refusal that a call can report, and the kinds of its places."""
+"""The refusals that a call can report, by the kinds of their places."""
 
 
 class Text(ctypes.Structure):
@@ -107,9 +94,9 @@ class Fault(ctypes.Structure):
     _fields_ = [("number", c_uint8), ("set", c_uint8), ("record_type", c_uint8), ("cenid", c_uint8 * 5), ("numbers", c_uint64 * 3)]
 
     def refusal(self) -> Refusal:
-        name, kinds = FORMS[self.number]
+        (kinds,) = (kinds for kinds, names in REFUSALS.items() if self.number in names)
         places = {"type": iter([chr(self.record_type)]), "cenid": iter([bytes(self.cenid).hex()]), "number": iter(self.numbers)}
-        raised = OutOfMemory if self.number == 9 else Refusal
+        raised, name = OutOfMemory if self.number == 9 else Refusal, REFUSALS[kinds][self.number]
         return raised(self.number, name, tuple(next(places[kind]) for kind in kinds.split()), self.set or None)
 
 

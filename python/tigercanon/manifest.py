@@ -57,10 +57,15 @@ class Line(NamedTuple):
         return f"{self.fingerprint}  {self.stem}"
 
 
-def parsed(name: str, text: bytes) -> tuple[Flags | None, list[Line]]:
-    """The flags of a manifest, or None if it has no whole line, and its counties. An interrupted run may have left a part of a line
-    at its end, which is left out. Raises Failure if it is another file."""
-    *whole, rest = text.split(b"\n")
+def parsed(name: str) -> tuple[Flags | None, list[Line], bytes]:
+    """The flags of a manifest, or None if it has no whole line, its counties, and the part of a line that an interrupted run has left
+    at its end. Raises Failure if it is another file."""
+    try:
+        if not stat.S_ISREG(os.stat(name).st_mode):
+            raise Failure(f"{name}: not a manifest: it isn't a regular file")
+        *whole, rest = Path(name).read_bytes().split(b"\n")
+    except OSError as error:
+        raise Failure(f"{name}: {reason(error)}") from None
     flags = HEADINGS.get(whole[0]) if whole else None
     lines = whole if flags is None else whole[1:]
     for number, line in enumerate(lines, 1 + len(whole) - len(lines)):
@@ -68,25 +73,14 @@ def parsed(name: str, text: bytes) -> tuple[Flags | None, list[Line]]:
             raise Failure(f"{name}: not a manifest: line {number} isn't a fingerprint and a name")
     if not STARTED_LINE.fullmatch(rest) and not any(each.startswith(rest) for each in HEADINGS):
         raise Failure(f"{name}: not a manifest: its last line isn't a fingerprint and a name")
-    pairs = [Line(line[:64].decode(), os.fsdecode(line[66:])) for line in lines]
-    return (flags or ()) if whole else None, pairs
-
-
-def read(name: str) -> bytes:
-    """The bytes of a manifest, which must be a regular file."""
-    try:
-        if not stat.S_ISREG(os.stat(name).st_mode):
-            raise Failure(f"{name}: not a manifest: it isn't a regular file")
-        return Path(name).read_bytes()
-    except OSError as error:
-        raise Failure(f"{name}: {reason(error)}") from None
+    counties = [Line(line[:64].decode(), os.fsdecode(line[66:])) for line in lines]
+    return (flags or ()) if whole else None, counties, rest
 
 
 def loaded(name: str) -> tuple[Flags | None, list[Line]]:
     """The flags and the counties of a whole manifest, with at least one county. Raises Failure."""
-    text = read(name)
-    flags, lines = parsed(name, text)
-    if text and not text.endswith(b"\n"):
+    flags, lines, rest = parsed(name)
+    if rest:
         raise Failure(f"{name}: its last line is cut off; let the run that writes it finish first")
     if not lines:
         raise Failure(f"{name}: the manifest is empty")
@@ -145,7 +139,7 @@ class Manifest:
         self.place = os.path.realpath(name)
         self.lines: list[Line] = []
         if os.path.lexists(self.place):
-            made, self.lines = parsed(name, read(name))
+            made, self.lines, _ = parsed(name)
             agreed(name, made, flags)
             with reported(name):
                 open(self.place, "ab").close()

@@ -15,7 +15,7 @@ from ..progress import print_lines, report
 from .geojson import BothOwn, features, head, write_geojson
 from .matching import Comparison, compare, own_numbers
 from .page import find_leaflet, write_page
-from .reading import NotCanonical, read_county
+from .reading import read_county
 from .sets import Canonical, Sets, is_of_a_set, opened, printed
 from .words import KINDS, SUBJECTS, told
 
@@ -68,10 +68,7 @@ def run(options: argparse.Namespace) -> int:
     """Runs the subcommand and returns its exit status."""
     outputs = outputs_of(options)
     gc.disable()  # the counties are kept until the end, and looking for garbage in them takes a third of the time
-    try:
-        return compared(options, outputs)
-    except NotCanonical as fault:
-        raise Failure(f"the program doesn't print a canonical text: {fault}") from None
+    return compared(options, outputs)
 
 
 def outputs_of(options: argparse.Namespace) -> list[str]:

@@ -10,6 +10,7 @@ from collections import defaultdict
 from dataclasses import dataclass, field
 from sys import intern
 
+from ..errors import Failure
 from .columns import CHAIN, LANDMARK, LENGTHS, LINK, NAME, POLYGON, RANGE
 
 POINT_WIDTH = 19
@@ -20,8 +21,11 @@ PolygonKey = str
 """The office that numbers a polygon, in 5 columns, and its number there, in 10. On a side the number may be blank: no polygon."""
 
 
-class NotCanonical(Exception):
-    """The text isn't one that the program prints."""
+class NotCanonical(Failure):
+    """The text isn't one that the program prints. The text of the error says why."""
+
+    def __init__(self, why: str) -> None:
+        super().__init__(f"the program doesn't print a canonical text: {why}")
 
 
 @dataclass(eq=False)
