@@ -180,24 +180,28 @@ def lent(parts: Set) -> Iterator[tuple[Any, int]]:
 
 
 def parts_of(parts: Set) -> Iterable[Any]:
-    """The parts of a set, each as an object that lends its bytes. A path is one of a file, of a zip, or the stem of a county."""
+    """The parts of a set. A path is one of a file, of a zip, or the stem of a county."""
     if not isinstance(parts, (str, os.PathLike)):
-        return map(bytes_of, [parts] if lends_bytes(parts) or hasattr(parts, "read") else parts)
+        return [parts] if lends_bytes(parts) or hasattr(parts, "read") else parts
     path = os.fspath(parts)
     if not os.path.lexists(path):
         return files_behind(path)
     return files_in_zip(path) if kind_of(path) == "ZIP" or zipfile.is_zipfile(path) else [Path(path).read_bytes()]
 
 
-def bytes_of(part: Any) -> Any:
-    """The part as an object that lends its bytes. A file is read from its current position to its end."""
+def view_of(part: Any) -> memoryview:
+    """All bytes of a part, whatever the size of its items. A file is read from its current position to its end. Raises BufferError if
+    they aren't in one piece."""
     if isinstance(part, (str, os.PathLike)):
-        return Path(part).read_bytes()
-    if hasattr(part, "read") and not lends_bytes(part):
+        part = Path(part).read_bytes()
+    elif hasattr(part, "read") and not lends_bytes(part):
         part = part.read()
     if not lends_bytes(part):
         raise TypeError(f"a part is bytes, a file opened in binary mode or a path, not {type(part).__name__}")
-    return part
+    with memoryview(part) as view:
+        if not view.c_contiguous:
+            raise BufferError("a part has to lend its bytes in one piece")
+        return view.cast("B") if view.nbytes else memoryview(b"")
 
 
 def lends_bytes(part: object) -> bool:
@@ -206,14 +210,6 @@ def lends_bytes(part: object) -> bool:
             return True
     except TypeError:
         return False
-
-
-def view_of(part: Any) -> memoryview:
-    """All bytes of a part, whatever the size of its items. Raises BufferError if they aren't in one piece."""
-    with memoryview(part) as view:
-        if not view.c_contiguous:
-            raise BufferError("a part has to lend its bytes in one piece")
-        return view.cast("B") if view.nbytes else memoryview(b"")
 
 
 def files_behind(stem: str) -> list[bytes]:

@@ -1,7 +1,5 @@
 """The command line: one command with a subcommand for each job."""
 
-from __future__ import annotations
-
 import argparse
 import os
 import re

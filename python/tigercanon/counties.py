@@ -10,7 +10,7 @@ from typing import Callable, Iterable, Iterator
 
 from .errors import Failure, reason
 from .judge import County, File
-from .layout import TYPES, file_name, kind_of, stem_of
+from .layout import TYPES, kind_of, stem_of
 from .storage import Entry, entries, is_folder, is_url, joined, parted, real, system_of, tidy
 
 MAGIC = re.compile(r"[*?[]")
@@ -77,7 +77,7 @@ class Finder:
             self.counted.add(folder)
             self.skipped.update(ending_of(each.name) for each in found if not each.is_folder and kind_of(each.name) not in KINDS)
         for name, names in self.names(folder).items():
-            yield county_of(joined(folder, name), folder, names)
+            yield county_of(joined(folder, name), names)
         for entry in found:
             if entry.is_folder:
                 yield from self.below(joined(folder, entry.name), seen)
@@ -139,7 +139,7 @@ class Finder:
                 return County(path, trouble=f"can't be read: {reason(error)}")
         if is_url(path) and not names:  # a plain server of files can't list a folder
             names = names_among(probed(stem)).get(name, {})
-        return county_of(stem, folder, names) if names else whole(path)
+        return county_of(stem, names) if names else whole(path)
 
 
 def names_among(found: Iterable[Entry]) -> dict[str, Names]:
@@ -167,10 +167,11 @@ def whole(path: str) -> County:
     return County(path, whole=File(os.path.abspath(path), os.path.getsize(path)))
 
 
-def county_of(stem: str, folder: str, names: Names) -> County:
+def county_of(stem: str, names: Names) -> County:
     """The county of what lies under a stem: its single files if there are any, else its zip."""
     if "\n" in stem:
         return County(stem, trouble="its name has a line break in it")
+    place, length = stem if is_url(stem) else os.path.abspath(stem), len(parted(stem)[1])
     files, is_readable = {}, not is_url(stem)
     listed = {kind: ", ".join(entry.name for entry in names[kind]) for kind in names}
     for kind in [kind for kind in TYPES if kind in names] or ["ZIP"]:
@@ -180,16 +181,12 @@ def county_of(stem: str, folder: str, names: Names) -> County:
             return County(stem, trouble=f"there are {1 + len(others)} {what}: {listed[kind]}")
         if entry.trouble:
             return County(stem, trouble=f"{entry.name} {entry.trouble}")
-        files[kind] = File(absolute(joined(folder, entry.name)), entry.size)
-        is_readable &= entry.name == file_name(parted(stem)[1], kind)
+        files[kind] = File(place + entry.name[length:], entry.size)
+        is_readable &= entry.name[length:] == f".RT{kind}"
     if "ZIP" in files:
         return County(stem, zip=files["ZIP"])
     notes = (f"its single files are read, and not {listed['ZIP']}",) if "ZIP" in names else ()
-    return County(stem, files, notes=notes, readable_stem=absolute(stem) if is_readable else None)
-
-
-def absolute(path: str) -> str:
-    return path if is_url(path) else os.path.abspath(path)
+    return County(stem, files, notes=notes, readable_stem=place if is_readable else None)
 
 
 def probed(stem: str) -> Iterator[Entry]:

@@ -65,14 +65,13 @@ class Engine:
             if future in under_way:
                 yield under_way.pop(future), self.answer(future)
 
-    def begin(self, counties: Sequence[County], order: Order) -> Sequence[Any]:
+    def begin(self, counties: Sequence[County], order: Order) -> Any:
         """Hands over the counties, and returns a future for each."""
         return [self.pool.submit(judge, county, order) for county in counties]
 
-    def answer(self, future: Any) -> Answer:
+    def answer(self, future: Any) -> Any:
         """The result of a future that is done."""
-        result: Answer = future.result()
-        return result
+        return future.result()
 
     def look_round(self, under_way: dict[Any, int]) -> None:
         """Raises Gone if there can be no further answers."""
@@ -86,17 +85,11 @@ class DaskEngine(Engine):
     """Judges counties by the workers of a scheduler that is running."""
 
     def __init__(self, address: str) -> None:
-        self.name = f"the scheduler at {address}"
-        self.run = os.urandom(6).hex()
-        self.client = client_of(address)
-        self.attempts = 0
+        self.name, self.client = f"the scheduler at {address}", client_of(address)
 
-    def begin(self, counties: Sequence[County], order: Order) -> Sequence[Any]:
-        self.attempts += 1
-        keys = [f"tigercanon-{self.run}-{self.attempts}-{number}" for number in range(len(counties))]
+    def begin(self, counties: Sequence[County], order: Order) -> Any:
         arguments = [astuple(county) for county in counties], [astuple(order)] * len(counties)
-        futures: Sequence[Any] = self.client.map(judge_on_a_worker, *arguments, key=keys, pure=False)
-        return futures
+        return self.client.map(judge_on_a_worker, *arguments, key="tigercanon", pure=False)
 
     def answer(self, future: Any) -> Answer:
         """The result of a task. A county isn't blamed for a worker that ended unless this also happens to the county alone."""

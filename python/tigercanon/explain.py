@@ -1,7 +1,5 @@
 """The command explain: what a refusal means, an example line and what to do, from the user guide's own sections."""
 
-from __future__ import annotations
-
 import argparse
 import re
 from pathlib import Path

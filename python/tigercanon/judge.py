@@ -1,7 +1,6 @@
 """One county judged by one process of the program.
 
-These functions also run on the workers of a cluster, where this package need not be installed: they are sent there by value,
-and what they take and return is plain.
+These functions also run on the workers of a cluster, where this package need not be installed: they are sent there by value.
 """
 
 from __future__ import annotations
@@ -10,9 +9,9 @@ import os
 import re
 import shutil
 import subprocess
-from contextlib import ExitStack, contextmanager
+from contextlib import ExitStack
 from dataclasses import dataclass, field, replace
-from typing import Any, Iterable, Iterator, Mapping, NamedTuple, Sequence
+from typing import Any, Iterable, Mapping, NamedTuple, Sequence
 
 from .errors import Unreadable, printable, reason
 from .hints import hint
@@ -35,11 +34,9 @@ class File:
 
 @dataclass(frozen=True)
 class County:
-    """A county in an archive: single files by their types, one file with all records, or a zip.
-
-    stem is its name in a manifest. trouble says why it can't be judged. notes are reported with its result. readable_stem is a
-    stem that the program can read without copies of the files, if their names are in capitals.
-    """
+    """A county in an archive: single files by their types, one file with all records, or a zip. stem is its name in a manifest. trouble
+    says why it can't be judged. notes are reported with its result. readable_stem is one that the program can read without copies of
+    the files, if their names are in capitals."""
 
     stem: str
     files: dict[str, File] = field(default_factory=dict)
@@ -74,11 +71,8 @@ class Order:
 
 @dataclass(frozen=True)
 class Answer:
-    """The result for a county: its fingerprint, or why it has none.
-
-    kind is "made" (text is the fingerprint), "refused" (text is the program's line, or says what strict mode rejects),
-    "failed" (text says what is wrong with its files) or "memory" (it may not have fitted into memory).
-    """
+    """The result for a county. kind is "made" (text is the fingerprint), "refused" (text is the program's line, or says what strict
+    mode rejects), "failed" (text says what is wrong with its files) or "memory" (it may not have fitted into memory)."""
 
     kind: str
     text: str
@@ -123,7 +117,8 @@ def judge(county: County, order: Order) -> Answer:
     """Judges a county. Whatever goes wrong is part of the answer."""
     notes = list(county.notes)
     try:
-        with prepared(county, order, notes) as source:
+        with ExitStack() as stack:
+            source = prepared(county, order, notes, stack)
             ended = source.ask(order.program, "fingerprint", order.flags, order.memory)
             if ended.returncode == 0 and DIGITS.fullmatch(ended.stdout):
                 return Answer("made", ended.stdout[:64].decode(), tuple(notes))
@@ -142,15 +137,13 @@ def judge(county: County, order: Order) -> Answer:
     return Answer(kind, line, (*notes, *hints))
 
 
-@contextmanager
-def prepared(county: County, order: Order, notes: list[str]) -> Iterator[Source]:
-    """The set as the program reads it, with links to files, copies and unpacked ones where they are needed."""
-    with ExitStack() as stack:
-        if county.whole:
-            place = local(county.whole, stack)
-        else:
-            place = unzipped(county.zip, order, notes, stack) if county.zip else single_files(county, order, notes, stack)
-        yield Source(county.stem, place, is_stem=not county.whole)
+def prepared(county: County, order: Order, notes: list[str], stack: ExitStack) -> Source:
+    """The set as the program reads it, with links to files, copies and unpacked ones where they are needed. Notes which of the nine
+    files are missing or empty."""
+    if county.whole:
+        return Source(county.stem, local(county.whole, stack), is_stem=False)
+    place = unzipped(county.zip, order, notes, stack) if county.zip else single_files(county, order, notes, stack)
+    return Source(county.stem, place, is_stem=True)
 
 
 def local(file: File, stack: ExitStack) -> str:

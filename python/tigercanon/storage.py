@@ -59,14 +59,13 @@ def local_entry(item: os.DirEntry[str]) -> Entry:
         return Entry(item.name, False, None, f"can't be read: {reason(error)}")
 
 
-def system_of(url: str) -> tuple[Any, str]:
+def system_of(url: str) -> Any:
     """The file system of a URL, and the path in it."""
     try:
         import fsspec
     except ImportError:
         raise Failure(f"{url} needs the Python package fsspec (Debian: python3-fsspec)") from None
-    system, path = fsspec.core.url_to_fs(url)
-    return system, path
+    return fsspec.core.url_to_fs(url)
 
 
 def remote_entries(folder: str) -> Iterator[Entry]:

@@ -94,7 +94,7 @@ def compared(options: argparse.Namespace, outputs: list[str]) -> int:
         stack.callback(progress.cancel)
         files = stack.enter_context(new_files(outputs))
         page, geojson = files.get(options.page), files.get(options.geojson)
-        sources = [stack.enter_context(opened(name, options.stem)) for name in (options.first, options.second)]
+        sources = [opened(name, options.stem, stack) for name in (options.first, options.second)]
         progress.at("normalising both sets")
         one, other = printed(program, "normalise", masks, sources)
         sets = Sets(Canonical(printable(options.first), one), Canonical(printable(options.second), other), masks)

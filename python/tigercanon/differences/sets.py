@@ -6,7 +6,7 @@ import os
 import shutil
 import stat
 from concurrent.futures import ThreadPoolExecutor
-from typing import Iterator, NamedTuple, Sequence
+from typing import NamedTuple, Sequence
 
 from ..counties import Finder
 from ..errors import Failure, Unreadable, printable, reported
@@ -39,8 +39,7 @@ class Sets(NamedTuple):
         return self.first.text == self.second.text
 
 
-@contextlib.contextmanager
-def opened(name: str, is_stem: bool) -> Iterator[Source]:
+def opened(name: str, is_stem: bool, stack: contextlib.ExitStack) -> Source:
     """The set of this name: one file, a zip with a county, or the stem of a county's files in either case of their
     endings. What the program can't read as it is gets a copy, which is removed in every case."""
     shown, mode = printable(name), 0
@@ -55,17 +54,15 @@ def opened(name: str, is_stem: bool) -> Iterator[Source]:
             other = "it is one file with all records, not a zip or one of a county's nine files"
             raise Failure(f"{name}: {county.trouble or other}")
         try:
-            with prepared(county, Order(""), []) as source:
-                yield source._replace(name=name)
+            return prepared(county, Order(""), [], stack)._replace(name=name)
         except Unreadable as error:
             raise Failure(f"{name}: {error}") from None
-    elif stat.S_ISREG(mode):
-        yield Source(name, name, is_stem=False)
-    else:
-        with PROCESS.place(0) as place:  # a copy of what can be read only once, such as a pipe
-            with reported(shown, "can't be read"), open(name, "rb") as piped, open(place, "wb") as copy:
-                shutil.copyfileobj(piped, copy)
-            yield Source(name, place, is_stem=False)
+    if stat.S_ISREG(mode):
+        return Source(name, name, is_stem=False)
+    place = stack.enter_context(PROCESS.place(0))  # for a copy of what can be read only once, such as a pipe
+    with reported(shown, "can't be read"), open(name, "rb") as piped, open(place, "wb") as copy:
+        shutil.copyfileobj(piped, copy)
+    return Source(name, place, is_stem=False)
 
 
 def printed(program: str, job: str, flags: Sequence[str], sources: Sequence[Source]) -> list[bytes]:
