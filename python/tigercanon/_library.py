@@ -83,8 +83,6 @@ class Buffer(ctypes.Structure):
 
 
 class Hash(ctypes.Structure):
-    """A SHA-256 hash."""
-
     _fields_ = [("bytes", c_uint8 * 32)]
 
 
@@ -153,7 +151,6 @@ def call(name: str, sets: list[Set], *arguments: Any) -> int:
 
 
 def text_of(name: str, parts: Set, *flags: bool) -> bytes:
-    """Makes a call that returns a text."""
     text = Text(ADDRESS_OF_EMPTY, 0)
     call(name, [parts], *flags, text)
     if text.length == 0:

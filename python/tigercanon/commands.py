@@ -89,7 +89,6 @@ SHARED: dict[str, dict[str, Any]] = {
 
 
 def add_shared(made: argparse.ArgumentParser, *names: str) -> None:
-    """Adds arguments that several commands have."""
     for name in names:
         made.add_argument(name, **SHARED[name])
 

@@ -70,14 +70,12 @@ class Engine:
         return [self.pool.submit(judge, county, order) for county in counties]
 
     def answer(self, future: Any) -> Any:
-        """The result of a future that is done."""
         return future.result()
 
     def look_round(self, under_way: dict[Any, int]) -> None:
         """Raises Gone if there can be no further answers."""
 
     def close(self) -> None:
-        """Ends what is under way."""
         self.pool.shutdown(wait=False, cancel_futures=True)
 
 

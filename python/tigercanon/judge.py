@@ -1,6 +1,7 @@
 """One county judged by one process of the program.
 
-These functions also run on the workers of a cluster, where this package need not be installed: they are sent there by value.
+These functions also run on the workers of a cluster, where this package need not be installed: they are sent there by value. Classes
+are dataclasses, since a NamedTuple can't be sent like this.
 """
 
 from __future__ import annotations
@@ -11,7 +12,7 @@ import shutil
 import subprocess
 from contextlib import ExitStack
 from dataclasses import dataclass, field, replace
-from typing import Any, Iterable, Mapping, NamedTuple, Sequence
+from typing import Any, Iterable, Mapping, Sequence
 
 from .errors import Unreadable, printable, reason
 from .hints import hint
@@ -49,7 +50,6 @@ class County:
 
     @property
     def places(self) -> list[File]:
-        """All its files."""
         return [file for file in (self.zip, self.whole, *self.files.values()) if file]
 
     @property
@@ -60,8 +60,6 @@ class County:
 
 @dataclass(frozen=True)
 class Order:
-    """How counties are judged."""
-
     program: str
     flags: tuple[str, ...] = ()
     is_strict: bool = False
@@ -83,7 +81,8 @@ class Rejected(Exception):
     """Strict mode rejects a county. The text says why."""
 
 
-class Source(NamedTuple):
+@dataclass(frozen=True)
+class Source:
     """A set as the program reads it: a file, or the stem of a county's nine files in capitals. name is the user's."""
 
     name: str
@@ -96,7 +95,6 @@ class Source(NamedTuple):
         return [file_name(self.place, kind) for kind in TYPES] if self.is_stem else [self.place]
 
     def ask(self, program: str, job: str, flags: Sequence[str], memory: int | None = None) -> subprocess.CompletedProcess[bytes]:
-        """What the program answers for it."""
         return PROCESS.run([program, job, *["--stem"] * self.is_stem, *flags, "--", self.place], memory)
 
     def complaint(self, ended: subprocess.CompletedProcess[bytes]) -> list[str]:

@@ -83,14 +83,12 @@ class Tally:
                 Tally.bar = tqdm(total=counties, unit=" counties", file=sys.stderr, leave=False, dynamic_ncols=True)
 
     def end(self, size: int) -> None:
-        """One county more is done."""
         self.ended += 1
         self.bytes += size
         if self.bar is not None:
             self.bar.update()
 
     def look(self) -> None:
-        """Reports the progress if it is time to."""
         if self.bar is not None:
             self.bar.refresh()
         elif time.monotonic() - self.reported_at >= PAUSE:

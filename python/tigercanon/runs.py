@@ -101,8 +101,6 @@ class Run:
 
 
 class Fingerprints(Run):
-    """The command fingerprint."""
-
     manifest: Manifest | None = None
 
     def __call__(self) -> int:
@@ -157,8 +155,6 @@ class Fingerprints(Run):
 
 
 class Verification(Run):
-    """The command verify."""
-
     def __call__(self) -> int:
         options = self.options
         see_names([options.manifest, *options.sources])

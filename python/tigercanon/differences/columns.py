@@ -55,7 +55,6 @@ class Layout:
         return [content[place] for place in self.places.values()]
 
     def blanked(self, content: str, name: str) -> str:
-        """The content with blanks in a field."""
         return "".join(" " * len(value) if field == name else value for field, value in zip(self.places, self.values(content)))
 
     def turned(self, content: str) -> str:

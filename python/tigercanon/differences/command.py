@@ -42,7 +42,6 @@ class Progress(threading.Timer):
         self.start()
 
     def at(self, step: str) -> None:
-        """Notes what is done next."""
         self.step = step
         if self.finished.is_set():
             report(step)
@@ -65,7 +64,6 @@ def add_arguments(parser: argparse.ArgumentParser) -> None:
 
 
 def run(options: argparse.Namespace) -> int:
-    """Runs the subcommand and returns its exit status."""
     outputs = outputs_of(options)
     gc.disable()  # the counties are kept until the end, and looking for garbage in them takes a third of the time
     return compared(options, outputs)
@@ -118,7 +116,6 @@ def compared(options: argparse.Namespace, outputs: list[str]) -> int:
 
 
 def as_json(comparison: Comparison, sets: Sets, own: BothOwn) -> list[str]:
-    """The counts and the differences, as one JSON object."""
     counts = {f"{subject}s": dict(zip(KINDS, part.counts)) for subject, part in zip(SUBJECTS, comparison.parts)}
     differences = [properties for _, properties in features(comparison, own)]
     return [json.dumps({**head(comparison, sets), "counts": counts, "differences": differences}, ensure_ascii=False, indent=1)]

@@ -25,7 +25,6 @@ Feature = tuple[str, Properties]  # a difference: its geometry as JSON, and its 
 
 
 def write_geojson(file: NewFile, comparison: Comparison, sets: Sets, own: BothOwn, with_alike: bool) -> None:
-    """Writes a feature for each difference and, if asked for, for what is alike."""
     file.write(f'{{"type":"FeatureCollection",{as_json(head(comparison, sets))[1:-1]},"features":['.encode())
     for number, (shape, told) in enumerate(features(comparison, own, with_alike)):
         file.write(f'{"," if number else ""}\n{{"type":"Feature","geometry":{shape},"properties":{as_json(told)}}}'.encode())

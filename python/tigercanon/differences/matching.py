@@ -154,7 +154,6 @@ def says(chain: Chain, teller: Teller) -> tuple[Hashable, ...]:
 
 
 def is_own_reverse(chain: Chain) -> bool:
-    """Whether the chain's points are the same from both ends."""
     return chain.points[:POINT_WIDTH] == chain.points[-POINT_WIDTH:] and chain.points == reversed_points(chain.points)
 
 

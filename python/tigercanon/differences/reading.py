@@ -82,8 +82,6 @@ class Landmark:
 
 @dataclass(eq=False)
 class County:
-    """The map that a text describes."""
-
     chains: list[Chain]
     names: dict[str, Name]
     polygons: dict[PolygonKey, Polygon]
@@ -165,7 +163,6 @@ def read_landmarks(records: Records) -> list[Landmark]:
 
 
 def number_of(key: str) -> int:
-    """The number of a chain, a landmark or a polygon."""
     return int(key[-10:])
 
 
@@ -174,12 +171,10 @@ def each_point(points: str) -> list[str]:
 
 
 def position(point: str) -> tuple[int, int]:
-    """A point's longitude and latitude in millionths of a degree."""
     return int(point[:10]), int(point[10:])
 
 
 def reversed_points(points: str) -> str:
-    """The same points from the last to the first."""
     return "".join(each_point(points)[::-1])
 
 

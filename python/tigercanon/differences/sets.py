@@ -6,6 +6,7 @@ import os
 import shutil
 import stat
 from concurrent.futures import ThreadPoolExecutor
+from dataclasses import replace
 from typing import NamedTuple, Sequence
 
 from ..counties import Finder
@@ -54,7 +55,7 @@ def opened(name: str, is_stem: bool, stack: contextlib.ExitStack) -> Source:
             other = "it is one file with all records, not a zip or one of a county's nine files"
             raise Failure(f"{name}: {county.trouble or other}")
         try:
-            return prepared(county, Order(""), [], stack)._replace(name=name)
+            return replace(prepared(county, Order(""), [], stack), name=name)
         except Unreadable as error:
             raise Failure(f"{name}: {error}") from None
     if stat.S_ISREG(mode):
@@ -79,7 +80,6 @@ def printed(program: str, job: str, flags: Sequence[str], sources: Sequence[Sour
 
 
 def is_of_a_set(output: str, names: Sequence[str]) -> bool:
-    """Whether an output file is one of the input files."""
     inputs = [file_name(name, kind) for name in names for kind in TYPES]
     inputs += [name[:-4] + name[-4:].lower() for name in inputs]
     return any(os.path.exists(name) and os.path.exists(output) and os.path.samefile(name, output) for name in [*names, *inputs])

@@ -137,7 +137,6 @@ def told_things(comparison: Comparison) -> Iterator[str]:
 
 
 def differing(rows: list[Row]) -> Iterator[str]:
-    """A table of the fields that differ."""
     cells = [("", "in the first", "in the second")]
     cells += [(row.name.label, row.first or "", row.second or "") for row in rows if row.differs]
     widths = [max(map(len, column)) for column in zip(*cells)]
@@ -146,7 +145,6 @@ def differing(rows: list[Row]) -> Iterator[str]:
 
 
 def tie_line(tie: Tie) -> str:
-    """What is tied, and in which of the maps."""
     one, several = ("first", "second") if tie.is_one_in_first else ("second", "first")
     return f"one {tie.subject} in the {one}, {len(tie.groups)} in the {several}:"
 
