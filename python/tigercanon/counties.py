@@ -15,7 +15,6 @@ from .storage import Entry, entries, is_folder, is_url, joined, parted, real, sy
 
 MAGIC = re.compile(r"[*?[]")
 KINDS = (*TYPES, "ZIP")
-
 Names = dict[str, list[Entry]]  # the files of one stem in a folder, by their kinds
 
 

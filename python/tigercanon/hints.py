@@ -22,20 +22,14 @@ BEGINNINGS = (
 def hint(line: str, files: Sequence[str | None]) -> str:
     """What to look at after a refusal, or nothing. files are the parts of the set in their order."""
     if line.startswith("refused 8 "):
-        return names_hint([file for file in files if file and not os.path.exists(file)])
+        for path in [Path(file) for file in files if file and not os.path.exists(file)]:
+            for other in (path.stem + path.suffix.lower(), path.name.lower()):
+                if other != path.name and path.with_name(other).exists():
+                    return f"there is {other}: the program reads names in capitals only"
     found = FAULTY_LINE.match(line)
     file = files[int(found[2]) - 1] if found and 1 <= int(found[2]) <= len(files) else None
     with suppress(OSError):
         return bytes_hint(file, int(found[3])) if found and file else ""
-    return ""
-
-
-def names_hint(missing: Sequence[str]) -> str:
-    """Files that can't be opened because their names are in lower case."""
-    for path in map(Path, missing):
-        for other in (path.stem + path.suffix.lower(), path.name.lower()):
-            if other != path.name and path.with_name(other).exists():
-                return f"there is {other}: the program reads names in capitals only"
     return ""
 
 

@@ -24,7 +24,6 @@ from .outputs import new_files
 from .own import PROCESS
 
 Flags = tuple[str, ...]
-
 FORM = "# tigercanon form 1"
 FLAGS = ("--no-sources", "--no-reserved")
 FLAG_SETS = ((), FLAGS[:1], FLAGS[1:], FLAGS)

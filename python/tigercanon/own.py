@@ -23,7 +23,6 @@ IN_MEMORY = "/dev/shm"  # the folder in memory, if the variable doesn't name ano
 SPARE = 64 << 20  # folders are made in memory only if this many bytes stay free there
 STALE = 60.0  # a folder that nobody holds is removed by a later run once it is this many seconds old
 PATIENCE = 0.3  # a thread that is printing or writing keeps the end of the run waiting for at most this many seconds
-
 T = TypeVar("T")
 
 

@@ -200,6 +200,5 @@ def counted(count: int, noun: str = "county", nouns: str = "counties") -> str:
 
 def see_names(names: Sequence[str]) -> None:
     """Raises Failure for a name that can't be one of a file."""
-    for name in names:
-        if not name or "\n" in name:
-            raise Failure("a name is empty or has a line break in it")
+    if any(not name or "\n" in name for name in names):
+        raise Failure("a name is empty or has a line break in it")

@@ -5,7 +5,7 @@ from __future__ import annotations
 import errno
 import os
 import time
-from typing import Any, Iterator, NamedTuple
+from typing import Any, NamedTuple
 
 from .errors import Failure, Unreadable, reason
 
@@ -47,7 +47,13 @@ def tidy(path: str) -> str:
 
 def entries(folder: str) -> list[Entry]:
     """The entries of a folder in the order of their names. Raises OSError, or what fsspec raises."""
-    found = remote_entries(folder) if is_url(folder) else map(local_entry, os.scandir(folder or "."))
+    if is_url(folder):
+        system, path = system_of(folder)
+        named = [(item["name"].rstrip("/"), item) for item in system.ls(path, detail=True)]
+        others = [(name.rpartition("/")[2], item) for name, item in named if name != path.rstrip("/")]
+        found = [Entry(name, item["type"] == "directory", item.get("size")) for name, item in others]
+    else:
+        found = [local_entry(item) for item in os.scandir(folder or ".")]
     return sorted(found, key=lambda entry: os.fsencode(entry.name))
 
 
@@ -66,14 +72,6 @@ def system_of(url: str) -> Any:
     except ImportError:
         raise Failure(f"{url} needs the Python package fsspec (Debian: python3-fsspec)") from None
     return fsspec.core.url_to_fs(url)
-
-
-def remote_entries(folder: str) -> Iterator[Entry]:
-    system, path = system_of(folder)
-    for item in system.ls(path, detail=True):
-        name = item["name"].rstrip("/")
-        if name != path.rstrip("/"):
-            yield Entry(name.rpartition("/")[2], item["type"] == "directory", item.get("size"))
 
 
 def is_folder(path: str) -> bool:

@@ -10,8 +10,6 @@ END_OF_DIRECTORY = b"PK\5\6"
 LONGEST_END = 65557
 PIECE = 1 << 20
 
-Members = dict[str, zipfile.ZipInfo]
-
 
 def opened(path: str) -> zipfile.ZipFile:
     """Opens a zip. Raises Unreadable if it isn't one, and OSError if it can't be read."""
@@ -29,7 +27,7 @@ def opened(path: str) -> zipfile.ZipFile:
         raise Unreadable("the zip is broken: its directory can't be read") from None
 
 
-def members_of(archive: zipfile.ZipFile) -> Members:
+def members_of(archive: zipfile.ZipFile) -> dict[str, zipfile.ZipInfo]:
     """The files of the one county in a zip by their types, in either case of their names. Raises Unreadable."""
     counties: dict[str, dict[str, list[zipfile.ZipInfo]]] = {}
     for member in archive.infolist():

@@ -40,7 +40,6 @@ class Text(NamedTuple):
 NOTHING = Text("", "", "")  # a field that isn't there
 # The field of something that has nothing to compare: a node, for example, has only a number, which differs from file to file.
 THERE = Text(YES, YES, YES)
-
 Fields = dict[FieldName, Text]
 
 

@@ -16,11 +16,8 @@ from .words import KINDS, Thing, things, tie_line, tied_place, verdict
 
 Properties = dict[str, Any]
 BothOwn = Sequence[OwnNumbers]
-
 ABOUT = "Where two maps differ, found by tigercanon-tools diff: an aid, and not proved."
-
 SIDES = ("first", "second")
-
 Feature = tuple[str, Properties]  # a difference: its geometry as JSON, and its properties
 
 

@@ -15,7 +15,7 @@ from itertools import product
 from typing import Any, Callable, Generic, Hashable, Iterator, NamedTuple, Optional, Sequence, TypeVar
 
 from .columns import CHAIN, LANDMARK, RANGE
-from .fields import Pair, PolygonMarks, Teller, pair_by, rows
+from .fields import Pair, Teller, pair_by, rows
 from .reading import NO_POINT, POINT_WIDTH, Chain, County, Landmark, Name, Polygon, PolygonKey
 from .reading import comes_after_its_reverse, each_point, number_of, reversed_points
 
@@ -102,8 +102,13 @@ def compare(first: County, second: County) -> Comparison:
     groups = list(by_points.values())
     certain = [(ones[0], others[0]) for ones, others in groups if len(ones) == len(others) == 1 and not is_own_reverse(ones[0])]
     polygons = match_polygons(first, second, certain)
-    one, other = marks_of(polygons)
-    tellers = Teller(first, one), Teller(second, other)
+    # A mark of each map's polygons: their content, or, if they changed, one mark for both maps.
+    marks, others = ({polygon.key: polygon.content for polygon in alone} for alone in (polygons.first, polygons.second))
+    for one, other in polygons.alike:
+        marks[one.key] = others[other.key] = one.content
+    for number, (one, other) in enumerate(polygons.changed):
+        marks[one.key] = others[other.key] = f"changed {number}"
+    tellers = Teller(first, marks), Teller(second, others)
     names = Matched([*first.names.values()], [*second.names.values()])
     names.pair(names.alike, lambda name: name.body)
     return Comparison(*tellers, certain, match_chains(groups, *tellers), match_landmarks(*tellers), polygons, names)
@@ -135,9 +140,8 @@ def match_group(ones: list[Chain], others: list[Chain], first: Teller, second: T
     matched.alike += alike
     while ones and others:
         seen = [each for other in others for each in ([other, turned(other)] if may_be_turned else [other])]
-        one, other = min(
-            product(ones, seen), key=lambda pair: sum(row.differs for row in rows(first.chain(pair[0]), second.chain(pair[1])))
-        )
+        pairs = product(ones, seen)
+        one, other = min(pairs, key=lambda pair: sum(row.differs for row in rows(first.chain(pair[0]), second.chain(pair[1]))))
         matched.changed.append((one, other))
         ones = [chain for chain in ones if chain is not one]
         others = [chain for chain in others if chain.key != other.key]
@@ -169,32 +173,17 @@ def lesser_turn(chain: Chain, teller: Teller) -> Chain:
 
 def match_polygons(first: County, second: County, certain: list[Pair[Chain]]) -> Matched[Polygon]:
     """Matches polygons by their content, the others by their point, and then by the sides of chains."""
-    both = zip((first, second), first_sides(certain))
-    sides = {polygon: found[key] for county, found in both for key, polygon in county.polygons.items() if key in found}
+    # Of each polygon the first side, among the chains that both maps have, on which it lies.
+    sides: dict[Polygon, tuple[int, str]] = {}
+    for place, pair in enumerate(certain):
+        for county, chain in zip((first, second), pair):
+            for hand, side in zip(("left", "right"), chain.sides):
+                if side in county.polygons:
+                    sides.setdefault(county.polygons[side], (place, hand))
     matched = Matched([*first.polygons.values()], [*second.polygons.values()])
     matched.pair(matched.alike, lambda polygon: (polygon.content, sides.get(polygon)), lambda polygon: polygon.content)
     matched.pair(matched.changed, lambda polygon: polygon.point if polygon.point != NO_POINT else None, sides.get)
     return matched
-
-
-def first_sides(certain: list[Pair[Chain]]) -> Pair[dict[PolygonKey, tuple[int, str]]]:
-    """Of each map's polygons the first side, among the chains that both maps have, on which it lies."""
-    found: Pair[dict[PolygonKey, tuple[int, str]]] = ({}, {})
-    for place, pair in enumerate(certain):
-        for sides, chain in zip(found, pair):
-            for hand, side in zip(("left", "right"), chain.sides):
-                sides.setdefault(side, (place, hand))
-    return found
-
-
-def marks_of(polygons: Matched[Polygon]) -> Pair[PolygonMarks]:
-    """A mark of each map's polygons: their content, or, if they changed, one mark for both maps."""
-    first, second = ({polygon.key: polygon.content for polygon in alone} for alone in (polygons.first, polygons.second))
-    for one, other in polygons.alike:
-        first[one.key] = second[other.key] = one.content
-    for number, (one, other) in enumerate(polygons.changed):
-        first[one.key] = second[other.key] = f"changed {number}"
-    return first, second
 
 
 def match_landmarks(first: Teller, second: Teller) -> Matched[Landmark]:

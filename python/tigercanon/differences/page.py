@@ -19,7 +19,6 @@ from .sets import Sets
 from .words import KINDS, SUBJECTS, Thing, things, tie_line, tied_place, verdict
 
 DEBIAN_LEAFLET = "/usr/share/javascript/leaflet"
-
 MOST_CHAINS = 300_000  # with more chains than this, those that are alike are left out
 ROOM_FOR_FIELDS = 5_000_000
 """The page has at most this many characters of fields. After them a difference has only its name and its place."""

@@ -94,7 +94,14 @@ class County:
 
 def read_county(text: bytes) -> County:
     """The county of a canonical text, or of respelled records."""
-    records = records_of(text)
+    lines = text.decode("latin-1").split("\n")
+    if lines.pop():
+        raise NotCanonical("the last line has no line ending")
+    records: Records = {record_type: [] for record_type in LENGTHS}
+    for number, line in enumerate(lines, 1):
+        if LENGTHS.get(line[:1]) != len(line):
+            raise NotCanonical(f"line {number} isn't a record")
+        records[line[0]].append(line)
     names = {line[10:18]: Name(NAME.content(line)) for line in records["5"]}
     polygons = {line[10:25]: Polygon(line[10:25], POLYGON.content(line)) for line in records["P"]}
     try:
@@ -107,18 +114,6 @@ def read_county(text: bytes) -> County:
         if side not in polygons and not side[5:].isspace():
             polygons[side] = Polygon(side)
     return County(chains, names, polygons, landmarks)
-
-
-def records_of(text: bytes) -> Records:
-    lines = text.decode("latin-1").split("\n")
-    if lines.pop():
-        raise NotCanonical("the last line has no line ending")
-    records: Records = {record_type: [] for record_type in LENGTHS}
-    for number, line in enumerate(lines, 1):
-        if LENGTHS.get(line[:1]) != len(line):
-            raise NotCanonical(f"line {number} isn't a record")
-        records[line[0]].append(line)
-    return records
 
 
 def read_chains(records: Records) -> list[Chain]:

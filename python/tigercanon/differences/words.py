@@ -57,12 +57,10 @@ def landmark(found: Comparison, kind: str, one: Any, other: Any) -> Thing:
 
 
 def polygon(_: Comparison, kind: str, one: Any, other: Any) -> Thing:
-    either, fields = one or other, polygon_fields
-    points = [either.point] if either.point != NO_POINT else []
+    either, told = one or other, polygon_fields
+    place = [either.point] if either.point != NO_POINT else []
     title, about = polygon_words(either.body), f"CENID {either.cenid.strip() or BLANK}"
-    return Thing(
-        "polygon", kind, one, other, title, about, points, "POLYID", lambda: rows(one and fields(one), other and fields(other))
-    )
+    return Thing("polygon", kind, one, other, title, about, place, "POLYID", lambda: rows(one and told(one), other and told(other)))
 
 
 def feature_name(_: Comparison, kind: str, one: Any, other: Any) -> Thing:
