@@ -1,18 +1,14 @@
-"""What the tests share: a folder of their own, the real program, and a stand-in for it."""
+"""What the tests share: a folder of their own, the real program, and a stand-in for it with four counties."""
 
 import shutil
 import signal
 import sys
 from pathlib import Path
-from typing import Iterator
 
 import pytest
+from support import STAND_INS, built_program, complete
 
-HERE = Path(__file__).resolve().parent
-sys.path[:0] = [str(HERE.parent), str(HERE), str(HERE.parent.parent / "tools")]
 sys.dont_write_bytecode = True
-
-from support import PROGRAM, STAND_INS  # noqa: E402
 
 # In the background or under nohup some signals are ignored, and what the tests start would ignore them too.
 for number in (signal.SIGHUP, signal.SIGINT, signal.SIGQUIT):
@@ -21,24 +17,21 @@ for number in (signal.SIGHUP, signal.SIGINT, signal.SIGQUIT):
 
 
 @pytest.fixture
-def room(tmp_path: Path, monkeypatch: pytest.MonkeyPatch) -> Iterator[Path]:
-    """A folder for the test, in which it runs. Temporary files go to its folder tmp."""
-    (tmp_path / "tmp").mkdir()
-    (tmp_path / "shm").mkdir()
+def room(tmp_path: Path, monkeypatch: pytest.MonkeyPatch) -> Path:
+    """A folder for the test, in which it runs. Temporary files go to its folders tmp and shm."""
     monkeypatch.chdir(tmp_path)
-    monkeypatch.setenv("TIGERCANON_SHM", str(tmp_path / "shm"))
-    monkeypatch.setenv("TMPDIR", str(tmp_path / "tmp"))
     monkeypatch.delenv("TIGERCANON", raising=False)
-    yield tmp_path
+    for variable, name in (("TMPDIR", "tmp"), ("TIGERCANON_SHM", "shm")):
+        (tmp_path / name).mkdir()
+        monkeypatch.setenv(variable, str(tmp_path / name))
+    return tmp_path
 
 
 @pytest.fixture
 def program(room: Path, monkeypatch: pytest.MonkeyPatch) -> str:
     """The program that was built last, or that TIGERCANON names."""
-    if not PROGRAM:
-        pytest.skip("no program is built: ./tigercanon builds it, and TIGERCANON can name another")
-    monkeypatch.setenv("TIGERCANON", PROGRAM)
-    return PROGRAM
+    monkeypatch.setenv("TIGERCANON", built_program())
+    return built_program()
 
 
 @pytest.fixture
@@ -49,3 +42,12 @@ def stand_in(room: Path, monkeypatch: pytest.MonkeyPatch) -> Path:
     monkeypatch.setenv("TIGERCANON", str(path))
     monkeypatch.setenv("ROOM", str(room))
     return path
+
+
+@pytest.fixture
+def four(room: Path, stand_in: Path) -> dict[str, bytes]:
+    """Four counties for the stand-in, with odd names, in the order of the manifest."""
+    counties = {f"in/{name}": f"county {name}\n".encode() for name in ("-d", "a a", "b", "c")}
+    for stem, text in counties.items():
+        complete(stem, text)
+    return counties

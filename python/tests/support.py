@@ -15,21 +15,29 @@ from contextlib import suppress
 from pathlib import Path
 from typing import Any, Callable, Iterator, Mapping, NamedTuple
 
+import pytest
 from testing import PROGRAM as BUILT
 from testing import ROOT, TYPES
 
 PACKAGE = ROOT / "python"
-NAMED = os.path.abspath(os.environ.get("TIGERCANON") or BUILT)
-PROGRAM = NAMED if os.access(NAMED, os.X_OK) else None
-"""The program that TIGERCANON names, or that was built last."""
+PROGRAM = os.path.abspath(os.environ.get("TIGERCANON") or BUILT)
 
 NAME = "tigercanon-tools: "
 HEAD = "# tigercanon form 1\n"
 
 PR_SET_PDEATHSIG = 1
 
+Process = subprocess.Popen[bytes]
+
 STAND_INS = PACKAGE / "tests/stand-ins"
 """Stand-ins for the program."""
+
+
+def built_program() -> str:
+    """The program that TIGERCANON names, or that was built last. The test is skipped if there is none."""
+    if not os.access(PROGRAM, os.X_OK):
+        pytest.skip("no program is built: ./tigercanon builds it, and TIGERCANON can name another")
+    return PROGRAM
 
 
 def digest(text: bytes, flags: str = "") -> str:
@@ -37,9 +45,10 @@ def digest(text: bytes, flags: str = "") -> str:
     return hashlib.sha256((f"{flags} " if flags else "").encode() + text).hexdigest()
 
 
-def manifest(counties: Mapping[str, bytes]) -> str:
+def manifest(counties: Mapping[str, bytes], flags: str = "") -> str:
     """The manifest of counties with these first files that the stand-in leads to."""
-    return HEAD + "".join(f"{digest(text)}  {stem}\n" for stem, text in counties.items())
+    lines = [f"{digest(text, flags)}  {stem}\n" for stem, text in counties.items()]
+    return "".join([f"{HEAD.strip()} {flags}".strip(), "\n", *lines])
 
 
 class Ended(NamedTuple):
@@ -82,13 +91,13 @@ def call(*words: object, **options: Any) -> Ended:
     return end(begin(*words, **options))
 
 
-def begin(*words: object, env: dict[str, str] | None = None, **options: Any) -> "subprocess.Popen[bytes]":
+def begin(*words: object, env: dict[str, str] | None = None, **options: Any) -> Process:
     streams = {"stdin": subprocess.DEVNULL, "stdout": subprocess.PIPE, "stderr": subprocess.PIPE}
     options = {"start_new_session": True, "preexec_fn": die_with_the_test, **streams, **options}
     return subprocess.Popen(words_of(*words), env=environment(**(env or {})), **options)
 
 
-def end(run: "subprocess.Popen[bytes]", seconds: float = 300.0) -> Ended:
+def end(run: Process, seconds: float = 300.0) -> Ended:
     """Waits for a call that was started. If it takes too long it is killed with all that it started."""
     try:
         out, err = run.communicate(timeout=seconds)
@@ -97,7 +106,7 @@ def end(run: "subprocess.Popen[bytes]", seconds: float = 300.0) -> Ended:
     return Ended(run.returncode, os.fsdecode(out or b""), os.fsdecode(err or b""))
 
 
-def kill_group(run: "subprocess.Popen[bytes]") -> None:
+def kill_group(run: Process) -> None:
     with suppress(ProcessLookupError):
         os.killpg(run.pid, signal.SIGKILL)
     run.wait()
@@ -136,10 +145,11 @@ def packed(members: Mapping[str, bytes], method: int = zipfile.ZIP_DEFLATED) -> 
     return file.getvalue()
 
 
-def zip_up(stem: str) -> None:
-    """Replaces a county's files by a zip."""
-    files = sorted(Path().glob(f"{stem}.RT?"))
-    put(f"{stem}.zip", packed({file.name: file.read_bytes() for file in files}))
+def zip_up(stem: str | Path, is_lower: bool = False) -> None:
+    """Replaces a county's files by a zip, with all names in capitals or in lower case."""
+    files = sorted(Path(stem).parent.glob(f"{Path(stem).name}.RT?"))
+    texts = {file.name.lower() if is_lower else file.name: file.read_bytes() for file in files}
+    put(f"{stem}{'.zip' if is_lower else '.ZIP'}", packed(texts))
     for file in files:
         file.unlink()
 

@@ -7,14 +7,16 @@ import shutil
 import signal
 import subprocess
 import sys
+from collections import Counter
 from importlib.util import find_spec
 from pathlib import Path
 from typing import Any, Iterator, NamedTuple
 
 import pytest
-from differences.county import made_county, written
-from support import PROGRAM, STAND_INS, begin, call, count_of_lines, die_with_the_test, end
-from support import kill_group, left_behind, packed, processes, put
+from differences.changes import made_county
+from maps import written
+from support import STAND_INS, Process, begin, built_program, call, count_of_lines, die_with_the_test, end
+from support import kill_group, left_behind, processes, put, zip_up
 from testing import ROOT, TYPES, await_that, by_type
 
 from tigercanon import engines
@@ -22,17 +24,16 @@ from tigercanon.counties import Finder
 from tigercanon.errors import Failure
 from tigercanon.judge import Order, endings
 
-needs_dask = pytest.mark.skipif(not find_spec("distributed"), reason="distributed isn't installed")
-
 COUNTIES = 300
 
-Parts = dict[str, bytes]
-"""A county's files by their types. A type that isn't there has no file."""
+FINGERPRINT = ("fingerprint", "-o", "m", "in")
+SCHEDULER = ("--scheduler", "dask/scheduler.json")
+BY_DASK = (*FINGERPRINT, *SCHEDULER)
 
 
-def made_counties() -> Iterator[tuple[str, Parts]]:
-    """Stems and files: each map in two spellings, and some in one. Each tenth county is refused, some are in a folder of a folder,
-    and some lack files."""
+def made_counties() -> Iterator[tuple[str, dict[str, bytes]]]:
+    """Stems, and files by their types: each map in two spellings, and some in one. Each tenth county is refused, some are in a folder of
+    a folder, and some lack files."""
     refused = [*sorted((ROOT / "examples/refused").iterdir()), ROOT / "examples/broken.txt"]
     for number in range(COUNTIES):
         made = written(made_county(12, number // 2), number)
@@ -41,21 +42,6 @@ def made_counties() -> Iterator[tuple[str, Parts]]:
         for kind in TYPES[1:] if number % 25 == 4 else "78" if number % 25 == 14 else "1" if number % 100 == 44 else "":
             del parts[kind]
         yield f"{'in/more/of it' if number % 5 == 0 else 'in'}/TGR{number:05}", parts
-
-
-def put_files(stem: Path, parts: Parts) -> None:
-    """A county as single files."""
-    for kind, text in parts.items():
-        put(f"{stem}.RT{kind}", text)
-
-
-def put_zip(stem: Path, parts: Parts, is_small: bool) -> None:
-    """A county as a zip, in which other types lie too; with all names in lower case, or in capitals."""
-    files = {f"{stem.name}.RT{kind}": text for kind, text in {**parts, "A": b"A2006\r\n", "Z": b"Z2006\r\n"}.items()}
-    if is_small:
-        put(f"{stem}.zip", packed({name.lower(): text for name, text in files.items()}))
-    else:
-        put(f"{stem}.ZIP", packed(files))
 
 
 class Archive(NamedTuple):
@@ -68,24 +54,23 @@ class Archive(NamedTuple):
 
 @pytest.fixture(scope="module")
 def expected(tmp_path_factory: pytest.TempPathFactory) -> Archive:
-    """What the program prints for each county alone, as single files. In the archive each third is a zip."""
-    if not PROGRAM:
-        pytest.skip("no program is built")
-    files, made = tmp_path_factory.mktemp("files"), Archive(tmp_path_factory.mktemp("archive"), ["# tigercanon form 1"], {})
+    """What the program prints for each county alone, as single files. Each third one then becomes a zip, in which other types lie too."""
+    made = Archive(tmp_path_factory.mktemp("archive"), ["# tigercanon form 1"], {})
     for stem, parts in sorted(made_counties()):
-        put_files(files / stem, parts)
-        number = int(stem[-5:])
-        if number % 3:
-            put_files(made.folder / stem, parts)
-        else:
-            put_zip(made.folder / stem, parts, number % 2 == 1)
-        run = subprocess.run([PROGRAM, "fingerprint", "--stem", "--", files / stem], capture_output=True, text=True)
+        files, number = made.folder / stem, int(stem[-5:])
+        for kind, text in parts.items():
+            put(f"{files}.RT{kind}", text)
+        run = subprocess.run([built_program(), "fingerprint", "--stem", "--", files], capture_output=True, text=True)
         if run.returncode == 0:
             made.lines.append(f"{run.stdout.strip()}  {stem}")
         missing = endings(kind for kind in TYPES if kind not in parts)
         empty = "empty .RT1" if parts.get("1") == b"" else ""
         notes = "; ".join(filter(None, [run.stderr.strip(), missing and f"no {missing}", empty]))
         made.reports.update({stem: notes} if notes else {})
+        if number % 3 == 0:
+            put(f"{files}.RTA", b"A2006\r\n")
+            put(f"{files}.RTZ", b"Z2006\r\n")
+            zip_up(files, is_lower=number % 2 == 1)
     assert COUNTIES * 8 // 10 < len(made.lines) - 1 < COUNTIES
     return made
 
@@ -97,12 +82,10 @@ def archive(room: Path, program: str, expected: Archive) -> Archive:
 
 
 @pytest.fixture
-def slow(room: Path, program: str, monkeypatch: pytest.MonkeyPatch) -> Path:
+def slow(room: Path, program: str, monkeypatch: pytest.MonkeyPatch) -> None:
     """The program, which waits a moment before it answers. For some files it ends its parent, which is the worker."""
-    path = Path(shutil.copy(STAND_INS / "slow", room))
     monkeypatch.setenv("PROGRAM", program)
-    monkeypatch.setenv("TIGERCANON", str(path))
-    return path
+    monkeypatch.setenv("TIGERCANON", shutil.copy(STAND_INS / "slow", room))
 
 
 def plain(reports: dict[str, str]) -> dict[str, str]:
@@ -124,18 +107,16 @@ def assert_all_done(archive: Archive, killed: int = 0) -> None:
 
 def test_on_this_machine(archive: Archive) -> None:
     """Zips and their unpacked files have the same fingerprints."""
-    ended = call("fingerprint", "-o", "m", "in")
+    ended = call(*FINGERPRINT)
     assert (ended.status, plain(ended.reports)) == (1, archive.reports)
     assert_all_done(archive)
     count = len(archive.lines) - 1
-    refused = [text.split(";")[0] for text in archive.reports.values() if text.startswith("refused")]
-    rules = [" ".join(text.split()[1:3]) for text in refused]
-    (summary,) = [line for line in ended.lines if line.startswith(f"{COUNTIES} counties: ")]
-    assert summary.startswith(f"{COUNTIES} counties: {count} new, {len(refused)} refused, 0 failed; ")
-    (line,) = [line for line in ended.lines if line.startswith("refused: ")]
-    assert sorted(line[9:].split(", ")) == sorted({f"{rules.count(rule)} by {rule}" for rule in rules})
-    again = call("fingerprint", "-o", "m", "in")
-    assert again.lines[-3].startswith(f"{COUNTIES} counties: {count} in the manifest already, 0 new, {len(refused)} refused, ")
+    rules = Counter(" ".join(text.split(";")[0].split()[1:3]) for text in archive.reports.values() if text.startswith("refused"))
+    refused, (summary, by_rule, _) = sum(rules.values()), ended.lines[-3:]
+    assert summary.startswith(f"{COUNTIES} counties: {count} new, {refused} refused, 0 failed; ")
+    assert sorted(by_rule.removeprefix("refused: ").split(", ")) == sorted(f"{rules[rule]} by {rule}" for rule in rules)
+    again = call(*FINGERPRINT)
+    assert again.lines[-3].startswith(f"{COUNTIES} counties: {count} in the manifest already, 0 new, {refused} refused, ")
     assert call("verify", "--quiet", "m").out == ""
 
 
@@ -143,26 +124,22 @@ class Engine:
     """A Dask scheduler and workers on 127.0.0.1, each a process as a cluster starts it. The workers don't have the package."""
 
     def __init__(self, room: Path, workers: int = 3) -> None:
-        self.workers: list["subprocess.Popen[bytes]"] = []
         self.room = room / "dask"
         self.room.mkdir()
         self.file = self.room / "scheduler.json"
-        self.scheduler = self.begin("scheduler", "--port", "0", "--dashboard-address", "127.0.0.1:0")
+        self.scheduler = self.begin("scheduler", "--port 0 --dashboard-address 127.0.0.1:0")
         assert await_that(self.file.exists), "the scheduler doesn't start"
-        for _ in range(workers):
-            self.start_worker()
+        self.workers = [self.begin_worker() for _ in range(workers)]
 
-    def start_worker(self) -> None:
-        words = "--nthreads 1 --memory-limit 2GB --no-dashboard --local-directory".split()
-        self.workers.append(self.begin("worker", *words, str(self.room)))
+    def begin_worker(self) -> Process:
+        return self.begin("worker", "--nthreads 1 --memory-limit 2GB --no-dashboard --local-directory .")
 
-    def begin(self, kind: str, *words: str) -> "subprocess.Popen[bytes]":
-        module = f"distributed.cli.dask_{kind}"
-        command = [sys.executable, "-m", module, "--scheduler-file", str(self.file), "--host", "127.0.0.1", *words]
+    def begin(self, kind: str, more: str) -> Process:
+        words = f"-m distributed.cli.dask_{kind} --scheduler-file scheduler.json --host 127.0.0.1 {more}".split()
+        how: dict[str, Any] = {"cwd": self.room, "start_new_session": True, "preexec_fn": die_with_the_test}
         kept = {key: text for key, text in os.environ.items() if key != "PYTHONPATH"}
         with open(self.room / f"{kind}.log", "ab") as log:
-            how: dict[str, Any] = {"stdin": subprocess.DEVNULL, "stdout": log, "stderr": log, "cwd": self.room, "env": kept}
-            return subprocess.Popen(command, start_new_session=True, preexec_fn=die_with_the_test, **how)
+            return subprocess.Popen([sys.executable, *words], stdin=subprocess.DEVNULL, stdout=log, stderr=log, env=kept, **how)
 
     def worker_processes(self) -> list[int]:
         """The processes that run tasks: the children of the workers' nannies."""
@@ -175,7 +152,7 @@ class Engine:
 
 
 @pytest.mark.cluster
-@needs_dask
+@pytest.mark.skipif(not find_spec("distributed"), reason="distributed isn't installed")
 class TestDask:
     @pytest.fixture
     def engine(self, room: Path) -> Iterator[Engine]:
@@ -183,21 +160,24 @@ class TestDask:
         yield engine
         engine.close()
 
+    @pytest.fixture
+    def run(self, archive: Archive, slow: None, engine: Engine) -> Process:
+        """A run that has done twenty counties."""
+        run = begin(*BY_DASK)
+        assert await_that(lambda: count_of_lines("m") > 20)
+        return run
+
     def test_by_a_scheduler(self, archive: Archive, engine: Engine) -> None:
         """The package isn't installed on the workers: what they do comes with the work."""
-        words = ["--scheduler", engine.file]
-        ended = call("fingerprint", *words, "-o", "m", "in/TGR000*", "in/more")
-        assert ended.status == 1, ended.err
-        ended = call("fingerprint", *words, "-o", "m", "in")
-        assert ended.status == 1, ended.err
+        for sources in (["in/TGR000*", "in/more"], ["in"]):
+            ended = call("fingerprint", *SCHEDULER, "-o", "m", *sources)
+            assert ended.status == 1, ended.err
         assert_all_done(archive)
-        checked = call("verify", *words, "m")
+        checked = call("verify", *SCHEDULER, "m")
         assert (checked.status, checked.out.count(": OK\n")) == (0, len(archive.lines) - 1)
 
-    def test_workers_are_killed(self, archive: Archive, slow: Path, engine: Engine) -> None:
+    def test_workers_are_killed(self, archive: Archive, engine: Engine, run: Process) -> None:
         """Two of three workers: nothing is missing, and no county is blamed."""
-        run = begin("fingerprint", "--scheduler", engine.file, "-o", "m", "in")
-        assert await_that(lambda: count_of_lines("m") > 20)
         victims = engine.worker_processes()
         assert len(victims) == 3
         for victim in victims[:2]:
@@ -206,19 +186,16 @@ class TestDask:
         assert (ended.status, plain(ended.reports)) == (1, archive.reports)
         assert_all_done(archive, killed=2)
 
-    def test_a_county_that_ends_its_worker(self, archive: Archive, slow: Path, engine: Engine) -> None:
+    def test_a_county_that_ends_its_worker(self, archive: Archive, slow: None, engine: Engine) -> None:
         """It is reported; counties that only shared a worker with it aren't."""
         put("in/TGR90001.RT1", b"kill\r\n")
-        ended = call("fingerprint", "--scheduler", engine.file, "-o", "m", "in")
-        reports = plain(ended.reports)
-        assert reports.pop("in/TGR90001") == "every worker that judged it ended"
-        assert (ended.status, reports) == (1, archive.reports)
+        ended = call(*BY_DASK)
+        wanted = {**archive.reports, "in/TGR90001": "every worker that judged it ended"}
+        assert (ended.status, plain(ended.reports)) == (1, wanted)
         assert_all_done(archive, killed=8)
 
-    def test_the_scheduler_is_killed(self, archive: Archive, slow: Path, engine: Engine, room: Path) -> None:
+    def test_the_scheduler_is_killed(self, archive: Archive, engine: Engine, run: Process) -> None:
         """The command reports how many counties are left, and the same command does the rest."""
-        run = begin("fingerprint", "--scheduler", engine.file, "-o", "m", "in")
-        assert await_that(lambda: count_of_lines("m") > 40)
         os.killpg(engine.scheduler.pid, signal.SIGKILL)
         ended = end(run)
         assert ended.status == 1, ended.err
@@ -226,27 +203,23 @@ class TestDask:
         (left,) = re.findall(r"is gone: (\d+) counties are left; run the same command again to do them", ended.err)
         assert int(left) == COUNTIES - (len(done) - 1) - sum("refused" in text for text in ended.reports.values())
         assert set(done) <= set(archive.lines) and done[1:] == sorted(done[1:], key=lambda line: line[66:])
-        assert call("fingerprint", "-o", "m", "in").status == 1
+        assert call(*FINGERPRINT).status == 1
         assert_all_done(archive)
 
-    def test_a_signal(self, archive: Archive, slow: Path, engine: Engine) -> None:
-        run = begin("fingerprint", "--scheduler", engine.file, "-o", "m", "in")
-        assert await_that(lambda: count_of_lines("m") > 20)
+    def test_a_signal(self, archive: Archive, run: Process) -> None:
         run.send_signal(signal.SIGTERM)
         assert run.wait(2) == -signal.SIGTERM
-        ended = end(run)
-        assert re.fullmatch(rf"stopped by TERM: \d+ of {COUNTIES} counties done", ended.lines[-1])
-        assert call("fingerprint", "--scheduler", engine.file, "-o", "m", "in").status == 1
+        assert re.fullmatch(rf"stopped by TERM: \d+ of {COUNTIES} counties done", end(run).lines[-1])
+        assert call(*BY_DASK).status == 1
         assert_all_done(archive)
 
     def test_workers_without_the_program(self, archive: Archive, engine: Engine) -> None:
-        ended = call("fingerprint", "--scheduler", engine.file, "--program", "/no/program", "-o", "m", "in")
-        assert ended.status == 2
+        ended = call(*BY_DASK, "--program", "/no/program")
         why = "a worker has no program: there is no /no/program, and no tigercanon on its PATH"
-        assert ended.lines[-1] == f"the scheduler at {engine.file}: {why}"
+        assert (ended.status, ended.lines[-1]) == (2, f"the scheduler at dask/scheduler.json: {why}")
 
     @pytest.mark.parametrize("address", ["tcp://127.0.0.1:9", "nowhere.json"])
-    def test_without_a_scheduler(self, archive: Archive, address: str, monkeypatch: pytest.MonkeyPatch) -> None:
+    def test_without_a_scheduler(self, room: Path, address: str, monkeypatch: pytest.MonkeyPatch) -> None:
         monkeypatch.setattr(engines, "PATIENCE_FOR_SCHEDULER", 1.0)
         with pytest.raises(Failure, match=f"no scheduler answers at {address}: "):
             engines.client_of(address)
@@ -259,7 +232,7 @@ class TestDask:
         with pytest.raises(engines.Gone, match="has had no worker for"):
             list(engine.answers(counties, order))
         monkeypatch.setattr(engines, "PATIENCE_FOR_WORKERS", 300.0)
-        cluster.start_worker()  # which takes some seconds to be there
+        cluster.workers = [cluster.begin_worker()]  # which takes some seconds to be there
         answers = [result for result in engine.answers(counties, order) if result]
         engine.close()
         cluster.close()

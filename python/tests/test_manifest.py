@@ -3,15 +3,17 @@
 import json
 import os
 import stat
-from itertools import product
 from pathlib import Path
 
 import pytest
-from support import begin, call, complete, digest, end, manifest, put
+from support import NAME, begin, call, complete, digest, end, manifest, put
 from testing import await_that
 
-A, B, C = ("a" * 64, "b" * 64, "c" * 64)
+A, B = ("a" * 64, "b" * 64)
 HEAD = b"# tigercanon form 1\n"
+COUNTIES = {"in/b": b"b\n", "in/c": b"c\n"}
+
+Four = dict[str, bytes]
 
 
 def lines(*pairs: str) -> bytes:
@@ -19,45 +21,45 @@ def lines(*pairs: str) -> bytes:
     return "".join(f"{pair[0] * 64}  {pair[2:]}\n" for pair in pairs).encode()
 
 
-AT_LINE_1 = [b"something else\n", lines("a x")[1:], lines("a "), b"# --loud\n" + lines("a x"), b"# tigercanon form 2\n"]
-AT_LINE_2 = [lines("a x") + b"x\n" + lines("b y"), HEAD + HEAD]
-
-
 @pytest.mark.parametrize(
-    "text, place", [*product(AT_LINE_1, ["line 1"]), *product(AT_LINE_2, ["line 2"]), (b"some", "its last line")]
+    "text, place",
+    [
+        (b"something else\n", "line 1"),
+        (lines("a x")[1:], "line 1"),
+        (lines("a "), "line 1"),
+        (b"# --loud\n" + lines("a x"), "line 1"),
+        (b"# tigercanon form 2\n", "line 1"),
+        (lines("a x") + b"x\n" + lines("b y"), "line 2"),
+        (HEAD + HEAD, "line 2"),
+        (b"some", "its last line"),
+    ],
 )
 def test_other_files(room: Path, stand_in: Path, text: bytes, place: str) -> None:
     """A file of something else isn't changed."""
     put("m", text)
     complete("in/b", b"b\n")
-    for words in (["fingerprint", "-o", "m", "in"], ["verify", "m"], ["duplicates", "m"], ["changes", "m", "m"]):
-        ended = call(*words)
-        assert (ended.status, ended.out) == (2, "")
-        assert ended.lines == [f"m: not a manifest: {place} isn't a fingerprint and a name"]
-    assert Path("m").read_bytes() == text
-    assert Path("calls").read_text() == ""
+    for words in ("fingerprint -o m in", "verify m", "duplicates m", "changes m m"):
+        assert call(*words.split()) == (2, "", f"{NAME}m: not a manifest: {place} isn't a fingerprint and a name\n")
+    assert (Path("m").read_bytes(), Path("calls").read_text()) == (text, "")
 
 
 @pytest.mark.parametrize("flags", ["", "--no-sources", "--no-reserved", "--no-sources --no-reserved"])
 @pytest.mark.parametrize("is_old", [False, True])
 def test_flags(room: Path, stand_in: Path, flags: str, is_old: bool) -> None:
     """The head names the form and the flags. Manifests of the earlier tools are continued, and get the new head."""
-    complete("in/b", b"b\n")
-    complete("in/c", b"c\n")
-    old_head = f"# {flags}\n" if flags else ""
+    for stem, text in COUNTIES.items():
+        complete(stem, text)
     if is_old:
-        put("m", f"{old_head}{digest(b'c' + bytes([10]), flags)}  in/c\n".encode())
+        head = f"# {flags}\n" if flags else ""
+        put("m", f"{head}{digest(COUNTIES['in/c'], flags)}  in/c\n".encode())
     reordered = flags.split()[::-1]
     assert call("fingerprint", *reordered, "-o", "m", "in").status == 0
-    wanted = [" ".join(["# tigercanon form 1", *flags.split()])]
-    wanted += [f"{digest(text, flags)}  in/{text.decode()[0]}" for text in (b"b\n", b"c\n")]
-    assert Path("m").read_text().splitlines() == wanted
+    assert Path("m").read_text() == manifest(COUNTIES, flags)
     assert call("verify", "m").out == "in/b: OK\nin/c: OK\n"
     assert call("verify", *reordered, "m").status == 0
     other = [] if flags == "--no-sources" else ["--no-sources"]
-    ended = call("fingerprint", *other, "-o", "m", "in")
     have, want = flags or "no flags", " ".join(other) or "no flags"
-    assert (ended.status, ended.lines) == (2, [f"m: made with {have}, but this run has {want}"])
+    assert call("fingerprint", *other, "-o", "m", "in") == (2, "", f"{NAME}m: made with {have}, but this run has {want}\n")
 
 
 def test_order_and_rest(room: Path, stand_in: Path) -> None:
@@ -75,25 +77,22 @@ def test_order_and_rest(room: Path, stand_in: Path) -> None:
     assert Path("calls").read_text() == ""
 
 
-def test_a_line_that_was_being_written(room: Path, stand_in: Path) -> None:
+def test_a_line_that_was_being_written(four: Four) -> None:
     put("m", HEAD[:9])
-    complete("in/b", b"b\n")
     assert call("fingerprint", "-o", "m", "in").status == 0
-    assert Path("m").read_text() == manifest({"in/b": b"b\n"})
+    assert Path("m").read_text() == manifest(four)
 
 
-def test_a_linked_manifest(room: Path, stand_in: Path) -> None:
+def test_a_linked_manifest(four: Four) -> None:
     """The file that the link leads to is written, and the link stays."""
-    complete("in/b", b"b\n")
-    put("real/m", lines("a x"))
+    put("real/m", HEAD + lines("a x"))
     os.symlink("real/m", "m")
     assert call("fingerprint", "-o", "m", "in").status == 0
-    assert os.path.islink("m") and Path("real/m").read_text().count("\n") == 3
+    assert os.path.islink("m") and Path("real/m").read_text() == manifest(four) + lines("a x").decode()
 
 
-def test_the_lock(room: Path, stand_in: Path) -> None:
+def test_the_lock(four: Four) -> None:
     """A file of another kind in its place isn't touched; one that a killed run left is taken."""
-    complete("in/b", b"b\n")
     os.mkfifo("m.lock")
     assert call("fingerprint", "-o", "m", "in").status == 2
     os.unlink("m.lock")
@@ -102,16 +101,15 @@ def test_the_lock(room: Path, stand_in: Path) -> None:
     assert not os.path.exists("m.lock")
 
 
-def test_two_runs(room: Path, stand_in: Path) -> None:
+def test_two_runs(four: Four) -> None:
     """The second one, and a verification, name the process that writes."""
-    complete("in/b", b"waits\n")
+    put("in/b.RT1", b"waits\n")
     put("waits")
     run = begin("fingerprint", "-o", "m", "in")
     assert await_that(lambda: Path("calls").read_text())
-    for words in (["fingerprint", "-o", "m", "in"], ["verify", "m"]):
-        ended = call(*words)
-        assert ended.status == 2
-        assert ended.lines[0].startswith(f"m: another run writes to it: process {run.pid} on ")
+    for words in ("fingerprint -o m in", "verify m"):
+        status, _, err = call(*words.split())
+        assert (status, err.startswith(f"{NAME}m: another run writes to it: process {run.pid} on ")) == (2, True)
     os.unlink("waits")
     assert end(run).status == 0
     assert call("verify", "m").status == 0
@@ -123,18 +121,15 @@ def test_duplicates(room: Path) -> None:
     groups = [{"fingerprint": A, "counties": ["in/x", "in/z"]}, {"fingerprint": B, "counties": ["in/y", "in/v"]}]
     assert json.loads(call("duplicates", "--json", "m").out) == groups
     put("m", lines("a x"))
-    ended = call("duplicates", "m")
-    assert (ended.status, ended.out) == (0, "")
+    assert call("duplicates", "m") == (0, "", "")
 
 
 def test_changes(room: Path) -> None:
     """Counties are matched by their names, whatever their folder, case and ending."""
     put("old", lines("a one/TGR01001", "a one/TGR01003", "c one/TGR01005", "a one/TGR01009"))
     put("new", HEAD + lines("a two/tgr01001", "b two/TGR01003.txt", "c TGR01007", "a TGR01009"))
-    ended = call("changes", "old", "new")
-    wanted = ["same  two/tgr01001", "changed  two/TGR01003.txt", "removed  one/TGR01005", "added  TGR01007", "same  TGR01009"]
-    assert (ended.status, ended.out.splitlines()) == (1, wanted)
-    assert ended.lines == ["2 same, 1 changed, 1 added, 1 removed"]
+    changed = "same  two/tgr01001\nchanged  two/TGR01003.txt\nremoved  one/TGR01005\nadded  TGR01007\nsame  TGR01009\n"
+    assert call("changes", "old", "new") == (1, changed, f"{NAME}2 same, 1 changed, 1 added, 1 removed\n")
     quiet = call("changes", "--quiet", "--json", "old", "new")
     rows = [(row["change"], row["county"], row["old"], row["new"]) for row in json.loads(quiet.out)]
     assert rows == [

@@ -3,17 +3,16 @@
 import os
 import random
 import signal
-import subprocess
 import time
 from contextlib import suppress
 from pathlib import Path
 
 import pytest
-from support import HEAD, begin, call, complete, count_of_lines, end, left_behind, limit_files, manifest, processes, put, zip_up
+from support import HEAD, Process, begin, call, complete, count_of_lines, end, left_behind, limit_files, manifest
+from support import processes, put, zip_up
 from testing import await_that
 
 SIGNALS = [signal.SIGINT, signal.SIGTERM, signal.SIGHUP, signal.SIGQUIT, signal.SIGUSR1, signal.SIGXCPU]
-
 
 COUNTIES = {"in/TGR0": b"waits\n", **{f"in/TGR{number}": b"county %d\n" % number for number in range(1, 10)}}
 WANTED = manifest(COUNTIES)
@@ -36,7 +35,7 @@ def assert_nothing_is_left(room: Path) -> None:
     assert await_that(lambda: not any(program in command for _, _, command in processes()), 1)
 
 
-def waiting(*words: str) -> "subprocess.Popen[bytes]":
+def waiting(*words: str) -> Process:
     """A run that waits for the zip, when all others are done."""
     put("waits")
     run = begin("fingerprint", *words, "-o", "m", "in")

@@ -6,95 +6,89 @@ import shutil
 from pathlib import Path
 
 import pytest
-from support import call, complete, put
+from support import call, complete, digest, put
+
+ALL_OK = "in/-d: OK\nin/a a: OK\nin/b: OK\nin/c: OK\n"
+
+Four = dict[str, bytes]
 
 
-ALL_OK = "in/a: OK\nin/b: OK\nin/c: OK\nin/d: OK\n"
-
-
-@pytest.fixture
-def archive(room: Path, stand_in: Path) -> Path:
-    for name in ("a", "b", "c", "d"):
-        complete(f"in/{name}", f"county {name}\n".encode())
+@pytest.fixture(autouse=True)
+def text_of_the_manifest(four: Four) -> str:
     assert call("fingerprint", "-o", "m", "in").status == 0
-    return room
+    return Path("m").read_text()
 
 
-def test_all_well(archive: Path) -> None:
-    before = Path("m").read_bytes()
+def remove(stem: str) -> None:
+    for path in Path().glob(f"{stem}.RT?"):
+        path.unlink()
+
+
+def test_all_well(text_of_the_manifest: str) -> None:
     ended = call("verify", "m")
     assert (ended.status, ended.out) == (0, ALL_OK)
     assert ended.lines[0].startswith("4 counties: 4 OK; ")
     assert call("verify", "--quiet", "m", "in")[:2] == (0, "")
-    assert Path("m").read_bytes() == before
+    assert Path("m").read_text() == text_of_the_manifest
 
 
-def test_each_verdict(archive: Path) -> None:
-    put("in/a.RT1", b"another\n")
+def test_each_verdict() -> None:
+    put("in/-d.RT1", b"another\n")
     put("in/b.RT1", b"broken\n")
-    for path in Path("in").glob("c.RT?"):
-        path.unlink()
+    remove("in/c")
     complete("in/e", b"new\n")
     ended = call("verify", "m", "in")
-    assert (ended.status, ended.out) == (1, "in/a: FAILED\nin/b: FAILED\nin/c: MISSING\nin/d: OK\nin/e: NEW\n")
+    assert (ended.status, ended.out) == (1, "in/-d: FAILED\nin/a a: OK\nin/b: FAILED\nin/c: MISSING\nin/e: NEW\n")
     assert ended.reports == {
-        "in/a": "another map",
+        "in/-d": "another map",
         "in/b": "refused 1 UnknownType 1 1",
         "in/c": "no such file, folder or county",
         "in/e": "not in the manifest",
     }
-    assert [line for line in ended.lines if " counties: " in line][0].startswith("5 counties: 1 OK, 2 FAILED, 1 MISSING, 1 NEW; ")
+    assert [line for line in ended.lines if line.startswith("5 counties: 1 OK, 2 FAILED, 1 MISSING, 1 NEW; ")]
     rows = json.loads(call("verify", "--quiet", "--json", "m").out)
-    assert [(row["county"], row["verdict"]) for row in rows] == [("in/a", "FAILED"), ("in/b", "FAILED"), ("in/c", "MISSING")]
+    assert [(row["county"], row["verdict"]) for row in rows] == [("in/-d", "FAILED"), ("in/b", "FAILED"), ("in/c", "MISSING")]
     assert rows[0]["remarks"] == "another map"
 
 
-def test_new_counties_alone(archive: Path) -> None:
+def test_new_counties_alone() -> None:
     complete("other/e", b"new\n")
     assert call("verify", "--quiet", "m", "in", "other")[:2] == (1, "other/e: NEW\n")
     ended = call("verify", "m", "nowhere")
     assert (ended.status, ended.out, ended.lines[-1]) == (2, "", "not every source can be read")
 
 
-def put_third_line(text: str) -> None:
-    """Replaces the line of in/b."""
-    lines = Path("m").read_text().splitlines(keepends=True)
-    put("m", "".join([*lines[:2], text, *lines[3:]]).encode())
-
-
 @pytest.mark.parametrize("place", [0, 63])
-def test_a_wrong_digit(archive: Path, place: int) -> None:
-    """A manifest line that is wrong in its first digit, or in its last."""
-    line = Path("m").read_text().splitlines(keepends=True)[2]
-    put_third_line(line[:place] + ("0" if line[place] != "0" else "1") + line[place + 1 :])
+def test_a_wrong_digit(four: Four, text_of_the_manifest: str, place: int) -> None:
+    """A fingerprint in the manifest that is wrong in its first digit, or in its last."""
+    right = digest(four["in/b"])
+    wrong = right[:place] + ("0" if right[place] != "0" else "1") + right[place + 1 :]
+    Path("m").write_text(text_of_the_manifest.replace(right, wrong))
     assert call("verify", "m")[:2] == (1, ALL_OK.replace("b: OK", "b: FAILED"))
 
 
-def test_digits_with_status_4(archive: Path) -> None:
+def test_digits_with_status_4(four: Four, text_of_the_manifest: str) -> None:
     """They don't count as a fingerprint, even if the manifest has them."""
     put("in/b.RT1", b"four\n")
-    put_third_line(f"{7:064}  in/b\n")
+    Path("m").write_text(text_of_the_manifest.replace(digest(four["in/b"]), f"{7:064}"))
     ended = call("verify", "--quiet", "m")
     assert (ended.status, ended.out, ended.reports) == (1, "in/b: FAILED\n", {"in/b": "the program ended with status 4"})
 
 
-def test_from_elsewhere(archive: Path) -> None:
-    os.mkdir("far")
-    shutil.move("in", "far/in")
+def test_from_elsewhere(room: Path) -> None:
+    os.renames("in", "far/in")
     assert call("verify", "m").out.count("MISSING") == 4
     assert call("verify", "--root", "far", "m", "far/in")[:2] == (0, ALL_OK)
-    os.mkdir("there")
-    shutil.move("m", "there/m")
-    assert call("verify", "--root", f"{archive}/far", "there/m").status == 0
+    os.renames("m", "there/m")
+    assert call("verify", "--root", f"{room}/far", "there/m").status == 0
 
 
-def test_other_forms(archive: Path) -> None:
+def test_other_forms() -> None:
     """The files may have become zips or be in lower case."""
-    for path in Path("in").glob("a.RT?"):
+    for path in Path("in").glob("-d.RT?"):
         path.rename(path.with_suffix(path.suffix.lower()))
     shutil.make_archive("in/b", "zip", "in", ".")
-    for path in Path("in").glob("b.RT?"):
-        path.unlink()
+    remove("in/b")
     ended = call("verify", "m")
     assert (ended.status, ended.out) == (1, ALL_OK.replace("b: OK", "b: FAILED"))
     assert ended.reports["in/b"].startswith("the zip has 4 counties in it: ")

@@ -31,7 +31,7 @@ needs_browser = pytest.mark.skipif(
 class Browser:
     """A browser without a window, and without a network."""
 
-    def __init__(self, width: int = 1400, height: int = 900) -> None:
+    def __init__(self) -> None:
         options = webdriver.ChromeOptions()
         options.binary_location = shutil.which("chromium")
         words = "headless=new no-sandbox disable-gpu disable-dev-shm-usage hide-scrollbars disable-lcd-text".split()
@@ -40,17 +40,16 @@ class Browser:
         options.set_capability("goog:loggingPrefs", {"browser": "ALL", "performance": "ALL"})
         self.driver = webdriver.Chrome(service=Service(shutil.which("chromedriver")), options=options)
         self.driver.set_script_timeout(300)
-        self.resize(width, height)
 
     def resize(self, width: int, height: int) -> None:
         metrics = {"width": width, "height": height, "deviceScaleFactor": 1, "mobile": False}
         self.driver.execute_cdp_cmd("Emulation.setDeviceMetricsOverride", metrics)
 
-    def open(self, page: Path, seconds: float = 30) -> float:
-        """Opens a page, waits until it has drawn, and answers after how many seconds it had."""
+    def open(self, page: Path) -> float:
+        """Opens a page, waits until it has drawn, and returns after how many seconds it had."""
         self.driver.get(page.as_uri())
         drawn = "return document.documentElement.dataset.drawn"
-        WebDriverWait(self.driver, seconds, 0.05).until(lambda driver: driver.execute_script(drawn) is not None)
+        WebDriverWait(self.driver, 30, 0.05).until(lambda driver: driver.execute_script(drawn) is not None)
         return float(self.run(drawn)) / 1000
 
     def printed(self, orientation: str) -> bytes:
@@ -80,6 +79,9 @@ class Browser:
     def texts(self, selector: str) -> list[str]:
         texts: list[str] = self.run("return texts(...arguments)", selector)
         return texts
+
+    def popup(self) -> str:
+        return self.texts(".leaflet-popup-content")[0]
 
     def listed(self) -> int:
         """How many differences are listed, by the line above the list."""

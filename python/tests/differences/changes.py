@@ -8,18 +8,18 @@ from collections import Counter
 from pathlib import Path
 from typing import NamedTuple, Sequence, TypeVar
 
+from maps import FILE, Chain, County, Landmark, Point, Polygon, written
 from support import put
+from testing import script
 
 from tigercanon.differences.columns import CHAIN
 
-from .county import FILE, Chain, County, Landmark, Point, Polygon, made_county, written
-
 SUBJECTS = ("chain", "landmark", "polygon")
+MAKER = script("tools/make-county")
 
 T = TypeVar("T")
 Place = tuple[Point, ...]
-"""The points of something, in the direction of canonical texts: a chain runs so that its points come before their
-reverse."""
+"""The points of something, in the direction of canonical texts: a chain runs so that its points come before their reverse."""
 
 
 class Difference(NamedTuple):
@@ -29,6 +29,16 @@ class Difference(NamedTuple):
     kind: str
     place: Place
     fields: frozenset[str] = frozenset()
+
+
+def made_county(chains: int, seed: int) -> County:
+    """A county with this many chains, and with a church for each fifty of them, or eight, to the south of its streets."""
+    made, step = MAKER.County(chains, str(seed)), MAKER.SPACING
+    rows = [divmod(number, 20) for number in range(max(8, chains // 50))]
+    places = [(MAKER.WEST + step * column, MAKER.SOUTH - step * (row + 4)) for row, column in rows]
+    fields = {"FILE": FILE, "SOURCE": "A", "CFCC": "D44"}
+    churches = [Landmark({**fields, "LANAME": f"Church {number}"}, place) for number, place in enumerate(places, 1)]
+    return County(list(made.chains), made.names, made.polygons, [*made.landmarks, *churches], made.outside)
 
 
 class Changing:
@@ -73,7 +83,7 @@ class Changing:
     def take_away(self, count: int) -> None:
         for chain in self.some_chains(count):
             self.tell("chain", "in the first alone", chain.points)
-            self.county.chains = [other for other in self.county.chains if other is not chain]
+            self.county.chains.remove(chain)
 
     def add_courts(self, count: int) -> None:
         """Streets that end within a polygon, on both sides of them."""
@@ -116,8 +126,8 @@ class Changing:
     def move_sides(self, count: int) -> None:
         """Puts another polygon on a side."""
         for chain in self.some_chains(count):
-            others = iter(lambda: self.chance.randrange(len(self.county.polygons)), None)
-            chain.left = next(other for other in others if other not in (chain.left, chain.right))
+            others = {*range(len(self.county.polygons))} - {chain.left, chain.right}
+            chain.left = self.chance.choice(sorted(others))
             self.tell("chain", "changed", chain.points, "right polygon" if chain.points > chain.points[::-1] else "left polygon")
 
     def some(self, things: list[T], count: int) -> list[T]:
@@ -148,7 +158,7 @@ class Changing:
     def take_landmarks(self, count: int) -> None:
         for landmark in self.some_landmarks(count):
             self.tell("landmark", "in the first alone", [place_of(landmark)])
-            self.county.landmarks = [other for other in self.county.landmarks if other is not landmark]
+            self.county.landmarks.remove(landmark)
 
     def add_landmarks(self, count: int) -> None:
         for number in range(count):

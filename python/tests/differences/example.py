@@ -28,6 +28,7 @@ def example_differences() -> set[Difference]:
 
 def open_example(browser: Browser, room: Path) -> None:
     """Makes the page in this folder, opens it, and clicks at a street with another name."""
+    browser.resize(1280, 800)
     differing("--page", room / "page.html", "two-maps/first.txt", "two-maps/second.txt", cwd=EXAMPLE.parent)
     browser.open(room / "page.html")
     browser.click_at_changed("Commerce")
@@ -37,7 +38,7 @@ def write_picture(picture: Path) -> None:
     from PIL import Image
 
     with tempfile.TemporaryDirectory() as room:
-        browser = Browser(1280, 800)
+        browser = Browser()
         try:
             open_example(browser, Path(room))
             shot = Image.open(BytesIO(browser.driver.get_screenshot_as_png())).convert("RGB")

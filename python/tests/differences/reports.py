@@ -6,17 +6,17 @@ from itertools import accumulate
 from pathlib import Path
 from typing import Any
 
-import pytest
-from support import PROGRAM, Ended, call
+from maps import Point
+from support import Ended, built_program, call
 from testing import ROOT
 
-from tigercanon.differences.sets import Canonical, Sets
-
-from .changes import Difference, Place
+from .changes import SUBJECTS, Difference, Place
 
 EXAMPLE = ROOT / "examples/two-maps"
 LEAFLET = Path("/usr/share/javascript/leaflet")
 KINDS = ("in the first alone", "in the second alone", "changed")
+
+Feature = dict[str, Any]
 
 WORDS_HEADING = re.compile(rf"(?m)^(chain|landmark|polygon|feature name)s ({'|'.join(KINDS)}): ([\d,]+)$")
 DEGREES = re.compile(r"(\d+)\.(\d{6})° ([NS]), (\d+)\.(\d{6})° ([WE])")
@@ -24,11 +24,9 @@ SIGNS = {"N": 1, "E": 1, "S": -1, "W": -1}
 PROGRESS = re.compile(r"tigercanon-tools: (normalising|reading|comparing|finding|writing) .*\n")
 
 
-def diff(*words: object, program: object = PROGRAM, **options: Any) -> Ended:
+def diff(*words: object, program: str = "", **options: Any) -> Ended:
     """Calls tigercanon-tools diff. Lines of progress are left out of what it reported: a machine at work prints more of them."""
-    if not program:
-        pytest.skip("no program is built: ./tigercanon builds it, and TIGERCANON can name another")
-    ended = call("diff", *words, env={"TIGERCANON": str(program), **options.pop("env", {})}, **options)
+    ended = call("diff", *words, env={"TIGERCANON": program or built_program(), **options.pop("env", {})}, **options)
     return ended._replace(err=PROGRESS.sub("", ended.err))
 
 
@@ -37,10 +35,6 @@ def differing(*words: object, **options: Any) -> str:
     ended = diff(*words, **options)
     assert (ended.status, ended.err) == (1, "")
     return ended.out
-
-
-def sets_of(first: bytes, second: bytes) -> Sets:
-    return Sets(Canonical("one", first), Canonical("other", second))
 
 
 def told_in_words(text: str) -> set[Difference]:
@@ -63,19 +57,27 @@ def in_words(difference: Difference) -> Difference:
     return difference._replace(place=(place[0], place[-1])) if difference.what == "chain" else difference
 
 
+def features_in(path: Path) -> list[Feature]:
+    features: list[Feature] = json.loads(path.read_text("utf-8"))["features"]
+    return features
+
+
 def told_in_geojson(path: Path) -> set[Difference]:
     """The differences in a GeoJSON file, without feature names and ties."""
     found = set()
-    for feature in json.loads(path.read_text("utf-8"))["features"]:
-        properties, geometry = feature["properties"], feature["geometry"]
-        if properties["what"] in ("tie", "feature name"):
-            continue
-        coordinates = geometry["coordinates"] if geometry else []
-        positions = [coordinates] if geometry and geometry["type"] == "Point" else coordinates
-        place = tuple((round(longitude * 1e6), round(latitude * 1e6)) for longitude, latitude in positions)
-        fields = frozenset(properties["differs"].split("; ")) if properties["differs"] else frozenset()
-        found.add(Difference(properties["what"], properties["kind"], place, fields))
+    for feature in features_in(path):
+        properties, geometry = feature["properties"], feature["geometry"] or {"type": "none", "coordinates": []}
+        if properties["what"] in SUBJECTS:
+            positions = [geometry["coordinates"]] if geometry["type"] == "Point" else geometry["coordinates"]
+            place = tuple(map(micro, positions))
+            fields = frozenset((properties["differs"] or "").split("; ")) - {""}
+            found.add(Difference(properties["what"], properties["kind"], place, fields))
     return found
+
+
+def micro(position: list[float]) -> Point:
+    """A position as GeoJSON has it, in millionths of a degree."""
+    return round(position[0] * 1e6), round(position[1] * 1e6)
 
 
 def page_data(path: Path) -> dict[str, Any]:
@@ -89,7 +91,7 @@ def told_in_page(path: Path) -> set[Difference]:
     data = page_data(path)
     found = set()
     for entry in data["entries"]:
-        if entry["what"] in ("chain", "landmark", "polygon"):
+        if entry["what"] in SUBJECTS:
             place = line_of(entry["line"]) if "line" in entry else tuple(line_of(point)[0] for point in entry["points"])
             fields = frozenset(data["labels"][row[0]][0] for row in entry["rows"] if row[3:] == [1])
             found.add(Difference(entry["what"], data["kinds"][entry["kind"]], place, fields))

@@ -8,14 +8,15 @@ import shlex
 import shutil
 import signal
 import stat
-import subprocess
 from pathlib import Path
 from typing import Any
 
 import pytest
+from maps import written
 from support import HEAD, NAME, PACKAGE, STAND_INS, Ended, begin, call, end, environment, limit_files, packed, put, words_of
+from testing import Answer, run
 
-from .county import made_county, written
+from .changes import made_county
 from .reports import PROGRESS, diff
 
 LEAFLET = ("--leaflet", "leaflet")
@@ -40,11 +41,10 @@ def ask(*words: object, program: str = "program", **options: Any) -> Ended:
     return diff(*words, program=os.path.abspath(program), **options)
 
 
-def ask_shell(command: str, **options: Any) -> "subprocess.CompletedProcess[bytes]":
+def ask_shell(command: str) -> Answer:
     """Runs a command of bash, in which DIFF is the command."""
-    shell = ["bash", "-c", command.replace("DIFF", " ".join(words_of("diff")))]
-    env = environment(TIGERCANON=os.path.abspath("program"), **options.pop("env", {}))
-    return subprocess.run(shell, env=env, stderr=subprocess.PIPE, **options)
+    words = ["bash", "-c", command.replace("DIFF", " ".join(words_of("diff")))]
+    return run(words, env=environment(TIGERCANON=os.path.abspath("program")))
 
 
 @pytest.mark.parametrize("wanted", ["", "--no-sources", "--no-reserved", "--no-sources --no-reserved"])
@@ -98,16 +98,17 @@ def test_stems_and_zips() -> None:
     put("in/tgr01001.rt1", Path("one").read_bytes())
     put("in/TGR01003.RT1", Path("one").read_bytes())
     put("in/TGR01001.ZIP", packed({"tgr01001.Rt1": Path("other").read_bytes()}))
-    for first, second, status in (
-        ("in/tgr01001", "in/TGR01003", 0),
-        ("in/TGR01001.ZIP", "in/TGR01003", 1),
-        ("one", "in/tgr01001", 0),
-        ("other", "in/TGR01001.ZIP", 0),
-    ):
-        ended = ask(first, second)
-        assert (ended.status, ended.err) == (status, ""), (first, second)
-    run = ask_shell("DIFF <(cat one) <(cat other) --summary --geojson of-pipes", stdout=subprocess.DEVNULL)
-    assert (run.returncode, run.stderr) == (1, b"")
+    rows = [
+        ("in/tgr01001 in/TGR01003", 0),
+        ("in/TGR01001.ZIP in/TGR01003", 1),
+        ("one in/tgr01001", 0),
+        ("other in/TGR01001.ZIP", 0),
+    ]
+    for names, status in rows:
+        ended = ask(*names.split())
+        assert (ended.status, ended.err) == (status, ""), names
+    asked = ask_shell("DIFF <(cat one) <(cat other) --summary --geojson of-pipes")
+    assert (asked.status, asked.err) == (1, b"")
     assert len(json.loads(Path("of-pipes").read_text())["features"]) == 1
 
 
@@ -157,9 +158,9 @@ def test_a_full_disk() -> None:
     ],
 )
 def test_standard_output(redirected: str, told: bytes) -> None:
-    run = ask_shell(f"set -o pipefail; DIFF one other {redirected}", stdout=subprocess.DEVNULL)
-    assert (told in run.stderr, bool(run.stderr)) == (True, bool(told)), run.stderr
-    assert run.returncode == 2 or not told
+    asked = ask_shell(f"set -o pipefail; DIFF one other {redirected}")
+    assert (told in asked.err, bool(asked.err)) == (True, bool(told)), asked.err
+    assert asked.status == 2 or not told
 
 
 def test_other_letters() -> None:
@@ -178,10 +179,10 @@ def test_other_letters() -> None:
 def test_stopped(number: signal.Signals) -> None:
     """A run that a signal ends leaves nothing behind, and one that takes long reports its progress."""
     before = sorted(os.listdir("."))
-    run = begin("diff", "--geojson", "stopped", "one", "other", env={"TIGERCANON": os.path.abspath("slow")})
-    assert run.stderr and run.stderr.readline() == f"{NAME}normalising both sets\n".encode()
+    begun = begin("diff", "--geojson", "stopped", "one", "other", env={"TIGERCANON": os.path.abspath("slow")})
+    assert begun.stderr and begun.stderr.readline() == f"{NAME}normalising both sets\n".encode()
     assert sorted(os.listdir(".")) != before
-    os.kill(run.pid, number)
-    ended = end(run, 60)
+    os.kill(begun.pid, number)
+    ended = end(begun, 60)
     assert ended.status in (128 + number, -number)
     assert (ended.out, sorted(os.listdir("."))) == ("", before)

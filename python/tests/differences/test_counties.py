@@ -1,38 +1,61 @@
-"""Counties of 5,000 chains by two hands: as they are one map, and as they differ at known places; and the example of two maps."""
+"""Counties of 5,000 chains by two hands: as they are one map, and as they differ at known places. The numbers in GeoJSON agree with the
+records of the user's files. And the example of two maps."""
 
 import re
+import shutil
 from collections import Counter
 from copy import deepcopy
+from itertools import product
 from pathlib import Path
 
 import pytest
-from support import put
+from maps import FILE, Landmark, Point, written
+from support import packed, put
+from testing import run
 
-from .changes import SUBJECTS, Changing, much_changed
-from .county import made_county, written
+from tigercanon.differences.words import TIED
+
+from .changes import SUBJECTS, Changing, made_county, much_changed, split_maps
 from .example import example_differences
-from .reports import EXAMPLE, KINDS, LEAFLET, diff, differing, in_words, page_data, told_in_geojson, told_in_page, told_in_words
+from .reports import EXAMPLE, KINDS, LEAFLET, Feature, diff, differing, features_in, in_words, micro, page_data
+from .reports import told_in_geojson, told_in_page, told_in_words
+
+SIDES = ("first", "second")
+
+Files = tuple[Path, Path]
 
 
 @pytest.fixture(scope="module")
 def changing() -> Changing:
-    made = much_changed(made_county(5_000, 1), 2)
+    county = made_county(5_000, 1)
+    for kind in range(60, 68):  # landmarks with one name, which differ only in SOURCE and CFCC
+        fields = {"FILE": FILE, "SOURCE": "ABC"[kind % 3], "CFCC": f"D{kind}", "LANAME": "Fair Ground"}
+        county.landmarks.append(Landmark(fields, (-86_470_001, 32_460_001)))
+    made = much_changed(county, 7)
     assert (len(made.before.chains), len(made.differences) > 110) == (5_000, True)
     return made
 
 
 @pytest.fixture(scope="module")
-def files(changing: Changing, tmp_path_factory: pytest.TempPathFactory) -> tuple[Path, Path]:
+def files(changing: Changing, tmp_path_factory: pytest.TempPathFactory) -> Files:
     return changing.files(tmp_path_factory.mktemp("counties"))
+
+
+@pytest.fixture(scope="module")
+def all_features(files: Files, tmp_path_factory: pytest.TempPathFactory) -> Path:
+    """A GeoJSON file with a feature for each chain, landmark and polygon of both maps."""
+    path = tmp_path_factory.mktemp("all") / "geojson"
+    differing("--geojson", path, "--all", *files)
+    return path
 
 
 def test_example(room: Path) -> None:
     text, wanted = differing("--geojson", "geojson", EXAMPLE / "first.txt", EXAMPLE / "second.txt"), example_differences()
     assert told_in_geojson(room / "geojson") == wanted
-    assert {told for told in told_in_words(text) if told.place} == set(map(in_words, wanted))
+    assert told_in_words(text) == set(map(in_words, wanted))
 
 
-def test_another_hand(changing: Changing, files: tuple[Path, Path], room: Path) -> None:
+def test_another_hand(changing: Changing, files: Files, room: Path) -> None:
     """Renumbered, turned, shuffled and packed otherwise: nothing differs."""
     ended = diff("--geojson", "geojson", files[0], put("copy", written(changing.before, 4)))
     assert (ended.status, ended.err) == (0, "")
@@ -40,11 +63,11 @@ def test_another_hand(changing: Changing, files: tuple[Path, Path], room: Path) 
     assert told_in_geojson(room / "geojson") == set()
 
 
-def test_changed(changing: Changing, files: tuple[Path, Path], room: Path) -> None:
+def test_changed(changing: Changing, files: Files, room: Path) -> None:
     """The text and the file have all changes and no others, and the text has their numbers."""
     text, names, counts = differing("--geojson", "geojson", *files), changing.names, changing.counts()
     assert told_in_geojson(room / "geojson") == changing.differences
-    assert {told for told in told_in_words(text) if told.place} == set(map(in_words, changing.differences))
+    assert told_in_words(text) == set(map(in_words, changing.differences))
     for kind, name in names:
         assert f"feature names {kind}: {len(names)}" in text
         assert re.search(rf"\n  {re.escape(name)}, FILE 01001, a further name of (4|no) chains\n", text)
@@ -55,7 +78,7 @@ def test_changed(changing: Changing, files: tuple[Path, Path], room: Path) -> No
 
 
 @pytest.mark.skipif(not (LEAFLET / "leaflet.css").exists(), reason="libjs-leaflet isn't installed")
-def test_page(changing: Changing, files: tuple[Path, Path], room: Path) -> None:
+def test_page(changing: Changing, files: Files, room: Path) -> None:
     differing("--page", "page.html", *files)
     assert told_in_page(room / "page.html") == changing.differences
     data = page_data(room / "page.html")
@@ -65,10 +88,9 @@ def test_page(changing: Changing, files: tuple[Path, Path], room: Path) -> None:
     assert len(data["alike"]["chains"]) == data["counts"]["chain"][3]
 
 
-def test_all(changing: Changing, files: tuple[Path, Path], room: Path) -> None:
-    """With --all there is a feature for each chain, landmark and polygon of both maps."""
-    differing("--geojson", "geojson", "--all", *files)
-    assert Counter((told.what, told.kind) for told in told_in_geojson(room / "geojson")) == changing.counts()
+def test_all(changing: Changing, all_features: Path) -> None:
+    found = [feature["properties"] for feature in features_in(all_features)]
+    assert Counter((each["what"], each["kind"]) for each in found if each["what"] in SUBJECTS) == changing.counts()
 
 
 @pytest.mark.parametrize("flags, status", [((), 1), (("--no-reserved",), 1), (("--no-sources",), 0)])
@@ -78,3 +100,107 @@ def test_masks(room: Path, flags: tuple[str, ...], status: int) -> None:
     other = deepcopy(county)
     other.chains[0].fields["SOURCE"] = "Z"
     assert diff(*flags, put("first", written(county, 3)), put("second", written(other, 8))).status == status
+
+
+def point_at(line: str, column: int) -> Point:
+    """The point that begins in this column, counted from 1."""
+    return int(line[column - 1 : column + 9]), int(line[column + 9 : column + 18])
+
+
+def records(path: Path) -> dict[tuple[str, int], str]:
+    """The records of types 1, 7 and P in a file, by their type and their TLID, LAND or POLYID."""
+    columns = {"1": slice(5, 15), "7": slice(10, 20), "P": slice(15, 25)}
+    lines = path.read_text("latin-1").splitlines()
+    return {(line[0], int(line[columns[line[0]]])): line for line in lines if line[0] in columns}
+
+
+def is_of(line: str, feature: Feature, side: str) -> bool:
+    """Whether a record belongs to a feature, by its place and its name."""
+    properties, coordinates = feature["properties"], (feature["geometry"] or {"coordinates": []})["coordinates"]
+    if line[0] == "1":
+        ends = {point_at(line, 191), point_at(line, 210)}
+        name = line[19:49].strip() or None
+        return ends == {micro(coordinates[0]), micro(coordinates[-1])} and properties.get(f"{side}_FENAME") == name
+    if line[0] == "7":
+        found = properties.get(f"{side}_LANAME"), properties.get(f"{side}_CFCC")
+        return found == (line[24:54].strip() or None, line[21:24].strip() or None)
+    return micro([properties[f"{side}_POLYLONG"], properties[f"{side}_POLYLAT"]]) == point_at(line, 26)
+
+
+def seen(path: Path, files: Files) -> set[tuple[str, str, int]]:
+    """The records that the features in a file have the numbers of. Each feature has the number of its record in each map."""
+    numbered = {"chain": ("1", "TLID"), "landmark": ("7", "LAND"), "polygon": ("P", "POLYID")}
+    found, lines = set(), dict(zip(SIDES, map(records, files)))
+    for feature, side in product(features_in(path), SIDES):
+        properties = feature["properties"]
+        record_type, word = numbered.get(properties["what"], ("", ""))
+        number = properties.get(f"{side}_{word}")
+        assert (f"canonical_{side}_{word}" in properties) == (number is not None)
+        if number is not None:
+            assert is_of(lines[side][record_type, number], feature, side), properties
+            found.add((side, record_type, number))
+    return found
+
+
+def test_numbers(files: Files, all_features: Path, room: Path) -> None:
+    """Each record of both files has its feature, under any mask and from a zip."""
+    wanted = {(side, *key) for side, path in zip(SIDES, files) for key in records(path)}
+    assert seen(all_features, files) == wanted
+    differing("--geojson", "geojson", "--no-sources", "--no-reserved", *files)
+    assert seen(room / "geojson", files) < wanted
+    put("first.zip", packed({"TGR01001.RT1": files[0].read_bytes()}))
+    differing("--geojson", "geojson", "--all", "first.zip", files[1])
+    assert seen(room / "geojson", files) == wanted
+
+
+def test_canonical_numbers(files: Files, all_features: Path) -> None:
+    """They agree with the canonical text, which numbers chains from 1."""
+    numbers = [each["properties"].get("canonical_first_TLID") for each in features_in(all_features)]
+    chains = sum(key[0] == "1" for key in records(files[0]))
+    assert sorted(filter(None, numbers)) == list(range(1, chains + 1))
+
+
+def test_values(all_features: Path) -> None:
+    """Points are numbers, and a field for the presence of something is true or false."""
+    found = [feature["properties"] for feature in features_in(all_features)]
+    assert {each.get("first_start_node", True) for each in found if each["what"] == "chain"} == {True}
+    assert {each.get("first_type_P", True) for each in found if each["what"] == "polygon"} == {True}
+    values = {value for each in found for value in each.values() if isinstance(value, str)}
+    assert not values & {"yes", "no", "there is one", "(none)", "(blank)"}
+
+
+def test_ties(room: Path) -> None:
+    """A difference that is only a tie is named, and has a feature at each of its places."""
+    (split,), one, tied = split_maps(room, 144, 44, 1)
+    text = differing("--geojson", "geojson", one, tied)
+    assert f"{split[1] / 1e6:.6f}° N, {-split[0] / 1e6:.6f}° W" in text.partition(TIED)[2]
+    (tie,) = features_in(room / "geojson")
+    found = [tie["properties"][name] for name in ("what", "differs", "first_count", "second_count")]
+    assert found == ["tie", "node", 1, 2]
+    positions = tie["geometry"]["coordinates"]
+    assert micro(positions if tie["geometry"]["type"] == "Point" else positions[0]) == split
+    lines = records(one)
+    for tlid in tie["properties"]["first_TLIDs"].replace(" | ", "; ").split("; "):
+        assert split in (point_at(lines["1", int(tlid)], 191), point_at(lines["1", int(tlid)], 210))
+
+
+@pytest.mark.skipif(not shutil.which("ogrinfo"), reason="gdal-bin isn't installed")
+def test_ogrinfo(changing: Changing, files: Files, room: Path) -> None:
+    """GeoJSON as another reader sees it, GDAL."""
+
+    def found(where: str) -> tuple[int, str]:
+        """How many features there are for which this holds, and all that is reported."""
+        ended = run(["ogrinfo", "-ro", "-so", "-al", "-where", where, "geojson"])
+        assert (ended.status, ended.err) == (0, b"")
+        (count,) = re.findall(r"Feature Count: (\d+)", ended.out.decode())
+        return int(count), ended.out.decode()
+
+    differing("--geojson", "geojson", *files)
+    count, text = found("what <> ''")
+    assert (count, "WGS 84" in text) == (len(changing.differences) + len(changing.names), True)
+    for kind in KINDS:
+        wanted = sum(difference.kind == kind for difference in changing.differences)
+        assert found(f"what <> 'feature name' AND kind = '{kind}'")[0] == wanted
+    assert found("differs = 'FENAME' AND second_FENAME = 'Changed'")[0] == 25
+    count, text = found("what = 'polygon' AND first_POLYLONG <> second_POLYLONG")
+    assert (count, "first_POLYLAT: Real" in text, "first_TLID: Integer" in text) == (2, True, True)

@@ -1,21 +1,46 @@
-"""How small counties are matched and reported. They are read as they are written, without the program."""
+"""How small counties are matched and reported. They are read as they are written, without the program. And the columns of the records
+agree with docs/format.md."""
 
 import copy
+import re
 from typing import Any, Callable, Optional
 
 import pytest
+from maps import Chain, County, Landmark, Polygon, turned, written
+from testing import ROOT
 
+from tigercanon.differences import page
+from tigercanon.differences.columns import CHAIN, LANDMARK, LENGTHS, LINK, NAME, POLYGON, RANGE, Layout
 from tigercanon.differences.fields import decimal, degrees, landmark_rows, rows
 from tigercanon.differences.matching import Comparison, compare
-from tigercanon.differences.page import page_data, shift_of
 from tigercanon.differences.reading import NotCanonical, read_county
+from tigercanon.differences.sets import Canonical, Sets
 from tigercanon.differences.words import ONE_MAP, TIED, told
 
-from .county import Chain, County, Landmark, Polygon, made_county, written
-from .reports import sets_of
+from .changes import made_county
 
 Told = tuple[str, Optional[str], Optional[str]]
 """The label of a field that differs, and what both maps say."""
+
+
+EMPTY = County([], [], [], [])
+
+TABLE = re.compile(r"^## Record type (\w): [^\n]* \((\d+) bytes\)\n(.*?)(?=^## |\Z)", re.M | re.S)
+FIELD = re.compile(r"^\| (\d+)(?:[^|]*-(\d+))? \| (?!CENID)([^|]*) \| [Bp] \| [^|]* \|(?: ([^|]*) ?\|)?$", re.M)
+"""A field of text, or a point: its first and last column, its name, and its partner."""
+
+FORMAT = {kind: (int(length), table) for kind, length, table in TABLE.findall((ROOT / "docs/format.md").read_text("utf-8"))}
+
+
+def test_lengths() -> None:
+    assert LENGTHS == {kind: length for kind, (length, _) in FORMAT.items()}
+
+
+@pytest.mark.parametrize("layout", [CHAIN, NAME, RANGE, LANDMARK, LINK, POLYGON], ids=lambda layout: str(layout.record_type))
+def test_columns(layout: Layout) -> None:
+    fields = FIELD.findall(FORMAT[layout.record_type][1])
+    wanted = [(name, int(first), int(last or first), partner.strip()) for first, last, name, partner in fields]
+    assert [(column.name, column.first, column.last, column.partner) for column in layout.columns] == wanted
 
 
 def compared(first: County, second: County) -> Comparison:
@@ -29,8 +54,16 @@ def after(first: County, change: Callable[[County], object]) -> County:
     return second
 
 
+def sets_of(first: County, second: County) -> Sets:
+    return Sets(Canonical("one", written(first)), Canonical("other", written(second)))
+
+
 def words_of(first: County, second: County) -> str:
-    return "\n".join(told(compared(first, second), sets_of(written(first), written(second))))
+    return "\n".join(told(compared(first, second), sets_of(first, second)))
+
+
+def page_of(first: County, second: County) -> dict[str, Any]:
+    return page.page_data(compared(first, second), sets_of(first, second))
 
 
 def chain_between(points: list[tuple[int, int]], **values: Any) -> Chain:
@@ -96,12 +129,10 @@ def test_own_reverse() -> None:
     """A chain whose points are the same from both ends may be seen from either."""
     chain = chain_between([(1, 1), (2, 5), (1, 1)])
     chain.fields.update(FRADDL="1", TOADDR="9")
-    turned = chain_between([(1, 1), (2, 5), (1, 1)])
-    turned.fields.update(FRADDL="9", TOADDR="1")
-    turned.left, turned.right = 1, 0
-    assert compared(two_sided(chain), two_sided(turned)).chains.counts == (0, 0, 0, 1)
-    turned.fields["FENAME"] = "Maple"
-    assert differing_fields(compared(two_sided(chain), two_sided(turned))) == [("FENAME", "Main", "Maple")]
+    other = turned(chain)
+    assert compared(two_sided(chain), two_sided(other)).chains.counts == (0, 0, 0, 1)
+    other.fields["FENAME"] = "Maple"
+    assert differing_fields(compared(two_sided(chain), two_sided(other))) == [("FENAME", "Main", "Maple")]
 
 
 @pytest.mark.parametrize(
@@ -144,16 +175,15 @@ def test_names() -> None:
     other = after(county, lambda county: county.names.append({"FENAME": "Unused"}))
     comparison = compared(county, other)
     assert comparison.names.counts == (0, 1, 0, len(county.names))
-    assert not (comparison.is_alike)
+    assert not comparison.is_alike
     assert "  Unused, FILE (blank), a further name of no chains" in words_of(county, other).splitlines()
 
 
 def test_nothing() -> None:
-    empty = County([], [], [], [])
-    assert ONE_MAP in words_of(empty, empty)
+    assert ONE_MAP in words_of(EMPTY, EMPTY)
+    assert page_of(EMPTY, EMPTY)["entries"] == []
     county = made_county(12, 1)
-    assert compared(empty, county).chains.counts == (0, len(county.chains), 0, 0)
-    page_data(compared(empty, empty), sets_of(b"", b""))
+    assert compared(EMPTY, county).chains.counts == (0, len(county.chains), 0, 0)
 
 
 def test_what_is_no_canonical_text() -> None:
@@ -167,10 +197,8 @@ def test_date_line() -> None:
     """A map across the line of 180 degrees is drawn in one piece."""
     west = chain_between([(-179_000_000, 51_000_000), (-179_000_001, 51_000_000)])
     east = chain_between([(179_000_000, 51_000_000), (179_000_001, 51_000_000)])
-    comparison = compared(two_sided(west, east), two_sided(west))
-    assert shift_of(comparison) == 360_000_000
-    data = page_data(comparison, sets_of(b"x", b"y"))
-    assert data["entries"][0]["line"] == [-181_000_000, 51_000_000, 1, 0]
+    data = page_of(two_sided(west, east), two_sided(west))
+    assert (data["shift"], data["entries"][0]["line"]) == (360_000_000, [-181_000_000, 51_000_000, 1, 0])
 
 
 @pytest.mark.parametrize(
@@ -185,6 +213,25 @@ def test_date_line() -> None:
 def test_degrees(point: str, words: str, numbers: tuple[str, str]) -> None:
     assert degrees(point) == words
     assert (decimal(point[:10]), decimal(point[10:])) == numbers
+
+
+def test_too_many_chains(monkeypatch: pytest.MonkeyPatch) -> None:
+    """A page with more chains than the limit leaves out those that are alike, and has a note about it."""
+    county = made_county(40, 1)
+    for limit, is_left_out in ((len(county.chains), False), (len(county.chains) - 1, True)):
+        monkeypatch.setattr(page, "MOST_CHAINS", limit)
+        data = page_of(county, county)
+        assert [data["alike"]["chains"] == [], data["alike"]["polygons"] == [], data["notes"] != []] == [is_left_out] * 3
+
+
+def test_too_many_fields(monkeypatch: pytest.MonkeyPatch) -> None:
+    """If the fields of all differences take too much space, the last ones have only names and places, and the page has a note about it."""
+    monkeypatch.setattr(page, "ROOM_FOR_FIELDS", 1000)
+    data = page_of(made_county(40, 1), EMPTY)
+    told = len(data["entries"]) + sum(map(len, data["bare"].values()))
+    assert told == sum(sum(counts[:3]) for counts in data["counts"].values())
+    assert ["rows" in data["entries"][place] for place in (0, -1)] == [True, False]
+    assert data["notes"]
 
 
 TIES = [
