@@ -1,4 +1,4 @@
-"""The command line: help, versions, errors, and how the program is found."""
+"""The command line: help, versions, and how the program is found; the command explain, and the hints beside refusals."""
 
 from __future__ import annotations
 
@@ -8,24 +8,27 @@ import sys
 from pathlib import Path
 
 import pytest
-from support import HEAD, PACKAGE, call, complete, manifest, put, words_of
+from support import HEAD, NAME, PACKAGE, call, complete, manifest, put, words_of
 from testing import ROOT, run
 
+from tigercanon.explain import explained, page, sections
+from tigercanon.hints import hint
 from tigercanon.progress import Tally, amount, duration
 from tigercanon.version import VERSION
 
 COMMANDS = ["fingerprint", "verify", "duplicates", "changes", "diff", "explain"]
+CONTROL_Z = "the file ends with a Control-Z, the end mark of an old system: remove it"
 
 
-@pytest.mark.parametrize("words", [[], *([command] for command in COMMANDS)])
-def test_help_and_version(room: Path, words: list[str]) -> None:
+@pytest.mark.parametrize("command", ["", *COMMANDS])
+def test_help_and_version(room: Path, command: str) -> None:
     """They go to standard output, with status 0. A line of help has at most 120 letters, and the general help names all commands."""
-    ended = call(*words, "--help", env={"COLUMNS": "100"})
+    ended = call(*command.split(), "--help", env={"COLUMNS": "100"})
     assert (ended.status, ended.err) == (0, "")
-    assert ended.out.startswith(f"usage: {' '.join(['tigercanon-tools', *words])} ")
+    assert ended.out.startswith(f"usage: {f'tigercanon-tools {command}'.strip()} ")
     assert max(map(len, ended.out.splitlines())) <= 120
-    assert words or [command for command in COMMANDS if f"\n    {command}" not in ended.out] == []
-    assert call(*words, "--version") == (0, f"tigercanon-tools {VERSION}\n", "")
+    assert command or [name for name in COMMANDS if f"\n    {name}" not in ended.out] == []
+    assert call(*command.split(), "--version") == (0, f"tigercanon-tools {VERSION}\n", "")
 
 
 def test_the_versions_agree() -> None:
@@ -38,8 +41,7 @@ class TestProgram:
 
     def test_an_option_beats_the_variable(self, room: Path, stand_in: Path) -> None:
         complete("in/a", b"x\n")
-        other = put("other", b"#!/bin/sh\n[ $1 = fingerprint ] || exit 0\necho refused 1 Other 1 1 >&2; exit 3\n")
-        other.chmod(0o755)
+        put("other", b"#!/bin/sh\n[ $1 = fingerprint ] || exit 0\necho refused 1 Other 1 1 >&2; exit 3\n").chmod(0o755)
         assert call("fingerprint", "--program", "./other", "in").reports == {"in/a": "refused 1 Other 1 1"}
         assert call("fingerprint", "in").status == 0
 
@@ -51,12 +53,10 @@ class TestProgram:
         if place:
             os.renames(stand_in, f"{place}/tigercanon")
         env = {"PYTHONPATH": f"{room}/packages", "PATH": f"{room}/bin:/bin:/usr/bin", "ROOM": str(room), "TMPDIR": f"{room}/tmp"}
-        ended = run(words_of("fingerprint", "in"), env=env)
+        status, out, err = run(words_of("fingerprint", "in"), env=env)
         why = "there is no program tigercanon here: run ./tigercanon once, which builds it, or name one with --program"
-        if place:
-            assert (ended.status, ended.out.decode()) == (0, manifest({"in/a": b"x\n"}))
-        else:
-            assert (ended.status, ended.err.decode()) == (2, f"tigercanon-tools: {why}\n")
+        wanted = (0, manifest({"in/a": b"x\n"})) if place else (2, f"{NAME}{why}\n")
+        assert (status, (out if place else err).decode()) == wanted
 
     def test_a_clone(self, room: Path, stand_in: Path, monkeypatch: pytest.MonkeyPatch) -> None:
         """In a clone ./tigercanon is asked once, so that a stale program is built again; then the built one is called."""
@@ -66,9 +66,7 @@ class TestProgram:
         shutil.copy(ROOT / "tigercanon-tools", room / "clone")
         put("clone/scripts/launch")
         put("clone/tigercanon", b"#!/bin/sh\necho launched >>$ROOM/calls\n").chmod(0o755)
-        built = Path("clone/crates/tigercanon_main/out/tigercanon_main")
-        built.parent.mkdir(parents=True)
-        os.rename(stand_in, built)
+        os.renames(stand_in, "clone/crates/tigercanon_main/out/tigercanon_main")
         os.symlink("clone/tigercanon-tools", "tools")
         ended = run(["./tools", "fingerprint", "in"], env={**os.environ, "PYTHON": sys.executable})
         assert (ended.status, ended.out.count(b"\n")) == (0, 2), ended.err
@@ -92,18 +90,16 @@ def test_installing(room: Path) -> None:
     """The package installs with Debian's setuptools, without a network, and has its command."""
     if not os.path.exists("/usr/lib/python3/dist-packages/wheel"):
         pytest.skip("python3-wheel isn't installed")
-    copy = room / "python"
-    shutil.copytree(PACKAGE, copy, ignore=shutil.ignore_patterns("tests", "*.egg-info", "build", "__pycache__"))
-    (room / "docs").mkdir()
-    shutil.copy(PACKAGE.parent / "docs/guide.md", room / "docs")
-    install = "-m pip install --no-build-isolation --no-index --no-deps --target site"
-    made = run([sys.executable, *install.split(), copy])
+    shutil.copytree(PACKAGE, "python", ignore=shutil.ignore_patterns("tests", "*.egg-info", "build", "__pycache__"))
+    put("docs/guide.md", (ROOT / "docs/guide.md").read_bytes())
+    install = "-m pip install --no-build-isolation --no-index --no-deps --target site ./python"
+    made = run([sys.executable, *install.split()])
     assert made.status == 0, made.err
     env = {"PYTHONPATH": str(room / "site"), "PATH": "/usr/bin:/bin"}
     version = run([sys.executable, "site/bin/tigercanon-tools", "--version"], env=env)
     assert version[:2] == (0, f"tigercanon-tools {VERSION}\n".encode())
-    explained = run(words_of("explain", "9"), env=env)
-    assert (explained.status, explained.out.splitlines()[0]) == (0, b"refused 9 Memory"), explained.err
+    told = run(words_of("explain", "9"), env=env)
+    assert (told.status, told.out.splitlines()[0]) == (0, b"refused 9 Memory"), told.err
 
 
 def test_numbers() -> None:
@@ -118,3 +114,91 @@ def test_numbers() -> None:
     tally.refused["4 BadNumber"] += 3
     progress = "1,200 of 3,200 counties, 10.0 GB of 40.0 GB, 100.0 MB a second, 5 min 0 s left, 3 refused, 2 failed"
     assert tally.progress(100.0) == progress
+
+
+def test_every_refusal_has_a_section() -> None:
+    """The numbers that the program reports, each with its name and a text. Numbers out of use are in no section."""
+    known = sections(page())
+    assert sorted(known) == [*range(1, 21), 23, 24]
+    assert all(len([line for line in text.splitlines() if line.strip()]) > 1 for text in known.values())
+    assert "no longer used" in page() and "no longer used" not in "".join(known.values())
+
+
+@pytest.mark.parametrize(
+    "line, heading, places",
+    [
+        ("refused 4 BadNumber 1 201 6", "4 BadNumber PART LINE COLUMN", "part 1, line 201, column 6"),
+        ("tigercanon-tools: in/b: refused 4 BadNumber 1 201 6", "4 BadNumber PART LINE COLUMN", "part 1, line 201, column 6"),
+        ("4", "4 BadNumber PART LINE COLUMN", ""),
+        ("BadNumber", "4 BadNumber PART LINE COLUMN", ""),
+        ("refused 4", "4 BadNumber PART LINE COLUMN", ""),
+        ("refused 14 LinkMissing 7 in set 2", "14 LinkMissing TLID", "TLID 7"),
+        (
+            "tigercanon-tools: refused 9; in/b: refused 12 NoChain 4 28; no .RT2; empty .RT1",
+            "12 NoChain TYPE TLID",
+            "type 4, TLID 28",
+        ),
+        ("refused 23 PolygonWithoutChain 3036303031 1 in set 1", "23 PolygonWithoutChain CENID POLYID", "CENID 06001, POLYID 1"),
+    ],
+)
+def test_a_refusal(room: Path, line: str, heading: str, places: str) -> None:
+    """By the whole line, which may come after names and before notes, by its number or by its name. The places are explained if the line
+    has them: fields have their names, and a CENID is shown as in the file."""
+    ended = call("explain", line)
+    lines = ended.out.splitlines()
+    assert (ended.status, ended.err, lines[0], lines[2] == places) == (0, "", f"refused {heading}", bool(places))
+    assert ("1         12 4" in ended.out) == ("BadNumber" in heading)
+    assert call("explain", *line.split()) == ended
+
+
+def test_plain_text() -> None:
+    """Marks of Markdown aren't printed."""
+    text = "### `refused 7 Seven TYPE`\n\nSee **this** [page](format.md#a).\n\n## Next\n\nno\n"
+    assert explained("7", text) == ["refused 7 Seven TYPE", "", "See this page."]
+
+
+@pytest.mark.parametrize(
+    "text, line, wanted",
+    [
+        (b"PK\3\4rest\n", "refused 2 LineTooLong 1 1", "the file is a zip: name it with its ending .ZIP"),
+        (b"PK\3\4rest\n", "refused 2 LineTooLong 1 1 in set 2", "the file is a zip: name it with its ending .ZIP"),
+        (b"\x1f\x8b\x08\n", "refused 1 UnknownType 1 1", "the file is compressed by gzip: unpack it first"),
+        (b"\xff\xfe1\0\n", "refused 1 UnknownType 1 1", "the file is UTF-16: convert it to LATIN1 first"),
+        (b"\xfe\xff\0001\n", "refused 1 UnknownType 1 1", "the file is UTF-16: convert it to LATIN1 first"),
+        (b"\xef\xbb\xbf1\n", "refused 1 UnknownType 1 1", "the file begins with a byte order mark: remove its first three bytes"),
+        (b"1\n1\n\x1a", "refused 1 UnknownType 1 3", CONTROL_Z),
+        (b"1\n1\n\x1a\r\n", "refused 1 UnknownType 1 3", CONTROL_Z),
+        (b"1\n1\x1a", "refused 3 BadByte 1 2 2", CONTROL_Z),
+        (b"1\nx\n\x1a", "refused 1 UnknownType 1 2", ""),
+        (b"1\nx\n", "refused 1 UnknownType 1 2", ""),
+        (b"PK\3\4", "refused 14 LinkMissing 1", ""),
+        (b"PK\3\4", "refused 1 UnknownType 3 1", ""),
+    ],
+)
+def test_hints(room: Path, text: bytes, line: str, wanted: str) -> None:
+    """What the bytes at the faulty place suggest."""
+    assert hint(line, [str(put("x.RT1", text)), None]) == wanted
+
+
+@pytest.mark.parametrize("present", ["tgr01013.rt1", "TGR01013.rt1"])
+def test_a_hint_for_names(room: Path, present: str) -> None:
+    put(present)
+    found = hint("refused 8 Device", [f"{room}/TGR01013.RT1", f"{room}/TGR01013.RT2"])
+    assert found == f"there is {present}: the program reads names in capitals only"
+    assert hint("refused 8 Device", [f"{room}/other.RT1"]) == ""
+
+
+def test_hints_in_a_run(room: Path, program: str) -> None:
+    """They follow the program's line."""
+    county = (ROOT / "examples/autauga/TGR01001.RT1").read_bytes()
+    put("in/a.RT1", b"\x1f\x8b" + county)
+    put("in/b.RT1", county.rstrip(b"\r\n") + b"\r\n\x1a")
+    put("in/all.txt", b"\xff\xfe1\0")
+    reports = call("fingerprint", "in", "in/all.txt").reports
+    count = county.rstrip(b"\r\n").count(b"\n") + 2
+    missing = "no .RT2 .RT4 .RT5 .RT6 .RT7 .RT8 .RTI .RTP"
+    assert reports == {
+        "in/a": f"refused 1 UnknownType 1 1; {missing}; the file is compressed by gzip: unpack it first",
+        "in/b": f"refused 1 UnknownType 1 {count}; {missing}; {CONTROL_Z}",
+        "in/all.txt": "refused 1 UnknownType 1 1; the file is UTF-16: convert it to LATIN1 first",
+    }

@@ -7,7 +7,6 @@ import io
 import mmap
 import os
 import shutil
-import subprocess
 import sys
 import threading
 import time
@@ -18,14 +17,13 @@ from pathlib import Path
 from typing import Any, Callable, Iterator
 
 import pytest
-from support import packed, put
-from testing import ROOT, TYPES
+from support import STAND_INS, packed, put
+from testing import ROOT, TYPES, Answer, run
 
 import tigercanon
 from tigercanon import _library
 from tigercanon.explain import SECTION, page
 
-HERE = Path(__file__).resolve().parent
 TEXT = b"1 first line\n2 second line: \xe9\n"
 
 REFUSALS = [found for found in SECTION.findall(page()) if found[0] not in ("8", "10")]
@@ -37,8 +35,8 @@ def compiled(tmp_path_factory: pytest.TempPathFactory) -> Path:
     if not shutil.which("gcc"):
         pytest.skip("no gcc")
     made = tmp_path_factory.mktemp("library") / _library.NAME
-    words = ["gcc", "-shared", "-fPIC", "-O1", "-Wall", "-Werror", f"-I{ROOT / 'include'}"]
-    subprocess.run([*words, "-o", str(made), str(HERE / "stand-ins/library.c")], check=True)
+    words = ["gcc", "-shared", "-fPIC", "-O1", "-Wall", "-Werror", f"-I{ROOT / 'include'}", "-o", made, STAND_INS / "library.c"]
+    assert run(words) == (0, b"", b"")
     return made
 
 
@@ -53,8 +51,8 @@ def loaded(library: Path, monkeypatch: pytest.MonkeyPatch) -> Iterator[None]:
 echoed: Callable[[Any], bytes] = tigercanon.respell
 """What the stand-in was lent."""
 
-EACH_CALL: list[Callable[[Any], object]] = [tigercanon.check, echoed, tigercanon.normalise, tigercanon.fingerprint]
-EACH_CALL += [partial(tigercanon.compare, b"")]
+EACH_CALL: list[Callable[[Any], object]]
+EACH_CALL = [tigercanon.check, echoed, tigercanon.normalise, tigercanon.fingerprint, partial(tigercanon.compare, b"")]
 
 
 def kinds(folder: Path) -> dict[str, Callable[[], Any]]:
@@ -136,8 +134,7 @@ def test_parts_are_given_back() -> None:
 
 def test_stems(tmp_path: Path) -> None:
     """The nine files in their order, in either case of their endings. An absent one is empty."""
-    files = {"TGR01001.RT1": b"one", "TGR01001.rti": b"I", "TGR01001.RTP": b"P", "TGR010011.RT2": b"of another county"}
-    for name, text in files.items():
+    for name, text in (("TGR01001.RT1", b"one"), ("TGR01001.rti", b"I"), ("TGR01001.RTP", b"P"), ("TGR010011.RT2", b"another")):
         put(tmp_path / name, text)
     for stem in (tmp_path / "TGR01001", str(tmp_path / "TGR01001")):
         assert echoed(stem) == b"one|||||||I|P"
@@ -145,7 +142,7 @@ def test_stems(tmp_path: Path) -> None:
         tigercanon.check(tmp_path / "TGR01003")
     with pytest.raises(FileNotFoundError):
         tigercanon.check([tmp_path / "TGR01001"])
-    (tmp_path / "TGR01001.rt1").write_bytes(b"one again")
+    put(tmp_path / "TGR01001.rt1", b"one again")
     with pytest.raises(ValueError, match="TGR01001.rt1"):
         tigercanon.check(tmp_path / "TGR01001")
     with pytest.raises(IsADirectoryError):
@@ -221,46 +218,42 @@ def test_other_threads_run() -> None:
     call.join()
 
 
-def imported(package: Path, *words: str, **more: str) -> "subprocess.CompletedProcess[str]":
-    """What Python prints that loads the package from this folder."""
-    plain = {key: value for key, value in os.environ.items() if key not in ("LD_LIBRARY_PATH", _library.VARIABLE)}
-    environment = {**plain, "PYTHONPATH": str(package), "PYTHONDONTWRITEBYTECODE": "1", **more}
-    command = [sys.executable, "-c", "; ".join(("import tigercanon", *words))]
-    return subprocess.run(command, cwd="/", env=environment, capture_output=True, text=True)
-
-
 @pytest.fixture
 def package(tmp_path: Path) -> Path:
-    """The package elsewhere."""
+    """The package elsewhere, in which there is no library."""
     shutil.copytree(ROOT / "python/tigercanon", tmp_path / "python/tigercanon")
     return tmp_path / "python"
 
 
+def respelled(package: Path, **more: object) -> Answer:
+    """What Python prints that loads the package from this folder."""
+    plain = {key: value for key, value in os.environ.items() if key not in ("LD_LIBRARY_PATH", _library.VARIABLE)}
+    env = {**plain, "PYTHONPATH": package, "PYTHONDONTWRITEBYTECODE": "1", **more}
+    words = "import tigercanon; print(tigercanon.FORM, flush=True); print(tigercanon.respell(b'x'))"
+    return run([sys.executable, "-c", words], cwd="/", env=env)
+
+
 def test_where_the_library_is(library: Path, tmp_path: Path, package: Path) -> None:
     """The variable wins over a library beside the package, and that one over one of the system."""
-    call = partial(imported, package, "print(tigercanon.respell(b'x'))")
-    system = {"LD_LIBRARY_PATH": str(library.parent)}
-    assert call(**system).stdout == "b'x'\n"
-    beside = tmp_path / "lib" / _library.NAME
-    beside.parent.mkdir()
-    beside.write_bytes(b"no library")
-    assert "ImportError" in call(**system).stderr
-    assert call(TIGERCANON_LIBRARY=str(library)).stdout == "b'x'\n"
+    found, beside = Answer(0, b"tigercanon form 1\nb'x'\n", b""), tmp_path / "lib" / _library.NAME
+    call = partial(respelled, package)
+    assert call(LD_LIBRARY_PATH=library.parent) == found
+    put(beside, b"no library")
+    assert b"ImportError" in call(LD_LIBRARY_PATH=library.parent).err
+    assert call(TIGERCANON_LIBRARY=library) == found
     beside.unlink()
     beside.symlink_to(library)
-    assert call().stdout == "b'x'\n"
-    assert "ImportError" in call(TIGERCANON_LIBRARY=str(tmp_path / "none")).stderr
-    (package / "tigercanon" / _library.NAME).symlink_to(library)
-    beside.unlink()
-    assert call().stdout == "b'x'\n"
+    assert call() == found
+    assert b"ImportError" in call(TIGERCANON_LIBRARY=tmp_path / "none").err
+    beside.rename(package / "tigercanon" / _library.NAME)
+    assert call() == found
 
 
 def test_without_a_library(package: Path) -> None:
     """The package can be imported, and a call says in one line how to get the library."""
-    ended = imported(package, "print(tigercanon.FORM)", "tigercanon.check(b'')")
-    assert ended.stdout == "tigercanon form 1\n"
-    last = ended.stderr.splitlines()[-1]
-    assert last.startswith("ImportError: the library libtigercanon.so.1 can't be loaded")
+    _, out, err = respelled(package)
+    last = err.decode().splitlines()[-1]
+    assert (out, last.startswith("ImportError: the library libtigercanon.so.1 can't be loaded")) == (b"tigercanon form 1\n", True)
     assert "scripts/build-library" in last and _library.VARIABLE in last
 
 

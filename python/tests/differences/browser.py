@@ -1,16 +1,24 @@
-"""A page in Chromium."""
+"""A page in Chromium.
+
+    cd python/tests; PYTHONPATH=..:../../tools /usr/bin/python3 -m differences.browser
+
+makes the picture of the two maps in examples/two-maps again, docs/differences.png. That needs Debian's python3-pil.
+"""
 
 import base64
 import json
 import shutil
+import tempfile
 from contextlib import suppress
 from importlib.util import find_spec
+from io import BytesIO
 from pathlib import Path
 from typing import Any
 
 import pytest
+from testing import ROOT
 
-from .reports import LEAFLET
+from .reports import EXAMPLE, LEAFLET, differing
 
 with suppress(ImportError):
     from selenium import webdriver
@@ -94,3 +102,28 @@ class Browser:
         """The addresses of all that was asked for since the browser began."""
         messages = [json.loads(entry["message"])["message"] for entry in self.driver.get_log("performance")]
         return [message["params"]["request"]["url"] for message in messages if message["method"] == "Network.requestWillBeSent"]
+
+
+def open_example(browser: Browser, room: Path) -> None:
+    """Makes the page of the two maps in this folder, opens it, and clicks at a street with another name."""
+    browser.resize(1280, 800)
+    differing("--page", room / "page.html", "two-maps/first.txt", "two-maps/second.txt", cwd=EXAMPLE.parent)
+    browser.open(room / "page.html")
+    browser.click_at_changed("Commerce")
+
+
+def write_picture(picture: Path) -> None:
+    from PIL import Image
+
+    with tempfile.TemporaryDirectory() as room:
+        browser = Browser()
+        try:
+            open_example(browser, Path(room))
+            shot = Image.open(BytesIO(browser.driver.get_screenshot_as_png())).convert("RGB")
+        finally:
+            browser.driver.quit()
+    shot.quantize(256, dither=Image.Dither.NONE).save(picture, optimize=True)
+
+
+if __name__ == "__main__":
+    write_picture(ROOT / "docs/differences.png")

@@ -6,7 +6,7 @@ import pickle
 import random
 from collections import Counter
 from pathlib import Path
-from typing import NamedTuple, Sequence, TypeVar
+from typing import Iterator, NamedTuple, Sequence, TypeVar
 
 from maps import FILE, Chain, County, Landmark, Point, Polygon, written
 from support import put
@@ -55,7 +55,9 @@ class Changing:
         """Both maps in files, each by a hand of its own."""
         return put(folder / "first", written(self.before, 1)), put(folder / "second", written(self.county, 2))
 
-    def tell(self, what: str, kind: str, points: list[Point], *fields: str) -> None:
+    def tell(self, kind: str, thing: Chain | Landmark | Polygon, *fields: str) -> None:
+        points = thing.points if isinstance(thing, Chain) else [place_of(thing)]
+        what = type(thing).__name__.lower()
         self.differences.add(Difference(what, kind, tuple(min(points, points[::-1])), frozenset(fields)))
 
     def counts(self) -> dict[tuple[str, str], int]:
@@ -66,107 +68,32 @@ class Changing:
             told[what, "alike"] = len(things) - told[what, "in the first alone"] - told[what, "changed"]
         return told
 
-    def some_chains(self, count: int) -> list[Chain]:
-        """Streets that no change has touched yet. Each polygon beside them has enough other chains."""
-        sides = Counter(side for chain in self.county.chains for side in (chain.left, chain.right))
-        free = [chain for chain in self.county.chains if chain.fields["CFCC"] == "A41" and id(chain) not in self.touched]
-        chosen: list[Chain] = []
-        for chain in self.chance.sample(free, len(free)):
-            if len(chosen) == count:
-                break
-            if all(sides[side] > 3 for side in (chain.left, chain.right)):
-                sides.subtract((chain.left, chain.right))
-                chosen.append(chain)
-        self.touched.update(map(id, chosen))
-        return chosen
-
-    def take_away(self, count: int) -> None:
-        for chain in self.some_chains(count):
-            self.tell("chain", "in the first alone", chain.points)
-            self.county.chains.remove(chain)
-
-    def add_courts(self, count: int) -> None:
-        """Streets that end within a polygon, on both sides of them."""
-        for chain in self.some_chains(count):
-            begin, inside = chain.points[0], place_of(self.county.polygons[chain.left or 0])
-            points = [begin, (begin[0] + (inside[0] - begin[0]) // 3 + 7, begin[1] + (inside[1] - begin[1]) // 3 + 9)]
-            fields = {"SOURCE": "L", "FENAME": self.chance.choice(("Quail", "Heron", "Wren")), "FETYPE": "Ct", "CFCC": "A41"}
-            end = 10**6 + len(self.county.chains)
-            court = Chain(fields, points, chain.start, end, chain.left, chain.left, link=dict(chain.link))
-            self.county.chains.append(court)
-            self.touched.add(id(court))
-            self.tell("chain", "in the second alone", points)
-
-    def move_ends(self, count: int) -> None:
-        for chain in self.some_chains(count):
-            self.tell("chain", "in the first alone", chain.points)
-            longitude, latitude = chain.points[-1]
-            chain.points[-1] = (longitude + 131, latitude - 57)
-            self.tell("chain", "in the second alone", chain.points)
-
-    def change_field(self, count: int, name: str, value: str) -> None:
-        """A field of one side may be in its partner's columns in the canonical text."""
-        partner = next(column.partner or name for column in CHAIN.columns if column.name == name)
-        for chain in self.some_chains(count):
-            chain.fields[name] = value
-            self.tell("chain", "changed", chain.points, partner if chain.points > chain.points[::-1] else name)
-
-    def give_names(self, count: int, name: int) -> None:
-        for chain in self.some_chains(count):
-            chain.names.append(name)
-            self.tell("chain", "changed", chain.points, f"further name {len(chain.names)}")
-
-    def give_ranges(self, count: int) -> None:
-        fields = {"FRADDL": "9001", "TOADDL": "9099", "FRADDR": "9002", "TOADDR": "9100", "ZIPL": "36999", "ZIPR": "36999"}
-        for chain in self.some_chains(count):
-            chain.ranges.append(fields)
-            number = len(chain.ranges)
-            self.tell("chain", "changed", chain.points, f"range {number}", *(f"{name} of range {number}" for name in fields))
-
-    def move_sides(self, count: int) -> None:
-        """Puts another polygon on a side."""
-        for chain in self.some_chains(count):
-            others = {*range(len(self.county.polygons))} - {chain.left, chain.right}
-            chain.left = self.chance.choice(sorted(others))
-            self.tell("chain", "changed", chain.points, "right polygon" if chain.points > chain.points[::-1] else "left polygon")
-
     def some(self, things: list[T], count: int) -> list[T]:
         """Of these things some that no change has touched."""
         chosen = self.chance.sample([thing for thing in things if id(thing) not in self.touched], count)
         self.touched.update(map(id, chosen))
         return chosen
 
-    def flood(self, count: int) -> None:
-        for polygon in self.some(self.county.polygons, count):
-            polygon.fields["WATER"] = "" if polygon.fields["WATER"] else "1"
-            self.tell("polygon", "changed", [place_of(polygon)], "WATER")
+    def chains(self, count: int) -> Iterator[Chain]:
+        """Streets that no change has touched yet. Each polygon beside them has enough other chains."""
+        sides = Counter(side for chain in self.county.chains for side in (chain.left, chain.right))
+        free = [chain for chain in self.county.chains if chain.fields["CFCC"] == "A41" and id(chain) not in self.touched]
+        shuffled = iter(self.chance.sample(free, len(free)))
+        for _ in range(count):
+            chain = next(chain for chain in shuffled if sides[chain.left] > 3 and sides[chain.right] > 3)
+            sides.subtract((chain.left, chain.right))
+            self.touched.add(id(chain))
+            yield chain
 
-    def move_inner_points(self, count: int) -> None:
-        for polygon in self.some(self.county.polygons, count):
-            self.tell("polygon", "changed", [place_of(polygon)], "POLYLONG, POLYLAT")
-            longitude, latitude = place_of(polygon)
-            polygon.point = (longitude + 11, latitude + 13)
-
-    def some_landmarks(self, count: int) -> list[Landmark]:
+    def landmarks(self, count: int) -> list[Landmark]:
         return self.some([landmark for landmark in self.county.landmarks if landmark.point], count)
 
-    def rename_landmarks(self, count: int) -> None:
-        for landmark in self.some_landmarks(count):
-            landmark.fields["LANAME"] = landmark.fields["LANAME"][:24] + " Annex"
-            self.tell("landmark", "changed", [place_of(landmark)], "LANAME")
-
-    def take_landmarks(self, count: int) -> None:
-        for landmark in self.some_landmarks(count):
-            self.tell("landmark", "in the first alone", [place_of(landmark)])
-            self.county.landmarks.remove(landmark)
-
-    def add_landmarks(self, count: int) -> None:
-        for number in range(count):
-            point = (-86_470_001 - 977 * number, 32_461_003 + 613 * number)
-            fields = {"FILE": FILE, "SOURCE": "L", "CFCC": "D57", "LANAME": f"Air Field {number}"}
-            self.county.landmarks.append(Landmark(fields, point))
-            self.touched.add(id(self.county.landmarks[-1]))
-            self.tell("landmark", "in the second alone", [point])
+    def change_field(self, count: int, name: str, value: str) -> None:
+        """A field of one side may be in its partner's columns in the canonical text."""
+        partner = next(column.partner or name for column in CHAIN.columns if column.name == name)
+        for chain in self.chains(count):
+            chain.fields[name] = value
+            self.tell("changed", chain, partner if is_turned(chain) else name)
 
     def add_name(self, name: str) -> int:
         """A name that only the second map has."""
@@ -178,11 +105,16 @@ class Changing:
         """Gives a chain's start a node of its own. Nothing that is said differs by this."""
         split: list[Point] = []
         starts = Counter(node for chain in self.county.chains for node in (chain.start, chain.end))
-        for chain in self.some_chains(count):
+        for chain in self.chains(count):
             assert starts[chain.start] > 1
             chain.start = 10**7 + len(split)
             split.append(chain.points[0])
         return split
+
+
+def is_turned(chain: Chain) -> bool:
+    """Whether a chain runs the other way in the canonical text."""
+    return chain.points > chain.points[::-1]
 
 
 def place_of(thing: Landmark | Polygon) -> Point:
@@ -199,19 +131,73 @@ def split_maps(folder: Path, chains: int, seed: int, nodes: int) -> tuple[list[P
 def much_changed(county: County, seed: int) -> Changing:
     """The county changed in every way, at some hundred places."""
     changing = Changing(county, seed)
-    changing.move_sides(5)
-    changing.take_away(15)
-    changing.move_ends(20)
-    changing.change_field(25, "FENAME", "Changed")
-    changing.change_field(6, "ZIPL", "36111")
-    changing.change_field(4, "BLOCKR", "9876")
-    changing.give_names(4, changing.add_name("Chang\xe9d Name"))
-    changing.give_ranges(3)
-    changing.add_courts(2)
-    changing.flood(3)
-    changing.move_inner_points(2)
-    changing.rename_landmarks(4)
-    changing.take_landmarks(2)
-    changing.add_landmarks(3)
+    change_chains(changing)
+    add_courts(changing)
+    change_polygons(changing)
+    change_landmarks(changing)
     changing.add_name("Unused Name")
     return changing
+
+
+def change_chains(changing: Changing) -> None:
+    """Chains between other polygons, chains that are gone or end elsewhere, and other fields, names and ranges."""
+    for chain in changing.chains(5):
+        others = {*range(len(changing.county.polygons))} - {chain.left, chain.right}
+        chain.left = changing.chance.choice(sorted(others))
+        changing.tell("changed", chain, "right polygon" if is_turned(chain) else "left polygon")
+    for chain in changing.chains(15):
+        changing.tell("in the first alone", chain)
+        changing.county.chains.remove(chain)
+    for chain in changing.chains(20):
+        changing.tell("in the first alone", chain)
+        longitude, latitude = chain.points[-1]
+        chain.points[-1] = (longitude + 131, latitude - 57)
+        changing.tell("in the second alone", chain)
+    for count, name, value in ((25, "FENAME", "Changed"), (6, "ZIPL", "36111"), (4, "BLOCKR", "9876")):
+        changing.change_field(count, name, value)
+    further = changing.add_name("Chang\xe9d Name")
+    for chain in changing.chains(4):
+        chain.names.append(further)
+        changing.tell("changed", chain, f"further name {len(chain.names)}")
+    fields = {"FRADDL": "9001", "TOADDL": "9099", "FRADDR": "9002", "TOADDR": "9100", "ZIPL": "36999", "ZIPR": "36999"}
+    for chain in changing.chains(3):
+        chain.ranges.append(fields)
+        number = len(chain.ranges)
+        changing.tell("changed", chain, f"range {number}", *(f"{name} of range {number}" for name in fields))
+
+
+def add_courts(changing: Changing) -> None:
+    """Streets that end within a polygon, on both sides of them."""
+    for chain in changing.chains(2):
+        begin, inside = chain.points[0], place_of(changing.county.polygons[chain.left or 0])
+        points = [begin, (begin[0] + (inside[0] - begin[0]) // 3 + 7, begin[1] + (inside[1] - begin[1]) // 3 + 9)]
+        fields = {"SOURCE": "L", "FENAME": changing.chance.choice(("Quail", "Heron", "Wren")), "FETYPE": "Ct", "CFCC": "A41"}
+        end = 10**6 + len(changing.county.chains)
+        court = Chain(fields, points, chain.start, end, chain.left, chain.left, link=dict(chain.link))
+        changing.county.chains.append(court)
+        changing.touched.add(id(court))
+        changing.tell("in the second alone", court)
+
+
+def change_polygons(changing: Changing) -> None:
+    for polygon in changing.some(changing.county.polygons, 3):
+        polygon.fields["WATER"] = "" if polygon.fields["WATER"] else "1"
+        changing.tell("changed", polygon, "WATER")
+    for polygon in changing.some(changing.county.polygons, 2):
+        changing.tell("changed", polygon, "POLYLONG, POLYLAT")
+        longitude, latitude = place_of(polygon)
+        polygon.point = (longitude + 11, latitude + 13)
+
+
+def change_landmarks(changing: Changing) -> None:
+    for landmark in changing.landmarks(4):
+        landmark.fields["LANAME"] = landmark.fields["LANAME"][:24] + " Annex"
+        changing.tell("changed", landmark, "LANAME")
+    for landmark in changing.landmarks(2):
+        changing.tell("in the first alone", landmark)
+        changing.county.landmarks.remove(landmark)
+    for number in range(3):
+        fields = {"FILE": FILE, "SOURCE": "L", "CFCC": "D57", "LANAME": f"Air Field {number}"}
+        landmark = Landmark(fields, (-86_470_001 - 977 * number, 32_461_003 + 613 * number))
+        changing.county.landmarks.append(landmark)
+        changing.tell("in the second alone", landmark)

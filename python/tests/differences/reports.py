@@ -37,6 +37,15 @@ def differing(*words: object, **options: Any) -> str:
     return ended.out
 
 
+def example_differences() -> set[Difference]:
+    """The differences that the second map of the example was made with, without that of a feature name."""
+    rows = json.loads(Path(__file__).with_name("example.json").read_text())
+    return {
+        Difference(what, kind, tuple((east, north) for east, north in place), frozenset(fields))
+        for what, kind, place, fields in rows
+    }
+
+
 def told_in_words(text: str) -> set[Difference]:
     """The differences in a printed report. It has only the ends of a chain."""
     found = set()

@@ -16,9 +16,8 @@ from testing import run
 from tigercanon.differences.words import TIED
 
 from .changes import SUBJECTS, Changing, made_county, much_changed, split_maps
-from .example import example_differences
-from .reports import EXAMPLE, KINDS, LEAFLET, Feature, diff, differing, features_in, in_words, micro, page_data
-from .reports import told_in_geojson, told_in_page, told_in_words
+from .reports import EXAMPLE, KINDS, LEAFLET, Feature, diff, differing, example_differences, features_in, in_words
+from .reports import micro, page_data, told_in_geojson, told_in_page, told_in_words
 
 SIDES = ("first", "second")
 

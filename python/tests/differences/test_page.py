@@ -13,10 +13,9 @@ from maps import County
 from support import built_program, environment, words_of
 from testing import ROOT
 
-from .browser import Browser, needs_browser
+from .browser import Browser, needs_browser, open_example
 from .changes import Changing, made_county, much_changed, split_maps
-from .example import example_differences, open_example
-from .reports import KINDS, diff, told_in_page
+from .reports import KINDS, diff, example_differences, told_in_page
 
 SCRIPT = "<script>alert(1)</script>"
 PICTURE = "<img src=x onerror=alert(1)>"
