@@ -1,7 +1,6 @@
 """How counties are found: in folders, by globs and by names, on disks and in stores."""
 
 import os
-from importlib.util import find_spec
 from itertools import product
 from pathlib import Path
 from typing import Callable
@@ -19,7 +18,7 @@ FILES = "in/b.RT1 in/b.RT2 in/b.RTA in/a.ZIP in/read.me in/deep/er/c.zip in/deep
 ALL = ["in/.e", "in/[f]", "in/a", "in/all", "in/b", "in/deep/d", "in/deep/er/c", "in/small"]
 
 
-@pytest.fixture
+@pytest.fixture(autouse=True)
 def archive(room: Path) -> Path:
     for name in FILES.split():
         put(name, b"12345")
@@ -39,37 +38,37 @@ def stems(*sources: str) -> list[str]:
 @pytest.mark.parametrize(
     "sources, wanted",
     [
-        (["in"], ALL),
-        (["in/"], ALL),
-        (["./in//"], ALL),
-        (["in", "in/deep"], ALL),
-        (["in/*.zip"], []),
-        (["in/*.ZIP"], ["in/a"]),
-        (["in/?.*"], ["in/a", "in/b"]),
-        (["in/[ab].*"], ["in/a", "in/b"]),
-        (["*/d*"], ["in/deep/d", "in/deep/er/c"]),
-        (["in/**/*.[zZ][iI][pP]"], ["in/a", "in/deep/er/c"]),
-        (["in/b", "in/b.RT2", "in/a.ZIP", "in/[f].RT1"], ["in/[f]", "in/a", "in/b"]),
-        (["in/b.RT?"], ["in/b"]),
-        (["in/small.rt1"], ["in/small"]),
+        ("in", ALL),
+        ("in/", ALL),
+        ("./in//", ALL),
+        ("in in/deep", ALL),
+        ("in/*.zip", []),
+        ("in/*.ZIP", ["in/a"]),
+        ("in/?.*", ["in/a", "in/b"]),
+        ("in/[ab].*", ["in/a", "in/b"]),
+        ("*/d*", ["in/deep/d", "in/deep/er/c"]),
+        ("in/**/*.[zZ][iI][pP]", ["in/a", "in/deep/er/c"]),
+        ("in/b in/b.RT2 in/a.ZIP in/[f].RT1", ["in/[f]", "in/a", "in/b"]),
+        ("in/b.RT?", ["in/b"]),
+        ("in/small.rt1", ["in/small"]),
     ],
 )
-def test_sources(archive: Path, sources: list[str], wanted: list[str]) -> None:
-    assert stems(*sources) == wanted
+def test_sources(sources: str, wanted: list[str]) -> None:
+    assert stems(*sources.split()) == wanted
 
 
-def test_known_counties_are_left_out(archive: Path) -> None:
+def test_known_counties_are_left_out() -> None:
     counties, known = Finder().counties(["in", "in/b.RT1"], "in/a in/b in/z".split().__contains__)
     assert sorted(county.stem for county in counties) == [stem for stem in ALL if stem not in ("in/a", "in/b")]
     assert known == 2
 
 
-def test_the_current_folder(archive: Path, monkeypatch: pytest.MonkeyPatch) -> None:
+def test_the_current_folder(monkeypatch: pytest.MonkeyPatch) -> None:
     monkeypatch.chdir("in/deep")
     assert stems(".") == ["d", "er/c"]
 
 
-def test_links(archive: Path) -> None:
+def test_links() -> None:
     """Those to folders are followed, a ring of them once; and a county that is there under two names is counted once. Hard links
     are counties of their own."""
     os.symlink("..", "in/deep/up")
@@ -108,7 +107,7 @@ def test_links(archive: Path) -> None:
         ("in/line\nbreak", "its name has a line break in it"),
     ],
 )
-def test_troubles(archive: Path, source: str, why: str) -> None:
+def test_troubles(source: str, why: str) -> None:
     """What can't be judged is reported as what it is."""
     os.mkdir("empty")
     for name in ("in/pipe.RT1", "in/pipe.zip", "in/pipe"):
@@ -122,23 +121,25 @@ def test_troubles(archive: Path, source: str, why: str) -> None:
 
 
 def test_files(archive: Path) -> None:
-    (county,) = found("in/all")
-    assert [file.place for file in county.files.values()] == [f"{archive}/in/all{ending}" for ending in ENDINGS]
-    assert (county.size, county.readable_stem) == (27, f"{archive}/in/all")
-    (county,) = found("in/b")
-    assert list(county.files) == ["1", "2"]
-    (county,) = found("in/a")
-    assert county.zip == File(f"{archive}/in/a.ZIP", 5)
-    (county,) = found("in/small")
-    assert (list(county.files), county.readable_stem) == (["1"], None)
-    put("in/a.rt1", b"")
-    (county,) = found("in/a")
-    assert (list(county.files), county.notes) == (["1"], ("its single files are read, and not a.ZIP",))
-    (county,) = found("in/read.me")
-    assert county.whole == File(f"{archive}/in/read.me", 5)
+    """What is known about a county: one of single files, also if one lies beside a zip, a zip, and one file with all records."""
+
+    def at(name: str, size: int = 5) -> File:
+        return File(f"{archive}/in/{name}", size)
+
+    put("in/a.rt1", b"1")
+    files = {kind: at(f"all.RT{kind}", 3) for kind in TYPES}
+    assert found("in/all", "in/b", "in/small", "in/a", "in/deep/er/c", "in/read.me") == [
+        County("in/all", files, readable_stem=f"{archive}/in/all"),
+        County("in/b", {"1": at("b.RT1"), "2": at("b.RT2")}, readable_stem=f"{archive}/in/b"),
+        County("in/small", {"1": at("small.rt1")}),
+        County("in/a", {"1": at("a.rt1", 1)}, notes=("its single files are read, and not a.ZIP",)),
+        County("in/deep/er/c", zip=at("deep/er/c.zip")),
+        County("in/read.me", whole=at("read.me")),
+    ]
+    assert found("in/all")[0].size == 27
 
 
-def test_skipped_files(archive: Path) -> None:
+def test_skipped_files() -> None:
     for name in ("in/a.tar.gz", "in/c.RT1.gz", "in/d.RT2.gz", "in/deep/README"):
         put(name)
     finder = Finder()
@@ -158,33 +159,25 @@ STEMS = "a.RT1 a", "a.rtZ a", "a.b.ZiP a.b", "a.txt a.txt", ".RT1 .RT1", "x/a.RT
 
 @pytest.mark.parametrize("function, row", [*product([tidy], TIDY), *product([stem_of], STEMS)])
 def test_tidy_paths_and_stems(function: Callable[[str], str], row: str) -> None:
-    """A path, and what is made of it."""
     path, wanted = row.split(" ")
     assert function(path) == wanted
 
 
 @pytest.mark.cluster
-@pytest.mark.skipif(not find_spec("fsspec"), reason="fsspec isn't installed")
-class TestStores:
+def test_urls(archive: Path) -> None:
     """The same behind URLs, by the file systems that fsspec has without a further package."""
-
-    def test_a_store_in_memory(self) -> None:
-        import fsspec
-
-        store = fsspec.filesystem("memory")
-        for name in ("/tiger/AL/TGR01001.ZIP", "/tiger/AL/TGR01003.RT1", "/tiger/GA/tgr13001.zip", "/tiger/read.me"):
-            store.pipe_file(name, b"12345")
-        url = "memory://tiger"
-        counties = found(url)
-        assert [county.stem for county in counties] == [f"{url}/AL/TGR01001", f"{url}/AL/TGR01003", f"{url}/GA/tgr13001"]
-        assert counties[0].zip == File(f"{url}/AL/TGR01001.ZIP", 5)
-        assert counties[1].files == {"1": File(f"{url}/AL/TGR01003.RT1", 5)}
-        assert stems(f"{url}/*/*.zip", f"{url}/AL/TGR01003") == [f"{url}/AL/TGR01003", f"{url}/GA/tgr13001"]
-        store.rm("/tiger", recursive=True)
-
-    def test_files_by_url(self, room: Path) -> None:
-        put("in/a.ZIP", b"123")
-        url = f"file://{room}/in"
-        assert [county.zip for county in found(url)] == [File(f"{url}/a.ZIP", 3)]
-        assert found(f"{url}/a")[0].zip == File(f"{url}/a.ZIP", 3)
-        assert "can't be read: " in found("nothing://a/b")[0].trouble
+    fsspec = pytest.importorskip("fsspec")
+    store, url = fsspec.filesystem("memory"), "memory://tiger"
+    for name in ("/tiger/AL/TGR01001.ZIP", "/tiger/AL/TGR01003.RT1", "/tiger/GA/tgr13001.zip", "/tiger/read.me"):
+        store.pipe_file(name, b"12345")
+    assert found(url) == [
+        County(f"{url}/AL/TGR01001", zip=File(f"{url}/AL/TGR01001.ZIP", 5)),
+        County(f"{url}/AL/TGR01003", {"1": File(f"{url}/AL/TGR01003.RT1", 5)}),
+        County(f"{url}/GA/tgr13001", zip=File(f"{url}/GA/tgr13001.zip", 5)),
+    ]
+    assert stems(f"{url}/*/*.zip", f"{url}/AL/TGR01003") == [f"{url}/AL/TGR01003", f"{url}/GA/tgr13001"]
+    store.rm("/tiger", recursive=True)
+    put("files/a.ZIP", b"123")
+    url = f"file://{archive}/files"
+    assert found(url) == found(f"{url}/a") == [County(f"{url}/a", zip=File(f"{url}/a.ZIP", 3))]
+    assert "can't be read: " in found("nothing://a/b")[0].trouble

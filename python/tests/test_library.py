@@ -2,20 +2,19 @@
 
 from __future__ import annotations
 
-import concurrent.futures
 import gc
 import hashlib
 import os
 import re
 import resource
-import subprocess
 import sys
+from concurrent.futures import ThreadPoolExecutor
 from pathlib import Path
 from typing import Any, Iterator
 
 import pytest
-from support import packed, put
-from testing import ROOT, TYPES, Answer, make_county, script
+from support import environment, packed, put
+from testing import ROOT, TYPES, Answer, make_county, run, script
 
 import tigercanon
 from tigercanon import _library
@@ -24,10 +23,7 @@ AUTAUGA = ROOT / "examples/autauga/all.txt"
 RENUMBERED = ROOT / "examples/autauga-renumbered/all.txt"
 ONE_ADDRESS = ROOT / "examples/autauga-one-address.txt"
 CANONICAL = ROOT / "examples/autauga/canonical.txt"
-ENDINGS = [f".RT{kind}" for kind in TYPES]
 REFERENCE = script("vectors/reference")
-GROWTH = 512
-"""At most this many KiB more may be in use after 1,000 rounds than after 100."""
 
 pytestmark = pytest.mark.library
 
@@ -72,8 +68,7 @@ def test_vectors() -> None:
     vectors.call = call
     cases = [case for case in vectors.cases_of("") if case.get("status") not in (2, 4) and None not in case["files"].values()]
     assert len(cases) > 100
-    wrong = {case["name"]: told for case in cases for told in [vectors.judge([], case)] if told}
-    assert wrong == {}
+    assert {case["name"]: told for case in cases for told in [vectors.judge([], case)] if told} == {}
 
 
 def test_examples_of_refusals() -> None:
@@ -107,7 +102,7 @@ def test_lines_of_the_guide() -> None:
 
 def test_counties(tmp_path: Path) -> None:
     """One county as bytes, as a file, as nine files and as a zip, in either case of their names."""
-    members = {f"TGR01001{end}": (AUTAUGA.parent / f"TGR01001{end}").read_bytes() for end in ENDINGS}
+    members = {f"TGR01001.RT{kind}": (AUTAUGA.parent / f"TGR01001.RT{kind}").read_bytes() for kind in TYPES}
     for name, text in members.items():
         put(tmp_path / name.replace("TGR", "tgr").replace("RT", "rt"), text)
     zipped = put(tmp_path / "TGR01001.ZIP", packed(members))
@@ -122,27 +117,21 @@ def test_counties(tmp_path: Path) -> None:
     assert tigercanon.normalise([b"", AUTAUGA, b""]) == CANONICAL.read_bytes()
 
 
-def memory() -> int:
-    """In KiB."""
-    return int(Path("/proc/self/statm").read_text().split()[1]) * resource.getpagesize() // 1024
-
-
 def test_rounds() -> None:
-    """A thousand calls leave no memory behind, refused ones among them."""
+    """A thousand calls leave no memory behind, refused ones among them: at most 512 KiB more are in use than after a hundred."""
     text, other = AUTAUGA.read_bytes(), bytearray(RENUMBERED.read_bytes())
     bad = (ROOT / "examples/broken.txt").read_bytes()
-    after = 0
-    for made in range(1000):
-        tigercanon.normalise([text, b""])
-        tigercanon.fingerprint(memoryview(other), no_sources=True)
-        tigercanon.compare(text, other)
-        with pytest.raises(tigercanon.Refusal):
-            tigercanon.check(bad)
-        if made == 99:
-            gc.collect()
-            after = memory()
-    gc.collect()
-    assert memory() - after <= GROWTH
+    memory = []
+    for rounds in (100, 900):
+        for _ in range(rounds):
+            tigercanon.normalise([text, b""])
+            tigercanon.fingerprint(memoryview(other), no_sources=True)
+            tigercanon.compare(text, other)
+            with pytest.raises(tigercanon.Refusal):
+                tigercanon.check(bad)
+        gc.collect()
+        memory.append(int(Path("/proc/self/statm").read_text().split()[1]) * resource.getpagesize())
+    assert memory[1] - memory[0] <= 512 << 10
 
 
 @pytest.fixture(scope="module", name="county")
@@ -156,10 +145,9 @@ def test_threads(county: Path) -> None:
     """Threads at once, over one part and over several."""
     texts = [county.read_bytes(), AUTAUGA.read_bytes(), RENUMBERED.read_bytes(), b""]
     wanted = [(tigercanon.fingerprint(text), tigercanon.normalise(text)) for text in texts]
-    asked = [index % len(texts) for index in range(64)]
-    with concurrent.futures.ThreadPoolExecutor(4) as threads:
-        found = list(threads.map(lambda index: (tigercanon.fingerprint(texts[index]), tigercanon.normalise(texts[index])), asked))
-    assert found == [wanted[index] for index in asked]
+    with ThreadPoolExecutor(4) as threads:
+        found = list(threads.map(lambda text: (tigercanon.fingerprint(text), tigercanon.normalise(text)), texts * 16))
+    assert found == wanted * 16
 
 
 IN_LITTLE_MEMORY = """
@@ -183,13 +171,12 @@ thread.join()
 
 def test_little_memory(county: Path, library: Path) -> None:
     """A county that memory doesn't suffice for is refused, and never answered wrongly."""
-    environment = {**os.environ, "PYTHONPATH": str(ROOT / "python"), "MALLOC_ARENA_MAX": "1", _library.VARIABLE: str(library)}
-    right = f"{tigercanon.fingerprint(county)}\n"
-    lacking = "OutOfMemory(9, 'Memory', (), None) 9 refused 9 Memory\n"
+    env = environment(MALLOC_ARENA_MAX="1", TIGERCANON_LIBRARY=str(library))
+    right = f"{tigercanon.fingerprint(county)}\n".encode()
+    lacking = b"OutOfMemory(9, 'Memory', (), None) 9 refused 9 Memory\n"
     told = set()
     for kib in range(0, 6144, 512):
-        words = [sys.executable, "-W", "ignore", "-c", IN_LITTLE_MEMORY, str(county), str(kib)]
-        ended = subprocess.run(words, env=environment, capture_output=True, text=True)
-        assert ended.stdout in (right, lacking), (kib, ended.stderr[-300:])
-        told.add(ended.stdout)
+        ended = run([sys.executable, "-W", "ignore", "-c", IN_LITTLE_MEMORY, county, kib], env=env)
+        assert ended.out in (right, lacking), (kib, ended.err[-300:])
+        told.add(ended.out)
     assert told == {right, lacking}

@@ -30,19 +30,14 @@ def test_they_have_all_commands() -> None:
 
 
 @pytest.mark.parametrize(
-    "words",
-    [
-        "man -l --warnings man/tigercanon-tools.1",
-        "bash -n completions/tigercanon-tools.bash",
-        "zsh -n completions/_tigercanon-tools",
-        "fish -n completions/tigercanon-tools.fish",
-    ],
+    "reader, ending", [("man -l --warnings", ".1"), ("bash -n", ".bash"), ("zsh -n", "-tools"), ("fish -n", ".fish")]
 )
-def test_they_can_be_read(words: str) -> None:
-    if not shutil.which(words.split()[0]):
-        pytest.skip(f"no {words.split()[0]}")
-    status, _, err = run(words.split(), cwd=ROOT)
-    assert (status, err) == (0, b"")
+def test_they_can_be_read(reader: str, ending: str) -> None:
+    if not shutil.which(reader.split()[0]):
+        pytest.skip(f"no {reader.split()[0]}")
+    (place,) = [place for place in PAGES.pages() if place.endswith(ending)]
+    ended = run([*reader.split(), ROOT / place])
+    assert (ended.status, ended.err) == (0, b"")
 
 
 def test_bash_completes() -> None:
@@ -51,13 +46,8 @@ def test_bash_completes() -> None:
         "compopt() { :; }; . completions/tigercanon-tools.bash; COMP_WORDS=(tigercanon-tools ASKED); "
         'COMP_CWORD=$((${#COMP_WORDS[@]} - 1)); _tigercanon_tools; echo "${COMPREPLY[*]}"'
     )
-
-    def offered(words: str) -> str:
-        return run(["bash", "-c", completion.replace("ASKED", words)], cwd=ROOT).out.decode().strip()
-
-    assert offered("du") == "duplicates"
-    assert offered("diff --ge") == "--geojson"
-    assert offered("diff --page x.html --no-s") == "--no-sources"
+    for asked, offered in (("du", "duplicates"), ("diff --ge", "--geojson"), ("diff --page x.html --no-s", "--no-sources")):
+        assert run(["bash", "-c", completion.replace("ASKED", asked)], cwd=ROOT).out.decode().strip() == offered
 
 
 def test_a_list_that_is_read_in_part() -> None:
