@@ -4,7 +4,7 @@ import json
 import re
 from itertools import accumulate
 from pathlib import Path
-from typing import Any
+from typing import Any, Mapping
 
 from maps import Point
 from support import Ended, built_program, call
@@ -24,9 +24,9 @@ SIGNS = {"N": 1, "E": 1, "S": -1, "W": -1}
 PROGRESS = re.compile(r"tigercanon-tools: (normalising|reading|comparing|finding|writing) .*\n")
 
 
-def diff(*words: object, program: str = "", **options: Any) -> Ended:
+def diff(*words: object, env: Mapping[str, str] = {}, **options: Any) -> Ended:
     """Calls tigercanon-tools diff. Lines of progress are left out of what it reported: a machine at work prints more of them."""
-    ended = call("diff", *words, env={"TIGERCANON": program or built_program(), **options.pop("env", {})}, **options)
+    ended = call("diff", *words, env={"TIGERCANON": built_program(), **env}, **options)
     return ended._replace(err=PROGRESS.sub("", ended.err))
 
 

@@ -1,6 +1,8 @@
 """The command line, with a stand-in for the program: wrong calls of all commands; and of diff statuses, refusals, and files that are
 whole or not there."""
 
+from __future__ import annotations
+
 import json
 import os
 import re
@@ -9,22 +11,21 @@ import shutil
 import signal
 import stat
 from pathlib import Path
-from typing import Any
 
 import pytest
 from maps import written
-from support import HEAD, NAME, PACKAGE, STAND_INS, Ended, begin, call, end, environment, limit_files, packed, put, words_of
+from support import HEAD, NAME, PACKAGE, STAND_INS, begin, call, end, environment, limit_files, packed, put, words_of
 from testing import Answer, run
 
 from .changes import made_county
-from .reports import PROGRESS, diff
+from .reports import PROGRESS, diff, differing
 
 LEAFLET = ("--leaflet", "leaflet")
 WRONG_CALLS = re.findall(r"(?m)^\$ (?:(\w+)=(\S+) )?tigercanon-tools ?(.*)\n(.+\n)", (PACKAGE / "tests/wrong-calls").read_text())
 
 
 @pytest.fixture(autouse=True)
-def files_of_the_test(room: Path) -> None:
+def files_of_the_test(room: Path, monkeypatch: pytest.MonkeyPatch) -> None:
     """Two maps that differ in a name, a rejected file, and a stand-in for Leaflet."""
     county = made_county(24, 1)
     put("one", written(county))
@@ -35,27 +36,24 @@ def files_of_the_test(room: Path) -> None:
     put("leaflet/leaflet.css", b".a { background: url(pictures/a.png); color: red }")
     for name in ("program", "slow", "noting"):
         shutil.copy(STAND_INS / "prints-files", name)
-
-
-def ask(*words: object, program: str = "program", **options: Any) -> Ended:
-    return diff(*words, program=os.path.abspath(program), **options)
+    monkeypatch.setattr("support.PROGRAM", f"{room}/program")
+    monkeypatch.setenv("TIGERCANON", f"{room}/program")
 
 
 def ask_shell(command: str) -> Answer:
     """Runs a command of bash, in which DIFF is the command."""
-    words = ["bash", "-c", command.replace("DIFF", " ".join(words_of("diff")))]
-    return run(words, env=environment(TIGERCANON=os.path.abspath("program")))
+    return run(["bash", "-c", command.replace("DIFF", " ".join(words_of("diff")))], env=environment())
 
 
 @pytest.mark.parametrize("wanted", ["", "--no-sources", "--no-reserved", "--no-sources --no-reserved"])
 def test_masks(wanted: str) -> None:
     """The flags that leave fields out go to the program, and all that is written names them."""
-    ended = ask(*wanted.split()[::-1], "--page", "page", "--geojson", "geojson", *LEAFLET, "one", "other", program="noting")
-    assert (ended.status, ended.err) == (1, "")
+    flags, env = wanted.split()[::-1], {"TIGERCANON": os.path.abspath("noting")}
+    out = differing(*flags, "--page", "page", "--geojson", "geojson", *LEAFLET, "one", "other", env=env)
     asked = [f"normalise {wanted}{' ' * bool(wanted)}-- {name}" for name in ("one", "other")]
     asked += [f"respell -- {name}" for name in ("one", "other")]
     assert sorted(Path("words").read_text().splitlines()) == sorted(asked)
-    assert (f"left out: {wanted}" in ended.out.splitlines()) == bool(wanted)
+    assert (f"left out: {wanted}" in out.splitlines()) == bool(wanted)
     compared = f"left out: {wanted}" if wanted else "all fields"
     assert f'<td colspan="2">{compared}</td>' in Path("page").read_text()
     assert json.loads(Path("geojson").read_text()).get("left_out", "") == wanted
@@ -85,7 +83,7 @@ def test_wrong_calls(room: Path, variable: str, value: str, words: str, told: st
     for name in ("packed", "in/packed.RT1"):
         put(name, b"\x1f\x8bpacked\n")
     before = {path: path.is_file() and path.read_bytes() for path in room.rglob("*")}
-    env = {"TIGERCANON": f"{room}/program", **({variable: value} if variable else {})}
+    env = {variable: value} if variable else {}
     ended = call(*(word.replace("\\n", "\n") for word in shlex.split(words)), env=env)
     wanted = re.escape(told.replace("ROOM", str(room))).replace(re.escape("..."), ".*")
     assert (ended.status, ended.out) == (2, "")
@@ -98,32 +96,25 @@ def test_stems_and_zips() -> None:
     put("in/tgr01001.rt1", Path("one").read_bytes())
     put("in/TGR01003.RT1", Path("one").read_bytes())
     put("in/TGR01001.ZIP", packed({"tgr01001.Rt1": Path("other").read_bytes()}))
-    rows = [
-        ("in/tgr01001 in/TGR01003", 0),
-        ("in/TGR01001.ZIP in/TGR01003", 1),
-        ("one in/tgr01001", 0),
-        ("other in/TGR01001.ZIP", 0),
-    ]
-    for names, status in rows:
-        ended = ask(*names.split())
-        assert (ended.status, ended.err) == (status, ""), names
+    for names in ("in/tgr01001 in/TGR01003", "one in/tgr01001", "other in/TGR01001.ZIP"):
+        ended = diff(*names.split())
+        assert (ended.status, ended.err) == (0, ""), names
+    differing("in/TGR01001.ZIP", "in/TGR01003")
     asked = ask_shell("DIFF <(cat one) <(cat other) --summary --geojson of-pipes")
     assert (asked.status, asked.err) == (1, b"")
     assert len(json.loads(Path("of-pipes").read_text())["features"]) == 1
 
 
 def test_summary_and_json() -> None:
-    status, out, _ = ask("--summary", "one", "other")
-    assert (status, out.splitlines()[-1].split()[0]) == (1, "alike")
-    assert ask("one", "other").out.startswith(out)
-    ended = ask("--json", "one", "other")
-    answer = json.loads(ended.out)
-    assert (ended.status, answer["verdict"]) == (1, "different")
-    assert answer["counts"]["chains"]["changed"] == 1
+    summary = differing("--summary", "one", "other")
+    assert summary.splitlines()[-1].split()[0] == "alike"
+    assert differing("one", "other").startswith(summary)
+    answer = json.loads(differing("--json", "one", "other"))
+    assert (answer["verdict"], answer["counts"]["chains"]["changed"]) == ("different", 1)
     (difference,) = answer["differences"]
     found = [difference[name] for name in ("what", "kind", "differs", "second_FENAME")]
     assert found == ["chain", "changed", "FENAME", "Changed"]
-    answer = json.loads(ask("--json", "one", "one").out)
+    answer = json.loads(diff("--json", "one", "one").out)
     assert (answer["verdict"], answer["differences"]) == ("same", [])
 
 
@@ -131,11 +122,9 @@ def test_files_are_written() -> None:
     put("a.geojson", b"older").chmod(0o640)
     os.symlink("a.geojson", "link")
     before = os.listdir(".")
-    ended = ask("--page", "a.html", "--geojson", "link", *LEAFLET, "one", "other")
-    assert (ended.status, ended.err) == (1, "")
-    assert os.path.islink("link")
+    differing("--page", "a.html", "--geojson", "link", *LEAFLET, "one", "other")
+    assert (os.path.islink("link"), stat.S_IMODE(os.stat("a.geojson").st_mode)) == (True, 0o640)
     assert Path("a.geojson").read_text().startswith('{"type":"FeatureCollection"')
-    assert stat.S_IMODE(os.stat("a.geojson").st_mode) == 0o640
     assert "url(" not in Path("a.html").read_text()
     assert sorted(os.listdir(".")) == sorted([*before, "a.html"])
 
@@ -144,23 +133,19 @@ def test_a_full_disk() -> None:
     """A file that can't be written to its end isn't left behind, and an older file of its name is unchanged."""
     put("geojson", b"older")
     before = sorted(os.listdir("."))
-    ended = ask("--geojson", "geojson", "--all", "one", "other", preexec_fn=limit_files(20_000))
-    assert (ended.status, ended.out, ended.err) == (2, "", f"{NAME}geojson: can't be written: File too large\n")
+    ended = diff("--geojson", "geojson", "--all", "one", "other", preexec_fn=limit_files(20_000))
+    assert ended == (2, "", f"{NAME}geojson: can't be written: File too large\n")
     assert (sorted(os.listdir(".")), Path("geojson").read_bytes()) == (before, b"older")
 
 
-@pytest.mark.parametrize(
-    "redirected, told",
-    [
-        (">/dev/full", b"standard output: can't be written: No space left on device\n"),
-        (">&-", b"standard output: can't be written"),
-        ("| head -n 1", b""),
-    ],
-)
-def test_standard_output(redirected: str, told: bytes) -> None:
+@pytest.mark.parametrize("redirected, why", [(">/dev/full", b": No space left on device\n"), (">&-", b""), ("| head -n 1", None)])
+def test_standard_output(redirected: str, why: bytes | None) -> None:
+    """What keeps it from being written is reported, but not a reader that is gone."""
     asked = ask_shell(f"set -o pipefail; DIFF one other {redirected}")
-    assert (told in asked.err, bool(asked.err)) == (True, bool(told)), asked.err
-    assert asked.status == 2 or not told
+    if why is None:
+        assert asked.err == b""
+    else:
+        assert (asked.status, b"standard output: can't be written" + why in asked.err) == (2, True), asked.err
 
 
 def test_other_letters() -> None:
@@ -169,10 +154,8 @@ def test_other_letters() -> None:
     put("one\n\xe9", written(county))
     county.chains[0].fields["FENAME"] = "Caf\xe9"
     put("other", written(county))
-    ended = ask("one\n\xe9", "other", env={"PYTHONIOENCODING": "ascii", "PYTHONUTF8": "0"})
-    assert (ended.status, ended.err) == (1, "")
-    assert "Caf\xe9" in ended.out
-    assert "one\\n\xe9" in ended.out.splitlines()[0]
+    out = differing("one\n\xe9", "other", env={"PYTHONIOENCODING": "ascii", "PYTHONUTF8": "0"})
+    assert ("Caf\xe9" in out, "one\\n\xe9" in out.splitlines()[0]) == (True, True)
 
 
 @pytest.mark.parametrize("number", [signal.SIGTERM, signal.SIGINT, signal.SIGHUP])

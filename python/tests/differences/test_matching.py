@@ -10,11 +10,12 @@ from maps import Chain, County, Landmark, Polygon, turned, written
 from testing import ROOT
 
 from tigercanon.differences import page
-from tigercanon.differences.columns import CHAIN, LANDMARK, LENGTHS, LINK, NAME, POLYGON, RANGE, Layout
-from tigercanon.differences.fields import decimal, degrees, landmark_rows, rows
+from tigercanon.differences.columns import CHAIN, LANDMARK, LENGTHS, LINK, NAME, POLYGON, RANGE
+from tigercanon.differences.fields import decimal, degrees
 from tigercanon.differences.matching import Comparison, compare
 from tigercanon.differences.reading import NotCanonical, read_county
 from tigercanon.differences.sets import Canonical, Sets
+from tigercanon.differences.things import Thing, things
 from tigercanon.differences.words import ONE_MAP, TIED, told
 
 from .changes import made_county
@@ -22,25 +23,24 @@ from .changes import made_county
 Told = tuple[str, Optional[str], Optional[str]]
 """The label of a field that differs, and what both maps say."""
 
-
 EMPTY = County([], [], [], [])
+WEST, EAST, NEAR_ZERO = "32.000000° N, 86.000000° W", "32.000000° N, 85.999999° W", "0.000002° N, 0.000001° E"
+NO_RECORD = [("type P", "yes", "no"), ("FILE", "01001", "(none)"), ("POLYLONG, POLYLAT", WEST, "(none)")]
 
 TABLE = re.compile(r"^## Record type (\w): [^\n]* \((\d+) bytes\)\n(.*?)(?=^## |\Z)", re.M | re.S)
 FIELD = re.compile(r"^\| (\d+)(?:[^|]*-(\d+))? \| (?!CENID)([^|]*) \| [Bp] \| [^|]* \|(?: ([^|]*) ?\|)?$", re.M)
 """A field of text, or a point: its first and last column, its name, and its partner."""
 
-FORMAT = {kind: (int(length), table) for kind, length, table in TABLE.findall((ROOT / "docs/format.md").read_text("utf-8"))}
 
-
-def test_lengths() -> None:
-    assert LENGTHS == {kind: length for kind, (length, _) in FORMAT.items()}
-
-
-@pytest.mark.parametrize("layout", [CHAIN, NAME, RANGE, LANDMARK, LINK, POLYGON], ids=lambda layout: str(layout.record_type))
-def test_columns(layout: Layout) -> None:
-    fields = FIELD.findall(FORMAT[layout.record_type][1])
-    wanted = [(name, int(first), int(last or first), partner.strip()) for first, last, name, partner in fields]
-    assert [(column.name, column.first, column.last, column.partner) for column in layout.columns] == wanted
+def test_columns() -> None:
+    tables = TABLE.findall((ROOT / "docs/format.md").read_text("utf-8"))
+    assert LENGTHS == {kind: int(length) for kind, length, _ in tables}
+    fields = {kind: FIELD.findall(table) for kind, _, table in tables}
+    for layout in (CHAIN, NAME, RANGE, LANDMARK, LINK, POLYGON):
+        wanted = [
+            (name, int(first), int(last or first), partner.strip()) for first, last, name, partner in fields[layout.record_type]
+        ]
+        assert [(column.name, column.first, column.last, column.partner) for column in layout.columns] == wanted
 
 
 def compared(first: County, second: County) -> Comparison:
@@ -77,52 +77,58 @@ def two_sided(*chains: Chain) -> County:
     return County(list(chains), [{"FENAME": "Old Rd"}, {"FENAME": "Old Rd"}], polygons, [])
 
 
-def differing_fields(comparison: Comparison) -> list[Told]:
-    """The differences in the chain that changed first."""
-    one, other = comparison.chains.changed[0]
-    table = rows(comparison.first.chain(one), comparison.second.chain(other))
-    return [(row.name.label, row.first, row.second) for row in table if row.differs]
-
-
 @pytest.mark.parametrize(
-    "change, wanted",
+    "what, change, wanted",
     [
-        (lambda chain: chain.fields.update(FENAME="Maple"), [("FENAME", "Main", "Maple")]),
-        (lambda chain: chain.fields.update(FENAME=""), [("FENAME", "Main", "(blank)")]),
-        (lambda chain: chain.fields.update(FENAME=" Main"), [("FENAME", f'"{"Main":30}"', f'"{" Main":30}"')]),
-        (lambda chain: chain.fields.update(SOURCE="A"), [("SOURCE", "(blank)", "A")]),
-        (lambda chain: chain.link.update(SOURCE="A"), [("SOURCE of type I", "(blank)", "A")]),
-        (lambda chain: chain.names.append(0), [("further name 1", "(none)", "Old Rd")]),
-        (lambda chain: chain.ranges.append({}), [("range 1", "no", "yes")]),
-        (lambda chain: chain.ranges.append({"ZIPL": "36067"}), [("range 1", "no", "yes"), ("ZIPL of range 1", "(none)", "36067")]),
-        (lambda chain: setattr(chain, "start", None), [("start node", "yes", "no")]),
-        (lambda chain: setattr(chain, "end", None), [("end node", "yes", "no")]),
-        (lambda chain: setattr(chain, "left", None), [("left polygon", "at 32.000000° N, 86.000000° W", "(none)")]),
+        ("chain", lambda chain: chain.fields.update(FENAME="Maple"), [("FENAME", "Main", "Maple")]),
+        ("chain", lambda chain: chain.fields.update(FENAME=""), [("FENAME", "Main", "(blank)")]),
+        ("chain", lambda chain: chain.fields.update(FENAME=" Main"), [("FENAME", f'"{"Main":30}"', f'"{" Main":30}"')]),
+        ("chain", lambda chain: chain.fields.update(SOURCE="A"), [("SOURCE", "(blank)", "A")]),
+        ("chain", lambda chain: chain.link.update(SOURCE="A"), [("SOURCE of type I", "(blank)", "A")]),
+        ("chain", lambda chain: chain.names.append(0), [("further name 1", "(none)", "Old Rd")]),
+        ("chain", lambda chain: chain.ranges.append({}), [("range 1", "no", "yes")]),
         (
-            lambda chain: setattr(chain, "right", 0),
-            [("right polygon", "at 32.000000° N, 85.999999° W", "at 32.000000° N, 86.000000° W")],
+            "chain",
+            lambda chain: chain.ranges.append({"ZIPL": "36067"}),
+            [("range 1", "no", "yes"), ("ZIPL of range 1", "(none)", "36067")],
         ),
+        ("chain", lambda chain: setattr(chain, "start", None), [("start node", "yes", "no")]),
+        ("chain", lambda chain: setattr(chain, "end", None), [("end node", "yes", "no")]),
+        ("chain", lambda chain: setattr(chain, "left", None), [("left polygon", f"at {WEST}", "(none)")]),
+        ("chain", lambda chain: setattr(chain, "right", 0), [("right polygon", f"at {EAST}", f"at {WEST}")]),
+        ("polygon", lambda polygon: polygon.fields.update(WATER="9"), [("WATER", "(blank)", "9")]),
+        ("polygon", lambda polygon: setattr(polygon, "point", (1, 2)), [("POLYLONG, POLYLAT", WEST, NEAR_ZERO)]),
+        ("polygon", lambda polygon: setattr(polygon, "point", None), [("POLYLONG, POLYLAT", WEST, "(blank)")]),
+        ("polygon", lambda polygon: setattr(polygon, "has_record", False), NO_RECORD),
+        ("landmark", lambda landmark: landmark.polygons.remove(1), [("polygon 3", f"at {EAST} (06001)", "(none)")]),
+        ("landmark", lambda landmark: landmark.fields.update(LANAME="Short Park"), [("LANAME", "Long Park", "Short Park")]),
+        ("landmark", lambda landmark: landmark.fields.update(CFCC="D84"), [("CFCC", "D85", "D84")]),
+        ("landmark", lambda landmark: setattr(landmark, "point", (1, 2)), [("LALONG, LALAT", "(blank)", NEAR_ZERO)]),
     ],
 )
-def test_fields(change: Callable[[Chain], None], wanted: list[Told]) -> None:
-    """The differences in the only chain of two counties, after a change of one of them."""
+def test_a_change(what: str, change: Callable[[Any], object], wanted: list[Told]) -> None:
+    """What changed is reported alone, with the fields that differ: a polygon, for example, not again at the chain beside it."""
     first = two_sided(chain_between([(1, 1), (2, 5), (9, 9)]))
-    comparison = compared(first, after(first, lambda county: change(county.chains[0])))
-    assert (comparison.chains.counts, differing_fields(comparison)) == ((0, 0, 1, 0), wanted)
+    first.landmarks.append(Landmark({"FILE": "01001", "CFCC": "D85", "LANAME": "Long Park"}, None, [0, 1, 2]))
+    first.polygons.append(Polygon({"FILE": "01001"}, (-85_000_000, 32_000_000)))
+    (thing,) = things(compared(first, after(first, lambda county: change(getattr(county, f"{what}s")[0]))))
+    assert (thing.what, thing.kind, differing_fields(thing)) == (what, "changed", wanted)
+
+
+def differing_fields(thing: Thing) -> list[Told]:
+    return [(row.name.label, row.first, row.second) for row in thing.rows() if row.differs]
 
 
 def test_chains_of_one_shape() -> None:
     """They are matched as a multiset, by their fields."""
-    points = [(1, 1), (2, 5), (9, 9)]
-    one, other, third = (chain_between(points) for _ in range(3))
+    one, other, third = (chain_between([(1, 1), (2, 5), (9, 9)]) for _ in range(3))
     other.fields["FENAME"] = "Upper Main"
     third.fields.update(FENAME="Upper Main", CFCC="A31")
     assert compared(two_sided(one, other), two_sided(other, one)).chains.counts == (0, 0, 0, 2)
     assert compared(two_sided(one, other), two_sided(third, one)).chains.counts == (0, 0, 1, 1)
     assert compared(two_sided(one, one), two_sided(one)).chains.counts == (1, 0, 0, 1)
     comparison = compared(two_sided(one, other), two_sided(third, other, one))
-    assert comparison.chains.counts == (0, 1, 0, 2)
-    assert comparison.ties == []
+    assert (comparison.chains.counts, comparison.ties) == ((0, 1, 0, 2), [])
 
 
 def test_own_reverse() -> None:
@@ -132,50 +138,15 @@ def test_own_reverse() -> None:
     other = turned(chain)
     assert compared(two_sided(chain), two_sided(other)).chains.counts == (0, 0, 0, 1)
     other.fields["FENAME"] = "Maple"
-    assert differing_fields(compared(two_sided(chain), two_sided(other))) == [("FENAME", "Main", "Maple")]
-
-
-@pytest.mark.parametrize(
-    "change",
-    [
-        lambda polygon: polygon.fields.update(WATER="9"),
-        lambda polygon: setattr(polygon, "point", (-86_470_001, 32_460_001)),
-        lambda polygon: setattr(polygon, "point", None),
-        lambda polygon: setattr(polygon, "has_record", False),
-    ],
-)
-def test_polygons(change: Callable[[Polygon], None]) -> None:
-    """A polygon that changed is reported once, and not again at the chains beside it."""
-    county = made_county(40, 1)
-    comparison = compared(county, after(county, lambda other: change(other.polygons[2])))
-    assert comparison.polygons.counts == (0, 0, 1, len(county.polygons) - 1)
-    assert comparison.chains.is_alike and comparison.landmarks.is_alike
-
-
-@pytest.mark.parametrize(
-    "change, labels",
-    [
-        (lambda landmark: landmark.polygons.remove(1), ["polygon 3"]),
-        (lambda landmark: landmark.fields.update(LANAME="Short Park"), ["LANAME"]),
-        (lambda landmark: landmark.fields.update(CFCC="D84"), ["CFCC"]),
-        (lambda landmark: setattr(landmark, "point", (5, 5)), ["LALONG, LALAT"]),
-    ],
-)
-def test_landmarks(change: Callable[[Landmark], None], labels: list[str]) -> None:
-    county = made_county(40, 1)
-    county.landmarks.append(Landmark({"FILE": "01001", "CFCC": "D85", "LANAME": "Long Park"}, None, [0, 1, 2]))
-    comparison = compared(county, after(county, lambda other: change(other.landmarks[-1])))
-    assert comparison.landmarks.counts == (0, 0, 1, len(county.landmarks) - 1)
-    table = landmark_rows(comparison.first, comparison.second, *comparison.landmarks.changed[0])
-    assert [row.name.label for row in table if row.differs] == labels
+    (thing,) = things(compared(two_sided(chain), two_sided(other)))
+    assert differing_fields(thing) == [("FENAME", "Main", "Maple")]
 
 
 def test_names() -> None:
     county = made_county(40, 1)
     other = after(county, lambda county: county.names.append({"FENAME": "Unused"}))
     comparison = compared(county, other)
-    assert comparison.names.counts == (0, 1, 0, len(county.names))
-    assert not comparison.is_alike
+    assert (comparison.names.counts, comparison.is_alike) == ((0, 1, 0, len(county.names)), False)
     assert "  Unused, FILE (blank), a further name of no chains" in words_of(county, other).splitlines()
 
 
@@ -202,17 +173,16 @@ def test_date_line() -> None:
 
 
 @pytest.mark.parametrize(
-    "point, words, numbers",
+    "point, words, longitude, latitude",
     [
-        ("-086477532+32464118", "32.464118° N, 86.477532° W", ("-86.477532", "32.464118")),
-        ("+179000001-05000020", "5.000020° S, 179.000001° E", ("179.000001", "-5.000020")),
-        ("-000000001+00000000", "0.000000° N, 0.000001° W", ("-0.000001", "0.000000")),
-        ("+999999999-99999999", "99.999999° S, 999.999999° E", ("999.999999", "-99.999999")),
+        ("-086477532+32464118", "32.464118° N, 86.477532° W", "-86.477532", "32.464118"),
+        ("+179000001-05000020", "5.000020° S, 179.000001° E", "179.000001", "-5.000020"),
+        ("-000000001+00000000", "0.000000° N, 0.000001° W", "-0.000001", "0.000000"),
+        ("+999999999-99999999", "99.999999° S, 999.999999° E", "999.999999", "-99.999999"),
     ],
 )
-def test_degrees(point: str, words: str, numbers: tuple[str, str]) -> None:
-    assert degrees(point) == words
-    assert (decimal(point[:10]), decimal(point[10:])) == numbers
+def test_degrees(point: str, words: str, longitude: str, latitude: str) -> None:
+    assert (degrees(point), decimal(point[:10]), decimal(point[10:])) == (words, longitude, latitude)
 
 
 def test_too_many_chains(monkeypatch: pytest.MonkeyPatch) -> None:
@@ -234,15 +204,15 @@ def test_too_many_fields(monkeypatch: pytest.MonkeyPatch) -> None:
     assert data["notes"]
 
 
-TIES = [
-    ("chains", "start", 7, "one node in the one, 2 in the other:", "start of Main (A41), 0.000001° N, 0.000001° E"),
-    ("chains", "right", 2, "one polygon in the one, 2 in the other:", "right side of Main (A41)"),
-    ("chains", "names", [0], "one feature name in the other, 2 in the one:", "further name 1 of Main (A41)"),
-    ("landmarks", "polygons", [1], TIED, ""),
-]
-
-
-@pytest.mark.parametrize("what, name, value, told, place", TIES)
+@pytest.mark.parametrize(
+    "what, name, value, told, place",
+    [
+        ("chains", "start", 7, "one node in the one, 2 in the other:", "start of Main (A41), 0.000001° N, 0.000001° E"),
+        ("chains", "right", 2, "one polygon in the one, 2 in the other:", "right side of Main (A41)"),
+        ("chains", "names", [0], "one feature name in the other, 2 in the one:", "further name 1 of Main (A41)"),
+        ("landmarks", "polygons", [1], TIED, ""),
+    ],
+)
 def test_ties(what: str, name: str, value: Any, told: str, place: str) -> None:
     """Polygons without records differ only in the sides that they are on; and landmarks, like names, have the same content."""
     one = two_sided(chain_between([(1, 1), (5, 5)], names=[0]), chain_between([(1, 1), (6, 6)], names=[1]))
@@ -252,6 +222,6 @@ def test_ties(what: str, name: str, value: Any, told: str, place: str) -> None:
     one.landmarks = [Landmark({"LANAME": "Park"}, None, [0]) for _ in range(2)]
     other = after(one, lambda county: setattr(getattr(county, what)[1], name, value))
     for first, second, names in ((one, other, ("first", "second")), (other, one, ("second", "first"))):
-        text = words_of(first, second)
-        assert compared(first, second).is_alike and TIED in text
-        assert told.replace("the one", f"the {names[0]}").replace("the other", f"the {names[1]}") in text and place in text
+        text, line = words_of(first, second), told.replace("the one", f"the {names[0]}").replace("the other", f"the {names[1]}")
+        assert compared(first, second).is_alike
+        assert [each for each in (TIED, line, place) if each not in text] == []
