@@ -40,7 +40,7 @@ def spend(words: Sequence[object], reads_output: bool = True, **how: object) -> 
 
 
 def in_turn(runs: int, ways: Mapping[str, Sequence[object]], reads_output: bool = True) -> dict[str, list[Spent]]:
-    """Runs each program `runs` times, which must end with 0. They alternate, so that other work of the machine is shared out."""
+    """Runs each program `runs` times. Each run must end with 0. They alternate, so that other work of the machine is shared out."""
     found: dict[str, list[Spent]] = {way: [] for way in ways}
     for way, words in [*ways.items()] * runs:
         spent = spend(words, reads_output)
@@ -51,7 +51,7 @@ def in_turn(runs: int, ways: Mapping[str, Sequence[object]], reads_output: bool 
     return found
 
 
-def two_spellings(room: str, count: int) -> dict[str, list[str]]:
+def calls_on_county(room: str, count: int) -> dict[str, list[str]]:
     """The arguments of the commands on a county of `count` chains. compare gets a second file, which describes the same map in other
     numbers, directions and order."""
     county, other = f"{room}/county.txt", f"{room}/other.txt"
