@@ -39,14 +39,10 @@ class Scope:
     """What a file takes from elsewhere: names, each with its module and its name there, and modules under names of their own."""
 
     def __init__(self, text):
-        self.names, self.modules = {}, {}
-        for module, listed, alias in IMPORT.findall(text):
-            if alias:
-                self.modules[alias] = module
-            for part in listed.split(","):
-                words = part.split()
-                if words:
-                    self.names[words[-1]] = (module, words[0])
+        imports = IMPORT.findall(text)
+        self.modules = {alias: module for module, _, alias in imports if alias}
+        parts = [(module, part.split()) for module, listed, _ in imports for part in listed.split(",") if part.strip()]
+        self.names = {words[-1]: (module, words[0]) for module, words in parts}
 
 
 class Word:

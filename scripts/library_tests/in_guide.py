@@ -123,14 +123,6 @@ def try_constants(tests: Tests, header: Path, shown: Answer) -> None:
     tests.equal("constants of the header that aren't shown", set(), declared - set(found))
 
 
-def try_lines(tests: Tests, program: Path) -> None:
-    rows = list(faults())
-    found = run([program, "lines"], input="".join(f"{fault}\n" for fault, _ in rows).encode())
-    tests.equal("the header's lines, the status", 0, found.status)
-    for (fault, wanted), line in itertools.zip_longest(rows, found.out.decode().splitlines(), fillvalue=("", None)):
-        tests.equal(f"the header's line of {fault}", wanted, line)
-
-
 def try_header(tests: Tests) -> None:
     """The header for C alone: its constants against the guide, the lines that it makes, and how it frees a text."""
     header = tests.library / "include/tigercanon.h"
@@ -139,7 +131,11 @@ def try_header(tests: Tests) -> None:
         done = run([compiler, "-std=c99", "-O2", *WARNINGS, "-I", header.parent, "-o", made, HEADER_CALLER])
         if tests.count(done.status == 0, f"header.c by {compiler}: {done.err.decode()[:1000]}"):
             try_constants(tests, header, run([made, "constants"]))
-            try_lines(tests, made)
+            rows = list(faults())
+            found = run([made, "lines"], input="".join(f"{fault}\n" for fault, _ in rows).encode())
+            tests.equal("the header's lines, the status", 0, found.status)
+            for (fault, wanted), line in itertools.zip_longest(rows, found.out.decode().splitlines(), fillvalue=("", None)):
+                tests.equal(f"the header's line of {fault}", wanted, line)
             tests.equal("tigercanon_free", Answer(0, b"without bytes: 0\nwith bytes: 1\nonce more: 1\n", b""), run([made, "free"]))
 
 

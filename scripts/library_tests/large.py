@@ -1,6 +1,7 @@
 """The library on a county of 100,000 chains, compared with the program's answers; and by C on the counties of .ci/test-large."""
 
 import importlib
+import itertools
 import mmap
 import os
 import sys
@@ -18,11 +19,9 @@ def try_c(tests: Tests, whole: Path, stem: Path) -> None:
     words: list[list[object]] = [[command, whole] for command in ("check", "respell", "normalise", "fingerprint")]
     words += [[command, "--stem", stem] for command in ("respell", "normalise", "fingerprint")]
     words += [["fingerprint", "--no-sources", "--no-reserved", whole], ["compare", whole, f"{stem}.RT1"], ["compare", whole, whole]]
-    for call in words:
-        for name in ("gcc", "clang"):
-            if name in tests.callers:
-                found, wanted = run([*tests.callers[name], *call]), run([tests.program, *call])
-                tests.count(found == wanted, f"{CHAINS} chains by {name}, {call[0]}: {found.status} {found.err!r}, {len(found.out)} bytes")
+    for call, name in itertools.product(words, tests.callers.keys() & {"gcc", "clang"}):
+        found, wanted = run([*tests.callers[name], *call]), run([tests.program, *call])
+        tests.count(found == wanted, f"{CHAINS} chains by {name}, {call[0]}: {found.status} {found.err!r}, {len(found.out)} bytes")
     wanted = run([tests.program, "fingerprint", whole])
     tests.equal("two threads on large counties", wanted, tests.by_c("--threads", 2, "fingerprint", whole))
 
