@@ -1,5 +1,5 @@
-"""What the guide says of the library: the examples of its pages on C and Python, word for word, in a folder where a reader of the page
-would call them; and the constants and lines of the header."""
+"""The guide's pages on C and Python: their examples, word for word, in a folder where a reader of the page would call them, and the
+constants and lines of the header."""
 
 import itertools
 import os
@@ -99,8 +99,8 @@ def faults() -> Iterator[tuple[str, str]]:
         yield " ".join(map(str, (number, which, *of_kind.values(), *numbers))), line
 
 
-def guide_constants() -> dict[str, str]:
-    """The constants that the guide asks for, with their values."""
+def try_constants(tests: Tests, header: Path, shown: Answer) -> None:
+    """Each constant has the value that the guide has, and the header has no other."""
     rows = re.findall(r"^\| (\d+) \| (.*) \|$", section("Exit statuses"), re.M)
     wanted = {name: ", ".join(status for status, text in rows if re.search(said, text, re.I)) for name, said in STATUSES.items()}
     for number, name, _ in REFUSALS:
@@ -109,13 +109,8 @@ def guide_constants() -> dict[str, str]:
     form = (ROOT / "docs/canonical-form.md").read_text(encoding="utf-8")
     wanted["FORM"] = re.search(r"\*\*(tigercanon form \d+)\*\*", form)[1]
     wanted["EMPTY"] = "an address"
-    return {f"TIGERCANON_{name}": value for name, value in wanted.items()}
-
-
-def try_constants(tests: Tests, header: Path, shown: Answer) -> None:
-    """Each constant has the value that the guide has, and the header has no other."""
+    wanted = {f"TIGERCANON_{name}": value for name, value in wanted.items()}
     found = dict(line.split(" ", 1) for line in shown.out.decode().splitlines())
-    wanted = guide_constants()
     for name in sorted({*wanted, *found}):
         tests.equal(f"the header's {name}", wanted.get(name), found.get(name))
     enums = re.findall(r"\benum \w+ \{(.*?)\};", header.read_text(encoding="utf-8"), re.S)
