@@ -52,8 +52,8 @@ def in_turn(runs: int, ways: Mapping[str, Sequence[object]], reads_output: bool 
 
 
 def calls_on_county(room: str, count: int) -> dict[str, list[str]]:
-    """The arguments of the commands on a county of `count` chains. compare gets a second file, which describes the same map in other
-    numbers, directions and order."""
+    """The arguments of each command on a county of `count` chains. compare gets a second file with other numbers, directions and
+    order, which describes the same map."""
     county, other = f"{room}/county.txt", f"{room}/other.txt"
     make_county(count, county)
     make_county(*TURNED, count, other)

@@ -87,8 +87,8 @@ def try_python(tests: Tests, place: Path, fingerprint: str) -> None:
 
 
 def faults() -> Iterator[tuple[str, str]]:
-    """Faults as number, set, record type, CENID and three numbers, and the line of each: each refusal of the guide, with its places, of no
-    set and of either one, with usual numbers and with the greatest."""
+    """Faults as number, set, record type, CENID and three numbers, and the line of each: each refusal of the guide, with its places, of
+    no set and of either one, with usual numbers and with the greatest."""
     yield "0 0 - - 0 0 0", ""
     types, cenids = itertools.cycle("PI4162578"), itertools.cycle(["3036303031", "2020202020", "41fffebcad"])
     for (number, name, kinds), which, numbers in itertools.product(REFUSALS, (0, 1, 2), ((9999999999, 17, 230), (MOST,) * 3)):
