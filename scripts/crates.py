@@ -115,7 +115,7 @@ class Notes:
         if proved_from == self.proved_from(crate):
             self.note(crate).write_text(proved_from)
 
-    def begin_all(self) -> dict[str, str]:
+    def clear_stale(self) -> dict[str, str]:
         """Removes all libraries that nothing can be proved over, except rt's: it would put them back over its own. Returns what each
         library is proved from that isn't there."""
         libraries = [it for it in self.crates.rows if self.crates.makes_library(it)]
