@@ -6,7 +6,7 @@ import sys
 from pathlib import Path
 
 import pytest
-from support import STAND_INS, built_program, complete
+from support import STAND_INS, Four, built_program, complete
 
 sys.dont_write_bytecode = True
 
@@ -45,7 +45,7 @@ def stand_in(room: Path, monkeypatch: pytest.MonkeyPatch) -> Path:
 
 
 @pytest.fixture
-def four(room: Path, stand_in: Path) -> dict[str, bytes]:
+def four(room: Path, stand_in: Path) -> Four:
     """Four counties for the stand-in, with odd names, in the order of the manifest."""
     counties = {f"in/{name}": f"county {name}\n".encode() for name in ("-d", "a a", "b", "c")}
     for stem, text in counties.items():

@@ -28,6 +28,8 @@ HEAD = "# tigercanon form 1\n"
 PR_SET_PDEATHSIG = 1
 
 Process = subprocess.Popen[bytes]
+Four = dict[str, bytes]
+"""Four counties by their stems, each with the text of its first file."""
 
 STAND_INS = PACKAGE / "tests/stand-ins"
 """Stand-ins for the program."""

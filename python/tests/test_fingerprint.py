@@ -5,12 +5,8 @@ import os
 from pathlib import Path
 
 import pytest
-from support import HEAD, begin, call, complete, digest, end, left_behind, limit_files, manifest, put, zip_up
+from support import HEAD, Four, begin, call, complete, digest, end, left_behind, limit_files, manifest, put, zip_up
 from testing import TYPES
-
-
-Four = dict[str, bytes]
-"""Counties by their stems, each with the text of its first file."""
 
 
 def calls() -> list[str]:

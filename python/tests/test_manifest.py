@@ -1,19 +1,18 @@
-"""The manifest: its lines, its lock, and what two of them say."""
+"""The manifest: its lines, its lock, whether its counties are unchanged, and what two of them say. With a stand-in for the program."""
 
 import json
 import os
+import shutil
 import stat
 from pathlib import Path
 
 import pytest
-from support import NAME, begin, call, complete, digest, end, manifest, put
+from support import NAME, Four, begin, call, complete, digest, end, manifest, put
 from testing import await_that
 
 A, B = ("a" * 64, "b" * 64)
 HEAD = b"# tigercanon form 1\n"
 COUNTIES = {"in/b": b"b\n", "in/c": b"c\n"}
-
-Four = dict[str, bytes]
 
 
 def lines(*pairs: str) -> bytes:
@@ -113,6 +112,91 @@ def test_two_runs(four: Four) -> None:
     os.unlink("waits")
     assert end(run).status == 0
     assert call("verify", "m").status == 0
+
+
+ALL_OK = "in/-d: OK\nin/a a: OK\nin/b: OK\nin/c: OK\n"
+
+
+@pytest.fixture
+def text_of_the_manifest(four: Four) -> str:
+    """The text of the manifest m of four counties."""
+    assert call("fingerprint", "-o", "m", "in").status == 0
+    return Path("m").read_text()
+
+
+def remove(stem: str) -> None:
+    for path in Path().glob(f"{stem}.RT?"):
+        path.unlink()
+
+
+def test_all_well(text_of_the_manifest: str) -> None:
+    ended = call("verify", "m")
+    assert (ended.status, ended.out) == (0, ALL_OK)
+    assert ended.lines[0].startswith("4 counties: 4 OK; ")
+    assert call("verify", "--quiet", "m", "in")[:2] == (0, "")
+    assert Path("m").read_text() == text_of_the_manifest
+
+
+def test_each_verdict(text_of_the_manifest: str) -> None:
+    put("in/-d.RT1", b"another\n")
+    put("in/b.RT1", b"broken\n")
+    remove("in/c")
+    complete("in/e", b"new\n")
+    ended = call("verify", "m", "in")
+    assert (ended.status, ended.out) == (1, "in/-d: FAILED\nin/a a: OK\nin/b: FAILED\nin/c: MISSING\nin/e: NEW\n")
+    assert ended.reports == {
+        "in/-d": "another map",
+        "in/b": "refused 1 UnknownType 1 1",
+        "in/c": "no such file, folder or county",
+        "in/e": "not in the manifest",
+    }
+    assert [line for line in ended.lines if line.startswith("5 counties: 1 OK, 2 FAILED, 1 MISSING, 1 NEW; ")]
+    rows = json.loads(call("verify", "--quiet", "--json", "m").out)
+    assert [(row["county"], row["verdict"]) for row in rows] == [("in/-d", "FAILED"), ("in/b", "FAILED"), ("in/c", "MISSING")]
+    assert rows[0]["remarks"] == "another map"
+
+
+def test_new_counties_alone(text_of_the_manifest: str) -> None:
+    complete("other/e", b"new\n")
+    assert call("verify", "--quiet", "m", "in", "other")[:2] == (1, "other/e: NEW\n")
+    ended = call("verify", "m", "nowhere")
+    assert (ended.status, ended.out, ended.lines[-1]) == (2, "", "not every source can be read")
+
+
+@pytest.mark.parametrize("place", [0, 63])
+def test_a_wrong_digit(four: Four, text_of_the_manifest: str, place: int) -> None:
+    """A fingerprint in the manifest that is wrong in its first digit, or in its last."""
+    right = digest(four["in/b"])
+    wrong = right[:place] + ("0" if right[place] != "0" else "1") + right[place + 1 :]
+    Path("m").write_text(text_of_the_manifest.replace(right, wrong))
+    assert call("verify", "m")[:2] == (1, ALL_OK.replace("b: OK", "b: FAILED"))
+
+
+def test_digits_with_status_4(four: Four, text_of_the_manifest: str) -> None:
+    """They don't count as a fingerprint, even if the manifest has them."""
+    put("in/b.RT1", b"four\n")
+    Path("m").write_text(text_of_the_manifest.replace(digest(four["in/b"]), f"{7:064}"))
+    ended = call("verify", "--quiet", "m")
+    assert (ended.status, ended.out, ended.reports) == (1, "in/b: FAILED\n", {"in/b": "the program ended with status 4"})
+
+
+def test_from_elsewhere(room: Path, text_of_the_manifest: str) -> None:
+    os.renames("in", "far/in")
+    assert call("verify", "m").out.count("MISSING") == 4
+    assert call("verify", "--root", "far", "m", "far/in")[:2] == (0, ALL_OK)
+    os.renames("m", "there/m")
+    assert call("verify", "--root", f"{room}/far", "there/m").status == 0
+
+
+def test_other_forms(text_of_the_manifest: str) -> None:
+    """The files may have become zips or be in lower case."""
+    for path in Path("in").glob("-d.RT?"):
+        path.rename(path.with_suffix(path.suffix.lower()))
+    shutil.make_archive("in/b", "zip", "in", ".")
+    remove("in/b")
+    ended = call("verify", "m")
+    assert (ended.status, ended.out) == (1, ALL_OK.replace("b: OK", "b: FAILED"))
+    assert ended.reports["in/b"].startswith("the zip has 4 counties in it: ")
 
 
 def test_duplicates(room: Path) -> None:

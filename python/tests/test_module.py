@@ -51,9 +51,6 @@ def loaded(library: Path, monkeypatch: pytest.MonkeyPatch) -> Iterator[None]:
 echoed: Callable[[Any], bytes] = tigercanon.respell
 """What the stand-in was lent."""
 
-EACH_CALL: list[Callable[[Any], object]]
-EACH_CALL = [tigercanon.check, echoed, tigercanon.normalise, tigercanon.fingerprint, partial(tigercanon.compare, b"")]
-
 
 def kinds(folder: Path) -> dict[str, Callable[[], Any]]:
     """One part with the text, in each form that a part may have."""
@@ -109,14 +106,16 @@ def test_a_file_from_its_position(tmp_path: Path) -> None:
         assert echoed(file) == b""
 
 
+def assert_raises(error: type[Exception], *sets: Any, match: str = "") -> None:
+    for parts in sets:
+        with pytest.raises(error, match=match):
+            tigercanon.check(parts)
+
+
 def test_what_is_no_part(tmp_path: Path) -> None:
     with put(tmp_path / "text", b"x").open() as in_text_mode:
-        for part in (1, None, [1, 2], [None], in_text_mode, [[b"x"]]):
-            with pytest.raises(TypeError):
-                tigercanon.check(part)  # type: ignore[arg-type]
-    for view in (memoryview(TEXT)[::2], memoryview(TEXT)[::-1], memoryview(TEXT).cast("H")[::2]):
-        with pytest.raises(BufferError):
-            tigercanon.check(view)
+        assert_raises(TypeError, 1, None, [1, 2], [None], in_text_mode, [[b"x"]])
+    assert_raises(BufferError, memoryview(TEXT)[::2], memoryview(TEXT)[::-1], memoryview(TEXT).cast("H")[::2])
     with pytest.raises(TypeError):
         tigercanon.check(TEXT, no_sources=True)  # type: ignore[call-arg]
 
@@ -138,15 +137,11 @@ def test_stems(tmp_path: Path) -> None:
         put(tmp_path / name, text)
     for stem in (tmp_path / "TGR01001", str(tmp_path / "TGR01001")):
         assert echoed(stem) == b"one|||||||I|P"
-    with pytest.raises(FileNotFoundError, match="no county's files begin with this name"):
-        tigercanon.check(tmp_path / "TGR01003")
-    with pytest.raises(FileNotFoundError):
-        tigercanon.check([tmp_path / "TGR01001"])
+    assert_raises(FileNotFoundError, tmp_path / "TGR01003", match="no county's files begin with this name")
+    assert_raises(FileNotFoundError, [tmp_path / "TGR01001"])
     put(tmp_path / "TGR01001.rt1", b"one again")
-    with pytest.raises(ValueError, match="TGR01001.rt1"):
-        tigercanon.check(tmp_path / "TGR01001")
-    with pytest.raises(IsADirectoryError):
-        tigercanon.check(tmp_path)
+    assert_raises(ValueError, tmp_path / "TGR01001", match="TGR01001.rt1")
+    assert_raises(IsADirectoryError, tmp_path)
 
 
 def test_zips(tmp_path: Path) -> None:
@@ -157,17 +152,16 @@ def test_zips(tmp_path: Path) -> None:
     assert tigercanon.compare(path, [kind.encode() for kind in TYPES]) is True
     with zipfile.ZipFile(path, "a") as county:
         county.writestr("TGR01003.RT1", "another county")
-    with pytest.raises(ValueError, match="TGR01001.ZIP: .*2 counties"):
-        tigercanon.check(path)
-    for content, why in ((b"", "it isn't a zip"), (path.read_bytes()[:99], "the zip is cut off")):
-        path.write_bytes(content)
-        with pytest.raises(ValueError, match=f"TGR01001.ZIP: {why}"):
-            tigercanon.check(path)
+    assert_raises(ValueError, path, match="TGR01001.ZIP: .*2 counties")
+    assert_raises(ValueError, put(path, path.read_bytes()[:99]), match="TGR01001.ZIP: the zip is cut off")
+    assert_raises(ValueError, put(path), match="TGR01001.ZIP: it isn't a zip")
 
 
 @pytest.mark.parametrize("number, name, words", REFUSALS)
 def test_refusals(number: str, name: str, words: str) -> None:
     """Each refusal with its places, by each call."""
+    calls: list[Callable[[Any], object]]
+    calls = [tigercanon.check, echoed, tigercanon.normalise, tigercanon.fingerprint, partial(tigercanon.compare, b"")]
     numbers = iter((12345678901, 22, 33))
     of_kind = {"TYPE": "6", "CENID": "3036303031"}
     places = tuple(of_kind[word] if word in of_kind else next(numbers) for word in words.split())
@@ -175,7 +169,7 @@ def test_refusals(number: str, name: str, words: str) -> None:
     for which in (0, 1, 2):
         fault = f"fault {number} {which} 6 3036303031 12345678901 22 33".encode()
         told = f"refused {number} {name}{line}" + (f" in set {which}" if which else "")
-        for call in EACH_CALL:
+        for call in calls:
             with pytest.raises(tigercanon.Refusal) as raised:
                 call(fault)
             refusal = raised.value
@@ -186,14 +180,10 @@ def test_refusals(number: str, name: str, words: str) -> None:
 
 def test_flags() -> None:
     """Each flag is passed as itself. Any true value counts as given."""
-    rows = [
-        ("no_sources", b"+no_sources", "01"),
-        ("no_reserved", b"+no_reserved", "02"),
-        ("no_sources no_reserved", b"+both", "03"),
-    ]
-    for given, (names, ending, digits) in product((True, 1, "yes"), rows):
+    rows = {"no_sources": "01", "no_reserved": "02", "no_sources no_reserved": "03"}
+    for given, (names, digits) in product((True, 1, "yes"), rows.items()):
         flags: Any = dict.fromkeys(names.split(), given)
-        assert tigercanon.normalise(TEXT, **flags) == TEXT + ending
+        assert tigercanon.normalise(TEXT, **flags) == TEXT + (b"+both" if len(flags) == 2 else f"+{names}".encode())
         assert tigercanon.fingerprint(TEXT, **flags)[62:] == digits
         assert tigercanon.compare(TEXT, b"other" if len(flags) == 2 else TEXT, **flags) is (len(flags) == 2)
     for absent in (False, 0, "", None):
