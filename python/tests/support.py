@@ -20,19 +20,16 @@ from testing import PROGRAM as BUILT
 from testing import ROOT, TYPES
 
 PACKAGE = ROOT / "python"
+STAND_INS = PACKAGE / "tests/stand-ins"
 PROGRAM = os.path.abspath(os.environ.get("TIGERCANON") or BUILT)
 
 NAME = "tigercanon-tools: "
 HEAD = "# tigercanon form 1\n"
-
 PR_SET_PDEATHSIG = 1
 
 Process = subprocess.Popen[bytes]
 Four = dict[str, bytes]
 """Four counties by their stems, each with the text of its first file."""
-
-STAND_INS = PACKAGE / "tests/stand-ins"
-"""Stand-ins for the program."""
 
 
 def built_program() -> str:
@@ -54,8 +51,6 @@ def manifest(counties: Mapping[str, bytes], flags: str = "") -> str:
 
 
 class Ended(NamedTuple):
-    """How a call ended."""
-
     status: int
     out: str
     err: str
@@ -128,12 +123,11 @@ def put(name: str | Path, text: bytes = b"") -> Path:
 
 
 def members(name: str, first: bytes) -> dict[str, bytes]:
-    """The nine files of a county. The stand-in looks at the first alone."""
+    """The nine files of a complete county. The stand-in looks at the first alone."""
     return {f"{name}.RT{kind}": first if kind == "1" else b"x\n" for kind in TYPES}
 
 
 def complete(stem: str, first: bytes) -> None:
-    """Writes all nine files of a county."""
     for name, text in members(stem, first).items():
         put(name, text)
 

@@ -65,7 +65,6 @@ def test_pages_can_be_read(reader: str, ending: str) -> None:
 
 
 def test_bash_completes() -> None:
-    """What bash offers for commands and for the flags of one."""
     completion = (
         "compopt() { :; }; . completions/tigercanon-tools.bash; COMP_WORDS=(tigercanon-tools ASKED); "
         'COMP_CWORD=$((${#COMP_WORDS[@]} - 1)); _tigercanon_tools; echo "${COMPREPLY[*]}"'
@@ -74,8 +73,7 @@ def test_bash_completes() -> None:
         assert run(["bash", "-c", completion.replace("ASKED", asked)], cwd=ROOT).out.decode().strip() == offered
 
 
-def test_the_versions_agree() -> None:
-    """The package has the version of the program."""
+def test_the_program_has_the_same_version() -> None:
     assert VERSION in (ROOT / "crates/command_line/src/command.rt").read_text()
 
 
@@ -122,7 +120,6 @@ class TestProgram:
         assert run([ROOT / "tigercanon-tools", "--version"]) == (0, f"tigercanon-tools {VERSION}\n".encode(), b"")
 
     def test_the_examples(self, program: str, monkeypatch: pytest.MonkeyPatch, room: Path) -> None:
-        """What a new user tries first."""
         monkeypatch.chdir(ROOT)
         digits = "1d52be5838ff73bc2575fb45a3df3475437eff9b6347ef11d750d52787afbf1a"
         wanted = HEAD + "".join(f"{digits}  examples/{name}/TGR01001\n" for name in ("autauga-renumbered", "autauga"))
@@ -145,8 +142,7 @@ def test_installing(room: Path) -> None:
     assert (told.status, told.out.splitlines()[0]) == (0, b"refused 9 Memory"), told.err
 
 
-def test_numbers() -> None:
-    """How numbers, times and progress are written."""
+def test_how_numbers_are_written() -> None:
     amounts = [amount(count) for count in (0, 999, 1000, 1_250_000, 3_400_000_000, 5_000_000_000_000)]
     assert amounts == ["0 bytes", "999 bytes", "1.0 kB", "1.2 MB", "3.4 GB", "5,000.0 GB"]
     durations = [duration(seconds) for seconds in (0.2, 59.6, 61, 3600, 90_061)]
@@ -194,8 +190,7 @@ def test_a_refusal(room: Path, line: str, heading: str, places: str) -> None:
     assert call("explain", *line.split()) == ended
 
 
-def test_plain_text() -> None:
-    """Marks of Markdown aren't printed."""
+def test_marks_of_markdown_are_left_out() -> None:
     text = "### `refused 7 Seven TYPE`\n\nSee **this** [page](format.md#a).\n\n## Next\n\nno\n"
     assert explained("7", text) == ["refused 7 Seven TYPE", "", "See this page."]
 

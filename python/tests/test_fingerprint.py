@@ -5,7 +5,7 @@ import os
 from pathlib import Path
 
 import pytest
-from support import HEAD, Four, begin, call, complete, digest, end, left_behind, limit_files, manifest, put, zip_up
+from support import HEAD, Four, begin, call, complete, count_of_lines, digest, end, left_behind, limit_files, manifest, put, zip_up
 from testing import TYPES
 
 
@@ -20,31 +20,34 @@ def test_a_manifest(four: Four) -> None:
     assert ended.lines[0].startswith("4 counties: 4 new, 0 refused, 0 failed; ")
     again = call("fingerprint", "--jobs", "1", "-o", "m", "in")
     assert (again.status, Path("m").read_text(), len(calls())) == (0, wanted, 4)
-    complete("in/aa", b"more\n")
+    complete("in/aa", four["in/b"])
     more = call("fingerprint", "-o", "m", "in")
     assert more.lines[0].startswith("5 counties: 4 in the manifest already, 1 new, 0 refused, 0 failed; ")
-    assert Path("m").read_text() == manifest(dict(sorted({**four, "in/aa": b"more\n"}.items())))
-    assert len(calls()) == 5
+    assert more.lines[1:] == ["2 counties in the manifest share their map with another one: see the command duplicates"]
+    assert (Path("m").read_text(), len(calls())) == (manifest(dict(sorted({**four, "in/aa": four["in/b"]}.items()))), 5)
 
 
 def test_standard_output(four: Four) -> None:
-    """Without -o the manifest is printed, in order."""
+    """Without -o the manifest is printed, in order, also that of a county in one file."""
     for jobs in (1, 4):
         ended = call("fingerprint", "--jobs", jobs, "in")
         assert (ended.status, ended.out) == (0, manifest(four))
     assert ended.lines[0].startswith("4 counties: 4 fingerprints, 0 refused, 0 failed; ")
-    assert call("fingerprint", "in/b").lines[0].startswith("1 county: 1 fingerprint, 0 refused, 0 failed; ")
+    put("in/all.txt", b"all\n")
+    one = call("fingerprint", "in/all.txt")
+    assert (one.status, one.out) == (0, manifest({"in/all.txt": b"all\n"}))
+    assert one.lines[0].startswith("1 county: 1 fingerprint, 0 refused, 0 failed; ")
 
 
 def test_json(four: Four) -> None:
     put("in/b.RT1", b"broken\n")
     os.unlink("in/c.RT5")
     ended = call("fingerprint", "--json", "in")
-    rows = json.loads(ended.out)
-    assert ended.status == 1
-    assert [row["county"] for row in rows] == list(four)
-    assert rows[2] == {"county": "in/b", "fingerprint": None, "reason": "refused 1 UnknownType 1 1", "notes": []}
-    assert rows[3] == {"county": "in/c", "fingerprint": digest(four["in/c"]), "reason": None, "notes": ["no .RT5"]}
+    rows: list[dict[str, object]]
+    rows = [{"county": stem, "fingerprint": digest(text), "reason": None, "notes": []} for stem, text in four.items()]
+    rows[2].update(fingerprint=None, reason="refused 1 UnknownType 1 1")
+    rows[3].update(notes=["no .RT5"])
+    assert (ended.status, json.loads(ended.out)) == (1, rows)
 
 
 @pytest.mark.parametrize(
@@ -82,9 +85,8 @@ def test_what_did_not_fit_is_tried_alone(four: Four) -> None:
 def test_the_summary_counts_refusals(four: Four) -> None:
     put("in/b.RT1", b"broken\n")
     put("in/c.RT1", b"broken\n")
-    ended = call("fingerprint", "--strict", "-o", "m", "in", "in/nothing")
-    assert ended.lines[-2].startswith("5 counties: 2 new, 2 refused, 1 failed; ")
-    assert ended.lines[-1] == "refused: 2 by 1 UnknownType"
+    *_, summary, refused = call("fingerprint", "--strict", "-o", "m", "in", "in/nothing").lines
+    assert (summary.split(";")[0], refused) == ("5 counties: 2 new, 2 refused, 1 failed", "refused: 2 by 1 UnknownType")
 
 
 @pytest.mark.parametrize("is_zip", [False, True])
@@ -125,11 +127,6 @@ def test_names(room: Path, stand_in: Path, stem: str) -> None:
     assert (call("verify", "m").out, left_behind()) == (f"{stem}: OK\n", [])
 
 
-def test_a_county_in_one_file(room: Path, stand_in: Path) -> None:
-    put("in/all.txt", b"all\n")
-    assert call("fingerprint", "in/all.txt")[:2] == (0, manifest({"in/all.txt": b"all\n"}))
-
-
 def test_what_is_reported_of_sources(four: Four) -> None:
     """Skipped files are counted, and a county under two names is counted once."""
     os.symlink("in", "other")
@@ -137,22 +134,14 @@ def test_what_is_reported_of_sources(four: Four) -> None:
         put(name)
     os.mkdir("empty")
     ended = call("fingerprint", "-o", "m", "in", "other/b", "empty", "nothing.zip", "'no*'")
-    assert ended.status == 1
-    for wanted in (
+    assert (ended.status, len(calls())) == (1, 4)
+    assert {
         "skipped: 3 files (1 .RTA, 1 .gz, 1 .tar.gz)",
         "other/b: the same file as in/b, which is counted once",
         "empty: there is no county in this folder",
         "nothing.zip: no such file",
         "'no*': nothing matches this pattern",
-    ):
-        assert wanted in ended.lines
-    assert len(calls()) == 4
-
-
-def test_the_same_map(four: Four) -> None:
-    complete("in/e", four["in/b"])
-    ended = call("fingerprint", "-o", "m", "in")
-    assert ended.lines[-1] == "2 counties in the manifest share their map with another one: see the command duplicates"
+    } <= {*ended.lines}
 
 
 @pytest.mark.parametrize("count, added", [(12, 1), (14, 0)])
@@ -167,7 +156,7 @@ def test_a_manifest_that_takes_no_more(four: Four, count: int, added: int) -> No
     assert len(lines) == count + 1 + added and all(len(text) > 66 for text in lines[1:])
     assert not [name for name in os.listdir(".") if name.startswith("m.")]
     assert call("fingerprint", "-o", "m", "in").status == 0
-    assert len(Path("m").read_text().splitlines()) == count + 5
+    assert count_of_lines("m") == count + 5
 
 
 def test_no_room_for_a_zip(four: Four) -> None:
@@ -190,5 +179,4 @@ def test_a_reader_that_is_gone(four: Four) -> None:
         assert (ended.status, [text for text in ended.lines if "write" in text or "pipe" in text.lower()]) == (-13, [])
         with open("/dev/full", "wb") as full:
             ended = call(*words, stdout=full)
-        assert ended.status == 2
-        assert ended.lines[-1] == "standard output: can't be written: No space left on device"
+        assert (ended.status, ended.lines[-1]) == (2, "standard output: can't be written: No space left on device")

@@ -141,8 +141,7 @@ def made_county(tmp_path_factory: pytest.TempPathFactory) -> Path:
     return path
 
 
-def test_threads(county: Path) -> None:
-    """Threads at once, over one part and over several."""
+def test_threads_at_once(county: Path) -> None:
     texts = [county.read_bytes(), AUTAUGA.read_bytes(), RENUMBERED.read_bytes(), b""]
     wanted = [(tigercanon.fingerprint(text), tigercanon.normalise(text)) for text in texts]
     with ThreadPoolExecutor(4) as threads:

@@ -94,7 +94,6 @@ class Server(SimpleHTTPRequestHandler):
 
 @pytest.fixture
 def url(room: Path) -> Iterator[str]:
-    """A server of the files of the test."""
     Server.asked.clear()
     server = ThreadingHTTPServer(("127.0.0.1", 0), partial(Server, directory=str(room)))
     threading.Thread(target=server.serve_forever, daemon=True).start()

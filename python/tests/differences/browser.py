@@ -60,8 +60,7 @@ class Browser:
         WebDriverWait(self.driver, 30, 0.05).until(lambda driver: driver.execute_script(drawn) is not None)
         return float(self.run(drawn)) / 1000
 
-    def printed(self, orientation: str) -> bytes:
-        """The page as PDF."""
+    def pdf(self, orientation: str) -> bytes:
         options = PrintOptions()
         options.orientation = orientation
         return base64.b64decode(self.driver.print_page(options))

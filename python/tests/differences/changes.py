@@ -101,16 +101,6 @@ class Changing:
         self.names.append(("in the second alone", name))
         return len(self.county.names) - 1
 
-    def split_nodes(self, count: int) -> list[Point]:
-        """Gives a chain's start a node of its own. Nothing that is said differs by this."""
-        split: list[Point] = []
-        starts = Counter(node for chain in self.county.chains for node in (chain.start, chain.end))
-        for chain in self.chains(count):
-            assert starts[chain.start] > 1
-            chain.start = 10**7 + len(split)
-            split.append(chain.points[0])
-        return split
-
 
 def is_turned(chain: Chain) -> bool:
     """Whether a chain runs the other way in the canonical text."""
@@ -122,10 +112,14 @@ def place_of(thing: Landmark | Polygon) -> Point:
     return thing.point
 
 
-def split_maps(folder: Path, chains: int, seed: int, nodes: int) -> tuple[list[Point], Path, Path]:
-    """A county with some nodes split: their places, and both maps in files."""
+def split_maps(folder: Path, chains: int, seed: int) -> tuple[Point, Path, Path]:
+    """A county in which the start of a chain gets a node of its own, so that nothing differs but a tie: its place, and both maps in files."""
     changing = Changing(made_county(chains, seed), seed)
-    return changing.split_nodes(nodes), *changing.files(folder)
+    nodes = Counter(node for chain in changing.county.chains for node in (chain.start, chain.end))
+    (chain,) = changing.chains(1)
+    assert nodes[chain.start] > 1
+    chain.start = 10**7
+    return chain.points[0], *changing.files(folder)
 
 
 def much_changed(county: County, seed: int) -> Changing:

@@ -31,7 +31,7 @@ def diff(*words: object, env: Mapping[str, str] = {}, **options: Any) -> Ended:
 
 
 def differing(*words: object, **options: Any) -> str:
-    """What diff prints of two maps that differ."""
+    """What diff prints of maps that differ."""
     ended = diff(*words, **options)
     assert (ended.status, ended.err) == (1, "")
     return ended.out

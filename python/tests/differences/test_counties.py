@@ -57,8 +57,7 @@ def test_example(room: Path) -> None:
 def test_another_hand(changing: Changing, files: Files, room: Path) -> None:
     """Renumbered, turned, shuffled and packed otherwise: nothing differs."""
     ended = diff("--geojson", "geojson", files[0], put("copy", written(changing.before, 4)))
-    assert (ended.status, ended.err) == (0, "")
-    assert ended.out.splitlines()[3:] == ["No differences: the two are one map."]
+    assert (ended.status, ended.err, ended.out.splitlines()[3:]) == (0, "", ["No differences: the two are one map."])
     assert told_in_geojson(room / "geojson") == set()
 
 
@@ -85,11 +84,6 @@ def test_page(changing: Changing, files: Files, room: Path) -> None:
     assert {(data["kinds"][entry["kind"]], entry["title"]) for entry in names} == set(changing.names)
     assert (data["verdict"], data["notes"]) == ("", [])
     assert len(data["alike"]["chains"]) == data["counts"]["chain"][3]
-
-
-def test_all(changing: Changing, all_features: Path) -> None:
-    found = [feature["properties"] for feature in features_in(all_features)]
-    assert Counter((each["what"], each["kind"]) for each in found if each["what"] in SUBJECTS) == changing.counts()
 
 
 @pytest.mark.parametrize("flags, status", [((), 1), (("--no-reserved",), 1), (("--no-sources",), 0)])
@@ -152,16 +146,13 @@ def test_numbers(files: Files, all_features: Path, room: Path) -> None:
     assert seen(room / "geojson", files) == wanted
 
 
-def test_canonical_numbers(files: Files, all_features: Path) -> None:
-    """They agree with the canonical text, which numbers chains from 1."""
-    numbers = [each["properties"].get("canonical_first_TLID") for each in features_in(all_features)]
-    chains = sum(key[0] == "1" for key in records(files[0]))
-    assert sorted(filter(None, numbers)) == list(range(1, chains + 1))
-
-
-def test_values(all_features: Path) -> None:
-    """Points are numbers, and a field for the presence of something is true or false."""
+def test_all(changing: Changing, files: Files, all_features: Path) -> None:
+    """With --all there is a feature for each chain, landmark and polygon of both maps. Canonical numbers are those of the canonical text,
+    which numbers chains from 1. Points are numbers, and a field for the presence of something is true or false."""
     found = [feature["properties"] for feature in features_in(all_features)]
+    assert Counter((each["what"], each["kind"]) for each in found if each["what"] in SUBJECTS) == changing.counts()
+    numbers = sorted(each["canonical_first_TLID"] for each in found if "canonical_first_TLID" in each)
+    assert numbers == list(range(1, len(changing.before.chains) + 1))
     assert {each.get("first_start_node", True) for each in found if each["what"] == "chain"} == {True}
     assert {each.get("first_type_P", True) for each in found if each["what"] == "polygon"} == {True}
     values = {value for each in found for value in each.values() if isinstance(value, str)}
@@ -170,12 +161,11 @@ def test_values(all_features: Path) -> None:
 
 def test_ties(room: Path) -> None:
     """A difference that is only a tie is named, and has a feature at each of its places."""
-    (split,), one, tied = split_maps(room, 144, 44, 1)
+    split, one, tied = split_maps(room, 144, 44)
     text = differing("--geojson", "geojson", one, tied)
     assert f"{split[1] / 1e6:.6f}° N, {-split[0] / 1e6:.6f}° W" in text.partition(TIED)[2]
     (tie,) = features_in(room / "geojson")
-    found = [tie["properties"][name] for name in ("what", "differs", "first_count", "second_count")]
-    assert found == ["tie", "node", 1, 2]
+    assert [tie["properties"][name] for name in ("what", "differs", "first_count", "second_count")] == ["tie", "node", 1, 2]
     positions = tie["geometry"]["coordinates"]
     assert micro(positions if tie["geometry"]["type"] == "Point" else positions[0]) == split
     lines = records(one)

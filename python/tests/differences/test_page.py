@@ -31,7 +31,6 @@ def box(kind: str, what: str) -> str:
 
 @pytest.fixture(scope="module")
 def window() -> Iterator[Browser]:
-    """One browser for all tests here."""
     opened = Browser()
     yield opened
     opened.driver.quit()
@@ -55,7 +54,6 @@ def page_of(folder: Path, first: Path, second: Path) -> Path:
 
 @pytest.fixture(scope="module")
 def town() -> Changing:
-    """A county, and how it has changed."""
     changing = much_changed(made_county(840, 20), 21)
     changing.change_field(1, "FENAME", SCRIPT)
     changing.county.landmarks[-1].fields["LANAME"] = PICTURE
@@ -143,7 +141,7 @@ class TestPage:
         count = "() => { window.printed = document.querySelectorAll('#list li').length; }"
         before = browser.run(bounds)
         browser.run(f"window.addEventListener('beforeprint', {count})")
-        assert len(browser.printed("portrait")) > 10_000
+        assert len(browser.pdf("portrait")) > 10_000
         assert (browser.run("return window.printed"), browser.run(bounds)) == (browser.listed(), before)
 
     def test_printed_map(self, browser: Browser) -> None:
@@ -152,7 +150,7 @@ class TestPage:
             pytest.skip("no poppler-utils")
         for orientation in ("portrait", "landscape"):
             words = ["pdftotext", "-f", "1", "-l", "1", "-", "-"]
-            text = subprocess.run(words, check=True, input=browser.printed(orientation), stdout=subprocess.PIPE).stdout.decode()
+            text = subprocess.run(words, check=True, input=browser.pdf(orientation), stdout=subprocess.PIPE).stdout.decode()
             assert re.search(r"(?m)^ *\d+ k?m$", text) and re.search(r"(?m)^ *\d+ (ft|mi)$", text)
 
 
@@ -181,7 +179,7 @@ def test_one_map(browser: Browser, room: Path, county: County) -> None:
 
 def test_ties(browser: Browser, room: Path) -> None:
     """The page of maps that differ only in how things are tied."""
-    _, *files = split_maps(room, 220, 27, 1)
+    _, *files = split_maps(room, 220, 27)
     browser.open(page_of(room, *files))
     assert "What differs is how they are tied" in browser.texts("#notes")[0]
     assert len(browser.texts("#list li")) == 1
