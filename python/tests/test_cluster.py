@@ -83,7 +83,8 @@ def archive(room: Path, program: str, expected: Archive) -> Archive:
 
 @pytest.fixture
 def slow(room: Path, program: str, monkeypatch: pytest.MonkeyPatch) -> None:
-    """The program, which waits a moment before it answers. For some files it ends its parent, which is the worker."""
+    """The program, which waits a moment before it answers. For some files it ends its parent, which is the worker. Workers that start
+    afterwards have it too."""
     monkeypatch.setenv("PROGRAM", program)
     monkeypatch.setenv("TIGERCANON", shutil.copy(STAND_INS / "slow", room))
 
@@ -176,7 +177,7 @@ class TestDask:
         checked = call("verify", *SCHEDULER, "m")
         assert (checked.status, checked.out.count(": OK\n")) == (0, len(archive.lines) - 1)
 
-    def test_workers_are_killed(self, archive: Archive, engine: Engine, run: Process) -> None:
+    def test_workers_are_killed(self, archive: Archive, slow: None, engine: Engine, run: Process) -> None:
         """Two of three workers: nothing is missing, and no county is blamed."""
         victims = engine.worker_processes()
         assert len(victims) == 3
@@ -194,7 +195,7 @@ class TestDask:
         assert (ended.status, plain(ended.reports)) == (1, wanted)
         assert_all_done(archive, killed=8)
 
-    def test_the_scheduler_is_killed(self, archive: Archive, engine: Engine, run: Process) -> None:
+    def test_the_scheduler_is_killed(self, archive: Archive, slow: None, engine: Engine, run: Process) -> None:
         """The command reports how many counties are left, and the same command does the rest."""
         os.killpg(engine.scheduler.pid, signal.SIGKILL)
         ended = end(run)
