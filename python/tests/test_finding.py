@@ -126,14 +126,14 @@ def test_files(archive: Path) -> None:
     def at(name: str, size: int = 5) -> File:
         return File(f"{archive}/in/{name}", size)
 
+    assert found("in/a") == [County("in/a", zip=at("a.ZIP"))]
     put("in/a.rt1", b"1")
     files = {kind: at(f"all.RT{kind}", 3) for kind in TYPES}
-    assert found("in/all", "in/b", "in/small", "in/a", "in/deep/er/c", "in/read.me") == [
+    assert found("in/all", "in/b", "in/small", "in/a", "in/read.me") == [
         County("in/all", files, readable_stem=f"{archive}/in/all"),
         County("in/b", {"1": at("b.RT1"), "2": at("b.RT2")}, readable_stem=f"{archive}/in/b"),
         County("in/small", {"1": at("small.rt1")}),
         County("in/a", {"1": at("a.rt1", 1)}, notes=("its single files are read, and not a.ZIP",)),
-        County("in/deep/er/c", zip=at("deep/er/c.zip")),
         County("in/read.me", whole=at("read.me")),
     ]
     assert found("in/all")[0].size == 27
