@@ -138,7 +138,15 @@ class Finder:
                 return County(path, trouble=f"can't be read: {reason(error)}")
         if is_url(path) and not names:  # a plain server of files can't list a folder
             names = names_among(probed(stem)).get(name, {})
-        return county_of(stem, names) if names else whole(path)
+        if names:
+            return county_of(stem, names)
+        if is_url(path) or not os.path.lexists(path):
+            absent = "no such file" if kind_of(path) and not is_url(path) else "no such file, folder or county"
+            return County(path, trouble=absent, is_absent=True)
+        if not os.path.isfile(path) or kind_of(path):
+            why = "one of a county's nine files" if os.path.isfile(path) else "a regular file"
+            return County(path, trouble=f"isn't {why}")
+        return County(path, whole=File(os.path.abspath(path), os.path.getsize(path)))  # one file with all records
 
 
 def names_among(found: Iterable[Entry]) -> dict[str, Names]:
@@ -153,17 +161,6 @@ def names_among(found: Iterable[Entry]) -> dict[str, Names]:
 def ending_of(name: str) -> str:
     """The ending under which a skipped file is counted."""
     return ".tar.gz" if name.lower().endswith(".tar.gz") else os.path.splitext(name)[1] or "without an ending"
-
-
-def whole(path: str) -> County:
-    """A county of one file with all records, under the file's own name."""
-    if is_url(path) or not os.path.lexists(path):
-        absent = "no such file" if kind_of(path) and not is_url(path) else "no such file, folder or county"
-        return County(path, trouble=absent, is_absent=True)
-    if not os.path.isfile(path) or kind_of(path):
-        why = "one of a county's nine files" if os.path.isfile(path) else "a regular file"
-        return County(path, trouble=f"isn't {why}")
-    return County(path, whole=File(os.path.abspath(path), os.path.getsize(path)))
 
 
 def county_of(stem: str, names: Names) -> County:

@@ -12,7 +12,7 @@ import shutil
 import subprocess
 from contextlib import ExitStack
 from dataclasses import dataclass, field, replace
-from typing import Any, Iterable, Mapping, Sequence
+from typing import Any, Iterable, Iterator, Mapping, Sequence
 
 from .errors import Unreadable, printable, reason
 from .hints import hint
@@ -136,12 +136,33 @@ def judge(county: County, order: Order) -> Answer:
 
 
 def prepared(county: County, order: Order, notes: list[str], stack: ExitStack) -> Source:
-    """The set as the program reads it, with links to files, copies and unpacked ones where they are needed. Notes which of the nine
+    """The set as the program reads it: the county's own files, links to them, copies, or what was in its zip. Notes which of the nine
     files are missing or empty."""
     if county.whole:
         return Source(county.stem, local(county.whole, stack), is_stem=False)
-    place = unzipped(county.zip, order, notes, stack) if county.zip else single_files(county, order, notes, stack)
-    return Source(county.stem, place, is_stem=True)
+    unpacked: dict[str, Iterator[bytes]] = {}
+    sizes = {kind: file.size for kind, file in county.files.items()}
+    if county.zip:
+        archive = stack.enter_context(opened(local(county.zip, stack)))
+        members = members_of(archive)
+        unpacked = {kind: pieces_of(archive, member) for kind, member in members.items()}
+        sizes = {kind: member.file_size for kind, member in members.items()}
+    note_files(sizes, order, notes)
+    if county.readable_stem is not None:
+        return Source(county.stem, county.readable_stem, is_stem=True)
+    size = sum(size or 0 for size in sizes.values())
+    if county.zip and size > order.largest:
+        raise Unreadable(f"the zip unpacks to {size} bytes, more than --largest {order.largest}")
+    stem = stack.enter_context(PROCESS.place(size))
+    for kind, pieces in unpacked.items():
+        with open(file_name(stem, kind), "wb") as target:
+            target.writelines(pieces)
+    for kind, file in county.files.items():
+        if is_url(file.place):
+            fetch(file.place, file.size, file_name(stem, kind))
+        else:
+            os.symlink(file.place, file_name(stem, kind))
+    return Source(county.stem, stem, is_stem=True)
 
 
 def local(file: File, stack: ExitStack) -> str:
@@ -151,36 +172,6 @@ def local(file: File, stack: ExitStack) -> str:
     place = stack.enter_context(PROCESS.place(file.size or 0))
     fetch(file.place, file.size, place)
     return place
-
-
-def single_files(county: County, order: Order, notes: list[str], stack: ExitStack) -> str:
-    """The stem of a county's single files: their own, or that of links to them and of copies."""
-    note_files({kind: file.size for kind, file in county.files.items()}, order, notes)
-    if county.readable_stem is not None:
-        return county.readable_stem
-    stem = stack.enter_context(PROCESS.place(county.size))
-    for kind, file in county.files.items():
-        if is_url(file.place):
-            fetch(file.place, file.size, file_name(stem, kind))
-        else:
-            os.symlink(file.place, file_name(stem, kind))
-    return stem
-
-
-def unzipped(file: File, order: Order, notes: list[str], stack: ExitStack) -> str:
-    """The stem of the files in a zip, which are unpacked."""
-    archive = stack.enter_context(opened(local(file, stack)))
-    members = members_of(archive)
-    sizes = {kind: member.file_size for kind, member in members.items()}
-    note_files(sizes, order, notes)
-    size = sum(sizes.values())
-    if size > order.largest:
-        raise Unreadable(f"the zip unpacks to {size} bytes, more than --largest {order.largest}")
-    stem = stack.enter_context(PROCESS.place(size))
-    for kind, member in members.items():
-        with open(file_name(stem, kind), "wb") as target:
-            target.writelines(pieces_of(archive, member))
-    return stem
 
 
 def note_files(sizes: Mapping[str, int | None], order: Order, notes: list[str]) -> None:

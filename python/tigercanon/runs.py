@@ -44,8 +44,8 @@ class Run:
 
     def judge(self, counties: list[County], flags: tuple[str, ...], is_strict: bool = False) -> None:
         """Judges the counties. Those that can't be judged are reported first."""
-        self.tally.start(len(counties), sum(county.size for county in counties))
-        there = []
+        options, tally, there = self.options, self.tally, []
+        tally.start(len(counties), sum(county.size for county in counties))
         try:
             for number, county in enumerate(counties):
                 if county.trouble:
@@ -53,23 +53,19 @@ class Run:
                 else:
                     there.append((number, county))
             if there:
-                self.judge_files(there, order_of(self.options, flags, is_strict))
+                order = order_of(options, flags, is_strict)
+                remove_stale_folders()
+                with closing(DaskEngine(options.scheduler) if options.scheduler else Engine(options.jobs)) as engine:
+                    for result in engine.answers([county for _, county in there], order):
+                        if result:
+                            self.end(*there[result[0]], result[1])
+                        tally.look()
+        except Gone as gone:
+            self.gone, self.left = str(gone), tally.counties - tally.ended
         finally:
-            self.tally.close()
-        if self.options.json:
+            tally.close()
+        if options.json:
             print_json(list(filter(None, map(self.waiting.get, range(len(counties))))))
-
-    def judge_files(self, there: list[tuple[int, County]], order: Order) -> None:
-        remove_stale_folders()
-        made = DaskEngine(self.options.scheduler) if self.options.scheduler else Engine(self.options.jobs)
-        with closing(made) as engine:
-            try:
-                for result in engine.answers([county for _, county in there], order):
-                    if result:
-                        self.end(*there[result[0]], result[1])
-                    self.tally.look()
-            except Gone as gone:
-                self.gone, self.left = str(gone), self.tally.counties - self.tally.ended
 
     def end(self, number: int, county: County, answer: Answer) -> None:
         if answer.kind == "refused":
