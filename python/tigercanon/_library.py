@@ -187,8 +187,7 @@ def parts_of(parts: Set) -> Iterable[Any]:
 
 
 def view_of(part: Any) -> memoryview:
-    """All bytes of a part, whatever the size of its items. A file is read from its current position to its end. Raises BufferError if
-    they aren't in one piece."""
+    """All bytes of a part. A file is read from its current position to its end. Raises BufferError if they aren't in one piece."""
     if isinstance(part, (str, os.PathLike)):
         part = Path(part).read_bytes()
     elif hasattr(part, "read") and not lends_bytes(part):

@@ -53,8 +53,7 @@ class Own:
                 self.ends.remove(end)
 
     def run(self, words: Sequence[str], memory: int | None = None) -> subprocess.CompletedProcess[bytes]:
-        """Runs the program in a session of its own, so that all of it can be ended. memory limits its address space. Its settings
-        for memory are those that make it faster, unless the user has settings of their own."""
+        """Runs the program in a session of its own, so that all of it can be ended. memory limits its address space."""
         pipe, nothing, environment = subprocess.PIPE, subprocess.DEVNULL, {"GLIBC_TUNABLES": TUNABLES, **os.environ}
         if memory is not None:
             words = ["/bin/sh", "-c", f'ulimit -v {memory // 1024} && exec "$@"', "sh", *words]

@@ -15,15 +15,13 @@ VARIABLE = "TIGERCANON"
 PACKAGE = Path(__file__).resolve().parent
 BUILT = "crates/tigercanon_main/out/tigercanon_main"
 ADVICE = "run ./tigercanon once, which builds it, or name one with --program"
+# Settings that make the program faster, unless the user has others: its memory lies in large pages, and what it frees is used again.
 TUNABLES = "glibc.malloc.hugetlb=1:glibc.malloc.mmap_threshold=8589934592:glibc.malloc.trim_threshold=17179869184"
-"""Settings that make the program faster: its memory lies in large pages, and memory that it frees is used again."""
 
 
 def find_program(named: str | None = None) -> str:
-    """The program that the option or the variable names, else the built one of the clone or release, else that on the PATH.
-
-    In a clone where sources were edited since it was built, ./tigercanon builds it again first. Raises Failure if there is none.
-    """
+    """The program that the option or the variable names, else the built one of the clone or release, else that on the PATH. In a clone
+    where sources were edited since it was built, ./tigercanon builds it again first. Raises Failure if there is none."""
     given, root = named or os.environ.get(VARIABLE), PACKAGE.parent.parent
     if given:
         return checked(given)

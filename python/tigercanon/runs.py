@@ -4,9 +4,9 @@ from __future__ import annotations
 
 import argparse
 import os
-from contextlib import closing
+from contextlib import closing, nullcontext
 from dataclasses import replace
-from typing import Any, Sequence
+from typing import Any, Optional, Sequence
 
 from .counties import Finder
 from .engines import DaskEngine, Engine, Gone
@@ -30,6 +30,10 @@ def order_of(options: argparse.Namespace, flags: tuple[str, ...], is_strict: boo
     return Order(program, flags, is_strict, options.largest, options.memory)
 
 
+Taken = tuple[str, Optional[str], Optional[dict[str, Any]]]
+"""What is reported about a result, and the line and the row in JSON that are printed, if they are."""
+
+
 class Run:
     """A command that judges counties, and the tally of them."""
 
@@ -38,8 +42,8 @@ class Run:
         self.gone, self.left, self.next = "", 0, 0
         self.waiting: dict[int, Any] = {}
 
-    def take(self, number: int, county: County, answer: Answer, remarks: str) -> str:
-        """Takes a result, and returns the report about it. Remarks are why there is no fingerprint, and notes about the files."""
+    def take(self, number: int, county: County, answer: Answer, remarks: str) -> Taken:
+        """Takes a result. Remarks are why there is no fingerprint, and notes about the files."""
         raise NotImplementedError
 
     def judge(self, counties: list[County], flags: tuple[str, ...], is_strict: bool = False) -> None:
@@ -68,24 +72,21 @@ class Run:
             print_json(list(filter(None, map(self.waiting.get, range(len(counties))))))
 
     def end(self, number: int, county: County, answer: Answer) -> None:
+        """Takes a result, and prints those that are there in the order of their numbers, or all of them in JSON at the end."""
         if answer.kind == "refused":
             words = answer.text.split()
             self.tally.refused["--strict" if words[0] == "rejected" else " ".join(words[1:3])] += 1
         elif answer.kind != "made":
             self.tally.failed += 1
         why = [] if answer.kind == "made" else [answer.text]
-        told = self.take(number, county, answer, "; ".join([*why, *answer.notes]))
-        if told:
-            report(f"{county.stem}: {told}")
-        self.tally.end(county.size)
-
-    def print(self, number: int, line: str | None, row: dict[str, Any] | None) -> None:
-        """Prints results in the order of their numbers: lines, each as soon as those before it are there, or a list in JSON at the
-        end. None prints nothing."""
+        told, line, row = self.take(number, county, answer, "; ".join([*why, *answer.notes]))
         self.waiting[number] = row if self.options.json else line
         while not self.options.json and self.next in self.waiting:
             print_lines(filter(None, [self.waiting.pop(self.next)]))
             self.next += 1
+        if told:
+            report(f"{county.stem}: {told}")
+        self.tally.end(county.size)
 
     def report_end(self, count: int, words: list[str]) -> None:
         report(f"{counted(count)}: {', '.join(words)}; {self.tally.took}")
@@ -100,28 +101,21 @@ class Fingerprints(Run):
     manifest: Manifest | None = None
 
     def __call__(self) -> int:
-        output = self.options.output
-        see_names([*self.options.sources, *([] if output is None else [output])])
-        if output is None:
-            return self.make()
-        with written(output, flags_of(self.options)) as self.manifest:
-            status = self.make()
-        count = sum(map(len, duplicates(self.manifest.lines)))
+        options, tally, flags = self.options, self.tally, flags_of(self.options)
+        see_names([*options.sources, *([] if options.output is None else [options.output])])
+        with nullcontext() if options.output is None else written(options.output, flags) as self.manifest:
+            counties, before = self.found()
+            if not self.manifest and not options.json:
+                print_lines([heading(flags)])
+            self.judge(counties, flags, options.strict)
+            refused = sum(tally.refused.values())
+            good = tally.ended - refused - tally.failed
+            words = [f"{before:,} in the manifest already"] if before else []
+            words += [f"{good:,} new" if self.manifest else counted(good, "fingerprint", "fingerprints")]
+            self.report_end(tally.counties + before, [*words, f"{refused:,} refused", f"{tally.failed:,} failed"])
+        count = sum(map(len, duplicates(self.manifest.lines))) if self.manifest else 0
         if count:
             report(f"{count:,} counties in the manifest share their map with another one: see the command duplicates")
-        return status
-
-    def make(self) -> int:
-        counties, before = self.found()
-        flags, tally = flags_of(self.options), self.tally
-        if not self.manifest and not self.options.json:
-            print_lines([heading(flags)])
-        self.judge(counties, flags, self.options.strict)
-        refused = sum(tally.refused.values())
-        good = tally.ended - refused - tally.failed
-        words = [f"{before:,} in the manifest already"] if before else []
-        words += [f"{good:,} new" if self.manifest else counted(good, "fingerprint", "fingerprints")]
-        self.report_end(tally.counties + before, [*words, f"{refused:,} refused", f"{tally.failed:,} failed"])
         return int(bool(self.left or tally.failed or refused))
 
     def found(self) -> tuple[list[County], int]:
@@ -140,14 +134,13 @@ class Fingerprints(Run):
             report(f"skipped: {counted(sum(finder.skipped.values()), 'file', 'files')} ({found})")
         return counties, before
 
-    def take(self, number: int, county: County, answer: Answer, remarks: str) -> str:
+    def take(self, number: int, county: County, answer: Answer, remarks: str) -> Taken:
         line = Line(answer.text, county.stem) if answer.kind == "made" else None
         if line and self.manifest:
             self.manifest.add(line)
         fingerprint, why = (answer.text, None) if line else (None, answer.text)
         row = {"county": county.stem, "fingerprint": fingerprint, "reason": why, "notes": list(answer.notes)}
-        self.print(number, None if self.manifest else line and str(line), row)
-        return remarks
+        return remarks, None if self.manifest else line and str(line), row
 
 
 class Verification(Run):
@@ -177,17 +170,16 @@ class Verification(Run):
             raise Failure("not every source can be read")
         return [replace(county, trouble="not in the manifest") for county in found]
 
-    def take(self, number: int, county: County, answer: Answer, remarks: str) -> str:
+    def take(self, number: int, county: County, answer: Answer, remarks: str) -> Taken:
         name, kind = county.stem, "NEW"
         if number < len(self.lines):
             fingerprint, name = self.lines[number]
             kind = "MISSING" if county.is_absent else "OK" if answer.text == fingerprint and answer.kind == "made" else "FAILED"
             remarks = "another map" if kind == "FAILED" and answer.kind == "made" else remarks
         self.counts[kind] += 1
-        is_shown = kind != "OK" or not self.options.quiet
-        row = {"county": name, "verdict": kind, "remarks": remarks}
-        self.print(number, f"{name}: {kind}" if is_shown else None, row if is_shown else None)
-        return remarks
+        if kind == "OK" and self.options.quiet:
+            return remarks, None, None
+        return remarks, f"{name}: {kind}", {"county": name, "verdict": kind, "remarks": remarks}
 
 
 def counted(count: int, noun: str = "county", nouns: str = "counties") -> str:

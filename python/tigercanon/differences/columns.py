@@ -1,7 +1,6 @@
 """The columns of the records, as docs/format.md has them: those with the content of the map.
 
-Numbers that differ from file to file (TLID, RTSQ, FEAT, LAND, POLYID and those of nodes), the version and fillers aren't
-among them.
+Numbers that differ from file to file (TLID, RTSQ, FEAT, LAND, POLYID and those of nodes), the version and fillers aren't among them.
 """
 
 from dataclasses import dataclass
@@ -11,8 +10,7 @@ from typing import NamedTuple
 
 
 class Column(NamedTuple):
-    """A field of a record: its name, its first and last column, what it holds, and, for a chain, the field that holds
-    the same thing as seen from the chain's other end."""
+    """A field of a record. Its partner, for a chain, holds the same thing as seen from the chain's other end."""
 
     name: str
     first: int
@@ -27,8 +25,7 @@ class Column(NamedTuple):
 
 @dataclass(frozen=True, eq=False)
 class Layout:
-    """The columns of a record type: FILE, if it has that, and then those that stand side by side. Joined they are a record's
-    content, which is kept as one text."""
+    """The columns of a record type: FILE, if it has that, and then those side by side. Joined they are a record's content."""
 
     record_type: str
     file: tuple[Column, ...]

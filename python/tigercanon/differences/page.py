@@ -65,9 +65,8 @@ class PageData:
         return entry
 
     def tie(self, tie: Tie) -> dict[str, Any]:
-        groups = [list(map(tied_place, group)) for group in tie.groups]
         entry = self.entry("tie", KINDS.index("changed"), tie_line(tie).rstrip(":"), "", [])
-        return {**entry, "groups": groups, "points": self.points(tie.points)}
+        return {**entry, "groups": [[*map(tied_place, group)] for group in tie.groups], "points": self.points(tie.points)}
 
     def entry(self, what: str, kind: int, title: str, about: str, table: list[Row]) -> dict[str, Any]:
         """An entry of the list. Its fields are left out if the space for fields is used up."""

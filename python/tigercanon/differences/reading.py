@@ -1,8 +1,7 @@
 """Reads the records that the program prints: a county's chains, feature names, polygons and landmarks.
 
 The content of a record is kept as one string (see `columns`). A point is kept as it is spelled: 19 columns of longitude and
-latitude in millionths of a degree. A chain's points are one string of these. The program spells each number and each point in one
-way, in a canonical text and when it respells records.
+latitude in millionths of a degree. A chain's points are one string of these. The program spells each number and point in one way.
 """
 
 import re

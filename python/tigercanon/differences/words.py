@@ -14,9 +14,8 @@ from .sets import Sets
 KINDS = ("in the first alone", "in the second alone", "changed", "alike")
 ONE_MAP = "No differences: the two are one map."
 TIED = (
-    "All chains, landmarks, polygons and feature names are alike. What differs is how they are tied: which ends of "
-    "chains are one node, which sides are one polygon, which chains share a feature name, or which polygons a "
-    "landmark lies in."
+    "All chains, landmarks, polygons and feature names are alike. What differs is how they are tied: which ends of chains are one "
+    "node, which sides are one polygon, which chains share a feature name, or which polygons a landmark lies in."
 )
 
 
