@@ -20,8 +20,7 @@ from typing import Iterator, NamedTuple, Sequence
 
 from .errors import Failure, reason, reported
 from .layout import kind_of
-from .outputs import new_files
-from .own import PROCESS
+from .own import PROCESS, new_files
 
 Flags = tuple[str, ...]
 FORM = "# tigercanon form 1"

@@ -9,7 +9,7 @@ import threading
 
 from ..errors import Failure, printable
 from ..manifest import flags_of
-from ..outputs import new_files
+from ..own import new_files
 from ..program import find_program
 from ..progress import print_lines, report
 from .geojson import BothOwn, features, head, write_geojson

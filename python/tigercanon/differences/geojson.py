@@ -7,7 +7,7 @@ import re
 from functools import lru_cache
 from typing import Any, Iterator, Sequence
 
-from ..outputs import NewFile
+from ..own import NewFile
 from .fields import BLANK, NONE, YES, FieldName, decimal
 from .matching import Comparison, OwnNumbers, Tie
 from .reading import number_of

@@ -11,7 +11,7 @@ from pathlib import Path
 from typing import Any
 
 from ..errors import Failure
-from ..outputs import NewFile
+from ..own import NewFile
 from .fields import FieldName, Row, chain_title, landmark_points, landmark_title
 from .matching import Comparison, Tie
 from .reading import NO_POINT, each_point, position
