@@ -11,9 +11,9 @@ from ctypes import c_bool, c_char, c_size_t, c_ssize_t, c_uint8, c_uint64, c_voi
 from pathlib import Path
 from typing import TYPE_CHECKING, Any, BinaryIO, Iterable, Iterator, Union
 
-from . import zips
 from .errors import Unreadable
 from .layout import TYPES, kind_of, stem_of
+from .storage import members_of, opened_zip, pieces_of
 
 if TYPE_CHECKING:
     import mmap
@@ -224,8 +224,8 @@ def files_behind(stem: str) -> list[bytes]:
 def files_in_zip(path: str) -> list[bytes]:
     """The nine files of the one county in a zip. An absent one is empty."""
     try:
-        with zips.opened(path) as archive:
-            members = zips.members_of(archive)
-            return [b"".join(zips.pieces_of(archive, members[kind])) if kind in members else b"" for kind in TYPES]
+        with opened_zip(path) as archive:
+            members = members_of(archive)
+            return [b"".join(pieces_of(archive, members[kind])) if kind in members else b"" for kind in TYPES]
     except Unreadable as fault:
         raise ValueError(f"{path}: {fault}") from None

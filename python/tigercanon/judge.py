@@ -18,8 +18,7 @@ from .errors import Unreadable, printable, reason
 from .hints import hint
 from .layout import TYPES, file_name
 from .own import PROCESS, remove_stale_folders
-from .storage import fetch, is_url
-from .zips import members_of, opened, pieces_of
+from .storage import fetch, is_url, members_of, opened_zip, pieces_of
 
 DIGITS = re.compile(rb"[0-9a-f]{64}\n")
 NEEDED_IN_STRICT_MODE = "12I"  # types whose file may not be empty in strict mode
@@ -143,7 +142,7 @@ def prepared(county: County, order: Order, notes: list[str], stack: ExitStack) -
     unpacked: dict[str, Iterator[bytes]] = {}
     sizes = {kind: file.size for kind, file in county.files.items()}
     if county.zip:
-        archive = stack.enter_context(opened(local(county.zip, stack)))
+        archive = stack.enter_context(opened_zip(local(county.zip, stack)))
         members = members_of(archive)
         unpacked = {kind: pieces_of(archive, member) for kind, member in members.items()}
         sizes = {kind: member.file_size for kind, member in members.items()}

@@ -19,9 +19,10 @@ LOCK = threading.Lock()  # keeps lines whole: it is held while one is printed
 
 def print_lines(lines: Iterable[str]) -> None:
     """Prints lines on standard output. Raises BrokenPipeError if the reader is gone, and Failure if it can't be written."""
+    text = os.fsencode("".join(f"{line}\n" for line in lines))
     try:
-        if text := "".join(f"{line}\n" for line in lines):
-            sys.stdout.buffer.write(os.fsencode(text))
+        if text:
+            sys.stdout.buffer.write(text)
             sys.stdout.buffer.flush()
     except BrokenPipeError:
         raise

@@ -154,21 +154,17 @@ class Verification(Run):
         self.counts = {"OK": 0, "FAILED": 0, "MISSING": 0, "NEW": 0}
         finder = Finder()
         counties = [finder.of_name(joined(options.root, line.stem) if options.root else line.stem) for line in self.lines]
-        counties += self.new_counties({tidy(county.stem) for county in counties})
-        self.judge(counties, flags or ())
-        count = sum(self.counts.values())
-        self.report_end(count, [f"{each:,} {kind}" for kind, each in self.counts.items() if each or kind == "OK"])
-        return int(self.left > 0 or self.counts["OK"] < count)
-
-    def new_counties(self, known: set[str]) -> list[County]:
-        """The counties of the sources that the manifest doesn't have. They aren't judged."""
-        found, _ = Finder().counties(self.options.sources, known.__contains__)
-        troubled = [county for county in found if county.trouble]
+        new, _ = Finder().counties(options.sources, {tidy(county.stem) for county in counties}.__contains__)
+        troubled = [county for county in new if county.trouble]
         for county in troubled:
             report(f"{county.stem}: {county.trouble}")
         if troubled:
             raise Failure("not every source can be read")
-        return [replace(county, trouble="not in the manifest") for county in found]
+        counties += [replace(county, trouble="not in the manifest") for county in new]
+        self.judge(counties, flags or ())
+        count = sum(self.counts.values())
+        self.report_end(count, [f"{each:,} {kind}" for kind, each in self.counts.items() if each or kind == "OK"])
+        return int(self.left > 0 or self.counts["OK"] < count)
 
     def take(self, number: int, county: County, answer: Answer, remarks: str) -> Taken:
         name, kind = county.stem, "NEW"

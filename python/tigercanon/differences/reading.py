@@ -118,13 +118,12 @@ def read_county(text: bytes) -> County:
 def read_chains(records: Records) -> list[Chain]:
     """The chains, in the order of their records of type 1."""
     inner, names, ranges = (by_chain(records[record_type]) for record_type in "246")
-    links = {line[10:20]: line for line in records["I"]}
-
-    def chain(line: str) -> Chain:
+    links, chains = {line[10:20]: line for line in records["I"]}, []
+    for line in records["1"]:
         tlid = line[5:15]
         link = links[tlid]
         feats = [each[at : at + 8] for each in names.get(tlid, ()) for at in range(18, 58, 8)]
-        return Chain(
+        chain = Chain(
             key=f"1{tlid}",
             body=CHAIN.content(line),
             points=line[190:209] + "".join([UNUSED_PLACES.sub("", each[18:]) for each in inner.get(tlid, ())]) + line[209:],
@@ -134,8 +133,8 @@ def read_chains(records: Records) -> list[Chain]:
             nodes=(link[20:30], link[30:40]),
             sides=(intern(link[40:55]), intern(link[55:70])),  # most polygons are on several sides, and share one key
         )
-
-    return [chain(line) for line in records["1"]]
+        chains.append(chain)
+    return chains
 
 
 def by_chain(lines: list[str]) -> dict[str, list[str]]:
