@@ -30,11 +30,21 @@ from . import _library
 from ._library import OutOfMemory, Part, Refusal, Set
 from .version import VERSION as __version__
 
-__all__ = ["FORM", "OutOfMemory", "Part", "Refusal", "Set", "__version__"]
-__all__ += ["check", "compare", "fingerprint", "normalise", "respell"]
+__all__ = [
+    "FORM",
+    "OutOfMemory",
+    "Part",
+    "Refusal",
+    "Set",
+    "__version__",
+    "check",
+    "compare",
+    "fingerprint",
+    "normalise",
+    "respell",
+]
 
-FORM = "tigercanon form 1"
-"""The name of the form of the canonical texts. Cite it with a fingerprint."""
+FORM = "tigercanon form 1"  # the name of the form of the canonical texts. Cite it with a fingerprint.
 
 
 def check(parts: Set) -> None:

@@ -177,7 +177,7 @@ def lent(parts: Set) -> Iterator[tuple[Any, int]]:
 
 
 def parts_of(parts: Set) -> Iterable[Any]:
-    """The parts of a set. A path is one of a file, of a zip, or the stem of a county."""
+    """The parts of a set. A path leads to a file or a zip, or is the stem of a county's files."""
     if not isinstance(parts, (str, os.PathLike)):
         return [parts] if lends_bytes(parts) or hasattr(parts, "read") else parts
     path = os.fspath(parts)

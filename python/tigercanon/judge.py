@@ -93,7 +93,7 @@ class Source:
         """The files that are its parts, in their order."""
         return [file_name(self.place, kind) for kind in TYPES] if self.is_stem else [self.place]
 
-    def ask(self, program: str, job: str, flags: Sequence[str], memory: int | None = None) -> subprocess.CompletedProcess[bytes]:
+    def run(self, program: str, job: str, flags: Sequence[str], memory: int | None = None) -> subprocess.CompletedProcess[bytes]:
         return PROCESS.run([program, job, *["--stem"] * self.is_stem, *flags, "--", self.place], memory)
 
     def complaint(self, ended: subprocess.CompletedProcess[bytes]) -> list[str]:
@@ -116,7 +116,7 @@ def judge(county: County, order: Order) -> Answer:
     try:
         with ExitStack() as stack:
             source = prepared(county, order, notes, stack)
-            ended = source.ask(order.program, "fingerprint", order.flags, order.memory)
+            ended = source.run(order.program, "fingerprint", order.flags, order.memory)
             if ended.returncode == 0 and DIGITS.fullmatch(ended.stdout):
                 return Answer("made", ended.stdout[:64].decode(), tuple(notes))
             line, *hints = source.complaint(ended)

@@ -1,4 +1,4 @@
-"""The processes that a run has started, and the folders and files that it has made: none of them outlives it, but for whole files."""
+"""The processes, folders and files that a run has started or made. None of them outlives it, except files that are whole."""
 
 from __future__ import annotations
 
@@ -73,8 +73,8 @@ class Own:
         room, fits = os.environ.get(VARIABLE, IN_MEMORY), False
         with suppress(OSError):
             fits = bool(room) and shutil.disk_usage(room).free >= size + SPARE
-        made = partial(tempfile.mkdtemp, prefix=PREFIX, dir=room if fits else None)
-        with self.kept(made, remove) as folder, locked(folder, fcntl.LOCK_EX):
+        make = partial(tempfile.mkdtemp, prefix=PREFIX, dir=room if fits else None)
+        with self.kept(make, remove) as folder, locked(folder, fcntl.LOCK_EX):
             yield f"{folder}/county"
 
     def end(self) -> None:

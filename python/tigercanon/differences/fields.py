@@ -9,10 +9,7 @@ from typing import Callable, Hashable, Iterable, NamedTuple, Sequence, TypeVar
 from .columns import CHAIN, LANDMARK, LINK, NAME, POLYGON, RANGE, Layout
 from .reading import NO_POINT, POINT_WIDTH, Chain, County, Landmark, Polygon, PolygonKey
 
-NONE = "(none)"
-BLANK = "(blank)"
-YES = "yes"
-NO = "no"
+NONE, BLANK, YES, NO = "(none)", "(blank)", "yes", "no"
 
 PolygonMarks = dict[PolygonKey, str]
 """What each polygon of a map says. Polygons of two maps that are taken for one have one mark, even where they differ."""

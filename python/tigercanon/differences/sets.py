@@ -70,7 +70,7 @@ def printed(program: str, job: str, flags: Sequence[str], sources: Sequence[Sour
     """What the program prints for each set, all at once. The first set that is rejected is reported."""
 
     def printed_for(source: Source) -> bytes:
-        ended = source.ask(program, job, flags)
+        ended = source.run(program, job, flags)
         if ended.returncode != 0:
             raise Failure(f"{printable(source.name)}: {'; '.join(source.complaint(ended))}")
         return ended.stdout
