@@ -7,7 +7,7 @@ import functools
 import os
 import zipfile
 from contextlib import ExitStack, contextmanager
-from ctypes import c_bool, c_char, c_size_t, c_ssize_t, c_uint8, c_uint64, c_void_p
+from ctypes import c_bool, c_size_t, c_ssize_t, c_uint8, c_uint64, c_void_p
 from pathlib import Path
 from typing import TYPE_CHECKING, Any, BinaryIO, Iterable, Iterator, Union
 
@@ -98,6 +98,9 @@ class Fault(ctypes.Structure):
         return raised(self.number, name, tuple(next(places[kind]) for kind in kinds.split()), self.set or None)
 
 
+bytes_at = ctypes.pythonapi.PyBytes_FromStringAndSize
+bytes_at.argtypes = [c_void_p, c_ssize_t]
+bytes_at.restype = ctypes.py_object
 free = ctypes.CDLL(None).free
 free.argtypes = [c_void_p]
 free.restype = None
@@ -156,7 +159,7 @@ def text_of(name: str, parts: Set, *flags: bool) -> bytes:
     if text.length == 0:
         return b""
     try:
-        return bytes((c_char * text.length).from_address(text.bytes).raw)
+        return bytes(bytes_at(text.bytes, text.length))
     finally:
         free(text.bytes)
 

@@ -32,8 +32,6 @@ class Gone(Exception):
 class Engine:
     """Judges counties side by side: by as many threads as there are processors, or as are asked for."""
 
-    served_at = 0.0  # when there was an answer, or something that could give one
-
     def __init__(self, jobs: int | None) -> None:
         self.pool = ThreadPoolExecutor(jobs or len(os.sched_getaffinity(0)))
 
@@ -53,7 +51,6 @@ class Engine:
         under_way = dict(zip(self.begin([*counties.values()], order), counties))
         for future in [*under_way]:
             future.add_done_callback(done.put)
-        self.served_at = time.monotonic()
         while under_way:
             try:
                 future = done.get(timeout=TICK)
@@ -61,7 +58,6 @@ class Engine:
                 self.look_round(under_way)
                 yield None
                 continue
-            self.served_at = time.monotonic()
             if future in under_way:
                 yield under_way.pop(future), self.answer(future)
 
@@ -86,11 +82,13 @@ class DaskEngine(Engine):
         self.name, self.client = f"the scheduler at {address}", client_of(address)
 
     def begin(self, counties: Sequence[County], order: Order) -> Any:
+        self.served_at = time.monotonic()  # when there was an answer, or something that could give one
         arguments = [astuple(county) for county in counties], [astuple(order)] * len(counties)
         return self.client.map(judge_on_a_worker, *arguments, key="tigercanon", pure=False)
 
     def answer(self, future: Any) -> Answer:
         """The result of a task. A county isn't blamed for a worker that ended unless this also happens to the county alone."""
+        self.served_at = time.monotonic()
         try:
             answer = Answer(*future.result())
         except BaseException as error:
@@ -107,7 +105,6 @@ class DaskEngine(Engine):
         return answer
 
     def look_round(self, under_way: dict[Any, int]) -> None:
-        """Raises Gone if the scheduler is gone, or if there was no worker for a long time."""
         if self.client.status != "running" or any(future.status == "cancelled" for future in under_way):
             raise Gone(f"{self.name} is gone")
         if self.client.scheduler_info().get("workers"):

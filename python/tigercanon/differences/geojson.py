@@ -96,7 +96,6 @@ def property_name(side: str, label: str) -> str:
 
 
 def geometry(points: list[str], is_line: bool = False) -> str:
-    """A line, several points, one, or none."""
     kind = "LineString" if is_line else "MultiPoint" if len(points) > 1 else "Point"
     positions = ",".join(f"[{decimal(point[:10])},{decimal(point[10:])}]" for point in points)
     return f'{{"type":"{kind}","coordinates":{positions if kind == "Point" else f"[{positions}]"}}}' if points else "null"

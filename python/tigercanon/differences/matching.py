@@ -189,13 +189,8 @@ def match_polygons(first: County, second: County, certain: list[Pair[Chain]]) ->
 def match_landmarks(first: Teller, second: Teller) -> Matched[Landmark]:
     """Matches landmarks by their whole content, and the others by their records, points, names and polygons."""
     both = [(landmark, teller) for teller in (first, second) for landmark in teller.county.landmarks]
-    placed = {landmark: tuple(sorted((file, its.marks[key]) for file, key in landmark.places)) for landmark, its in both}
-
-    def places(landmark: Landmark) -> Hashable | None:
-        return placed[landmark] or None
-
-    def bodies(landmark: Landmark) -> Hashable:
-        return tuple(sorted(landmark.bodies))
+    bodies = {landmark: tuple(sorted(landmark.bodies)) for landmark, _ in both}
+    places = {landmark: tuple(sorted((file, its.marks[key]) for file, key in landmark.places)) or None for landmark, its in both}
 
     def column(name: str, landmark: Landmark) -> Hashable | None:
         """A column of the landmark's records, or nothing if it is blank in all."""
@@ -203,8 +198,8 @@ def match_landmarks(first: Teller, second: Teller) -> Matched[Landmark]:
         return values if any(not value.isspace() for value in values) else None
 
     matched = Matched(first.county.landmarks, second.county.landmarks)
-    matched.pair(matched.alike, lambda landmark: (bodies(landmark), places(landmark)))
-    matched.pair(matched.changed, bodies, partial(column, "LALONG, LALAT"), partial(column, "LANAME"), places)
+    matched.pair(matched.alike, lambda landmark: (bodies[landmark], places[landmark]))
+    matched.pair(matched.changed, bodies.get, partial(column, "LALONG, LALAT"), partial(column, "LANAME"), places.get)
     return matched
 
 
