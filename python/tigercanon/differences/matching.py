@@ -16,7 +16,7 @@ from typing import Any, Callable, Generic, Hashable, Iterator, NamedTuple, Optio
 
 from .columns import CHAIN, LANDMARK, RANGE
 from .fields import Pair, Teller, pair_by, rows
-from .reading import NO_POINT, POINT_WIDTH, Chain, County, Landmark, Name, Polygon, PolygonKey
+from .reading import NO_POINT, POINT_WIDTH, Chain, County, Landmark, Name, Polygon
 from .reading import comes_after_its_reverse, each_point, number_of, reversed_points
 
 T = TypeVar("T")

@@ -23,7 +23,6 @@ MOST_CHAINS = 300_000  # with more chains than this, those that are alike are le
 ROOM_FOR_FIELDS = 5_000_000
 """The page has at most this many characters of fields. After them a difference has only its name and its place."""
 
-
 Leaflet = tuple[str, str]  # the script and the style of the library that draws the map
 
 
