@@ -180,13 +180,20 @@ def lent(parts: Set) -> Iterator[tuple[Any, int]]:
 
 
 def parts_of(parts: Set) -> Iterable[Any]:
-    """The parts of a set. A path leads to a file or a zip, or is the stem of a county's files."""
+    """The parts of a set. A path leads to a file or a zip, or is the stem of a county's nine files. An absent one of these is empty."""
     if not isinstance(parts, (str, os.PathLike)):
         return [parts] if lends_bytes(parts) or hasattr(parts, "read") else parts
     path = os.fspath(parts)
     if not os.path.lexists(path):
         return files_behind(path)
-    return files_in_zip(path) if kind_of(path) == "ZIP" or zipfile.is_zipfile(path) else [Path(path).read_bytes()]
+    if kind_of(path) != "ZIP" and not zipfile.is_zipfile(path):
+        return [Path(path).read_bytes()]
+    try:
+        with opened_zip(path) as archive:
+            members = members_of(archive)
+            return [b"".join(pieces_of(archive, members[kind])) if kind in members else b"" for kind in TYPES]
+    except Unreadable as fault:
+        raise ValueError(f"{path}: {fault}") from None
 
 
 def view_of(part: Any) -> memoryview:
@@ -212,7 +219,7 @@ def lends_bytes(part: object) -> bool:
 
 
 def files_behind(stem: str) -> list[bytes]:
-    """The nine files whose names begin with the stem, in either case of their endings. An absent one is empty."""
+    """The nine files whose names begin with the stem, in either case of their endings."""
     folder, base = os.path.split(stem)
     found: dict[str, str] = {}
     for name in os.listdir(folder or ".") if os.path.isdir(folder or ".") else []:
@@ -222,13 +229,3 @@ def files_behind(stem: str) -> list[bytes]:
     if not found:
         raise FileNotFoundError(f"there is no file {stem}, and no county's files begin with this name")
     return [Path(folder, found[kind]).read_bytes() if kind in found else b"" for kind in TYPES]
-
-
-def files_in_zip(path: str) -> list[bytes]:
-    """The nine files of the one county in a zip. An absent one is empty."""
-    try:
-        with opened_zip(path) as archive:
-            members = members_of(archive)
-            return [b"".join(pieces_of(archive, members[kind])) if kind in members else b"" for kind in TYPES]
-    except Unreadable as fault:
-        raise ValueError(f"{path}: {fault}") from None

@@ -18,7 +18,6 @@ Properties = dict[str, Any]
 BothOwn = Sequence[OwnNumbers]
 ABOUT = "Where two maps differ, found by tigercanon-tools diff: an aid, and not proved."
 SIDES = ("first", "second")
-Feature = tuple[str, Properties]  # a difference: its geometry as JSON, and its properties
 
 
 def write_geojson(file: NewFile, comparison: Comparison, sets: Sets, own: BothOwn, with_alike: bool) -> None:
@@ -40,12 +39,12 @@ def head(comparison: Comparison, sets: Sets) -> Properties:
     return told
 
 
-def features(comparison: Comparison, own: BothOwn, with_alike: bool = False) -> Iterator[Feature]:
-    """A feature for each thing that isn't alike, or for each one, and for each tie."""
+def features(comparison: Comparison, own: BothOwn, with_alike: bool = False) -> Iterator[tuple[str, Properties]]:
+    """A geometry in JSON and properties for each thing that isn't alike, or for each one, and for each tie."""
     for thing in things(comparison, with_alike):
         yield geometry(thing.points, is_line=thing.what == "chain"), properties(thing, own)
     for tie in comparison.ties:
-        yield tie_feature(tie, own[0])
+        yield geometry(tie.points), tie_properties(tie, own[0])
 
 
 def properties(thing: Thing, own: BothOwn) -> Properties:
@@ -66,14 +65,14 @@ def properties(thing: Thing, own: BothOwn) -> Properties:
     return told
 
 
-def tie_feature(tie: Tie, own: OwnNumbers) -> Feature:
+def tie_properties(tie: Tie, own: OwnNumbers) -> Properties:
     """What is one in one map and several in the other, at the places where chains have it. These have the first set's numbers."""
     counts = (1, len(tie.groups)) if tie.is_one_in_first else (len(tie.groups), 1)
     told: Properties = {"what": "tie", "kind": KINDS[2], "title": tie_line(tie).rstrip(":"), "differs": tie.subject}
     told.update({f"{side}_count": count for side, count in zip(SIDES, counts)})
     told["places"] = " | ".join("; ".join(map(tied_place, group)) for group in tie.groups)
     told["first_TLIDs"] = " | ".join("; ".join(str(own.get(at.chain.key, "")) for at in group) for group in tie.groups)
-    return geometry(tie.points), told
+    return told
 
 
 def values(side: str, name: FieldName, shown: str | None, exact: str) -> Properties:

@@ -23,11 +23,9 @@ MOST_CHAINS = 300_000  # with more chains than this, those that are alike are le
 ROOM_FOR_FIELDS = 5_000_000
 """The page has at most this many characters of fields. After them a difference has only its name and its place."""
 
-Leaflet = tuple[str, str]  # the script and the style of the library that draws the map
 
-
-def find_leaflet(folder: str | None) -> Leaflet:
-    """Leaflet, from a folder or from where Debian puts it."""
+def find_leaflet(folder: str | None) -> tuple[str, str]:
+    """The script and the style of Leaflet, from a folder or from where Debian puts them."""
     place = Path(DEBIAN_LEAFLET if folder is None else folder)
     for name in ("leaflet.min.js", "leaflet.js"):
         with suppress(OSError, UnicodeDecodeError):
@@ -118,7 +116,7 @@ class PageData:
         return [self.line([point]) for point in points]
 
 
-def write_page(file: NewFile, comparison: Comparison, sets: Sets, leaflet: Leaflet) -> None:
+def write_page(file: NewFile, comparison: Comparison, sets: Sets, leaflet: tuple[str, str]) -> None:
     script, style = leaflet
     parts = {
         # The style without the files that it names, and the script as an element can hold it, without the file that its end names.
