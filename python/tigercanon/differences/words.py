@@ -41,9 +41,9 @@ class Thing(NamedTuple):
 
 
 def chain(found: Comparison, kind: str, one: Any, other: Any) -> Thing:
-    points = each_point((one or other).points)
+    title, points = chain_title(one or other), each_point((one or other).points)
     about = f"{len(points)} points, from {degrees(points[0])} to {degrees(points[-1])}"
-    title, (first, second) = chain_title(one or other), (found.first.chain, found.second.chain)
+    first, second = found.first.chain, found.second.chain
     return Thing("chain", kind, one, other, title, about, points, "TLID", lambda: rows(one and first(one), other and second(other)))
 
 
