@@ -11,9 +11,6 @@ from .reading import NO_POINT, POINT_WIDTH, Chain, County, Landmark, Polygon, Po
 
 NONE, BLANK, YES, NO = "(none)", "(blank)", "yes", "no"
 
-PolygonMarks = dict[PolygonKey, str]
-"""What each polygon of a map says. Polygons of two maps that are taken for one have one mark, even where they differ."""
-
 T = TypeVar("T")
 Pair = tuple[T, T]
 
@@ -53,10 +50,10 @@ class Row(NamedTuple):
 
 
 class Teller(NamedTuple):
-    """Tells what the parts of one map say."""
+    """Tells what the parts of one map say. Polygons of two maps that are taken for one have one mark, even where they differ."""
 
     county: County
-    marks: PolygonMarks
+    marks: dict[PolygonKey, str]
 
     def chain(self, chain: Chain) -> Fields:
         fields = text_fields(CHAIN, chain.body)
