@@ -6,7 +6,7 @@ import argparse
 import os
 from contextlib import closing, nullcontext
 from dataclasses import replace
-from typing import Any, Optional, Sequence
+from typing import Any, Sequence
 
 from .counties import Finder
 from .engines import DaskEngine, Engine, Gone
@@ -30,10 +30,6 @@ def order_of(options: argparse.Namespace, flags: tuple[str, ...], is_strict: boo
     return Order(program, flags, is_strict, options.largest, options.memory)
 
 
-Taken = tuple[str, Optional[str], Optional[dict[str, Any]]]
-"""What is reported about a result, and the line and the row in JSON that are printed, if they are."""
-
-
 class Run:
     """A command that judges counties, and the tally of them."""
 
@@ -42,8 +38,9 @@ class Run:
         self.gone, self.left, self.next = "", 0, 0
         self.waiting: dict[int, Any] = {}
 
-    def take(self, number: int, county: County, answer: Answer, remarks: str) -> Taken:
-        """Takes a result. Remarks are why there is no fingerprint, and notes about the files."""
+    def take(self, number: int, county: County, answer: Answer, remarks: str) -> tuple[str, str | None, dict[str, Any] | None]:
+        """Takes a result. Returns the report about it, and what is printed if anything is: a line, or a row in JSON. Remarks are why
+        there is no fingerprint, and notes about the files."""
         raise NotImplementedError
 
     def judge(self, counties: list[County], flags: tuple[str, ...], is_strict: bool = False) -> None:
@@ -134,7 +131,7 @@ class Fingerprints(Run):
             report(f"skipped: {counted(sum(finder.skipped.values()), 'file', 'files')} ({found})")
         return counties, before
 
-    def take(self, number: int, county: County, answer: Answer, remarks: str) -> Taken:
+    def take(self, number: int, county: County, answer: Answer, remarks: str) -> tuple[str, str | None, dict[str, Any] | None]:
         line = Line(answer.text, county.stem) if answer.kind == "made" else None
         if line and self.manifest:
             self.manifest.add(line)
@@ -166,7 +163,7 @@ class Verification(Run):
         self.report_end(count, [f"{each:,} {kind}" for kind, each in self.counts.items() if each or kind == "OK"])
         return int(self.left > 0 or self.counts["OK"] < count)
 
-    def take(self, number: int, county: County, answer: Answer, remarks: str) -> Taken:
+    def take(self, number: int, county: County, answer: Answer, remarks: str) -> tuple[str, str | None, dict[str, Any] | None]:
         name, kind = county.stem, "NEW"
         if number < len(self.lines):
             fingerprint, name = self.lines[number]
