@@ -15,7 +15,7 @@ from tigercanon.differences.fields import decimal, degrees
 from tigercanon.differences.matching import Comparison, compare
 from tigercanon.differences.reading import NotCanonical, read_county
 from tigercanon.differences.sets import Canonical, Sets
-from tigercanon.differences.things import Thing, things
+from tigercanon.differences.words import Thing, things
 from tigercanon.differences.words import ONE_MAP, TIED, told
 
 from .changes import made_county
