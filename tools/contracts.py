@@ -136,7 +136,7 @@ class CodeFile:
         return owner and Block(owner[1], "impl", of_trait and of_trait[1])
 
     def clauses(self, at, depth):
-        """The clauses of a function: those up to the next line that is indented no more than it and isn't a bracket."""
+        """The clauses of a function. They end before the next line that isn't indented further and doesn't begin with a bracket."""
         end = re.compile(rf"^ {{0,{depth}}}(?!where\b)[^\s)>]", re.M).search(self.text, at).start()
         clauses = []
         for clause in CLAUSE.finditer(self.text, at, end):

@@ -57,7 +57,7 @@ def try_c(tests: Tests, place: Path, fingerprint: str) -> None:
 
 
 def try_input(tests: Tests, place: Path) -> None:
-    """The program of the page with a refused set, with a long one, all of which it reads, and with what can't be read."""
+    """Tries the guide's program on a refused set, on a long one, which it reads whole, and on a folder, which can't be read."""
     refused = run([place / "one"], input=REFUSED.read_bytes())
     tests.equal("the guide's program with a refused set", Answer(1, b"", b"refused 4 BadNumber 1 4 6\n"), refused)
     record = (ROOT / "examples/autauga/canonical.txt").read_bytes().partition(b"\n")[0] + b"\n"

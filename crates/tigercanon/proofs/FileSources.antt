@@ -1,4 +1,4 @@
--- The bytes read from sources over files are in the files.
+-- The bytes read from sources over files are in the files, and what is reported for files that aren't read.
 use Rattle.tigercanon.proofs.Common.{◌≡◌, ◌<◌, ◌⊎◌, ℕ, List, [], ◌∷◌, ◌++◌, map, Option, Some, None, inl, inr, refl, sym, ap}
 use Rattle.tigercanon.proofs.Common.{arith, subst, All, IfSome, MAX, Consumes, LoadFault, Fault, Load, Opened, bytes_of}
 use Rattle.tigercanon.proofs.Common.{Job, set_of_sources, AreRead, AreReadUpTo, record_limit, IsFirstFault, set_of_files}
@@ -67,7 +67,7 @@ module _ {R : Type 0} (remaining : R → Option (List ℕ)) where
     (is_known (bytes_of remaining f), rest.1),
   )
 
-  -- ---- a job whose files couldn't be opened, or not kept open
+  -- ---- what is reported if a file is missing, or if there is no memory for the sources
 
   abbrev file_set : List (Opened R) → GivenSet
   file_set = set_of_files remaining

@@ -70,7 +70,7 @@ pub record HoldsAccepted (set : GivenSet) : Type 0 where
   pub records : List Record
   pub accepted : IsAcceptedSet parts records
 
--- the set was read, so that it's known what it holds
+-- the set was read, so it's known what it holds
 abbrev pub IsRead : GivenSet → Type 0
 IsRead set = (parts : List (List ℕ)) × set.holds parts
 

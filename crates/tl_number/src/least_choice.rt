@@ -284,8 +284,8 @@ fn find_tie<C: Chart>(
     false
 }
 
-/// The number of the choice with the least text among those with the least records of type 1, given the first two of these. `kept` is
-/// overwritten.
+/// The number of the choice with the least text among those with the least records of type 1, given the first two of these. `kept` can
+/// be any choice, and is overwritten.
 fn least_among_ties<C: Chart>(
     alloc: Global,
     chart: &C,
@@ -320,7 +320,7 @@ fn least_among_ties<C: Chart>(
     Ok(number)
 }
 
-/// The same, with a choice that is overwritten.
+/// The same. Makes the choice that is overwritten.
 fn least_by_tables<C: Chart>(
     alloc: Global,
     chart: &C,
@@ -341,7 +341,7 @@ fn least_by_tables<C: Chart>(
     least_among_ties(alloc, chart, order, tables, first, &mut kept, other)
 }
 
-/// The same, with the tables that it takes.
+/// The same. Makes the tables too.
 fn least_of_ties<C: Chart>(
     alloc: Global,
     chart: &C,

@@ -147,8 +147,8 @@ def test_numbers(files: Files, all_features: Path, room: Path) -> None:
 
 
 def test_all(changing: Changing, files: Files, all_features: Path) -> None:
-    """With --all there is a feature for each chain, landmark and polygon of both maps. Canonical numbers are those of the canonical text,
-    which numbers chains from 1. Points are numbers, and a field for the presence of something is true or false."""
+    """With --all there is a feature for each chain, landmark and polygon of both maps. It also has the number in the canonical text,
+    where chains are numbered from 1. Points are numbers, and a field that says whether something is there is true or false."""
     found = [feature["properties"] for feature in features_in(all_features)]
     assert Counter((each["what"], each["kind"]) for each in found if each["what"] in SUBJECTS) == changing.counts()
     numbers = sorted(each["canonical_first_TLID"] for each in found if "canonical_first_TLID" in each)
