@@ -1,5 +1,5 @@
 -- Places and numbers at which choices can differ, and what is made of them to compare choices that tie.
-use Rattle.std.specs.Prelude.{ℕ, zero, suc, ◌≡◌, ◌+◌, ◌&&◌, ◌||◌, List, [], ◌∷◌, Bool, cond, false, filter, is_some, length, map, not, option_to_list, slice_get, true}
+use Rattle.std.specs.Prelude.{ℕ, zero, suc, ◌≡◌, ◌+◌, ◌&&◌, ◌||◌, List, [], ◌∷◌, Bool, cond, false, filter, is_some, length, map, option_to_list, slice_get, true}
 use Rattle.std.specs.List.{list_any, range_with_len}
 use Rattle.std.specs.Option.{option_and_then}
 use Rattle.std.specs.Ordering.{nat_cmp}
@@ -12,23 +12,11 @@ use Rattle.tl_county.specs.PolygonKeys.{PolygonKey, key_cmp}
 use Rattle.tl_county.specs.declared.directed_chain.DirectedChain.{DirectedChain}
 use Rattle.tl_profile.specs.ShapeOrder.{OrderOfShapes}
 use Rattle.tl_profile.specs.declared.open_places.OpenPlace.{OpenPlace}
-use Rattle.tl_number.specs.Groups.{group_at, grouped}
+use Rattle.tl_number.specs.CriticalKeys.{brings}
 use Rattle.tl_number.specs.OpenKeys.{AreOpenKeys, first_open, is_open, keys_along, open_among}
 use Rattle.tl_number.specs.declared.open_keys.OpenKeys.{OpenKeys}
 use Rattle.tl_number.specs.declared.tie_tables.OpenOrder.{OpenOrder}
 use Rattle.tl_number.specs.declared.tie_tables.TieTables.{TieTables}
-
--- the keys at the fixed ones of the first places
-abbrev pub fixed_keys : {K : Type 0} → List OpenPlace → List (List K) → ℕ → List K
-fixed_keys places along count = grouped (map (group_at along) (filter (λ place. not (is_open places place)) (range_with_len 0 count)))
-
--- whether one of the keys is open, and isn't among those met before
-abbrev pub has_new : {K : Type 0} → (K → K → Ordering) → List K → List K → List K → Bool
-has_new cmp opened met keys = list_any (λ key. stands_in cmp key opened && not (stands_in cmp key met)) keys
-
--- whether a place has an open key that no fixed place before it has
-abbrev pub brings : {K : Type 0} → (K → K → Ordering) → List OpenPlace → List K → List (List K) → ℕ → Bool
-brings cmp places opened along place = has_new cmp opened (fixed_keys places along place) (group_at along place)
 
 -- whether records of type I can differ at a place when they tie at all earlier ones: it's open, or the first fixed place of an open key
 abbrev pub is_critical : List OpenPlace → List ℕ → List (List ℕ) → List PolygonKey → List (List PolygonKey) → ℕ → Bool

@@ -9,7 +9,7 @@ use Rattle.tl_number.proofs.Common.{OpenPlace, renaming_of, renumbered, slice_ge
 use Rattle.ordered_lists.proofs.ByKey.Keys.{known-append, known-left}
 use Rattle.tl_shape.specs.Turned.{turned}
 use Rattle.tl_number.specs.ChoiceSearch.{LeavesChoices}
-use Rattle.tl_number.specs.CriticalPlaces.{brings, fixed_keys}
+use Rattle.tl_number.specs.CriticalKeys.{brings, fixed_keys}
 use Rattle.tl_number.specs.declared.open_keys.OpenKeys.{OpenKeys}
 use Rattle.tl_number.proofs.Choices.ChosenArrangements.{arrangement_of_number_apart}
 use Rattle.tl_number.proofs.Landmarks.LandmarkLinks.{pieces_next}

@@ -8,7 +8,8 @@ use Rattle.std.specs.Option.{option_and_then}
 use Rattle.ordered_lists.proofs.ByKey.Keys.{known-later}
 use Rattle.ordered_lists.proofs.Lists.Reordered.{stands_alike}
 use Rattle.tl_county.specs.ChartWords.{polygon_under}
-use Rattle.tl_number.specs.CriticalPlaces.{brings, critical_from, fixed_keys, has_new}
+use Rattle.tl_number.specs.CriticalKeys.{brings, fixed_keys, has_new}
+use Rattle.tl_number.specs.CriticalPlaces.{critical_from}
 use Rattle.tl_number.specs.declared.open_keys.OpenKeys.{OpenKeys}
 use Rattle.tl_number.proofs.Numbering.FirstSeen.{from_first_seen, to_first_seen}
 use Rattle.tl_number.proofs.Numbering.SeenLists.{seen_append}

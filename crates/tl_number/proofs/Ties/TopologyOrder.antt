@@ -15,7 +15,8 @@ use Rattle.tl_county.specs.Renumbering.{renumbered_side}
 use Rattle.tl_layout.specs.RecordText.{FitsRecord}
 use Rattle.tl_shape.specs.Turned.{turned}
 use Rattle.tl_number.specs.ChoiceSearch.{LeavesChoices}
-use Rattle.tl_number.specs.CriticalPlaces.{brings, is_critical}
+use Rattle.tl_number.specs.CriticalKeys.{brings}
+use Rattle.tl_number.specs.CriticalPlaces.{is_critical}
 use Rattle.tl_number.specs.declared.tie_tables.TieTables.{TieTables}
 use Rattle.tl_number.proofs.Lists.Counting.{flat_map-map}
 use Rattle.tl_number.proofs.Numbering.NewNumbers.{image-numbered, image-under_cenid}

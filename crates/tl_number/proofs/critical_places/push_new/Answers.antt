@@ -1,6 +1,6 @@
 use Rattle.tl_number.proofs.Common.{◌≡◌, ◌++◌, ◌∷◌, [], ◌∙◌, ap, ap₂, arith, IsKeyOrder, Some, range_with_len, keys_at, length, map, option_map, slice_get, slice_get-get_or, slice_get-map, sym}
 use Rattle.std.proofs.lemmas.List.FromFn.{map-range_with_len_more}
-use Rattle.tl_number.specs.CriticalPlaces.{brings}
+use Rattle.tl_number.specs.CriticalKeys.{brings}
 use Rattle.tl_number.proofs.Ties.CriticalNumbers.{brought_here, met_more}
 use Rattle.tl_number.proofs.critical_places.push_new.Goals.{After-index-pairs-place}
 use Rattle.tl_number.proofs.critical_places.push_new.Goals as goal

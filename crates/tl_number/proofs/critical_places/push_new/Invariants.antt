@@ -1,6 +1,6 @@
 -- the places so far, and the open keys of the fixed ones among them
 use Rattle.tl_number.proofs.Common.{◌≡◌, filter, first_seen, keys_at, map, range_with_len, stands_in}
-use Rattle.tl_number.specs.CriticalPlaces.{brings, fixed_keys}
+use Rattle.tl_number.specs.CriticalKeys.{brings, fixed_keys}
 use Rattle.tl_number.proofs.critical_places.push_new.Given as goal
 
 abbrev pub invariant-loop-place : goal.invariant-loop-place

@@ -1,0 +1,20 @@
+-- Places at which a key appears that first appears at an open place.
+use Rattle.std.specs.Prelude.{ℕ, ◌&&◌, List, Bool, filter, map, not}
+use Rattle.std.specs.List.{list_any, range_with_len}
+use Rattle.std.specs.declared.cmp.Ordering.{Ordering}
+use Rattle.ordered_lists.specs.Orders.{stands_in}
+use Rattle.tl_profile.specs.declared.open_places.OpenPlace.{OpenPlace}
+use Rattle.tl_number.specs.Groups.{group_at, grouped}
+use Rattle.tl_number.specs.OpenKeys.{is_open}
+
+-- the keys at the fixed ones of the first places
+abbrev pub fixed_keys : {K : Type 0} → List OpenPlace → List (List K) → ℕ → List K
+fixed_keys places along count = grouped (map (group_at along) (filter (λ place. not (is_open places place)) (range_with_len 0 count)))
+
+-- whether one of the keys is open, and isn't among those met before
+abbrev pub has_new : {K : Type 0} → (K → K → Ordering) → List K → List K → List K → Bool
+has_new cmp opened met keys = list_any (λ key. stands_in cmp key opened && not (stands_in cmp key met)) keys
+
+-- whether a place has an open key that no fixed place before it has
+abbrev pub brings : {K : Type 0} → (K → K → Ordering) → List OpenPlace → List K → List (List K) → ℕ → Bool
+brings cmp places opened along place = has_new cmp opened (fixed_keys places along place) (group_at along place)
