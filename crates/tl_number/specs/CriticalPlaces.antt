@@ -13,6 +13,7 @@ use Rattle.tl_county.specs.declared.directed_chain.DirectedChain.{DirectedChain}
 use Rattle.tl_profile.specs.ShapeOrder.{OrderOfShapes}
 use Rattle.tl_profile.specs.declared.open_places.OpenPlace.{OpenPlace}
 use Rattle.tl_number.specs.CriticalKeys.{brings}
+use Rattle.tl_number.specs.OpenNames.{AreOpenNames}
 use Rattle.tl_number.specs.OpenKeys.{AreOpenKeys, first_open, is_open, keys_along, open_among}
 use Rattle.tl_number.specs.declared.open_keys.OpenKeys.{OpenKeys}
 use Rattle.tl_number.specs.declared.tie_tables.OpenOrder.{OpenOrder}
@@ -56,6 +57,7 @@ has_open_link county opened = list_any (λ link. stands_in key_cmp (link_key lin
 pub record AreTieTables (county : County) (shapes : OrderOfShapes) (tables : TieTables) : Type 0 where
   pub nodes : AreOpenKeys nat_cmp shapes.places (keys_along chain_nodes county shapes.by_shape) tables.nodes
   pub polygons : AreOpenKeys key_cmp shapes.places (keys_along chain_polygons county shapes.by_shape) tables.polygons
+  pub names : AreOpenNames county shapes tables.names
   pub opened : tables.opened.items ≡ open_among shapes.places (length shapes.by_shape)
   pub critical : tables.critical.items ≡ critical_among shapes.places tables.nodes.opened (keys_along chain_nodes county shapes.by_shape)
       tables.polygons.opened (keys_along chain_polygons county shapes.by_shape) (length shapes.by_shape)

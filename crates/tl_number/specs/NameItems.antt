@@ -1,9 +1,10 @@
 -- Names with the ranks of their first uses, and the order of names.
-use Rattle.std.specs.Prelude.{ℕ, ◌+◌, List, flat_map, Option, Some, None, slice_get}
+use Rattle.std.specs.Prelude.{ℕ, ◌≡◌, ◌+◌, List, flat_map, map, Option, Some, None, slice_get, IsPermutation}
 use Rattle.std.specs.declared.cmp.Ordering.{Ordering}
 use Rattle.std.specs.List.{position}
 use Rattle.std.specs.Option.{option_cmp}
 use Rattle.std.specs.Ordering.{is_eq, nat_cmp, ordering_then}
+use Rattle.ordered_lists.specs.Orders.{IsInOrder}
 use Rattle.tl_county.specs.BodyOrder.{name_body_cmp}
 use Rattle.tl_county.specs.ChartWords.{feats_of, name_at}
 use Rattle.tl_county.specs.County.{County}
@@ -38,3 +39,10 @@ abbrev pub ranked_cmp : County → RankedName → RankedName → Ordering
 ranked_cmp county a b =
     ordering_then (option_cmp name_body_cmp (name_at county a.place) (name_at county b.place))
     (ordering_then (nat_cmp a.rank b.rank) (nat_cmp a.place b.place))
+
+-- these are the places of the ranked names in their order
+pub record AreSortedNames (county : County) (names : List RankedName) (places : List ℕ) : Type 0 where
+  pub items : List RankedName
+  pub all : IsPermutation names items
+  pub in_order : IsInOrder (ranked_cmp county) items
+  pub places_of : places ≡ map ranked_place items

@@ -1,5 +1,5 @@
 -- Names whose numbers differ from choice to choice, and the records of type 4 that they stand in.
-use Rattle.std.specs.Prelude.{ℕ, ◌≡◌, ◌+◌, ◌||◌, List, [], Bool, filter, map, Option, Some, None}
+use Rattle.std.specs.Prelude.{ℕ, ◌≡◌, ◌≤◌, ◌+◌, ◌||◌, List, [], Bool, filter, length, map, Option, Some, None}
 use Rattle.std.specs.List.{range_with_len}
 use Rattle.std.specs.Ordering.{nat_cmp}
 use Rattle.ordered_lists.specs.Entries.{entry_keys}
@@ -8,7 +8,9 @@ use Rattle.tl_layout.specs.Fields.{Fields4}
 use Rattle.tl_shape.specs.Chain.{Chain}
 use Rattle.tl_county.specs.ChartWords.{feats_of}
 use Rattle.tl_county.specs.County.{County}
+use Rattle.tl_county.specs.CountyRules.{feats}
 use Rattle.tl_county.specs.DirectedChains.{directed_chain}
+use Rattle.tl_county.specs.Limits.{most_records}
 use Rattle.tl_county.specs.Packing.{in_pieces, numbered_from}
 use Rattle.tl_county.specs.declared.directed_chain.DirectedChain.{DirectedChain}
 use Rattle.tl_profile.specs.ShapeOrder.{OrderOfShapes}
@@ -18,7 +20,9 @@ use Rattle.tl_number.specs.CriticalKeys.{brings}
 use Rattle.tl_number.specs.DirectedChains.{arrangement_of}
 use Rattle.tl_number.specs.OpenKeys.{first_open, is_open, keys_along, place_by_order, place_in}
 use Rattle.tl_number.specs.OpenRanges.{open_chain}
+use Rattle.tl_number.specs.ViewFacts.{AreReadAt}
 use Rattle.tl_number.specs.declared.open_keys.OpenKeys.{OpenKeys}
+use Rattle.tl_number.specs.declared.open_names.OpenNames.{OpenNames}
 
 -- the FEATs of a chain's further names
 abbrev pub chain_feats : Chain → List ℕ
@@ -36,15 +40,23 @@ feats_in_order county arrangement = entry_keys (names_in_order county (arrangeme
 abbrev pub feats_among : List ℕ → County → List DirectedChain → List ℕ
 feats_among opened county arrangement = filter (λ feat. stands_in nat_cmp feat opened) (feats_in_order county arrangement)
 
--- all names in their order in the order of shapes, those that first appear at an open place, and where they are among all
-pub record AreOpenNames (county : County) (shapes : OrderOfShapes) (names : OpenKeys (List ℕ)) : Type 0 where
-  pub all : names.all ≡ feats_in_order county shapes.by_shape
-  pub opened : names.opened ≡ feats_among (open_feats county shapes.places shapes.by_shape) county shapes.by_shape
-  pub there : names.places.items ≡ map (place_in nat_cmp names.all) names.opened
+-- the FEATs of all names in their order in the order of shapes, those that first appear at an open place, and where they are among all
+pub record AreOpenFeats (county : County) (shapes : OrderOfShapes) (feats : OpenKeys (List ℕ)) : Type 0 where
+  pub all : feats.all ≡ feats_in_order county shapes.by_shape
+  pub opened : feats.opened ≡ feats_among (open_feats county shapes.places shapes.by_shape) county shapes.by_shape
+  pub there : feats.places.items ≡ map (place_in nat_cmp feats.all) feats.opened
+
+-- the county has names with these FEATs at these places
+abbrev pub AreNamesAt : County → List ℕ → List ℕ → Type 0
+AreNamesAt county named places = AreReadAt (feats county) places named
 
 -- the number of a name in a choice, given the open names in their order
 abbrev pub numbered_feat : OpenKeys (List ℕ) → List ℕ → ℕ → ℕ
 numbered_feat names order feat = place_by_order nat_cmp names order feat + 1
+
+-- no place of a name in a choice is above the number of records that a county can have
+abbrev pub AreFewFeats : OpenKeys (List ℕ) → List ℕ → Type 0
+AreFewFeats feats order = (feat : ℕ) → place_by_order nat_cmp feats order feat ≤ most_records
 
 -- the type 4 records with these FEATs and this TLID
 abbrev pub fours_under : ℕ → List ℕ → List Fields4
@@ -65,3 +77,10 @@ is_named places opened along place = is_open places place || brings nat_cmp plac
 
 abbrev pub named_among : List OpenPlace → List ℕ → List (List ℕ) → ℕ → List ℕ
 named_among places opened along count = filter (is_named places opened along) (range_with_len 0 count)
+
+-- the names of a county whose chains are in the order of their shapes
+pub record AreOpenNames (county : County) (shapes : OrderOfShapes) (names : OpenNames) : Type 0 where
+  pub feats : AreOpenFeats county shapes names.feats
+  pub places : AreNamesAt county names.feats.opened names.places.items
+  pub critical : names.critical.items
+      ≡ named_among shapes.places names.feats.opened (keys_along chain_feats county shapes.by_shape) (length shapes.by_shape)

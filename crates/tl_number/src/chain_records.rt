@@ -15,7 +15,7 @@ use tl_layout::{Point, Rec1, Rec2, Rec4, Rec6, RecI, Tabled};
 const POINTS_A_RECORD: usize = 10;
 
 /// The number of further names in a full record of type 4.
-const NAMES_A_RECORD: usize = 5;
+pub(crate) const NAMES_A_RECORD: usize = 5;
 
 /// The number of a record among the chain's records of the same type (RTSQ), counted from 1.
 pub(crate) fn sequence_number(place: usize) -> u16
@@ -36,7 +36,7 @@ fn chain_tlid<C: Chart>(chart: &C, place: usize) -> u64
 }
 
 /// The items of a list from one of them on, at most `N`.
-fn items_from<const N: usize, L: Listed>(list: &L, first: usize) -> ArrayVec<L::Item, N>
+pub(crate) fn items_from<const N: usize, L: Listed>(list: &L, first: usize) -> ArrayVec<L::Item, N>
 where
     L::Item: Default + Drop,
     requires { first < length (L.items list.now) }

@@ -1,113 +1,101 @@
 //! The places and the numbers at which choices can differ when they tie at all earlier ones.
 //!
-//! Records of type I can differ at open places, and at the first fixed place of an open key. At a later fixed place with the same key
+//! Records of types 4 and I can differ at open places, and at the first fixed place of an open key. At a later fixed place with the same key
 //! they can't: there the key has the same number in both choices, or they differed before. Records of type P can only differ under the
 //! numbers of open polygons. Where one choice has a record and the other has none, the next record decides, so the first fixed one
 //! after each run of open numbers is looked at too.
 
 ghost use Rattle.std.specs.List.{list_any, range_with_len};
 ghost use Rattle.std.specs.Option.{option_and_then};
-ghost use Rattle.std.specs.Prelude.{◌≡◌, ◌&&◌, ◌||◌, ◌++◌, ◌+◌, ◌<◌, ◌^◌, [], ℕ, suc, IfOk, OnOk, cond, false, filter, get_or, is_some, length, map, option_to_list};
+ghost use Rattle.std.specs.Prelude.{◌≡◌, ◌&&◌, ◌||◌, ◌++◌, ◌+◌, ◌<◌, ◌^◌, [], ℕ, suc, IfOk, OnOk, cond, false, filter, get_or, is_some, length, map, not, option_to_list};
 ghost use Rattle.ordered_lists.specs.Orders.{stands_in};
 ghost use Rattle.tl_county.specs.ChartWords.{links_at, polygon_under};
 ghost use Rattle.tl_county.specs.County.{link_key};
 ghost use Rattle.tl_county.specs.PolygonKeys.{key_cmp};
 ghost use Rattle.tl_number.specs.CriticalKeys.{brings, has_new};
 ghost use Rattle.tl_number.specs.CriticalPlaces.{critical_from, has_open_link};
-ghost use Rattle.tl_number.specs.EndsAndSides.{keys_at};
 ghost use Rattle.tl_number.specs.Growth.{first_seen_after};
 ghost use Rattle.tl_number.specs.OpenKeys.{is_open, open_among as open_places_among};
 
-use crate::first_appearance::Half;
-use crate::numbers::Interner;
-use crate::open_keys::{OpenKeys, has_key, is_open_at, see_if_opened};
+use crate::key_groups::KeyGroups;
+use crate::numbers::{Interner, NumericKey};
+use crate::open_keys::{OpenKeys, has_key, is_open_at, see_opened};
+use ordered_lists::Key;
 use std::alloc::{AllocError, Global};
+use std::hash::Hash;
 use tl_county::{Chart, PolygonKey};
 use tl_layout::Rec8;
 use tl_profile::OpenPlace;
 
-/// Whether the key of an end or a side is open, and wasn't met before.
-fn is_new<T: Half>(opened: &Interner<T::Old>, met: &Interner<T::Old>, half: T) -> bool
-    ensures { result ≡ has_new T.Old.cmp opened.now met.now (T.keys half) }
+/// Whether a key is open, and wasn't met before.
+fn is_new<K: Key + Hash + NumericKey>(opened: &Interner<K>, met: &Interner<K>, key: K) -> bool
+    ensures { result ≡ (stands_in K.cmp key opened.now && not (stands_in K.cmp key met.now)) }
 {
-    match half.key() {
-        Some(key) => has_key(opened, key) && !has_key(met, key),
-        None => false,
-    }
+    has_key(opened, key) && !has_key(met, key)
 }
 
-/// Whether one of both ends or sides has an open key that wasn't met before.
-fn has_new_key<T: Half>(opened: &Interner<T::Old>, met: &Interner<T::Old>, pair: (T, T)) -> bool
-    ensures { result ≡ has_new T.Old.cmp opened.now met.now (keys_at T.keys pair) }
+/// Whether one of these keys is open, and wasn't met before.
+fn has_new_key<K: Key + Hash + NumericKey>(
+    opened: &Interner<K>,
+    met: &Interner<K>,
+    keys: &[K],
+) -> bool
+    ensures { result ≡ has_new K.cmp opened.now met.now keys.now }
 {
-    let (first, second) = pair;
-    is_new(opened, met, first) || is_new(opened, met, second)
+    keys.iter().any(|key| is_new(opened, met, *key))
 }
 
-/// Meets the open keys of both ends or sides.
-fn meet<T: Half>(
-    opened: &Interner<T::Old>,
-    met: &mut Interner<T::Old>,
-    pair: (T, T),
-) -> Result<(), AllocError>
-    ensures { OnOk result (met.new ≡ first_seen_after T.Old.cmp met.old (filter (λ key. stands_in T.Old.cmp key opened.now) (keys_at T.keys pair))) }
-{
-    let (first, second) = pair;
-    see_if_opened(opened, met, first)?;
-    see_if_opened(opened, met, second)?;
-    Ok(())
-}
-
-/// Whether a place has an open key that no fixed place before it has. Meets the open keys of a fixed place.
-fn brings_new<T: Half>(
+/// Whether a place has an open key that no fixed place before it has, given its keys. Meets the open keys of a fixed place.
+fn brings_new<K: Key + Hash + NumericKey>(
     places: &[OpenPlace],
-    opened: &Interner<T::Old>,
-    met: &mut Interner<T::Old>,
+    opened: &Interner<K>,
+    met: &mut Interner<K>,
     place: usize,
-    pair: (T, T),
+    keys: &[K],
 ) -> Result<bool, AllocError>
-    ensures new { IfOk result (λ new. new ≡ has_new T.Old.cmp opened.now met.old (keys_at T.keys pair)) }
-    ensures met { OnOk result (met.new ≡ first_seen_after T.Old.cmp met.old
-        (cond (is_open places.now place) [] (filter (λ key. stands_in T.Old.cmp key opened.now) (keys_at T.keys pair)))) }
+    ensures new { IfOk result (λ new. new ≡ has_new K.cmp opened.now met.old keys.now) }
+    ensures met { OnOk result (met.new ≡ first_seen_after K.cmp met.old
+        (cond (is_open places.now place) [] (filter (λ key. stands_in K.cmp key opened.now) keys.now))) }
 {
-    let new = has_new_key(opened, met, pair);
+    let new = has_new_key(opened, met, keys);
     if !is_open_at(places, place) {
-        meet(opened, met, pair)?;
+        see_opened(opened, met, keys)?;
     }
     Ok(new)
 }
 
 /// Appends, for each chain in the order of shapes, whether it has an open key that no fixed place before it has.
-fn push_new<T: Half>(
+fn push_new<G: KeyGroups>(
+    alloc: Global,
     places: &[OpenPlace],
-    opened: &Interner<T::Old>,
-    met: &mut Interner<T::Old>,
+    opened: &Interner<G::Item>,
     new: &mut Vec<bool>,
-    pairs: &[(T, T)],
+    groups: &G,
 ) -> Result<(), AllocError>
-    requires met { met.old ≡ [] }
-    requires new { new.old.items ≡ [] }
-    ensures { OnOk result (new.new.items ≡ map (brings T.Old.cmp places.now opened.now (map (keys_at T.keys) pairs.now)) (range_with_len 0 (length pairs.now))) }
+    requires { new.old.items ≡ [] }
+    ensures { OnOk result (new.new.items ≡ map (brings G.Item.cmp places.now opened.now (G.groups groups.now)) (range_with_len 0 (length (G.groups groups.now)))) }
 {
-    for place in 0..pairs.len() {
-        let here = brings_new(places, opened, met, place, pairs[place])?;
+    let mut met = Interner::new(alloc);
+    let mut keys = Vec::new(alloc);
+    for place in 0..groups.count() {
+        groups.read(place, &mut keys)?;
+        let here = brings_new(places, opened, &mut met, place, &keys)?;
         new.push(here)?;
     }
     Ok(())
 }
 
 /// For each chain in the order of shapes, whether it has an open key that no fixed place before it has.
-pub(crate) fn new_at_places<T: Half>(
+pub(crate) fn new_at_places<G: KeyGroups>(
     alloc: Global,
     places: &[OpenPlace],
-    opened: &Interner<T::Old>,
-    pairs: &[(T, T)],
+    opened: &Interner<G::Item>,
+    groups: &G,
 ) -> Result<Vec<bool>, AllocError>
-    ensures { IfOk result (λ new. new.items ≡ map (brings T.Old.cmp places.now opened.now (map (keys_at T.keys) pairs.now)) (range_with_len 0 (length pairs.now))) }
+    ensures { IfOk result (λ new. new.items ≡ map (brings G.Item.cmp places.now opened.now (G.groups groups.now)) (range_with_len 0 (length (G.groups groups.now)))) }
 {
-    let mut new = Vec::with_capacity(alloc, pairs.len())?;
-    let mut met = Interner::new(alloc);
-    push_new(places, opened, &mut met, &mut new, pairs)?;
+    let mut new = Vec::with_capacity(alloc, groups.count())?;
+    push_new(alloc, places, opened, &mut new, groups)?;
     Ok(new)
 }
 
@@ -121,26 +109,27 @@ fn is_marked(marks: &[bool], place: usize) -> bool
     }
 }
 
-/// Whether a place is critical, given for each place whether it has a new node or a new polygon.
-fn is_critical_at(places: &[OpenPlace], nodes: &[bool], polygons: &[bool], place: usize) -> bool
-    ensures { result ≡ (is_open places.now place || (get_or nodes.now place false || get_or polygons.now place false)) }
+/// Whether a place is critical, given for each place whether it has a new key of one kind, or of another one.
+fn is_critical_at(places: &[OpenPlace], new: &[bool], others: &[bool], place: usize) -> bool
+    ensures { result ≡ (is_open places.now place || (get_or new.now place false || get_or others.now place false)) }
 {
-    is_open_at(places, place) || is_marked(nodes, place) || is_marked(polygons, place)
+    is_open_at(places, place) || is_marked(new, place) || is_marked(others, place)
 }
 
-/// The critical places, given for each place whether it has a new node or a new polygon.
+/// The critical places, given for each place whether it has a new key of one kind, or of another one. A place that `others` doesn't reach
+/// has none.
 pub(crate) fn critical_places(
     alloc: Global,
     places: &[OpenPlace],
-    nodes: &[bool],
-    polygons: &[bool],
+    new: &[bool],
+    others: &[bool],
 ) -> Result<Vec<u32>, AllocError>
-    requires { length nodes.now < 2 ^ 32 }
-    ensures { IfOk result (λ critical. critical.items ≡ filter (λ place. is_open places.now place || (get_or nodes.now place false || get_or polygons.now place false))
-        (range_with_len 0 (length nodes.now))) }
+    requires { length new.now < 2 ^ 32 }
+    ensures { IfOk result (λ critical. critical.items ≡ filter (λ place. is_open places.now place || (get_or new.now place false || get_or others.now place false))
+        (range_with_len 0 (length new.now))) }
 {
-    (0..nodes.len() as u32)
-        .filter(|place| is_critical_at(places, nodes, polygons, *place as usize))
+    (0..new.len() as u32)
+        .filter(|place| is_critical_at(places, new, others, *place as usize))
         .collect(alloc)
 }
 

@@ -3,18 +3,16 @@
 //! Records of type 1 come first in a text, and a choice alone determines them. So this first searches all choices for the one whose
 //! records of type 1 are least; from one choice to the next it only reads what moves at open places. Of the other choices with the
 //! same records of type 1, those with the same chains at every place are skipped: if chains were entered twice with all their data,
-//! every order of them makes the same county. Each of the rest is compared with the least so far, mostly by a few records, as in
-//! `tie_order.rt`. Those that differ in a further name are arranged and compared by their texts. So are those that differ in the numbers
-//! of open polygons, if some landmark has an open polygon.
+//! every order of them makes the same county. Each of the rest is compared with the least so far by a few records, as in `tie_order.rt`.
 
 ghost use Rattle.std.specs.declared.cmp.Ordering.TheVariants.{Equal};
 ghost use Rattle.std.specs.Ordering.{is_gt};
-ghost use Rattle.std.specs.Prelude.{◌≡◌, ◌<◌, ◌≤◌, cond, false, true, IfOk, IfSome};
+ghost use Rattle.std.specs.Prelude.{◌≡◌, ◌<◌, ◌≤◌, cond, false, true, IfOk};
 ghost use Rattle.tl_county.specs.CountyRules.{AllKeysStandIn, polygon_keys, polygons_along};
 ghost use Rattle.tl_number.specs.Canonical.{IsNotAfter};
-ghost use Rattle.tl_number.specs.ChoiceSearch.{IsChosen, IsLesserTie, LeavesChoices, ShowsChoice};
+ghost use Rattle.tl_number.specs.ChoiceSearch.{IsChosen, LeavesChoices};
 ghost use Rattle.tl_number.specs.CriticalPlaces.{AreTieTables};
-ghost use Rattle.tl_number.specs.LeastNumber.{IsLeastBelow, choice_list, choices_cmp};
+ghost use Rattle.tl_number.specs.LeastNumber.{IsLeastBelow, choice_list};
 ghost use Rattle.tl_number.specs.DirectedChains.{HasChainsOf, arrangement_of};
 ghost use Rattle.tl_number.specs.Tidy.{IsLeastChoice};
 ghost use Rattle.tl_number.specs.TypeOneOrder.{IsLeastFrom, IsLeastOne, ones_cmp};
@@ -22,175 +20,22 @@ ghost use Rattle.tl_number.specs.ViewFacts.{NamesEachOnce};
 ghost use Rattle.tl_profile.specs.Choices.{choices, most_choices};
 ghost use Rattle.tl_profile.specs.ShapeOrder.{IsShapeOrder};
 
-use crate::arranged::Arranged;
-use crate::arranging::arrange;
 use crate::numbered_arrangement::NumberedArrangement;
 use crate::same_chains::have_same_chains;
-use crate::text_order::compare_texts;
 use crate::tie_order::compare_ties;
 use crate::tie_tables::{TieTables, tie_tables};
 use crate::type_1_order::compare_ones;
 use std::alloc::{AllocError, Global};
 use std::cmp::Ordering;
 use std::mem::swap;
-use tl_county::{Chart, DirectedChain, Lent};
+use tl_county::{Chart, DirectedChain};
 use tl_profile::ShapeOrder;
 
-/// Arranges the choice with this number.
-fn arrange_choice<'a, C: Chart>(
-    alloc: Global,
-    chart: &'a C,
-    order: &ShapeOrder,
-    number: u64,
-) -> Result<Arranged<Lent<'a, C>>, AllocError>
-    requires { LeavesChoices (C.county chart.now) order.now }
-    ensures { IfOk result (λ view. ShowsChoice (C.county chart.now) number view) }
-{
-    let arrangement = NumberedArrangement::new(alloc, order, number)?;
-    arrange(alloc, Lent::new(chart), arrangement.chains)
-}
-
-/// A choice in some form, and its number.
-#[derive(Drop)]
-pub(crate) struct NumberedChoice<V> {
-    pub(crate) number: u64,
-    pub(crate) choice: V,
-}
-
-/// The lesser of two choices: `other` if `one` comes after it.
-pub(crate) fn lesser<V: Drop>(
-    ordering: Ordering,
-    one: NumberedChoice<V>,
-    other: NumberedChoice<V>,
-) -> NumberedChoice<V>
+/// The number of the lesser of two choices, given how they compare: the second one's if the first comes after it.
+fn lesser(ordering: Ordering, one: u64, other: u64) -> u64
     ensures { result ≡ cond (is_gt ordering) other one }
 {
     if ordering.is_gt() { other } else { one }
-}
-
-/// The lesser of the least choice so far and the choice with another number that has the same records of type 1. Arranges the
-/// latter.
-fn next_least<'a, C: Chart>(
-    alloc: Global,
-    chart: &'a C,
-    order: &ShapeOrder,
-    least: NumberedChoice<Arranged<Lent<'a, C>>>,
-    number: u64,
-) -> Result<NumberedChoice<Arranged<Lent<'a, C>>>, AllocError>
-    requires known { LeavesChoices (C.county chart.now) order.now }
-    requires shown { ShowsChoice (C.county chart.now) least.number least.choice }
-    requires tied { ones_cmp (C.county chart.now) least.number number ≡ Equal }
-    ensures shown { IfOk result (λ kept. ShowsChoice (C.county chart.now) kept.number kept.choice) }
-    ensures lesser { IfOk result (λ kept. IsLesserTie (C.county chart.now) least.entry.number number kept.number) }
-{
-    match arrange_choice(alloc, chart, order, number) {
-        Ok(choice) => {
-            let ordering = compare_texts(&least.choice, &choice);
-            Ok(lesser(ordering, least, NumberedChoice { number, choice }))
-        }
-        Err(error) => {
-            // One call for the prover, which otherwise reads the drop of each table.
-            drop(least);
-            Err(error)
-        }
-    }
-}
-
-/// The least choice so far, arranged.
-fn arrange_least<'a, C: Chart>(
-    alloc: Global,
-    chart: &'a C,
-    order: &ShapeOrder,
-    least: NumberedChoice<Option<Arranged<Lent<'a, C>>>>,
-) -> Result<NumberedChoice<Arranged<Lent<'a, C>>>, AllocError>
-    requires known { LeavesChoices (C.county chart.now) order.now }
-    requires shown { IfSome least.choice (λ view. ShowsChoice (C.county chart.now) least.number view) }
-    ensures shown { IfOk result (λ kept. ShowsChoice (C.county chart.now) kept.number kept.choice) }
-    ensures number { IfOk result (λ kept. kept.number ≡ least.entry.number) }
-{
-    let number = least.number;
-    let choice = match least.choice {
-        Some(choice) => choice,
-        None => arrange_choice(alloc, chart, order, number)?,
-    };
-    Ok(NumberedChoice { number, choice })
-}
-
-/// The lesser of the least choice so far and the choice with another number, both arranged.
-fn next_arranged<'a, C: Chart>(
-    alloc: Global,
-    chart: &'a C,
-    order: &ShapeOrder,
-    least: NumberedChoice<Option<Arranged<Lent<'a, C>>>>,
-    number: u64,
-) -> Result<NumberedChoice<Option<Arranged<Lent<'a, C>>>>, AllocError>
-    requires known { LeavesChoices (C.county chart.now) order.now }
-    requires shown { IfSome least.choice (λ view. ShowsChoice (C.county chart.now) least.number view) }
-    requires tied { ones_cmp (C.county chart.now) least.number number ≡ Equal }
-    ensures shown { IfOk result (λ kept. IfSome kept.choice (λ view. ShowsChoice (C.county chart.now) kept.number view)) }
-    ensures lesser { IfOk result (λ kept. IsLesserTie (C.county chart.now) least.entry.number number kept.number) }
-{
-    let least = arrange_least(alloc, chart, order, least)?;
-    let kept = next_least(alloc, chart, order, least, number)?;
-    Ok(NumberedChoice {
-        number: kept.number,
-        choice: Some(kept.choice),
-    })
-}
-
-/// The lesser of the least choice so far and the choice with another number, given how they compare. They are only arranged if that
-/// isn't known.
-fn lesser_tie<'a, C: Chart>(
-    alloc: Global,
-    chart: &'a C,
-    order: &ShapeOrder,
-    least: NumberedChoice<Option<Arranged<Lent<'a, C>>>>,
-    number: u64,
-    compared: Option<Ordering>,
-) -> Result<NumberedChoice<Option<Arranged<Lent<'a, C>>>>, AllocError>
-    requires known { LeavesChoices (C.county chart.now) order.now }
-    requires shown { IfSome least.choice (λ view. ShowsChoice (C.county chart.now) least.number view) }
-    requires tied { ones_cmp (C.county chart.now) least.number number ≡ Equal }
-    requires compared { IfSome compared (λ ordering. ordering ≡ choices_cmp (C.county chart.now) least.number number) }
-    ensures shown { IfOk result (λ kept. IfSome kept.choice (λ view. ShowsChoice (C.county chart.now) kept.number view)) }
-    ensures lesser { IfOk result (λ kept. IsLesserTie (C.county chart.now) least.entry.number number kept.number) }
-{
-    match compared {
-        Some(ordering) => Ok(lesser(
-            ordering,
-            least,
-            NumberedChoice {
-                number,
-                choice: None,
-            },
-        )),
-        None => next_arranged(alloc, chart, order, least, number),
-    }
-}
-
-/// The lesser of the least choice so far and the choice with another number, given the result of comparing them.
-fn next_of_ties<'a, C: Chart>(
-    alloc: Global,
-    chart: &'a C,
-    order: &ShapeOrder,
-    least: NumberedChoice<Option<Arranged<Lent<'a, C>>>>,
-    number: u64,
-    compared: Result<Option<Ordering>, AllocError>,
-) -> Result<NumberedChoice<Option<Arranged<Lent<'a, C>>>>, AllocError>
-    requires known { LeavesChoices (C.county chart.now) order.now }
-    requires shown { IfSome least.choice (λ view. ShowsChoice (C.county chart.now) least.number view) }
-    requires tied { ones_cmp (C.county chart.now) least.number number ≡ Equal }
-    requires compared { IfOk compared (λ found. IfSome found (λ ordering. ordering ≡ choices_cmp (C.county chart.now) least.number number)) }
-    ensures shown { IfOk result (λ kept. IfSome kept.choice (λ view. ShowsChoice (C.county chart.now) kept.number view)) }
-    ensures lesser { IfOk result (λ kept. IsLesserTie (C.county chart.now) least.entry.number number kept.number) }
-{
-    match compared {
-        Ok(found) => lesser_tie(alloc, chart, order, least, number, found),
-        Err(error) => {
-            drop(least);
-            Err(error)
-        }
-    }
 }
 
 /// Compares two choices by their records of type 1.
@@ -304,20 +149,15 @@ fn least_among_ties<C: Chart>(
     requires before { IsLeastFrom (C.county chart.now) 0 other.old.number first.now.number }
     ensures { IfOk result (IsLeastBelow (C.county chart.now) (choices (C.county chart.now))) }
 {
-    let mut least = NumberedChoice {
-        number: first.number,
-        choice: None,
-    };
+    let mut least = first.number;
     let mut from = other.number;
     while find_tie(chart, order, first, other, from) {
-        kept.choose_again(order, least.number);
-        let compared = compare_ties(alloc, chart, order, tables, kept, other);
-        least = next_of_ties(alloc, chart, order, least, other.number, compared)?;
+        kept.choose_again(order, least);
+        let ordering = compare_ties(alloc, chart, order, tables, kept, other)?;
+        least = lesser(ordering, least, other.number);
         from = other.number + 1;
     }
-    let number = least.number;
-    drop(least);
-    Ok(number)
+    Ok(least)
 }
 
 /// The same. Makes the choice that is overwritten.

@@ -12,7 +12,7 @@ ghost use Rattle.tl_county.specs.CountyRules.{feats};
 ghost use Rattle.ordered_lists.specs.Orders.{has_repeat};
 ghost use Rattle.tl_number.specs.Arrangement.{names_in_order};
 ghost use Rattle.tl_number.specs.Growth.{first_seen};
-ghost use Rattle.tl_number.specs.NameItems.{feats_along_arrangement, rank_of, ranked_at, ranked_cmp, ranked_place};
+ghost use Rattle.tl_number.specs.NameItems.{AreSortedNames, feats_along_arrangement, rank_of, ranked_at, ranked_cmp, ranked_place};
 ghost use Rattle.tl_number.specs.DirectedChains.{arrangement_of};
 ghost use Rattle.tl_number.specs.ViewFacts.{AreReadAt, AreWhole, MatchesNames};
 
@@ -94,7 +94,7 @@ fn rank(uses: &Interner<u32>, feat: Option<u32>) -> usize
 }
 
 /// The name at a place with its rank.
-fn ranked_name<C: Chart>(chart: &C, uses: &Interner<u32>, place: u32) -> RankedName
+pub(crate) fn ranked_name<C: Chart>(chart: &C, uses: &Interner<u32>, place: u32) -> RankedName
     ensures { result ≡ ranked_at (C.county chart.now) uses.now place }
 {
     RankedName {
@@ -153,7 +153,7 @@ fn feats_there<C: Chart>(alloc: Global, chart: &C, places: &[u32]) -> Result<Vec
 }
 
 /// The FEATs at places, numbered in this order.
-fn number_feats<C: Chart>(
+pub(crate) fn number_feats<C: Chart>(
     alloc: Global,
     chart: &C,
     places: &[u32],
@@ -164,6 +164,19 @@ fn number_feats<C: Chart>(
     let feats = feats_there(alloc, chart, places)?;
     let numbers = Interner::of_distinct(alloc, &feats)?;
     Ok(numbers)
+}
+
+/// The places of ranked names in their order.
+pub(crate) fn sorted_places<C: Chart>(
+    alloc: Global,
+    chart: &C,
+    names: Vec<RankedName>,
+) -> Result<Vec<u32>, AllocError>
+    ensures { IfOk result (λ places. AreSortedNames (C.county chart.now) names.items places.items) }
+{
+    let mut names = names;
+    names.sort_unstable_by(|a, b| cmp_names(chart, a, b));
+    places_of(alloc, &names)
 }
 
 /// Sorts the places of the names of a county into their new order.
@@ -178,9 +191,8 @@ fn places_in_order<C: Chart>(
         (names_in_order (C.county chart.now) (arrangement_of (C.county chart.now) arrangement.now))) }
 {
     let uses = number_uses(alloc, chart, arrangement)?;
-    let mut names = ranked_names(alloc, chart, &uses)?;
-    names.sort_unstable_by(|a, b| cmp_names(chart, a, b));
-    places_of(alloc, &names)
+    let names = ranked_names(alloc, chart, &uses)?;
+    sorted_places(alloc, chart, names)
 }
 
 /// The names of a county in this arrangement.

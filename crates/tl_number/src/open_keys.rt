@@ -1,26 +1,26 @@
-//! Nodes and polygons that first appear at an open place.
+//! Nodes, polygons and names that first appear at an open place.
 //!
 //! All choices have the same chains at fixed places, and at open places that follow one another the same chains in another order or
 //! direction. So a key has one number in all choices, unless it first appears at an open place. The keys that do exchange their numbers:
 //! in each choice they have these numbers in the order of their first appearance.
 
-ghost use Rattle.std.specs.Prelude.{◌≡◌, ◌++◌, ◌∷◌, [], IfOk, OnOk, cond, filter, flat_map, length, map};
+ghost use Rattle.std.specs.Prelude.{◌≡◌, ◌++◌, ◌∷◌, [], IfOk, OnOk, cond, filter, length, map};
 ghost use Rattle.ordered_lists.specs.Orders.{stands_in};
-ghost use Rattle.tl_number.specs.EndsAndSides.{keys_at};
+ghost use Rattle.tl_number.specs.Groups.{grouped};
 ghost use Rattle.tl_number.specs.Growth.{first_seen, first_seen_after};
 ghost use Rattle.tl_number.specs.OpenKeys.{AreOpenKeys, first_open, is_open, key_by_order, newly_seen, place_by_order, place_in};
 
-use crate::first_appearance::Half;
+use crate::key_groups::KeyGroups;
 use crate::numbers::{Interner, NumericKey, marks_for};
 use ordered_lists::Key;
 use std::alloc::{AllocError, Global};
 use std::hash::Hash;
 use tl_profile::OpenPlace;
 
-/// The nodes or the polygons of a county whose chains are in the order of their shapes.
+/// The nodes, the polygons or the names of a county whose chains are in the order of their shapes.
 #[derive(Drop)]
 pub(crate) struct OpenKeys<I> {
-    /// All keys, in the order of their first appearance.
+    /// All keys in the order of their numbers: nodes and polygons by first appearance, names by their content first.
     pub(crate) all: I,
     /// The keys that first appear at an open place, in the same order.
     pub(crate) opened: I,
@@ -67,52 +67,38 @@ fn see_key<K: Key + Hash + NumericKey>(
     Ok(())
 }
 
-/// Sees the key of an end or a side, if there is one.
-fn see_half<T: Half>(
-    all: &mut Interner<T::Old>,
-    opened: &mut Vec<T::Old>,
+/// Sees the keys of a chain. If its place is open, the new ones are put after the open keys.
+fn see_keys<K: Key + Hash + NumericKey>(
+    all: &mut Interner<K>,
+    opened: &mut Vec<K>,
     at_open: bool,
-    half: T,
+    keys: &[K],
 ) -> Result<(), AllocError>
-    ensures all { OnOk result (all.new ≡ first_seen_after T.Old.cmp all.old (T.keys half)) }
-    ensures opened { OnOk result (opened.new.items ≡ opened.old.items ++ cond at_open (newly_seen T.Old.cmp all.old (T.keys half)) []) }
+    ensures all { OnOk result (all.new ≡ first_seen_after K.cmp all.old keys.now) }
+    ensures opened { OnOk result (opened.new.items ≡ opened.old.items ++ cond at_open (newly_seen K.cmp all.old keys.now) []) }
 {
-    match half.key() {
-        Some(key) => see_key(all, opened, at_open, key),
-        None => Ok(()),
+    for key in keys {
+        see_key(all, opened, at_open, *key)?;
     }
-}
-
-/// Sees the keys of both ends or sides of a chain.
-fn see_pair<T: Half>(
-    all: &mut Interner<T::Old>,
-    opened: &mut Vec<T::Old>,
-    at_open: bool,
-    pair: (T, T),
-) -> Result<(), AllocError>
-    ensures all { OnOk result (all.new ≡ first_seen_after T.Old.cmp all.old (keys_at T.keys pair)) }
-    ensures opened { OnOk result (opened.new.items ≡ opened.old.items ++ cond at_open (newly_seen T.Old.cmp all.old (keys_at T.keys pair)) []) }
-{
-    let (first, second) = pair;
-    see_half(all, opened, at_open, first)?;
-    see_half(all, opened, at_open, second)?;
     Ok(())
 }
 
-/// The keys of these ends or sides of chains in the order of their first appearance, and those of them that first appear at an open place.
-fn see_along<T: Half>(
+/// The keys of chains in the order of their first appearance, and those of them that first appear at an open place.
+fn see_along<G: KeyGroups>(
     alloc: Global,
     places: &[OpenPlace],
-    pairs: &[(T, T)],
-) -> Result<(Interner<T::Old>, Vec<T::Old>), AllocError>
-    ensures all { IfOk result (λ seen. seen.0 ≡ first_seen T.Old.cmp (flat_map (keys_at T.keys) pairs.now)) }
-    ensures opened { IfOk result (λ seen. seen.1.items ≡ first_open T.Old.cmp places.now (map (keys_at T.keys) pairs.now)) }
+    groups: &G,
+) -> Result<(Interner<G::Item>, Vec<G::Item>), AllocError>
+    ensures all { IfOk result (λ seen. seen.0 ≡ first_seen G.Item.cmp (grouped (G.groups groups.now))) }
+    ensures opened { IfOk result (λ seen. seen.1.items ≡ first_open G.Item.cmp places.now (G.groups groups.now)) }
 {
-    let mut all = Interner::with_marks(alloc, marks_for(pairs.len()))?;
+    let mut all = Interner::with_marks(alloc, marks_for(groups.count()))?;
     let mut opened = Vec::new(alloc);
-    for place in 0..pairs.len() {
+    let mut keys = Vec::new(alloc);
+    for place in 0..groups.count() {
+        groups.read(place, &mut keys)?;
         let at_open = is_open_at(places, place);
-        see_pair(&mut all, &mut opened, at_open, pairs[place])?;
+        see_keys(&mut all, &mut opened, at_open, &keys)?;
     }
     Ok((all, opened))
 }
@@ -128,7 +114,7 @@ fn place_or_len<K: Key + Hash + NumericKey>(keys: &Interner<K>, key: K) -> usize
 }
 
 /// The places of keys in a list of keys.
-fn places_among<K: Key + Hash + NumericKey>(
+pub(crate) fn places_among<K: Key + Hash + NumericKey>(
     alloc: Global,
     all: &Interner<K>,
     keys: &[K],
@@ -140,15 +126,15 @@ fn places_among<K: Key + Hash + NumericKey>(
         .collect(alloc)
 }
 
-/// The keys of these ends or sides, which are those of all chains in the order of their shapes.
-pub(crate) fn open_keys<T: Half>(
+/// The keys of all chains in the order of their shapes.
+pub(crate) fn open_keys<G: KeyGroups>(
     alloc: Global,
     places: &[OpenPlace],
-    pairs: &[(T, T)],
-) -> Result<OpenKeys<Interner<T::Old>>, AllocError>
-    ensures { IfOk result (AreOpenKeys T.Old.cmp places.now (map (keys_at T.keys) pairs.now)) }
+    groups: &G,
+) -> Result<OpenKeys<Interner<G::Item>>, AllocError>
+    ensures { IfOk result (AreOpenKeys G.Item.cmp places.now (G.groups groups.now)) }
 {
-    let (all, keys) = see_along(alloc, places, pairs)?;
+    let (all, keys) = see_along(alloc, places, groups)?;
     let opened = Interner::of_distinct(alloc, &keys)?;
     let places = places_among(alloc, &all, &keys)?;
     Ok(OpenKeys {
@@ -158,33 +144,35 @@ pub(crate) fn open_keys<T: Half>(
     })
 }
 
-/// Sees the key of an end or a side, if it is one of the open keys.
-pub(crate) fn see_if_opened<T: Half>(
-    opened: &Interner<T::Old>,
-    order: &mut Interner<T::Old>,
-    half: T,
+/// Sees those of these keys that are open.
+pub(crate) fn see_opened<K: Key + Hash + NumericKey>(
+    opened: &Interner<K>,
+    order: &mut Interner<K>,
+    keys: &[K],
 ) -> Result<(), AllocError>
-    ensures { OnOk result (order.new ≡ first_seen_after T.Old.cmp order.old (filter (λ key. stands_in T.Old.cmp key opened.now) (T.keys half))) }
+    ensures { OnOk result (order.new ≡ first_seen_after K.cmp order.old (filter (λ key. stands_in K.cmp key opened.now) keys.now)) }
 {
-    match half.key() {
-        Some(key) if has_key(opened, key) => order.see(key),
-        _ => Ok(()),
+    for key in keys {
+        if has_key(opened, *key) {
+            order.see(*key)?;
+        }
     }
+    Ok(())
 }
 
-/// The open keys in the order of their first appearance in a choice, given the ends or sides of the chains at its open places.
-pub(crate) fn order_of<T: Half>(
+/// The open keys in the order of their first appearance in a choice, given the keys of the chains at its open places.
+pub(crate) fn order_of<G: KeyGroups>(
     alloc: Global,
-    opened: &Interner<T::Old>,
-    pairs: &[(T, T)],
-) -> Result<Interner<T::Old>, AllocError>
-    ensures { IfOk result (λ order. order ≡ first_seen T.Old.cmp (filter (λ key. stands_in T.Old.cmp key opened.now) (flat_map (keys_at T.keys) pairs.now))) }
+    opened: &Interner<G::Item>,
+    groups: &G,
+) -> Result<Interner<G::Item>, AllocError>
+    ensures { IfOk result (λ order. order ≡ first_seen G.Item.cmp (filter (λ key. stands_in G.Item.cmp key opened.now) (grouped (G.groups groups.now)))) }
 {
     let mut order = Interner::new(alloc);
-    for pair in pairs {
-        let (first, second) = *pair;
-        see_if_opened(opened, &mut order, first)?;
-        see_if_opened(opened, &mut order, second)?;
+    let mut keys = Vec::new(alloc);
+    for place in 0..groups.count() {
+        groups.read(place, &mut keys)?;
+        see_opened(opened, &mut order, &keys)?;
     }
     Ok(order)
 }

@@ -12,7 +12,10 @@ use tl_county::{Chart, DirectedChain, Listed};
 use tl_layout::Rec6;
 
 /// An open place with its chain in an arrangement.
-fn open_chain_of(arrangement: &[DirectedChain], place: u32) -> Option<(u32, DirectedChain)>
+pub(crate) fn open_chain_of(
+    arrangement: &[DirectedChain],
+    place: u32,
+) -> Option<(u32, DirectedChain)>
     ensures { result ≡ open_chain arrangement.now place }
 {
     arrangement

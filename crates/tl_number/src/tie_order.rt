@@ -1,18 +1,16 @@
 //! Comparing two choices with the same records of type 1 without arranging them.
 //!
-//! If the chains have the same further names, place by place, the records of types 4 and 5 are the same, and the records of type 6 at
-//! open places are compared. Those of type 7 are the same in all choices. Then come the links of landmarks (type 8), and those of types
-//! I and P at the few places and under the few numbers at which they can differ.
+//! Records of types 2, 5 and 7 are the same in all choices. Those of type 4 and type I are compared at the few places at which they can
+//! differ, those of type 6 at open places, and those of type P under the few numbers at which they can differ. The links of landmarks
+//! (type 8) are made for both choices, unless they have to be the same.
 
 ghost use Rattle.std.specs.declared.cmp.Ordering.TheVariants.{Equal};
-ghost use Rattle.std.specs.Bool.{Decides};
 ghost use Rattle.std.specs.Ordering.{ordering_then};
-ghost use Rattle.std.specs.Prelude.{◌≡◌, IfOk, IfSome, is_some, map};
-ghost use Rattle.tl_county.specs.ChartWords.{feats_of};
+ghost use Rattle.std.specs.Prelude.{◌≡◌, IfOk, map};
 ghost use Rattle.tl_layout.specs.declared.record_type.Record.TheVariants.{I, P, Six};
 ghost use Rattle.tl_number.specs.ChoiceSearch.{IsChosen, LeavesChoices};
+ghost use Rattle.tl_number.specs.CountyGroups.{type_6_by_chain};
 ghost use Rattle.tl_number.specs.CriticalPlaces.{AreTieTables};
-ghost use Rattle.tl_number.specs.DirectedChains.{parts_along};
 ghost use Rattle.tl_number.specs.LeastNumber.{choices_cmp};
 ghost use Rattle.tl_number.specs.OpenRanges.{sixes_at};
 ghost use Rattle.tl_number.specs.RecordOrder.{groups_cmp, records_cmp, types_8_to_p_cmp};
@@ -23,8 +21,8 @@ ghost use Rattle.tl_number.specs.ViewFacts.{arranged_by};
 use crate::group_order::{compare_groups, compare_lists};
 use crate::numbered_arrangement::NumberedArrangement;
 use crate::open_ranges::OpenRangeRecords;
-use crate::same_chains::{FurtherNames, have_same_open_parts};
 use crate::tie_links::{OrderedChoice, compare_links};
+use crate::tie_names::compare_names;
 use crate::tie_records::{TiedRecords, tied_records};
 use crate::tie_tables::TieTables;
 use std::alloc::{AllocError, Global};
@@ -153,8 +151,30 @@ fn compare_by_numbers<C: Chart>(
     compare_with_tied(alloc, chart, order, tables, &first, other)
 }
 
-/// Compares the texts of two choices with the same records of type 1, or returns `None` if that takes arranging them: if their chains
-/// have other further names, place by place.
+/// Compares two choices that have the same records of types 1 and 4 by their records of types 6, 8, I and P.
+fn compare_behind_names<C: Chart>(
+    alloc: Global,
+    chart: &C,
+    order: &ShapeOrder,
+    tables: &TieTables,
+    one: &NumberedArrangement,
+    other: &NumberedArrangement,
+) -> Result<Ordering, AllocError>
+    requires known { LeavesChoices (C.county chart.now) order.now }
+    requires tables { AreTieTables (C.county chart.now) order.now tables.now }
+    requires one { IsChosen order.now one.now }
+    requires other { IsChosen order.now other.now }
+    ensures { IfOk result (λ ordering. ordering ≡ ordering_then (groups_cmp Six (type_6_by_chain (arranged_by (C.county chart.now) one.now.chains.items))
+        (type_6_by_chain (arranged_by (C.county chart.now) other.now.chains.items)))
+        (types_8_to_p_cmp (arranged_by (C.county chart.now) one.now.chains.items) (arranged_by (C.county chart.now) other.now.chains.items))) }
+{
+    match compare_open_ranges(chart, &tables.opened, &one.chains, &other.chains) {
+        Ordering::Equal => compare_by_numbers(alloc, chart, order, tables, one, other),
+        unequal => Ok(unequal),
+    }
+}
+
+/// Compares the texts of two choices with the same records of type 1.
 pub(crate) fn compare_ties<C: Chart>(
     alloc: Global,
     chart: &C,
@@ -162,23 +182,16 @@ pub(crate) fn compare_ties<C: Chart>(
     tables: &TieTables,
     one: &NumberedArrangement,
     other: &NumberedArrangement,
-) -> Result<Option<Ordering>, AllocError>
+) -> Result<Ordering, AllocError>
     requires known { LeavesChoices (C.county chart.now) order.now }
     requires tables { AreTieTables (C.county chart.now) order.now tables.now }
     requires one { IsChosen order.now one.now }
     requires other { IsChosen order.now other.now }
     requires tied { ones_cmp (C.county chart.now) one.now.number other.now.number ≡ Equal }
-    ensures ordering { IfOk result (λ found. IfSome found (λ ordering. ordering ≡ choices_cmp (C.county chart.now) one.now.number other.now.number)) }
-    ensures known { IfOk result (λ found. Decides (is_some found) (parts_along feats_of (C.county chart.now) one.now.chains.items ≡ parts_along feats_of (C.county chart.now) other.now.chains.items)) }
+    ensures { IfOk result (λ ordering. ordering ≡ choices_cmp (C.county chart.now) one.now.number other.now.number) }
 {
-    let places = order.open_places();
-    if !have_same_open_parts(&FurtherNames, chart, places, &one.chains, &other.chains) {
-        return Ok(None);
+    match compare_names(alloc, chart, order, tables, one, other)? {
+        Ordering::Equal => compare_behind_names(alloc, chart, order, tables, one, other),
+        unequal => Ok(unequal),
     }
-    match compare_open_ranges(chart, &tables.opened, &one.chains, &other.chains) {
-        Ordering::Equal => {}
-        unequal => return Ok(Some(unequal)),
-    }
-    let ordering = compare_by_numbers(alloc, chart, order, tables, one, other)?;
-    Ok(Some(ordering))
 }

@@ -16,9 +16,11 @@ use crate::critical_places::{
     critical_places, critical_polygons, has_open_links, new_at_places, open_among,
 };
 use crate::first_appearance::links_along;
+use crate::key_groups::PairKeys;
 use crate::numbered_arrangement::NumberedArrangement;
 use crate::numbers::Interner;
 use crate::open_keys::{OpenKeys, open_keys, order_of};
+use crate::open_names::{OpenNames, open_names};
 use std::alloc::{AllocError, Global};
 use tl_county::{Chart, DirectedChain, PolygonKey};
 use tl_profile::{OpenPlace, ShapeOrder};
@@ -38,6 +40,8 @@ pub(crate) struct TieTables {
     pub(crate) numbers: Vec<usize>,
     /// Whether some landmark has an open polygon.
     pub(crate) linked: bool,
+    /// The names, and those whose numbers differ.
+    pub(crate) names: OpenNames,
 }
 
 /// The nodes and the polygons whose numbers differ, in the order of their first appearance in a choice.
@@ -64,8 +68,8 @@ fn keys_of_both(
     ensures nodes { IfOk result (λ keys. AreOpenKeys nat_cmp places.now (map nodes_at ends.now) keys.nodes) }
     ensures polygons { IfOk result (λ keys. AreOpenKeys key_cmp places.now (map polygons_at sides.now) keys.polygons) }
 {
-    let nodes = open_keys(alloc, places, ends)?;
-    let polygons = open_keys(alloc, places, sides)?;
+    let nodes = open_keys(alloc, places, &PairKeys(ends))?;
+    let polygons = open_keys(alloc, places, &PairKeys(sides))?;
     Ok(BothKeys { nodes, polygons })
 }
 
@@ -82,8 +86,8 @@ fn critical_along(
     ensures { IfOk result (λ critical. critical.items ≡ critical_among places.now keys.now.nodes.opened (map nodes_at ends.now)
         keys.now.polygons.opened (map polygons_at sides.now) (length ends.now)) }
 {
-    let nodes = new_at_places(alloc, places, &keys.nodes.opened, ends)?;
-    let polygons = new_at_places(alloc, places, &keys.polygons.opened, sides)?;
+    let nodes = new_at_places(alloc, places, &keys.nodes.opened, &PairKeys(ends))?;
+    let polygons = new_at_places(alloc, places, &keys.polygons.opened, &PairKeys(sides))?;
     let critical = critical_places(alloc, places, &nodes, &polygons)?;
     Ok(critical)
 }
@@ -130,14 +134,14 @@ pub(crate) fn tie_tables<C: Chart>(
     chart: &C,
     order: &ShapeOrder,
 ) -> Result<TieTables, AllocError>
-    requires there { HasChainsOf (C.county chart.now) order.now.by_shape }
-    requires few { length order.now.by_shape < 2 ^ 32 }
+    requires { LeavesChoices (C.county chart.now) order.now }
     ensures { IfOk result (AreTieTables (C.county chart.now) order.now) }
 {
     let opened = open_among(alloc, order.open_places(), order.by_shape().len())?;
     let (keys, critical) = keys_and_places(alloc, chart, order)?;
     let numbers = critical_polygons(alloc, chart, &keys.polygons)?;
     let linked = has_open_links(chart, &keys.polygons.opened);
+    let names = open_names(alloc, chart, order)?;
     Ok(TieTables {
         nodes: keys.nodes,
         polygons: keys.polygons,
@@ -145,6 +149,7 @@ pub(crate) fn tie_tables<C: Chart>(
         critical,
         numbers,
         linked,
+        names,
     })
 }
 
@@ -156,7 +161,7 @@ fn chain_there(arrangement: &[DirectedChain], place: u32) -> Option<DirectedChai
 }
 
 /// The directed chains at places of an arrangement.
-fn chains_at(
+pub(crate) fn chains_at(
     alloc: Global,
     arrangement: &[DirectedChain],
     places: &[u32],
@@ -184,7 +189,7 @@ pub(crate) fn open_order<C: Chart>(
 {
     let chains = chains_at(alloc, &choice.chains, &tables.opened)?;
     let (ends, sides) = links_along(alloc, chart, &chains)?;
-    let nodes = order_of(alloc, &tables.nodes.opened, &ends)?;
-    let polygons = order_of(alloc, &tables.polygons.opened, &sides)?;
+    let nodes = order_of(alloc, &tables.nodes.opened, &PairKeys(&ends))?;
+    let polygons = order_of(alloc, &tables.polygons.opened, &PairKeys(&sides))?;
     Ok(OpenOrder { nodes, polygons })
 }
