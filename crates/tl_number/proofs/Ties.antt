@@ -20,6 +20,6 @@ pub mod LinkOrder
 pub mod TieOrder
 pub mod ChoiceRecords
 pub mod TakenPlaces
-pub mod SeenPairs
+pub mod SeenGroups
 pub mod CriticalNumbers
 pub mod TieReading

@@ -1,19 +1,27 @@
-use Rattle.tl_number.proofs.Common.{◌∙◌, ap, arith, drop_all, filter, flat_map, first_seen_after, keys_at, stands_in, sym}
-use Rattle.tl_number.proofs.Ties.SeenPairs.{pair_chosen}
+use Rattle.tl_number.proofs.Common.{◌≡◌, ◌<◌, ◌∙◌, ap, arith, drop, drop_all, filter, first_seen_after, grouped, length, stands_in, sym}
+use Rattle.tl_number.proofs.Ties.SeenGroups.{chosen_more, group_dropped}
 use Rattle.tl_number.proofs.open_keys.order_of.Goals as goal
 
-pub loop-pair-init : goal.loop-pair-init
-loop-pair-init g c =
-    ap (λ seen. first_seen_after g.T.Old.Ord.cmp seen (filter (λ key. stands_in g.T.Old.Ord.cmp key c.args.opened.now) (flat_map (keys_at g.T.Half.keys) c.args.pairs.now)))
+pub loop-place-init : goal.loop-place-init
+loop-place-init g c =
+    ap (λ seen. first_seen_after g.G.Item.Ord.cmp seen (filter (λ key. stands_in g.G.Item.Ord.cmp key c.args.opened.now) (grouped (g.G.KeyGroups.groups c.args.groups.now))))
     c.new-order.ensures
 
-pub loop-pair-preserved : goal.loop-pair-preserved
-loop-pair-preserved g c =
-    pair_chosen g.T.Old.Ord.cmp g.T.Half.keys (λ key. stands_in g.T.Old.Ord.cmp key c.args.opened.now) c.args.pairs.now c.loop-pair.pair-index c.pair-item.result
-    c.loop-pair-test.true c.pair-item.is c.loop-pair.order c.see_if_opened.new.order c.see_if_opened-in-loop-pair.new.order _
-    c.in_ok-see_if_opened.ensures c.in_ok-see_if_opened-2.ensures c.loop-pair.invariant
+pub read-requires : goal.read-requires
+read-requires g c = omega (arith, c.loop-place-test.true, c.count-place-end.ensures)
+
+pub loop-place-preserved : goal.loop-place-preserved
+loop-place-preserved g c =
+    let cmp = g.G.Item.Ord.cmp in
+    let groups = g.G.KeyGroups.groups c.args.groups.now in
+    let i = c.loop-place.place in
+    let keys = c.deref.result.now in
+    let within : i < length groups = omega (arith, c.loop-place-test.true, c.count-place-end.ensures) in
+    let split = group_dropped groups i keys within (c.deref.ensures.value ∙ c.in_ok-read.ensures) in
+    chosen_more cmp (λ key. stands_in cmp key c.args.opened.now) keys (grouped (drop (i + 1) groups)) (grouped (drop i groups))
+    c.loop-place.order c.see_opened.new.order _ (ap grouped split) c.in_ok-see_opened.ensures c.loop-place.invariant
 
 pub returns : goal.returns
 returns g c =
-    sym (ap (λ pairs. first_seen_after g.T.Old.Ord.cmp c.loop-pair.order (filter (λ key. stands_in g.T.Old.Ord.cmp key c.args.opened.now)
-    (flat_map (keys_at g.T.Half.keys) pairs))) (drop_all c.loop-pair.pair-index c.args.pairs.now (omega (arith, c.loop-pair-test.false)))) ∙ c.loop-pair.invariant
+    sym (ap (λ rest. first_seen_after g.G.Item.Ord.cmp c.loop-place.order (filter (λ key. stands_in g.G.Item.Ord.cmp key c.args.opened.now) (grouped rest)))
+    (drop_all c.loop-place.place (g.G.KeyGroups.groups c.args.groups.now) (omega (arith, c.loop-place-test.false, c.count-place-end.ensures)))) ∙ c.loop-place.invariant

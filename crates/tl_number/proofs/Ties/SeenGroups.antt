@@ -1,0 +1,75 @@
+-- Keys that are seen chain by chain, and key by key.
+use Rattle.tl_number.proofs.Common.{◌≡◌, ◌<◌, ◌+◌, ◌∙◌, ℕ, zero, suc, List, [], ◌∷◌, ◌++◌, drop, filter, length, get_or, slice_get, Bool, true, false, cond, Ordering, Some}
+use Rattle.tl_number.proofs.Common.{IsKeyOrder, open_keys, refl, sym, ap, ap₂, arith, first_seen_after, group_at, grouped, newly_seen, slice_get-get_or, append_assoc, unwrap_or}
+use Rattle.std.proofs.lemmas.List.Elements.{filter-append}
+use Rattle.tl_number.proofs.Numbering.SeenLists.{seen_append}
+use Rattle.tl_number.proofs.Ties.NewlySeen.{newly_append, seen_newly}
+
+-- the elements from a place on, the first of them apart
+pub one_dropped : {Y : Type 0} (ys : List Y) (i : ℕ) (y : Y) → i < length ys → y ≡ get_or ys i y → drop i ys ≡ y ∷ drop (i + 1) ys
+one_dropped {Y} ys i y within is = go ys i (slice_get-get_or ys i y within ∙ ap Some (sym is)) ∙ ap (λ n. y ∷ drop n ys) (let t : suc i ≡ i + 1 = omega arith in t)
+  where
+    go : (zs : List Y) (j : ℕ) → slice_get zs j ≡ Some y → drop j zs ≡ y ∷ drop (suc j) zs
+    go [] j e = cc
+    go (z ∷ zs) zero e = let same : z ≡ y = cc in ap (λ w. w ∷ zs) same
+    go (z ∷ zs) (suc j) e = go zs j e
+
+-- and of groups
+pub group_dropped : {Y : Type 0} (groups : List (List Y)) (i : ℕ) (group : List Y) → i < length groups → group ≡ group_at groups i
+    → drop i groups ≡ group ∷ drop (i + 1) groups
+group_dropped groups i group within is =
+    ap (λ g. g) (one_dropped groups i (group_at groups i) within (there groups i within)) ∙ ap (λ g. g ∷ drop (i + 1) groups) (sym is)
+  where
+    there : {Y : Type 0} (gs : List (List Y)) (j : ℕ) → j < length gs → group_at gs j ≡ get_or gs j (group_at gs j)
+    there gs j l = ap (λ o. unwrap_or o []) (slice_get-get_or gs j (group_at gs j) l)
+
+module _ {K : Type 0} (cmp : K → K → Ordering) (is_chosen : K → Bool) where
+  -- a key that is seen if it's chosen
+  pub chosen_one : (k : K) (before after : List K) (b : Bool) → is_chosen k ≡ b
+      → after ≡ cond b (first_seen_after cmp before (k ∷ [])) before → after ≡ first_seen_after cmp before (filter is_chosen (k ∷ []))
+  chosen_one k before after true e put = put ∙ sym (ap (λ b. first_seen_after cmp before (cond b (k ∷ []) [])) e)
+  chosen_one k before after false e put = put ∙ sym (ap (λ b. first_seen_after cmp before (cond b (k ∷ []) [])) e)
+
+  -- the chosen keys of one list, and those behind it
+  pub chosen_more : (keys rest all before after whole : List K) → all ≡ keys ++ rest → after ≡ first_seen_after cmp before (filter is_chosen keys)
+      → first_seen_after cmp before (filter is_chosen all) ≡ whole → first_seen_after cmp after (filter is_chosen rest) ≡ whole
+  chosen_more keys rest all before after whole split put is =
+      ap (λ seen. first_seen_after cmp seen (filter is_chosen rest)) put
+      ∙ sym (seen_append cmp before (filter is_chosen keys) (filter is_chosen rest))
+      ∙ ap (first_seen_after cmp before) (sym (filter-append is_chosen keys rest))
+      ∙ ap (λ l. first_seen_after cmp before (filter is_chosen l)) (sym split) ∙ is
+
+-- the keys of one list, and those behind it
+pub seen_more : {K : Type 0} (cmp : K → K → Ordering) (keys rest all before after whole : List K) → all ≡ keys ++ rest → after ≡ first_seen_after cmp before keys
+    → first_seen_after cmp before all ≡ whole → first_seen_after cmp after rest ≡ whole
+seen_more cmp keys rest all before after whole split put is =
+    ap (λ seen. first_seen_after cmp seen rest) put ∙ sym (seen_append cmp before keys rest) ∙ ap (first_seen_after cmp before) (sym split) ∙ is
+
+-- Keys that are seen, and the open ones of them.
+module _ {K : Type 0} {cmp : K → K → Ordering} (o : IsKeyOrder cmp) where
+  -- the new keys of one list, if its place is open, and those behind it
+  pub new_more : (b : Bool) (keys rest all before after opened next whole : List K) → all ≡ keys ++ rest → after ≡ first_seen_after cmp before keys
+      → next ≡ opened ++ cond b (newly_seen cmp before keys) [] → opened ++ cond b (newly_seen cmp before all) [] ≡ whole
+      → next ++ cond b (newly_seen cmp after rest) [] ≡ whole
+  new_more b keys rest all before after opened next whole split seen put is =
+      ap₂ (λ l k. l ++ cond b (newly_seen cmp k rest) []) put (seen ∙ seen_newly o before keys)
+      ∙ append_assoc opened (cond b (newly_seen cmp before keys) []) _
+      ∙ ap (λ l. opened ++ l) (go b ∙ ap (λ l. cond b l []) (sym (newly_append o before keys rest) ∙ ap (newly_seen cmp before) (sym split)))
+      ∙ is
+    where
+      go : (d : Bool) → cond d (newly_seen cmp before keys) [] ++ cond d (newly_seen cmp (before ++ newly_seen cmp before keys) rest) []
+          ≡ cond d (newly_seen cmp before keys ++ newly_seen cmp (before ++ newly_seen cmp before keys) rest) []
+      go true = refl
+      go false = refl
+
+  -- one chain more
+  pub opened_more : (is_open : ℕ → Bool) (groups rest : List (List K)) (keys : List K) (i : ℕ) → groups ≡ keys ∷ rest → (b : Bool) → b ≡ is_open i
+      → (before after opened next whole : List K) → after ≡ first_seen_after cmp before keys
+      → next ≡ opened ++ cond b (newly_seen cmp before keys) []
+      → opened ++ open_keys cmp is_open before i groups ≡ whole → next ++ open_keys cmp is_open after (i + 1) rest ≡ whole
+  opened_more is_open groups rest keys i split b at before after opened next whole seen put is =
+      ap₂ (λ l k. l ++ open_keys cmp is_open k (i + 1) rest) put (seen ∙ seen_newly o before keys)
+      ∙ append_assoc opened (cond b (newly_seen cmp before keys) []) _
+      ∙ ap (λ d. opened ++ (cond d (newly_seen cmp before keys) []
+      ++ open_keys cmp is_open (before ++ newly_seen cmp before keys) (i + 1) rest)) at
+      ∙ ap (λ gs. opened ++ open_keys cmp is_open before i gs) (sym split) ∙ is
