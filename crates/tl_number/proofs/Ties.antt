@@ -10,6 +10,7 @@ pub mod OpenChains
 pub mod OpenLinks
 pub mod OpenRecords
 pub mod OpenPlaces
+pub mod ChainGroups
 pub mod RangeOrder
 pub mod TieNumbers
 pub mod RecordExact
