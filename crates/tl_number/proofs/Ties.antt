@@ -16,6 +16,7 @@ pub mod TieNumbers
 pub mod RecordExact
 pub mod CriticalKeys
 pub mod TopologyOrder
+pub mod NameRecords
 pub mod PolygonOrder
 pub mod LinkOrder
 pub mod TieOrder

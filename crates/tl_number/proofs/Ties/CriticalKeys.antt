@@ -241,5 +241,6 @@ module _ (county : County) (shapes : OrderOfShapes) (known : LeavesChoices count
                     let both : true ≡ false = sym (ap₂ (λ x y. x && not y) e f) ∙ fails in cc
             go false e = stay n m k e (in_choice n k h) (in_choice m k h)
 
+        -- So they number the keys of the chain at any other fixed place alike.
         pub alike_there : AllByRecursion (λ k. new (new_of n) k ≡ new (new_of m) k) (keys chain)
         alike_there = all_known o (λ k. new (new_of n) k ≡ new (new_of m) k) (keys chain) same_new

@@ -1,8 +1,7 @@
 -- Numbers are in the order of their canonical texts of one width.
-use Rattle.tl_number.proofs.Common.{◌≡◌, ◌==◌, ◌<◌, ◌+◌, ◌/◌, ◌%◌, ◌^◌, ℕ, zero, suc, List, [], ◌∷◌, ◌++◌, ◌≢◌, ap, ap₂, nat_eq, Bool, true, false, cond, Ordering}
-use Rattle.tl_number.proofs.Common.{Less, Equal, Greater, nat_cmp, refl, sym, ◌∙◌, arith, MatchOrdering}
-use Rattle.tl_number.proofs.Common.{eqb-true, exact_unsigned, joined, length, length-append, nat_list_cmp_total, ordering_then, ranked}
-use Rattle.tl_number.proofs.Common.{slice_cmp, tied_itself}
+use Rattle.tl_number.proofs.Common.{◌≡◌, ◌==◌, ◌<◌, ◌+◌, ◌/◌, ◌%◌, ◌^◌, ◌≢◌, ◌∙◌, ℕ, zero, suc, nat_eq, List, [], ◌∷◌, ◌++◌, length, length-append}
+use Rattle.tl_number.proofs.Common.{Bool, true, false, cond, Ordering, Less, Equal, Greater, MatchOrdering, nat_cmp, refl, sym, ap, ap₂, arith}
+use Rattle.tl_number.proofs.Common.{eqb-true, exact_unsigned, joined, nat_list_cmp_total, ordering_then, ranked, slice_cmp, tied_itself}
 use Rattle.std.proofs.lemmas.Bool.{eqb-false}
 use Rattle.std.specs.Cmp.{nat_cmp_is}
 use Rattle.tl_layout.specs.FieldTexts.{number_text}
