@@ -10,11 +10,13 @@ pub mod OpenChains
 pub mod OpenLinks
 pub mod OpenRecords
 pub mod OpenPlaces
+pub mod ChainGroups
 pub mod RangeOrder
 pub mod TieNumbers
 pub mod RecordExact
 pub mod CriticalKeys
 pub mod TopologyOrder
+pub mod NameRecords
 pub mod PolygonOrder
 pub mod LinkOrder
 pub mod TieOrder

@@ -14,7 +14,6 @@ use Rattle.tl_number.specs.declared.open_keys.OpenKeys.{OpenKeys}
 use Rattle.tl_number.proofs.Choices.ChosenArrangements.{arrangement_of_number_apart}
 use Rattle.tl_number.proofs.Landmarks.LandmarkLinks.{pieces_next}
 use Rattle.tl_number.proofs.Numbering.FirstSeen.{to_first_seen}
-use Rattle.tl_number.proofs.Ties.Counterparts.{AreCounterparts}
 use Rattle.tl_number.proofs.Ties.NewlySeen.{AreAlike}
 use Rattle.tl_number.proofs.Ties.OpenChains.{closed_apart}
 use Rattle.tl_number.proofs.Ties.TieNumbers.{chosen_chains, counterparts}
@@ -94,18 +93,33 @@ module _ (county : County) (shapes : OrderOfShapes) (known : LeavesChoices count
   fixed_there n place fixed = arrangement_of_number_apart county is shapes.by_shape known.order.by_shape shapes.places (known.order.places known.few)
       (chains_of n) n refl place (closed_apart place shapes.places fixed)
 
-  -- Nodes or polygons, and their numbers in a choice.
-  module _ {K : Type 0} {cmp : K → K → Ordering} (o : IsKeyOrder cmp) (keys : Chain → List K)
-      (turned_keys : (chain : Chain) → AreAlike cmp (keys (turned chain)) (keys chain)) (new : Renumbering → K → K) (make : K → ℕ → K)
-      (new_is : (n : ℕ) (k : K) → Known cmp (first_seen cmp (grouped (keys_along keys county (chains_of n)))) k
-      → new (new_of n) k ≡ make k (place_in cmp (first_seen cmp (grouped (keys_along keys county (chains_of n)))) k))
-      (keys_renumbered : (r : Renumbering) (chain : Chain) → keys (renumbered r chain) ≡ map (new r) (keys chain))
-      (tables : OpenKeys (List K)) (are : AreOpenKeys cmp shapes.places (keys_along keys county shapes.by_shape) tables) where
-    abbrev along : List (List K)
-    along = keys_along keys county shapes.by_shape
-
+  -- Keys of one kind, and their numbers in a choice.
+  module _ {K : Type 0} {cmp : K → K → Ordering} (o : IsKeyOrder cmp) (keys : Chain → List K) (new : Renumbering → K → K) where
     abbrev all_of : ℕ → List K
     all_of n = first_seen cmp (grouped (keys_along keys county (chains_of n)))
+
+    -- a key that isn't among these has one number in all choices that have it
+    abbrev pub Stay : List K → Type 0
+    Stay opened = (n m : ℕ) (k : K) → stands_in cmp k opened ≡ false → Known cmp (all_of n) k → Known cmp (all_of m) k
+        → new (new_of n) k ≡ new (new_of m) k
+
+    -- Those that aren't open do so if their numbers are their places among first appearances.
+    pub places_stay : ((chain : Chain) → AreAlike cmp (keys (turned chain)) (keys chain)) → (make : K → ℕ → K)
+        → ((n : ℕ) (k : K) → Known cmp (all_of n) k → new (new_of n) k ≡ make k (place_in cmp (all_of n) k))
+        → (tables : OpenKeys (List K)) → AreOpenKeys cmp shapes.places (keys_along keys county shapes.by_shape) tables → Stay tables.opened
+    places_stay turned_keys make new_is tables are n m k e h l =
+        let one = counterparts county shapes known is within o keys turned_keys n in
+        let other = counterparts county shapes known is within o keys turned_keys m in
+        let apart : Known cmp (first_open cmp shapes.places (keys_along keys county shapes.by_shape)) k → ⊥ =
+        λ g. (let both : false ≡ true = sym e ∙ lt-ltb 0 (times cmp k tables.opened) (subst (λ ks. Known cmp ks k) (sym are.opened) g) in cc) in
+        new_is n k h ∙ ap (make k) (sym (one.stayed k apart) ∙ other.stayed k apart) ∙ sym (new_is m k l)
+
+  -- If those that aren't open have one number in all choices:
+  module _ {K : Type 0} {cmp : K → K → Ordering} (o : IsKeyOrder cmp) (keys : Chain → List K) (new : Renumbering → K → K)
+      (keys_renumbered : (r : Renumbering) (chain : Chain) → keys (renumbered r chain) ≡ map (new r) (keys chain)) (opened : List K)
+      (stay : Stay o keys new opened) where
+    abbrev along : List (List K)
+    along = keys_along keys county shapes.by_shape
 
     abbrev keys_of : DirectedChain → List K
     keys_of directed = flat_map keys (option_to_list (directed_chain county directed))
@@ -152,13 +166,13 @@ module _ (county : County) (shapes : OrderOfShapes) (known : LeavesChoices count
       first : ℕ
       before : first < place
       fixed : is_open shapes.places first ≡ false
-      new_there : brings cmp shapes.places tables.opened along first ≡ true
+      new_there : brings cmp shapes.places opened along first ≡ true
       here : Known cmp (group_at along first) k
 
-    first_fixed : (place : ℕ) (k : K) → stands_in cmp k tables.opened ≡ true → Known cmp (fixed_keys shapes.places along place) k → FirstFixed place k
-    first_fixed zero k opened h = absurd (omega (arith, h))
-    first_fixed (suc place) k opened h =
-        go (stands_in cmp k (fixed_keys shapes.places along place)) refl (is_open shapes.places place) refl (first_fixed place k opened)
+    first_fixed : (place : ℕ) (k : K) → stands_in cmp k opened ≡ true → Known cmp (fixed_keys shapes.places along place) k → FirstFixed place k
+    first_fixed zero k is_opened h = absurd (omega (arith, h))
+    first_fixed (suc place) k is_opened h =
+        go (stands_in cmp k (fixed_keys shapes.places along place)) refl (is_open shapes.places place) refl (first_fixed place k is_opened)
         (known-append o k (fixed_keys shapes.places along place) (cond (not (is_open shapes.places place)) (group_at along place) [])
         (subst (λ l. Known cmp l k) (ap (fixed_keys shapes.places along) (let t : suc place ≡ place + 1 = omega arith in t)
         ∙ fixed_more shapes.places along place) h))
@@ -182,8 +196,8 @@ module _ (county : County) (shapes : OrderOfShapes) (known : LeavesChoices count
           first = place;
           before = omega arith;
           fixed = f;
-          new_there = some_passes o (λ key. stands_in cmp key tables.opened && not (stands_in cmp key (fixed_keys shapes.places along place)))
-              (group_at along place) k l (ap₂ (λ x y. x && not y) opened e);
+          new_there = some_passes o (λ key. stands_in cmp key opened && not (stands_in cmp key (fixed_keys shapes.places along place)))
+              (group_at along place) k l (ap₂ (λ x y. x && not y) is_opened e);
           here = l;
         }
 
@@ -194,19 +208,15 @@ module _ (county : County) (shapes : OrderOfShapes) (known : LeavesChoices count
       AgreeAt place = (directed : DirectedChain) (chain : Chain) → slice_get shapes.by_shape place ≡ Some directed
           → directed_chain county directed ≡ Some chain → keys (renumbered (new_of n) chain) ≡ keys (renumbered (new_of m) chain)
 
-      module _ (place : ℕ) (fixed : is_open shapes.places place ≡ false) (nothing_new : brings cmp shapes.places tables.opened along place ≡ false)
-          (before : (q : ℕ) → q < place → is_open shapes.places q ≡ false → brings cmp shapes.places tables.opened along q ≡ true → AgreeAt q)
+      module _ (place : ℕ) (fixed : is_open shapes.places place ≡ false) (nothing_new : brings cmp shapes.places opened along place ≡ false)
+          (before : (q : ℕ) → q < place → is_open shapes.places q ≡ false → brings cmp shapes.places opened along q ≡ true → AgreeAt q)
           (directed : DirectedChain) (chain : Chain) (there : slice_get shapes.by_shape place ≡ Some directed)
           (of_directed : directed_chain county directed ≡ Some chain) where
-        abbrev counterparts_of : (i : ℕ) → AreCounterparts o (first_seen cmp (grouped along)) (first_open cmp shapes.places along)
-            (all_of i) (first_open cmp shapes.places (keys_along keys county (chains_of i)))
-        counterparts_of i = counterparts county shapes known is within o keys turned_keys i
-
-        in_choice : (i : ℕ) (k : K) → Known cmp (keys chain) k → Known cmp (all_of i) k
+        in_choice : (i : ℕ) (k : K) → Known cmp (keys chain) k → Known cmp (first_seen cmp (grouped (keys_along keys county (chains_of i)))) k
         in_choice i k h = key_of_chain o county (chains_of i) keys place directed chain (fixed_there i place fixed ∙ there) of_directed k h
 
         same_new : (k : K) → Known cmp (keys chain) k → new (new_of n) k ≡ new (new_of m) k
-        same_new k h = go (stands_in cmp k tables.opened) refl
+        same_new k h = go (stands_in cmp k opened) refl
           where
             by_first : FirstFixed place k → new (new_of n) k ≡ new (new_of m) k
             by_first f =
@@ -217,7 +227,7 @@ module _ (county : County) (shapes : OrderOfShapes) (known : LeavesChoices count
                 (mapped_alike o (new (new_of n)) (new (new_of m)) (keys at.chain)
                 (sym (keys_renumbered (new_of n) at.chain) ∙ same ∙ keys_renumbered (new_of m) at.chain)) k at.key
 
-            go : (b : Bool) → stands_in cmp k tables.opened ≡ b → new (new_of n) k ≡ new (new_of m) k
+            go : (b : Bool) → stands_in cmp k opened ≡ b → new (new_of n) k ≡ new (new_of m) k
             go true e = by_first (first_fixed place k e (old (stands_in cmp k (fixed_keys shapes.places along place)) refl))
               where
                 here : Known cmp (group_at along place) k
@@ -226,15 +236,11 @@ module _ (county : County) (shapes : OrderOfShapes) (known : LeavesChoices count
                 old : (c : Bool) → stands_in cmp k (fixed_keys shapes.places along place) ≡ c → Known cmp (fixed_keys shapes.places along place) k
                 old true f = ltb-true 0 (times cmp k (fixed_keys shapes.places along place)) f
                 old false f =
-                    let fails = none_passes o (λ key. stands_in cmp key tables.opened && not (stands_in cmp key (fixed_keys shapes.places along place)))
+                    let fails = none_passes o (λ key. stands_in cmp key opened && not (stands_in cmp key (fixed_keys shapes.places along place)))
                     (group_at along place) k nothing_new here in
                     let both : true ≡ false = sym (ap₂ (λ x y. x && not y) e f) ∙ fails in cc
-            go false e =
-                let apart : Known cmp (first_open cmp shapes.places along) k → ⊥ =
-                λ l. (let both : false ≡ true = sym e ∙ lt-ltb 0 (times cmp k tables.opened) (subst (λ g. Known cmp g k) (sym are.opened) l) in cc) in
-                new_is n k (in_choice n k h)
-                ∙ ap (make k) (sym ((counterparts_of n).stayed k apart) ∙ (counterparts_of m).stayed k apart)
-                ∙ sym (new_is m k (in_choice m k h))
+            go false e = stay n m k e (in_choice n k h) (in_choice m k h)
 
+        -- So they number the keys of the chain at any other fixed place alike.
         pub alike_there : AllByRecursion (λ k. new (new_of n) k ≡ new (new_of m) k) (keys chain)
         alike_there = all_known o (λ k. new (new_of n) k ≡ new (new_of m) k) (keys chain) same_new

@@ -10,7 +10,8 @@ slice_get_within_some [] place h = absurd (omega (arith, h))
 slice_get_within_some (x ∷ xs) zero h = refl
 slice_get_within_some (x ∷ xs) (suc place) h = slice_get_within_some xs place (omega (arith, h))
 
-then_same : (o p q : Ordering) → (o ≡ Equal → p ≡ q) → ordering_then o p ≡ ordering_then o q
+-- a comparison before two others, which agree if it finds both equal
+pub then_same : (o p q : Ordering) → (o ≡ Equal → p ≡ q) → ordering_then o p ≡ ordering_then o q
 then_same Less p q h = refl
 then_same Equal p q h = h refl
 then_same Greater p q h = refl

@@ -25,7 +25,7 @@ use Rattle.tl_number.proofs.Records.PackedGroups.{is as is_packed}
 use Rattle.tl_number.proofs.Texts.SameLists.{read_along}
 use Rattle.tl_number.proofs.Texts.TopologyRecords.{entry_of_directed, no_topology, topology_record_there}
 use Rattle.tl_number.proofs.Texts.TypeOnes.{same_one}
-use Rattle.tl_number.proofs.Ties.CriticalKeys.{alike_there, chains_of, fixed_there, new_of}
+use Rattle.tl_number.proofs.Ties.CriticalKeys.{alike_there, chains_of, fixed_there, new_of, places_stay}
 use Rattle.tl_number.proofs.Ties.NewlySeen.{AreAlike}
 use Rattle.tl_number.proofs.Ties.PartOrder.{part_decides}
 use Rattle.tl_number.proofs.Ties.RecordExact.{topologies_fit, topology_exact}
@@ -218,12 +218,15 @@ module _ (county : County) (shapes : OrderOfShapes) (known : LeavesChoices count
             let at = entry_of_directed county (chains_of county shapes known is within n) is (whole_numbered county shapes known is within n) place directed
             (fixed_there county shapes known is within n place fixed ∙ e) in
             let same = same_record r s at.chain
-            (alike_there county shapes known is within nat_keys chain_nodes turned_nodes new_node (λ k p. 1 + p) node_is
-            nodes_renumbered tables.nodes are.nodes n m place fixed nothing_new.0
+            (alike_there county shapes known is within nat_keys chain_nodes new_node nodes_renumbered tables.nodes.opened
+            (places_stay county shapes known is within nat_keys chain_nodes new_node turned_nodes (λ k p. 1 + p) node_is tables.nodes are.nodes)
+            n m place fixed nothing_new.0
             (λ q l q_fixed new d c f g. ap (λ (x : FieldsI). option_to_list x.start_node ++ option_to_list x.end_node)
             (tied_same q q_fixed (before q l (critical_nodes q new)) d c f g)) directed at.chain e at.of_directed)
-            (alike_there county shapes known is within key_keys chain_polygons turned_polygons new_polygon (λ k p. (k.0, 1 + p)) polygon_is
-            polygons_renumbered tables.polygons are.polygons n m place fixed nothing_new.1
+            (alike_there county shapes known is within key_keys chain_polygons new_polygon polygons_renumbered tables.polygons.opened
+            (places_stay county shapes known is within key_keys chain_polygons new_polygon turned_polygons (λ k p. (k.0, 1 + p)) polygon_is
+            tables.polygons are.polygons)
+            n m place fixed nothing_new.1
             (λ q l q_fixed new d c f g. ap (λ (x : FieldsI). key_on x.left ++ key_on x.right)
             (tied_same q q_fixed (before q l (critical_polygons q new)) d c f g)) directed at.chain e at.of_directed)
             (1 + place) in
