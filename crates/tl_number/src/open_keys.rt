@@ -144,6 +144,20 @@ pub(crate) fn open_keys<G: KeyGroups>(
     })
 }
 
+/// Sees a key, if it is one of the open keys.
+fn see_if_opened<K: Key + Hash + NumericKey>(
+    opened: &Interner<K>,
+    order: &mut Interner<K>,
+    key: K,
+) -> Result<(), AllocError>
+    ensures { OnOk result (order.new ≡ first_seen_after K.cmp order.old (filter (λ key. stands_in K.cmp key opened.now) (key ∷ []))) }
+{
+    if has_key(opened, key) {
+        order.see(key)?;
+    }
+    Ok(())
+}
+
 /// Sees those of these keys that are open.
 pub(crate) fn see_opened<K: Key + Hash + NumericKey>(
     opened: &Interner<K>,
@@ -153,9 +167,7 @@ pub(crate) fn see_opened<K: Key + Hash + NumericKey>(
     ensures { OnOk result (order.new ≡ first_seen_after K.cmp order.old (filter (λ key. stands_in K.cmp key opened.now) keys.now)) }
 {
     for key in keys {
-        if has_key(opened, *key) {
-            order.see(*key)?;
-        }
+        see_if_opened(opened, order, *key)?;
     }
     Ok(())
 }

@@ -24,12 +24,6 @@ group_dropped groups i group within is =
     there gs j l = ap (λ o. unwrap_or o []) (slice_get-get_or gs j (group_at gs j) l)
 
 module _ {K : Type 0} (cmp : K → K → Ordering) (is_chosen : K → Bool) where
-  -- a key that is seen if it's chosen
-  pub chosen_one : (k : K) (before after : List K) (b : Bool) → is_chosen k ≡ b
-      → after ≡ cond b (first_seen_after cmp before (k ∷ [])) before → after ≡ first_seen_after cmp before (filter is_chosen (k ∷ []))
-  chosen_one k before after true e put = put ∙ sym (ap (λ b. first_seen_after cmp before (cond b (k ∷ []) [])) e)
-  chosen_one k before after false e put = put ∙ sym (ap (λ b. first_seen_after cmp before (cond b (k ∷ []) [])) e)
-
   -- the chosen keys of one list, and those behind it
   pub chosen_more : (keys rest all before after whole : List K) → all ≡ keys ++ rest → after ≡ first_seen_after cmp before (filter is_chosen keys)
       → first_seen_after cmp before (filter is_chosen all) ≡ whole → first_seen_after cmp after (filter is_chosen rest) ≡ whole

@@ -1,6 +1,10 @@
-use Rattle.tl_number.proofs.Common.{◌∷◌, [], ◌++◌, ◌∙◌, ap, arith, append-nil, cond, drop, drop_all, first_seen_after, newly_seen, refl, sym, IsKeyOrder}
+use Rattle.tl_number.proofs.Common.{◌≡◌, ◌+◌, ◌∷◌, [], ◌++◌, ◌∙◌, List, Bool, true, false, ap, arith, append-nil, cond, drop, drop_all, first_seen_after, newly_seen, refl, sym, IsKeyOrder}
 use Rattle.tl_number.proofs.Ties.SeenGroups.{new_more, one_dropped, seen_more}
 use Rattle.tl_number.proofs.open_keys.see_keys.Goals as goal
+
+none : {X : Type 0} (b : Bool) → cond b ([] : List X) [] ≡ []
+none true = refl
+none false = refl
 
 pub loop-key-init : goal.loop-key-init
 loop-key-init g c = record { all = refl; opened = refl }

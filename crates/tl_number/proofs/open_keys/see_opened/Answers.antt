@@ -1,12 +1,18 @@
-use Rattle.tl_number.proofs.Common.{◌∷◌, [], ◌∙◌, ap, arith, drop, drop_all, false, filter, first_seen_after, refl, stands_in, sym, true}
-use Rattle.tl_number.proofs.Ties.SeenGroups.{chosen_more, chosen_one, one_dropped}
+use Rattle.tl_number.proofs.Common.{◌+◌, ◌∷◌, [], ◌∙◌, ap, arith, drop, drop_all, filter, first_seen_after, refl, stands_in, sym}
+use Rattle.tl_number.proofs.Ties.SeenGroups.{chosen_more, one_dropped}
 use Rattle.tl_number.proofs.open_keys.see_opened.Goals as goal
 
 pub loop-key-init : goal.loop-key-init
 loop-key-init g c = refl
 
 pub loop-key-preserved : goal.loop-key-preserved
-loop-key-preserved g c = ?preserved
+loop-key-preserved g c =
+    let cmp = g.K.Ord.cmp in
+    let keys = c.args.keys.now in
+    let i = c.loop-key.key-index in
+    chosen_more cmp (λ key. stands_in cmp key c.args.opened.now) (c.key-item.result ∷ []) (drop (i + 1) keys) (drop i keys)
+    c.loop-key.order c.see_if_opened.new.order _ (one_dropped keys i c.key-item.result c.loop-key-test.true c.key-item.is)
+    c.in_ok-see_if_opened.ensures c.loop-key.invariant
 
 pub returns : goal.returns
 returns g c =
