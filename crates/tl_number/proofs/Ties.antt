@@ -23,3 +23,4 @@ pub mod TakenPlaces
 pub mod SeenPairs
 pub mod CriticalNumbers
 pub mod TieReading
+pub mod NamesInOrder
