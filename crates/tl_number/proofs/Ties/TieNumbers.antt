@@ -20,7 +20,8 @@ use Rattle.tl_number.proofs.Choices.LeastOnes.{agree_of_numbers, whole_of_number
 use Rattle.tl_number.proofs.Landmarks.LandmarkLinks.{listed}
 use Rattle.tl_number.proofs.Numbering.FirstSeen.{first_seen-apart, known_within}
 use Rattle.tl_number.proofs.Texts.TypeOnes.{length_whole}
-use Rattle.tl_number.proofs.Ties.Counterparts.{AreCounterparts, key_of_open, key_of_other, opened_new, place_of_open, place_of_other, there_found, got_known}
+use Rattle.tl_number.proofs.Ties.Counterparts.{AreCounterparts, AreExchanged, AreKept, key_of_open, key_of_other, opened_new, place_of_open, place_of_other}
+use Rattle.tl_number.proofs.Ties.Counterparts.{there_found, got_known}
 use Rattle.tl_number.proofs.Ties.MovedKeys.{moved_exchange}
 use Rattle.tl_number.proofs.Ties.NewlySeen.{AreAlike, alike_itself, seen_newly}
 use Rattle.tl_number.proofs.Ties.OpenChains.{covered_among}
@@ -127,10 +128,19 @@ module _ (county : County) (shapes : OrderOfShapes) (known : LeavesChoices count
         go (Some chain) true = lone (keys chain) (keys (turned chain)) (back (keys (turned chain)) (keys chain) (turned_keys chain))
         go (Some chain) false = lone (keys (turned chain)) (keys chain) (turned_keys chain)
 
-    pub counterparts : (n : ℕ) → AreCounterparts o (all_of shapes.by_shape) (open_of shapes.by_shape) (all_of (chosen_chains n)) (open_of (chosen_chains n))
-    counterparts n = moved_exchange o other_way keys_of turned_alike (is_open shapes.places) shapes.places shapes.by_shape n
+    -- the order of shapes and a choice exchange open keys
+    exchanged : (n : ℕ) → AreExchanged o (all_of shapes.by_shape) (open_of shapes.by_shape) (all_of (chosen_chains n)) (open_of (chosen_chains n))
+    exchanged n = moved_exchange o other_way keys_of turned_alike (is_open shapes.places) shapes.places shapes.by_shape n
         (places_within county is shapes.by_shape known.order.by_shape shapes.places (known.order.places known.few))
         (covered_among shapes.places shapes.places (λ place e. e))
+
+    -- so their open keys are counterparts
+    pub counterparts : (n : ℕ) → AreCounterparts o (all_of shapes.by_shape) (open_of shapes.by_shape) (all_of (chosen_chains n)) (open_of (chosen_chains n))
+    counterparts n = (exchanged n).counterparts
+
+    -- and each key comes before a key that isn't open in both or in neither
+    pub kept : (n : ℕ) → AreKept cmp (all_of shapes.by_shape) (open_of shapes.by_shape) (all_of (chosen_chains n))
+    kept n = (exchanged n).kept
 
     -- the order of the open keys of a choice, read at open places
     pub order_is : (n : ℕ) (opened order : List K) → opened ≡ open_of shapes.by_shape
