@@ -1,17 +1,15 @@
 -- The open names of a choice, sorted among themselves, and the numbers of the names of chains.
-use Rattle.tl_number.proofs.Common.{[], ◌+◌, ◌<◌, ◌∙◌, ◌∷◌, ◌≡◌, all_among, all_known, all_map, all_weaker, AllByRecursion, AllStandIn, Among}
+use Rattle.tl_number.proofs.Common.{[], ◌+◌, ◌∙◌, ◌∷◌, ◌≡◌, all_among, all_known, all_map, all_weaker, AllByRecursion, AllStandIn, Among}
 use Rattle.tl_number.proofs.Common.{among-permutation, among-unmap, among_known, ap, apart-permutation, apart-permutation_of, apart_from_sorted}
-use Rattle.tl_number.proofs.Common.{append-nil, AreWhole, arith, arrangement_of, Bool, Chain, chain_at, cond, County, directed_chain, DirectedChain}
-use Rattle.tl_number.proofs.Common.{each_from, entry_values, Equal, false, feats, feats_along_arrangement, feats_of, filter, filter_map, first_seen}
-use Rattle.tl_number.proofs.Common.{flat_map, get_or, Greater, grouped, image, in_order-map, in_order-permutation, is_open, IsApart, IsCounty}
-use Rattle.tl_number.proofs.Common.{IsInOrder, IsPermutation, IsPermutation-map, IsPermutation-sym, IsPermutation-trans, IsTrue, keys_along, Known}
-use Rattle.tl_number.proofs.Common.{known-permutation, known_is_among, Less, List, lt-ltb, ltb-true, map, map-map, map_agree_all, MatchOrdering}
-use Rattle.tl_number.proofs.Common.{nat_cmp, nat_keys, None, on, open_keys, OpenPlace, Option, option_cmp, option_map, option_to_list, Ordering}
-use Rattle.tl_number.proofs.Common.{ordering_then, place_in, ranked, refl, renaming_of, slice_get, Some, stands_in, subst, suc, sym, times, true}
-use Rattle.tl_number.proofs.Common.{turned_if, zero, ℕ}
-use Rattle.std.specs.Cmp.{nat_cmp_is}
+use Rattle.tl_number.proofs.Common.{append-nil, AreWhole, arith, arrangement_of, Bool, Chain, chain_at, County, directed_chain, DirectedChain}
+use Rattle.tl_number.proofs.Common.{each_from, entry_values, false, feats, feats_along_arrangement, feats_of, filter, filter_map, first_seen}
+use Rattle.tl_number.proofs.Common.{flat_map, get_or, grouped, image, in_order-map, in_order-permutation, is_open, IsApart, IsCounty, IsInOrder}
+use Rattle.tl_number.proofs.Common.{IsPermutation, IsPermutation-map, IsPermutation-sym, IsPermutation-trans, IsTrue, keys_along, Known}
+use Rattle.tl_number.proofs.Common.{known-permutation, known_is_among, List, lt-ltb, ltb-true, map, map-map, map_agree_all, nat_cmp, nat_keys, None}
+use Rattle.tl_number.proofs.Common.{on, OpenPlace, Option, option_cmp, option_map, option_to_list, ordering_then, place_in, refl, renaming_of}
+use Rattle.tl_number.proofs.Common.{slice_get, Some, stands_in, subst, suc, sym, times, true, turned_if, zero, ℕ}
 use Rattle.std.proofs.lemmas.Option.{get_or_from_slice_get}
-use Rattle.ordered_lists.proofs.ByKey.Keys.{apart-filter, times-filter}
+use Rattle.ordered_lists.proofs.ByKey.Keys.{apart-filter}
 use Rattle.ordered_lists.proofs.Lists.Elements.{flat_map_agree}
 use Rattle.ordered_lists.proofs.Lists.EntryLists.{value-at_place}
 use Rattle.tl_county.specs.BodyOrder.{name_body_cmp}
@@ -28,6 +26,7 @@ use Rattle.tl_number.proofs.Names.NamePlaces.{feat_cmp, feat_keys, feats_ordered
 use Rattle.tl_number.proofs.Names.NameRanks.{ranked_there}
 use Rattle.tl_number.proofs.Numbering.FirstSeen.{first_seen-apart}
 use Rattle.tl_number.proofs.Numbering.NewNumbers.{image-numbered}
+use Rattle.tl_number.proofs.Ties.OpenAmong.{cmp_alike, in_filtered, opened_among, order_filtered, to_filtered}
 use Rattle.tl_number.proofs.Views.DirectedChains.{among-get}
 use Rattle.tl_number.proofs.Views.ViewChains.{arranges}
 
@@ -45,20 +44,8 @@ feats_grouped county arrangement =
 
 -- two ranks that are both a place counted from 1
 compare_next : (i j m n : ℕ) → m ≡ 1 + i → n ≡ 1 + j → nat_cmp m n ≡ nat_cmp i j
-compare_next i j m n e f = go (nat_cmp i j) (ranked i j (nat_cmp i j) refl)
-  where
-    go : (o : Ordering) → MatchOrdering o (i < j) (i ≡ j) (j < i) → nat_cmp m n ≡ o
-    go Less h = sym (nat_cmp_is m n Less (omega (arith, e, f, h)))
-    go Equal h = sym (nat_cmp_is m n Equal (omega (arith, e, f, h)))
-    go Greater h = sym (nat_cmp_is m n Greater (omega (arith, e, f, h)))
-
--- a number among those that pass a test is in the list, and passes
-in_filtered : (test : ℕ → Bool) (ks : List ℕ) (k : ℕ) → Known nat_cmp (filter test ks) k → Known nat_cmp ks k × (test k ≡ true)
-in_filtered test ks k h = go (test k) refl (times-filter nat_keys test k ks)
-  where
-    go : (b : Bool) → test k ≡ b → times nat_cmp k (filter test ks) ≡ cond b (times nat_cmp k ks) 0 → Known nat_cmp ks k × (test k ≡ true)
-    go true e same = (omega (arith, h, same), e)
-    go false e same = absurd (omega (arith, h, same))
+compare_next i j m n e f = cmp_alike m n i j (λ t. (omega (arith, e, f, t))) (λ t. (omega (arith, e, f, t))) (λ t. (omega (arith, e, f, t)))
+    (λ t. (omega (arith, e, f, t)))
 
 -- numbers read at places
 read_numbers : (ks : List ℕ) (places found : List ℕ) → map (slice_get ks) places ≡ map Some found
@@ -139,15 +126,13 @@ module _ (county : County) (is : IsCounty county) (uses name_places : List ℕ) 
     abbrev all_in_order : List ℕ
     all_in_order = feats_in_order county arrangement
 
-    filtered : (k : ℕ) → Known nat_cmp (filter is_used all_in_order) k → Known nat_cmp uses k
-    filtered k h = ltb-true 0 (times nat_cmp k uses) (in_filtered is_used all_in_order k h).1
+    named : (k : ℕ) → Known nat_cmp (filter is_used all_in_order) k → Known nat_cmp uses k
+    named k h = ltb-true 0 (times nat_cmp k uses) (in_filtered nat_keys is_used all_in_order k h).1
 
-    to_filtered : (k : ℕ) → Known nat_cmp uses k → Known nat_cmp (filter is_used all_in_order) k
-    to_filtered k h =
-        let there = known-permutation nat_keys k all_in_order (feats county) (feats_permuted county arrangement is whole) (uses_known k h) in
-        let same = times-filter nat_keys is_used k all_in_order in
-        let used = ap (λ b. cond b (times nat_cmp k all_in_order) 0) (lt-ltb 0 (times nat_cmp k uses) h) in
-        omega (arith, there, same, used)
+    named_too : (k : ℕ) → Known nat_cmp uses k → Known nat_cmp (filter is_used all_in_order) k
+    named_too k h = to_filtered nat_keys is_used all_in_order k
+        (known-permutation nat_keys k all_in_order (feats county) (feats_permuted county arrangement is whole) (uses_known k h))
+        (lt-ltb 0 (times nat_cmp k uses) h)
 
     alike : (j k : ℕ) → Known nat_cmp uses j → Known nat_cmp uses k → feat_cmp county seen j k ≡ feat_cmp county uses j k
     alike j k h l = ap (λ r. ordering_then (option_cmp name_body_cmp (name_under county j) (name_under county k)) (ordering_then r (nat_cmp j k)))
@@ -162,22 +147,18 @@ module _ (county : County) (is : IsCounty county) (uses name_places : List ℕ) 
         sorted_feats
         ∙ in_order-permutation (feat_keys county uses) (map feat_of items) (filter is_used all_in_order) sorted_in_order
         (in_order-among (feat_cmp county seen) (feat_cmp county uses) (Known nat_cmp uses) alike (filter is_used all_in_order)
-        (all_known nat_keys (Known nat_cmp uses) (filter is_used all_in_order) filtered)
+        (all_known nat_keys (Known nat_cmp uses) (filter is_used all_in_order) named)
         (in_order-filter (feat_cmp county seen) is_used all_in_order (feats_ordered county arrangement is whole seen is_seen)))
         (IsPermutation-trans (map feat_of items) uses (filter is_used all_in_order) (IsPermutation-sym uses (map feat_of items) sorted_uses)
         (apart-permutation_of nat_keys uses (filter is_used all_in_order) apart
         (apart-filter nat_keys is_used all_in_order
         (apart-permutation nat_keys all_in_order (feats county) (feats_permuted county arrangement is whole)
         (apart_from_sorted nat_keys (feats county) is.ascending.names)))
-        to_filtered filtered))
+        named_too named))
 
 -- The open names of an arrangement, sorted by the ranks of open names, are its open names in the order of all names.
 module _ (county : County) (arrangement : List DirectedChain) (is : IsCounty county) (whole : AreWhole county arrangement) (places : List OpenPlace)
-    (uses : List ℕ) (opened : uses ≡ open_feats county places arrangement)
-    (open_among : (is_open : ℕ → Bool) (along : List (List ℕ)) → open_keys nat_cmp is_open [] 0 along
-    ≡ filter (λ k. stands_in nat_cmp k (open_keys nat_cmp is_open [] 0 along)) (first_seen nat_cmp (grouped along)))
-    (order_filtered : (test : ℕ → Bool) (xs : List ℕ) (j k : ℕ) → Known nat_cmp (filter test xs) j → Known nat_cmp (filter test xs) k
-    → nat_cmp (place_in nat_cmp (filter test xs) j) (place_in nat_cmp (filter test xs) k) ≡ nat_cmp (place_in nat_cmp xs j) (place_in nat_cmp xs k)) where
+    (uses : List ℕ) (opened : uses ≡ open_feats county places arrangement) where
   abbrev seen : List ℕ
   seen = first_seen nat_cmp (feats_along_arrangement county arrangement)
 
@@ -186,7 +167,7 @@ module _ (county : County) (arrangement : List DirectedChain) (is : IsCounty cou
 
   uses_filtered : uses ≡ filter is_open_feat seen
   uses_filtered =
-      opened ∙ open_among (is_open places) (keys_along chain_feats county arrangement)
+      opened ∙ opened_among nat_keys (is_open places) (keys_along chain_feats county arrangement)
       ∙ (λ i. filter (λ k. stands_in nat_cmp k (sym opened i)) (first_seen nat_cmp (feats_grouped county arrangement i)))
 
   used : (k : ℕ) → Known nat_cmp uses k → Known nat_cmp (filter is_open_feat seen) k
@@ -195,7 +176,8 @@ module _ (county : County) (arrangement : List DirectedChain) (is : IsCounty cou
   uses_placed : (j k : ℕ) → Known nat_cmp uses j → Known nat_cmp uses k
       → nat_cmp (place_in nat_cmp uses j) (place_in nat_cmp uses k) ≡ nat_cmp (place_in nat_cmp seen j) (place_in nat_cmp seen k)
   uses_placed j k h l =
-      (λ i. nat_cmp (place_in nat_cmp (uses_filtered i) j) (place_in nat_cmp (uses_filtered i) k)) ∙ order_filtered is_open_feat seen j k (used j h) (used k l)
+      (λ i. nat_cmp (place_in nat_cmp (uses_filtered i) j) (place_in nat_cmp (uses_filtered i) k))
+      ∙ order_filtered nat_keys is_open_feat seen j k (used j h) (used k l)
 
   pub names_among : (name_places : List ℕ) → map (slice_get (feats county)) name_places ≡ map Some uses → (items : List RankedName)
       → IsPermutation (map (ranked_at county uses) name_places) items → IsInOrder (ranked_cmp county) items
@@ -204,7 +186,7 @@ module _ (county : County) (arrangement : List DirectedChain) (is : IsCounty cou
       feats_sorted county is uses name_places read items p ordered arrangement whole seen refl
       (subst (IsApart nat_cmp) (sym uses_filtered)
       (apart-filter nat_keys is_open_feat seen (first_seen-apart nat_keys (feats_along_arrangement county arrangement))))
-      (λ k h. (in_filtered is_open_feat seen k (used k h)).0) uses_placed
+      (λ k h. (in_filtered nat_keys is_open_feat seen k (used k h)).0) uses_placed
 
 -- The FEATs of chains.
 module _ (county : County) (arrangement : List DirectedChain) (is : IsCounty county) (whole : AreWhole county arrangement) where
