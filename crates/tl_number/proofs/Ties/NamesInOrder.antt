@@ -78,9 +78,11 @@ module _ (county : County) (is : IsCounty county) (uses name_places : List ℕ) 
   each_ranked : AllByRecursion IsRanked items
   each_ranked = each_from IsRanked items
       (λ item m. let i = among-unmap (ranked_at county uses) item name_places
-      (among-permutation item items (map (ranked_at county uses) name_places) (IsPermutation-sym (map (ranked_at county uses) name_places) items p) m) in
-      (i.2 ∙ ap (ranked_at county uses) (sym (ap ranked_place i.2)), subst IsRead (sym (ap ranked_place i.2))
-      (all_among IsRead i.0 name_places (read_numbers (feats county) name_places uses read).1 i.1)))
+      (among-permutation item items (map (ranked_at county uses) name_places) (IsPermutation-sym (map (ranked_at county uses) name_places) items p) m) in (
+        i.2 ∙ ap (ranked_at county uses) (sym (ap ranked_place i.2)),
+        subst IsRead (sym (ap ranked_place i.2))
+            (all_among IsRead i.0 name_places (read_numbers (feats county) name_places uses read).1 i.1),
+      ))
 
   sorted_feats : filter_map (slice_get (feats county)) (map ranked_place items) ≡ map feat_of items
   sorted_feats = filter_map_all (slice_get (feats county)) (map ranked_place items) (map feat_of items)
