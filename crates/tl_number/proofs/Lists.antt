@@ -4,3 +4,4 @@ pub mod Grouping
 pub mod SortedPlaces
 pub mod ItemByItem
 pub mod Filtered
+pub mod OrderPlaces

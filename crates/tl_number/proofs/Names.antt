@@ -2,3 +2,5 @@
 pub mod UsesOrder
 pub mod NameRanks
 pub mod NameOrder
+pub mod ContentFirst
+pub mod NamePlaces

@@ -4,6 +4,7 @@ pub mod NewlySeen
 pub mod Counterparts
 pub mod MovedKeys
 pub mod OpenOrder
+pub mod OpenAmong
 pub mod PartOrder
 pub mod GapOrder
 pub mod OpenChains
@@ -25,3 +26,4 @@ pub mod TakenPlaces
 pub mod SeenGroups
 pub mod CriticalNumbers
 pub mod TieReading
+pub mod NamesInOrder

@@ -1,5 +1,5 @@
 -- Landmarks are ordered by their bodies first, so two arrangements of a county have the same landmarks.
-use Rattle.tl_number.proofs.Common.{◌≡◌, ◌∙◌, ℕ, List, [], ◌∷◌, map, length, refl, sym, ap, Arrangement, Arranges, Body7, County, IsCounty, IsInOrder}
+use Rattle.tl_number.proofs.Common.{◌≡◌, ◌∙◌, ℕ, List, map, length, sym, ap, Arrangement, Arranges, Body7, County, IsCounty, IsInOrder}
 use Rattle.tl_number.proofs.Common.{IsPermutation, IsPermutation-map, IsPermutation-sym, IsPermutation-trans, arranged, in_order-in_order, in_order-is_permutation}
 use Rattle.tl_number.proofs.Common.{in_order-map, in_order-permutation, landmark_body_cmp, landmark_key, landmark_key_cmp, landmarks_in_order, length-map}
 use Rattle.tl_number.proofs.Common.{link_part_cmp, links_relinked, lists_keys, map-map, on, on_total, renaming_of, slice_cmp}
@@ -8,29 +8,15 @@ use Rattle.tl_county.specs.Renumbering.{carried_landmark}
 use Rattle.tl_number.specs.Growth.{up_to}
 use Rattle.tl_number.specs.Uses.{links_of}
 use Rattle.tl_number.proofs.Arrangements.Carrying.{lands_arranged, landmarks_arranged}
+use Rattle.tl_number.proofs.Lists.Counting.{entries_equal}
 use Rattle.tl_number.proofs.Lists.Grouping.{in_order-weaker, then-first}
 use Rattle.tl_number.proofs.Unique.SameLandmarks.{landmark_key_keys}
 
 abbrev Landmark : Type 0
 Landmark = ℕ × List Body7
 
-abbrev land : Landmark → ℕ
-land landmark = landmark.0
-
 abbrev bodies : Landmark → List Body7
 bodies landmark = landmark.1
-
--- landmarks with the same LANDs and the same bodies are the same
-same_parts : (xs ys : List Landmark) → map land xs ≡ map land ys → map bodies xs ≡ map bodies ys → xs ≡ ys
-same_parts [] [] e f = refl
-same_parts [] (y ∷ ys) e f = cc
-same_parts (x ∷ xs) [] e f = cc
-same_parts (x ∷ xs) (y ∷ ys) e f =
-    let one : x.0 ≡ y.0 = cc in
-    let other : x.1 ≡ y.1 = cc in
-    let rest : map land xs ≡ map land ys = cc in
-    let later : map bodies xs ≡ map bodies ys = cc in
-    λ i. (one i, other i) ∷ same_parts xs ys rest later i
 
 module _ (county : County) where
   bodies_ordered : (arrangement : Arrangement) → IsInOrder (slice_cmp landmark_body_cmp) (map bodies (landmarks_in_order county arrangement))
@@ -63,6 +49,6 @@ module _ (county : County) where
         ∙ map-map bodies (carried_landmark (renaming_of county arrangement)) (landmarks_in_order county arrangement)
 
     pub same_landmarks : (arranged county one).landmarks ≡ (arranged county other).landmarks
-    same_landmarks = same_parts (arranged county one).landmarks (arranged county other).landmarks
+    same_landmarks = entries_equal (arranged county one).landmarks (arranged county other).landmarks
         (lands_arranged county one is arranges_one ∙ ap up_to as_many ∙ sym (lands_arranged county other is arranges_other))
         (carried_bodies one arranges_one ∙ bodies_same one other ∙ sym (carried_bodies other arranges_other))

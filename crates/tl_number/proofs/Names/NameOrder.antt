@@ -73,9 +73,7 @@ ranked_total county =
     (then_total (on_total (λ (n : RankedName). n.rank) nat_cmp_total) (on_total (λ (n : RankedName). n.place) nat_cmp_total))
 
 module _ (county : County) (arrangement : List DirectedChain) (is : IsCounty county) (whole : AreWhole county arrangement) (seen : List ℕ)
-    (uses : seen ≡ first_seen nat_cmp (feats_along_arrangement county arrangement)) (items : List RankedName)
-    (p : IsPermutation (map (ranked_at county seen) (range_with_len 0 (length county.names))) items)
-    (ordered : IsInOrder (ranked_cmp county) items) where
+    (uses : seen ≡ first_seen nat_cmp (feats_along_arrangement county arrangement)) where
   abbrev order : Arrangement
   order = arrangement_of county arrangement
 
@@ -85,7 +83,8 @@ module _ (county : County) (arrangement : List DirectedChain) (is : IsCounty cou
   seen_uses : seen ≡ first_seen_after nat_cmp [] (map (λ (u : Use × ℕ). u.1) used)
   seen_uses = uses ∙ ap (first_seen nat_cmp) (sym (named (placed county order) ∙ feats_placed county is arrangement whole.there))
 
-  by_uses : (f g : ℕ) → nat_cmp (rank_of seen (Some f)) (rank_of seen (Some g)) ≡ slice_cmp use_cmp (uses_of_name used f)
+  -- the ranks of two FEATs compare as their uses do
+  pub by_uses : (f g : ℕ) → nat_cmp (rank_of seen (Some f)) (rank_of seen (Some g)) ≡ slice_cmp use_cmp (uses_of_name used f)
       (uses_of_name used g)
   by_uses f g =
       (λ j. nat_cmp (rank_of (seen_uses j) (Some f)) (rank_of (seen_uses j) (Some g)))
@@ -93,27 +92,29 @@ module _ (county : County) (arrangement : List DirectedChain) (is : IsCounty cou
       (subst (IsStrictlySortedBy nat_cmp) (sym (placed_tlids county order is (arranges county arrangement is whole)))
       (up_to-strict (length (arranged_tlids order))))) f g refl refl)
 
-  abbrev item_cmp : Option Body5 → Option ℕ → ℕ → Option Body5 → Option ℕ → ℕ → Ordering
-  item_cmp a f i b g j = ordering_then (option_cmp name_body_cmp a b) (ordering_then (nat_cmp (rank_of seen f) (rank_of seen g))
-      (nat_cmp i j))
+  module _ (items : List RankedName) (p : IsPermutation (map (ranked_at county seen) (range_with_len 0 (length county.names))) items)
+      (ordered : IsInOrder (ranked_cmp county) items) where
+    abbrev item_cmp : Option Body5 → Option ℕ → ℕ → Option Body5 → Option ℕ → ℕ → Ordering
+    item_cmp a f i b g j = ordering_then (option_cmp name_body_cmp a b) (ordering_then (nat_cmp (rank_of seen f) (rank_of seen g))
+        (nat_cmp i j))
 
-  agrees : (i j : ℕ) (x y : ℕ × Body5) → slice_get county.names i ≡ Some x → slice_get county.names j ≡ Some y
-      → ranked_cmp county (ranked_at county seen i) (ranked_at county seen j) ≡ ordering_then (name_key_cmp (name_key used x)
-      (name_key used y))
-      (nat_cmp i j)
-  agrees i j x y h k =
-      let value = λ (n : ℕ) (z : ℕ × Body5) (e : slice_get county.names n ≡ Some z).
-      slice_get-map (λ (d : ℕ × Body5). d.1) county.names n ∙ ap (option_map (λ (d : ℕ × Body5). d.1)) e in
-      let number = λ (n : ℕ) (z : ℕ × Body5) (e : slice_get county.names n ≡ Some z).
-      slice_get-map (λ (d : ℕ × Body5). d.0) county.names n ∙ ap (option_map (λ (d : ℕ × Body5). d.0)) e in
-      (λ l. item_cmp (value i x h l) (number i x h l) i (value j y k l) (number j y k l) j)
-      ∙ ap (λ o. ordering_then (name_body_cmp x.1 y.1) (ordering_then o (nat_cmp i j))) (by_uses x.0 y.0)
-      ∙ then_assoc (name_body_cmp x.1 y.1) (slice_cmp use_cmp (uses_of_name used x.0) (uses_of_name used y.0)) (nat_cmp i j)
+    agrees : (i j : ℕ) (x y : ℕ × Body5) → slice_get county.names i ≡ Some x → slice_get county.names j ≡ Some y
+        → ranked_cmp county (ranked_at county seen i) (ranked_at county seen j) ≡ ordering_then (name_key_cmp (name_key used x)
+        (name_key used y))
+        (nat_cmp i j)
+    agrees i j x y h k =
+        let value = λ (n : ℕ) (z : ℕ × Body5) (e : slice_get county.names n ≡ Some z).
+        slice_get-map (λ (d : ℕ × Body5). d.1) county.names n ∙ ap (option_map (λ (d : ℕ × Body5). d.1)) e in
+        let number = λ (n : ℕ) (z : ℕ × Body5) (e : slice_get county.names n ≡ Some z).
+        slice_get-map (λ (d : ℕ × Body5). d.0) county.names n ∙ ap (option_map (λ (d : ℕ × Body5). d.0)) e in
+        (λ l. item_cmp (value i x h l) (number i x h l) i (value j y k l) (number j y k l) j)
+        ∙ ap (λ o. ordering_then (name_body_cmp x.1 y.1) (ordering_then o (nat_cmp i j))) (by_uses x.0 y.0)
+        ∙ then_assoc (name_body_cmp x.1 y.1) (slice_cmp use_cmp (uses_of_name used x.0) (uses_of_name used y.0)) (nat_cmp i j)
 
-  -- the sorted names are in their new order
-  pub names_stated : AreReadAt county.names (map ranked_place items) (names_in_order county order)
-  names_stated = sorted_items (ranked_at county seen) ranked_place (λ i. refl) (ranked_cmp county)
-      (on_total (name_key used) name_key_keys.total) county.names agrees items p ordered
+    -- the sorted names are in their new order
+    pub names_stated : AreReadAt county.names (map ranked_place items) (names_in_order county order)
+    names_stated = sorted_items (ranked_at county seen) ranked_place (λ i. refl) (ranked_cmp county)
+        (on_total (name_key used) name_key_keys.total) county.names agrees items p ordered
 
 -- the tables of the names at these places, if they are those in their new order
 module _ (county : County) (arrangement : List DirectedChain) (is : IsCounty county) (whole : AreWhole county arrangement) (places : List ℕ)

@@ -20,12 +20,12 @@ abbrev rank : List ℕ → ℕ → ℕ
 rank seen f = rank_of seen (Some f)
 
 -- a FEAT that was seen has its place, counted from 1
-ranked_there : (seen : List ℕ) (f : ℕ) → Known nat_cmp seen f → rank seen f ≡ place_from nat_keys 1 seen f
+pub ranked_there : (seen : List ℕ) (f : ℕ) → Known nat_cmp seen f → rank seen f ≡ place_from nat_keys 1 seen f
 ranked_there seen f h = ap from_one (sym (to_position (λ k. is_eq (nat_cmp f k)) seen (known_within nat_keys seen f h)))
     ∙ (let t : position_or_len (λ k. is_eq (nat_cmp f k)) seen + 1 ≡ 1 + position_or_len (λ k. is_eq (nat_cmp f k)) seen = omega arith in t)
 
 -- a FEAT that wasn't seen has no number
-unranked : (seen : List ℕ) (f : ℕ) → times nat_cmp f seen ≡ 0 → rank seen f ≡ 0
+pub unranked : (seen : List ℕ) (f : ℕ) → times nat_cmp f seen ≡ 0 → rank seen f ≡ 0
 unranked seen f h = ap (λ n. from_one (cond (nat_lt n (length seen)) (Some n) None)) (unknown_at_end nat_keys seen f h)
     ∙ ap (λ b. from_one (cond b (Some (length seen)) None))
     (false_from_ne_true (nat_lt (length seen) (length seen)) (λ e. let l = ltb-true (length seen) (length seen) e in omega (arith, l)))
@@ -84,7 +84,7 @@ module _ (seen feats : List ℕ) (f g : ℕ) (new : times nat_cmp f seen ≡ 0) 
       let same : rank final g ≡ rank ((seen ++ (f ∷ [])) ++ more) g = ap (λ ks. rank ks g) stays in
       omega (arith, first_rank, longer, b, same)
 
-greater : (m n : ℕ) → m < n → nat_cmp n m ≡ Greater
+pub greater : (m n : ℕ) → m < n → nat_cmp n m ≡ Greater
 greater m n h = nat_cmp_total.antisymm n m ∙ ap ordering_reverse (less m n h)
 
 uses_total : IsTotalOrder (slice_cmp use_cmp)

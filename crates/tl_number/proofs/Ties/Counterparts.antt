@@ -22,6 +22,12 @@ get_behind [] ys i k e = ap (slice_get ys) (let t : k ≡ i = omega (arith, e) i
 get_behind (x ∷ xs) ys i zero e = absurd (omega (arith, e))
 get_behind (x ∷ xs) ys i (suc k) e = get_behind xs ys i k (omega (arith, e))
 
+-- Each key comes before a key that isn't open in both orders or in neither.
+abbrev pub AreKept : {K : Type 0} → (K → K → Ordering) → List K → List K → List K → Type 0
+AreKept {K} cmp all opened all_too = (j k : K) → (Known cmp opened k → ⊥)
+    → (place_in cmp all j < place_in cmp all k → place_in cmp all_too j < place_in cmp all_too k)
+    × (place_in cmp all_too j < place_in cmp all_too k → place_in cmp all j < place_in cmp all k)
+
 module _ {K : Type 0} {cmp : K → K → Ordering} (o : IsKeyOrder cmp) where
   pub got_known : (keys : List K) (i : ℕ) (k : K) → slice_get keys i ≡ Some k → Known cmp keys k
   got_known [] i k e = cc
@@ -95,6 +101,28 @@ module _ {K : Type 0} {cmp : K → K → Ordering} (o : IsKeyOrder cmp) where
         none l e = let count = first.as_many in
             let there : slice_get g' i ≡ Some (get_or g' i x) = slice_get-get_or g' i x (omega (arith, l, count)) in
             let both : None ≡ Some (get_or g' i x) = sym e ∙ there in cc
+
+  -- counterparts, such that each key comes before a key that isn't open in both orders or in neither
+  pub record AreExchanged (all opened all_too opened_too : List K) : Type 0 where
+    pub counterparts : AreCounterparts all opened all_too opened_too
+    pub kept : AreKept cmp all opened all_too
+
+  -- an order and itself
+  pub exchanged_itself : (all opened : List K) → AreExchanged all opened all opened
+  exchanged_itself all opened = record {
+    counterparts = counterparts_itself all opened;
+    kept = λ j k new. ((λ h. h), (λ h. h));
+  }
+
+  -- two exchanges, one after the other
+  pub exchanged_then : (f g f' g' f'' g'' : List K) → AreExchanged f g f' g' → AreExchanged f' g' f'' g'' → AreExchanged f g f'' g''
+  exchanged_then f g f' g' f'' g'' first next = record {
+    counterparts = counterparts_then f g f' g' f'' g'' first.counterparts next.counterparts;
+    kept = λ j k new. (
+      (λ h. (next.kept j k (λ l. new ((first.counterparts.members k).1 l))).0 ((first.kept j k new).0 h)),
+      (λ h. (first.kept j k new).1 ((next.kept j k (λ l. new ((first.counterparts.members k).1 l))).1 h)),
+    );
+  }
 
   -- a key is found at its place
   pub there_found : (keys : List K) (k : K) → Known cmp keys k → slice_get keys (place_in cmp keys k) ≡ Some k
@@ -328,13 +356,73 @@ module _ {K : Type 0} {cmp : K → K → Ordering} (o : IsKeyOrder cmp) where
         stayed = block_stayed;
       }
 
-      pub counterparts_of_block : AreCounterparts
+      -- where a key is in the two orders: at the same place, or in the block in both
+      abbrev IsMet : ℕ → ℕ → Type 0
+      IsMet p q = (p ≡ q) ⊎ ((length a ≤ p) × (p < length a + length b) × (length a ≤ q) × (q < length a + length b))
+
+      -- a key that isn't in the block has one place, before the block or behind it
+      outside : (k : K) → (Known cmp b k → ⊥) → (place_in cmp (a ++ (b ++ c)) k ≡ place_in cmp (a ++ (b' ++ c)) k)
+          × ((place_in cmp (a ++ (b ++ c)) k < length a) ⊎ (length a + length b ≤ place_in cmp (a ++ (b ++ c)) k))
+      outside k not_here = go (times cmp k a) refl
+        where
+          go : (n : ℕ) → times cmp k a ≡ n → (place_in cmp (a ++ (b ++ c)) k ≡ place_in cmp (a ++ (b' ++ c)) k)
+              × ((place_in cmp (a ++ (b ++ c)) k < length a) ⊎ (length a + length b ≤ place_in cmp (a ++ (b ++ c)) k))
+          go zero none =
+              let not_before : Known cmp a k → ⊥ = λ h. (omega (arith, none, h)) in
+              let there = behind b c k not_before not_here in
+              let there_too = behind b' c k not_before (λ h. not_here ((both k).1 h)) in
+              (omega (arith, there, there_too, count), inr (omega (arith, there)))
+          go (suc n) some =
+              let there : Known cmp a k = omega (arith, some) in
+              let here = place_front a (b ++ c) k there in
+              let here_too = place_front a (b' ++ c) k there in
+              let short = known_within o a k there in
+              (here ∙ sym here_too, inl (omega (arith, here, short)))
+
+      met : (j : K) → IsMet (place_in cmp (a ++ (b ++ c)) j) (place_in cmp (a ++ (b' ++ c)) j)
+      met j = go (times cmp j b) refl
+        where
+          go : (n : ℕ) → times cmp j b ≡ n → IsMet (place_in cmp (a ++ (b ++ c)) j) (place_in cmp (a ++ (b' ++ c)) j)
+          go zero none = inl (outside j (λ h. (omega (arith, none, h)))).0
+          go (suc n) some =
+              let there : Known cmp b j = omega (arith, some) in
+              let there_too : Known cmp b' j = (both j).0 there in
+              let new = newly_unseen o a (grouped block) j there in
+              let place = place_after a (b ++ c) j new in
+              let place_too = place_after a (b' ++ c) j new in
+              let inner = place_front b c j there in
+              let inner_too = place_front b' c j there_too in
+              let short = known_within o b j there in
+              let short_too = known_within o b' j there_too in
+              inr (
+                omega (arith, place),
+                omega (arith, place, inner, short),
+                omega (arith, place_too),
+                omega (arith, place_too, inner_too, short_too, count),
+              )
+
+      block_kept : AreKept cmp (a ++ (b ++ c)) (ga ++ (b ++ gc)) (a ++ (b' ++ c))
+      block_kept j k new =
+          go (met j) (outside k (λ h. new (known-right o k ga (b ++ gc) (known-left o k b gc h))))
+        where
+          go : {p q r s : ℕ} → IsMet p q → (r ≡ s) × ((r < length a) ⊎ (length a + length b ≤ r)) → (p < r → q < s) × (q < s → p < r)
+          go (inl same) there = let also = there.0 in ((λ h. (omega (arith, same, also, h))), (λ h. (omega (arith, same, also, h))))
+          go (inr met) (also, inl less) = let low = met.0 in let low_too = met.2 in
+              ((λ h. (omega (arith, also, less, low, h))), (λ h. (omega (arith, also, less, low_too, h))))
+          go (inr met) (also, inr more) = let high = met.1 in let high_too = met.3 in
+              ((λ h. (omega (arith, also, more, high_too))), (λ h. (omega (arith, also, more, high))))
+
+      pub exchanged_of_block : AreExchanged
           (first_seen cmp (grouped (before ++ (block ++ rest)))) (opened_from [] 0 (before ++ (block ++ rest)))
           (first_seen cmp (grouped (before ++ (block_too ++ rest)))) (opened_from [] 0 (before ++ (block_too ++ rest)))
-      counterparts_of_block =
-          subst (λ f. AreCounterparts f (opened_from [] 0 (before ++ (block ++ rest))) (first_seen cmp (grouped (before ++ (block_too ++ rest))))
+      exchanged_of_block =
+          subst (λ f. AreExchanged f (opened_from [] 0 (before ++ (block ++ rest))) (first_seen cmp (grouped (before ++ (block_too ++ rest))))
           (opened_from [] 0 (before ++ (block_too ++ rest)))) (sym all_is)
-          (subst (λ g. AreCounterparts (a ++ (b ++ c)) g (first_seen cmp (grouped (before ++ (block_too ++ rest))))
+          (subst (λ g. AreExchanged (a ++ (b ++ c)) g (first_seen cmp (grouped (before ++ (block_too ++ rest))))
           (opened_from [] 0 (before ++ (block_too ++ rest)))) (sym opened_is)
-          (subst (λ f. AreCounterparts (a ++ (b ++ c)) (ga ++ (b ++ gc)) f (opened_from [] 0 (before ++ (block_too ++ rest)))) (sym all_too_is)
-          (subst (λ g. AreCounterparts (a ++ (b ++ c)) (ga ++ (b ++ gc)) (a ++ (b' ++ c)) g) (sym opened_too_is) block_counterparts)))
+          (subst (λ f. AreExchanged (a ++ (b ++ c)) (ga ++ (b ++ gc)) f (opened_from [] 0 (before ++ (block_too ++ rest)))) (sym all_too_is)
+          (subst (λ g. AreExchanged (a ++ (b ++ c)) (ga ++ (b ++ gc)) (a ++ (b' ++ c)) g) (sym opened_too_is)
+          record {
+            counterparts = block_counterparts;
+            kept = block_kept;
+          })))

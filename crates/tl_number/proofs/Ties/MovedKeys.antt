@@ -9,7 +9,7 @@ use Rattle.ordered_lists.proofs.ByKey.Keys.{known-append, known-left}
 use Rattle.tl_number.proofs.Choices.FixedPlaces.{moved_count}
 use Rattle.tl_number.proofs.Ties.NewlySeen.{AreAlike, alike_itself}
 use Rattle.tl_number.proofs.Ties.OpenChains.{Covers}
-use Rattle.tl_number.proofs.Ties.Counterparts.{AreCounterparts, counterparts_itself, counterparts_of_block, counterparts_then}
+use Rattle.tl_number.proofs.Ties.Counterparts.{AreExchanged, exchanged_itself, exchanged_of_block, exchanged_then}
 
 -- inserting an element splits a list into what comes before it and what comes after it
 insert_is : {X : Type 0} (j : ℕ) (xs : List X) (t : X) → j ≤ length xs → insert xs j t ≡ (take j xs ++ (t ∷ [])) ++ drop j xs
@@ -25,9 +25,9 @@ parts_at (suc p) (x ∷ xs) h = parts_at p xs (omega (arith, h))
 
 module _ {X K : Type 0} {cmp : K → K → Ordering} (o : IsKeyOrder cmp) (turn : X → X) (keys_of : X → List K)
     (turned : (x : X) → AreAlike cmp (keys_of (turn x)) (keys_of x)) (is_open : ℕ → Bool) where
-  -- the keys of two lists of elements are counterparts
+  -- the open keys of two lists of elements are exchanged
   abbrev pub Exchange : List X → List X → Type 0
-  Exchange xs ys = AreCounterparts o (first_seen cmp (grouped (map keys_of xs))) (open_keys cmp is_open [] 0 (map keys_of xs))
+  Exchange xs ys = AreExchanged o (first_seen cmp (grouped (map keys_of xs))) (open_keys cmp is_open [] 0 (map keys_of xs))
       (first_seen cmp (grouped (map keys_of ys))) (open_keys cmp is_open [] 0 (map keys_of ys))
 
   turned_by_alike : (digit : ℕ) (x : X) → AreAlike cmp (keys_of (turned_by turn digit x)) (keys_of x)
@@ -41,12 +41,12 @@ module _ {X K : Type 0} {cmp : K → K → Ordering} (o : IsKeyOrder cmp) (turn 
   exchange_block before x t passed rest alike opened =
       let split : (middle : List X) → map keys_of (before ++ (middle ++ rest)) ≡ map keys_of before ++ (map keys_of middle ++ map keys_of rest) =
       λ middle. (map-append keys_of before (middle ++ rest) ∙ ap (λ l. map keys_of before ++ l) (map-append keys_of middle rest)) in
-      let made = counterparts_of_block o is_open (map keys_of before) (map keys_of (x ∷ passed)) (map keys_of (passed ++ (t ∷ []))) (map keys_of rest)
+      let made = exchanged_of_block o is_open (map keys_of before) (map keys_of (x ∷ passed)) (map keys_of (passed ++ (t ∷ []))) (map keys_of rest)
       long open_here members in
-      subst (λ l. AreCounterparts o (first_seen cmp (grouped l)) (open_keys cmp is_open [] 0 l)
+      subst (λ l. AreExchanged o (first_seen cmp (grouped l)) (open_keys cmp is_open [] 0 l)
       (first_seen cmp (grouped (map keys_of (before ++ ((passed ++ (t ∷ [])) ++ rest)))))
       (open_keys cmp is_open [] 0 (map keys_of (before ++ ((passed ++ (t ∷ [])) ++ rest))))) (sym (split (x ∷ passed)))
-      (subst (λ l. AreCounterparts o (first_seen cmp (grouped (map keys_of before ++ (map keys_of (x ∷ passed) ++ map keys_of rest))))
+      (subst (λ l. AreExchanged o (first_seen cmp (grouped (map keys_of before ++ (map keys_of (x ∷ passed) ++ map keys_of rest))))
       (open_keys cmp is_open [] 0 (map keys_of before ++ (map keys_of (x ∷ passed) ++ map keys_of rest)))
       (first_seen cmp (grouped l)) (open_keys cmp is_open [] 0 l)) (sym (split (passed ++ (t ∷ [])))) made)
     where
@@ -107,11 +107,11 @@ module _ {X K : Type 0} {cmp : K → K → Ordering} (o : IsKeyOrder cmp) (turn 
       → AllByRecursion (λ at. (place : ℕ) → Covers at place → is_open place ≡ true) places
       → Exchange xs (moved turn places (xs, n)).0
   moved_exchange [] xs n within covered =
-      counterparts_itself o (first_seen cmp (grouped (map keys_of xs))) (open_keys cmp is_open [] 0 (map keys_of xs))
+      exchanged_itself o (first_seen cmp (grouped (map keys_of xs))) (open_keys cmp is_open [] 0 (map keys_of xs))
   moved_exchange (at ∷ places) xs n within covered =
       let later = moved turn places (xs, n) in
       let count = moved_count turn places xs n within.1 in
       let fits = within.0.there in
-      counterparts_then o _ _ (first_seen cmp (grouped (map keys_of later.0))) (open_keys cmp is_open [] 0 (map keys_of later.0)) _ _
+      exchanged_then o _ _ (first_seen cmp (grouped (map keys_of later.0))) (open_keys cmp is_open [] 0 (map keys_of later.0)) _ _
       (moved_exchange places xs n within.1 covered.1)
       (exchange_at at later.1 within.0.some covered.0 later.0 (omega (arith, fits, count)))

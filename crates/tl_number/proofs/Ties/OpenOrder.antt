@@ -143,7 +143,7 @@ module _ {K : Type 0} {cmp : K → K → Ordering} (o : IsKeyOrder cmp) (is_open
   abbrev next_after : List K → List K → List K
   next_after seen ks = seen ++ newly_seen cmp seen ks
 
-  open_or_closed : (seen : List K) (place : ℕ) (keys : List (List K)) (k : K) → Known cmp (opened seen place keys) k
+  pub open_or_closed : (seen : List K) (place : ℕ) (keys : List (List K)) (k : K) → Known cmp (opened seen place keys) k
       → Known cmp (closed seen place keys) k → ⊥
   open_or_closed seen place [] k h j = absurd (omega (arith, h))
   open_or_closed seen place (ks ∷ rest) k h j =

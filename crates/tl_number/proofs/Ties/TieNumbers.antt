@@ -1,11 +1,11 @@
 -- The numbers of nodes and polygons in the choices of a county, from what is read at open places.
-use Rattle.tl_number.proofs.Common.{◌≡◌, ◌<◌, ◌^◌, ◌∙◌, ◌⊎◌, ℕ, zero, suc, List, [], ◌∷◌, ◌++◌, map, filter, flat_map, length, get_or, slice_get}
+use Rattle.tl_number.proofs.Common.{◌≡◌, ◌<◌, ◌^◌, ◌∙◌, ◌⊎◌, ℕ, List, [], ◌∷◌, ◌++◌, map, filter, flat_map, length, get_or, slice_get}
 use Rattle.tl_number.proofs.Common.{Bool, true, false, cond, not, Ordering, Option, Some, None, option_map, option_to_list, unwrap_or, refl, sym}
 use Rattle.tl_number.proofs.Common.{ap, subst, inl, inr, arith, AreOpenKeys, AreWhole, Chain, County, DirectedChain, HasChainsOf, IsApart, IsCounty}
 use Rattle.tl_number.proofs.Common.{IsKeyOrder, IsWithinLimits, Known, OrderOfShapes, arrangement_of, chain_at, cons_option, directed_chain}
 use Rattle.tl_number.proofs.Common.{first_open, first_seen, group_at, grouped, is_open, keys_along, known-right, length-map, lt-ltb}
 use Rattle.tl_number.proofs.Common.{ltb-true, map-map, most_records, numbered_arrangement, numbered_choice, open_keys, other_way, place_in, range_with_len}
-use Rattle.tl_number.proofs.Common.{slice_get-get_or, slice_get-map, stands_in, times, turned_if}
+use Rattle.tl_number.proofs.Common.{slice_get-get_or, stands_in, times, turned_if}
 use Rattle.ordered_lists.specs.Places.{at_places}
 use Rattle.ordered_lists.proofs.Lists.AtPlaces.{map-at_places}
 use Rattle.ordered_lists.proofs.ByKey.Keys.{known-append, known-left}
@@ -20,9 +20,10 @@ use Rattle.tl_number.proofs.Choices.LeastOnes.{agree_of_numbers, whole_of_number
 use Rattle.tl_number.proofs.Landmarks.LandmarkLinks.{listed}
 use Rattle.tl_number.proofs.Numbering.FirstSeen.{first_seen-apart, known_within}
 use Rattle.tl_number.proofs.Texts.TypeOnes.{length_whole}
-use Rattle.tl_number.proofs.Ties.Counterparts.{AreCounterparts, key_of_open, key_of_other, opened_new, place_of_open, place_of_other, there_found, got_known}
+use Rattle.tl_number.proofs.Ties.Counterparts.{AreCounterparts, AreExchanged, AreKept, got_known, key_of_open, key_of_other, opened_new, there_found}
 use Rattle.tl_number.proofs.Ties.MovedKeys.{moved_exchange}
 use Rattle.tl_number.proofs.Ties.NewlySeen.{AreAlike, alike_itself, seen_newly}
+use Rattle.tl_number.proofs.Ties.OpenAmong.{as_many_placed, placed_by_order}
 use Rattle.tl_number.proofs.Ties.OpenChains.{covered_among}
 use Rattle.tl_number.proofs.Ties.OpenOrder.{open_alone}
 
@@ -127,10 +128,19 @@ module _ (county : County) (shapes : OrderOfShapes) (known : LeavesChoices count
         go (Some chain) true = lone (keys chain) (keys (turned chain)) (back (keys (turned chain)) (keys chain) (turned_keys chain))
         go (Some chain) false = lone (keys (turned chain)) (keys chain) (turned_keys chain)
 
-    pub counterparts : (n : ℕ) → AreCounterparts o (all_of shapes.by_shape) (open_of shapes.by_shape) (all_of (chosen_chains n)) (open_of (chosen_chains n))
-    counterparts n = moved_exchange o other_way keys_of turned_alike (is_open shapes.places) shapes.places shapes.by_shape n
+    -- the order of shapes and a choice exchange open keys
+    exchanged : (n : ℕ) → AreExchanged o (all_of shapes.by_shape) (open_of shapes.by_shape) (all_of (chosen_chains n)) (open_of (chosen_chains n))
+    exchanged n = moved_exchange o other_way keys_of turned_alike (is_open shapes.places) shapes.places shapes.by_shape n
         (places_within county is shapes.by_shape known.order.by_shape shapes.places (known.order.places known.few))
         (covered_among shapes.places shapes.places (λ place e. e))
+
+    -- so their open keys are counterparts
+    pub counterparts : (n : ℕ) → AreCounterparts o (all_of shapes.by_shape) (open_of shapes.by_shape) (all_of (chosen_chains n)) (open_of (chosen_chains n))
+    counterparts n = (exchanged n).counterparts
+
+    -- and each key comes before a key that isn't open in both or in neither
+    pub kept : (n : ℕ) → AreKept cmp (all_of shapes.by_shape) (open_of shapes.by_shape) (all_of (chosen_chains n))
+    kept n = (exchanged n).kept
 
     -- the order of the open keys of a choice, read at open places
     pub order_is : (n : ℕ) (opened order : List K) → opened ≡ open_of shapes.by_shape
@@ -162,37 +172,16 @@ module _ (county : County) (shapes : OrderOfShapes) (known : LeavesChoices count
       as_many_open = sym between.as_many
 
       pub as_many_places : length order ≡ length tables.places.items
-      as_many_places = as_many_open ∙ sym (length-map tables.opened (place_in cmp tables.all)) ∙ sym (ap length are.there)
+      as_many_places = as_many_placed o tables are.there order (all_of (chosen_chains n)) between
+
+      pub place_is : (k : K) → place_by_order cmp tables order k ≡ place_in cmp (all_of (chosen_chains n)) k
+      place_is k = placed_by_order o tables are.there order (all_of (chosen_chains n)) between k
 
       known_key : (ks : List K) (k : K) → stands_in cmp k ks ≡ true → Known cmp ks k
       known_key ks k e = ltb-true 0 (times cmp k ks) e
 
       unknown_key : (ks : List K) (k : K) → stands_in cmp k ks ≡ false → Known cmp ks k → ⊥
       unknown_key ks k e h = let both : false ≡ true = sym e ∙ lt-ltb 0 (times cmp k ks) h in cc
-
-      pub place_is : (k : K) → place_by_order cmp tables order k ≡ place_in cmp (all_of (chosen_chains n)) k
-      place_is k = go (stands_in cmp k order) refl
-        where
-          go : (b : Bool) → stands_in cmp k order ≡ b
-              → cond b (get_or tables.places.items (place_in cmp order k) 0) (place_in cmp tables.all k) ≡ place_in cmp (all_of (chosen_chains n)) k
-          go true e =
-              let there : Known cmp order k = known_key order k e in
-              let i : ℕ = place_in cmp order k in
-              let short = known_within o order k there in
-              let here : slice_get tables.opened i ≡ Some (get_or tables.opened i k) =
-              slice_get-get_or tables.opened i k (let many = as_many_open in omega (arith, short, many)) in
-              let read : slice_get tables.places.items i ≡ Some (place_in cmp tables.all (get_or tables.opened i k)) =
-              ap (λ ps. slice_get ps i) are.there ∙ slice_get-map (place_in cmp tables.all) tables.opened i
-              ∙ ap (option_map (place_in cmp tables.all)) here in
-              got tables.places.items i (place_in cmp tables.all (get_or tables.opened i k)) read
-              ∙ sym (place_of_open o tables.all tables.opened (all_of (chosen_chains n)) order between i (get_or tables.opened i k) k here
-              (there_found o order k there))
-            where
-              got : (ps : List ℕ) (i p : ℕ) → slice_get ps i ≡ Some p → get_or ps i 0 ≡ p
-              got [] i p h = cc
-              got (x ∷ xs) zero p h = let same : x ≡ p = cc in same
-              got (x ∷ xs) (suc i) p h = got xs i p h
-          go false e = sym (place_of_other o tables.all tables.opened (all_of (chosen_chains n)) order between k (unknown_key order k e))
 
       -- a choice has the same keys as the order of shapes
       pub all_alike : AreAlike cmp tables.all (all_of (chosen_chains n))

@@ -1,0 +1,130 @@
+-- Lists in order: elements that tie keep the order of their numbers, and the place of an element is how many come before it.
+use Rattle.tl_number.proofs.Common.{◌≡◌, ◌∙◌, ◌⊎◌, ◌<◌, ◌+◌, ℕ, zero, suc, List, [], ◌∷◌, map, filter, length, true, false, cond, not}
+use Rattle.tl_number.proofs.Common.{Ordering, Less, Equal, Greater, is_eq, is_gt, is_lt, refl, sym, ap, subst, inl, inr, arith, nat_cmp, AllByRecursion}
+use Rattle.tl_number.proofs.Common.{IsInOrder, IsKeyOrder, IsPermutation, Known, MatchOrdering, Some, all-in_order, all_unmap, false≢true}
+use Rattle.tl_number.proofs.Common.{in_order, known_all, known_cases, nat_cmp_total, ordering_reverse, ordering_then, place_in, ranked}
+use Rattle.tl_number.proofs.Common.{same-itself, slice_get, tied_itself}
+use Rattle.std.specs.Cmp.{nat_cmp_is}
+use Rattle.std.specs.List.Sorted.{IsStrictlySortedBy}
+use Rattle.ordered_lists.specs.Orders.{put_in_order}
+use Rattle.ordered_lists.proofs.ByKey.Keys.{differ, differ_apart}
+use Rattle.ordered_lists.proofs.Lists.Reordered.{from_permutation}
+use Rattle.tl_number.proofs.Lists.Counting.{less_from}
+
+-- Elements whose numbers ascend are put in order as by the order and then their numbers.
+module _ {X : Type 0} (by : X → X → Ordering) (number : X → ℕ) where
+  abbrev pub by_number : X → X → Ordering
+  by_number x y = ordering_then (by x y) (nat_cmp (number x) (number y))
+
+  -- a lesser number decides nothing
+  same_choice : (r s : Ordering) → s ≡ Less → is_gt r ≡ is_gt (ordering_then r s)
+  same_choice Less s e = refl
+  same_choice Equal s e = sym (ap is_gt e)
+  same_choice Greater s e = refl
+
+  put_numbered : (x : X) (ys : List X) → AllByRecursion (λ y. nat_cmp (number x) (number y) ≡ Less) ys
+      → put_in_order by x ys ≡ put_in_order by_number x ys
+  put_numbered x [] h = refl
+  put_numbered x (y ∷ ys) h =
+      λ i. cond (same_choice (by x y) (nat_cmp (number x) (number y)) h.0 i) (y ∷ put_numbered x ys h.1 i) (x ∷ y ∷ ys)
+
+  pub numbered_order : (xs : List X) → IsStrictlySortedBy nat_cmp (map number xs) → in_order by xs ≡ in_order by_number xs
+  unfolding IsStrictlySortedBy
+  numbered_order [] h = refl
+  numbered_order (x ∷ xs) h =
+      put_numbered x (in_order by xs)
+      (all-in_order (λ y. nat_cmp (number x) (number y) ≡ Less) by xs (all_unmap (λ n. nat_cmp (number x) n ≡ Less) number xs h.0))
+      ∙ ap (put_in_order by_number x) (numbered_order xs h.1)
+
+-- If elements with a property compare alike by another order, a list of them is in that order too.
+pub in_order-among : {X : Type 0} (by to : X → X → Ordering) (P : X → Type 0) → ((x y : X) → P x → P y → by x y ≡ to x y)
+    → (xs : List X) → AllByRecursion P xs → IsInOrder by xs → IsInOrder to xs
+in_order-among by to P same [] a h = tt
+in_order-among {X} by to P same (x ∷ xs) a h = (each xs a.1 h.0, in_order-among by to P same xs a.1 h.1)
+  where
+    each : (ys : List X) → AllByRecursion P ys → AllByRecursion (λ y. is_gt (by x y) ≡ false) ys → AllByRecursion (λ y. is_gt (to x y) ≡ false) ys
+    each [] b g = tt
+    each (y ∷ ys) b g = (ap is_gt (sym (same x y a.0 b.0)) ∙ g.0, each ys b.1 g.1)
+
+-- Two pairs of numbers that are less alike, and apart, compare alike.
+pub compare_alike : (a b c d : ℕ) → (a < b → c < d) → (c < d → a < b) → (a ≡ b → ⊥) → (c ≡ d → ⊥) → nat_cmp a b ≡ nat_cmp c d
+compare_alike a b c d there back apart apart_too = go (nat_cmp a b) (ranked a b (nat_cmp a b) refl)
+  where
+    above : b < a → (o : Ordering) → MatchOrdering o (c < d) (c ≡ d) (d < c) → d < c
+    above h Less l = let l' : a < b = back l in omega (arith, h, l')
+    above h Equal l = absurd (apart_too l)
+    above h Greater l = l
+
+    go : (o : Ordering) → MatchOrdering o (a < b) (a ≡ b) (b < a) → o ≡ nat_cmp c d
+    go Less h = nat_cmp_is c d Less (there h)
+    go Equal h = absurd (apart h)
+    go Greater h = nat_cmp_is c d Greater (above h (nat_cmp c d) (ranked c d (nat_cmp c d) refl))
+
+-- The place of a key in a list that is in order.
+module _ {K : Type 0} {cmp : K → K → Ordering} (o : IsKeyOrder cmp) {by : K → K → Ordering} (b : IsKeyOrder by) where
+  -- how many come before a key
+  abbrev pub before : K → List K → ℕ
+  before x xs = length (filter (λ y. is_lt (by y x)) xs)
+
+  not_less : (x y : K) → is_gt (by x y) ≡ false → is_lt (by y x) ≡ false
+  not_less x y e = ap is_lt (b.total.antisymm y x) ∙ go (by x y) e
+    where
+      go : (r : Ordering) → is_gt r ≡ false → is_lt (ordering_reverse r) ≡ false
+      go Less e = refl
+      go Equal e = refl
+      go Greater e = absurd (false≢true (sym e))
+
+  none_before : (x : K) (ys : List K) → AllByRecursion (λ y. is_gt (by x y) ≡ false) ys → before x ys ≡ 0
+  none_before x [] a = refl
+  none_before x (y ∷ ys) a =
+      ap (λ t. length (cond t (y ∷ filter (λ z. is_lt (by z x)) ys) (filter (λ z. is_lt (by z x)) ys))) (not_less x y a.0) ∙ none_before x ys a.1
+
+  place_before : (xs : List K) → IsInOrder by xs → (x : K) → Known cmp xs x → place_in cmp xs x ≡ before x xs
+  place_before [] h x k = absurd (omega (arith, k))
+  place_before (y ∷ ys) h x k = go (known_cases o x y ys k) (place_before ys h.1 x)
+    where
+      go : (x ≡ y) ⊎ (Known cmp ys x × (is_eq (cmp x y) ≡ false)) → (Known cmp ys x → place_in cmp ys x ≡ before x ys)
+          → place_in cmp (y ∷ ys) x ≡ before x (y ∷ ys)
+      go (inl same) ih =
+          let yes : is_eq (cmp x y) ≡ true = ap (λ j. is_eq (cmp x j)) (sym same) ∙ same-itself o x in
+          ap (λ t. cond (not t) (1 + place_in cmp ys x) 0) yes
+          ∙ sym (none_before x (y ∷ ys)
+          (subst (λ w. AllByRecursion (λ z. is_gt (by w z) ≡ false) (y ∷ ys)) (sym same) (ap is_gt (tied_itself b.total y), h.0)))
+      go (inr r) ih =
+          let less : by y x ≡ Less = less_from (by y x) (known_all o (λ z. is_gt (by y z) ≡ false) ys h.0 x r.0)
+          (differ b y x (λ e. differ_apart o x y r.1 (sym e))) in
+          ap (λ t. cond (not t) (1 + place_in cmp ys x) 0) r.1
+          ∙ (let t = ih r.0 in let u : 1 + place_in cmp ys x ≡ suc (before x ys) = omega (arith, t) in u)
+          ∙ sym (ap (λ t. length (cond t (y ∷ filter (λ z. is_lt (by z x)) ys) (filter (λ z. is_lt (by z x)) ys))) (ap is_lt less))
+
+  -- It is how many come before the key, in whatever order they are counted.
+  pub place_counted : (xs ys : List K) → IsInOrder by xs → IsPermutation xs ys → (x : K) → Known cmp xs x
+      → place_in cmp xs x ≡ length (filter (λ y. is_lt (by y x)) ys)
+  place_counted xs ys h p x k = place_before xs h x k ∙ (from_permutation xs ys p).counts (λ y. is_lt (by y x))
+
+-- The places of numbers that ascend compare as the numbers do.
+later_number : (k : ℕ) (ks : List ℕ) → AllByRecursion (λ n. nat_cmp k n ≡ Less) ks → (i n : ℕ) → slice_get ks i ≡ Some n → nat_cmp k n ≡ Less
+later_number k [] a i n e = cc
+later_number k (m ∷ ks) a zero n e = let same : m ≡ n = cc in subst (λ j. nat_cmp k j ≡ Less) same a.0
+later_number k (m ∷ ks) a (suc i) n e = later_number k ks a.1 i n e
+
+pub places_compare : (ks : List ℕ) → IsStrictlySortedBy nat_cmp ks → (i j m n : ℕ) → slice_get ks i ≡ Some m → slice_get ks j ≡ Some n
+    → nat_cmp i j ≡ nat_cmp m n
+unfolding IsStrictlySortedBy
+places_compare [] s i j m n e f = cc
+places_compare (k ∷ ks) s zero zero m n e f =
+    let same : m ≡ n = cc in
+    sym (tied_itself nat_cmp_total m) ∙ ap (nat_cmp m) same
+places_compare (k ∷ ks) s zero (suc j) m n e f =
+    let same : k ≡ m = cc in
+    sym (nat_cmp_is 0 (suc j) Less (omega arith)) ∙ sym (later_number k ks s.0 j n f) ∙ ap (λ l. nat_cmp l n) same
+places_compare (k ∷ ks) s (suc i) zero m n e f =
+    let same : k ≡ n = cc in
+    sym (nat_cmp_is (suc i) 0 Greater (omega arith)) ∙ sym (ap ordering_reverse (later_number k ks s.0 i m e)) ∙ sym (nat_cmp_total.antisymm m k)
+    ∙ ap (nat_cmp m) same
+places_compare (k ∷ ks) s (suc i) (suc j) m n e f = next (nat_cmp i j) (ranked i j (nat_cmp i j) refl) ∙ places_compare ks s.1 i j m n e f
+  where
+    next : (o : Ordering) → MatchOrdering o (i < j) (i ≡ j) (j < i) → nat_cmp (suc i) (suc j) ≡ o
+    next Less h = sym (nat_cmp_is (suc i) (suc j) Less (omega (arith, h)))
+    next Equal h = sym (nat_cmp_is (suc i) (suc j) Equal (omega (arith, h)))
+    next Greater h = sym (nat_cmp_is (suc i) (suc j) Greater (omega (arith, h)))
