@@ -1,0 +1,27 @@
+use Rattle.tl_number.proofs.Common.{◌≡◌, ◌∙◌, Equal, ap, map, sym, Six, arranged_by, groups_cmp, ordering_then, type_6_by_chain}
+use Rattle.tl_number.specs.OpenRanges.{sixes_at}
+use Rattle.tl_number.specs.RecordOrder.{types_8_to_p_cmp}
+use Rattle.tl_number.proofs.Texts.GroupOrders.{decided}
+use Rattle.tl_number.proofs.Ties.TieOrder.{sixes}
+use Rattle.tl_number.proofs.tie_order.compare_behind_names.Given.{Over}
+use Rattle.tl_number.proofs.tie_order.compare_behind_names.Goals.{After-compare_open_ranges}
+use Rattle.tl_number.proofs.tie_order.compare_behind_names.Goals as goal
+
+-- what was compared are their records of type 6
+compared : (g : Over) (c : After-compare_open_ranges g) → c.compare_open_ranges.result
+    ≡ groups_cmp Six (type_6_by_chain (arranged_by (g.C.Chart.county c.args.chart.now) c.args.one.now.chains.items))
+    (type_6_by_chain (arranged_by (g.C.Chart.county c.args.chart.now) c.args.other.now.chains.items))
+compared g c =
+    let county = g.C.Chart.county c.args.chart.now in
+    c.compare_open_ranges.ensures
+    ∙ (λ i. groups_cmp Six (map (sixes_at county ((c.deref-2.ensures.value ∙ c.requires.one) i)) (c.deref.ensures.value i))
+    (map (sixes_at county ((c.deref-3.ensures.value ∙ c.requires.other) i)) (c.deref.ensures.value i)))
+    ∙ sixes county c.args.order.now c.requires.known (g.met.C.Chart.is_county c.args.chart.now) (g.met.C.Chart.within_limits c.args.chart.now)
+    c.args.tables.now c.requires.tables c.args.one.now.number c.args.other.now.number
+    ∙ (λ i. groups_cmp Six (type_6_by_chain (arranged_by county (sym c.requires.one i))) (type_6_by_chain (arranged_by county (sym c.requires.other i))))
+
+pub returns-in-Equal : goal.returns-in-Equal
+returns-in-Equal g c = ?equal
+
+pub returns-in_default : goal.returns-in_default
+returns-in_default g c = ?default
