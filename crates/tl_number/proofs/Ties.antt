@@ -27,3 +27,5 @@ pub mod SeenGroups
 pub mod CriticalNumbers
 pub mod TieReading
 pub mod NamesInOrder
+pub mod NameNumbers
+pub mod NamesRead

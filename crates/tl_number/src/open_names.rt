@@ -4,7 +4,7 @@
 //! before or behind each name that first appears at a fixed place. So a name has one number in all choices unless it first appears at an
 //! open place, and in each choice those that do have the same numbers in their order.
 
-ghost use Rattle.std.specs.Prelude.{◌≡◌, ◌<◌, ◌^◌, IfOk, filter, length, map};
+ghost use Rattle.std.specs.Prelude.{◌≡◌, ◌<◌, ◌^◌, IfOk, filter, length, map, slice_get};
 ghost use Rattle.std.specs.Ordering.{nat_cmp};
 ghost use Rattle.ordered_lists.specs.Orders.{stands_in};
 ghost use Rattle.ordered_lists.specs.Places.{at_places};
@@ -35,13 +35,20 @@ pub(crate) struct OpenNames {
     pub(crate) critical: Vec<u32>,
 }
 
+/// An element of a list, or `None` past the last one.
+fn element_there(list: &[u32], place: usize) -> Option<u32>
+    ensures { result ≡ slice_get list.now place }
+{
+    list.get(place).copied()
+}
+
 /// The elements of a list at places.
 fn elements_at(alloc: Global, list: &[u32], places: &[usize]) -> Result<Vec<u32>, AllocError>
     ensures { IfOk result (λ elements. elements.items ≡ at_places list.now places.now) }
 {
     places
         .iter()
-        .filter_map(|place| list.get(*place).copied())
+        .filter_map(|place| element_there(list, *place))
         .collect(alloc)
 }
 
@@ -149,6 +156,26 @@ fn ranked_open_names<C: Chart>(
         .collect(alloc)
 }
 
+/// The open names of a choice in their order, given their uses: the open names in the order of their first appearance.
+fn names_by_uses<C: Chart>(
+    alloc: Global,
+    chart: &C,
+    order: &ShapeOrder,
+    names: &OpenNames,
+    choice: &NumberedArrangement,
+    uses: &Interner<u32>,
+) -> Result<Interner<u32>, AllocError>
+    requires known { LeavesChoices (C.county chart.now) order.now }
+    requires names { AreOpenNames (C.county chart.now) order.now names.now }
+    requires chosen { IsChosen order.now choice.now }
+    requires uses { uses.now ≡ open_feats (C.county chart.now) order.now.places choice.now.chains.items }
+    ensures { IfOk result (λ found. found ≡ feats_among names.now.feats.opened (C.county chart.now) choice.now.chains.items) }
+{
+    let ranked = ranked_open_names(alloc, chart, uses, &names.places)?;
+    let places = sorted_places(alloc, chart, ranked)?;
+    number_feats(alloc, chart, &places)
+}
+
 /// The open names of a choice in their order, given the open places.
 pub(crate) fn names_of_choice<C: Chart>(
     alloc: Global,
@@ -170,7 +197,5 @@ pub(crate) fn names_of_choice<C: Chart>(
         arrangement: &chains,
     };
     let uses = order_of(alloc, &names.feats.opened, &along)?;
-    let ranked = ranked_open_names(alloc, chart, &uses, &names.places)?;
-    let places = sorted_places(alloc, chart, ranked)?;
-    number_feats(alloc, chart, &places)
+    names_by_uses(alloc, chart, order, names, choice, &uses)
 }

@@ -40,7 +40,7 @@ struct FeatNumbers<'a> {
 
 /// The number of a name in a choice.
 fn number_of(numbers: FeatNumbers<'_>, feat: u32) -> u32
-    ensures number { result ≡ numbered_feat numbers.feats.now numbers.order.now feat }
+    ensures number { result ≡ numbered_feat numbers.entry.feats.now numbers.entry.order.now feat }
     ensures in_range { IsNumber 8 result }
 {
     place_in_choice(numbers.feats, numbers.order, feat) as u32 + 1

@@ -32,13 +32,20 @@ few_known {K} {cmp} o ks xs apart known =
     (to_filter (λ x. is_eq (cmp x k)) k xs (known_is_among o k xs (ltb-true 0 (times cmp k xs) t)) (same-itself o k))) ks known in
     omega (arith, groups, long_joined (λ k. filter (λ x. is_eq (cmp x k)) xs) ks filled)
 
+-- a county has at most as many names as records of one type
+pub few_names : (county : County) → IsWithinLimits most_records county → length county.names ≤ most_records
+few_names county within =
+    let counts : HasAtMost most_records (packed_by_type county) =
+    subst (HasAtMost most_records) (by_type_of (packed_by_type county)) (by_type_within most_records (packed county) within.counts) in
+    let fives : length (map packed_five county.names) ≤ most_records = counts.of_type_5 in
+    omega (arith, fives, length-map county.names packed_five)
+
 pub places_fit : (county : County) → IsCounty county → IsWithinLimits most_records county
     → AllKeysStandIn (polygons_along county.chains) (polygon_keys county) → FitsPlaces county
 places_fit county is within sides =
     let counts : HasAtMost most_records (packed_by_type county) =
     subst (HasAtMost most_records) (by_type_of (packed_by_type county)) (by_type_within most_records (packed county) within.counts) in
     let ones : length (map packed_one county.chains) ≤ most_records = counts.of_type_1 in
-    let fives : length (map packed_five county.names) ≤ most_records = counts.of_type_5 in
     let sevens : length (flat_map packed_sevens county.landmarks) ≤ most_records = counts.of_type_7 in
     let lands = few_landmarks county is in
     let along : length (polygons_along county.chains) ≤ 2 * length county.chains =
@@ -50,7 +57,7 @@ places_fit county is within sides =
     length-map county.polygons (λ (e : PolygonKey × Option BodyP). e.0) in
     record {
       chains = omega (arith, ones, length-map county.chains packed_one);
-      names = omega (arith, fives, length-map county.names packed_five);
+      names = (let few = few_names county within in omega (arith, few));
       polygons = omega (arith, keys, same, along, ones, length-map county.chains packed_one);
       landmarks = omega (arith, sevens, lands);
     }

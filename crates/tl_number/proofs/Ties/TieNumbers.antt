@@ -142,23 +142,32 @@ module _ (county : County) (shapes : OrderOfShapes) (known : LeavesChoices count
     pub kept : (n : ℕ) → AreKept cmp (all_of shapes.by_shape) (open_of shapes.by_shape) (all_of (chosen_chains n))
     kept n = (exchanged n).kept
 
-    -- the order of the open keys of a choice, read at open places
-    pub order_is : (n : ℕ) (opened order : List K) → opened ≡ open_of shapes.by_shape
+    -- the order of the open keys of a choice, read at open places, given the open keys in any order
+    pub order_among : (n : ℕ) (opened order : List K) → AreAlike cmp (open_of shapes.by_shape) opened
         → order ≡ first_seen cmp (filter (λ k. stands_in cmp k opened) (grouped (along (at_places (chosen_chains n) (open_among shapes.places (length shapes.by_shape))))))
         → order ≡ open_of (chosen_chains n)
-    order_is n opened order e f =
+    order_among n opened order alike f =
         let here : List (List K) = along (chosen_chains n) in
         let count : length here ≡ length shapes.by_shape = length-map (chosen_chains n) keys_of ∙ length_numbered n in
         let listed_here : map (group_at here) (range_with_len 0 (length shapes.by_shape)) ≡ here =
         ap (λ c. map (group_at here) (range_with_len 0 c)) (sym count) ∙ groups_listed here in
         let alone = open_alone o (is_open shapes.places) opened (group_at here) (length shapes.by_shape)
         (subst (λ ks. AreAlike cmp (open_keys cmp (is_open shapes.places) [] 0 ks) opened) (sym listed_here)
-        (subst (AreAlike cmp (open_of (chosen_chains n))) (sym e) (λ k. (((counterparts n).members k).1, ((counterparts n).members k).0)))) in
+        (λ k. (
+          (λ h. (alike k).0 (((counterparts n).members k).1 h)),
+          (λ h. ((counterparts n).members k).0 ((alike k).1 h)),
+        ))) in
         f
         ∙ ap (λ ks. first_seen cmp (filter (λ k. stands_in cmp k opened) ks))
         (ap grouped (map-at_places keys_of (chosen_chains n) (open_among shapes.places (length shapes.by_shape)))
         ∙ groups_at here (open_among shapes.places (length shapes.by_shape)))
         ∙ sym alone ∙ ap (first_open cmp shapes.places) listed_here
+
+    pub order_is : (n : ℕ) (opened order : List K) → opened ≡ open_of shapes.by_shape
+        → order ≡ first_seen cmp (filter (λ k. stands_in cmp k opened) (grouped (along (at_places (chosen_chains n) (open_among shapes.places (length shapes.by_shape))))))
+        → order ≡ open_of (chosen_chains n)
+    order_is n opened order e = order_among n opened order
+        (subst (AreAlike cmp (open_of shapes.by_shape)) (sym e) (alike_itself o (open_of shapes.by_shape)))
 
     -- The numbers of a choice.
     module _ (tables : OpenKeys (List K)) (are : AreOpenKeys cmp shapes.places (along shapes.by_shape) tables) (n : ℕ) (order : List K)

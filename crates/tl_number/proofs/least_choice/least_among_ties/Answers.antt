@@ -15,8 +15,8 @@ loop-alloc-init g c =
       kept = c.requires.kept_chosen;
     }
 
-pub compare_ties-ordering-requires-clause-tied : goal.compare_ties-ordering-requires-clause-tied
-compare_ties-ordering-requires-clause-tied g c =
+pub compare_ties-requires-clause-tied : goal.compare_ties-requires-clause-tied
+compare_ties-requires-clause-tied g c =
     let county = g.C.Chart.county c.args.chart.now in
     subst (λ number. ones_cmp county number c.find_tie.new.other.number ≡ Equal) (sym c.choose_again.ensures.number)
     (both_tied county c.args.first.now.number c.loop-alloc.least c.find_tie.new.other.number c.loop-alloc.invariant.tied

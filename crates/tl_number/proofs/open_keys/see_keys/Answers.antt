@@ -2,9 +2,9 @@ use Rattle.tl_number.proofs.Common.{◌≡◌, ◌+◌, ◌∷◌, [], ◌++◌,
 use Rattle.tl_number.proofs.Ties.SeenGroups.{new_more, one_dropped, seen_more}
 use Rattle.tl_number.proofs.open_keys.see_keys.Goals as goal
 
-none : {X : Type 0} (b : Bool) → cond b ([] : List X) [] ≡ []
-none true = refl
-none false = refl
+none : {X : Type 0} (b : Bool) (nothing : List X) → cond b nothing nothing ≡ nothing
+none true nothing = refl
+none false nothing = refl
 
 pub loop-key-init : goal.loop-key-init
 loop-key-init g c = record { all = refl; opened = refl }
@@ -31,4 +31,4 @@ pub returns-clause-opened : goal.returns-clause-opened
 returns-clause-opened g c =
     let rest = drop_all c.loop-key.key-index c.args.keys.now (omega (arith, c.loop-key-test.false)) in
     sym (ap (λ keys. c.loop-key.opened.items ++ cond c.args.at_open (newly_seen g.K.Ord.cmp c.loop-key.all keys) []) rest
-    ∙ none c.args.at_open ∙ append-nil c.loop-key.opened.items) ∙ c.loop-key.invariant.opened
+    ∙ ap (λ l. c.loop-key.opened.items ++ l) (none c.args.at_open []) ∙ append-nil c.loop-key.opened.items) ∙ c.loop-key.invariant.opened

@@ -1,4 +1,4 @@
-use Rattle.tl_number.proofs.Common.{◌≡◌, ◌∙◌, Equal, ap, sym, Four, Six, arranged_by, choices_cmp, groups_cmp, ordering_then, type_4_by_chain, type_6_by_chain}
+use Rattle.tl_number.proofs.Common.{◌≡◌, ◌∙◌, IfOk-weaker, ap, sym, Four, Six, arranged_by, choices_cmp, groups_cmp, ordering_then, type_4_by_chain, type_6_by_chain}
 use Rattle.tl_number.specs.RecordOrder.{types_8_to_p_cmp}
 use Rattle.tl_number.proofs.Texts.GroupOrders.{decided}
 use Rattle.tl_number.proofs.Ties.TieOrder.{ties_decide}
@@ -22,7 +22,21 @@ whole g c =
     c.args.tables.now c.requires.tables c.args.one.now.number c.args.other.now.number c.requires.tied)
 
 pub returns-in-Equal : goal.returns-in-Equal
-returns-in-Equal g c = ?equal
+returns-in-Equal g c =
+    let county = g.C.Chart.county c.args.chart.now in
+    let a = arranged_by county c.args.one.now.chains.items in
+    let b = arranged_by county c.args.other.now.chains.items in
+    let rest = ordering_then (groups_cmp Six (type_6_by_chain a) (type_6_by_chain b)) (types_8_to_p_cmp a b) in
+    IfOk-weaker c.compare_behind_names.result (λ ordering. ordering ≡ rest)
+    (λ ordering. ordering ≡ choices_cmp county c.args.one.now.number c.args.other.now.number)
+    (λ ordering e. e ∙ ap (λ o. ordering_then o rest) (sym (sym c.in_ok-unequal.ensures ∙ c.in-Equal.is)) ∙ whole g (goal.at.returns-in-Equal g c).Start)
+    c.compare_behind_names.ensures
 
 pub returns-in_default : goal.returns-in_default
-returns-in_default g c = ?default
+returns-in_default g c =
+    let county = g.C.Chart.county c.args.chart.now in
+    let a = arranged_by county c.args.one.now.chains.items in
+    let b = arranged_by county c.args.other.now.chains.items in
+    let made = c.in_ok-unequal.ensures in
+    made ∙ sym (decided _ (ordering_then (groups_cmp Six (type_6_by_chain a) (type_6_by_chain b)) (types_8_to_p_cmp a b))
+    (λ tie. c.in_default.not-Equal (made ∙ tie))) ∙ whole g (goal.at.returns-in_default g c).Start

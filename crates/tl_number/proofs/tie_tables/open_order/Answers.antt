@@ -1,10 +1,9 @@
-use Rattle.tl_number.proofs.Common.{◌≡◌, ◌<◌, ◌∙◌, ap, ap₂, sym, subst, AllByRecursion, DirectedChain, IsOpenOrder, ends_of, filter, first_seen, flat_map, grouped, key_cmp, key_keys, keys_along, length}
+use Rattle.tl_number.proofs.Common.{◌≡◌, ◌<◌, ◌∙◌, ap, ap₂, sym, subst, AllByRecursion, DirectedChain, IsOpenOrder, ends_of, filter, first_seen, grouped, key_cmp, key_keys, keys_along, length, map}
 use Rattle.tl_number.proofs.Common.{nat_cmp, nat_keys, nodes_at, numbered_arrangement, sides_of, stands_in}
 use Rattle.ordered_lists.specs.Places.{at_places}
 use Rattle.tl_county.specs.CountyRules.{chain_nodes, chain_polygons}
 use Rattle.tl_number.specs.EndsAndSides.{polygons_at}
 use Rattle.tl_number.specs.OpenKeys.{open_among}
-use Rattle.tl_number.proofs.Records.Grouped.{grouped_map}
 use Rattle.tl_number.proofs.Ties.TieNumbers.{order_is, whole_numbered}
 use Rattle.tl_number.proofs.Ties.TieReading.{all_there, read_keys}
 use Rattle.tl_number.proofs.Ties.TopologyOrder.{turned_nodes, turned_polygons}
@@ -37,13 +36,13 @@ returns g c =
     let nodes = order_is county shapes c.requires.known is within nat_keys chain_nodes turned_nodes n c.args.tables.now.nodes.opened c.in_ok-nodes.nodes
     c.requires.tables.nodes.opened (c.in_ok-nodes.ensures
     ∙ ap (λ keys. first_seen nat_cmp (filter (λ key. stands_in nat_cmp key c.args.tables.now.nodes.opened) keys))
-    (ap (flat_map nodes_at) c.deref-4.ensures.value ∙ sym (grouped_map nodes_at c.in_ok-ends.ends.items)
+    (ap (λ l. grouped (map nodes_at l)) c.deref-4.ensures.value
     ∙ ap grouped (read_keys county ends_of nodes_at c.in_ok-ends.ends.items c.deref-3.result.now c.in_ok-ends.ensures.ends
     ∙ ap (keys_along chain_nodes county) (chains_are g before)))) in
     let polygons = order_is county shapes c.requires.known is within key_keys chain_polygons turned_polygons n c.args.tables.now.polygons.opened c.in_ok-polygons.polygons
     c.requires.tables.polygons.opened (c.in_ok-polygons.ensures
     ∙ ap (λ keys. first_seen key_cmp (filter (λ key. stands_in key_cmp key c.args.tables.now.polygons.opened) keys))
-    (ap (flat_map polygons_at) c.deref-5.ensures.value ∙ sym (grouped_map polygons_at c.in_ok-ends.sides.items)
+    (ap (λ l. grouped (map polygons_at l)) c.deref-5.ensures.value
     ∙ ap grouped (read_keys county sides_of polygons_at c.in_ok-ends.sides.items c.deref-3.result.now c.in_ok-ends.ensures.sides
     ∙ ap (keys_along chain_polygons county) (chains_are g before)))) in
     subst (λ chains. IsOpenOrder county shapes chains (record { nodes = c.in_ok-nodes.nodes; polygons = c.in_ok-polygons.polygons }))
