@@ -90,7 +90,7 @@ pub use Rattle.tl_number.specs.Arrangement.{polygons_in_order, relinked, turned_
 pub use Rattle.tl_number.specs.ByNumber.{entry_polyid, polygons_by_number, under_number}
 pub use Rattle.tl_number.specs.CanonCounties.{IsCanonCounty}
 pub use Rattle.tl_number.specs.Canonical.{AreFull, IsArrangedList, IsCanonical, IsNotAfter, IsPacked, IsTidyList, StandsInOrder}
-pub use Rattle.tl_number.specs.ChoiceSearch.{IsChosen, IsLesserTie, LeavesChoices, ShowsChoice, numbered_arrangement}
+pub use Rattle.tl_number.specs.ChoiceSearch.{IsChosen, IsLesserTie, LeavesChoices, numbered_arrangement}
 pub use Rattle.tl_number.specs.CountyGroups.{type_1_by_chain, type_2_by_chain, type_4_by_chain, type_5_by_name, type_6_by_chain}
 pub use Rattle.tl_number.specs.CountyGroups.{type_7_by_landmark, type_8_together, type_i_by_chain, type_p_by_number, types_1_to_4}
 pub use Rattle.tl_number.specs.CountyGroups.{types_5_to_7, types_8_to_p}

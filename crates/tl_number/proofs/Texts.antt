@@ -3,7 +3,6 @@ pub mod TiedOnes
 pub mod TopologyRecords
 pub mod SamePolygons
 pub mod SameChains
-pub mod SameLists
 pub mod TypeOnes
 pub mod RecordTexts
 pub mod TypeOrders

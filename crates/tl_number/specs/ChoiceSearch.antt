@@ -3,18 +3,12 @@ use Rattle.std.specs.Prelude.{ℕ, ◌≡◌, ◌≤◌, List, length}
 use Rattle.std.specs.declared.cmp.Ordering.TheVariants.{Equal}
 use Rattle.tl_county.specs.County.{County}
 use Rattle.tl_county.specs.CountyRules.{AllKeysStandIn, polygon_keys, polygons_along}
-use Rattle.tl_county.specs.declared.chart.Chart.{Ghosts as Charts}
 use Rattle.tl_county.specs.declared.directed_chain.DirectedChain.{DirectedChain}
-use Rattle.tl_number.specs.Arrangement.{arranged}
 use Rattle.tl_number.specs.Canonical.{IsNotAfter}
 use Rattle.tl_number.specs.LeastNumber.{choice_list}
 use Rattle.tl_number.specs.MovedChains.{AreWithin, other_way}
 use Rattle.tl_number.specs.NumberedChoices.{moved}
-use Rattle.tl_number.specs.Tidy.{numbered_choice}
 use Rattle.tl_number.specs.TypeOneOrder.{ones_cmp}
-use Rattle.tl_number.specs.Views.{arranged_county, source_of}
-use Rattle.tl_number.specs.declared.arranged.Arranged.{Arranged}
-use Rattle.tl_number.specs.declared.arranged.Evidence.{Ghosts as Evidences}
 use Rattle.tl_number.specs.declared.numbered_arrangement.NumberedArrangement.{NumberedArrangement}
 use Rattle.tl_profile.specs.Choices.{choices, most_choices}
 use Rattle.tl_profile.specs.ShapeOrder.{IsShapeOrder, OrderOfShapes}
@@ -34,11 +28,6 @@ numbered_arrangement shapes number = (moved other_way shapes.places (shapes.by_s
 -- the chains are those of the choice with the number
 abbrev pub IsChosen : OrderOfShapes → NumberedArrangement → Type 0
 IsChosen shapes arrangement = arrangement.chains.items ≡ numbered_arrangement shapes arrangement.number
-
--- the arranged county is that of the choice with this number, read from the county
-abbrev pub ShowsChoice : {C S : Type 0} {chart : Charts C} {evidence : Evidences S} → County → ℕ → Arranged C S chart evidence → Type 0
-ShowsChoice {chart = chart} county number view = (chart.county (source_of view) ≡ county)
-    × (arranged_county view ≡ arranged county (numbered_choice county number))
 
 -- the text of the choice with the last number comes after neither of the other two, and its records of type 1 are the same as the first's
 pub record IsLesserTie (county : County) (one other kept : ℕ) : Type 0 where

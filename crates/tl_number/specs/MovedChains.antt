@@ -1,11 +1,10 @@
 -- Moving chains at the open places of the order of shapes, and the places at which no chain moves.
-use Rattle.std.specs.Prelude.{ℕ, ◌≡◌, ◌+◌, ◌<◌, ◌≤◌, List, [], ◌∷◌, length, not, Option, slice_get, ⊤}
+use Rattle.std.specs.Prelude.{ℕ, ◌≡◌, ◌+◌, ◌<◌, ◌≤◌, List, [], ◌∷◌, length, map, not, slice_get, ⊤}
 use Rattle.std.specs.List.{AllByRecursion}
-use Rattle.tl_shape.specs.Chain.{Chain}
 use Rattle.tl_county.specs.County.{County}
+use Rattle.tl_county.specs.DirectedChains.{directed_chain}
 use Rattle.tl_county.specs.declared.directed_chain.DirectedChain.{DirectedChain}
 use Rattle.tl_profile.specs.declared.open_places.OpenPlace.{OpenPlace}
-use Rattle.tl_number.specs.DirectedChains.{parts_along}
 use Rattle.tl_number.specs.ViewFacts.{AreWhole}
 
 -- the chain in the other direction
@@ -43,10 +42,10 @@ pub record AgreeButOpen (county : County) (places : List OpenPlace) (one other :
   pub in_order : StandInOrder places
   pub apart : AgreeApart places one other
 
--- the chains of two lists of directed chains have the same part at a place, or both lists have none
-abbrev pub HaveSamePartAt : {X : Type 0} → (Option Chain → X) → County → List DirectedChain → List DirectedChain → ℕ → Type 0
-HaveSamePartAt part county one other place = slice_get (parts_along part county one) place ≡ slice_get (parts_along part county other) place
+-- two lists of directed chains have the same chain at a place, or both have none
+abbrev pub HaveSameChainAt : County → List DirectedChain → List DirectedChain → ℕ → Type 0
+HaveSameChainAt county one other place = slice_get (map (directed_chain county) one) place ≡ slice_get (map (directed_chain county) other) place
 
 -- the same for each place below this one
-abbrev pub HaveSamePartsBelow : {X : Type 0} → (Option Chain → X) → County → ℕ → List DirectedChain → List DirectedChain → Type 0
-HaveSamePartsBelow part county end one other = (place : ℕ) → place < end → HaveSamePartAt part county one other place
+abbrev pub HaveSameChainsBelow : County → ℕ → List DirectedChain → List DirectedChain → Type 0
+HaveSameChainsBelow county end one other = (place : ℕ) → place < end → HaveSameChainAt county one other place

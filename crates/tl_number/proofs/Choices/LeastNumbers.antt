@@ -34,13 +34,6 @@ module _ (county : County) where
         not_after_itself (choice_list county m),
       )
 
-  -- the order of the counties of two choices, in any form
-  pub text_compared : (n m : ℕ) (o : Ordering) (one other : County)
-      → one ≡ arranged county (numbered_choice county n) → other ≡ arranged county (numbered_choice county m)
-      → o ≡ slice_cmp nat_cmp (text_of (packed one)) (text_of (packed other)) → o ≡ choices_cmp county n m
-  text_compared n m o one other is_one is_other e =
-      e ∙ (λ j. slice_cmp nat_cmp (text_of (packed (is_one j))) (text_of (packed (is_other j))))
-
   -- texts that don't come after one another
   pub not_after_both : (n m k : ℕ) → IsNotAfter (choice_list county n) (choice_list county m)
       → IsNotAfter (choice_list county m) (choice_list county k) → IsNotAfter (choice_list county n) (choice_list county k)
@@ -68,22 +61,6 @@ module _ (county : County) where
       go : (b : Bool) → nat_lt m from ≡ b → IsNotAfter (choice_list county old) (choice_list county m)
       go true e = below m (ltb-true m from e)
       go false e = not_after_both old first m upper (among m (ltb-false m from e) l)
-
--- One of two values is kept. It has each property that both have, and its number is that of one of them.
-module _ {X : Type 0} (b : Bool) (kept x y : X) (is : kept ≡ cond b x y) where
-  pub kept_has : (P : X → Type 0) → P x → P y → P kept
-  kept_has P p q = subst P (sym is) (either b)
-    where
-      either : (d : Bool) → P (cond d x y)
-      either true = p
-      either false = q
-
-  pub kept_is : {Y : Type 0} (state : X → Y) → state kept ≡ cond b (state x) (state y)
-  kept_is {Y} state = ap state is ∙ either b
-    where
-      either : (d : Bool) → state (cond d x y) ≡ cond d (state x) (state y)
-      either true = refl
-      either false = refl
 
 module _ (county : County) (is : IsCounty county) where
   -- the counties of two choices are the same

@@ -6,9 +6,7 @@ use Rattle.tl_number.proofs.Common.{directed_chain, first_seen, image, in_order,
 use Rattle.tl_number.proofs.Common.{map_agree_everywhere, name_key, name_key_cmp, names_in_order, new_keys, nodes_along, nodes_in_order}
 use Rattle.tl_number.proofs.Common.{numbered, numbered_from, on, parts_along, placed, polygons_along, renaming_of, renumbered}
 use Rattle.tl_number.proofs.Common.{renumbered_polygon, side_of, under_cenid}
-use Rattle.tl_number.specs.MovedChains.{HaveSamePartsBelow}
 use Rattle.tl_number.proofs.Arrangements.Carrying.{chains_arranged, names_arranged, names_renamed, nodes_renamed}
-use Rattle.tl_number.proofs.Choices.FixedPlaces.{decides_equal}
 use Rattle.tl_number.proofs.Landmarks.BodiesFirst.{same_landmarks}
 use Rattle.tl_number.proofs.Texts.SamePolygons.{LinksAgree, links_agree, new_polygons_same, same_links, same_polygons}
 use Rattle.tl_number.proofs.Unique.SameNumbers.{kept_entry}
@@ -17,15 +15,6 @@ use Rattle.tl_number.proofs.Views.ViewChains.{arranges, bodies_read, chains}
 
 pub the_same : {X : Type 0} (x y : X) → Some x ≡ Some y → x ≡ y
 the_same x y e = cc
-
--- parts that are the same at each place of two lists of the same length
-pub all_parts : {X : Type 0} (part : Option Chain → X) (county : County) (one other : List DirectedChain) (count : ℕ) → count ≡ length one
-    → length one ≡ length other → (b : Bool) → Decides b (HaveSamePartsBelow part county count one other)
-    → Decides b (parts_along part county one ≡ parts_along part county other)
-all_parts part county one other count all as_many b decides =
-    let part_of = λ (directed : DirectedChain). part (directed_chain county directed) in
-    decides_equal (parts_along part county one) (parts_along part county other) count (length-map one part_of ∙ sym all)
-    (length-map other part_of ∙ sym (all ∙ as_many)) b decides
 
 -- A chain under new numbers depends only on the new numbers of names, of polygons and of nodes.
 module _ (r s : Renumbering) (names : r.names ≡ s.names) (polygons : r.polygons ≡ s.polygons) (nodes : r.nodes ≡ s.nodes) where

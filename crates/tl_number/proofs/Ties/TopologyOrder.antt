@@ -1,5 +1,5 @@
 -- The records of type I of two choices are in the order of those at critical places.
-use Rattle.tl_number.proofs.Common.{◌≡◌, ◌<◌, ◌∙◌, ◌||◌, ◌⊎◌, ◌≤◌, ◌+◌, ℕ, List, [], ◌∷◌, ◌++◌, map, filter, flat_map, length, slice_get, append-nil, length-map}
+use Rattle.tl_number.proofs.Common.{◌≡◌, ◌<◌, ◌∙◌, ◌||◌, ◌⊎◌, ◌≤◌, ◌+◌, ℕ, List, [], ◌∷◌, ◌++◌, map, filter, flat_map, length, slice_get, append-nil, length-map, map-map}
 use Rattle.tl_number.proofs.Common.{Bool, false, true, Equal, Option, Some, None, option_cmp, option_map, option_to_list, refl, sym, ap, ap₂, subst, arith, inl, inr, get_or, nat_lt, ltb-true, ltb-false, slice_get-get_or}
 use Rattle.tl_number.proofs.Common.{AllByRecursion, AreTieTables, AreWhole, Chain, County, DirectedChain, FieldsI, I, IfSome, IsCounty, IsWithinLimits, Known}
 use Rattle.tl_number.proofs.Common.{OrderOfShapes, Renumbering, all_left, all_right, arranged_by, arrangement_of, directed_chain, first_seen}
@@ -22,7 +22,6 @@ use Rattle.tl_number.proofs.Lists.Counting.{flat_map-map}
 use Rattle.tl_number.proofs.Numbering.NewNumbers.{image-numbered, image-under_cenid}
 use Rattle.tl_number.proofs.Records.Grouped.{grouped_map}
 use Rattle.tl_number.proofs.Records.PackedGroups.{is as is_packed}
-use Rattle.tl_number.proofs.Texts.SameLists.{read_along}
 use Rattle.tl_number.proofs.Texts.TopologyRecords.{entry_of_directed, no_topology, topology_record_there}
 use Rattle.tl_number.proofs.Texts.TypeOnes.{same_one}
 use Rattle.tl_number.proofs.Ties.CriticalKeys.{alike_there, chains_of, fixed_there, new_of, places_stay}
@@ -30,8 +29,15 @@ use Rattle.tl_number.proofs.Ties.NewlySeen.{AreAlike}
 use Rattle.tl_number.proofs.Ties.PartOrder.{part_decides}
 use Rattle.tl_number.proofs.Ties.RecordExact.{topologies_fit, topology_exact}
 use Rattle.tl_number.proofs.Ties.TieNumbers.{length_numbered, swapped_alike, whole_numbered}
-use Rattle.tl_number.proofs.Views.ViewChains.{chains, chains_arranged_by}
+use Rattle.tl_number.proofs.Views.ViewChains.{bodies_read, chains, chains_arranged_by}
 use Rattle.tl_number.proofs.Views.ViewTables.{keys_paired, nodes_paired}
+
+-- values read from each directed chain are read from the chains in their new order
+read_along : (county : County) (is : IsCounty county) {X : Type 0} (part : Option Chain → X) (arrangement : List DirectedChain)
+    (w : AreWhole county arrangement)
+    → map (λ directed. part (directed_chain county directed)) arrangement ≡ map (λ c. part (Some c)) (chains county arrangement is w)
+read_along county is part arrangement w = sym (map-map part (directed_chain county) arrangement)
+    ∙ ap (map part) (bodies_read county arrangement is w arrangement w.there) ∙ map-map part Some (chains county arrangement is w)
 
 -- keys along the directed chains of an arrangement are those along its chains
 module _ (county : County) (arrangement : List DirectedChain) (is : IsCounty county) (whole : AreWhole county arrangement) {K : Type 0} (keys : Chain → List K)
