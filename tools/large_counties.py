@@ -193,27 +193,41 @@ def twins(count: int = 2_000) -> County:
 
 
 def tied(count: int) -> dict[str, County]:
-    """Counties with seven chains of one shape that differ only in their nodes, their addresses, their polygons, or the landmarks of these."""
+    """Counties with seven chains of one shape that differ only in their nodes, their further names, their addresses, their polygons, or the
+    landmarks of these."""
     # One has no start node, and is the first, since a blank comes before any number. Each order of all others has the same text.
     nodes: list[dict[str, Any]] = [{"start": None}, *({} for _ in range(TIED - 1))]
+    # Names of one content are numbered by their first use, so the chains with the first four can change places. All others can't.
+    further_names = [{"FILE": maps.FILE, "FENAME": name} for name in ("Ash", "Ash", "Ash", "Ash", "Birch", "Cedar", "Elm")]
+    named: list[dict[str, Any]] = [{"names": [number]} for number in range(TIED)]
     # These are in the order of the addresses, and of the points of the polygons on their left.
     addresses = [{"ranges": [{"FRADDL": f"{number:>11}", "FRIADDL": "1"}]} for number in range(1, TIED + 1)]
     polygons = [maps.Polygon({"FILE": maps.FILE, "WATER": "0"}, (WEST - place, int(LATITUDE))) for place in range(TIED)]
     lefts: list[dict[str, Any]] = [{"left": polygon} for polygon in range(TIED)]
     # Here the polygons are in the order of their landmarks, which is decided before that of their points.
     parks = [maps.Landmark(landmark_fields("Park", number), polygons=[number]) for number in range(TIED)]
-    landmarks = ties(count, lefts, polygons[::-1], parks)
-    return {"ties": ties(count, nodes), "addresses": ties(count, addresses), "sides": ties(count, lefts, polygons), "landmarks": landmarks}
+    return {
+        "ties": ties(count, nodes),
+        "names": ties(count, named, further_names),
+        "addresses": ties(count, addresses),
+        "sides": ties(count, lefts, [], polygons),
+        "landmarks": ties(count, lefts, [], polygons[::-1], parks),
+    }
 
 
 def ties(
-    count: int, seven: list[dict[str, Any]], polygons: Sequence[maps.Polygon] = (), landmarks: Sequence[maps.Landmark] = ()
+    count: int,
+    seven: list[dict[str, Any]],
+    names: Sequence[maps.Values] = (),
+    polygons: Sequence[maps.Polygon] = (),
+    landmarks: Sequence[maps.Landmark] = (),
 ) -> County:
     """A street with seven chains of one shape, all between nodes of their own unless it says otherwise: all 5,040 orders of them have the
-    same records of type 1."""
+    same records of type 1. The last chain has all names."""
     nodes, link = itertools.count(TIED_PLACE + 1), {"FILE": maps.FILE}
     tied = [street_chain(TIED_PLACE, **{"start": next(nodes), "end": next(nodes), **more}, link=link) for more in seven]
     further = next(nodes) - TIED_PLACE - 1
     chains = [street_chain(place, place, place + 1, link=link) for place in range(TIED_PLACE)] + tied
     chains += [street_chain(place, place + further, place + further + 1, link=link) for place in range(TIED_PLACE + 1, count)]
-    return spelled(maps.County(chains, [], list(polygons), list(landmarks), outside=" " * 15))
+    chains[-1].names = list(range(len(names)))
+    return spelled(maps.County(chains, list(names), list(polygons), list(landmarks), outside=" " * 15))

@@ -1,9 +1,8 @@
 -- Places and numbers at which choices can differ, and what is made of them to compare choices that tie.
-use Rattle.std.specs.Prelude.{ℕ, zero, suc, ◌≡◌, ◌+◌, ◌&&◌, ◌||◌, List, [], ◌∷◌, Bool, cond, false, filter, is_some, length, map, option_to_list, slice_get, true}
+use Rattle.std.specs.Prelude.{ℕ, zero, suc, ◌≡◌, ◌+◌, ◌&&◌, ◌||◌, List, [], ◌∷◌, Bool, cond, false, filter, is_some, length, option_to_list, slice_get, true}
 use Rattle.std.specs.List.{list_any, range_with_len}
 use Rattle.std.specs.Option.{option_and_then}
 use Rattle.std.specs.Ordering.{nat_cmp}
-use Rattle.std.specs.declared.cmp.Ordering.{Ordering}
 use Rattle.ordered_lists.specs.Orders.{stands_in}
 use Rattle.tl_county.specs.ChartWords.{polygon_under}
 use Rattle.tl_county.specs.County.{County, link_key}

@@ -2,7 +2,7 @@
 use Rattle.tl_number.proofs.Common.{◌≡◌, ◌≤◌, ◌+◌, ℕ, nat_lt, List, Bool, true, false, cond, Ordering, is_gt, nat_cmp, refl, sym, ap, ◌∙◌}
 use Rattle.tl_number.proofs.Common.{subst, arith, AllKeysStandIn, AreSame, Arrangement, County, IsChoice, IsCounty, IsLeastBelow}
 use Rattle.tl_number.proofs.Common.{IsLeastFrom, IsLesserTie, IsNotAfter, arranged, choice_list, choices_cmp, ltb-false, ltb-true, not_greater}
-use Rattle.tl_number.proofs.Common.{numbered_choice, packed, polygon_keys, polygons_along, renaming_of, same-symmetric, same-transitive}
+use Rattle.tl_number.proofs.Common.{numbered_choice, polygon_keys, polygons_along, renaming_of, same-symmetric, same-transitive}
 use Rattle.tl_number.proofs.Common.{slice_cmp, text_of, upto}
 use Rattle.ordered_lists.proofs.ByKey.KeyOrders.{bytes_keys}
 use Rattle.tl_number.proofs.Arrangements.ArrangedCounties.{arranged_county}

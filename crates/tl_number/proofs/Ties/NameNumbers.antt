@@ -1,11 +1,11 @@
 -- The numbers of names in the choices of a county, from what is read at open places.
-use Rattle.tl_number.proofs.Common.{◌≡◌, ◌≤◌, ◌<◌, ◌+◌, ◌∙◌, ℕ, zero, suc, List, [], ◌∷◌, ◌++◌, filter, flat_map, get_or, length, map, slice_get, filter_map}
-use Rattle.tl_number.proofs.Common.{Bool, true, false, not, cond, Option, Some, None, refl, sym, ap, ap₂, subst, arith, AllByRecursion, AreReadAt, Body5, AreWhole, Chain, County}
+use Rattle.tl_number.proofs.Common.{◌≡◌, ◌≤◌, ◌+◌, ◌∙◌, ℕ, zero, suc, List, [], ◌∷◌, filter, length, map, slice_get, filter_map}
+use Rattle.tl_number.proofs.Common.{Bool, true, false, Option, Some, None, refl, sym, ap, ap₂, subst, arith, AllByRecursion, AreReadAt, Body5, AreWhole, Chain, County}
 use Rattle.tl_number.proofs.Common.{DirectedChain, Four, IsApart, IsCounty, IsPermutation, IsPermutation-map, IsPermutation-trans, IsWithinLimits, Known}
-use Rattle.tl_number.proofs.Common.{NamesEachOnce, OrderOfShapes, all_append, all_known, apart_from_sorted, apart-permutation, arranged_by, arranged_tlids, arrangement_of, ascending}
-use Rattle.tl_number.proofs.Common.{directed_chain, entry_keys, feats, feats_along_arrangement, feats_of, few_chains, first_seen, grouped, groups_cmp, image, is_open}
-use Rattle.tl_number.proofs.Common.{known_all, keys_along, length-map, length_permutation, lt-ltb, ltb-true, map_agree_all, most_records, nat_cmp, nat_keys, numbered_arrangement}
-use Rattle.tl_number.proofs.Common.{place_in, renaming_of, stands_in, times, times-permutation, tlids, type_4_by_chain}
+use Rattle.tl_number.proofs.Common.{NamesEachOnce, OrderOfShapes, all_append, all_known, apart_from_sorted, apart-permutation, arranged_by, arranged_tlids, ascending}
+use Rattle.tl_number.proofs.Common.{directed_chain, feats, feats_along_arrangement, feats_of, few_chains, first_seen, grouped, groups_cmp, image, is_open}
+use Rattle.tl_number.proofs.Common.{known_all, keys_along, length-map, length_permutation, lt-ltb, ltb-true, map_agree_all, most_records, nat_cmp, nat_keys}
+use Rattle.tl_number.proofs.Common.{place_in, stands_in, times, times-permutation, tlids, type_4_by_chain}
 use Rattle.ordered_lists.proofs.ByKey.Keys.{apart-filter, known-permutation_to}
 use Rattle.ordered_lists.proofs.Lists.Permutations.{apart-permutation_of}
 use Rattle.ordered_lists.proofs.Lists.Reordered.{stands_alike}
@@ -15,14 +15,13 @@ use Rattle.tl_number.specs.NameItems.{AreSortedNames, ranked_at}
 use Rattle.tl_number.specs.OpenKeys.{open_among, place_by_order}
 use Rattle.tl_number.specs.OpenNames.{AreFewFeats, AreOpenNames, chain_feats, feats_among, feats_in_order, fours_at, fours_of, fours_under, numbered_feat, open_feats}
 use Rattle.tl_number.specs.OpenRanges.{open_chain}
-use Rattle.tl_number.specs.declared.name_order.RankedName.{RankedName}
 use Rattle.tl_number.specs.declared.open_names.OpenNames.{OpenNames}
 use Rattle.tl_shape.specs.Turned.{turned}
 use Rattle.tl_number.proofs.Arrangements.PlacesFit.{few_names}
 use Rattle.tl_number.proofs.Choices.AscendingArrangement.{arrangement_ascend}
 use Rattle.tl_number.proofs.Choices.TidyChoices.{shapes_arrange}
 use Rattle.tl_number.proofs.Names.NamePlaces.{feats_permuted, name_stays}
-use Rattle.tl_number.proofs.Numbering.FirstSeen.{first_seen-apart, from_first_seen, known_within, unknown_at_end}
+use Rattle.tl_number.proofs.Numbering.FirstSeen.{from_first_seen, known_within, unknown_at_end}
 use Rattle.tl_number.proofs.Ties.Counterparts.{AreCounterparts, found_there, opened_new, there_found}
 use Rattle.tl_number.proofs.Ties.CriticalKeys.{Stay, chains_of, new_of}
 use Rattle.tl_number.proofs.Ties.NameRecords.{names_order}

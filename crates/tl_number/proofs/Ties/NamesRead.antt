@@ -1,6 +1,6 @@
 -- Names and their records of type 4, read one by one.
-use Rattle.tl_number.proofs.Common.{◌≡◌, ◌∙◌, ◌≤◌, ◌<◌, ◌+◌, ◌*◌, ◌/◌, ◌%◌, ℕ, suc, List, [], ◌∷◌, length, length-map, map, min, nat_lt, Bool, true, false, Option, Some, None, option_map}
-use Rattle.tl_number.proofs.Common.{cons_option, drop, slice_get, slice_get-map, slice_get_past, take, refl, sym, ap, ap₂, subst, arith, AllByRecursion, AreReadAt, IsNumber, Known, all_map, all_weaker}
+use Rattle.tl_number.proofs.Common.{◌≡◌, ◌∙◌, ◌≤◌, ◌<◌, ◌+◌, ◌*◌, ◌/◌, ◌%◌, ℕ, List, [], ◌∷◌, length, length-map, map, min, nat_lt, Bool, true, false, Option, Some, None, option_map}
+use Rattle.tl_number.proofs.Common.{cons_option, drop, slice_get, slice_get-map, slice_get_past, take, refl, sym, ap, ap₂, subst, arith, AllByRecursion, AreReadAt, IsNumber, Known, all_map}
 use Rattle.tl_number.proofs.Common.{chain_at, Chain, County, DirectedChain, Fields4, IsCounty, IsWithinLimits, directed_chain, feats_of, group_at, in_pieces, ltb-false, ltb-true, most_records}
 use Rattle.tl_number.proofs.Common.{nat_cmp, nat_keys, place_in, turned_if}
 use Rattle.ordered_lists.specs.Places.{at_places}

@@ -1,5 +1,5 @@
-use Rattle.tl_number.proofs.Common.{◌≡◌, length, map, sym, subst, IsPermutation, AreReadAt, IfOk-weaker, arrangement_of, names_in_order, range_with_len}
-use Rattle.tl_number.specs.NameItems.{AreSortedNames, ranked_at}
+use Rattle.tl_number.proofs.Common.{sym, subst, IsPermutation, AreReadAt, IfOk-weaker, arrangement_of, names_in_order}
+use Rattle.tl_number.specs.NameItems.{AreSortedNames}
 use Rattle.tl_number.proofs.Names.NameOrder.{names_stated}
 use Rattle.tl_number.proofs.name_order.places_in_order.Goals as goal
 

@@ -1,4 +1,4 @@
-use Rattle.tl_number.proofs.Common.{◌≡◌, ◌∙◌, List, map, is_lt, rules, ap, subst, sym, IfOk-weaker, IsInOrder, IsPermutation}
+use Rattle.tl_number.proofs.Common.{◌≡◌, ◌∙◌, List, map, is_lt, rules, ap, IfOk-weaker, IsInOrder}
 use Rattle.std.proofs.lemmas.Fn.{always_returns_same}
 use Rattle.std.proofs.lemmas.List.Sorted.{ranks_by}
 use Rattle.ordered_lists.proofs.ByKey.KeyedLists.{in_order-from_sorted}

@@ -1,4 +1,4 @@
-use Rattle.tl_number.proofs.Common.{◌≡◌, ◌<◌, ◌+◌, ◌∙◌, ap, arith, drop, drop_all, filter, first_seen_after, grouped, length, stands_in, sym}
+use Rattle.tl_number.proofs.Common.{◌<◌, ◌+◌, ◌∙◌, ap, arith, drop, drop_all, filter, first_seen_after, grouped, length, stands_in, sym}
 use Rattle.tl_number.proofs.Ties.SeenGroups.{chosen_more, group_dropped}
 use Rattle.tl_number.proofs.open_keys.order_of.Goals as goal
 

@@ -1,4 +1,4 @@
-use Rattle.tl_number.proofs.Common.{◌≡◌, ◌<◌, ◌+◌, ◌++◌, ◌∙◌, ap, ap₂, append-nil, arith, IsKeyOrder, drop, drop_all, first_seen_after, grouped, is_open, length, open_keys, sym}
+use Rattle.tl_number.proofs.Common.{◌<◌, ◌+◌, ◌++◌, ◌∙◌, ap, ap₂, append-nil, arith, IsKeyOrder, drop, drop_all, first_seen_after, grouped, is_open, length, open_keys, sym}
 use Rattle.tl_number.proofs.Ties.SeenGroups.{group_dropped, opened_more, seen_more}
 use Rattle.tl_number.proofs.open_keys.see_along.Goals as goal
 

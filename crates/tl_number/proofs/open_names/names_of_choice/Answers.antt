@@ -1,4 +1,4 @@
-use Rattle.tl_number.proofs.Common.{◌≡◌, ◌∙◌, ap, ap₂, filter, first_seen, grouped, keys_along, nat_cmp, stands_in, sym}
+use Rattle.tl_number.proofs.Common.{◌∙◌, ap, ap₂, filter, first_seen, grouped, keys_along, nat_cmp, stands_in, sym}
 use Rattle.ordered_lists.specs.Places.{at_places}
 use Rattle.tl_number.specs.OpenNames.{chain_feats, open_feats}
 use Rattle.tl_number.proofs.Ties.NameNumbers.{uses_read}
