@@ -6,6 +6,7 @@ import ctypes
 import hashlib
 import io
 import os
+import re
 import resource
 import signal
 import subprocess
@@ -18,6 +19,7 @@ from typing import Any, Callable, Iterator, Mapping, NamedTuple
 import pytest
 from testing import PROGRAM as BUILT
 from testing import ROOT, TYPES
+from testing import run as run_program
 
 PACKAGE = ROOT / "python"
 STAND_INS = PACKAGE / "tests/stand-ins"
@@ -25,6 +27,7 @@ PROGRAM = os.path.abspath(os.environ.get("TIGERCANON") or BUILT)
 
 NAME = "tigercanon-tools: "
 HEAD = "# tigercanon form 1\n"
+PROGRESS = re.compile(r"tigercanon-tools: (normalising|reading|comparing|finding|writing) .*\n")
 PR_SET_PDEATHSIG = 1
 
 Process = subprocess.Popen[bytes]
@@ -100,7 +103,18 @@ def end(run: Process, seconds: float = 300.0) -> Ended:
         out, err = run.communicate(timeout=seconds)
     finally:
         kill_group(run)
-    return Ended(run.returncode, os.fsdecode(out or b""), os.fsdecode(err or b""))
+    return ended(run.returncode, out or b"", err or b"")
+
+
+def shell(command: str) -> Ended:
+    """Runs a command of bash, which has `tigercanon-tools` and what else stand-ins/commands defines."""
+    words = ["bash", "-c", f'. "$0"\n{command}', STAND_INS / "commands"]
+    return ended(*run_program(words, env=environment(ROOT=str(ROOT), PYTHON=sys.executable)))
+
+
+def ended(status: int, out: bytes, err: bytes) -> Ended:
+    """What a call printed, without the lines of progress of diff: a machine at work prints more of them."""
+    return Ended(status, os.fsdecode(out), PROGRESS.sub("", os.fsdecode(err)))
 
 
 def kill_group(run: Process) -> None:
