@@ -4,38 +4,37 @@ import os
 from pathlib import Path
 
 import pytest
-from support import NAME, Four, begin, call, complete, digest, end, manifest, put
+from support import HEAD, NAME, Four, begin, call, complete, digest, end, manifest, put
 from testing import await_that
 
-HEAD = b"# tigercanon form 1\n"
 COUNTIES = {"in/b": b"b\n", "in/c": b"c\n"}
 
 
-def lines(*pairs: str) -> bytes:
-    """Lines from texts such as `a in/x`, in which a letter stands for a fingerprint of it."""
-    return "".join(f"{pair[0] * 64}  {pair[2:]}\n" for pair in pairs).encode()
+def line(pair: str) -> str:
+    """A line from a text such as `a in/x`, in which a letter stands for a fingerprint of it."""
+    return f"{pair[0] * 64}  {pair[2:]}\n"
 
 
 @pytest.mark.parametrize(
     "text, place",
     [
-        (b"something else\n", "line 1"),
-        (lines("a x")[1:], "line 1"),
-        (lines("a "), "line 1"),
-        (b"# --loud\n" + lines("a x"), "line 1"),
-        (b"# tigercanon form 2\n", "line 1"),
-        (lines("a x") + b"x\n" + lines("b y"), "line 2"),
+        ("something else\n", "line 1"),
+        (line("a x")[1:], "line 1"),
+        (line("a "), "line 1"),
+        ("# --loud\n" + line("a x"), "line 1"),
+        ("# tigercanon form 2\n", "line 1"),
+        (line("a x") + "x\n" + line("b y"), "line 2"),
         (HEAD + HEAD, "line 2"),
-        (b"some", "its last line"),
+        ("some", "its last line"),
     ],
 )
-def test_other_files(room: Path, stand_in: Path, text: bytes, place: str) -> None:
+def test_other_files(room: Path, stand_in: Path, text: str, place: str) -> None:
     """A file of something else isn't changed."""
-    put("m", text)
+    put("m", text.encode())
     complete("in/b", b"b\n")
     for words in ("fingerprint -o m in", "verify m", "duplicates m", "changes m m"):
         assert call(*words.split()) == (2, "", f"{NAME}m: not a manifest: {place} isn't a fingerprint and a name\n")
-    assert (Path("m").read_bytes(), Path("calls").read_text()) == (text, "")
+    assert (Path("m").read_text(), Path("calls").read_text()) == (text, "")
 
 
 @pytest.mark.parametrize("flags", ["", "--no-sources", "--no-reserved", "--no-sources --no-reserved"])
