@@ -9,7 +9,7 @@ import sys
 from pathlib import Path
 
 import pytest
-from support import HEAD, NAME, PACKAGE, call, complete, manifest, put, words_of
+from support import HEAD, NAME, PACKAGE, TOOLS, call, complete, manifest, put
 from testing import ROOT, run, script
 
 from tigercanon.explain import explained, page, sections
@@ -88,7 +88,7 @@ class TestProgram:
         if place:
             os.renames(stand_in, f"{place}/tigercanon")
         env = {"PYTHONPATH": f"{room}/packages", "PATH": f"{room}/bin:/bin:/usr/bin", "ROOM": str(room), "TMPDIR": f"{room}/tmp"}
-        status, out, err = run(words_of("fingerprint", "in"), env=env)
+        status, out, err = run([*TOOLS, "fingerprint", "in"], env=env)
         why = "there is no program tigercanon here: run ./tigercanon once, which builds it, or name one with --program"
         wanted = (0, manifest({"in/a": b"x\n"})) if place else (2, f"{NAME}{why}\n")
         assert (status, (out if place else err).decode()) == wanted
@@ -132,7 +132,7 @@ def test_installing(room: Path) -> None:
     env = {"PYTHONPATH": str(room / "site"), "PATH": "/usr/bin:/bin"}
     version = run([sys.executable, "site/bin/tigercanon-tools", "--version"], env=env)
     assert version[:2] == (0, f"tigercanon-tools {VERSION}\n".encode())
-    told = run(words_of("explain", "9"), env=env)
+    told = run([*TOOLS, "explain", "9"], env=env)
     assert (told.status, told.out.splitlines()[0]) == (0, b"refused 9 Memory"), told.err
 
 

@@ -1,4 +1,4 @@
-"""Files that take no more, and a reader that is gone. With a stand-in for the program."""
+"""Two runs with one manifest, files that take no more, and a reader that is gone. With a stand-in for the program."""
 
 import os
 import shutil
@@ -6,7 +6,21 @@ from pathlib import Path
 
 import pytest
 from support import HEAD, NAME, Four, begin, call, count_of_lines, end, left_behind, limit_files, put, zip_up
-from testing import ROOT
+from testing import ROOT, await_that
+
+
+def test_two_runs(four: Four) -> None:
+    """The second one, and a verification, name the process that writes."""
+    put("in/b.RT1", b"waits\n")
+    put("waits")
+    run = begin("fingerprint", "-o", "m", "in")
+    assert await_that(lambda: Path("calls").read_text())
+    for words in ("fingerprint -o m in", "verify m"):
+        status, _, err = call(*words.split())
+        assert (status, err.startswith(f"{NAME}m: another run writes to it: process {run.pid} on ")) == (2, True)
+    os.unlink("waits")
+    assert end(run).status == 0
+    assert call("verify", "m").status == 0
 
 
 @pytest.mark.parametrize("count, added", [(12, 1), (14, 0)])
