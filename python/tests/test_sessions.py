@@ -1,4 +1,5 @@
-"""Sessions with the tools: each file in sessions/ shows commands of bash, and below each one its whole answer."""
+"""Sessions with the tools: each file in sessions/ shows commands of bash, and below each one its whole answer. The commands of
+stand-ins/commands are there too, and stand-ins/program takes the place of the program."""
 
 import re
 import shutil
