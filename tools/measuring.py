@@ -1,15 +1,13 @@
-"""What the measurements share: what a process takes, and runs that follow each other in turn."""
+"""What a process takes, and the settings with which programs are measured."""
 
 import os
 import re
 import subprocess
-import sys
 import tempfile
 import time
-from pathlib import Path
-from typing import Mapping, NamedTuple, Sequence
+from typing import NamedTuple, Sequence
 
-from testing import Answer, make_county
+from testing import ROOT, Answer
 
 TURNED = ("--shuffle", "--renumber", "--turn")
 
@@ -39,29 +37,7 @@ def spend(words: Sequence[object], reads_output: bool = True, **how: object) -> 
     return Spent(clock, used.ru_utime + used.ru_stime, used.ru_maxrss, answer)
 
 
-def in_turn(runs: int, ways: Mapping[str, Sequence[object]], reads_output: bool = True) -> dict[str, list[Spent]]:
-    """Runs each program `runs` times. Each run must end with 0. They alternate, so that other work of the machine is shared out."""
-    found: dict[str, list[Spent]] = {way: [] for way in ways}
-    for way, words in [*ways.items()] * runs:
-        spent = spend(words, reads_output)
-        if spent.answer.status != 0:
-            told = spent.answer.err.decode(errors="replace")[-300:]
-            sys.exit(f"{Path(sys.argv[0]).name}: {' '.join(map(str, words))} ended with {spent.answer.status}: {told}")
-        found[way].append(spent)
-    return found
-
-
-def calls_on_county(room: str, count: int) -> dict[str, list[str]]:
-    """The arguments of each command on a county of `count` chains. compare gets a second file with other numbers, directions and
-    order, which describes the same map."""
-    county, other = f"{room}/county.txt", f"{room}/other.txt"
-    make_county(count, county)
-    make_county(*TURNED, count, other)
-    commands = ("respell", "check", "normalise", "fingerprint")
-    return {**{command: [command, county] for command in commands}, "compare": ["compare", county, other]}
-
-
 def use_large_pages() -> None:
     """Sets GLIBC_TUNABLES for all programs, as ./tigercanon does, unless it is set."""
-    launcher = Path(__file__).resolve().parent.parent / "tigercanon"
-    os.environ.setdefault("GLIBC_TUNABLES", re.findall(r"\bGLIBC_TUNABLES=([^}]+)\}", launcher.read_text())[0])
+    launcher = (ROOT / "tigercanon").read_text()
+    os.environ.setdefault("GLIBC_TUNABLES", re.findall(r"\bGLIBC_TUNABLES=([^}]+)\}", launcher)[0])

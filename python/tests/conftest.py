@@ -37,7 +37,7 @@ def program(room: Path, monkeypatch: pytest.MonkeyPatch) -> str:
 @pytest.fixture
 def stand_in(room: Path, monkeypatch: pytest.MonkeyPatch) -> Path:
     """A stand-in for the program, which notes its calls in the file `calls`."""
-    path = Path(shutil.copy(STAND_INS / "fingerprints", room / "program"))
+    path = Path(shutil.copy(STAND_INS / "program", room))
     (room / "calls").touch()
     monkeypatch.setenv("TIGERCANON", str(path))
     monkeypatch.setenv("ROOM", str(room))

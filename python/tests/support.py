@@ -6,6 +6,7 @@ import ctypes
 import hashlib
 import io
 import os
+import re
 import resource
 import signal
 import subprocess
@@ -13,7 +14,7 @@ import sys
 import zipfile
 from contextlib import suppress
 from pathlib import Path
-from typing import Any, Callable, Iterator, Mapping, NamedTuple
+from typing import Any, Callable, Iterator, Mapping, NamedTuple, Sequence
 
 import pytest
 from testing import PROGRAM as BUILT
@@ -21,10 +22,12 @@ from testing import ROOT, TYPES
 
 PACKAGE = ROOT / "python"
 STAND_INS = PACKAGE / "tests/stand-ins"
+TOOLS = [sys.executable, "-m", "tigercanon"]
 PROGRAM = os.path.abspath(os.environ.get("TIGERCANON") or BUILT)
 
 NAME = "tigercanon-tools: "
 HEAD = "# tigercanon form 1\n"
+PROGRESS = re.compile(r"tigercanon-tools: (normalising|reading|comparing|finding|writing) .*\n")
 PR_SET_PDEATHSIG = 1
 
 Process = subprocess.Popen[bytes]
@@ -80,27 +83,30 @@ def environment(**more: str) -> dict[str, str]:
     return {**os.environ, "PYTHONDONTWRITEBYTECODE": "1", **more, "PYTHONPATH": path}
 
 
-def words_of(*words: object) -> list[str]:
-    return [sys.executable, "-m", "tigercanon", *map(str, words)]
-
-
 def call(*words: object, **options: Any) -> Ended:
     return end(begin(*words, **options))
 
 
-def begin(*words: object, env: dict[str, str] | None = None, **options: Any) -> Process:
+def shell(command: str) -> Ended:
+    """Runs a command of bash, which has `tigercanon-tools` and what else stand-ins/commands defines."""
+    env = {"ROOT": str(ROOT), "PYTHON": sys.executable}
+    return end(begin("-c", f'. "$0"\n{command}', STAND_INS / "commands", program=["bash"], env=env))
+
+
+def begin(*words: object, program: Sequence[str] = TOOLS, env: Mapping[str, str] = {}, **options: Any) -> Process:
     streams = {"stdin": subprocess.DEVNULL, "stdout": subprocess.PIPE, "stderr": subprocess.PIPE}
     options = {"start_new_session": True, "preexec_fn": die_with_the_test, **streams, **options}
-    return subprocess.Popen(words_of(*words), env=environment(**(env or {})), **options)
+    return subprocess.Popen([*program, *map(str, words)], env=environment(**env), **options)
 
 
 def end(run: Process, seconds: float = 300.0) -> Ended:
-    """Waits for a call that was started. If it takes too long it is killed with all that it started."""
+    """Waits for a call that was started. If it takes too long it is killed with all that it started. The lines of progress of diff are
+    left out: a machine at work prints more of them."""
     try:
         out, err = run.communicate(timeout=seconds)
     finally:
         kill_group(run)
-    return Ended(run.returncode, os.fsdecode(out or b""), os.fsdecode(err or b""))
+    return Ended(run.returncode, os.fsdecode(out or b""), PROGRESS.sub("", os.fsdecode(err or b"")))
 
 
 def kill_group(run: Process) -> None:

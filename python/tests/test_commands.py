@@ -9,7 +9,7 @@ import sys
 from pathlib import Path
 
 import pytest
-from support import HEAD, NAME, PACKAGE, call, complete, manifest, put, words_of
+from support import HEAD, NAME, PACKAGE, TOOLS, call, complete, manifest, put
 from testing import ROOT, run, script
 
 from tigercanon.explain import explained, page, sections
@@ -80,12 +80,6 @@ def test_the_program_has_the_same_version() -> None:
 class TestProgram:
     """The program is the one that is named, else the one that is built here, else the one on the PATH."""
 
-    def test_an_option_beats_the_variable(self, room: Path, stand_in: Path) -> None:
-        complete("in/a", b"x\n")
-        put("other", b"#!/bin/sh\n[ $1 = fingerprint ] || exit 0\necho refused 1 Other 1 1 >&2; exit 3\n").chmod(0o755)
-        assert call("fingerprint", "--program", "./other", "in").reports == {"in/a": "refused 1 Other 1 1"}
-        assert call("fingerprint", "in").status == 0
-
     @pytest.mark.parametrize("place", ["bin", "packages/tigercanon/bin", None])
     def test_an_installed_package(self, room: Path, stand_in: Path, place: str | None) -> None:
         """Without a clone around it: the program is on the PATH, or inside the package, as a wheel has it; or there is none."""
@@ -94,7 +88,7 @@ class TestProgram:
         if place:
             os.renames(stand_in, f"{place}/tigercanon")
         env = {"PYTHONPATH": f"{room}/packages", "PATH": f"{room}/bin:/bin:/usr/bin", "ROOM": str(room), "TMPDIR": f"{room}/tmp"}
-        status, out, err = run(words_of("fingerprint", "in"), env=env)
+        status, out, err = run([*TOOLS, "fingerprint", "in"], env=env)
         why = "there is no program tigercanon here: run ./tigercanon once, which builds it, or name one with --program"
         wanted = (0, manifest({"in/a": b"x\n"})) if place else (2, f"{NAME}{why}\n")
         assert (status, (out if place else err).decode()) == wanted
@@ -138,7 +132,7 @@ def test_installing(room: Path) -> None:
     env = {"PYTHONPATH": str(room / "site"), "PATH": "/usr/bin:/bin"}
     version = run([sys.executable, "site/bin/tigercanon-tools", "--version"], env=env)
     assert version[:2] == (0, f"tigercanon-tools {VERSION}\n".encode())
-    told = run(words_of("explain", "9"), env=env)
+    told = run([*TOOLS, "explain", "9"], env=env)
     assert (told.status, told.out.splitlines()[0]) == (0, b"refused 9 Memory"), told.err
 
 
@@ -161,33 +155,6 @@ def test_every_refusal_has_a_section() -> None:
     assert sorted(known) == [*range(1, 21), 23, 24]
     assert all(len([line for line in text.splitlines() if line.strip()]) > 1 for text in known.values())
     assert "no longer used" in page() and "no longer used" not in "".join(known.values())
-
-
-@pytest.mark.parametrize(
-    "line, heading, places",
-    [
-        ("refused 4 BadNumber 1 201 6", "4 BadNumber PART LINE COLUMN", "part 1, line 201, column 6"),
-        ("tigercanon-tools: in/b: refused 4 BadNumber 1 201 6", "4 BadNumber PART LINE COLUMN", "part 1, line 201, column 6"),
-        ("4", "4 BadNumber PART LINE COLUMN", ""),
-        ("BadNumber", "4 BadNumber PART LINE COLUMN", ""),
-        ("refused 4", "4 BadNumber PART LINE COLUMN", ""),
-        ("refused 14 LinkMissing 7 in set 2", "14 LinkMissing TLID", "TLID 7"),
-        (
-            "tigercanon-tools: refused 9; in/b: refused 12 NoChain 4 28; no .RT2; empty .RT1",
-            "12 NoChain TYPE TLID",
-            "type 4, TLID 28",
-        ),
-        ("refused 23 PolygonWithoutChain 3036303031 1 in set 1", "23 PolygonWithoutChain CENID POLYID", "CENID 06001, POLYID 1"),
-    ],
-)
-def test_a_refusal(room: Path, line: str, heading: str, places: str) -> None:
-    """By the whole line, which may come after names and before notes, by its number or by its name. The places are explained if the line
-    has them: fields have their names, and a CENID is shown as in the file."""
-    ended = call("explain", line)
-    lines = ended.out.splitlines()
-    assert (ended.status, ended.err, lines[0], lines[2] == places) == (0, "", f"refused {heading}", bool(places))
-    assert ("1         12 4" in ended.out) == ("BadNumber" in heading)
-    assert call("explain", *line.split()) == ended
 
 
 def test_marks_of_markdown_are_left_out() -> None:

@@ -86,40 +86,6 @@ def test_links() -> None:
     assert stems("in/a", "second") == ["in/a", "second/a"]
 
 
-@pytest.mark.parametrize(
-    "source, why",
-    [
-        ("empty", "there is no county in this folder"),
-        ("in/x", "no such file, folder or county"),
-        ("in/x.ZIP", "no such file"),
-        ("in/x.RT1", "no such file"),
-        ("nowhere/x", "no such file, folder or county"),
-        ("in/x*.RT1", "nothing matches this pattern"),
-        ("nowhere/*", "can't be read: No such file or directory"),
-        ("in/b.RTA/x", "can't be read: Not a directory"),
-        ("in/pipe.RT1", "pipe.RT1 isn't a regular file"),
-        ("in/pipe.zip", "pipe.zip isn't a regular file"),
-        ("in/pipe", "isn't a regular file"),
-        ("in/only.RTA", "isn't one of a county's nine files"),
-        ("in/two", "there are 2 files of type 1: two.RT1, two.rt1"),
-        ("in/zips", "there are 2 zips: zips.ZIP, zips.zip"),
-        ("in/gone", "gone.zip can't be read: No such file or directory"),
-        ("in/line\nbreak", "its name has a line break in it"),
-    ],
-)
-def test_troubles(source: str, why: str) -> None:
-    """What can't be judged is reported as what it is."""
-    os.mkdir("empty")
-    for name in ("in/pipe.RT1", "in/pipe.zip", "in/pipe"):
-        os.mkfifo(name if source == name else f"{name}.other")
-    for name in "in/only.RTA in/two.RT1 in/two.rt1 in/zips.ZIP in/zips.zip".split():
-        put(name)
-    put("in/line\nbreak.RT1")
-    os.symlink("nothing", "in/gone.zip")
-    (county,) = found(source)
-    assert (county.trouble, county.files) == (why, {})
-
-
 def test_files(archive: Path) -> None:
     """What is known about a county: one of single files, also if one lies beside a zip, a zip, and one file with all records."""
 

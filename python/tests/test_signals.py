@@ -8,7 +8,7 @@ from contextlib import suppress
 from pathlib import Path
 
 import pytest
-from support import HEAD, Process, begin, call, complete, count_of_lines, end, left_behind, limit_files, manifest
+from support import HEAD, NAME, Process, begin, call, complete, count_of_lines, end, left_behind, limit_files, manifest
 from support import processes, put, zip_up
 from testing import await_that
 
@@ -116,6 +116,21 @@ def test_a_signal_while_a_verification_prints(archive: Path) -> None:
     run.send_signal(signal.SIGTERM)
     assert run.wait(2) == -signal.SIGTERM
     end(run)
+
+
+@pytest.mark.parametrize("number", SIGNALS[:3])
+def test_a_comparison(room: Path, stand_in: Path, number: signal.Signals) -> None:
+    """If it takes long it reports its progress, and if a signal ends it nothing is left behind."""
+    put("one", b"waits\n")
+    put("waits")
+    before = sorted(os.listdir("."))
+    run = begin("diff", "--geojson", "stopped", "one", "one")
+    assert run.stderr and run.stderr.readline() == f"{NAME}normalising both sets\n".encode()
+    assert sorted(os.listdir(".")) != before
+    run.send_signal(number)
+    ended = end(run, 60)
+    assert ended.status in (128 + number, -number)
+    assert (ended.out, sorted(os.listdir("."))) == ("", before)
 
 
 def test_a_command_that_can_not_go_on(archive: Path) -> None:

@@ -6,12 +6,10 @@
  * In front of these may stand
  *     --rounds N     makes the call N times; standard error gets the memory that the process has after 10 rounds and after the last
  *     --threads N    makes the call in N threads at once; each has to answer the same
- *     --time         standard error gets the processor time that the call took, in seconds
  */
 #include <pthread.h>
 #include <stdlib.h>
 #include <string.h>
-#include <time.h>
 #include <unistd.h>
 
 #include "tigercanon.h"
@@ -185,13 +183,6 @@ static long memory(void)
     return pages * (sysconf(_SC_PAGESIZE) / 1024);
 }
 
-static double processor_time(void)
-{
-    struct timespec now;
-    clock_gettime(CLOCK_PROCESS_CPUTIME_ID, &now);
-    return (double)now.tv_sec + (double)now.tv_nsec / 1e9;
-}
-
 static void make_rounds(const struct job *job, long rounds)
 {
     long round;
@@ -245,7 +236,6 @@ static struct outcome outcome_of_threads(struct job *job, long count)
 struct words {
     long rounds;
     long threads;
-    bool is_timed;
     bool is_stem;
     const char *names[2];
     int sets;
@@ -256,18 +246,14 @@ static int read_settings(struct words *asked, int count, char **words)
 {
     int i = 1;
     while (i + 1 < count && strncmp(words[i], "--", 2) == 0) {
-        if (strcmp(words[i], "--time") == 0) {
-            asked->is_timed = true;
-            i += 1;
-        } else if (strcmp(words[i], "--rounds") == 0) {
+        if (strcmp(words[i], "--rounds") == 0) {
             asked->rounds = atol(words[i + 1]);
-            i += 2;
         } else if (strcmp(words[i], "--threads") == 0) {
             asked->threads = atol(words[i + 1]);
-            i += 2;
         } else {
             stop("unknown word", words[i]);
         }
+        i += 2;
     }
     return i;
 }
@@ -315,10 +301,9 @@ static int touch_stack(void)
 int main(int count, char **words)
 {
     struct job job = {NULL, false, false, {{{{NULL, 0}}, 0}, {{{NULL, 0}}, 0}}};
-    struct words asked = {0, 0, false, false, {NULL, NULL}, 0};
+    struct words asked = {0, 0, false, {NULL, NULL}, 0};
     struct outcome outcome;
     int i, status = touch_stack();
-    double began;
     read_words(&asked, &job, read_settings(&asked, count, words), count, words);
     if (asked.sets == 0 || asked.threads > THREADS) {
         stop("words are missing", "");
@@ -327,11 +312,7 @@ int main(int count, char **words)
         job.sets[i] = set_of(asked.names[i], asked.is_stem);
     }
     make_rounds(&job, asked.rounds);
-    began = processor_time();
     outcome = asked.threads > 0 ? outcome_of_threads(&job, asked.threads) : outcome_of(&job);
-    if (asked.is_timed) {
-        fprintf(stderr, "%.6f\n", processor_time() - began);
-    }
     status = print(&job, &outcome);
     for (i = 0; i < asked.sets; i++) {
         free_set(&job.sets[i]);

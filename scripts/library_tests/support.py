@@ -31,7 +31,7 @@ class Tests(testing.Tests):
     def compile(self, name: str, compiler: str, *flags: object) -> list[str]:
         """The command for the caller that this compiler makes, with these arguments after its file; nothing if it can't."""
         made = self.room / f"by-{name}"
-        # The caller uses the threads and the clock of POSIX.
+        # The caller uses the threads of POSIX.
         done = run([compiler, "-std=c11", "-D_GNU_SOURCE", "-O2", "-pthread", *WARNINGS, "-o", made, CALLER, *flags])
         if self.count(done.status == 0, f"{name}: {done.err.decode()[:2000]}"):
             self.callers[name] = [str(made)]

@@ -4,7 +4,7 @@ import json
 import re
 from itertools import accumulate
 from pathlib import Path
-from typing import Any, Mapping
+from typing import Any
 
 from maps import Point
 from support import Ended, built_program, call
@@ -21,13 +21,10 @@ Feature = dict[str, Any]
 WORDS_HEADING = re.compile(rf"(?m)^(chain|landmark|polygon|feature name)s ({'|'.join(KINDS)}): ([\d,]+)$")
 DEGREES = re.compile(r"(\d+)\.(\d{6})° ([NS]), (\d+)\.(\d{6})° ([WE])")
 SIGNS = {"N": 1, "E": 1, "S": -1, "W": -1}
-PROGRESS = re.compile(r"tigercanon-tools: (normalising|reading|comparing|finding|writing) .*\n")
 
 
-def diff(*words: object, env: Mapping[str, str] = {}, **options: Any) -> Ended:
-    """Calls tigercanon-tools diff. Lines of progress are left out of what it reported: a machine at work prints more of them."""
-    ended = call("diff", *words, env={"TIGERCANON": built_program(), **env}, **options)
-    return ended._replace(err=PROGRESS.sub("", ended.err))
+def diff(*words: object, **options: Any) -> Ended:
+    return call("diff", *words, env={"TIGERCANON": built_program()}, **options)
 
 
 def differing(*words: object, **options: Any) -> str:

@@ -10,7 +10,7 @@ from typing import Iterator
 
 import pytest
 from maps import County
-from support import built_program, environment, words_of
+from support import TOOLS, built_program, environment
 from testing import ROOT
 
 from .browser import Browser, needs_browser, open_example
@@ -211,7 +211,7 @@ def test_large_maps(browser: Browser, page: Path, room: Path) -> None:
     changing = much_changed(made_county(100_000, 12), 13)
     files = changing.files(room)
     unit = time.process_time() - began
-    words = [sys.executable, "-c", MEASURE, *words_of("diff", "--page", "large.html", *files)]
+    words = [sys.executable, "-c", MEASURE, *TOOLS, "diff", "--page", "large.html", *map(str, files)]
     run = subprocess.run(words, env=environment(TIGERCANON=built_program()), stdout=subprocess.PIPE)
     status, seconds, kilobytes = map(float, run.stdout.split())
     assert (status, told_in_page(room / "large.html")) == (1, changing.differences)

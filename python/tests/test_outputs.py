@@ -1,0 +1,68 @@
+"""Two runs with one manifest, files that take no more, and a reader that is gone. With a stand-in for the program."""
+
+import os
+import shutil
+from pathlib import Path
+
+import pytest
+from support import HEAD, NAME, Four, begin, call, count_of_lines, end, left_behind, limit_files, put, zip_up
+from testing import ROOT, await_that
+
+
+def test_two_runs(four: Four) -> None:
+    """The second one, and a verification, name the process that writes."""
+    put("in/b.RT1", b"waits\n")
+    put("waits")
+    run = begin("fingerprint", "-o", "m", "in")
+    assert await_that(lambda: Path("calls").read_text())
+    for words in ("fingerprint -o m in", "verify m"):
+        status, _, err = call(*words.split())
+        assert (status, err.startswith(f"{NAME}m: another run writes to it: process {run.pid} on ")) == (2, True)
+    os.unlink("waits")
+    assert end(run).status == 0
+    assert call("verify", "m").status == 0
+
+
+@pytest.mark.parametrize("count, added", [(12, 1), (14, 0)])
+def test_a_manifest_that_takes_no_more(four: Four, count: int, added: int) -> None:
+    """The run ends with 2, whole lines stay, and the same command goes on."""
+    before = HEAD + "".join(f"{number:064}  a/no-{number:02}\n" for number in range(count))
+    put("m", before.encode())
+    ended = call("fingerprint", "--jobs", "1", "-o", "m", "in", preexec_fn=limit_files(1024))
+    assert (ended.status, "m: can't be written: File too large" in ended.lines) == (2, True)
+    lines = Path("m").read_text().splitlines()
+    assert lines[: count + 1] == before.splitlines()
+    assert len(lines) == count + 1 + added and all(len(text) > 66 for text in lines[1:])
+    assert not [name for name in os.listdir(".") if name.startswith("m.")]
+    assert call("fingerprint", "-o", "m", "in").status == 0
+    assert count_of_lines("m") == count + 5
+
+
+def test_no_room_for_a_zip(four: Four) -> None:
+    """It is reported, and the others are done."""
+    put("in/b.RT1", b"x" * 3000)
+    zip_up("in/b")
+    ended = call("fingerprint", "in", preexec_fn=limit_files(1024))
+    assert ended.reports == {"in/b": "can't be read or unpacked: File too large"}
+    assert (ended.status, len(ended.out.splitlines()), left_behind()) == (1, 4, [])
+
+
+def test_no_room_for_a_comparison(room: Path, stand_in: Path) -> None:
+    """A file that can't be written to its end isn't left behind, and an older file of its name is unchanged."""
+    shutil.copy(ROOT / "examples/autauga/canonical.txt", "one")
+    put("geojson", b"older")
+    before = sorted(os.listdir("."))
+    ended = call("diff", "--geojson", "geojson", "--all", "one", "one", preexec_fn=limit_files(1024))
+    assert ended == (2, "", f"{NAME}geojson: can't be written: File too large\n")
+    assert (sorted(os.listdir(".")), Path("geojson").read_bytes()) == (before, b"older")
+
+
+@pytest.mark.parametrize("words", ["fingerprint in", "fingerprint --json in"])
+def test_a_reader_that_is_gone(four: Four, words: str) -> None:
+    """The command ends by SIGPIPE, silently."""
+    run = begin(*words.split())
+    assert run.stdout
+    run.stdout.close()
+    run.stdout = None
+    ended = end(run)
+    assert (ended.status, [text for text in ended.lines if "write" in text or "pipe" in text.lower()]) == (-13, [])
