@@ -78,7 +78,7 @@ fn push_new<G: KeyGroups>(
     let mut met = Interner::new(alloc);
     let mut keys = Vec::new(alloc);
     for place in 0..groups.count() {
-        groups.read(place, &mut keys)?;
+        groups.copy_keys(place, &mut keys)?;
         let here = brings_new(places, opened, &mut met, place, &keys)?;
         new.push(here)?;
     }

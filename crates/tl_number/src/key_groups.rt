@@ -25,7 +25,7 @@ pub(crate) trait KeyGroups {
         ensures { result ≡ length (groups self.now) };
 
     /// Replaces what `keys` holds by the keys of the chain at a place.
-    fn read(&self, place: usize, keys: &mut Vec<Self::Item>) -> Result<(), AllocError>
+    fn copy_keys(&self, place: usize, keys: &mut Vec<Self::Item>) -> Result<(), AllocError>
         requires { place < length (groups self.now) }
         ensures { OnOk result (keys.new.items ≡ group_at (groups self.now) place) };
 }
@@ -56,7 +56,7 @@ impl<T: Half> KeyGroups for PairKeys<'_, T> {
         self.0.len()
     }
 
-    fn read(&self, place: usize, keys: &mut Vec<T::Old>) -> Result<(), AllocError> {
+    fn copy_keys(&self, place: usize, keys: &mut Vec<T::Old>) -> Result<(), AllocError> {
         let (first, second) = self.0[place];
         keys.clear();
         push_key(keys, first)?;
@@ -83,7 +83,7 @@ impl<C: Chart> KeyGroups for FeatKeys<'_, C> {
         self.arrangement.len()
     }
 
-    fn read(&self, place: usize, keys: &mut Vec<u32>) -> Result<(), AllocError> {
+    fn copy_keys(&self, place: usize, keys: &mut Vec<u32>) -> Result<(), AllocError> {
         let feats = self.arrangement[place].feats(self.chart);
         keys.clear();
         push_all(keys, &feats)

@@ -96,7 +96,7 @@ fn see_along<G: KeyGroups>(
     let mut opened = Vec::new(alloc);
     let mut keys = Vec::new(alloc);
     for place in 0..groups.count() {
-        groups.read(place, &mut keys)?;
+        groups.copy_keys(place, &mut keys)?;
         let at_open = is_open_at(places, place);
         see_keys(&mut all, &mut opened, at_open, &keys)?;
     }
@@ -183,7 +183,7 @@ pub(crate) fn order_of<G: KeyGroups>(
     let mut order = Interner::new(alloc);
     let mut keys = Vec::new(alloc);
     for place in 0..groups.count() {
-        groups.read(place, &mut keys)?;
+        groups.copy_keys(place, &mut keys)?;
         see_opened(opened, &mut order, &keys)?;
     }
     Ok(order)

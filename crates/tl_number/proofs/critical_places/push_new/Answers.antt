@@ -7,8 +7,8 @@ use Rattle.tl_number.proofs.critical_places.push_new.Goals as goal
 pub loop-place-init : goal.loop-place-init
 loop-place-init g c = record { new = c.requires; met = c.new-met.ensures }
 
-pub read-requires : goal.read-requires
-read-requires g c = omega (arith, c.loop-place-test.true, c.count-place-end.ensures)
+pub copy_keys-requires : goal.copy_keys-requires
+copy_keys-requires g c = omega (arith, c.loop-place-test.true, c.count-place-end.ensures)
 
 pub loop-place-preserved : goal.loop-place-preserved
 loop-place-preserved g c =
@@ -20,7 +20,7 @@ loop-place-preserved g c =
     let within : place < length along = omega (arith, c.loop-place-test.true, c.count-place-end.ensures) in
     let some = slice_get-get_or along place (group_at along place) within in
     let there : slice_get along place ≡ Some keys =
-    some ∙ ap Some (sym (ap (λ g. unwrap_or g []) some)) ∙ ap Some (sym (c.deref.ensures.value ∙ c.in_ok-read.ensures)) in
+    some ∙ ap Some (sym (ap (λ g. unwrap_or g []) some)) ∙ ap Some (sym (c.deref.ensures.value ∙ c.in_ok-copy_keys.ensures)) in
     record {
       new = c.in_ok-push.ensures.items
           ∙ ap₂ (λ marks mark. marks ++ (mark ∷ [])) c.loop-place.invariant.new

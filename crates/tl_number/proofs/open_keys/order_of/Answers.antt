@@ -7,8 +7,8 @@ loop-place-init g c =
     ap (λ seen. first_seen_after g.G.Item.Ord.cmp seen (filter (λ key. stands_in g.G.Item.Ord.cmp key c.args.opened.now) (grouped (g.G.KeyGroups.groups c.args.groups.now))))
     c.new-order.ensures
 
-pub read-requires : goal.read-requires
-read-requires g c = omega (arith, c.loop-place-test.true, c.count-place-end.ensures)
+pub copy_keys-requires : goal.copy_keys-requires
+copy_keys-requires g c = omega (arith, c.loop-place-test.true, c.count-place-end.ensures)
 
 pub loop-place-preserved : goal.loop-place-preserved
 loop-place-preserved g c =
@@ -17,7 +17,7 @@ loop-place-preserved g c =
     let i = c.loop-place.place in
     let keys = c.deref.result.now in
     let within : i < length groups = omega (arith, c.loop-place-test.true, c.count-place-end.ensures) in
-    let split = group_dropped groups i keys within (c.deref.ensures.value ∙ c.in_ok-read.ensures) in
+    let split = group_dropped groups i keys within (c.deref.ensures.value ∙ c.in_ok-copy_keys.ensures) in
     chosen_more cmp (λ key. stands_in cmp key c.args.opened.now) keys (grouped (drop (i + 1) groups)) (grouped (drop i groups))
     c.loop-place.order c.see_opened.new.order _ (ap grouped split) c.in_ok-see_opened.ensures c.loop-place.invariant
 

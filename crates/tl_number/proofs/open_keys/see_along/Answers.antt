@@ -11,8 +11,8 @@ loop-place-init g c =
       opened = ap₂ (λ found seen. found ++ open_keys cmp (is_open c.args.places.now) seen 0 groups) c.new-opened.ensures.items c.in_ok-all.ensures;
     }
 
-pub read-requires : goal.read-requires
-read-requires g c = omega (arith, c.loop-place-test.true, c.count-place-end.ensures)
+pub copy_keys-requires : goal.copy_keys-requires
+copy_keys-requires g c = omega (arith, c.loop-place-test.true, c.count-place-end.ensures)
 
 pub loop-place-preserved : goal.loop-place-preserved
 loop-place-preserved g c =
@@ -22,7 +22,7 @@ loop-place-preserved g c =
     let i = c.loop-place.place in
     let keys = c.deref.result.now in
     let within : i < length groups = omega (arith, c.loop-place-test.true, c.count-place-end.ensures) in
-    let split = group_dropped groups i keys within (c.deref.ensures.value ∙ c.in_ok-read.ensures) in
+    let split = group_dropped groups i keys within (c.deref.ensures.value ∙ c.in_ok-copy_keys.ensures) in
     record {
       all = seen_more cmp keys (grouped (drop (i + 1) groups)) (grouped (drop i groups)) c.loop-place.all c.see_keys.new.all _ (ap grouped split)
           c.in_ok-see_keys.ensures.all c.loop-place.invariant.all;
