@@ -53,8 +53,10 @@ pub returns : goal.returns
 returns g c =
     let county = g.C.Chart.county c.args.self.now.chart.now in
     let number = numbered_feat c.args.self.now.numbers.feats.now c.args.self.now.numbers.order.now in
-    ap Some (c.new.ensures ∙ (λ i. four_of (c.from.ensures i + 1) (c.sequence_number.ensures.number i,
-    (c.items_from-names.ensures ∙ ap (λ ns. take 5 (drop (c.args.place * 5) (map number ns))) c.feats.ensures) i)))
+    ap Some (c.new.ensures ∙ (λ i. four_of (c.from.ensures i + 1) (
+      c.sequence_number.ensures.number i,
+      (c.items_from-names.ensures ∙ ap (λ ns. take 5 (drop (c.args.place * 5) (map number ns))) c.feats.ensures) i,
+    )))
     ∙ sym (four_there county number c.args.self.now.arrangement.now c.args.self.now.places.now c.args.group
     (get_or c.args.self.now.places.now c.args.group 0) (there g (goal.at.returns g c).After-unwrap-at) c.unwrap-at.result
     (sym c.unwrap-at.ensures ∙ c.open_chain_of.ensures) c.args.place c.requires.place)
