@@ -2,7 +2,7 @@
 
 ghost use Rattle.std.specs.List.{range_with_len};
 ghost use Rattle.std.specs.Ordering.{nat_cmp, on};
-ghost use Rattle.std.specs.Prelude.{◌≡◌, ◌++◌, ◌+◌, ◌-◌, ◌<◌, ◌^◌, IfOk, OnOk, flat_map, length, map, slice_get};
+ghost use Rattle.std.specs.Prelude.{◌≡◌, ◌++◌, ◌+◌, ◌-◌, ◌<◌, ◌^◌, IfOk, IsPermutation, OnOk, flat_map, length, map, slice_get};
 ghost use Rattle.tl_county.specs.BodyOrder.{link_cmp};
 ghost use Rattle.tl_county.specs.ChartWords.{links_at, links_with};
 ghost use Rattle.tl_county.specs.County.{eight_land};
@@ -55,34 +55,38 @@ fn push_links<C: Chart, P: PolygonNumbers>(
     links.extend(own.map(|link| renumbered_link(order, &link)))
 }
 
-/// The links of all landmarks with their new numbers, landmark after landmark.
+/// The links of the landmarks at places with their new numbers, landmark after landmark.
 fn gather_links<C: Chart, P: PolygonNumbers>(
     alloc: Global,
     chart: &C,
     order: &NewOrder<'_, P>,
+    places: &[u32],
 ) -> Result<Vec<Rec8>, AllocError>
     ensures { IfOk result (λ links. links.items ≡ flat_map (λ place. map (link_under (P.in_order order.now.polygons.now) order.now.lands.now)
-        (links_at (C.county chart.now) place)) (range_with_len 0 (length (C.county chart.now).landmarks))) }
+        (links_at (C.county chart.now) place)) places.now) }
 {
     let mut links = Vec::new(alloc);
-    for place in 0..chart.landmark_count() {
-        push_links(&mut links, chart, order, place)?;
+    for place in places {
+        push_links(&mut links, chart, order, *place as usize)?;
     }
     Ok(links)
 }
 
 /// The links of a county in order, with these numbers of their polygons, and with their landmarks numbered by their places in a table.
+/// They are gathered along `places`, all places of landmarks in any order. If it's the order of the table, there is little to sort.
 pub(crate) fn links_under<C: Chart, P: PolygonNumbers>(
     alloc: Global,
     chart: &C,
     polygons: &P,
     lands: &Interner<u64>,
+    places: &[u32],
 ) -> Result<Vec<Rec8>, AllocError>
     requires few_polygons { length (P.in_order polygons.now) < 10 ^ 10 }
     requires few_lands { length lands.now < 10 ^ 10 }
+    requires all { IsPermutation (range_with_len 0 (length (C.county chart.now).landmarks)) places.now }
     ensures { IfOk result (λ links. links.items ≡ in_order link_cmp (map (link_under (P.in_order polygons.now) lands.now) (C.county chart.now).links)) }
 {
-    let mut links = gather_links(alloc, chart, &NewOrder { polygons, lands })?;
+    let mut links = gather_links(alloc, chart, &NewOrder { polygons, lands }, places)?;
     put_in_order::<LinkKey, Rec8>(&mut links)?;
     Ok(links)
 }

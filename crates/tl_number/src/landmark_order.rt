@@ -169,12 +169,13 @@ fn links_by_land<C: Chart, P: PolygonNumbers>(
     requires few_polygons { length (P.in_order polygons.now) < 10 ^ 10 }
     requires few_places { length places.now < 2 ^ 32 }
     requires once { has_repeat nat_cmp (lands_at (C.county chart.now) places.now) ≡ false }
+    requires all { IsPermutation (range_with_len 0 (length (C.county chart.now).landmarks)) places.now }
     ensures links { IfOk result
         (λ lists. lists.0.items ≡ numbered_links (C.county chart.now) (P.in_order polygons.now) (lands_at (C.county chart.now) places.now)) }
     ensures bounds { IfOk result (λ lists. lists.1.items ≡ link_bounds lists.0.items (length places.now)) }
 {
     let lands = number_lands(alloc, chart, places)?;
-    let links = links_under(alloc, chart, polygons, &lands)?;
+    let links = links_under(alloc, chart, polygons, &lands, places)?;
     let bounds = bounds_of(alloc, &links, places.len())?;
     Ok((links, bounds))
 }

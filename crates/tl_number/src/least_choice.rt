@@ -7,7 +7,7 @@
 
 ghost use Rattle.std.specs.declared.cmp.Ordering.TheVariants.{Equal};
 ghost use Rattle.std.specs.Ordering.{is_gt};
-ghost use Rattle.std.specs.Prelude.{◌≡◌, ◌<◌, ◌≤◌, cond, false, true, IfOk};
+ghost use Rattle.std.specs.Prelude.{◌≡◌, ◌<◌, ◌≤◌, cond, false, true, IfOk, None};
 ghost use Rattle.tl_county.specs.CountyRules.{AllKeysStandIn, polygon_keys, polygons_along};
 ghost use Rattle.tl_number.specs.Canonical.{IsNotAfter};
 ghost use Rattle.tl_number.specs.ChoiceSearch.{IsChosen, LeavesChoices};
@@ -22,6 +22,7 @@ ghost use Rattle.tl_profile.specs.ShapeOrder.{IsShapeOrder};
 
 use crate::numbered_arrangement::NumberedArrangement;
 use crate::same_chains::have_same_chains;
+use crate::tie_links::ChoiceLinks;
 use crate::tie_order::compare_ties;
 use crate::tie_tables::{TieTables, tie_tables};
 use crate::type_1_order::compare_ones;
@@ -30,13 +31,6 @@ use std::cmp::Ordering;
 use std::mem::swap;
 use tl_county::{Chart, DirectedChain};
 use tl_profile::ShapeOrder;
-
-/// The number of the lesser of two choices, given how they compare: the second one's if the first comes after it.
-fn lesser(ordering: Ordering, one: u64, other: u64) -> u64
-    ensures { result ≡ cond (is_gt ordering) other one }
-{
-    if ordering.is_gt() { other } else { one }
-}
 
 /// Compares two choices by their records of type 1.
 fn compare_choices<C: Chart>(
@@ -129,8 +123,28 @@ fn find_tie<C: Chart>(
     false
 }
 
-/// The number of the choice with the least text among those with the least records of type 1, given the first two of these. `kept` can
-/// be any choice, and is overwritten.
+/// Keeps the lesser of two choices, given how they compare, and its links, if they have been made. The second one is kept if the first
+/// comes after it; then they are exchanged.
+fn keep_lesser(
+    ordering: Ordering,
+    kept: &mut NumberedArrangement,
+    other: &mut NumberedArrangement,
+    links: &mut ChoiceLinks,
+)
+    ensures kept { kept.new ≡ cond (is_gt ordering) other.old kept.old }
+    ensures other { other.new ≡ cond (is_gt ordering) kept.old other.old }
+    ensures links { links.new.one ≡ cond (is_gt ordering) links.old.other links.old.one }
+    ensures none { links.new.other ≡ None }
+{
+    if ordering.is_gt() {
+        swap(kept, other);
+        links.one = links.other.take();
+    }
+    links.other = None;
+}
+
+/// The number of the choice with the least text among those with the least records of type 1, given the first two of these. `kept` is
+/// the first one, and becomes the least.
 fn least_among_ties<C: Chart>(
     alloc: Global,
     chart: &C,
@@ -144,23 +158,26 @@ fn least_among_ties<C: Chart>(
     requires tables { AreTieTables (C.county chart.now) order.now tables.now }
     requires first_chosen { IsChosen order.now first.now }
     requires kept_chosen { IsChosen order.now kept.old }
+    requires kept_first { kept.old.number ≡ first.now.number }
     requires other_chosen { IsChosen order.now other.old }
     requires least { IsLeastOne (C.county chart.now) (choices (C.county chart.now)) first.now.number }
     requires before { IsLeastFrom (C.county chart.now) 0 other.old.number first.now.number }
     ensures { IfOk result (IsLeastBelow (C.county chart.now) (choices (C.county chart.now))) }
 {
-    let mut least = first.number;
+    let mut links = ChoiceLinks {
+        one: None,
+        other: None,
+    };
     let mut from = other.number;
     while find_tie(chart, order, first, other, from) {
-        kept.choose_again(order, least);
-        let ordering = compare_ties(alloc, chart, order, tables, kept, other)?;
-        least = lesser(ordering, least, other.number);
         from = other.number + 1;
+        let ordering = compare_ties(alloc, chart, order, tables, kept, other, &mut links)?;
+        keep_lesser(ordering, kept, other, &mut links);
     }
-    Ok(least)
+    Ok(kept.number)
 }
 
-/// The same. Makes the choice that is overwritten.
+/// The same. Makes the choice that is kept.
 fn least_by_tables<C: Chart>(
     alloc: Global,
     chart: &C,

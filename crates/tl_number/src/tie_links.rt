@@ -2,9 +2,9 @@
 //!
 //! All choices have the same records of type 7, since landmarks are ordered by their bodies first. If a landmark has an open polygon, and
 //! the open polygons have other numbers in the other choice, the links of both choices are made and compared. That takes the landmarks
-//! and their links, but no chain.
+//! and their links, but no chain. Links that were made for a choice are kept for its next comparison.
 
-ghost use Rattle.std.specs.Prelude.{◌≡◌, IfOk, length};
+ghost use Rattle.std.specs.Prelude.{◌≡◌, IfOk, IfSome, OnOk, length};
 ghost use Rattle.tl_county.specs.CountyRules.{chain_polygons};
 ghost use Rattle.tl_county.specs.PolygonKeys.{key_cmp};
 ghost use Rattle.tl_layout.specs.declared.record_type.Record.TheVariants.{Eight};
@@ -13,6 +13,7 @@ ghost use Rattle.tl_number.specs.CountyGroups.{type_8_together};
 ghost use Rattle.tl_number.specs.CriticalPlaces.{AreTieTables};
 ghost use Rattle.tl_number.specs.OpenKeys.{ArePlacedBy, first_open, keys_along};
 ghost use Rattle.tl_number.specs.RecordOrder.{groups_cmp};
+ghost use Rattle.tl_number.specs.TiedRecords.{AreChoiceLinks};
 ghost use Rattle.tl_number.specs.TieProps.{ArePlacedBy-prop};
 ghost use Rattle.tl_number.specs.ViewFacts.{arranged_by};
 
@@ -83,8 +84,37 @@ fn links_in_choice<C: Chart>(
     Ok(landmarks.links)
 }
 
+/// The links of two choices that are compared, if they have been made.
+#[derive(Drop)]
+pub(crate) struct ChoiceLinks {
+    pub(crate) one: Option<Vec<Rec8>>,
+    pub(crate) other: Option<Vec<Rec8>>,
+}
+
+/// The links of a choice. Makes them only if they haven't been made.
+fn made_links<C: Chart>(
+    alloc: Global,
+    chart: &C,
+    order: &ShapeOrder,
+    tables: &TieTables,
+    of: &OrderedChoice<'_>,
+    made: Option<Vec<Rec8>>,
+) -> Result<Vec<Rec8>, AllocError>
+    requires known { LeavesChoices (C.county chart.now) order.now }
+    requires tables { AreTieTables (C.county chart.now) order.now tables.now }
+    requires chosen { IsChosen order.now of.now.choice.now }
+    requires ordered { of.now.polygons.now ≡ first_open key_cmp order.now.places (keys_along chain_polygons (C.county chart.now) of.now.choice.now.chains.items) }
+    requires made { IfSome made (λ links. links.items ≡ (arranged_by (C.county chart.now) of.now.choice.now.chains.items).links) }
+    ensures { IfOk result (λ links. links.items ≡ (arranged_by (C.county chart.now) of.now.choice.now.chains.items).links) }
+{
+    match made {
+        Some(links) => Ok(links),
+        None => links_in_choice(alloc, chart, order, tables, of),
+    }
+}
+
 /// Compares two choices by their records of type 8. If no landmark has an open polygon, or the open polygons have the same numbers in
-/// both, these are the same.
+/// both, these are the same. Keeps the links that it makes.
 pub(crate) fn compare_links<C: Chart>(
     alloc: Global,
     chart: &C,
@@ -92,6 +122,7 @@ pub(crate) fn compare_links<C: Chart>(
     tables: &TieTables,
     one: &OrderedChoice<'_>,
     other: &OrderedChoice<'_>,
+    links: &mut ChoiceLinks,
 ) -> Result<Ordering, AllocError>
     requires known { LeavesChoices (C.county chart.now) order.now }
     requires tables { AreTieTables (C.county chart.now) order.now tables.now }
@@ -99,13 +130,18 @@ pub(crate) fn compare_links<C: Chart>(
     requires other_chosen { IsChosen order.now other.now.choice.now }
     requires ordered { one.now.polygons.now ≡ first_open key_cmp order.now.places (keys_along chain_polygons (C.county chart.now) one.now.choice.now.chains.items) }
     requires other_ordered { other.now.polygons.now ≡ first_open key_cmp order.now.places (keys_along chain_polygons (C.county chart.now) other.now.choice.now.chains.items) }
-    ensures { IfOk result (λ ordering. ordering ≡ groups_cmp Eight (type_8_together (arranged_by (C.county chart.now) one.now.choice.now.chains.items))
+    requires links { AreChoiceLinks (C.county chart.now) one.now.choice.now.chains.items other.now.choice.now.chains.items links.old }
+    ensures ordering { IfOk result (λ ordering. ordering ≡ groups_cmp Eight (type_8_together (arranged_by (C.county chart.now) one.now.choice.now.chains.items))
         (type_8_together (arranged_by (C.county chart.now) other.now.choice.now.chains.items))) }
+    ensures links { OnOk result (AreChoiceLinks (C.county chart.now) one.now.choice.now.chains.items other.now.choice.now.chains.items links.new) }
 {
     if !tables.linked || are_same(other.polygons, one.polygons) {
         return Ok(Ordering::Equal);
     }
-    let links = links_in_choice(alloc, chart, order, tables, one)?;
-    let others = links_in_choice(alloc, chart, order, tables, other)?;
-    Ok(compare_lists(&links, &others))
+    let own = made_links(alloc, chart, order, tables, one, links.one.take())?;
+    let others = made_links(alloc, chart, order, tables, other, links.other.take())?;
+    let ordering = compare_lists(&own, &others);
+    links.one = Some(own);
+    links.other = Some(others);
+    Ok(ordering)
 }

@@ -2,11 +2,11 @@
 //!
 //! Records of types 2, 5 and 7 are the same in all choices. Those of type 4 and type I are compared at the few places at which they can
 //! differ, those of type 6 at open places, and those of type P under the few numbers at which they can differ. The links of landmarks
-//! (type 8) are made for both choices, unless they have to be the same.
+//! (type 8) are made for both choices, unless they have to be the same, and kept for the next comparison.
 
 ghost use Rattle.std.specs.declared.cmp.Ordering.TheVariants.{Equal};
 ghost use Rattle.std.specs.Ordering.{ordering_then};
-ghost use Rattle.std.specs.Prelude.{◌≡◌, IfOk, map};
+ghost use Rattle.std.specs.Prelude.{◌≡◌, IfOk, OnOk, map};
 ghost use Rattle.tl_layout.specs.declared.record_type.Record.TheVariants.{I, P, Six};
 ghost use Rattle.tl_number.specs.ChoiceSearch.{IsChosen, LeavesChoices};
 ghost use Rattle.tl_number.specs.CountyGroups.{type_6_by_chain};
@@ -14,14 +14,14 @@ ghost use Rattle.tl_number.specs.CriticalPlaces.{AreTieTables};
 ghost use Rattle.tl_number.specs.LeastNumber.{choices_cmp};
 ghost use Rattle.tl_number.specs.OpenRanges.{sixes_at};
 ghost use Rattle.tl_number.specs.RecordOrder.{groups_cmp, records_cmp, types_8_to_p_cmp};
-ghost use Rattle.tl_number.specs.TiedRecords.{AreTiedRecords};
+ghost use Rattle.tl_number.specs.TiedRecords.{AreChoiceLinks, AreTiedRecords};
 ghost use Rattle.tl_number.specs.TypeOneOrder.{ones_cmp};
 ghost use Rattle.tl_number.specs.ViewFacts.{arranged_by};
 
 use crate::group_order::{compare_groups, compare_lists};
 use crate::numbered_arrangement::NumberedArrangement;
 use crate::open_ranges::OpenRangeRecords;
-use crate::tie_links::{OrderedChoice, compare_links};
+use crate::tie_links::{ChoiceLinks, OrderedChoice, compare_links};
 use crate::tie_names::compare_names;
 use crate::tie_records::{TiedRecords, tied_records};
 use crate::tie_tables::TieTables;
@@ -78,6 +78,7 @@ fn compare_tied<C: Chart>(
     tables: &TieTables,
     one: &TiedChoice<'_>,
     other: &TiedChoice<'_>,
+    links: &mut ChoiceLinks,
 ) -> Result<Ordering, AllocError>
     requires known { LeavesChoices (C.county chart.now) order.now }
     requires tables { AreTieTables (C.county chart.now) order.now tables.now }
@@ -85,8 +86,10 @@ fn compare_tied<C: Chart>(
     requires other_chosen { IsChosen order.now other.now.choice.now }
     requires records { AreTiedRecords (C.county chart.now) order.now tables.now one.now.choice.now.chains.items one.now.records.now }
     requires other_records { AreTiedRecords (C.county chart.now) order.now tables.now other.now.choice.now.chains.items other.now.records.now }
-    ensures { IfOk result (λ ordering. ordering ≡ types_8_to_p_cmp (arranged_by (C.county chart.now) one.now.choice.now.chains.items)
+    requires links { AreChoiceLinks (C.county chart.now) one.now.choice.now.chains.items other.now.choice.now.chains.items links.old }
+    ensures ordering { IfOk result (λ ordering. ordering ≡ types_8_to_p_cmp (arranged_by (C.county chart.now) one.now.choice.now.chains.items)
         (arranged_by (C.county chart.now) other.now.choice.now.chains.items)) }
+    ensures links { OnOk result (AreChoiceLinks (C.county chart.now) one.now.choice.now.chains.items other.now.choice.now.chains.items links.new) }
 {
     let first = OrderedChoice {
         choice: one.choice,
@@ -96,7 +99,7 @@ fn compare_tied<C: Chart>(
         choice: other.choice,
         polygons: &other.records.order.polygons,
     };
-    match compare_links(alloc, chart, order, tables, &first, &second)? {
+    match compare_links(alloc, chart, order, tables, &first, &second, links)? {
         Ordering::Equal => Ok(compare_topologies_and_polygons(one.records, other.records)),
         unequal => Ok(unequal),
     }
@@ -110,21 +113,24 @@ fn compare_with_tied<C: Chart>(
     tables: &TieTables,
     one: &TiedChoice<'_>,
     other: &NumberedArrangement,
+    links: &mut ChoiceLinks,
 ) -> Result<Ordering, AllocError>
     requires known { LeavesChoices (C.county chart.now) order.now }
     requires tables { AreTieTables (C.county chart.now) order.now tables.now }
     requires chosen { IsChosen order.now one.now.choice.now }
     requires other_chosen { IsChosen order.now other.now }
     requires records { AreTiedRecords (C.county chart.now) order.now tables.now one.now.choice.now.chains.items one.now.records.now }
-    ensures { IfOk result (λ ordering. ordering ≡ types_8_to_p_cmp (arranged_by (C.county chart.now) one.now.choice.now.chains.items)
+    requires links { AreChoiceLinks (C.county chart.now) one.now.choice.now.chains.items other.now.chains.items links.old }
+    ensures ordering { IfOk result (λ ordering. ordering ≡ types_8_to_p_cmp (arranged_by (C.county chart.now) one.now.choice.now.chains.items)
         (arranged_by (C.county chart.now) other.now.chains.items)) }
+    ensures links { OnOk result (AreChoiceLinks (C.county chart.now) one.now.choice.now.chains.items other.now.chains.items links.new) }
 {
     let others = tied_records(alloc, chart, order, tables, other)?;
     let second = TiedChoice {
         choice: other,
         records: &others,
     };
-    compare_tied(alloc, chart, order, tables, one, &second)
+    compare_tied(alloc, chart, order, tables, one, &second, links)
 }
 
 /// Compares two choices by their records of types 8, I and P. Those of both are made first.
@@ -135,20 +141,23 @@ fn compare_by_numbers<C: Chart>(
     tables: &TieTables,
     one: &NumberedArrangement,
     other: &NumberedArrangement,
+    links: &mut ChoiceLinks,
 ) -> Result<Ordering, AllocError>
     requires known { LeavesChoices (C.county chart.now) order.now }
     requires tables { AreTieTables (C.county chart.now) order.now tables.now }
     requires one { IsChosen order.now one.now }
     requires other { IsChosen order.now other.now }
-    ensures { IfOk result (λ ordering. ordering ≡ types_8_to_p_cmp (arranged_by (C.county chart.now) one.now.chains.items)
+    requires links { AreChoiceLinks (C.county chart.now) one.now.chains.items other.now.chains.items links.old }
+    ensures ordering { IfOk result (λ ordering. ordering ≡ types_8_to_p_cmp (arranged_by (C.county chart.now) one.now.chains.items)
         (arranged_by (C.county chart.now) other.now.chains.items)) }
+    ensures links { OnOk result (AreChoiceLinks (C.county chart.now) one.now.chains.items other.now.chains.items links.new) }
 {
     let records = tied_records(alloc, chart, order, tables, one)?;
     let first = TiedChoice {
         choice: one,
         records: &records,
     };
-    compare_with_tied(alloc, chart, order, tables, &first, other)
+    compare_with_tied(alloc, chart, order, tables, &first, other, links)
 }
 
 /// Compares two choices that have the same records of types 1 and 4 by their records of types 6, 8, I and P.
@@ -159,17 +168,20 @@ fn compare_behind_names<C: Chart>(
     tables: &TieTables,
     one: &NumberedArrangement,
     other: &NumberedArrangement,
+    links: &mut ChoiceLinks,
 ) -> Result<Ordering, AllocError>
     requires known { LeavesChoices (C.county chart.now) order.now }
     requires tables { AreTieTables (C.county chart.now) order.now tables.now }
     requires one { IsChosen order.now one.now }
     requires other { IsChosen order.now other.now }
-    ensures { IfOk result (λ ordering. ordering ≡ ordering_then (groups_cmp Six (type_6_by_chain (arranged_by (C.county chart.now) one.now.chains.items))
+    requires links { AreChoiceLinks (C.county chart.now) one.now.chains.items other.now.chains.items links.old }
+    ensures ordering { IfOk result (λ ordering. ordering ≡ ordering_then (groups_cmp Six (type_6_by_chain (arranged_by (C.county chart.now) one.now.chains.items))
         (type_6_by_chain (arranged_by (C.county chart.now) other.now.chains.items)))
         (types_8_to_p_cmp (arranged_by (C.county chart.now) one.now.chains.items) (arranged_by (C.county chart.now) other.now.chains.items))) }
+    ensures links { OnOk result (AreChoiceLinks (C.county chart.now) one.now.chains.items other.now.chains.items links.new) }
 {
     match compare_open_ranges(chart, &tables.opened, &one.chains, &other.chains) {
-        Ordering::Equal => compare_by_numbers(alloc, chart, order, tables, one, other),
+        Ordering::Equal => compare_by_numbers(alloc, chart, order, tables, one, other, links),
         unequal => Ok(unequal),
     }
 }
@@ -182,16 +194,19 @@ pub(crate) fn compare_ties<C: Chart>(
     tables: &TieTables,
     one: &NumberedArrangement,
     other: &NumberedArrangement,
+    links: &mut ChoiceLinks,
 ) -> Result<Ordering, AllocError>
     requires known { LeavesChoices (C.county chart.now) order.now }
     requires tables { AreTieTables (C.county chart.now) order.now tables.now }
     requires one { IsChosen order.now one.now }
     requires other { IsChosen order.now other.now }
     requires tied { ones_cmp (C.county chart.now) one.now.number other.now.number ≡ Equal }
-    ensures { IfOk result (λ ordering. ordering ≡ choices_cmp (C.county chart.now) one.now.number other.now.number) }
+    requires links { AreChoiceLinks (C.county chart.now) one.now.chains.items other.now.chains.items links.old }
+    ensures ordering { IfOk result (λ ordering. ordering ≡ choices_cmp (C.county chart.now) one.now.number other.now.number) }
+    ensures links { OnOk result (AreChoiceLinks (C.county chart.now) one.now.chains.items other.now.chains.items links.new) }
 {
     match compare_names(alloc, chart, order, tables, one, other)? {
-        Ordering::Equal => compare_behind_names(alloc, chart, order, tables, one, other),
+        Ordering::Equal => compare_behind_names(alloc, chart, order, tables, one, other, links),
         unequal => Ok(unequal),
     }
 }

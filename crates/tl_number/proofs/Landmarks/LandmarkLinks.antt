@@ -1,16 +1,16 @@
 -- Links gathered landmark by landmark, and counted LAND by LAND.
-use Rattle.tl_number.proofs.Common.{◌&&◌, ◌≡◌, ◌⊎◌, ◌<◌, ◌≤◌, ◌+◌, ◌-◌, ℕ, zero, suc, nat_le, List, [], ◌∷◌, ◌++◌, map, filter, flat_map}
-use Rattle.tl_number.proofs.Common.{length, Bool, true, false, not, Ordering, Less, Equal, Greater, is_gt, Some, slice_get, refl, sym, ap}
+use Rattle.tl_number.proofs.Common.{◌&&◌, ◌≡◌, ◌⊎◌, ◌<◌, ◌≤◌, ◌+◌, ◌-◌, ℕ, zero, suc, nat_le, List, [], ◌∷◌, ◌++◌, map, filter, filter_map, flat_map}
+use Rattle.tl_number.proofs.Common.{length, Bool, true, false, not, Ordering, Less, Equal, Greater, is_gt, Option, None, Some, slice_get, refl, sym, ap}
 use Rattle.tl_number.proofs.Common.{ap₂, ◌∙◌, subst, inl, inr, arith, nat_cmp, append-nil, append_assoc, IsPermutation, IsTrue, County}
 use Rattle.tl_number.proofs.Common.{Fields8, IsCounty, IsInOrder, IsPermutation-map, IsPermutation-sym, IsPermutation-trans, Known}
-use Rattle.tl_number.proofs.Common.{MatchOrdering, all_weaker, apart_from_sorted, eight_land, in_order, in_order-in_order}
-use Rattle.tl_number.proofs.Common.{in_order-is_permutation, in_order-permutation, lands, length-map, link_cmp, link_keys, links_at}
+use Rattle.tl_number.proofs.Common.{MatchOrdering, all_weaker, apart-permutation, apart_from_sorted, cons_option, eight_land, in_order, in_order-in_order}
+use Rattle.tl_number.proofs.Common.{in_order-is_permutation, in_order-permutation, known-permutation_to, lands, lands_at, length-map, link_cmp, link_keys, links_at}
 use Rattle.tl_number.proofs.Common.{links_up_to, links_with, ltb-true, map-append, nat_keys, of_number, range_with_len, ranked, stands_in}
 use Rattle.tl_number.proofs.Common.{times, true≢false}
 use Rattle.std.proofs.lemmas.Bool.Decides.{leb_tells}
 use Rattle.std.proofs.lemmas.List.Filters.{length-filter_both}
 use Rattle.tl_county.proofs.Lists.OfNumber.{groups-permutation}
-use Rattle.tl_number.proofs.Lists.Counting.{flat_map-map}
+use Rattle.ordered_lists.proofs.Lists.AtPlaces.{all_at_places}
 use Rattle.ordered_lists.proofs.Lists.Counted.{filter-agree}
 use Rattle.tl_number.proofs.Lists.Filtered.{filter-filtered}
 
@@ -36,31 +36,45 @@ pub listed : {X : Type 0} (xs : List X) → map (slice_get xs) (range_with_len 0
 listed [] = refl
 listed (x ∷ xs) = ap (λ ys. Some x ∷ ys) (shifted (slice_get (x ∷ xs)) 0 (length xs) ∙ listed xs)
 
-module _ (county : County) (is : IsCounty county) (f : Fields8 → Fields8) where
+-- the links of the landmarks at places are those of the LANDs there
+links_there : (links : List Fields8) (land : ℕ → Option ℕ) (places : List ℕ) → flat_map (λ place. links_with links (land place)) places
+    ≡ flat_map (λ number. of_number eight_land number links) (filter_map land places)
+links_there links land [] = refl
+links_there links land (place ∷ places) = go (land place) (links_there links land places)
+  where
+    go : (o : Option ℕ)
+        → flat_map (λ at. links_with links (land at)) places ≡ flat_map (λ number. of_number eight_land number links) (filter_map land places)
+        → links_with links o ++ flat_map (λ at. links_with links (land at)) places
+        ≡ flat_map (λ number. of_number eight_land number links) (cons_option o (filter_map land places))
+    go None rest = rest
+    go (Some number) rest = ap (λ ys. of_number eight_land number links ++ ys) rest
+
+module _ (county : County) (is : IsCounty county) (f : Fields8 → Fields8) (places : List ℕ)
+    (all : IsPermutation (range_with_len 0 (length county.landmarks)) places) where
   abbrev pub gathered : List Fields8
-  gathered = flat_map (λ place. map f (links_at county place)) (range_with_len 0 (length county.landmarks))
+  gathered = flat_map (λ place. map f (links_at county place)) places
 
   pieces_mapped : {X : Type 0} (g : X → List Fields8) (xs : List X) → flat_map (λ x. map f (g x)) xs ≡ map f (flat_map g xs)
   pieces_mapped g [] = refl
   pieces_mapped g (x ∷ xs) = ap (λ ys. map f (g x) ++ ys) (pieces_mapped g xs) ∙ sym (map-append f (g x) (flat_map g xs))
 
-  by_lands : flat_map (links_at county) (range_with_len 0 (length county.landmarks)) ≡ flat_map
-      (λ land. of_number eight_land land county.links) (lands county)
-  by_lands =
-      (let len : length county.landmarks ≡ length (lands county) = sym (length-map county.landmarks (λ (d : ℕ × _). d.0)) in
-      ap (λ n. flat_map (links_at county) (range_with_len 0 n)) len)
-      ∙ sym (flat_map-map (links_with county.links) (slice_get (lands county)) (range_with_len 0 (length (lands county))))
-      ∙ ap (flat_map (links_with county.links)) (listed (lands county))
-      ∙ flat_map-map (links_with county.links) Some (lands county)
+  -- the LANDs there are all LANDs
+  lands_there : IsPermutation (lands county) (lands_at county places)
+  lands_there = all_at_places (lands county) places
+      (subst (λ n. IsPermutation (range_with_len 0 n) places) (sym (length-map county.landmarks (λ (d : ℕ × _). d.0))) all)
 
   pub permuted : IsPermutation gathered (map f county.links)
   permuted =
-      subst (λ ls. IsPermutation ls (map f county.links)) (sym (pieces_mapped (links_at county) (range_with_len 0 (length county.landmarks))
-      ∙ ap (map f) by_lands))
-      (IsPermutation-map f (flat_map (λ land. of_number eight_land land county.links) (lands county)) county.links
-      (groups-permutation eight_land (lands county) county.links (apart_from_sorted nat_keys (lands county) is.ascending.landmarks)
-      (all_weaker (λ (l : Fields8). IsTrue (stands_in nat_cmp l.land (lands county))) (λ l. Known nat_cmp (lands county) l.land)
-      (λ l t. ltb-true 0 (times nat_cmp l.land (lands county)) t) county.links is.closed.link_lands)))
+      let numbers = lands_at county places in
+      subst (λ ls. IsPermutation ls (map f county.links)) (sym (pieces_mapped (links_at county) places
+      ∙ ap (map f) (links_there county.links (slice_get (lands county)) places)))
+      (IsPermutation-map f (flat_map (λ land. of_number eight_land land county.links) numbers) county.links
+      (groups-permutation eight_land numbers county.links
+      (apart-permutation nat_keys numbers (lands county) (IsPermutation-sym (lands county) numbers lands_there)
+      (apart_from_sorted nat_keys (lands county) is.ascending.landmarks))
+      (all_weaker (λ (l : Fields8). IsTrue (stands_in nat_cmp l.land (lands county))) (λ l. Known nat_cmp numbers l.land)
+      (λ l t. known-permutation_to nat_keys l.land (lands county) numbers lands_there (ltb-true 0 (times nat_cmp l.land (lands county)) t))
+      county.links is.closed.link_lands)))
 
   -- the gathered links, put in order, are the list in order
   pub links_sorted : (links : List Fields8) → IsPermutation gathered links → IsInOrder link_cmp links → links ≡ in_order link_cmp

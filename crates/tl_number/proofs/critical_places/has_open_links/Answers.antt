@@ -1,4 +1,5 @@
 use Rattle.tl_number.proofs.Common.{◌≡◌, ◌∙◌, ℕ, arith, AllByRecursion, Fields8, all_append, false, flat_map, key_cmp, length, link_key, links_at, map, map-id, range_with_len, stands_in, subst, sym}
+use Rattle.std.proofs.lemmas.List.Sorted.{IsPermutation-refl}
 use Rattle.tl_profile.proofs.PlacedOrder.{all_permuted}
 use Rattle.tl_number.proofs.Landmarks.LandmarkLinks.{permuted, pieces_next}
 use Rattle.tl_number.proofs.Ties.OpenLinks.{all_fail, landmark_passes, none_passes}
@@ -29,5 +30,6 @@ returns g c =
     omega (arith, c.loop-place-test.false, c.loop-place.auto.place-end, c.landmark_count-place-end.ensures) in
     sym (none_passes (λ link. stands_in key_cmp (link_key link) c.args.opened.now) county.links
     (subst (AllByRecursion Closed) (map-id county.links)
-    (all_permuted Closed _ (map (λ (link : Fields8). link) county.links) (permuted county is (λ link. link))
+    (all_permuted Closed _ (map (λ (link : Fields8). link) county.links) (permuted county is (λ link. link)
+    (range_with_len 0 (length county.landmarks)) (IsPermutation-refl (range_with_len 0 (length county.landmarks))))
     (subst (λ n. AllByRecursion Closed (flat_map (λ place. map (λ link. link) (links_at county place)) (range_with_len 0 n))) count c.loop-place.invariant))))

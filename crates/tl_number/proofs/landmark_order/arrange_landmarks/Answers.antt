@@ -1,5 +1,5 @@
-use Rattle.tl_number.proofs.Common.{◌≡◌, length, nat_cmp, false, refl, sym, ap, ap₂, ◌∙◌, subst, arith, arranged_by, has_repeat, lands}
-use Rattle.tl_number.proofs.Common.{lands_at, link_bounds, numbered_links}
+use Rattle.tl_number.proofs.Common.{◌≡◌, length, nat_cmp, false, refl, sym, ap, ap₂, ◌∙◌, subst, arith, IsPermutation, arranged_by, has_repeat, lands}
+use Rattle.tl_number.proofs.Common.{lands_at, link_bounds, numbered_links, range_with_len}
 use Rattle.tl_number.proofs.Landmarks.LandmarkOrder.{landmarks_stated, lands_once, places_counted, new_links}
 use Rattle.tl_number.proofs.landmark_order.arrange_landmarks.Goals as goal
 
@@ -9,6 +9,11 @@ links_by_land-requires-clause-few_places g c =
     let count = ap length c.deref.ensures.value ∙ places_counted (g.C.Chart.county c.args.chart.now) places c.in_ok-places.ensures.permutation in
     let few = c.requires.few in
     omega (arith, count, few)
+
+pub links_by_land-requires-clause-all : goal.links_by_land-requires-clause-all
+links_by_land-requires-clause-all g c =
+    subst (IsPermutation (range_with_len 0 (length (g.C.Chart.county c.args.chart.now).landmarks))) (sym c.deref.ensures.value)
+    c.in_ok-places.ensures.permutation
 
 pub links_by_land-requires-clause-once : goal.links_by_land-requires-clause-once
 links_by_land-requires-clause-once g c =

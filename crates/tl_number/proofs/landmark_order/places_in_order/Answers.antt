@@ -1,6 +1,7 @@
 use Rattle.tl_number.proofs.Common.{◌≡◌, ◌+◌, ◌-◌, ℕ, List, length, nat_cmp, false, sym, ap, ◌∙◌, subst, arith, County, Fields8}
-use Rattle.tl_number.proofs.Common.{IfOk-weaker, IsInOrder, PolygonKey, eight_land, has_repeat, landmark_place_cmp, lands, lands_at}
+use Rattle.tl_number.proofs.Common.{IfOk-weaker, IsInOrder, IsPermutation, PolygonKey, eight_land, has_repeat, landmark_place_cmp, lands, lands_at}
 use Rattle.tl_number.proofs.Common.{length-range_with_len, link_bounds, links_up_to, numbered_links, on, range_with_len}
+use Rattle.std.proofs.lemmas.List.Sorted.{IsPermutation-refl}
 use Rattle.std.proofs.lemmas.List.FromFn.{length-map-range_with_len}
 use Rattle.tl_number.specs.LandmarkItems.{place_cmp_under}
 use Rattle.tl_number.proofs.Landmarks.LandmarkOrder.{all_lands, all_lands_once, numbered_by_land}
@@ -14,6 +15,11 @@ links_by_land-requires-clause-few_places g c =
     let count = ap length (c.deref.ensures.value ∙ c.in_ok-unordered.ensures) ∙ length-range_with_len 0 (length county.landmarks) in
     let few = c.requires.few in
     omega (arith, count, few)
+
+pub links_by_land-requires-clause-all : goal.links_by_land-requires-clause-all
+links_by_land-requires-clause-all g c =
+    let all = range_with_len 0 (length (g.C.Chart.county c.args.chart.now).landmarks) in
+    subst (IsPermutation all) (sym (c.deref.ensures.value ∙ c.in_ok-unordered.ensures)) (IsPermutation-refl all)
 
 pub links_by_land-requires-clause-once : goal.links_by_land-requires-clause-once
 links_by_land-requires-clause-once g c =

@@ -18,9 +18,9 @@ tie g c same =
     (c.requires.other_ordered ∙ ap (λ chains. first_open key_cmp order.places (keys_along chain_polygons county chains)) c.requires.other_chosen) same
     ∙ (λ i. groups_cmp Eight (type_8_together (arranged_by county (sym c.requires.chosen i))) (type_8_together (arranged_by county (sym c.requires.other_chosen i))))
 
-pub returns-then-not-tables : goal.returns-then-not-tables
-returns-then-not-tables g c =
-    let start = (goal.at.returns-then-not-tables g c).Start in
+pub returns-then-not-tables-clause-ordering : goal.returns-then-not-tables-clause-ordering
+returns-then-not-tables-clause-ordering g c =
+    let start = (goal.at.returns-then-not-tables-clause-ordering g c).Start in
     elim c.then-not-tables.branch [
       | then-not-tables-via-then-not-tables w ↦ tie g start (inl w.if-not-tables.true)
       | then-not-tables-via-else-not-tables+then-are_same w ↦ tie g start (inr (w.are_same.ensures.0 w.if-are_same.true))
@@ -30,8 +30,8 @@ returns-then-not-tables g c =
 grouped_alone : (links others : List Fields8) → records_cmp (map Eight links) (map Eight others) ≡ groups_cmp Eight (links ∷ []) (others ∷ [])
 grouped_alone links others = ap₂ (λ ls ks. records_cmp (map Eight ls) (map Eight ks)) (sym (append-nil links)) (sym (append-nil others))
 
-pub returns : goal.returns
-returns g c =
-    c.compare_lists.ensures
-    ∙ ap₂ (λ ls ks. records_cmp (map Eight ls) (map Eight ks)) (c.deref.ensures.value ∙ c.in_ok-links.ensures) (c.deref-2.ensures.value ∙ c.in_ok-others.ensures)
+pub returns-clause-ordering : goal.returns-clause-ordering
+returns-clause-ordering g c =
+    c.compare_lists-ordering.ensures
+    ∙ ap₂ (λ ls ks. records_cmp (map Eight ls) (map Eight ks)) (c.deref.ensures.value ∙ c.in_ok-own.ensures) (c.deref-2.ensures.value ∙ c.in_ok-others.ensures)
     ∙ grouped_alone _ _

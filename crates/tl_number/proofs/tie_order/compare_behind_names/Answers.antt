@@ -20,19 +20,19 @@ compared g c =
     c.args.tables.now c.requires.tables c.args.one.now.number c.args.other.now.number
     ∙ (λ i. groups_cmp Six (type_6_by_chain (arranged_by county (sym c.requires.one i))) (type_6_by_chain (arranged_by county (sym c.requires.other i))))
 
-pub returns-in-Equal : goal.returns-in-Equal
-returns-in-Equal g c =
+pub returns-in-Equal-clause-ordering : goal.returns-in-Equal-clause-ordering
+returns-in-Equal-clause-ordering g c =
     let county = g.C.Chart.county c.args.chart.now in
     let rest = types_8_to_p_cmp (arranged_by county c.args.one.now.chains.items) (arranged_by county c.args.other.now.chains.items) in
     IfOk-weaker c.compare_by_numbers.result (λ ordering. ordering ≡ rest)
     (λ ordering. ordering ≡ ordering_then (groups_cmp Six (type_6_by_chain (arranged_by county c.args.one.now.chains.items))
     (type_6_by_chain (arranged_by county c.args.other.now.chains.items))) rest)
-    (λ ordering e. e ∙ ap (λ o. ordering_then o rest) (sym (sym (compared g (goal.at.returns-in-Equal g c).After-compare_open_ranges) ∙ c.in-Equal.is)))
-    c.compare_by_numbers.ensures
+    (λ ordering e. e ∙ ap (λ o. ordering_then o rest) (sym (sym (compared g (goal.at.returns-in-Equal-clause-ordering g c).After-compare_open_ranges) ∙ c.in-Equal.is)))
+    c.compare_by_numbers.ensures.ordering
 
-pub returns-in_default : goal.returns-in_default
-returns-in_default g c =
+pub returns-in_default-clause-ordering : goal.returns-in_default-clause-ordering
+returns-in_default-clause-ordering g c =
     let county = g.C.Chart.county c.args.chart.now in
-    let made = compared g (goal.at.returns-in_default g c).After-compare_open_ranges in
+    let made = compared g (goal.at.returns-in_default-clause-ordering g c).After-compare_open_ranges in
     made ∙ sym (decided _ (types_8_to_p_cmp (arranged_by county c.args.one.now.chains.items) (arranged_by county c.args.other.now.chains.items))
     (λ tie. c.in_default.not-Equal (made ∙ tie)))

@@ -28,20 +28,20 @@ whole g c =
     (subst (λ chains. AreTiedRecords county c.args.order.now c.args.tables.now chains other.records.now) c.requires.other_chosen c.requires.other_records)
     ∙ (λ i. types_8_to_p_cmp (arranged_by county (sym c.requires.chosen i)) (arranged_by county (sym c.requires.other_chosen i)))
 
-pub returns-in-Equal : goal.returns-in-Equal
-returns-in-Equal g c =
+pub returns-in-Equal-clause-ordering : goal.returns-in-Equal-clause-ordering
+returns-in-Equal-clause-ordering g c =
     let one = c.args.one.now in
     let other = c.args.other.now in
     let rest = ordering_then (records_cmp (map I one.records.now.topologies.items) (map I other.records.now.topologies.items))
     (records_cmp (map P one.records.now.polygons.items) (map P other.records.now.polygons.items)) in
-    c.compare_topologies_and_polygons.ensures ∙ ap (λ links. ordering_then links rest) (sym (sym c.in_ok-unequal.ensures ∙ c.in-Equal.is))
-    ∙ whole g (goal.at.returns-in-Equal g c).Start
+    c.compare_topologies_and_polygons.ensures ∙ ap (λ links. ordering_then links rest) (sym (sym c.in_ok-unequal.ensures.ordering ∙ c.in-Equal.is))
+    ∙ whole g (goal.at.returns-in-Equal-clause-ordering g c).Start
 
-pub returns-in_default : goal.returns-in_default
-returns-in_default g c =
+pub returns-in_default-clause-ordering : goal.returns-in_default-clause-ordering
+returns-in_default-clause-ordering g c =
     let one = c.args.one.now in
     let other = c.args.other.now in
     let rest = ordering_then (records_cmp (map I one.records.now.topologies.items) (map I other.records.now.topologies.items))
     (records_cmp (map P one.records.now.polygons.items) (map P other.records.now.polygons.items)) in
-    let made = c.in_ok-unequal.ensures in
-    made ∙ sym (decided _ rest (λ tie. c.in_default.not-Equal (made ∙ tie))) ∙ whole g (goal.at.returns-in_default g c).Start
+    let made = c.in_ok-unequal.ensures.ordering in
+    made ∙ sym (decided _ rest (λ tie. c.in_default.not-Equal (made ∙ tie))) ∙ whole g (goal.at.returns-in_default-clause-ordering g c).Start

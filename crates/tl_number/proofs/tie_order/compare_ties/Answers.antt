@@ -21,22 +21,22 @@ whole g c =
     ∙ sym (ties_decide county c.args.order.now c.requires.known (g.met.C.Chart.is_county c.args.chart.now) (g.met.C.Chart.within_limits c.args.chart.now)
     c.args.tables.now c.requires.tables c.args.one.now.number c.args.other.now.number c.requires.tied)
 
-pub returns-in-Equal : goal.returns-in-Equal
-returns-in-Equal g c =
+pub returns-in-Equal-clause-ordering : goal.returns-in-Equal-clause-ordering
+returns-in-Equal-clause-ordering g c =
     let county = g.C.Chart.county c.args.chart.now in
     let a = arranged_by county c.args.one.now.chains.items in
     let b = arranged_by county c.args.other.now.chains.items in
     let rest = ordering_then (groups_cmp Six (type_6_by_chain a) (type_6_by_chain b)) (types_8_to_p_cmp a b) in
     IfOk-weaker c.compare_behind_names.result (λ ordering. ordering ≡ rest)
     (λ ordering. ordering ≡ choices_cmp county c.args.one.now.number c.args.other.now.number)
-    (λ ordering e. e ∙ ap (λ o. ordering_then o rest) (sym (sym c.in_ok-unequal.ensures ∙ c.in-Equal.is)) ∙ whole g (goal.at.returns-in-Equal g c).Start)
-    c.compare_behind_names.ensures
+    (λ ordering e. e ∙ ap (λ o. ordering_then o rest) (sym (sym c.in_ok-unequal.ensures ∙ c.in-Equal.is)) ∙ whole g (goal.at.returns-in-Equal-clause-ordering g c).Start)
+    c.compare_behind_names.ensures.ordering
 
-pub returns-in_default : goal.returns-in_default
-returns-in_default g c =
+pub returns-in_default-clause-ordering : goal.returns-in_default-clause-ordering
+returns-in_default-clause-ordering g c =
     let county = g.C.Chart.county c.args.chart.now in
     let a = arranged_by county c.args.one.now.chains.items in
     let b = arranged_by county c.args.other.now.chains.items in
     let made = c.in_ok-unequal.ensures in
     made ∙ sym (decided _ (ordering_then (groups_cmp Six (type_6_by_chain a) (type_6_by_chain b)) (types_8_to_p_cmp a b))
-    (λ tie. c.in_default.not-Equal (made ∙ tie))) ∙ whole g (goal.at.returns-in_default g c).Start
+    (λ tie. c.in_default.not-Equal (made ∙ tie))) ∙ whole g (goal.at.returns-in_default-clause-ordering g c).Start
