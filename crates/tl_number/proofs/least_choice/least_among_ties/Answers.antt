@@ -1,5 +1,5 @@
 use Rattle.tl_number.proofs.Common.{◌≡◌, ◌∙◌, Bool, ap, arith, false, is_gt, refl, sym, subst, true, cond, Equal, IfSome, IsChosen, IsLesserTie}
-use Rattle.tl_number.proofs.Common.{IsNotAfter, None, arranged_by, choice_list, choices, ones_cmp}
+use Rattle.tl_number.proofs.Common.{IsNotAfter, arranged_by, choice_list, choices, ones_cmp}
 use Rattle.tl_number.specs.declared.numbered_arrangement.NumberedArrangement.{NumberedArrangement}
 use Rattle.tl_number.proofs.Choices.LeastNumbers.{not_after_both, tie_least, ties_least}
 use Rattle.tl_number.proofs.Choices.LeastOnes.{both_tied, lesser_tie, tied_along, tied_with_itself}
