@@ -12,6 +12,7 @@ use Rattle.tl_county.specs.declared.directed_chain.DirectedChain.{DirectedChain}
 use Rattle.tl_profile.specs.ShapeOrder.{OrderOfShapes}
 use Rattle.tl_profile.specs.declared.open_places.OpenPlace.{OpenPlace}
 use Rattle.tl_number.specs.CriticalKeys.{brings}
+use Rattle.tl_number.specs.LandmarkItems.{HaveSameBodies}
 use Rattle.tl_number.specs.OpenNames.{AreOpenNames}
 use Rattle.tl_number.specs.OpenKeys.{AreOpenKeys, first_open, is_open, keys_along, open_among}
 use Rattle.tl_number.specs.declared.open_keys.OpenKeys.{OpenKeys}
@@ -62,6 +63,7 @@ pub record AreTieTables (county : County) (shapes : OrderOfShapes) (tables : Tie
       tables.polygons.opened (keys_along chain_polygons county shapes.by_shape) (length shapes.by_shape)
   pub numbers : tables.numbers.items ≡ critical_from county tables.polygons false 0 (length tables.polygons.all)
   pub linked : tables.linked ≡ has_open_link county tables.polygons.opened
+  pub same : HaveSameBodies county tables.same.items
 
 -- the open keys in the order of their first appearance along an arrangement
 pub record IsOpenOrder (county : County) (shapes : OrderOfShapes) (arrangement : List DirectedChain) (order : OpenOrder) : Type 0 where

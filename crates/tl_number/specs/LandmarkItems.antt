@@ -1,6 +1,7 @@
 -- The links of landmarks with new numbers, and the order of landmarks.
-use Rattle.std.specs.Prelude.{ℕ, List, filter_map, length, map, slice_get}
+use Rattle.std.specs.Prelude.{ℕ, ◌≡◌, ◌<◌, List, filter_map, get_or, length, map, slice_get}
 use Rattle.std.specs.declared.cmp.Ordering.{Ordering}
+use Rattle.std.specs.declared.cmp.Ordering.TheVariants.{Equal}
 use Rattle.std.specs.Cmp.Lexicographic.{slice_cmp}
 use Rattle.std.specs.Ordering.{nat_cmp, ordering_then}
 use Rattle.tl_layout.specs.Fields.{Fields8}
@@ -45,3 +46,8 @@ landmark_place_cmp county links count a b =
 -- the same with these polygons, and with the landmarks in the county's order
 abbrev pub place_cmp_under : County → List PolygonKey → ℕ → ℕ → Ordering
 place_cmp_under county polygons = landmark_place_cmp county (numbered_links county polygons (lands county)) (length county.landmarks)
+
+-- each of these numbers is the place of a landmark with the same bodies as the landmark at the number's own place
+abbrev pub HaveSameBodies : County → List ℕ → Type 0
+HaveSameBodies county same = (place : ℕ) → place < length same
+    → slice_cmp landmark_body_cmp (bodies_at county place) (bodies_at county (get_or same place 0)) ≡ Equal

@@ -45,7 +45,7 @@ fn arrange_names_and_landmarks<C: Chart>(
     ensures landmarks { IfOk result (λ tables. MatchesLandmarks (C.county chart.now) arrangement.now tables.1) }
 {
     let names = arrange_names(alloc, chart, arrangement)?;
-    let landmarks = arrange_landmarks(alloc, chart, arrangement, polygons)?;
+    let landmarks = arrange_landmarks(alloc, chart, arrangement, polygons, &[])?;
     Ok((names, landmarks))
 }
 

@@ -2,7 +2,6 @@
 
 ghost use Rattle.std.specs.Cmp.Lexicographic.{slice_cmp};
 ghost use Rattle.std.specs.List.{range_with_len};
-ghost use Rattle.std.specs.Option.{option_cmp};
 ghost use Rattle.std.specs.Ordering.{nat_cmp, on};
 ghost use Rattle.std.specs.Prelude.{◌≡◌, ◌<◌, ◌^◌, ◌-◌, IfOk, IsPermutation, false, length, map};
 ghost use Rattle.tl_county.specs.BodyOrder.{landmark_body_cmp, link_part, link_part_cmp};
@@ -11,18 +10,19 @@ ghost use Rattle.tl_county.specs.County.{eight_land};
 ghost use Rattle.tl_county.specs.CountyProps.{IsInOrder-prop};
 ghost use Rattle.ordered_lists.specs.Orders.{IsInOrder, has_repeat};
 ghost use Rattle.tl_number.specs.Arrangement.{polygons_in_order};
-ghost use Rattle.tl_number.specs.LandmarkItems.{landmark_place_cmp, lands_at, numbered_links, place_cmp_under};
+ghost use Rattle.tl_number.specs.LandmarkItems.{HaveSameBodies, landmark_place_cmp, lands_at, numbered_links, place_cmp_under};
 ghost use Rattle.tl_number.specs.DirectedChains.{arrangement_of};
 ghost use Rattle.tl_number.specs.ViewFacts.{AreWhole, MatchesLandmarks, link_bounds};
 
 use crate::arranged_tables::LandmarkTables;
+use crate::landmark_bodies::{KnownBodies, all_places, cmp_known_bodies};
 use crate::landmark_links::{bounds_of, links_of_landmark, links_under};
 use crate::numbers::Interner;
 use crate::renumbering::PolygonNumbers;
 use std::alloc::{AllocError, Global};
 use std::cmp::Ordering;
-use tl_county::{Chart, DirectedChain, cmp_landmark_bodies};
-use tl_layout::{Body7, Rec8};
+use tl_county::{Chart, DirectedChain};
+use tl_layout::Rec8;
 
 /// The fields of a link without its LAND in the order of comparison: POLYID, CENID, FILE.
 type LinkBytes = (u64, ([u8; 5], [u8; 5]));
@@ -34,43 +34,6 @@ fn bytes_of_link(link: &Rec8) -> LinkBytes
     let cenid = link.cenid();
     let file = link.file();
     (link.polyid(), (cenid, file))
-}
-
-/// Compares two bodies; a missing one comes first.
-fn cmp_optional_body(a: Option<Body7>, b: Option<Body7>) -> Ordering
-    ensures { result ≡ option_cmp landmark_body_cmp a b }
-{
-    match a {
-        Some(a) => match b {
-            Some(b) => cmp_landmark_bodies(&a, &b),
-            None => Ordering::Greater,
-        },
-        None => match b {
-            Some(_) => Ordering::Less,
-            None => Ordering::Equal,
-        },
-    }
-}
-
-/// Compares the bodies of the landmarks at two places.
-fn cmp_bodies<C: Chart>(chart: &C, a: usize, b: usize) -> Ordering
-    ensures { result ≡ slice_cmp landmark_body_cmp (bodies_at (C.county chart.now) a) (bodies_at (C.county chart.now) b) }
-{
-    let count = chart.body_count_at(a);
-    for body in 0..count {
-        match cmp_optional_body(
-            chart.landmark_body_at(a, body),
-            chart.landmark_body_at(b, body),
-        ) {
-            Ordering::Equal => {}
-            unequal => return unequal,
-        }
-    }
-    if count < chart.body_count_at(b) {
-        Ordering::Less
-    } else {
-        Ordering::Equal
-    }
 }
 
 /// Compares two lists of links without their LANDs.
@@ -92,10 +55,15 @@ struct LinkLists<'a> {
 }
 
 /// Compares the landmarks at two places: by their bodies, their links, their places.
-fn cmp_landmarks<C: Chart>(chart: &C, lists: &LinkLists<'_>, a: u32, b: u32) -> Ordering
-    ensures { result ≡ landmark_place_cmp (C.county chart.now) lists.now.links.now (length lists.now.bounds.now - 1) a b }
+fn cmp_landmarks<C: Chart>(
+    known: &KnownBodies<'_, C>,
+    lists: &LinkLists<'_>,
+    a: u32,
+    b: u32,
+) -> Ordering
+    ensures { result ≡ landmark_place_cmp (C.county known.now.chart.now) lists.now.links.now (length lists.now.bounds.now - 1) a b }
 {
-    let bodies = cmp_bodies(chart, a as usize, b as usize);
+    let bodies = cmp_known_bodies(known, a as usize, b as usize);
     if bodies.is_ne() {
         return bodies;
     }
@@ -106,14 +74,6 @@ fn cmp_landmarks<C: Chart>(chart: &C, lists: &LinkLists<'_>, a: u32, b: u32) -> 
         return links;
     }
     a.cmp(&b)
-}
-
-/// The places of the landmarks of a county, ascending.
-fn all_places<C: Chart>(alloc: Global, chart: &C) -> Result<Vec<u32>, AllocError>
-    requires { length (C.county chart.now).landmarks < 2 ^ 32 }
-    ensures { IfOk result (λ places. places.items ≡ range_with_len 0 (length (C.county chart.now).landmarks)) }
-{
-    (0..chart.landmark_count() as u32).collect(alloc)
 }
 
 /// The LANDs at places, one after another.
@@ -147,15 +107,15 @@ fn number_lands<C: Chart>(
 /// Sorts the places of the landmarks of a county into their new order.
 fn sort_places<C: Chart>(
     alloc: Global,
-    chart: &C,
+    known: &KnownBodies<'_, C>,
     lists: &LinkLists<'_>,
 ) -> Result<Vec<u32>, AllocError>
-    requires { length (C.county chart.now).landmarks < 2 ^ 32 }
-    ensures permutation { IfOk result (λ places. IsPermutation (range_with_len 0 (length (C.county chart.now).landmarks)) places.items) }
-    ensures in_order { IfOk result (λ places. IsInOrder (landmark_place_cmp (C.county chart.now) lists.now.links.now (length lists.now.bounds.now - 1)) places.items) }
+    requires { length (C.county known.now.chart.now).landmarks < 2 ^ 32 }
+    ensures permutation { IfOk result (λ places. IsPermutation (range_with_len 0 (length (C.county known.now.chart.now).landmarks)) places.items) }
+    ensures in_order { IfOk result (λ places. IsInOrder (landmark_place_cmp (C.county known.now.chart.now) lists.now.links.now (length lists.now.bounds.now - 1)) places.items) }
 {
-    let mut places = all_places(alloc, chart)?;
-    places.sort_unstable_by(|a, b| cmp_landmarks(chart, lists, *a, *b));
+    let mut places = all_places(alloc, known.chart)?;
+    places.sort_unstable_by(|a, b| cmp_landmarks(known, lists, *a, *b));
     Ok(places)
 }
 
@@ -180,13 +140,16 @@ fn links_by_land<C: Chart, P: PolygonNumbers>(
     Ok((links, bounds))
 }
 
-/// The places of the landmarks of a county in their new order, with these numbers of its polygons.
+/// The places of the landmarks of a county in their new order, with these numbers of its polygons. `same` are the places of landmarks with
+/// the same bodies as the first ones, as far as these are known.
 fn places_in_order<C: Chart, P: PolygonNumbers>(
     alloc: Global,
     chart: &C,
     polygons: &P,
+    same: &[u32],
 ) -> Result<Vec<u32>, AllocError>
     requires few_polygons { length (P.in_order polygons.now) < 10 ^ 10 }
+    requires same { HaveSameBodies (C.county chart.now) same.now }
     requires few { length (C.county chart.now).landmarks < 2 ^ 32 }
     ensures permutation { IfOk result (λ places. IsPermutation (range_with_len 0 (length (C.county chart.now).landmarks)) places.items) }
     ensures in_order { IfOk result (λ places. IsInOrder (place_cmp_under (C.county chart.now) (P.in_order polygons.now)) places.items) }
@@ -197,23 +160,26 @@ fn places_in_order<C: Chart, P: PolygonNumbers>(
         links: links.as_slice(),
         bounds: bounds.as_slice(),
     };
-    sort_places(alloc, chart, &lists)
+    sort_places(alloc, &KnownBodies { chart, same }, &lists)
 }
 
-/// The landmarks of a county in this arrangement, which numbers its polygons in this way.
+/// The landmarks of a county in this arrangement, which numbers its polygons in this way. `same` are the places of landmarks with the same
+/// bodies as the first ones, as far as these are known.
 pub(crate) fn arrange_landmarks<C: Chart, P: PolygonNumbers>(
     alloc: Global,
     chart: &C,
     arrangement: &[DirectedChain],
     polygons: &P,
+    same: &[u32],
 ) -> Result<LandmarkTables, AllocError>
     requires whole { AreWhole (C.county chart.now) arrangement.now }
     requires polygons { P.in_order polygons.now ≡ polygons_in_order (C.county chart.now) (arrangement_of (C.county chart.now) arrangement.now) }
     requires few_polygons { length (P.in_order polygons.now) < 10 ^ 10 }
+    requires same { HaveSameBodies (C.county chart.now) same.now }
     requires few { length (C.county chart.now).landmarks < 2 ^ 32 }
     ensures { IfOk result (MatchesLandmarks (C.county chart.now) arrangement.now) }
 {
-    let places = places_in_order(alloc, chart, polygons)?;
+    let places = places_in_order(alloc, chart, polygons, same)?;
     let (links, bounds) = links_by_land(alloc, chart, polygons, &places)?;
     Ok(LandmarkTables {
         places,

@@ -25,6 +25,7 @@ mod group_order;
 mod groups;
 mod heads;
 mod key_groups;
+mod landmark_bodies;
 mod landmark_links;
 mod landmark_order;
 mod laws;

@@ -80,7 +80,7 @@ fn links_in_choice<C: Chart>(
         polygons: &tables.polygons,
         order: of.polygons,
     };
-    let landmarks = arrange_landmarks(alloc, chart, &of.choice.chains, &numbers)?;
+    let landmarks = arrange_landmarks(alloc, chart, &of.choice.chains, &numbers, &tables.same)?;
     Ok(landmarks.links)
 }
 

@@ -9,6 +9,7 @@ ghost use Rattle.tl_number.specs.ChoiceSearch.{IsChosen, LeavesChoices};
 ghost use Rattle.tl_number.specs.CriticalPlaces.{AreTieTables, IsOpenOrder, critical_among};
 ghost use Rattle.tl_number.specs.DirectedChains.{HasChainsOf};
 ghost use Rattle.tl_number.specs.EndsAndSides.{nodes_at, polygons_at};
+ghost use Rattle.tl_number.specs.LandmarkItems.{HaveSameBodies};
 ghost use Rattle.tl_number.specs.OpenKeys.{AreOpenKeys, keys_along};
 
 use crate::arranged_tables::{Ends, Sides};
@@ -17,6 +18,7 @@ use crate::critical_places::{
 };
 use crate::first_appearance::links_along;
 use crate::key_groups::PairKeys;
+use crate::landmark_bodies::same_bodies;
 use crate::numbered_arrangement::NumberedArrangement;
 use crate::numbers::Interner;
 use crate::open_keys::{OpenKeys, open_keys, order_of};
@@ -40,6 +42,8 @@ pub(crate) struct TieTables {
     pub(crate) numbers: Vec<usize>,
     /// Whether some landmark has an open polygon.
     pub(crate) linked: bool,
+    /// If some landmark has one, for each landmark the place of one with the same bodies.
+    pub(crate) same: Vec<u32>,
     /// The names, and those whose numbers differ.
     pub(crate) names: OpenNames,
 }
@@ -128,6 +132,21 @@ fn keys_and_places<C: Chart>(
     keys_and_places_of(alloc, order.open_places(), &ends, &sides)
 }
 
+/// If some landmark has an open polygon, for each landmark the place of one with the same bodies.
+fn bodies_if_linked<C: Chart>(
+    alloc: Global,
+    chart: &C,
+    linked: bool,
+) -> Result<Vec<u32>, AllocError>
+    requires { length (C.county chart.now).landmarks < 2 ^ 32 }
+    ensures { IfOk result (λ same. HaveSameBodies (C.county chart.now) same.items) }
+{
+    if linked {
+        return same_bodies(alloc, chart);
+    }
+    Ok(Vec::new(alloc))
+}
+
 /// What is known of all choices of a county, given the order of its chains by their shapes.
 pub(crate) fn tie_tables<C: Chart>(
     alloc: Global,
@@ -141,6 +160,7 @@ pub(crate) fn tie_tables<C: Chart>(
     let (keys, critical) = keys_and_places(alloc, chart, order)?;
     let numbers = critical_polygons(alloc, chart, &keys.polygons)?;
     let linked = has_open_links(chart, &keys.polygons.opened);
+    let same = bodies_if_linked(alloc, chart, linked)?;
     let names = open_names(alloc, chart, order)?;
     Ok(TieTables {
         nodes: keys.nodes,
@@ -149,6 +169,7 @@ pub(crate) fn tie_tables<C: Chart>(
         critical,
         numbers,
         linked,
+        same,
         names,
     })
 }

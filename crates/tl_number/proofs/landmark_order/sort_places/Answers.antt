@@ -7,7 +7,7 @@ use Rattle.tl_number.proofs.landmark_order.sort_places.Goals as goal
 
 pub returns-clause-in_order : goal.returns-clause-in_order
 returns-clause-in_order g c =
-    let county = g.C.Chart.county c.args.chart.now in
+    let county = g.C.Chart.county c.args.known.now.chart.now in
     let links = c.args.lists.now.links.now in
     let count = length c.args.lists.now.bounds.now - 1 in
     in_order-from_sorted (landmark_places_total county links count) c.sort_unstable_by.new.self.items

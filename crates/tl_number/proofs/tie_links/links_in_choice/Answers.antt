@@ -1,5 +1,6 @@
 use Rattle.tl_number.proofs.Common.{◌≡◌, ◌∙◌, ap, sym, subst, AreWhole, arranged_by, arrangement_of, first_open, key_cmp, keys_along, numbered_arrangement, polygons_in_order}
 use Rattle.tl_county.specs.CountyRules.{chain_polygons}
+use Rattle.tl_number.specs.LandmarkItems.{HaveSameBodies}
 use Rattle.tl_number.specs.OpenKeys.{all_by_order}
 use Rattle.tl_number.proofs.Arrangements.PlacesFit.{places_fit}
 use Rattle.tl_number.proofs.Polygons.PolygonOrder.{few_polygons}
@@ -46,6 +47,7 @@ arrange_landmarks-requires g c =
       whole = subst (AreWhole county) (sym chosen) whole;
       polygons = all_ordered g start ∙ ap (λ chains. polygons_in_order county (arrangement_of county chains)) (sym chosen);
       few_polygons = few_polygons county _ is whole (all_by_order key_cmp c.args.tables.now.polygons c.args.of.now.polygons.now) (all_ordered g start);
+      same = subst (HaveSameBodies county) (sym c.deref-2.ensures.value) c.requires.tables.same;
       few = (places_fit county is within c.requires.known.sides).landmarks;
     }
 

@@ -1,4 +1,5 @@
-use Rattle.tl_number.proofs.Common.{ap, arith, length}
+use Rattle.tl_number.proofs.Common.{ap, arith, length, rules}
+use Rattle.tl_number.proofs.Arrangements.PlacesFit.{places_fit}
 use Rattle.tl_number.proofs.Ties.TieNumbers.{few_by_shape, there_by_shape}
 use Rattle.tl_number.proofs.tie_tables.tie_tables.Goals as goal
 
@@ -18,3 +19,19 @@ pub keys_and_places-requires-clause-few : goal.keys_and_places-requires-clause-f
 keys_and_places-requires-clause-few g c =
     few_by_shape (g.C.Chart.county c.args.chart.now) c.args.order.now c.requires (g.met.C.Chart.is_county c.args.chart.now)
     (g.met.C.Chart.within_limits c.args.chart.now)
+
+pub bodies_if_linked-requires : goal.bodies_if_linked-requires
+bodies_if_linked-requires g c = (places_fit (g.C.Chart.county c.args.chart.now) (g.met.C.Chart.is_county c.args.chart.now)
+    (g.met.C.Chart.within_limits c.args.chart.now) c.requires.sides).landmarks
+
+pub returns : goal.returns
+returns g c = record {
+  nodes = search rules;
+  polygons = search rules;
+  names = search rules;
+  opened = search rules;
+  critical = search rules;
+  numbers = search rules;
+  linked = search rules;
+  same = c.in_ok-same.ensures;
+}

@@ -1,5 +1,5 @@
 use Rattle.tl_number.proofs.Common.{arith, length, YieldsList-from_range, items_from_collect}
-use Rattle.tl_number.proofs.landmark_order.all_places.Goals as goal
+use Rattle.tl_number.proofs.landmark_bodies.all_places.Goals as goal
 
 pub returns : goal.returns
 returns g c =

@@ -1,7 +1,7 @@
 use Rattle.tl_number.proofs.Common.{◌≡◌, ◌<◌, ◌≤◌, ◌+◌, suc, List, length, drop, sym, ap₂, ◌∙◌, subst, arith, slice_get, Body7, bodies_at}
 use Rattle.tl_number.proofs.Common.{landmark_body_cmp, option_cmp, slice_cmp}
 use Rattle.tl_number.proofs.Lists.ItemByItem.{agrees_at, differs_at, beginning_less}
-use Rattle.tl_number.proofs.landmark_order.cmp_bodies.Goals as goal
+use Rattle.tl_number.proofs.landmark_bodies.cmp_bodies.Goals as goal
 
 pub returns-in_default : goal.returns-in_default
 returns-in_default g c =
