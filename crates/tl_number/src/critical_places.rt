@@ -69,17 +69,18 @@ fn push_new<G: KeyGroups>(
     alloc: Global,
     places: &[OpenPlace],
     opened: &Interner<G::Item>,
+    met: &mut Interner<G::Item>,
     new: &mut Vec<bool>,
     groups: &G,
 ) -> Result<(), AllocError>
-    requires { new.old.items ≡ [] }
+    requires met { met.old ≡ [] }
+    requires new { new.old.items ≡ [] }
     ensures { OnOk result (new.new.items ≡ map (brings G.Item.cmp places.now opened.now (G.groups groups.now)) (range_with_len 0 (length (G.groups groups.now)))) }
 {
-    let mut met = Interner::new(alloc);
     let mut keys = Vec::new(alloc);
     for place in 0..groups.count() {
         groups.copy_keys(place, &mut keys)?;
-        let here = brings_new(places, opened, &mut met, place, &keys)?;
+        let here = brings_new(places, opened, met, place, &keys)?;
         new.push(here)?;
     }
     Ok(())
@@ -95,7 +96,8 @@ pub(crate) fn new_at_places<G: KeyGroups>(
     ensures { IfOk result (λ new. new.items ≡ map (brings G.Item.cmp places.now opened.now (G.groups groups.now)) (range_with_len 0 (length (G.groups groups.now)))) }
 {
     let mut new = Vec::with_capacity(alloc, groups.count())?;
-    push_new(alloc, places, opened, &mut new, groups)?;
+    let mut met = Interner::new(alloc);
+    push_new(alloc, places, opened, &mut met, &mut new, groups)?;
     Ok(new)
 }
 

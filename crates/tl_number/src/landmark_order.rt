@@ -135,7 +135,10 @@ fn links_by_land<C: Chart, P: PolygonNumbers>(
     ensures bounds { IfOk result (λ lists. lists.1.items ≡ link_bounds lists.0.items (length places.now)) }
 {
     let lands = number_lands(alloc, chart, places)?;
-    let links = links_under(alloc, chart, polygons, &lands, places)?;
+    let links = links_under(alloc, chart, polygons, &lands, places);
+    // One call for the prover, which otherwise reads the drop of each part.
+    drop(lands);
+    let links = links?;
     let bounds = bounds_of(alloc, &links, places.len())?;
     Ok((links, bounds))
 }

@@ -214,7 +214,10 @@ fn least_of_ties<C: Chart>(
     ensures { IfOk result (IsLeastBelow (C.county chart.now) (choices (C.county chart.now))) }
 {
     let tables = tie_tables(alloc, chart, order)?;
-    least_by_tables(alloc, chart, order, &tables, first, other)
+    let number = least_by_tables(alloc, chart, order, &tables, first, other);
+    // One call for the prover, which otherwise reads the drop of each table.
+    drop(tables);
+    number
 }
 
 /// The number of the choice with the least text. Compares nothing if the county leaves no choice.

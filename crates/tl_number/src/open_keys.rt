@@ -83,6 +83,28 @@ fn see_keys<K: Key + Hash + NumericKey>(
     Ok(())
 }
 
+/// Sees the keys of chains, and puts those that first appear at an open place after the open keys.
+fn see_groups<G: KeyGroups>(
+    alloc: Global,
+    places: &[OpenPlace],
+    groups: &G,
+    all: &mut Interner<G::Item>,
+    opened: &mut Vec<G::Item>,
+) -> Result<(), AllocError>
+    requires all { all.old ≡ [] }
+    requires opened { opened.old.items ≡ [] }
+    ensures all { OnOk result (all.new ≡ first_seen G.Item.cmp (grouped (G.groups groups.now))) }
+    ensures opened { OnOk result (opened.new.items ≡ first_open G.Item.cmp places.now (G.groups groups.now)) }
+{
+    let mut keys = Vec::new(alloc);
+    for place in 0..groups.count() {
+        groups.copy_keys(place, &mut keys)?;
+        let at_open = is_open_at(places, place);
+        see_keys(all, opened, at_open, &keys)?;
+    }
+    Ok(())
+}
+
 /// The keys of chains in the order of their first appearance, and those of them that first appear at an open place.
 fn see_along<G: KeyGroups>(
     alloc: Global,
@@ -94,12 +116,7 @@ fn see_along<G: KeyGroups>(
 {
     let mut all = Interner::with_marks(alloc, marks_for(groups.count()))?;
     let mut opened = Vec::new(alloc);
-    let mut keys = Vec::new(alloc);
-    for place in 0..groups.count() {
-        groups.copy_keys(place, &mut keys)?;
-        let at_open = is_open_at(places, place);
-        see_keys(&mut all, &mut opened, at_open, &keys)?;
-    }
+    see_groups(alloc, places, groups, &mut all, &mut opened)?;
     Ok((all, opened))
 }
 
@@ -172,6 +189,24 @@ pub(crate) fn see_opened<K: Key + Hash + NumericKey>(
     Ok(())
 }
 
+/// Sees those of the keys of chains that are open.
+fn see_open_groups<G: KeyGroups>(
+    alloc: Global,
+    opened: &Interner<G::Item>,
+    groups: &G,
+    order: &mut Interner<G::Item>,
+) -> Result<(), AllocError>
+    requires { order.old ≡ [] }
+    ensures { OnOk result (order.new ≡ first_seen G.Item.cmp (filter (λ key. stands_in G.Item.cmp key opened.now) (grouped (G.groups groups.now)))) }
+{
+    let mut keys = Vec::new(alloc);
+    for place in 0..groups.count() {
+        groups.copy_keys(place, &mut keys)?;
+        see_opened(opened, order, &keys)?;
+    }
+    Ok(())
+}
+
 /// The open keys in the order of their first appearance in a choice, given the keys of the chains at its open places.
 pub(crate) fn order_of<G: KeyGroups>(
     alloc: Global,
@@ -181,11 +216,7 @@ pub(crate) fn order_of<G: KeyGroups>(
     ensures { IfOk result (λ order. order ≡ first_seen G.Item.cmp (filter (λ key. stands_in G.Item.cmp key opened.now) (grouped (G.groups groups.now)))) }
 {
     let mut order = Interner::new(alloc);
-    let mut keys = Vec::new(alloc);
-    for place in 0..groups.count() {
-        groups.copy_keys(place, &mut keys)?;
-        see_opened(opened, &mut order, &keys)?;
-    }
+    see_open_groups(alloc, opened, groups, &mut order)?;
     Ok(order)
 }
 

@@ -197,5 +197,8 @@ pub(crate) fn names_of_choice<C: Chart>(
         arrangement: &chains,
     };
     let uses = order_of(alloc, &names.feats.opened, &along)?;
-    names_by_uses(alloc, chart, order, names, choice, &uses)
+    let found = names_by_uses(alloc, chart, order, names, choice, &uses);
+    // One call for the prover, which otherwise reads the drop of each part.
+    drop(uses);
+    found
 }

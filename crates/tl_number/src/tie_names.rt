@@ -181,5 +181,9 @@ pub(crate) fn compare_names<C: Chart>(
         choice: other,
         names: &others,
     };
-    Ok(compare_named(chart, order, tables, &first, &second))
+    let ordering = compare_named(chart, order, tables, &first, &second);
+    // One call each for the prover, which otherwise reads the drop of each part.
+    drop(others);
+    drop(names);
+    Ok(ordering)
 }

@@ -5,7 +5,7 @@ use Rattle.tl_number.proofs.Ties.CriticalNumbers.{brought_here, met_more}
 use Rattle.tl_number.proofs.critical_places.push_new.Goals as goal
 
 pub loop-place-init : goal.loop-place-init
-loop-place-init g c = record { new = c.requires; met = c.new-met.ensures }
+loop-place-init g c = record { new = c.requires.new; met = c.requires.met }
 
 pub copy_keys-requires : goal.copy_keys-requires
 copy_keys-requires g c = omega (arith, c.loop-place-test.true, c.count-place-end.ensures)

@@ -2,8 +2,8 @@ use Rattle.tl_number.proofs.Common.{length, nat_cmp, sym, ap, ◌∙◌, subst, 
 use Rattle.tl_number.proofs.Landmarks.LandmarkOrder.{few_lands, numbered_by_land}
 use Rattle.tl_number.proofs.landmark_order.links_by_land.Goals as goal
 
-pub links_under-requires-clause-few_lands : goal.links_under-requires-clause-few_lands
-links_under-requires-clause-few_lands g c =
+pub links_under-links-requires-clause-few_lands : goal.links_under-links-requires-clause-few_lands
+links_under-links-requires-clause-few_lands g c =
     let fewer = few_lands (slice_get (lands (g.C.Chart.county c.args.chart.now))) c.args.places.now in
     let count = ap length c.in_ok-lands.ensures in
     let few = c.requires.few_places in

@@ -4,8 +4,8 @@ use Rattle.tl_number.specs.OpenNames.{chain_feats, open_feats}
 use Rattle.tl_number.proofs.Ties.NameNumbers.{uses_read}
 use Rattle.tl_number.proofs.open_names.names_of_choice.Goals as goal
 
-pub names_by_uses-requires-clause-uses : goal.names_by_uses-requires-clause-uses
-names_by_uses-requires-clause-uses g c =
+pub names_by_uses-found-requires-clause-uses : goal.names_by_uses-found-requires-clause-uses
+names_by_uses-found-requires-clause-uses g c =
     let county = g.C.Chart.county c.args.chart.now in
     let opened = c.args.names.now.feats.opened in
     let chains = c.deref-2.ensures.value ∙ c.in_ok-chains.ensures ∙ ap₂ at_places (c.deref.ensures.value ∙ c.requires.chosen) c.requires.opened in

@@ -1,6 +1,6 @@
 -- the open keys seen so far, and then those of the remaining chains, are all
 use Rattle.tl_number.proofs.Common.{◌≡◌, drop, filter, first_seen, first_seen_after, grouped, stands_in}
-use Rattle.tl_number.proofs.open_keys.order_of.Given as goal
+use Rattle.tl_number.proofs.open_keys.see_open_groups.Given as goal
 
 abbrev pub invariant-loop-place : goal.invariant-loop-place
 invariant-loop-place g l =

@@ -1,11 +1,11 @@
 use Rattle.tl_number.proofs.Common.{◌<◌, ◌+◌, ◌∙◌, ap, arith, drop, drop_all, filter, first_seen_after, grouped, length, stands_in, sym}
 use Rattle.tl_number.proofs.Ties.SeenGroups.{chosen_more, group_dropped}
-use Rattle.tl_number.proofs.open_keys.order_of.Goals as goal
+use Rattle.tl_number.proofs.open_keys.see_open_groups.Goals as goal
 
 pub loop-place-init : goal.loop-place-init
 loop-place-init g c =
     ap (λ seen. first_seen_after g.G.Item.Ord.cmp seen (filter (λ key. stands_in g.G.Item.Ord.cmp key c.args.opened.now) (grouped (g.G.KeyGroups.groups c.args.groups.now))))
-    c.new-order.ensures
+    c.requires
 
 pub copy_keys-requires : goal.copy_keys-requires
 copy_keys-requires g c = omega (arith, c.loop-place-test.true, c.count-place-end.ensures)

@@ -1,14 +1,14 @@
 use Rattle.tl_number.proofs.Common.{◌<◌, ◌+◌, ◌++◌, ◌∙◌, ap, ap₂, append-nil, arith, IsKeyOrder, drop, drop_all, first_seen_after, grouped, is_open, length, open_keys, sym}
 use Rattle.tl_number.proofs.Ties.SeenGroups.{group_dropped, opened_more, seen_more}
-use Rattle.tl_number.proofs.open_keys.see_along.Goals as goal
+use Rattle.tl_number.proofs.open_keys.see_groups.Goals as goal
 
 pub loop-place-init : goal.loop-place-init
 loop-place-init g c =
     let cmp = g.G.Item.Ord.cmp in
     let groups = g.G.KeyGroups.groups c.args.groups.now in
     record {
-      all = ap (λ seen. first_seen_after cmp seen (grouped groups)) c.in_ok-all.ensures;
-      opened = ap₂ (λ found seen. found ++ open_keys cmp (is_open c.args.places.now) seen 0 groups) c.new-opened.ensures.items c.in_ok-all.ensures;
+      all = ap (λ seen. first_seen_after cmp seen (grouped groups)) c.requires.all;
+      opened = ap₂ (λ found seen. found ++ open_keys cmp (is_open c.args.places.now) seen 0 groups) c.requires.opened c.requires.all;
     }
 
 pub copy_keys-requires : goal.copy_keys-requires
