@@ -1,6 +1,6 @@
 //! What is read once of a county to compare its choices, and what is read of each choice.
 
-ghost use Rattle.std.specs.Prelude.{◌≡◌, ◌<◌, ◌^◌, IfOk, length, map, slice_get};
+ghost use Rattle.std.specs.Prelude.{◌≡◌, ◌<◌, ◌^◌, IfOk, Ok, length, map, slice_get};
 ghost use Rattle.std.specs.Ordering.{nat_cmp};
 ghost use Rattle.ordered_lists.specs.Places.{at_places};
 ghost use Rattle.tl_county.specs.CountyRules.{chain_nodes, chain_polygons};
@@ -147,6 +147,14 @@ fn bodies_if_linked<C: Chart>(
     Ok(Vec::new(alloc))
 }
 
+/// A value, and another one if it could be made. Where it couldn't, the first one is dropped here, in one call for the prover.
+fn both<A: Drop, B: Drop>(first: A, second: Result<B, AllocError>) -> Result<(A, B), AllocError>
+    ensures first { IfOk result (λ pair. pair.0 ≡ first) }
+    ensures second { IfOk result (λ pair. second ≡ Ok pair.1) }
+{
+    Ok((first, second?))
+}
+
 /// What is known of all choices of a county, given the order of its chains by their shapes.
 pub(crate) fn tie_tables<C: Chart>(
     alloc: Global,
@@ -158,10 +166,13 @@ pub(crate) fn tie_tables<C: Chart>(
 {
     let opened = open_among(alloc, order.open_places(), order.by_shape().len())?;
     let (keys, critical) = keys_and_places(alloc, chart, order)?;
-    let numbers = critical_polygons(alloc, chart, &keys.polygons)?;
+    let found = critical_polygons(alloc, chart, &keys.polygons);
     let linked = has_open_links(chart, &keys.polygons.opened);
-    let same = bodies_if_linked(alloc, chart, linked)?;
-    let names = open_names(alloc, chart, order)?;
+    let (keys, numbers) = both(keys, found)?;
+    let bodies = bodies_if_linked(alloc, chart, linked);
+    let (keys, same) = both(keys, bodies)?;
+    let opens = open_names(alloc, chart, order);
+    let (keys, names) = both(keys, opens)?;
     Ok(TieTables {
         nodes: keys.nodes,
         polygons: keys.polygons,
