@@ -3,7 +3,7 @@
 //! These can differ at open places, and at the first fixed place of an open name. At a later fixed place with the same name they can't:
 //! there the name has the same number in both choices, or they differed before.
 
-ghost use Rattle.std.specs.Prelude.{◌≡◌, ◌<◌, ◌^◌, IfOk, length};
+ghost use Rattle.std.specs.Prelude.{◌≡◌, ◌<◌, IfOk, length};
 ghost use Rattle.tl_layout.specs.Numbers.{IsNumber};
 ghost use Rattle.tl_layout.specs.declared.record_type.Record.TheVariants.{Four};
 ghost use Rattle.tl_number.specs.ChoiceSearch.{IsChosen, LeavesChoices};

@@ -9,7 +9,7 @@ use Rattle.tl_number.proofs.Ties.ChoiceRecords.{directed_at, directed_in, ends_r
 use Rattle.tl_number.proofs.Ties.CriticalKeys.{new_of}
 use Rattle.tl_number.proofs.Ties.TopologyOrder.{record_there}
 use Rattle.tl_number.proofs.tie_records.topology_in_choice.Given.{Over}
-use Rattle.tl_number.proofs.tie_records.topology_in_choice.Goals.{After-index-directed, After-topology_there}
+use Rattle.tl_number.proofs.tie_records.topology_in_choice.Goals.{After-index-directed}
 use Rattle.tl_number.proofs.tie_records.topology_in_choice.Goals as goal
 
 -- the choice, whose open keys tell its numbers
