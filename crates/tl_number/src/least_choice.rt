@@ -177,7 +177,7 @@ fn least_among_ties<C: Chart>(
     Ok(kept.number)
 }
 
-/// The same. Makes the choice that is kept.
+/// As `least_among_ties`, but makes the choice that is kept.
 fn least_by_tables<C: Chart>(
     alloc: Global,
     chart: &C,
@@ -198,7 +198,7 @@ fn least_by_tables<C: Chart>(
     least_among_ties(alloc, chart, order, tables, first, &mut kept, other)
 }
 
-/// The same. Makes the tables too.
+/// As `least_by_tables`, but makes the tables.
 fn least_of_ties<C: Chart>(
     alloc: Global,
     chart: &C,

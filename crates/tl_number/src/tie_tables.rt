@@ -147,7 +147,7 @@ fn bodies_if_linked<C: Chart>(
     Ok(Vec::new(alloc))
 }
 
-/// A value, and another one if it could be made. Where it couldn't, the first one is dropped here, in one call for the prover.
+/// A value and another one, if that could be made. If it couldn't, the first is dropped here, in one call for the prover.
 fn both<A: Drop, B: Drop>(first: A, second: Result<B, AllocError>) -> Result<(A, B), AllocError>
     ensures first { IfOk result (λ pair. pair.0 ≡ first) }
     ensures second { IfOk result (λ pair. second ≡ Ok pair.1) }

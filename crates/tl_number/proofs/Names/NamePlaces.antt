@@ -76,7 +76,7 @@ module _ (county : County) (arrangement : List DirectedChain) (is : IsCounty cou
   abbrev Found : ℕ × Body5 → Type 0
   Found e = name_under county e.0 ≡ Some e.1
 
-  -- the FEATs in their new order are those of the county
+  -- the new order has each FEAT of the county
   pub feats_permuted : IsPermutation (feats_in_order county arrangement) (feats county)
   feats_permuted = IsPermutation-map (λ (e : ℕ × Body5). e.0) (names_in_order county order) county.names
       (names_permutation county order is (arranges county arrangement is whole))

@@ -32,7 +32,7 @@ use Rattle.tl_number.proofs.Ties.TieNumbers.{counterparts, kept, order_among, th
 use Rattle.tl_number.proofs.Ties.TieReading.{opened_apart}
 use Rattle.tl_number.proofs.Views.ArrangedViews.{whole_arrangement}
 
--- elements that stand in a list once each, by their places in it
+-- if elements are distinct, the places at which some were read are their places in the list
 places_are : (fs places found : List ℕ) → IsApart nat_cmp fs → AreReadAt fs places found → places ≡ map (place_in nat_cmp fs) found
 places_are fs [] [] apart e = refl
 places_are fs [] (f ∷ fs') apart e = cc

@@ -81,7 +81,7 @@ tied_same (r ∷ rs) (s ∷ ss) f g e = go (four_cmp r s) refl e (tied_same rs s
     go Equal h tie rest = ap₂ (λ x xs. x ∷ xs) (four_exact r s f.0 g.0 h) (rest tie)
     go Greater h tie rest = cc
 
--- a property of all records is one of those of each group
+-- what holds of all records holds of those in each group
 all_there : {X : Type 0} (P : X → Type 0) (F : ℕ → List X) (p count : ℕ) → AllByRecursion P (groups_from F p count)
     → (i : ℕ) → i < count → (q : ℕ) → q ≡ p + i → AllByRecursion P (F q)
 all_there P F p zero all i l q e = absurd (omega (arith, l))
@@ -127,7 +127,7 @@ module _ (county : County) (shapes : OrderOfShapes) (known : LeavesChoices count
       (fours_fit (arranged_by county (chains_in i)) whole.is_county whole.within_limits))
       place (none_past shapes.by_shape place directed e) place (omega arith)
 
-  -- at a fixed place they are those of one chain in all choices, and past the last chain there are none
+  -- the records at a fixed place: all choices have the same chain there, or none past the last chain
   there : (i place : ℕ) → is_open shapes.places place ≡ false → (directed : DirectedChain) (chain : Chain)
       → slice_get shapes.by_shape place ≡ Some directed → directed_chain county directed ≡ Some chain
       → at i place ≡ fours_under (place + 1) (map (number_of i) chain.feats)

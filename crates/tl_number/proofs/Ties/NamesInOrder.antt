@@ -30,7 +30,7 @@ use Rattle.tl_number.proofs.Ties.OpenAmong.{cmp_alike, in_filtered, opened_among
 use Rattle.tl_number.proofs.Views.DirectedChains.{among-get}
 use Rattle.tl_number.proofs.Views.ViewChains.{arranges}
 
--- The FEATs along an arrangement, chain by chain, are those of the arrangement.
+-- Joining the FEATs of all chains gives the FEATs along the arrangement.
 same_feats : (chain : Option Chain) → flat_map chain_feats (option_to_list chain) ≡ feats_of chain
 same_feats None = refl
 same_feats (Some chain) = append-nil chain.feats
@@ -42,7 +42,7 @@ feats_grouped county arrangement =
     ∙ flat_map_agree (λ (directed : DirectedChain). flat_map chain_feats (option_to_list (directed_chain county directed)))
     (λ directed. feats_of (directed_chain county directed)) (λ directed. same_feats (directed_chain county directed)) arrangement
 
--- two ranks that are both a place counted from 1
+-- adding 1 to two numbers doesn't change how they compare
 compare_next : (i j m n : ℕ) → m ≡ 1 + i → n ≡ 1 + j → nat_cmp m n ≡ nat_cmp i j
 compare_next i j m n e f = cmp_alike m n i j (λ t. (omega (arith, e, f, t))) (λ t. (omega (arith, e, f, t))) (λ t. (omega (arith, e, f, t)))
     (λ t. (omega (arith, e, f, t)))

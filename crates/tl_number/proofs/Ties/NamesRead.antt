@@ -13,7 +13,7 @@ use Rattle.tl_number.proofs.Records.Pieces.{numbered_list_at, numbered_list_leng
 use Rattle.tl_number.proofs.Records.RecordPlaces.{four_of}
 use Rattle.tl_number.proofs.Ties.Counterparts.{there_found}
 
--- the places of elements that stand in a list, by the places of its elements in another list
+-- the places at which some elements were read, found among the places at which all were read
 pub read_among : (fs places all : List ℕ) → AreReadAt fs places all → (found : List ℕ) → AllByRecursion (Known nat_cmp all) found
     → AreReadAt fs (at_places places (map (place_in nat_cmp all) found)) found
 read_among fs places all read [] known = refl

@@ -29,7 +29,7 @@ cmp_alike a b c d less less_too more more_too = go (nat_cmp a b) (nat_cmp c d) (
     go Greater Equal m n = absurd (let l = more m in omega (arith, l, n))
     go Greater Greater m n = refl
 
--- how many pass a test is told by the results of the test
+-- how many elements pass a test depends only on its results
 passed : {X : Type 0} (test : X → Bool) (xs : List X) → length (filter test xs) ≡ length (filter (λ (b : Bool). b) (map test xs))
 passed test [] = refl
 passed test (x ∷ xs) = go (test x) (passed test xs)
@@ -40,7 +40,7 @@ passed test (x ∷ xs) = go (test x) (passed test xs)
     go true rest = ap suc rest
     go false rest = rest
 
--- a test that tells alike what two lists have at each place
+-- a test has the same results in two lists if it has at each place
 tested_alike : {X : Type 0} (test : X → Bool) (xs ys : List X) → length xs ≡ length ys
     → ((i : ℕ) (x y : X) → slice_get xs i ≡ Some x → slice_get ys i ≡ Some y → test x ≡ test y) → map test xs ≡ map test ys
 tested_alike test [] [] long same = refl
@@ -49,7 +49,7 @@ tested_alike test (x ∷ xs) [] long same = absurd (omega (arith, long))
 tested_alike test (x ∷ xs) (y ∷ ys) long same =
     ap₂ (λ b bs. b ∷ bs) (same 0 x y refl refl) (tested_alike test xs ys (omega (arith, long)) (λ i u v e f. same (suc i) u v e f))
 
--- Then those that pass stand at the same places, one by one.
+-- Then the i-th elements that pass have one place in both lists.
 passed_there : {X : Type 0} (test : X → Bool) (xs ys : List X) → map test xs ≡ map test ys → (i : ℕ) (x y : X)
     → slice_get (filter test xs) i ≡ Some x → slice_get (filter test ys) i ≡ Some y
     → (n : ℕ) × (slice_get xs n ≡ Some x) × (slice_get ys n ≡ Some y)
@@ -248,7 +248,7 @@ module _ {K : Type 0} {cmp : K → K → Ordering} (o : IsKeyOrder cmp) where
           (λ k h. chosen_false k (out k (known-left o k new closed_behind h)) (is_chosen k) refl)))
           (ih have (λ k h. out k (known-right o k new closed_behind h)))
 
-  -- The keys that first appear at open places are those of all keys that are open, in the same order.
+  -- The keys that first appear at open places, chosen from all keys in the order of their first appearance.
   pub opened_among : (is_open : ℕ → Bool) (along : List (List K)) → open_keys cmp is_open [] 0 along
       ≡ filter (λ k. stands_in cmp k (open_keys cmp is_open [] 0 along)) (first_seen cmp (grouped along))
   opened_among is_open along =

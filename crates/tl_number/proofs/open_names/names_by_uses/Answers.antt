@@ -6,7 +6,7 @@ use Rattle.tl_number.proofs.open_names.names_by_uses.Given.{Over}
 use Rattle.tl_number.proofs.open_names.names_by_uses.Goals.{After-deref-2}
 use Rattle.tl_number.proofs.open_names.names_by_uses.Goals as goal
 
--- the sorted places are those of the open names of the choice with this number
+-- the sorted places have the open names of the choice with this number, in its order
 found : (g : Over) (c : After-deref-2 g) → filter_map (slice_get (feats (g.C.Chart.county c.args.chart.now))) c.deref-2.result.now
     ≡ feats_among c.args.names.now.feats.opened (g.C.Chart.county c.args.chart.now) (numbered_arrangement c.args.order.now c.args.choice.now.number)
 found g c =
