@@ -5,5 +5,6 @@ pub mod TidyChoices
 pub mod MovedChoice
 pub mod FixedPlaces
 pub mod ChosenArrangements
+pub mod SameChoices
 pub mod LeastNumbers
 pub mod LeastOnes

@@ -9,7 +9,7 @@ use Rattle.std.specs.Ordering.{is_lt}
 use Rattle.ordered_lists.proofs.Lists.Reordered.{SameElements, from_permutation, same-map, times-same}
 use Rattle.tl_profile.proofs.ShapePoints.{least_reverse}
 use Rattle.tl_number.proofs.Arrangements.ArrangedCounties.{is_arranged}
-use Rattle.tl_number.proofs.Choices.LeastNumbers.{choices_same}
+use Rattle.tl_number.proofs.Choices.SameChoices.{choices_same}
 use Rattle.tl_number.proofs.Choices.TidyChoices.{numbered_is_choice}
 
 -- points that don't come after their reverse are their shape
