@@ -7,3 +7,4 @@ pub mod TypeOnes
 pub mod RecordTexts
 pub mod TypeOrders
 pub mod GroupOrders
+pub mod SamePoints

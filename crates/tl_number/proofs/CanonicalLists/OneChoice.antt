@@ -9,7 +9,7 @@ use Rattle.tl_number.proofs.Common.{points_cmp, points_from, points_keys, runnin
 use Rattle.ordered_lists.proofs.Lists.EntryLists.{in_order-strict}
 use Rattle.ordered_lists.proofs.Lists.InOrder.{strict-unmap}
 use Rattle.tl_number.specs.Strict.{IsStrict}
-use Rattle.tl_number.proofs.Choices.AscendingArrangement.{turned_same}
+use Rattle.tl_number.proofs.Choices.LesserDirections.{turned_same}
 use Rattle.ordered_lists.proofs.Lists.InOrder.{in_order-unmap}
 use Rattle.tl_number.proofs.Choices.TidyChoices.{choice_number, first_choice}
 use Rattle.tl_number.proofs.CanonicalLists.TidyLists.{tidy_is_choice, not_after_itself}

@@ -1,17 +1,16 @@
 -- All chains in the order of their shapes and places are the ascending arrangement.
-use Rattle.tl_number.proofs.Common.{◌≡◌, ◌<◌, ℕ, List, [], ◌∷◌, map, length, Bool, true, false, Less, Equal, Option, Some, None, option_map}
-use Rattle.tl_number.proofs.Common.{slice_get, is_gt, is_lt, refl, sym, ap, ap₂, ◌∙◌, subst, nat_cmp, reverse, Ordering, AllByRecursion}
-use Rattle.tl_number.proofs.Common.{AreInShapeOrder, Chain, Coordinates, County, DirectedChain, HasChainsOf, IsTotalOrder, all_unmap}
-use Rattle.tl_number.proofs.Common.{arrangement_of, ascending, chain_at, entry_shape, in_order, least_points, on, on_total, option_cmp}
-use Rattle.tl_number.proofs.Common.{ordering_reverse, ordering_then, points_along, points_cmp, points_from, points_keys, points_of}
-use Rattle.tl_number.proofs.Common.{slice_get-map, tlid_at, tlids, turned_if}
+use Rattle.tl_number.proofs.Common.{◌≡◌, ◌<◌, ℕ, List, [], ◌∷◌, map, length, Bool, Less, Equal, Option, Some, None, option_map, slice_get}
+use Rattle.tl_number.proofs.Common.{is_lt, refl, sym, ap, ap₂, ◌∙◌, subst, nat_cmp, reverse, Ordering, AllByRecursion, AreInShapeOrder}
+use Rattle.tl_number.proofs.Common.{Chain, County, DirectedChain, HasChainsOf, IsTotalOrder, all_unmap, arrangement_of, ascending, chain_at}
+use Rattle.tl_number.proofs.Common.{entry_shape, in_order, least_points, on, on_total, option_cmp, ordering_reverse, ordering_then}
+use Rattle.tl_number.proofs.Common.{points_along, points_cmp, points_keys, points_of, slice_get-map, tlid_at, tlids}
 use Rattle.std.proofs.lemmas.Option.{get_or_from_slice_get}
-use Rattle.ordered_lists.proofs.ByKey.KeyedLists.{lt_reversed}
 use Rattle.tl_profile.proofs.Places.{along_from}
 use Rattle.tl_profile.specs.ShapeOrder.{along_shape, directed_cmp}
 use Rattle.tl_number.specs.Arrangement.{comes_turned}
 use Rattle.tl_number.proofs.Lists.SortedPlaces.{sorted_items, each_item, item_places}
 use Rattle.ordered_lists.proofs.Lists.Ranges.{places_below}
+use Rattle.tl_number.proofs.Choices.LesserDirections.{turned_same}
 
 -- an order of optional values with none first
 pub options_total : {X : Type 0} {R : X → X → Ordering} → IsTotalOrder R → IsTotalOrder (option_cmp R)
@@ -37,18 +36,6 @@ options_total {X} {R} o = record { antisymm = antisymm; trans = trans; congr = c
     congr (Some x) None z e = cc
     congr (Some x) (Some y) None e = refl
     congr (Some x) (Some y) (Some z) e = o.congr x y z e
-
--- the reverse comes before the points exactly if the points come after it
-pub turned_same : (ps : List Coordinates) → is_lt (points_cmp (reverse ps) ps) ≡ is_gt (points_cmp ps (reverse ps))
-turned_same ps = lt_reversed (points_cmp (reverse ps) ps) (points_cmp ps (reverse ps)) (points_keys.total.antisymm (reverse ps) ps)
-
--- an entry's shape is the points of its chain in its lesser direction
-pub shape_turned : (entry : ℕ × Chain) → (turned_if (comes_turned entry.1) entry.1).points ≡ entry_shape entry
-shape_turned entry = sym (from_turned (comes_turned entry.1) entry.1) ∙ ap (λ b. points_from b entry.1.points) (sym (turned_same entry.1.points))
-  where
-    from_turned : (b : Bool) (c : Chain) → points_from b c.points ≡ (turned_if b c).points
-    from_turned true c = refl
-    from_turned false c = refl
 
 module _ (county : County) where
   chain_read : (i : ℕ) (x : ℕ × Chain) → slice_get county.chains i ≡ Some x → chain_at county i ≡ Some x.1

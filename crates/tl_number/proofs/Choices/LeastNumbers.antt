@@ -1,14 +1,9 @@
 -- The least of the texts of numbered choices, number by number.
 use Rattle.tl_number.proofs.Common.{◌≡◌, ◌≤◌, ◌+◌, ℕ, nat_lt, List, Bool, true, false, cond, Ordering, is_gt, nat_cmp, refl, sym, ap, ◌∙◌}
-use Rattle.tl_number.proofs.Common.{subst, arith, AllKeysStandIn, AreSame, Arrangement, County, IsChoice, IsCounty, IsLeastBelow}
-use Rattle.tl_number.proofs.Common.{IsLeastFrom, IsLesserTie, IsNotAfter, arranged, choice_list, choices_cmp, ltb-false, ltb-true, not_greater}
-use Rattle.tl_number.proofs.Common.{numbered_choice, polygon_keys, polygons_along, renaming_of, same-symmetric, same-transitive}
-use Rattle.tl_number.proofs.Common.{slice_cmp, text_of, upto}
+use Rattle.tl_number.proofs.Common.{subst, arith, County, IsLeastBelow, IsLeastFrom, IsLesserTie, IsNotAfter, choice_list, choices_cmp}
+use Rattle.tl_number.proofs.Common.{ltb-false, ltb-true, not_greater, slice_cmp, text_of, upto}
 use Rattle.ordered_lists.proofs.ByKey.KeyOrders.{bytes_keys}
-use Rattle.tl_number.proofs.Arrangements.ArrangedCounties.{arranged_county}
-use Rattle.tl_number.proofs.Arrangements.Carrying.{arrangement_carries}
 use Rattle.tl_number.proofs.Choices.Choosing.{one_more}
-use Rattle.tl_number.proofs.Choices.TidyChoices.{numbered_is_choice}
 use Rattle.tl_number.proofs.CanonicalLists.TidyLists.{not_after_itself}
 
 module _ (county : County) where
@@ -61,25 +56,3 @@ module _ (county : County) where
       go : (b : Bool) → nat_lt m from ≡ b → IsNotAfter (choice_list county old) (choice_list county m)
       go true e = below m (ltb-true m from e)
       go false e = not_after_both old first m upper (among m (ltb-false m from e) l)
-
-module _ (county : County) (is : IsCounty county) where
-  -- the counties of two choices are the same
-  module _ (sides : AllKeysStandIn (polygons_along county.chains) (polygon_keys county)) where
-    same_by : (arrangement : Arrangement) → IsChoice county arrangement → AreSame county (arranged county arrangement)
-    same_by arrangement choice = record {
-      by = renaming_of county arrangement;
-      carries = arrangement_carries county arrangement is choice.arranges sides;
-    }
-
-    county_by : (arrangement : Arrangement) → IsChoice county arrangement → IsCounty (arranged county arrangement)
-    county_by arrangement choice = arranged_county county arrangement is choice.arranges sides
-
-    pub choices_same : (n m : ℕ) → AreSame (arranged county (numbered_choice county n)) (arranged county (numbered_choice county m))
-    choices_same n m =
-        let a = numbered_is_choice county is n in
-        let b = numbered_is_choice county is m in
-        same-transitive (arranged county (numbered_choice county n)) county (arranged county (numbered_choice county m))
-        (county_by (numbered_choice county n) a) is
-        (same-symmetric county (arranged county (numbered_choice county n)) is (county_by (numbered_choice county n) a)
-        (same_by (numbered_choice county n) a))
-        (same_by (numbered_choice county m) b)

@@ -16,7 +16,8 @@ use Rattle.tl_number.proofs.Choices.ChosenArrangements.{arrangement_of_number_th
 use Rattle.tl_number.proofs.Choices.Choosing.{one_more}
 use Rattle.tl_number.proofs.Texts.GroupOrders.{records_total}
 use Rattle.tl_number.proofs.Choices.FixedPlaces.{agree_both}
-use Rattle.tl_number.proofs.Choices.LeastNumbers.{choices_same, lesser_of}
+use Rattle.tl_number.proofs.Choices.LeastNumbers.{lesser_of}
+use Rattle.tl_number.proofs.Choices.SameChoices.{choices_same}
 use Rattle.tl_number.proofs.Texts.SameChains.{arranged_by_same}
 use Rattle.tl_number.proofs.Choices.TidyChoices.{numbered_is_choice}
 use Rattle.tl_number.proofs.CanonicalLists.TidyLists.{not_after_itself}

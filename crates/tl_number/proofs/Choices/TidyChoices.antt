@@ -15,7 +15,7 @@ use Rattle.ordered_lists.proofs.Lists.Reordered.{from_permutation}
 use Rattle.tl_profile.proofs.Factorials.{running-same}
 use Rattle.tl_number.specs.Arrangement.{comes_turned}
 use Rattle.tl_number.specs.Tidy.{directed_shape, turned_directed, numbered_choice}
-use Rattle.tl_number.proofs.Choices.AscendingArrangement.{shape_turned, turned_same}
+use Rattle.tl_number.proofs.Choices.LesserDirections.{shape_turned, turned_same}
 use Rattle.tl_number.proofs.Arrangements.Carrying.{chains_arranged}
 use Rattle.tl_number.proofs.Choices.Choosing.{IsChosen, permutation_of_times, chosen_is_choice, choice_has_number, first_stated}
 use Rattle.tl_number.proofs.Arrangements.Placed.{arrangement_known, one_chain}

@@ -17,7 +17,7 @@ use Rattle.tl_layout.specs.RecordTypes.{fields_spelling}
 use Rattle.tl_number.specs.ChoiceSearch.{LeavesChoices}
 use Rattle.tl_number.specs.CriticalKeys.{brings}
 use Rattle.tl_number.specs.OpenNames.{chain_feats, fours_at, fours_of, fours_under, is_named, named_among}
-use Rattle.tl_number.proofs.Choices.LeastNumbers.{choices_same}
+use Rattle.tl_number.proofs.Choices.SameChoices.{choices_same}
 use Rattle.tl_number.proofs.Landmarks.LandmarkOrder.{cmp_mapped}
 use Rattle.tl_number.proofs.Lists.Counting.{flat_map-map}
 use Rattle.tl_number.proofs.Records.Grouped.{grouped_map, none_past}

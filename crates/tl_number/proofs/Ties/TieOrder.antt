@@ -13,7 +13,7 @@ use Rattle.tl_number.specs.RecordOrder.{types_8_to_p_cmp}
 use Rattle.tl_number.specs.TiedRecords.{AreTiedRecords}
 use Rattle.tl_number.specs.declared.tie_records.TiedRecords.{TiedRecords}
 use Rattle.tl_number.specs.declared.tie_tables.TieTables.{TieTables}
-use Rattle.tl_number.proofs.CanonicalLists.SameShapes.{twos_of_numbers}
+use Rattle.tl_number.proofs.Texts.SamePoints.{twos_of_numbers}
 use Rattle.tl_number.proofs.Landmarks.BodiesFirst.{same_landmarks}
 use Rattle.tl_number.proofs.Names.ContentFirst.{same_type_5}
 use Rattle.tl_number.proofs.Texts.GroupOrders.{same_groups}
