@@ -20,6 +20,7 @@ ghost use Rattle.tl_number.specs.OpenKeys.{is_open, open_among as open_places_am
 use crate::key_groups::KeyGroups;
 use crate::numbers::{Interner, NumericKey};
 use crate::open_keys::{OpenKeys, has_key, is_open_at, see_opened};
+use crate::pairing::if_done;
 use ordered_lists::Key;
 use std::alloc::{AllocError, Global};
 use std::hash::Hash;
@@ -97,8 +98,10 @@ pub(crate) fn new_at_places<G: KeyGroups>(
 {
     let mut new = Vec::with_capacity(alloc, groups.count())?;
     let mut met = Interner::new(alloc);
-    push_new(alloc, places, opened, &mut met, &mut new, groups)?;
-    Ok(new)
+    let pushed = push_new(alloc, places, opened, &mut met, &mut new, groups);
+    // One call for the prover, which otherwise reads the drop of each part.
+    drop(met);
+    if_done(new, pushed)
 }
 
 /// Whether a place is marked.
