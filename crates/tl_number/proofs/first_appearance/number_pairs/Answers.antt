@@ -1,4 +1,4 @@
-use Rattle.tl_number.proofs.Common.{◌≡◌, ◌∙◌, IfOk, List, Ok, OnOk, Err, Result, flat_map, length, map, ap, arith, changed_both, first_seen, keys_at, subst, sym, take-append_seam}
+use Rattle.tl_number.proofs.Common.{◌≡◌, ◌∙◌, IfOk, Ok, OnOk, Err, Result, flat_map, length, map, ap, arith, changed_both, first_seen, keys_at, subst, sym, take-append_seam}
 use Rattle.tl_number.proofs.first_appearance.number_pairs.Goals as goal
 
 -- what holds of a value once this is done, where it is the result

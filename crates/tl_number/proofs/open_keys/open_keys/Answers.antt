@@ -1,4 +1,4 @@
-use Rattle.tl_number.proofs.Common.{◌∙◌, ap, IsKeyOrder, has_repeat-apart, is_open, map, place_in, subst, sym, IsApart, ◌≡◌}
+use Rattle.tl_number.proofs.Common.{◌∙◌, IsKeyOrder, has_repeat-apart, is_open, map, place_in, subst, sym, IsApart, ◌≡◌}
 use Rattle.std.proofs.lemmas.Result.{IfOk-at_ok}
 use Rattle.tl_number.proofs.Ties.TieReading.{opened_apart}
 use Rattle.tl_number.proofs.open_keys.open_keys.Goals as goal
