@@ -7,19 +7,21 @@
 
 ghost use Rattle.std.specs.List.{list_any, range_with_len};
 ghost use Rattle.std.specs.Option.{option_and_then};
-ghost use Rattle.std.specs.Prelude.{◌≡◌, ◌&&◌, ◌||◌, ◌++◌, ◌+◌, ◌<◌, ◌^◌, [], ℕ, suc, IfOk, OnOk, cond, false, filter, get_or, is_some, length, map, not, option_to_list};
+ghost use Rattle.std.specs.Prelude.{◌≡◌, ◌&&◌, ◌||◌, ◌∷◌, ◌++◌, ◌+◌, ◌<◌, ◌^◌, [], ℕ, suc, IfOk, OnOk, cond, false, filter, get_or, is_some, length, map, not, option_to_list};
 ghost use Rattle.ordered_lists.specs.Orders.{stands_in};
 ghost use Rattle.tl_county.specs.ChartWords.{links_at, polygon_under};
 ghost use Rattle.tl_county.specs.County.{link_key};
 ghost use Rattle.tl_county.specs.PolygonKeys.{key_cmp};
 ghost use Rattle.tl_number.specs.CriticalKeys.{brings, has_new};
 ghost use Rattle.tl_number.specs.CriticalPlaces.{critical_from, has_open_link};
+ghost use Rattle.tl_number.specs.Groups.{group_at};
 ghost use Rattle.tl_number.specs.Growth.{first_seen_after};
 ghost use Rattle.tl_number.specs.OpenKeys.{is_open, open_among as open_places_among};
 
 use crate::key_groups::KeyGroups;
 use crate::numbers::{Interner, NumericKey};
 use crate::open_keys::{OpenKeys, has_key, is_open_at, see_opened};
+use crate::pairing::if_done;
 use ordered_lists::Key;
 use std::alloc::{AllocError, Global};
 use std::hash::Hash;
@@ -64,6 +66,28 @@ fn brings_new<K: Key + Hash + NumericKey>(
     Ok(new)
 }
 
+/// Appends whether the chain at a place has an open key that no fixed place before it has. Meets the open keys of a fixed place. The chain's
+/// keys are copied into `keys`.
+fn push_at<G: KeyGroups>(
+    places: &[OpenPlace],
+    opened: &Interner<G::Item>,
+    met: &mut Interner<G::Item>,
+    new: &mut Vec<bool>,
+    groups: &G,
+    place: usize,
+    keys: &mut Vec<G::Item>,
+) -> Result<(), AllocError>
+    requires { place < length (G.groups groups.now) }
+    ensures new { OnOk result (new.new.items ≡ new.old.items ++ has_new G.Item.cmp opened.now met.old (group_at (G.groups groups.now) place) ∷ []) }
+    ensures met { OnOk result (met.new ≡ first_seen_after G.Item.cmp met.old
+        (cond (is_open places.now place) [] (filter (λ key. stands_in G.Item.cmp key opened.now) (group_at (G.groups groups.now) place)))) }
+{
+    groups.copy_keys(place, keys)?;
+    let here = brings_new(places, opened, met, place, keys)?;
+    new.push(here)?;
+    Ok(())
+}
+
 /// Appends, for each chain in the order of shapes, whether it has an open key that no fixed place before it has.
 fn push_new<G: KeyGroups>(
     alloc: Global,
@@ -79,9 +103,7 @@ fn push_new<G: KeyGroups>(
 {
     let mut keys = Vec::new(alloc);
     for place in 0..groups.count() {
-        groups.copy_keys(place, &mut keys)?;
-        let here = brings_new(places, opened, met, place, &keys)?;
-        new.push(here)?;
+        push_at(places, opened, met, new, groups, place, &mut keys)?;
     }
     Ok(())
 }
@@ -97,8 +119,10 @@ pub(crate) fn new_at_places<G: KeyGroups>(
 {
     let mut new = Vec::with_capacity(alloc, groups.count())?;
     let mut met = Interner::new(alloc);
-    push_new(alloc, places, opened, &mut met, &mut new, groups)?;
-    Ok(new)
+    let pushed = push_new(alloc, places, opened, &mut met, &mut new, groups);
+    // One call for the prover, which otherwise reads the drop of each part.
+    drop(met);
+    if_done(new, pushed)
 }
 
 /// Whether a place is marked.

@@ -16,6 +16,7 @@ ghost use Rattle.tl_number.specs.ViewFacts.{AreWhole, MatchesNodes, arranged_by}
 use crate::arranged_tables::{Ends, NodeTables, Sides};
 use crate::directed_readers::{ends_of_directed, sides_of_directed};
 use crate::numbers::{Interner, NumericKey, marks_for};
+use crate::pairing::if_done;
 use ordered_lists::Key;
 use std::alloc::{AllocError, Global};
 use std::hash::Hash;
@@ -166,8 +167,8 @@ pub(crate) fn number_pairs<T: Half>(
 {
     let mut pairs = pairs;
     let mut numbers = Interner::with_marks(alloc, marks_for(pairs.len()))?;
-    see_pairs(&mut numbers, &mut pairs)?;
-    Ok((numbers, pairs))
+    let seen = see_pairs(&mut numbers, &mut pairs);
+    if_done((numbers, pairs), seen)
 }
 
 /// The nodes and the polygons of a county in the order of their first appearance along these directed chains, start before end and left

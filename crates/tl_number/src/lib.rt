@@ -40,6 +40,7 @@ mod open_keys;
 mod open_names;
 mod open_ranges;
 mod other_places;
+mod pairing;
 mod polygon_order;
 mod polygon_records;
 mod record_eq;

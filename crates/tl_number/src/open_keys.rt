@@ -4,14 +4,15 @@
 //! direction. So a key has one number in all choices, unless it first appears at an open place. The keys that do exchange their numbers:
 //! in each choice they have these numbers in the order of their first appearance.
 
-ghost use Rattle.std.specs.Prelude.{◌≡◌, ◌++◌, ◌∷◌, [], IfOk, OnOk, cond, filter, length, map};
-ghost use Rattle.ordered_lists.specs.Orders.{stands_in};
+ghost use Rattle.std.specs.Prelude.{◌≡◌, ◌++◌, ◌∷◌, [], IfOk, OnOk, cond, false, filter, length, map};
+ghost use Rattle.ordered_lists.specs.Orders.{has_repeat, stands_in};
 ghost use Rattle.tl_number.specs.Groups.{grouped};
 ghost use Rattle.tl_number.specs.Growth.{first_seen, first_seen_after};
 ghost use Rattle.tl_number.specs.OpenKeys.{AreOpenKeys, first_open, is_open, key_by_order, newly_seen, place_by_order, place_in};
 
 use crate::key_groups::KeyGroups;
 use crate::numbers::{Interner, NumericKey, marks_for};
+use crate::pairing::{both, if_done};
 use ordered_lists::Key;
 use std::alloc::{AllocError, Global};
 use std::hash::Hash;
@@ -116,8 +117,8 @@ fn see_along<G: KeyGroups>(
 {
     let mut all = Interner::with_marks(alloc, marks_for(groups.count()))?;
     let mut opened = Vec::new(alloc);
-    see_groups(alloc, places, groups, &mut all, &mut opened)?;
-    Ok((all, opened))
+    let seen = see_groups(alloc, places, groups, &mut all, &mut opened);
+    if_done((all, opened), seen)
 }
 
 /// The place of a key in a list of keys, or the length of the list.
@@ -143,6 +144,21 @@ pub(crate) fn places_among<K: Key + Hash + NumericKey>(
         .collect(alloc)
 }
 
+/// Keys numbered in their order, and their places among all keys.
+fn numbers_and_places<K: Key + Hash + NumericKey>(
+    alloc: Global,
+    all: &Interner<K>,
+    keys: &[K],
+) -> Result<(Interner<K>, Vec<usize>), AllocError>
+    requires { has_repeat K.cmp keys.now ≡ false }
+    ensures opened { IfOk result (λ made. made.0 ≡ keys.now) }
+    ensures places { IfOk result (λ made. made.1.items ≡ map (place_in K.cmp all.now) keys.now) }
+{
+    let places = places_among(alloc, all, keys)?;
+    let opened = Interner::of_distinct(alloc, keys)?;
+    Ok((opened, places))
+}
+
 /// The keys of all chains in the order of their shapes.
 pub(crate) fn open_keys<G: KeyGroups>(
     alloc: Global,
@@ -152,8 +168,8 @@ pub(crate) fn open_keys<G: KeyGroups>(
     ensures { IfOk result (AreOpenKeys G.Item.cmp places.now (G.groups groups.now)) }
 {
     let (all, keys) = see_along(alloc, places, groups)?;
-    let opened = Interner::of_distinct(alloc, &keys)?;
-    let places = places_among(alloc, &all, &keys)?;
+    let made = numbers_and_places(alloc, &all, &keys);
+    let (all, (opened, places)) = both(all, made)?;
     Ok(OpenKeys {
         all,
         opened,

@@ -4,21 +4,23 @@
 //! before or behind each name that first appears at a fixed place. So a name has one number in all choices unless it first appears at an
 //! open place, and in each choice those that do have the same numbers in their order.
 
-ghost use Rattle.std.specs.Prelude.{◌≡◌, ◌<◌, ◌^◌, IfOk, filter, length, map, slice_get};
+ghost use Rattle.std.specs.Prelude.{◌≡◌, ◌<◌, ◌^◌, IfOk, false, filter, length, map, slice_get};
 ghost use Rattle.std.specs.Ordering.{nat_cmp};
-ghost use Rattle.ordered_lists.specs.Orders.{stands_in};
+ghost use Rattle.ordered_lists.specs.Orders.{has_repeat, stands_in};
 ghost use Rattle.ordered_lists.specs.Places.{at_places};
 ghost use Rattle.tl_number.specs.ChoiceSearch.{IsChosen, LeavesChoices};
 ghost use Rattle.tl_number.specs.NameItems.{ranked_at};
-ghost use Rattle.tl_number.specs.OpenKeys.{keys_along, open_among};
+ghost use Rattle.tl_number.specs.OpenKeys.{keys_along, open_among, place_in};
 ghost use Rattle.tl_number.specs.OpenNames.{AreNamesAt, AreOpenFeats, AreOpenNames, chain_feats, feats_among, named_among, open_feats};
 
+use crate::arranged_tables::NameTables;
 use crate::critical_places::{critical_places, new_at_places};
 use crate::key_groups::FeatKeys;
 use crate::name_order::{RankedName, arrange_names, number_feats, ranked_name, sorted_places};
 use crate::numbered_arrangement::NumberedArrangement;
 use crate::numbers::Interner;
 use crate::open_keys::{OpenKeys, has_key, open_keys, order_of, places_among};
+use crate::pairing::both;
 use crate::tie_tables::chains_at;
 use std::alloc::{AllocError, Global};
 use tl_county::Chart;
@@ -78,6 +80,25 @@ fn open_uses<C: Chart>(
     Ok(uses.opened)
 }
 
+/// The open names among these, given their FEATs in any order: their FEATs in the order of the names, their places among the names, and
+/// their places in the county.
+fn open_among_names(
+    alloc: Global,
+    names: &NameTables,
+    uses: &Interner<u32>,
+) -> Result<(Interner<u32>, Vec<usize>, Vec<u32>), AllocError>
+    requires { has_repeat nat_cmp names.now.feats ≡ false }
+    ensures opened { IfOk result (λ made. made.0 ≡ filter (λ key. stands_in nat_cmp key uses.now) names.now.feats) }
+    ensures places { IfOk result (λ made. made.1.items ≡ map (place_in nat_cmp names.now.feats) made.0) }
+    ensures county { IfOk result (λ made. made.2.items ≡ at_places names.now.places.items made.1.items) }
+{
+    let found = opened_among(alloc, uses, names.feats.keys())?;
+    let places = places_among(alloc, &names.feats, &found)?;
+    let places_in_county = elements_at(alloc, &names.places, &places)?;
+    let opened = Interner::of_distinct(alloc, &found)?;
+    Ok((opened, places, places_in_county))
+}
+
 /// The FEATs of all names in their order, and those of the open ones, given the latter in any order.
 fn feats_of_open<C: Chart>(
     alloc: Global,
@@ -91,10 +112,8 @@ fn feats_of_open<C: Chart>(
     ensures places { IfOk result (λ made. AreNamesAt (C.county chart.now) made.0.opened made.1.items) }
 {
     let names = arrange_names(alloc, chart, order.by_shape())?;
-    let found = opened_among(alloc, uses, names.feats.keys())?;
-    let opened = Interner::of_distinct(alloc, &found)?;
-    let places = places_among(alloc, &names.feats, &found)?;
-    let places_in_county = elements_at(alloc, &names.places, &places)?;
+    let made = open_among_names(alloc, &names, uses);
+    let (names, (opened, places, places_in_county)) = both(names, made)?;
     let feats = OpenKeys {
         all: names.feats,
         opened,
@@ -132,8 +151,11 @@ pub(crate) fn open_names<C: Chart>(
     ensures { IfOk result (AreOpenNames (C.county chart.now) order.now) }
 {
     let uses = open_uses(alloc, chart, order)?;
-    let (feats, places) = feats_of_open(alloc, chart, order, &uses)?;
-    let critical = critical_names(alloc, chart, order, &feats.opened)?;
+    let made = feats_of_open(alloc, chart, order, &uses);
+    drop(uses);
+    let (feats, places) = made?;
+    let critical = critical_names(alloc, chart, order, &feats.opened);
+    let ((feats, places), critical) = both((feats, places), critical)?;
     Ok(OpenNames {
         feats,
         places,

@@ -1,7 +1,8 @@
 //! What is read once of a county to compare its choices, and what is read of each choice.
 
-ghost use Rattle.std.specs.Prelude.{◌≡◌, ◌<◌, ◌^◌, IfOk, Ok, length, map, slice_get};
+ghost use Rattle.std.specs.Prelude.{◌≡◌, ◌<◌, ◌^◌, IfOk, filter, length, map, slice_get};
 ghost use Rattle.std.specs.Ordering.{nat_cmp};
+ghost use Rattle.ordered_lists.specs.Orders.{stands_in};
 ghost use Rattle.ordered_lists.specs.Places.{at_places};
 ghost use Rattle.tl_county.specs.CountyRules.{chain_nodes, chain_polygons};
 ghost use Rattle.tl_county.specs.PolygonKeys.{key_cmp};
@@ -9,6 +10,8 @@ ghost use Rattle.tl_number.specs.ChoiceSearch.{IsChosen, LeavesChoices};
 ghost use Rattle.tl_number.specs.CriticalPlaces.{AreTieTables, IsOpenOrder, critical_among};
 ghost use Rattle.tl_number.specs.DirectedChains.{HasChainsOf};
 ghost use Rattle.tl_number.specs.EndsAndSides.{nodes_at, polygons_at};
+ghost use Rattle.tl_number.specs.Groups.{grouped};
+ghost use Rattle.tl_number.specs.Growth.{first_seen};
 ghost use Rattle.tl_number.specs.LandmarkItems.{HaveSameBodies};
 ghost use Rattle.tl_number.specs.OpenKeys.{AreOpenKeys, keys_along};
 
@@ -23,6 +26,7 @@ use crate::numbered_arrangement::NumberedArrangement;
 use crate::numbers::Interner;
 use crate::open_keys::{OpenKeys, open_keys, order_of};
 use crate::open_names::{OpenNames, open_names};
+use crate::pairing::both;
 use std::alloc::{AllocError, Global};
 use tl_county::{Chart, DirectedChain, PolygonKey};
 use tl_profile::{OpenPlace, ShapeOrder};
@@ -73,7 +77,8 @@ fn keys_of_both(
     ensures polygons { IfOk result (λ keys. AreOpenKeys key_cmp places.now (map polygons_at sides.now) keys.polygons) }
 {
     let nodes = open_keys(alloc, places, &PairKeys(ends))?;
-    let polygons = open_keys(alloc, places, &PairKeys(sides))?;
+    let polygons = open_keys(alloc, places, &PairKeys(sides));
+    let (nodes, polygons) = both(nodes, polygons)?;
     Ok(BothKeys { nodes, polygons })
 }
 
@@ -111,8 +116,8 @@ fn keys_and_places_of(
         made.0.polygons.opened (map polygons_at sides.now) (length ends.now)) }
 {
     let keys = keys_of_both(alloc, places, ends, sides)?;
-    let critical = critical_along(alloc, places, &keys, ends, sides)?;
-    Ok((keys, critical))
+    let critical = critical_along(alloc, places, &keys, ends, sides);
+    both(keys, critical)
 }
 
 /// The keys of a county and its critical places.
@@ -145,14 +150,6 @@ fn bodies_if_linked<C: Chart>(
         return same_bodies(alloc, chart);
     }
     Ok(Vec::new(alloc))
-}
-
-/// A value and another one, if that could be made. If it couldn't, the first is dropped here, in one call for the prover.
-fn both<A: Drop, B: Drop>(first: A, second: Result<B, AllocError>) -> Result<(A, B), AllocError>
-    ensures first { IfOk result (λ pair. pair.0 ≡ first) }
-    ensures second { IfOk result (λ pair. second ≡ Ok pair.1) }
-{
-    Ok((first, second?))
 }
 
 /// What is known of all choices of a county, given the order of its chains by their shapes.
@@ -206,6 +203,24 @@ pub(crate) fn chains_at(
         .collect(alloc)
 }
 
+/// The open keys in the order of a choice, given the ends and the sides of the chains at its open places.
+fn order_of_both(
+    alloc: Global,
+    tables: &TieTables,
+    ends: &[Ends],
+    sides: &[Sides],
+) -> Result<OpenOrder, AllocError>
+    ensures nodes { IfOk result (λ order. order.nodes
+        ≡ first_seen nat_cmp (filter (λ key. stands_in nat_cmp key tables.now.nodes.opened) (grouped (map nodes_at ends.now)))) }
+    ensures polygons { IfOk result (λ order. order.polygons
+        ≡ first_seen key_cmp (filter (λ key. stands_in key_cmp key tables.now.polygons.opened) (grouped (map polygons_at sides.now)))) }
+{
+    let nodes = order_of(alloc, &tables.nodes.opened, &PairKeys(ends))?;
+    let polygons = order_of(alloc, &tables.polygons.opened, &PairKeys(sides));
+    let (nodes, polygons) = both(nodes, polygons)?;
+    Ok(OpenOrder { nodes, polygons })
+}
+
 /// The open keys in the order of a choice.
 pub(crate) fn open_order<C: Chart>(
     alloc: Global,
@@ -221,7 +236,5 @@ pub(crate) fn open_order<C: Chart>(
 {
     let chains = chains_at(alloc, &choice.chains, &tables.opened)?;
     let (ends, sides) = links_along(alloc, chart, &chains)?;
-    let nodes = order_of(alloc, &tables.nodes.opened, &PairKeys(&ends))?;
-    let polygons = order_of(alloc, &tables.polygons.opened, &PairKeys(&sides))?;
-    Ok(OpenOrder { nodes, polygons })
+    order_of_both(alloc, tables, &ends, &sides)
 }

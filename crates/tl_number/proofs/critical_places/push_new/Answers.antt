@@ -7,8 +7,8 @@ use Rattle.tl_number.proofs.critical_places.push_new.Goals as goal
 pub loop-place-init : goal.loop-place-init
 loop-place-init g c = record { new = c.requires.new; met = c.requires.met }
 
-pub copy_keys-requires : goal.copy_keys-requires
-copy_keys-requires g c = omega (arith, c.loop-place-test.true, c.count-place-end.ensures)
+pub push_at-requires : goal.push_at-requires
+push_at-requires g c = omega (arith, c.loop-place-test.true, c.count-place-end.ensures)
 
 pub loop-place-preserved : goal.loop-place-preserved
 loop-place-preserved g c =
@@ -16,18 +16,17 @@ loop-place-preserved g c =
     let o : IsKeyOrder cmp = record { total = g.met.G.Item.Ord.total; exact = g.met.G.Item.Key.exact } in
     let along = g.G.KeyGroups.groups c.args.groups.now in
     let place = c.loop-place.place in
-    let keys = c.deref.result.now in
+    let keys = group_at along place in
     let within : place < length along = omega (arith, c.loop-place-test.true, c.count-place-end.ensures) in
-    let some = slice_get-get_or along place (group_at along place) within in
-    let there : slice_get along place ≡ Some keys =
-    some ∙ ap Some (sym (ap (λ g. unwrap_or g []) some)) ∙ ap Some (sym (c.deref.ensures.value ∙ c.in_ok-copy_keys.ensures)) in
+    let some = slice_get-get_or along place keys within in
+    let there : slice_get along place ≡ Some keys = some ∙ ap Some (sym (ap (λ g. unwrap_or g []) some)) in
     record {
-      new = c.in_ok-push.ensures.items
+      new = c.in_ok-push_at.ensures.new
           ∙ ap₂ (λ marks mark. marks ++ (mark ∷ [])) c.loop-place.invariant.new
-          (c.in_ok-here.ensures.new ∙ brought_here o c.args.places.now c.args.opened.now along place keys c.loop-place.met there c.loop-place.invariant.met)
+          (brought_here o c.args.places.now c.args.opened.now along place keys c.loop-place.met there c.loop-place.invariant.met)
           ∙ sym (map-range_with_len_more (brings cmp c.args.places.now c.args.opened.now along) 0 place place (omega arith));
-      met = met_more o c.args.places.now c.args.opened.now along place keys c.loop-place.met c.brings_new.new.met there
-          c.loop-place.invariant.met c.in_ok-here.ensures.met;
+      met = met_more o c.args.places.now c.args.opened.now along place keys c.loop-place.met c.push_at.new.met there
+          c.loop-place.invariant.met c.in_ok-push_at.ensures.met;
     }
 
 pub returns : goal.returns

@@ -1,4 +1,4 @@
-use Rattle.tl_number.proofs.Common.{◌≡◌, ◌<◌, ◌∙◌, ap, ap₂, sym, subst, AllByRecursion, DirectedChain, IsOpenOrder, ends_of, filter, first_seen, grouped, key_cmp, key_keys, keys_along, length, map}
+use Rattle.tl_number.proofs.Common.{◌≡◌, ◌<◌, ◌∙◌, ap, ap₂, sym, subst, AllByRecursion, DirectedChain, Err, IfOk, IsOpenOrder, Ok, Result, ends_of, filter, first_seen, grouped, key_cmp, key_keys, keys_along, length, map}
 use Rattle.tl_number.proofs.Common.{nat_cmp, nat_keys, nodes_at, numbered_arrangement, sides_of, stands_in}
 use Rattle.ordered_lists.specs.Places.{at_places}
 use Rattle.tl_county.specs.CountyRules.{chain_nodes, chain_polygons}
@@ -25,6 +25,11 @@ links_along-requires g c =
     (whole_numbered county c.args.order.now c.requires.known (g.met.C.Chart.is_county c.args.chart.now) (g.met.C.Chart.within_limits c.args.chart.now)
     c.args.choice.now.number).there (open_among c.args.order.now.places (length c.args.order.now.by_shape)))
 
+-- what follows of a value from two facts, where there is one
+from_both : {X E : Type 0} {P Q R : X → Type 0} (r : Result X E) → ((x : X) → P x → Q x → R x) → IfOk r P → IfOk r Q → IfOk r R
+from_both (Ok x) f p q = f x p q
+from_both (Err e) f p q = tt
+
 pub returns : goal.returns
 returns g c =
     let county = g.C.Chart.county c.args.chart.now in
@@ -33,17 +38,21 @@ returns g c =
     let is = g.met.C.Chart.is_county c.args.chart.now in
     let within = g.met.C.Chart.within_limits c.args.chart.now in
     let before = (goal.at.returns g c).After-deref-3 in
-    let nodes = order_is county shapes c.requires.known is within nat_keys chain_nodes turned_nodes n c.args.tables.now.nodes.opened c.in_ok-nodes.nodes
-    c.requires.tables.nodes.opened (c.in_ok-nodes.ensures
-    ∙ ap (λ keys. first_seen nat_cmp (filter (λ key. stands_in nat_cmp key c.args.tables.now.nodes.opened) keys))
+    let opened = c.args.tables.now in
+    let nodes_read = ap (λ keys. first_seen nat_cmp (filter (λ key. stands_in nat_cmp key opened.nodes.opened) keys))
     (ap (λ l. grouped (map nodes_at l)) c.deref-4.ensures.value
     ∙ ap grouped (read_keys county ends_of nodes_at c.in_ok-ends.ends.items c.deref-3.result.now c.in_ok-ends.ensures.ends
-    ∙ ap (keys_along chain_nodes county) (chains_are g before)))) in
-    let polygons = order_is county shapes c.requires.known is within key_keys chain_polygons turned_polygons n c.args.tables.now.polygons.opened c.in_ok-polygons.polygons
-    c.requires.tables.polygons.opened (c.in_ok-polygons.ensures
-    ∙ ap (λ keys. first_seen key_cmp (filter (λ key. stands_in key_cmp key c.args.tables.now.polygons.opened) keys))
+    ∙ ap (keys_along chain_nodes county) (chains_are g before))) in
+    let polygons_read = ap (λ keys. first_seen key_cmp (filter (λ key. stands_in key_cmp key opened.polygons.opened) keys))
     (ap (λ l. grouped (map polygons_at l)) c.deref-5.ensures.value
     ∙ ap grouped (read_keys county sides_of polygons_at c.in_ok-ends.sides.items c.deref-3.result.now c.in_ok-ends.ensures.sides
-    ∙ ap (keys_along chain_polygons county) (chains_are g before)))) in
-    subst (λ chains. IsOpenOrder county shapes chains (record { nodes = c.in_ok-nodes.nodes; polygons = c.in_ok-polygons.polygons }))
-    (sym c.requires.chosen) (record { nodes = nodes; polygons = polygons })
+    ∙ ap (keys_along chain_polygons county) (chains_are g before))) in
+    from_both {R = IsOpenOrder county shapes c.args.choice.now.chains.items} c.order_of_both.result
+    (λ order nodes polygons. subst (λ chains. IsOpenOrder county shapes chains order) (sym c.requires.chosen)
+    (record {
+      nodes = order_is county shapes c.requires.known is within nat_keys chain_nodes turned_nodes n opened.nodes.opened order.nodes
+          c.requires.tables.nodes.opened (nodes ∙ nodes_read);
+      polygons = order_is county shapes c.requires.known is within key_keys chain_polygons turned_polygons n opened.polygons.opened order.polygons
+          c.requires.tables.polygons.opened (polygons ∙ polygons_read);
+    }))
+    c.order_of_both.ensures.nodes c.order_of_both.ensures.polygons
