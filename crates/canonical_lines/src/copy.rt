@@ -1,7 +1,7 @@
 //! Appending a line in canonical spelling, with the version 2006.
 
 ghost use Rattle.canonical_lines.specs.SpeltLine.{with_version};
-ghost use Rattle.std.specs.Prelude.{◌≡◌, ◌≤◌, [], ◌∷◌, ◌++◌, length, OnOk};
+ghost use Rattle.std.specs.Prelude.{◌≡◌, ◌≤◌, ◌⊎◌, [], ◌∷◌, ◌++◌, length, OnOk, OnErr};
 
 use std::alloc::AllocError;
 use tl_layout::{LONGEST_LINE, reserve_ahead};
@@ -19,12 +19,14 @@ fn put_version(line: &mut [u8])
 ///
 /// # Errors
 ///
-/// `AllocError` if an allocation failed.
+/// `AllocError` if an allocation failed. The line may then have been appended without its LF.
 #[inline(always)]
 pub fn copy_line(text: &mut Vec<u8>, line: &[u8]) -> Result<(), AllocError>
     requires some { 5 ≤ length line.now }
     requires most { length line.now ≤ LONGEST_LINE }
-    ensures { OnOk result (text.new.items ≡ text.old.items ++ (with_version line.now ++ 10 ∷ [])) }
+    ensures ok { OnOk result (text.new.items ≡ text.old.items ++ (with_version line.now ++ 10 ∷ [])) }
+    // The text is as before, or lacks only the LF.
+    ensures err { OnErr result ((text.new.items ≡ text.old.items) ⊎ (text.new.items ≡ text.old.items ++ with_version line.now)) }
 {
     reserve_ahead(text, line.len() + 1);
     let start = text.len();

@@ -2,7 +2,7 @@
 
 ghost use Rattle.std.specs.Option.{option_and_then};
 ghost use Rattle.std.specs.Ordering.{nat_cmp};
-ghost use Rattle.std.specs.Prelude.{◌≡◌, ◌<◌, ◌≤◌, Some, length, is_some, IfSome, option_map, slice_get, take};
+ghost use Rattle.std.specs.Prelude.{◌≡◌, ◌<◌, ◌≤◌, Some, true, false, length, is_some, IfSome, option_map, slice_get, take};
 ghost use Rattle.tl_county.specs.ChartWords.{bodies_at, chain_at, feats_of, links_at, name_at, points_of, polygon_at, ranges_of, bodies_under, chain_under, links_under, name_under, polygon_under};
 ghost use Rattle.tl_county.specs.County.{County};
 ghost use Rattle.tl_county.specs.CountyRules.{IsCounty, feats, lands, nodes, polygon_keys, tlids};
@@ -335,21 +335,27 @@ pub trait Chart {
 
     /// The place of the chain with this TLID, or the number of chains if no chain has it.
     final fn chain_place_or_end(&self, tlid: u64) -> usize
-        ensures { chain_at (county self.now) result ≡ chain_under (county self.now) tlid }
+        ensures chain { chain_at (county self.now) result ≡ chain_under (county self.now) tlid }
+        ensures found { stands_in nat_cmp tlid (tlids (county self.now)) ≡ true → slice_get (tlids (county self.now)) result ≡ Some tlid }
+        ensures end { stands_in nat_cmp tlid (tlids (county self.now)) ≡ false → result ≡ length (county self.now).chains }
     {
         self.chain_place(tlid).unwrap_or(self.chain_count())
     }
 
     /// The place of the name with this FEAT, or the number of names if no name has it.
     final fn name_place_or_end(&self, feat: u32) -> usize
-        ensures { name_at (county self.now) result ≡ name_under (county self.now) feat }
+        ensures name { name_at (county self.now) result ≡ name_under (county self.now) feat }
+        ensures found { stands_in nat_cmp feat (feats (county self.now)) ≡ true → slice_get (feats (county self.now)) result ≡ Some feat }
+        ensures end { stands_in nat_cmp feat (feats (county self.now)) ≡ false → result ≡ length (county self.now).names }
     {
         self.name_place(feat).unwrap_or(self.name_count())
     }
 
     /// The place of the polygon with this key, or the number of polygons if no polygon has it.
     final fn polygon_place_or_end(&self, key: PolygonKey) -> usize
-        ensures { polygon_at (county self.now) result ≡ polygon_under (county self.now) key }
+        ensures polygon { polygon_at (county self.now) result ≡ polygon_under (county self.now) key }
+        ensures found { stands_in key_cmp key (polygon_keys (county self.now)) ≡ true → slice_get (polygon_keys (county self.now)) result ≡ Some key }
+        ensures end { stands_in key_cmp key (polygon_keys (county self.now)) ≡ false → result ≡ length (county self.now).polygons }
     {
         self.polygon_place(key).unwrap_or(self.polygon_count())
     }
@@ -358,6 +364,8 @@ pub trait Chart {
     final fn landmark_place_or_end(&self, land: u64) -> usize
         ensures bodies { bodies_at (county self.now) result ≡ bodies_under (county self.now) land }
         ensures links { links_at (county self.now) result ≡ links_under (county self.now) land }
+        ensures found { stands_in nat_cmp land (lands (county self.now)) ≡ true → slice_get (lands (county self.now)) result ≡ Some land }
+        ensures end { stands_in nat_cmp land (lands (county self.now)) ≡ false → result ≡ length (county self.now).landmarks }
     {
         self.landmark_place(land).unwrap_or(self.landmark_count())
     }

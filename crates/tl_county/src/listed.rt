@@ -3,7 +3,7 @@
 ghost use Rattle.std.specs.Bool.{Decides};
 ghost use Rattle.std.specs.Cmp.Lexicographic.{slice_cmp};
 ghost use Rattle.std.specs.List.{AllByRecursion};
-ghost use Rattle.std.specs.Prelude.{◌≡◌, ◌++◌, OnOk};
+ghost use Rattle.std.specs.Prelude.{◌≡◌, ◌++◌, ℕ, OnOk, OnErr, take};
 
 use std::alloc::AllocError;
 use std::cmp::Ordering;
@@ -209,7 +209,9 @@ pub fn compare<T: Ord + Drop, A: Listed<Item = T>, B: Listed<Item = T>>(a: &A, b
 pub fn push_all<L: Listed>(items: &mut Vec<L::Item>, list: &L) -> Result<(), AllocError>
 where
     L::Item: Drop,
-    ensures { OnOk result (items.new.items ≡ items.old.items ++ L.items list.now) }
+    ensures ok { OnOk result (items.new.items ≡ items.old.items ++ L.items list.now) }
+    // What was there stays in front, and only a beginning of the list follows it.
+    ensures err { OnErr result ((count : ℕ) × (items.new.items ≡ items.old.items ++ take count (L.items list.now))) }
 {
     for place in 0..list.count() {
         items.push(list.item(place))?;

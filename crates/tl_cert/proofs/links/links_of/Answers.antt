@@ -8,7 +8,7 @@ use Rattle.tl_cert.proofs.links.links_of.Goals as goal
 pub loop-place-preserved : goal.loop-place-preserved
 loop-place-preserved g c =
     let county = g.C.Chart.county c.args.chart.now in
-    c.in_ok-push_all.ensures ∙ ap (λ links. links ++ links_at county c.loop-place.place) c.loop-place.invariant
+    c.in_ok-push_all.ensures.ok ∙ ap (λ links. links ++ links_at county c.loop-place.place) c.loop-place.invariant
     ∙ next_land county.links (lands county) c.loop-place.place
 
 pub returns : goal.returns

@@ -23,5 +23,5 @@ returns g c =
     (decides_over c.is_same_chain.result (chain_at b c.chain_place_or_end-other.result) (chain_under b (image nat_cmp r.chains tlid))
     (chain_carried r a (record { place = c.args.place; turned = c.is_turned.result }))
     (chain_carried r a (record { place = c.args.place; turned = turns r tlid }))
-    (c.chain_place_or_end-other.ensures ∙ ap (chain_under b) c.tlid.ensures)
+    (c.chain_place_or_end-other.ensures.chain ∙ ap (chain_under b) c.tlid.ensures)
     (ap (λ turned. chain_carried r a (record { place = c.args.place; turned = turned })) c.is_turned.ensures) c.is_same_chain.ensures)
