@@ -23,11 +23,11 @@ pub(crate) const FIRST: &str = "FIRST";
 /// The argument that names the second set.
 pub(crate) const SECOND: &str = "SECOND";
 
-/// The program's version, its canonical form, and the prover that it was proved with.
+/// The program's version, its canonical form, and the logic that it was proved in, which several kits have.
 const VERSION: &str = "\
 0.1.0
 canonical form: tigercanon form 1
-proved with: rattle-kit-13f logic dac8208d650f15bf";
+proved with: rattle, logic dac8208d650f15bf";
 
 /// The end of the program's help.
 const EXAMPLES: &str = "\
