@@ -10,6 +10,7 @@ pub mod Landmarks
 pub mod Polygons
 pub mod Masks
 pub mod Records
+pub mod Results
 pub mod Texts
 pub mod Ties
 pub mod Common

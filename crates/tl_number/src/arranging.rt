@@ -19,6 +19,7 @@ use crate::landmark_order::arrange_landmarks;
 use crate::least_choice::least_arrangement;
 use crate::name_order::arrange_names;
 use crate::numbers::Interner;
+use crate::pairing::both;
 use crate::polygon_order::arrange_nodes_and_polygons;
 use std::alloc::{AllocError, Global};
 use std::marker::PhantomData;
@@ -66,12 +67,8 @@ fn arrange_tables<C: Chart>(
     ensures landmarks { IfOk result (λ tables. MatchesLandmarks (C.county chart.now) arrangement.now tables.3) }
 {
     let (nodes, polygons) = arrange_nodes_and_polygons(alloc, chart, arrangement)?;
-    let (names, landmarks) = arrange_names_and_landmarks(
-        alloc,
-        chart,
-        arrangement,
-        &polygons.numbers,
-    )?;
+    let others = arrange_names_and_landmarks(alloc, chart, arrangement, &polygons.numbers);
+    let ((nodes, polygons), (names, landmarks)) = both((nodes, polygons), others)?;
     Ok((nodes, polygons, names, landmarks))
 }
 

@@ -14,6 +14,7 @@ ghost use Rattle.tl_number.specs.Growth.{first_seen_after};
 ghost use Rattle.tl_number.specs.PlacedKeys.{AreApart, ArePlaced, found_by_either};
 
 use crate::other_places::OtherPlaces;
+use crate::pairing::if_done;
 use ordered_lists::Key;
 use std::alloc::{AllocError, Global};
 use std::hash::Hash;
@@ -331,8 +332,8 @@ impl<K: Key + Hash + NumericKey> Interner<K> {
         ensures { IfOk result (λ numbers. numbers ≡ keys.now) }
     {
         let mut numbers = Interner::with_marks(alloc, marks_for(keys.len()))?;
-        numbers.see_all(&keys)?;
-        Ok(numbers)
+        let seen = numbers.see_all(&keys);
+        if_done(numbers, seen)
     }
 
     /// The key at a place, counted from 0, or `None` past the end.

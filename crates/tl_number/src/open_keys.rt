@@ -232,8 +232,8 @@ pub(crate) fn order_of<G: KeyGroups>(
     ensures { IfOk result (λ order. order ≡ first_seen G.Item.cmp (filter (λ key. stands_in G.Item.cmp key opened.now) (grouped (G.groups groups.now)))) }
 {
     let mut order = Interner::new(alloc);
-    see_open_groups(alloc, opened, groups, &mut order)?;
-    Ok(order)
+    let seen = see_open_groups(alloc, opened, groups, &mut order);
+    if_done(order, seen)
 }
 
 /// The place of a key in a choice, given the open keys in its order.

@@ -152,6 +152,7 @@ pub(crate) fn open_names<C: Chart>(
 {
     let uses = open_uses(alloc, chart, order)?;
     let made = feats_of_open(alloc, chart, order, &uses);
+    // One call for the prover, which otherwise reads the drop of each part.
     drop(uses);
     let (feats, places) = made?;
     let critical = critical_names(alloc, chart, order, &feats.opened);

@@ -1,11 +1,6 @@
-use Rattle.tl_number.proofs.Common.{◌≡◌, ◌∙◌, IfOk, Ok, OnOk, Err, Result, flat_map, length, map, ap, arith, changed_both, first_seen, keys_at, subst, sym, take-append_seam}
+use Rattle.tl_number.proofs.Common.{◌≡◌, ◌∙◌, flat_map, length, map, ap, arith, changed_both, first_seen, keys_at, take-append_seam}
+use Rattle.tl_number.proofs.Results.{of_done}
 use Rattle.tl_number.proofs.first_appearance.number_pairs.Goals as goal
-
--- what holds of a value once this is done, where it is the result
-of_done : {X E F : Type 0} (P : X → Type 0) (Q : Type 0) (done : Result (Unit {0}) F) (r : Result X E) {value : X} → (Q → P value)
-    → IfOk r (λ kept. kept ≡ value) → OnOk r (done ≡ Ok tt) → OnOk done Q → IfOk r P
-of_done P Q done (Ok x) known is ok holds = subst P (sym is) (known (subst (λ r. OnOk r Q) ok holds))
-of_done P Q done (Err e) known is ok holds = tt
 
 pub returns-clause-numbers : goal.returns-clause-numbers
 returns-clause-numbers g c =

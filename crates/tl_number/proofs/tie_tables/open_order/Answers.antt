@@ -1,9 +1,10 @@
-use Rattle.tl_number.proofs.Common.{◌≡◌, ◌<◌, ◌∙◌, ap, ap₂, sym, subst, AllByRecursion, DirectedChain, Err, IfOk, IsOpenOrder, Ok, Result, ends_of, filter, first_seen, grouped, key_cmp, key_keys, keys_along, length, map}
+use Rattle.tl_number.proofs.Common.{◌≡◌, ◌<◌, ◌∙◌, ap, ap₂, sym, subst, AllByRecursion, DirectedChain, IsOpenOrder, ends_of, filter, first_seen, grouped, key_cmp, key_keys, keys_along, length, map}
 use Rattle.tl_number.proofs.Common.{nat_cmp, nat_keys, nodes_at, numbered_arrangement, sides_of, stands_in}
 use Rattle.ordered_lists.specs.Places.{at_places}
 use Rattle.tl_county.specs.CountyRules.{chain_nodes, chain_polygons}
 use Rattle.tl_number.specs.EndsAndSides.{polygons_at}
 use Rattle.tl_number.specs.OpenKeys.{open_among}
+use Rattle.tl_number.proofs.Results.{from_both}
 use Rattle.tl_number.proofs.Ties.TieNumbers.{order_is, whole_numbered}
 use Rattle.tl_number.proofs.Ties.TieReading.{all_there, read_keys}
 use Rattle.tl_number.proofs.Ties.TopologyOrder.{turned_nodes, turned_polygons}
@@ -24,11 +25,6 @@ links_along-requires g c =
     (all_there (λ (directed : DirectedChain). directed.place < length county.chains) (numbered_arrangement c.args.order.now c.args.choice.now.number)
     (whole_numbered county c.args.order.now c.requires.known (g.met.C.Chart.is_county c.args.chart.now) (g.met.C.Chart.within_limits c.args.chart.now)
     c.args.choice.now.number).there (open_among c.args.order.now.places (length c.args.order.now.by_shape)))
-
--- what follows of a value from two facts, where there is one
-from_both : {X E : Type 0} {P Q R : X → Type 0} (r : Result X E) → ((x : X) → P x → Q x → R x) → IfOk r P → IfOk r Q → IfOk r R
-from_both (Ok x) f p q = f x p q
-from_both (Err e) f p q = tt
 
 pub returns : goal.returns
 returns g c =
