@@ -1,15 +1,14 @@
 -- The respelling of a set of parts, and its first faulty line.
 use Rattle.std.specs.Prelude.{◌≡◌, ℕ, List}
 use Rattle.tl_layout.specs.declared.record_type.Record.{Record}
-use Rattle.tl_layout.specs.declared.record_type.TheConstants.{MOST_RECORDS}
 use Rattle.tl_layout.specs.RecordText.{text_of}
 use Rattle.tl_load.specs.declared.fault.LoadFault.{LoadFault}
 use Rattle.tl_load.specs.Choice.{tiger}
-use Rattle.tl_load.specs.Outcome.{SpellsWithin, FaultAt}
+use Rattle.tl_load.specs.Outcome.{SpellsWithin, FaultAt, most_records}
 
 -- the most records of one type that a set may have
 abbrev pub record_limit : ℕ
-record_limit = MOST_RECORDS
+record_limit = most_records
 
 -- the parts spell records, and the text is their canonical spelling, each followed by LF
 pub record IsRespelt (parts : List (List ℕ)) (text : List ℕ) : Type 0 where

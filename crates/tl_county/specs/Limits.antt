@@ -12,7 +12,6 @@ use Rattle.tl_layout.specs.Tables.{HoldsByType}
 use Rattle.tl_layout.specs.Type1Groups.{FitsBody1}
 use Rattle.tl_layout.specs.RecordTypes.{Type5, Type7, TypeI, TypeP, FitsFields}
 use Rattle.tl_layout.specs.declared.record_type.Record.{Record}
-use Rattle.tl_layout.specs.declared.record_type.TheConstants.{MOST_RECORDS}
 use Rattle.tl_layout.specs.declared.tables.Tables.{Tables}
 use Rattle.tl_layout.specs.declared.type5.Body5.{Body5}
 use Rattle.tl_layout.specs.declared.type7.Body7.{Body7}
@@ -22,9 +21,9 @@ use Rattle.tl_shape.specs.Chain.{Chain}
 use Rattle.tl_county.specs.County.{County}
 use Rattle.tl_county.specs.Packing.{inner_points, packed}
 
--- the most records of one type in a set
+-- the most records of one type in a set, the same number as for a loader
 abbrev pub most_records : ℕ
-most_records = MOST_RECORDS
+most_records = 10000000
 
 -- the greatest RTSQ, so also the most records of each of the types 2, 4 and 6 that a chain can have
 abbrev pub greatest_rtsq : ℕ

@@ -5,11 +5,10 @@ use Rattle.tl_load.proofs.Common.{All-nil, AreCounted, Eight, Five, Four, I, One
 use Rattle.tl_load.proofs.Common.{count_of, eq-eqb, is_line_feed, le-leb, length-replicate, lt-leb, ne_eqb}
 use Rattle.std.proofs.lemmas.List.{length-set, get_or-set_same, get_or-set_other, get_or-replicate}
 use Rattle.tl_layout.specs.RecordText.{type_of}
-use Rattle.tl_load.specs.Outcome.{with_record}
+use Rattle.tl_load.specs.Outcome.{most_records, with_record}
 use Rattle.tl_load.specs.Choice.{tiger}
 use Rattle.tl_load.specs.Keeping.{IsLoader, total}
 use Rattle.tl_load.proofs.Reading.{count_push}
-use Rattle.tl_layout.specs.declared.record_type.TheConstants.{MOST_RECORDS}
 use Rattle.tl_load.specs.declared.fault.LoadFault.TheVariants as faults
 
 tiger_rtype : (r : Record) → tiger.rtype r ≡ type_of r
@@ -104,7 +103,7 @@ no_count t low = get_or-replicate {A = ℕ} 128 t 0 0 low
 pub none_counted : AreCounted (replicate 128 0) []
 none_counted t low = no_count t low
 
-pub empty_loader : (limit : ℕ) → limit ≤ MOST_RECORDS → IsLoader (replicate 128 0) [] 0 0 limit
+pub empty_loader : (limit : ℕ) → limit ≤ most_records → IsLoader (replicate 128 0) [] 0 0 limit
 empty_loader limit low = record {
   counts_len = length-replicate {A = ℕ} 128 0;
   within = λ t lt. omega (arith, no_count t lt);
@@ -117,6 +116,6 @@ empty_loader limit low = record {
 
 -- ---- the number of records is bounded
 
-pub most_records : (counts : List ℕ) (unfinished : List ℕ) (parts judged limit : ℕ) → IsLoader counts unfinished parts judged limit
+pub few_records : (counts : List ℕ) (unfinished : List ℕ) (parts judged limit : ℕ) → IsLoader counts unfinished parts judged limit
     → total counts ≤ 90000000
-most_records counts unfinished parts judged limit l = search rules
+few_records counts unfinished parts judged limit l = search rules

@@ -7,6 +7,10 @@ use Rattle.tl_load.specs.declared.fault.LoadFault.TheVariants as faults
 use Rattle.tl_load.specs.Places.{PlacedLine, placed_lines}
 use Rattle.tl_load.specs.Verdicts.{Judge, fault_at}
 
+-- the most records of one type in a set
+abbrev pub most_records : ℕ
+most_records = 10000000
+
 -- how many of the records have this type
 abbrev pub count_of : {R : Type 0} → Judge R → ℕ → List R → ℕ
 count_of judge rtype records = count_by (λ r. judge.rtype r == rtype) records

@@ -6,7 +6,7 @@ ghost use Rattle.tl_layout.specs.declared.record_type.Record.{Record};
 ghost use Rattle.tl_layout.specs.RecordText.{FitsRecord};
 ghost use Rattle.tl_load.specs.Choice.{tiger};
 ghost use Rattle.tl_load.specs.Loaded.{FedPart, IsNotDevice, is_device, IsOfLines, IsFaultHowever, IsWellAfter, WasFed, all_parts};
-ghost use Rattle.tl_load.specs.Outcome.{SpellsWithin, FaultAt};
+ghost use Rattle.tl_load.specs.Outcome.{SpellsWithin, FaultAt, most_records};
 ghost use Rattle.tl_load.specs.Sources.{Gave, StopsThere};
 
 use crate::fault::LoadFault;
@@ -38,7 +38,7 @@ impl Model for Loader {
 impl Loader {
     /// Makes a loader without input. It accepts at most 10,000,000 records of each type. This takes no memory.
     pub fn new(alloc: Global) -> Loader
-        ensures fed { WasFed MOST_RECORDS result [] [] }
+        ensures fed { WasFed most_records result [] [] }
         ensures parts { result.parts ≡ 0 }
         ensures fault { result.fault ≡ None }
     {
@@ -49,7 +49,7 @@ impl Loader {
     /// memory.
     pub fn with_limit(alloc: Global, limit: u64) -> Loader
         requires some { 1 ≤ limit }
-        requires most { limit ≤ MOST_RECORDS }
+        requires most { limit ≤ most_records }
         ensures fed { WasFed limit result [] [] }
         ensures parts { result.parts ≡ 0 }
         ensures fault { result.fault ≡ None }

@@ -9,7 +9,7 @@ ghost use Rattle.tl_load.specs.Choice.{tiger, judged};
 ghost use Rattle.tl_load.specs.Keeping.{WasFedInto, HasSome, IsSamePart, Lifts, bytes_used};
 ghost use Rattle.tl_load.specs.Lines.{IsWithoutLineFeed};
 ghost use Rattle.tl_load.specs.Loaded.{FedPart, IsNotDevice, is_device, IsOfLines, IsFaultHowever, IsWellAfter, all_parts};
-ghost use Rattle.tl_load.specs.Outcome.{SpellsWithin, FaultAt};
+ghost use Rattle.tl_load.specs.Outcome.{SpellsWithin, FaultAt, most_records};
 ghost use Rattle.tl_load.specs.Sources.{Gave, StopsThere};
 ghost use Rattle.tl_load.specs.Steps.{Takes, Ends, Closes, ReadsPart, TakesWell, with_fault};
 
@@ -67,7 +67,7 @@ fn no_counts() -> [u64; 128]
 impl<K: Collector> LoaderFor<K> {
     /// Makes a loader without input. It accepts at most 10,000,000 records of each type. This takes no memory.
     pub fn new(alloc: Global) -> LoaderFor<K>
-        ensures fed { WasFedInto K.holds MOST_RECORDS result [] [] }
+        ensures fed { WasFedInto K.holds most_records result [] [] }
         ensures parts { result.parts ≡ 0 }
         ensures fault { result.fault ≡ None }
     {
@@ -78,7 +78,7 @@ impl<K: Collector> LoaderFor<K> {
     /// memory.
     pub fn with_limit(alloc: Global, limit: u64) -> LoaderFor<K>
         requires some { 1 ≤ limit }
-        requires most { limit ≤ MOST_RECORDS }
+        requires most { limit ≤ most_records }
         ensures fed { WasFedInto K.holds limit result [] [] }
         ensures parts { result.parts ≡ 0 }
         ensures fault { result.fault ≡ None }

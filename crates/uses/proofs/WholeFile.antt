@@ -6,9 +6,8 @@ use Rattle.std.proofs.lemmas.List.Folds.{concat-append}
 use Rattle.std.specs.List.{concat}
 use Rattle.tl_load.specs.Choice.{tiger}
 use Rattle.tl_load.specs.Loaded.{IsFaultHowever}
-use Rattle.tl_load.specs.Outcome.{FaultAt}
+use Rattle.tl_load.specs.Outcome.{FaultAt, most_records}
 use Rattle.tl_load.specs.declared.fault.LoadFault.{LoadFault}
-use Rattle.tl_layout.specs.declared.record_type.TheConstants.{MOST_RECORDS}
 
 -- the bytes of the pieces
 abbrev pub bytes_of : List (Bor (List ℕ)) → List (List ℕ)
@@ -32,11 +31,11 @@ whole_so_far pieces i d within =
 
 -- the fault after some pieces is the fault of the whole file
 pub fault_of_whole : (pieces : List (Bor (List ℕ))) (i : ℕ) (d : Bor (List ℕ)) (f : LoadFault) → i < length pieces
-    → IsFaultHowever MOST_RECORDS [] (whole (take i pieces) ++ (get_or pieces i d).now) f → FaultAt tiger MOST_RECORDS (whole pieces ∷ []) f
+    → IsFaultHowever most_records [] (whole (take i pieces) ++ (get_or pieces i d).now) f → FaultAt tiger most_records (whole pieces ∷ []) f
 fault_of_whole pieces i d f within however =
     let rest : List ℕ = whole (drop (i + 1) pieces) in
     let all : (whole (take i pieces) ++ (get_or pieces i d).now) ++ rest ≡ whole pieces =
     ap (λ bytes. bytes ++ rest) (whole_so_far pieces i d within)
     ∙ whole_of_two (take (i + 1) pieces) (drop (i + 1) pieces)
     ∙ ap whole (take-append-drop (i + 1) pieces) in
-    subst (λ p. FaultAt tiger MOST_RECORDS (p ∷ []) f) all (however rest [])
+    subst (λ p. FaultAt tiger most_records (p ∷ []) f) all (however rest [])

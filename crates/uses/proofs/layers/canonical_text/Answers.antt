@@ -1,7 +1,6 @@
 use Rattle.std.proofs.Common.{◌∷◌, [], List, ℕ, Result, Ok, Err, IfOk, append-nil, subst, sym}
-use Rattle.tl_layout.specs.declared.record_type.TheConstants.{MOST_RECORDS}
 use Rattle.tl_load.specs.Choice.{tiger}
-use Rattle.tl_load.specs.Outcome.{SpellsWithin}
+use Rattle.tl_load.specs.Outcome.{SpellsWithin, most_records}
 use Rattle.uses.proofs.layers.canonical_text.Goals as goal
 
 if_ok : {T E : Type 0} {P Q : T → Type 0} (r : Result T E) → ((x : T) → P x → Q x) → IfOk r P → IfOk r Q
@@ -19,7 +18,7 @@ returns c =
       records = records;
       canonical = _;
       spelled =
-          subst (λ (file : List ℕ). SpellsWithin tiger MOST_RECORDS (file ∷ []) records) (append-nil c.args.file.now) c.in_ok-records.ensures.loaded;
+          subst (λ (file : List ℕ). SpellsWithin tiger most_records (file ∷ []) records) (append-nil c.args.file.now) c.in_ok-records.ensures.loaded;
       canonical_of = c.in_ok-canon.ensures;
       text_is = sym same;
     }) c.text_in_memory-text.ensures

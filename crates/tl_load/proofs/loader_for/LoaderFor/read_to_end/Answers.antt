@@ -1,7 +1,7 @@
 use Rattle.std.proofs.Common.{◌≡◌, ℕ, ◌≤◌, ◌<◌, [], ◌++◌, length, take, refl, sym, ap, subst, ◌∙◌, arith}
 use Rattle.tl_load.proofs.Common.{Consumes, IsWithoutLineFeed, LINE_BYTES, MOST_BYTES, RoseBy, bytes_used, err_from_is_err_and}
 use Rattle.tl_load.proofs.Common.{length-append, length-take, seen}
-use Rattle.tl_load.proofs.Counts.{most_records}
+use Rattle.tl_load.proofs.Counts.{few_records}
 use Rattle.tl_load.proofs.ReadSteps.{gave_none, gave_more, gave_same}
 use Rattle.tl_load.proofs.Steps.{takes_none, takes_both, reads_closed, reads_fault}
 use Rattle.tl_load.proofs.loader_for.LoaderFor.read_to_end.Goals as goal
@@ -11,7 +11,7 @@ loop-count-init g c =
     let s = c.self.inside in
     let most : bytes_used c.args.self.now ≤ MOST_BYTES =
     rw (← c.self.view_is)
-    (omega (arith, most_records s.counts s.line.items s.parts s.judged s.limit c.self.invariant, c.self.invariant.short)) in
+    (omega (arith, few_records s.counts s.line.items s.parts s.judged s.limit c.self.invariant, c.self.invariant.short)) in
     let none : IsWithoutLineFeed c.args.self.now.unfinished = rw (← c.self.view_is) c.self.invariant.no_feed in
     let short : length c.args.self.now.unfinished ≤ LINE_BYTES = rw (← c.self.view_is) (omega (arith, c.self.invariant.short)) in
     record {
