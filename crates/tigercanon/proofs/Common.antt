@@ -51,8 +51,8 @@ pub use Rattle.tl_load.specs.Outcome.{SpellsWithin}
 pub use Rattle.tl_load.specs.Sources.{Gave, RoseBy}
 pub use Rattle.tl_load.specs.declared.fault.LoadFault.{LoadFault}
 pub use Rattle.tl_load.specs.declared.fault.LoadFault.TheVariants.{Device}
-pub use Rattle.tl_number.proofs.CanonicalLists.Accepted.{one_canonical_same, plain_sight}
-pub use Rattle.tl_number.proofs.Masks.MaskedSights.{masked_sight}
-pub use Rattle.tl_number.specs.Sights.{IsSight, plain}
+pub use Rattle.canonical_form.proofs.CanonicalLists.Accepted.{one_canonical_same, plain_sight}
+pub use Rattle.canonical_form.proofs.Masks.MaskedSights.{masked_sight}
+pub use Rattle.canonical_form.specs.Sights.{IsSight, plain}
 pub use Rattle.tl_profile.specs.Profile.{IsFirstBrokenClause}
 pub use Rattle.tl_write.specs.declared.fault.WriteFault.{WriteFault}

@@ -13,18 +13,18 @@ use Rattle.tl_load.specs.Choice.{tiger}
 use Rattle.tl_load.specs.Outcome.{Spells, FaultAt, IsSpelled, IsFaulty}
 use Rattle.tl_load.proofs.Reading.{one_verdict}
 use Rattle.tl_load.proofs.TextLemmas.{text_spells, text_spells_only}
-use Rattle.tl_number.specs.Accepted.{IsAccepted, RecordsRefusal, Unlinked, OutOfProfile, IsRefusal}
-use Rattle.tl_number.specs.Strict.{IsStrictThrough}
+use Rattle.canonical_form.specs.Accepted.{IsAccepted, RecordsRefusal, Unlinked, OutOfProfile, IsRefusal}
+use Rattle.canonical_form.specs.Strict.{IsStrictThrough}
 use Rattle.tigercanon.specs.Normalising.{IsOnlyText}
 use Rattle.tigercanon.specs.Sets.{IsCanonicalText}
 use Rattle.tl_county.specs.LinkRules.{IsLinked, IsFirstBrokenRule}
 use Rattle.tl_county.proofs.Rules.LinkFaults.{linked_has_none, one_first_rule}
 use Rattle.tl_profile.proofs.ProfileFaults.{profile_has_none, one_first_clause}
-use Rattle.tl_number.proofs.CanonicalLists.Accepted.{accepted_or_refused, same_canonical_text}
-use Rattle.tl_number.proofs.CanonicalLists.Accepted.{canonical_accepted, canonical_as_it_is, canonical_of_itself}
-use Rattle.tl_number.proofs.CanonicalLists.Ascending.{canonical_exists}
-use Rattle.tl_number.proofs.Arrangements.ArrangedNumbers.{canonical_within}
-use Rattle.tl_number.proofs.CanonicalLists.StrictLists.{strict_through}
+use Rattle.canonical_form.proofs.CanonicalLists.Accepted.{accepted_or_refused, same_canonical_text}
+use Rattle.canonical_form.proofs.CanonicalLists.Accepted.{canonical_accepted, canonical_as_it_is, canonical_of_itself}
+use Rattle.canonical_form.proofs.CanonicalLists.Ascending.{canonical_exists}
+use Rattle.canonical_form.proofs.Arrangements.ArrangedNumbers.{canonical_within}
+use Rattle.canonical_form.proofs.CanonicalLists.StrictLists.{strict_through}
 use Rattle.tl_county.proofs.Sameness.Equivalence.{same-reflexive}
 
 pub set_accepted_or_refused : (parts : List (List ℕ))

@@ -3,7 +3,7 @@ use Rattle.std.specs.Prelude.{ℕ, ◌≡◌, ◌++◌, ◌∷◌, [], ◌⊎◌
 use Rattle.tl_layout.specs.declared.record_type.Record.{Record}
 use Rattle.tl_county.specs.County.{County, county_of}
 use Rattle.tl_county.specs.Renumbering.{AreSame, Renumbering}
-use Rattle.tl_number.specs.Sights.{plain}
+use Rattle.canonical_form.specs.Sights.{plain}
 use Rattle.tigercanon.specs.Faults.{IsWantOfMemory, ReportsRefusal, ReportsRefusalOfRead}
 use Rattle.tigercanon.specs.Sets.{CarriesSetThrough, IsAcceptedSet}
 use Rattle.tigercanon.specs.declared.library.comparing.CompareFault.{CompareFault}

@@ -3,7 +3,7 @@ use Rattle.std.specs.Prelude.{ℕ, ◌≡◌, ◌++◌, ◌∷◌, [], List}
 use Rattle.hex.specs.Hex.{encode_lower}
 use Rattle.sha2.specs.Sha256.{sha256}
 use Rattle.tl_county.specs.County.{County}
-use Rattle.tl_number.specs.Sights.{plain}
+use Rattle.canonical_form.specs.Sights.{plain}
 use Rattle.tigercanon.specs.Normalising.{IsOnlyTextThrough}
 use Rattle.tigercanon.specs.Sets.{IsCanonicalTextThrough}
 

@@ -6,8 +6,8 @@ use Rattle.tl_load.specs.Loaded.{IsOfLines}
 use Rattle.tl_county.specs.County.{County, county_of}
 use Rattle.tl_county.specs.Renumbering.{AreSame}
 use Rattle.tl_county.specs.declared.fault.LinkFault.TheVariants.{Memory as LinkMemory}
-use Rattle.tl_number.specs.Canonical.{IsCanonical}
-use Rattle.tl_number.specs.Sights.{plain}
+use Rattle.canonical_form.specs.Canonical.{IsCanonical}
+use Rattle.canonical_form.specs.Sights.{plain}
 use Rattle.tl_profile.specs.declared.fault.ProfileFault.TheVariants.{Memory as ProfileMemory}
 use Rattle.tigercanon.specs.Reading.{AreRead, IsFaultOfRead}
 use Rattle.tigercanon.specs.Sets.{IsAcceptedSet, IsCanonicalTextThrough, IsSetRefusal}

@@ -10,8 +10,8 @@ use Rattle.tl_county.specs.Packing.{packed}
 use Rattle.tl_county.specs.Renumbering.{Renumbering, Carries}
 use Rattle.tl_county.specs.LinkRules.{IsLinked, IsFirstBrokenRule}
 use Rattle.tl_profile.specs.Profile.{IsFirstBrokenClause}
-use Rattle.tl_number.specs.Accepted.{IsAccepted, IsCanonicalThrough}
-use Rattle.tl_number.specs.Sights.{plain}
+use Rattle.canonical_form.specs.Accepted.{IsAccepted, IsCanonicalThrough}
+use Rattle.canonical_form.specs.Sights.{plain}
 use Rattle.tigercanon.specs.Respelling.{record_limit, IsFirstFault}
 use Rattle.tigercanon.specs.declared.fault.Fault.{Fault}
 use Rattle.tigercanon.specs.declared.fault.Fault.TheVariants.{Load, Link, Profile, Write, Memory}

@@ -15,8 +15,8 @@ ghost use Rattle.tl_layout.specs.RecordText.{text_of};
 ghost use Rattle.tl_load.specs.Choice.{tiger};
 ghost use Rattle.tl_load.specs.Lines.{HaveSameLines};
 ghost use Rattle.tl_load.specs.Outcome.{SpellsWithin};
-ghost use Rattle.tl_number.specs.Sights.{IsSight};
-ghost use Rattle.tl_number.specs.Strict.{IsStrictThrough};
+ghost use Rattle.canonical_form.specs.Sights.{IsSight};
+ghost use Rattle.canonical_form.specs.Strict.{IsStrictThrough};
 
 /// A set of parts is accepted or has a refusal, never both, and never two refusals.
 #[tactic(auto, using(crate::proofs::Sets::accepted_set_not_refused, crate::proofs::Sets::one_set_refusal))]

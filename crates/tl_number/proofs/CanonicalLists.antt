@@ -1,10 +1,3 @@
 -- Tidy, canonical and strict lists: each accepted list has a canonical one, and all of one map have the same text.
 pub mod OnSamples
-pub mod Accepted
-pub mod Ascending
-pub mod EachTidy
-pub mod TidyLists
-pub mod OneChoice
 pub mod CanonLists
-pub mod SameShapes
-pub mod StrictLists

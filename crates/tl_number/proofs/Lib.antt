@@ -1,6 +1,5 @@
 pub mod Numbering
 pub mod Lists
-pub mod Unique
 pub mod Names
 pub mod Arrangements
 pub mod CanonicalLists
@@ -8,7 +7,6 @@ pub mod Views
 pub mod Choices
 pub mod Landmarks
 pub mod Polygons
-pub mod Masks
 pub mod Records
 pub mod Results
 pub mod Texts

@@ -1,5 +1,4 @@
 -- Names in their new order.
-pub mod UsesOrder
 pub mod NameRanks
 pub mod NameOrder
 pub mod ContentFirst

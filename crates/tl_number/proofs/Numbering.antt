@@ -1,9 +1,4 @@
 -- Numbers by first appearance: the keys that were seen, and their places.
-pub mod Growth
-pub mod FoundPlaces
-pub mod FirstSeen
-pub mod SeenKeys
 pub mod SeenPlaces
 pub mod SeenLists
 pub mod PlacedKeys
-pub mod NewNumbers

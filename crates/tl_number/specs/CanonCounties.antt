@@ -6,9 +6,9 @@ use Rattle.tl_county.specs.CountyProps.{IsInOrder-prop}
 use Rattle.tl_county.specs.CountyRules.{IsCounty}
 use Rattle.tl_county.specs.Packing.{packed}
 use Rattle.tl_county.specs.Renumbering.{AreSame}
-use Rattle.tl_number.specs.Growth.{GrowsFrom}
-use Rattle.tl_number.specs.ArrangedCounty.{IsArranged, IsTidy}
-use Rattle.tl_number.specs.Canonical.{IsNotAfter}
+use Rattle.canonical_form.specs.Growth.{GrowsFrom}
+use Rattle.canonical_form.specs.ArrangedCounty.{IsArranged, IsTidy}
+use Rattle.canonical_form.specs.Canonical.{IsNotAfter}
 
 -- all numbers are canonical, the county is tidy, and its text doesn't come after that of any other such county of the same map
 pub record IsCanonCounty (county : County) : Type 0 where

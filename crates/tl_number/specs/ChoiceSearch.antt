@@ -4,10 +4,10 @@ use Rattle.std.specs.declared.cmp.Ordering.TheVariants.{Equal}
 use Rattle.tl_county.specs.County.{County}
 use Rattle.tl_county.specs.CountyRules.{AllKeysStandIn, polygon_keys, polygons_along}
 use Rattle.tl_county.specs.declared.directed_chain.DirectedChain.{DirectedChain}
-use Rattle.tl_number.specs.Canonical.{IsNotAfter}
-use Rattle.tl_number.specs.LeastNumber.{choice_list}
+use Rattle.canonical_form.specs.Canonical.{IsNotAfter}
+use Rattle.canonical_form.specs.LeastNumber.{choice_list}
 use Rattle.tl_number.specs.MovedChains.{AreWithin, other_way}
-use Rattle.tl_number.specs.NumberedChoices.{moved}
+use Rattle.canonical_form.specs.NumberedChoices.{moved}
 use Rattle.tl_number.specs.TypeOneOrder.{ones_cmp}
 use Rattle.tl_number.specs.declared.numbered_arrangement.NumberedArrangement.{NumberedArrangement}
 use Rattle.tl_profile.specs.Choices.{choices, most_choices}

@@ -5,7 +5,7 @@ use Rattle.tl_shape.specs.Chain.{Chain}
 use Rattle.tl_county.specs.County.{County}
 use Rattle.tl_county.specs.CountyRules.{tlids}
 use Rattle.tl_county.specs.DirectedChains.{directed_chain}
-use Rattle.tl_number.specs.Arrangement.{Arrangement}
+use Rattle.canonical_form.specs.Arrangement.{Arrangement}
 use Rattle.tl_county.specs.declared.directed_chain.DirectedChain.{DirectedChain}
 
 -- the TLID at a place; the place is below the number of chains

@@ -7,8 +7,8 @@ use Rattle.tl_shape.specs.Chain.{Chain}
 use Rattle.tl_county.specs.PolygonKeys.{PolygonKey, key_cmp, key_on}
 use Rattle.ordered_lists.specs.Pairs.{image}
 use Rattle.tl_county.specs.Renumbering.{side_of}
-use Rattle.tl_number.specs.Arrangement.{under_cenid}
-use Rattle.tl_number.specs.Growth.{numbered}
+use Rattle.canonical_form.specs.Arrangement.{under_cenid}
+use Rattle.canonical_form.specs.Growth.{numbered}
 
 -- the start node and the end node of a chain
 abbrev pub ends_of : Chain → Option ℕ × Option ℕ

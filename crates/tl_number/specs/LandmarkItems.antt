@@ -12,8 +12,8 @@ use Rattle.tl_county.specs.CountyRules.{lands}
 use Rattle.ordered_lists.specs.Orders.{in_order}
 use Rattle.tl_county.specs.PolygonKeys.{PolygonKey, key_cmp}
 use Rattle.ordered_lists.specs.Pairs.{image}
-use Rattle.tl_number.specs.Arrangement.{under_cenid}
-use Rattle.tl_number.specs.Growth.{numbered, up_to}
+use Rattle.canonical_form.specs.Arrangement.{under_cenid}
+use Rattle.canonical_form.specs.Growth.{numbered, up_to}
 
 -- a link with its polygon and its landmark numbered by their positions in these lists, from 1
 abbrev pub link_under : List PolygonKey → List ℕ → Fields8 → Fields8

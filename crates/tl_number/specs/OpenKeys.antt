@@ -10,7 +10,7 @@ use Rattle.tl_county.specs.declared.directed_chain.DirectedChain.{DirectedChain}
 use Rattle.tl_profile.specs.declared.open_places.OpenPlace.{OpenPlace}
 use Rattle.tl_number.specs.DirectedChains.{parts_along}
 use Rattle.tl_number.specs.Groups.{grouped}
-use Rattle.tl_number.specs.Growth.{first_seen}
+use Rattle.canonical_form.specs.Growth.{first_seen}
 use Rattle.tl_number.specs.declared.open_keys.OpenKeys.{OpenKeys}
 
 -- whether an open place moves a chain to or from the place

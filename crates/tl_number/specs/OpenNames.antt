@@ -15,7 +15,7 @@ use Rattle.tl_county.specs.Packing.{in_pieces, numbered_from}
 use Rattle.tl_county.specs.declared.directed_chain.DirectedChain.{DirectedChain}
 use Rattle.tl_profile.specs.ShapeOrder.{OrderOfShapes}
 use Rattle.tl_profile.specs.declared.open_places.OpenPlace.{OpenPlace}
-use Rattle.tl_number.specs.Arrangement.{names_in_order}
+use Rattle.canonical_form.specs.Arrangement.{names_in_order}
 use Rattle.tl_number.specs.CriticalKeys.{brings}
 use Rattle.tl_number.specs.DirectedChains.{arrangement_of}
 use Rattle.tl_number.specs.OpenKeys.{first_open, is_open, keys_along, place_by_order, place_in}

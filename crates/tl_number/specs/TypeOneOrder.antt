@@ -7,14 +7,14 @@ use Rattle.tl_layout.specs.declared.record_type.Record.TheVariants.{One}
 use Rattle.tl_county.specs.County.{County}
 use Rattle.tl_county.specs.Packing.{packed_one}
 use Rattle.tl_county.specs.declared.directed_chain.DirectedChain.{DirectedChain}
-use Rattle.tl_number.specs.Arrangement.{arranged}
+use Rattle.canonical_form.specs.Arrangement.{arranged}
 use Rattle.tl_number.specs.CountyGroups.{type_1_by_chain}
 use Rattle.tl_number.specs.Groups.{grouped}
-use Rattle.tl_number.specs.LeastNumber.{choice_list}
+use Rattle.canonical_form.specs.LeastNumber.{choice_list}
 use Rattle.tl_number.specs.RecordOrder.{groups_cmp}
 use Rattle.tl_county.specs.DirectedChains.{directed_chain}
-use Rattle.tl_number.specs.Canonical.{IsNotAfter}
-use Rattle.tl_number.specs.Tidy.{numbered_choice}
+use Rattle.canonical_form.specs.Canonical.{IsNotAfter}
+use Rattle.canonical_form.specs.Tidy.{numbered_choice}
 
 -- the record of type 1 of a directed chain, if there is one at a place
 abbrev pub one_at : County → DirectedChain → ℕ → Option Record

@@ -8,11 +8,11 @@ use Rattle.tl_county.specs.CountyRules.{IsCounty, tlids, polygon_keys}
 use Rattle.ordered_lists.specs.Entries.{entry_keys, entry_values}
 use Rattle.tl_county.specs.Limits.{IsWithinLimits, most_records}
 use Rattle.ordered_lists.specs.Orders.{times}
-use Rattle.tl_number.specs.Arrangement.{Arrangement, arranged_tlids, nodes_in_order, polygons_in_order, names_in_order}
-use Rattle.tl_number.specs.Arrangement.{landmarks_in_order, arranged}
+use Rattle.canonical_form.specs.Arrangement.{Arrangement, arranged_tlids, nodes_in_order, polygons_in_order, names_in_order}
+use Rattle.canonical_form.specs.Arrangement.{landmarks_in_order, arranged}
 use Rattle.tl_number.specs.EndsAndSides.{ends_of, sides_of}
 use Rattle.tl_number.specs.ByNumber.{polygons_by_number, under_number}
-use Rattle.tl_number.specs.Growth.{numbered}
+use Rattle.canonical_form.specs.Growth.{numbered}
 use Rattle.tl_number.specs.DirectedChains.{HasChainsOf, arrangement_of}
 use Rattle.tl_county.specs.declared.directed_chain.DirectedChain.{DirectedChain}
 use Rattle.tl_number.specs.declared.arranged_tables.LandmarkTables.{LandmarkTables}

@@ -3,7 +3,7 @@ use Rattle.std.specs.Global.{Vec}
 use Rattle.tl_county.specs.County.{County}
 use Rattle.tl_county.specs.declared.chart.Chart.{Ghosts as Charts}
 use Rattle.tl_county.specs.declared.directed_chain.DirectedChain.{DirectedChain}
-use Rattle.tl_number.specs.Arrangement.{Arrangement}
+use Rattle.canonical_form.specs.Arrangement.{Arrangement}
 use Rattle.tl_number.specs.DirectedChains.{arrangement_of}
 use Rattle.tl_number.specs.ViewFacts.{arranged_by}
 use Rattle.tl_number.specs.declared.arranged.Arranged.{Arranged}

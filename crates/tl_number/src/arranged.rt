@@ -9,7 +9,7 @@ ghost use Rattle.tl_county.specs.DirectedChains.{directed_chain};
 ghost use Rattle.tl_county.specs.Renumbering.{renumbered};
 ghost use Rattle.ordered_lists.specs.Entries.{entry_values};
 ghost use Rattle.ordered_lists.specs.Pairs.{image};
-ghost use Rattle.tl_number.specs.Arrangement.{renaming_of};
+ghost use Rattle.canonical_form.specs.Arrangement.{renaming_of};
 ghost use Rattle.tl_number.specs.ByNumber.{polygons_by_number};
 ghost use Rattle.tl_number.specs.EndsAndSides.{ends_of, sides_of};
 ghost use Rattle.tl_number.specs.DirectedChains.{arrangement_of};

@@ -6,7 +6,7 @@
 ghost use Rattle.std.specs.Ordering.{nat_cmp};
 ghost use Rattle.std.specs.Prelude.{◌≡◌, IfSome, Some, is_some, slice_get};
 ghost use Rattle.ordered_lists.specs.Orders.{stands_in};
-ghost use Rattle.tl_number.specs.Growth.{up_to};
+ghost use Rattle.canonical_form.specs.Growth.{up_to};
 
 use crate::arranged::{Arranged, Evidence, old_place};
 use crate::landmark_links::{link_at, links_of_landmark};

@@ -3,10 +3,10 @@
 ghost use Rattle.std.specs.Prelude.{◌≡◌, ◌<◌, ◌^◌, Err, IfOk, MatchResult, Ok, length};
 ghost use Rattle.tl_county.specs.CountyRules.{AllKeysStandIn, polygon_keys, polygons_along};
 ghost use Rattle.tl_county.specs.Renumbering.{AreSame, Carries};
-ghost use Rattle.tl_number.specs.Arrangement.{arranged, polygons_in_order, renaming_of};
+ghost use Rattle.canonical_form.specs.Arrangement.{arranged, polygons_in_order, renaming_of};
 ghost use Rattle.tl_number.specs.CanonCounties.{IsCanonCounty};
 ghost use Rattle.tl_number.specs.DirectedChains.{HasChainsOf, arrangement_of};
-ghost use Rattle.tl_number.specs.Tidy.{IsLeastChoice};
+ghost use Rattle.canonical_form.specs.Tidy.{IsLeastChoice};
 ghost use Rattle.tl_number.specs.ViewFacts.{arranged_by, AreWhole, NamesEachOnce, MatchesLandmarks, MatchesNames, MatchesNodes, MatchesPolygons};
 ghost use Rattle.tl_number.specs.Views.{arranged_county, arrangement_in, source_of, directed_chains_of};
 ghost use Rattle.tl_profile.specs.Profile.{IsInProfile};

@@ -1,7 +1,7 @@
 //! The ascending arrangement: each chain in its lesser direction, and the chains in the order of their shapes.
 
 ghost use Rattle.std.specs.Prelude.{◌≡◌, IfOk};
-ghost use Rattle.tl_number.specs.Arrangement.{ascending};
+ghost use Rattle.canonical_form.specs.Arrangement.{ascending};
 ghost use Rattle.tl_number.specs.DirectedChains.{HasChainsOf, arrangement_of};
 
 use std::alloc::{AllocError, Global};

@@ -15,7 +15,7 @@ ghost use Rattle.tl_county.specs.PolygonKeys.{key_cmp};
 ghost use Rattle.tl_number.specs.CriticalKeys.{brings, has_new};
 ghost use Rattle.tl_number.specs.CriticalPlaces.{critical_from, has_open_link};
 ghost use Rattle.tl_number.specs.Groups.{group_at};
-ghost use Rattle.tl_number.specs.Growth.{first_seen_after};
+ghost use Rattle.canonical_form.specs.Growth.{first_seen_after};
 ghost use Rattle.tl_number.specs.OpenKeys.{is_open, open_among as open_places_among};
 
 use crate::key_groups::KeyGroups;

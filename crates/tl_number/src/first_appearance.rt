@@ -6,9 +6,9 @@
 
 ghost use Rattle.std.specs.Prelude.{◌≡◌, [], Some, IfOk, OnOk, flat_map, length, map, option_map};
 ghost use Rattle.ordered_lists.specs.Entries.{entry_values};
-ghost use Rattle.tl_number.specs.Arrangement.{polygons_in_order};
+ghost use Rattle.canonical_form.specs.Arrangement.{polygons_in_order};
 ghost use Rattle.tl_number.specs.EndsAndSides.{changed_both, ends_of, keys_at, sides_of};
-ghost use Rattle.tl_number.specs.Growth.{first_seen};
+ghost use Rattle.canonical_form.specs.Growth.{first_seen};
 ghost use Rattle.tl_number.specs.DirectedChains.{HasChainsOf, arrangement_of};
 ghost use Rattle.tl_county.specs.DirectedChains.{directed_chain};
 ghost use Rattle.tl_number.specs.ViewFacts.{AreWhole, MatchesNodes, arranged_by};
@@ -46,7 +46,7 @@ pub(crate) fn links_along<C: Chart>(
 /// An end or a side of a chain. It may have a key, a node or a polygon, which is replaced with its number.
 pub(crate) trait Half: Copy + Drop {
     ghost use Rattle.std.specs.Prelude.{◌≡◌, ◌≤◌, ℕ, List, IfOk, OnOk, length, option_to_list};
-    ghost use Rattle.tl_number.specs.Growth.{first_seen_after};
+    ghost use Rattle.canonical_form.specs.Growth.{first_seen_after};
 
     /// A key.
     type Old: Key + Hash + NumericKey;

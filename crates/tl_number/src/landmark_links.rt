@@ -7,7 +7,7 @@ ghost use Rattle.tl_county.specs.BodyOrder.{link_cmp};
 ghost use Rattle.tl_county.specs.ChartWords.{links_at, links_with};
 ghost use Rattle.tl_county.specs.County.{eight_land};
 ghost use Rattle.ordered_lists.specs.Orders.{IsInOrder, in_order};
-ghost use Rattle.tl_number.specs.Growth.{up_to};
+ghost use Rattle.canonical_form.specs.Growth.{up_to};
 ghost use Rattle.tl_number.specs.LandmarkItems.{link_under};
 ghost use Rattle.tl_number.specs.ViewFacts.{link_bounds};
 

@@ -8,7 +8,7 @@ ghost use Rattle.tl_county.specs.BodyOrder.{link_part, link_part_cmp};
 ghost use Rattle.tl_county.specs.County.{eight_land};
 ghost use Rattle.tl_county.specs.CountyProps.{IsInOrder-prop};
 ghost use Rattle.ordered_lists.specs.Orders.{IsInOrder, has_repeat};
-ghost use Rattle.tl_number.specs.Arrangement.{polygons_in_order};
+ghost use Rattle.canonical_form.specs.Arrangement.{polygons_in_order};
 ghost use Rattle.tl_number.specs.LandmarkItems.{HaveSameBodies, landmark_place_cmp, lands_at, numbered_links, place_cmp_under};
 ghost use Rattle.tl_number.specs.DirectedChains.{arrangement_of};
 ghost use Rattle.tl_number.specs.ViewFacts.{AreWhole, MatchesLandmarks, link_bounds};

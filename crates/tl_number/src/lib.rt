@@ -28,7 +28,6 @@ mod key_groups;
 mod landmark_bodies;
 mod landmark_links;
 mod landmark_order;
-mod laws;
 mod least_choice;
 mod masking;
 mod name_order;
@@ -64,17 +63,6 @@ pub use canon_county::{CanonCounty, CanonCountyIn, Canonical};
 pub use chain_records::{ChainRecords, SequencedRecord, SequencedRecords, TopologyRecords};
 pub use groups::{CountedGroups, RecordGroups, read_heads};
 pub use heads::HeadBuffers;
-pub use laws::{
-    a_packed_county_is_read_back, accepted_or_one_refusal, an_arrangement_gives_an_arranged_list,
-    arranged_lists_are_the_packing_of_their_county, arranged_lists_with_one_choice_are_equal,
-    canonical_lists_are_those_of_least_choices, canonical_lists_keep_the_limits,
-    canonical_lists_keep_the_limits_through_each_sight,
-    canonical_lists_keep_the_limits_under_each_mask, canonical_lists_of_one_county_have_one_text,
-    choices_are_numbered, each_accepted_list_has_one_canonical_text,
-    one_canonical_text_for_one_map, one_canonical_text_through_each_sight,
-    one_canonical_text_under_each_mask, one_choice_where_shapes_are_apart,
-    strict_lists_are_canonical, tidy_lists_are_those_of_choices,
-};
 pub use masking::{canonise_in_masked, canonise_masked, under_mask};
 pub use name_records::{LandmarkLinkRecords, LandmarkRecords, NameRecords};
 pub use numbers::{Interner, NumericKey};

@@ -3,9 +3,9 @@
 ghost use Rattle.std.specs.Prelude.{◌≡◌, IfErr, IfOk, true};
 ghost use Rattle.tl_county.specs.MaskedCounty.{masked};
 ghost use Rattle.tl_county.specs.Renumbering.{Carries};
-ghost use Rattle.tl_number.specs.Arrangement.{arranged, renaming_of};
+ghost use Rattle.canonical_form.specs.Arrangement.{arranged, renaming_of};
 ghost use Rattle.tl_number.specs.CanonCounties.{IsCanonCounty};
-ghost use Rattle.tl_number.specs.Tidy.{IsLeastChoice};
+ghost use Rattle.canonical_form.specs.Tidy.{IsLeastChoice};
 ghost use Rattle.tl_number.specs.Views.{arranged_county, arrangement_in, source_of};
 
 use crate::arranging::canonise;

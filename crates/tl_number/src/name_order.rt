@@ -10,8 +10,8 @@ ghost use Rattle.std.specs.Prelude.{◌≡◌, ◌<◌, ◌^◌, IfOk, false, fi
 ghost use Rattle.tl_county.specs.BodyOrder.{name_body_cmp};
 ghost use Rattle.tl_county.specs.CountyRules.{feats};
 ghost use Rattle.ordered_lists.specs.Orders.{has_repeat};
-ghost use Rattle.tl_number.specs.Arrangement.{names_in_order};
-ghost use Rattle.tl_number.specs.Growth.{first_seen};
+ghost use Rattle.canonical_form.specs.Arrangement.{names_in_order};
+ghost use Rattle.canonical_form.specs.Growth.{first_seen};
 ghost use Rattle.tl_number.specs.NameItems.{AreSortedNames, feats_along_arrangement, rank_of, ranked_at, ranked_cmp, ranked_place};
 ghost use Rattle.tl_number.specs.DirectedChains.{arrangement_of};
 ghost use Rattle.tl_number.specs.ViewFacts.{AreReadAt, AreWhole, MatchesNames};

@@ -4,8 +4,8 @@ ghost use Rattle.std.specs.Prelude.{◌≡◌, ◌<◌, ◌^◌, ℕ, List, IfOk
 ghost use Rattle.ordered_lists.specs.Entries.{entry_keys};
 ghost use Rattle.tl_county.specs.Renumbering.{Carries};
 ghost use Rattle.tl_layout.specs.declared.type7.Body7.{Body7};
-ghost use Rattle.tl_number.specs.Arrangement.{arranged_tlids, renaming_of, turned_tlids, under_cenid};
-ghost use Rattle.tl_number.specs.Growth.{numbered};
+ghost use Rattle.canonical_form.specs.Arrangement.{arranged_tlids, renaming_of, turned_tlids, under_cenid};
+ghost use Rattle.canonical_form.specs.Growth.{numbered};
 ghost use Rattle.tl_number.specs.DirectedChains.{HasChainsOf, arrangement_of};
 ghost use Rattle.tl_number.specs.ViewFacts.{AreReadAt};
 ghost use Rattle.tl_number.specs.Views.{arranged_county, arrangement_in, source_of};

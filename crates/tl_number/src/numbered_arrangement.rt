@@ -5,7 +5,7 @@
 ghost use Rattle.std.specs.Prelude.{◌≡◌, ◌++◌, drop, length, take, IfOk};
 ghost use Rattle.tl_number.specs.ChoiceSearch.{IsChosen};
 ghost use Rattle.tl_number.specs.MovedChains.{AgreeApart, AreWithin, IsWithin, other_way};
-ghost use Rattle.tl_number.specs.NumberedChoices.{moved, moved_at};
+ghost use Rattle.canonical_form.specs.NumberedChoices.{moved, moved_at};
 
 use crate::ascending_order::arrangement_in_order;
 use std::alloc::{AllocError, Global};

@@ -10,7 +10,7 @@ ghost use Rattle.std.specs.List.{position};
 ghost use Rattle.std.specs.Ordering.{is_eq};
 ghost use Rattle.std.specs.Prelude.{◌≡◌, ◌∷◌, [], ◌++◌, ◌+◌, ◌%◌, ◌<◌, ◌^◌, ◌↔◌, ℕ, false, length, is_some, IfSome, Some, IfOk, IsTrue, OnOk, OnErr, slice_get, slice_index};
 ghost use Rattle.ordered_lists.specs.Orders.{has_repeat, stands_in};
-ghost use Rattle.tl_number.specs.Growth.{first_seen_after};
+ghost use Rattle.canonical_form.specs.Growth.{first_seen_after};
 ghost use Rattle.tl_number.specs.PlacedKeys.{AreApart, ArePlaced, found_by_either};
 
 use crate::other_places::OtherPlaces;

@@ -5,8 +5,8 @@ ghost use Rattle.std.specs.Prelude.{◌≡◌, ◌<◌, ◌^◌, length, map};
 ghost use Rattle.tl_county.specs.PolygonKeys.{key_cmp};
 ghost use Rattle.ordered_lists.specs.Pairs.{image};
 ghost use Rattle.tl_layout.specs.Numbers.{IsNumber};
-ghost use Rattle.tl_number.specs.Arrangement.{under_cenid};
-ghost use Rattle.tl_number.specs.Growth.{numbered};
+ghost use Rattle.canonical_form.specs.Arrangement.{under_cenid};
+ghost use Rattle.canonical_form.specs.Growth.{numbered};
 
 use crate::numbers::Interner;
 use tl_county::PolygonKey;

@@ -11,7 +11,7 @@ ghost use Rattle.tl_layout.specs.declared.record_type.Record.TheVariants.{I, P, 
 ghost use Rattle.tl_number.specs.ChoiceSearch.{IsChosen, LeavesChoices};
 ghost use Rattle.tl_number.specs.CountyGroups.{type_6_by_chain};
 ghost use Rattle.tl_number.specs.CriticalPlaces.{AreTieTables};
-ghost use Rattle.tl_number.specs.LeastNumber.{choices_cmp};
+ghost use Rattle.canonical_form.specs.LeastNumber.{choices_cmp};
 ghost use Rattle.tl_number.specs.OpenRanges.{sixes_at};
 ghost use Rattle.tl_number.specs.RecordOrder.{groups_cmp, records_cmp, types_8_to_p_cmp};
 ghost use Rattle.tl_number.specs.TiedRecords.{AreChoiceLinks, AreTiedRecords};

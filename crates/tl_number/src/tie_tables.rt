@@ -11,7 +11,7 @@ ghost use Rattle.tl_number.specs.CriticalPlaces.{AreTieTables, IsOpenOrder, crit
 ghost use Rattle.tl_number.specs.DirectedChains.{HasChainsOf};
 ghost use Rattle.tl_number.specs.EndsAndSides.{nodes_at, polygons_at};
 ghost use Rattle.tl_number.specs.Groups.{grouped};
-ghost use Rattle.tl_number.specs.Growth.{first_seen};
+ghost use Rattle.canonical_form.specs.Growth.{first_seen};
 ghost use Rattle.tl_number.specs.LandmarkItems.{HaveSameBodies};
 ghost use Rattle.tl_number.specs.OpenKeys.{AreOpenKeys, keys_along};
 

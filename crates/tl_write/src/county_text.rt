@@ -3,7 +3,7 @@
 ghost use Rattle.std.specs.Prelude.{◌≡◌, ◌<◌, ◌+◌, ◌++◌, ℕ, List, length, take, IfErr, IfOk, MatchResult, is_ok, if◌then◌else◌};
 ghost use Rattle.tl_county.specs.Packing.{packed};
 ghost use Rattle.tl_layout.specs.RecordText.{text_of};
-ghost use Rattle.tl_number.specs.Canonical.{IsCanonical};
+ghost use Rattle.canonical_form.specs.Canonical.{IsCanonical};
 ghost use Rattle.tl_number.specs.Views.{arranged_county};
 
 use crate::fault::WriteFault;

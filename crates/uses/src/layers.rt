@@ -6,14 +6,15 @@ ghost use Rattle.tl_county.specs.Limits.{most_records};
 ghost use Rattle.tl_county.specs.Packing.{packed};
 ghost use Rattle.tl_layout.specs.Limits.{IsWithinLimit};
 ghost use Rattle.tl_layout.specs.RecordText.{text_of};
-ghost use Rattle.tl_number.specs.Accepted.{IsCanonicalOf};
+ghost use Rattle.canonical_form.specs.Accepted.{IsCanonicalOf};
 
 use crate::pieces::load_pieces;
+use canonical_form::each_accepted_list_has_one_canonical_text;
 use std::alloc::Global;
 use tigercanon::Fault;
 use tl_county::{Chart, link};
 use tl_layout::Record;
-use tl_number::{CanonCounty, canonise, each_accepted_list_has_one_canonical_text};
+use tl_number::{CanonCounty, canonise};
 use tl_profile::admit;
 use tl_write::{CountedOut, write_to};
 

@@ -10,7 +10,7 @@ ghost use Rattle.tl_county.specs.Limits.{HoldsWithinLimits};
 ghost use Rattle.tl_county.specs.Packing.{type_after_type};
 ghost use Rattle.tl_layout.specs.declared.record_type.Record.{Record};
 ghost use Rattle.tl_layout.specs.Tables.{HoldsByType};
-ghost use Rattle.tl_number.specs.Sights.{plain};
+ghost use Rattle.canonical_form.specs.Sights.{plain};
 
 use crate::fault::Fault;
 use crate::library::unlinked::UnlinkedSet;

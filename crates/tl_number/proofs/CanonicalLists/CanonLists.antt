@@ -2,10 +2,10 @@
 use Rattle.tl_number.proofs.Common.{◌≡◌, sym, subst, AllKeysStandIn, AreSame, Arrangement, County, IsArranged, IsCanonCounty, IsCanonical}
 use Rattle.tl_number.proofs.Common.{IsCounty, IsLeastChoice, IsNotAfter, IsTidy, IsTidyList, arranged, county-is_county, county_of, packed}
 use Rattle.tl_number.proofs.Common.{packed_county, polygon_keys, polygons_along}
-use Rattle.tl_number.proofs.Arrangements.ArrangedCounties.{arranged_county}
-use Rattle.tl_number.proofs.Arrangements.ArrangedPacking.{packed_arranged}
-use Rattle.tl_number.proofs.Arrangements.RepackedPolygons.{arranged_list_is_packed}
-use Rattle.tl_number.proofs.CanonicalLists.TidyLists.{least_choice_is_canonical}
+use Rattle.canonical_form.proofs.Arrangements.ArrangedCounties.{arranged_county}
+use Rattle.canonical_form.proofs.Arrangements.ArrangedPacking.{packed_arranged}
+use Rattle.canonical_form.proofs.Arrangements.RepackedPolygons.{arranged_list_is_packed}
+use Rattle.canonical_form.proofs.CanonicalLists.TidyLists.{least_choice_is_canonical}
 
 pub packed_tidy : (county : County) → IsCounty county → IsArranged county → IsTidy county → IsTidyList (packed county)
 packed_tidy county is form tidy = record {

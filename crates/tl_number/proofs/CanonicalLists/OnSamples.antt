@@ -6,8 +6,8 @@ use Rattle.std.specs.List.Sorted.{IsStrictlySortedBy}
 use Rattle.tl_county.proofs.Rules.LinkFaults.{linked_computed}
 use Rattle.tl_county.proofs.Samples.Counties.{there, canonical_there, canonical_shaped, canonical_polygons, canonical_named}
 use Rattle.tl_county.proofs.Samples.Counties.{canonical_schools, canonical_meeting}
-use Rattle.tl_number.proofs.Arrangements.ArrangedPacking.{packed_arranged}
-use Rattle.tl_number.proofs.CanonicalLists.OneChoice.{strict_is_canonical}
+use Rattle.canonical_form.proofs.Arrangements.ArrangedPacking.{packed_arranged}
+use Rattle.canonical_form.proofs.CanonicalLists.OneChoice.{strict_is_canonical}
 
 -- the packing of these counties
 pub packed_there : packed (county_of canonical_there) ≡ canonical_there

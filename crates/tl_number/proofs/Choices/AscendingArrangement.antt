@@ -7,10 +7,10 @@ use Rattle.tl_number.proofs.Common.{points_along, points_cmp, points_keys, point
 use Rattle.std.proofs.lemmas.Option.{get_or_from_slice_get}
 use Rattle.tl_profile.proofs.Places.{along_from}
 use Rattle.tl_profile.specs.ShapeOrder.{along_shape, directed_cmp}
-use Rattle.tl_number.specs.Arrangement.{comes_turned}
+use Rattle.canonical_form.specs.Arrangement.{comes_turned}
 use Rattle.tl_number.proofs.Lists.SortedPlaces.{sorted_items, each_item, item_places}
 use Rattle.ordered_lists.proofs.Lists.Ranges.{places_below}
-use Rattle.tl_number.proofs.Choices.LesserDirections.{turned_same}
+use Rattle.canonical_form.proofs.Choices.LesserDirections.{turned_same}
 
 -- an order of optional values with none first
 pub options_total : {X : Type 0} {R : X → X → Ordering} → IsTotalOrder R → IsTotalOrder (option_cmp R)

@@ -8,12 +8,12 @@ use Rattle.tl_number.proofs.Common.{points_along, points_cmp, points_keys, stood
 use Rattle.std.proofs.lemmas.List.{drop-map, take-map}
 use Rattle.tl_profile.specs.Choices.{is_settled, open_place_at}
 use Rattle.tl_profile.proofs.CountedChoices.{alike_few}
-use Rattle.tl_number.specs.Tidy.{directed_shape, turned_directed}
+use Rattle.canonical_form.specs.Tidy.{directed_shape, turned_directed}
 use Rattle.tl_number.proofs.Choices.AscendingArrangement.{arrangement_ascend, arrangement_there, shapes_of_order}
-use Rattle.tl_number.proofs.Choices.Choosing.{all_insert}
+use Rattle.canonical_form.proofs.Choices.Choosing.{all_insert}
 use Rattle.tl_number.proofs.Choices.FixedPlaces.{insert_count, moved_apart, open_in_order}
 use Rattle.tl_number.proofs.Choices.MovedChoice.{moved_is}
-use Rattle.tl_number.proofs.Choices.TidyChoices.{numbered_is_choice, shapes_ascending, stated_here}
+use Rattle.canonical_form.proofs.Choices.TidyChoices.{numbered_is_choice, shapes_ascending, stated_here}
 
 -- a property of elements in either direction is a property of those chosen
 chosen_all : {X K : Type 0} (cmp : K → K → Ordering) (either : K → Bool) (key : X → K) (turn : X → X) (P : X → Type 0)

@@ -3,8 +3,8 @@ use Rattle.tl_number.proofs.Common.{◌≡◌, ◌≤◌, ◌+◌, ℕ, nat_lt, 
 use Rattle.tl_number.proofs.Common.{subst, arith, County, IsLeastBelow, IsLeastFrom, IsLesserTie, IsNotAfter, choice_list, choices_cmp}
 use Rattle.tl_number.proofs.Common.{ltb-false, ltb-true, not_greater, slice_cmp, text_of, upto}
 use Rattle.ordered_lists.proofs.ByKey.KeyOrders.{bytes_keys}
-use Rattle.tl_number.proofs.Choices.Choosing.{one_more}
-use Rattle.tl_number.proofs.CanonicalLists.TidyLists.{not_after_itself}
+use Rattle.canonical_form.proofs.Choices.Choosing.{one_more}
+use Rattle.canonical_form.proofs.CanonicalLists.TidyLists.{not_after_itself}
 
 module _ (county : County) where
   abbrev text_at : ℕ → List ℕ

@@ -8,21 +8,21 @@ use Rattle.tl_number.proofs.Common.{other_way, packed, points_along, points_cmp,
 use Rattle.std.specs.Ordering.{is_le}
 use Rattle.tl_number.specs.MovedChains.{AgreeButOpen}
 use Rattle.tl_number.specs.TypeOneOrder.{IsLeastOne}
-use Rattle.tl_number.proofs.Arrangements.ArrangedCounties.{arranged_county}
-use Rattle.tl_number.proofs.Arrangements.ArrangedNumbers.{arrangement_within}
+use Rattle.canonical_form.proofs.Arrangements.ArrangedCounties.{arranged_county}
+use Rattle.canonical_form.proofs.Arrangements.ArrangedNumbers.{arrangement_within}
 use Rattle.tl_number.proofs.Views.ArrangedViews.{whole_arrangement}
 use Rattle.tl_number.proofs.Choices.ChosenArrangements.{places_in_order, places_within, arrangement_of_number, arrangement_of_number_apart, arrangement_of_number_count}
 use Rattle.tl_number.proofs.Choices.ChosenArrangements.{arrangement_of_number_there, arrangement_of_number_once}
-use Rattle.tl_number.proofs.Choices.Choosing.{one_more}
+use Rattle.canonical_form.proofs.Choices.Choosing.{one_more}
 use Rattle.tl_number.proofs.Texts.GroupOrders.{records_total}
 use Rattle.tl_number.proofs.Choices.FixedPlaces.{agree_both}
 use Rattle.tl_number.proofs.Choices.LeastNumbers.{lesser_of}
 use Rattle.tl_number.proofs.Choices.SameChoices.{choices_same}
 use Rattle.tl_number.proofs.Texts.SameChains.{arranged_by_same}
-use Rattle.tl_number.proofs.Choices.TidyChoices.{numbered_is_choice}
-use Rattle.tl_number.proofs.CanonicalLists.TidyLists.{not_after_itself}
+use Rattle.canonical_form.proofs.Choices.TidyChoices.{numbered_is_choice}
+use Rattle.canonical_form.proofs.CanonicalLists.TidyLists.{not_after_itself}
 use Rattle.tl_number.proofs.Texts.TypeOrders.{texts_in_order}
-use Rattle.tl_number.proofs.Lists.Counting.{less_from}
+use Rattle.canonical_form.proofs.Lists.Counting.{less_from}
 
 pub greater_from : (o : Ordering) → is_le o ≡ false → is_gt o ≡ true
 greater_from Less e = absurd (false≢true (sym e))

@@ -5,8 +5,8 @@ use Rattle.tl_number.proofs.Common.{stood, take-append_seam, times}
 use Rattle.std.proofs.lemmas.Bool.{and_parts, not-true}
 use Rattle.std.proofs.lemmas.List.{append_assoc, length-append}
 use Rattle.std.proofs.Math.Seq.{drop-append_seam}
-use Rattle.tl_number.specs.NumberedChoices.{moved_at}
-use Rattle.tl_number.proofs.Choices.Choosing.{stood-digits}
+use Rattle.canonical_form.specs.NumberedChoices.{moved_at}
+use Rattle.canonical_form.proofs.Choices.Choosing.{stood-digits}
 
 -- the last place is moved first
 pub moved-last : {X : Type 0} (turn : X → X) (places : List OpenPlace) (at : OpenPlace) (state : List X × ℕ)

@@ -5,12 +5,12 @@ use Rattle.tl_number.proofs.Common.{in_order-map, in_order-permutation, landmark
 use Rattle.tl_number.proofs.Common.{link_part_cmp, links_relinked, lists_keys, map-map, on, on_total, renaming_of, slice_cmp}
 use Rattle.tl_county.specs.Laws.KeyOrders.{landmark_body_keys}
 use Rattle.tl_county.specs.Renumbering.{carried_landmark}
-use Rattle.tl_number.specs.Growth.{up_to}
-use Rattle.tl_number.specs.Uses.{links_of}
-use Rattle.tl_number.proofs.Arrangements.Carrying.{lands_arranged, landmarks_arranged}
-use Rattle.tl_number.proofs.Lists.Counting.{entries_equal}
-use Rattle.tl_number.proofs.Lists.Grouping.{in_order-weaker, then-first}
-use Rattle.tl_number.proofs.Unique.SameLandmarks.{landmark_key_keys}
+use Rattle.canonical_form.specs.Growth.{up_to}
+use Rattle.canonical_form.specs.Uses.{links_of}
+use Rattle.canonical_form.proofs.Arrangements.Carrying.{lands_arranged, landmarks_arranged}
+use Rattle.canonical_form.proofs.Lists.Counting.{entries_equal}
+use Rattle.canonical_form.proofs.Lists.Grouping.{in_order-weaker, then-first}
+use Rattle.canonical_form.proofs.Unique.SameLandmarks.{landmark_key_keys}
 
 abbrev Landmark : Type 0
 Landmark = ℕ × List Body7

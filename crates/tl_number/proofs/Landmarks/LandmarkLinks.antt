@@ -12,7 +12,7 @@ use Rattle.std.proofs.lemmas.List.Filters.{length-filter_both}
 use Rattle.tl_county.proofs.Lists.OfNumber.{groups-permutation}
 use Rattle.ordered_lists.proofs.Lists.AtPlaces.{all_at_places}
 use Rattle.ordered_lists.proofs.Lists.Counted.{filter-agree}
-use Rattle.tl_number.proofs.Lists.Filtered.{filter-filtered}
+use Rattle.canonical_form.proofs.Lists.Filtered.{filter-filtered}
 
 -- one more piece
 piece_more : {Y : Type 0} (f : ℕ → List Y) (a n : ℕ) → flat_map f (range_with_len a (suc n)) ≡ flat_map f (range_with_len a n) ++ f (a + n)

@@ -15,14 +15,14 @@ use Rattle.std.proofs.lemmas.Cmp.{lists_total}
 use Rattle.tl_county.specs.Laws.KeyOrders.{landmark_body_keys}
 use Rattle.ordered_lists.proofs.ByKey.Keys.{image-injective}
 use Rattle.tl_number.specs.LandmarkItems.{own_links}
-use Rattle.tl_number.specs.Uses.{links_of}
-use Rattle.tl_number.proofs.Arrangements.Carrying.{landmarks_permutation, links_arranged, lands_renamed, images-numbered}
-use Rattle.tl_number.proofs.Lists.Counting.{up_to-strict}
+use Rattle.canonical_form.specs.Uses.{links_of}
+use Rattle.canonical_form.proofs.Arrangements.Carrying.{landmarks_permutation, links_arranged, lands_renamed, images-numbered}
+use Rattle.canonical_form.proofs.Lists.Counting.{up_to-strict}
 use Rattle.tl_number.proofs.Names.NameOrder.{filter_map_all, then_assoc}
-use Rattle.tl_number.proofs.Arrangements.Placed.{lefts-numbered, rights-numbered}
+use Rattle.canonical_form.proofs.Arrangements.Placed.{lefts-numbered, rights-numbered}
 use Rattle.tl_number.proofs.Polygons.PolygonOrder.{read_mapped}
-use Rattle.tl_number.proofs.Unique.SameLandmarks.{landmark_key_keys, relanded, count-permutation, is_link, times-links, links_of-in_order}
-use Rattle.tl_number.proofs.Unique.SameLandmarks.{count-relanded}
+use Rattle.canonical_form.proofs.Unique.SameLandmarks.{landmark_key_keys, relanded, count-permutation, is_link, times-links, links_of-in_order}
+use Rattle.canonical_form.proofs.Unique.SameLandmarks.{count-relanded}
 use Rattle.tl_number.proofs.Lists.SortedPlaces.{sorted_places}
 use Rattle.tl_number.proofs.Views.DirectedChains.{among-get}
 use Rattle.tl_number.proofs.Views.ViewChains.{arranges}

@@ -6,7 +6,7 @@ use Rattle.tl_number.proofs.Common.{links_with, on, up_to}
 use Rattle.std.proofs.lemmas.Bool.Decides.{leb_tells, eqb_tells}
 use Rattle.std.proofs.lemmas.List.FromFn.{get_or-map-range_with_len}
 use Rattle.tl_number.proofs.Views.ViewNumbers.{get_up_to}
-use Rattle.tl_number.proofs.Lists.Grouping.{at_most}
+use Rattle.canonical_form.proofs.Lists.Grouping.{at_most}
 
 module _ {X : Type 0} (number : X → ℕ) where
   -- how many elements have a number up to this one

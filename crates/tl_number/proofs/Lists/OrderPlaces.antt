@@ -9,7 +9,7 @@ use Rattle.std.specs.List.Sorted.{IsStrictlySortedBy}
 use Rattle.ordered_lists.specs.Orders.{put_in_order}
 use Rattle.ordered_lists.proofs.ByKey.Keys.{differ, differ_apart}
 use Rattle.ordered_lists.proofs.Lists.Reordered.{from_permutation}
-use Rattle.tl_number.proofs.Lists.Counting.{less_from}
+use Rattle.canonical_form.proofs.Lists.Counting.{less_from}
 
 -- Elements whose numbers ascend are put in order as by the order and then their numbers.
 module _ {X : Type 0} (by : X → X → Ordering) (number : X → ℕ) where

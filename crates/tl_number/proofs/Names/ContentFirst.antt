@@ -6,10 +6,10 @@ use Rattle.tl_number.proofs.Common.{names_in_order, on, on_total, placed, renami
 use Rattle.tl_county.specs.BodyOrder.{name_body_cmp}
 use Rattle.tl_county.specs.Laws.KeyOrders.{name_body_keys}
 use Rattle.tl_county.specs.Packing.{packed_five}
-use Rattle.tl_number.proofs.Arrangements.Carrying.{feats_arranged, names_arranged, names_permutation}
-use Rattle.tl_number.proofs.Lists.Counting.{entries_equal}
-use Rattle.tl_number.proofs.Lists.Grouping.{in_order-weaker, then-first}
-use Rattle.tl_number.proofs.Unique.SameNames.{name_key_keys}
+use Rattle.canonical_form.proofs.Arrangements.Carrying.{feats_arranged, names_arranged, names_permutation}
+use Rattle.canonical_form.proofs.Lists.Counting.{entries_equal}
+use Rattle.canonical_form.proofs.Lists.Grouping.{in_order-weaker, then-first}
+use Rattle.canonical_form.proofs.Unique.SameNames.{name_key_keys}
 
 abbrev content : ℕ × Body5 → Body5
 content name = name.1

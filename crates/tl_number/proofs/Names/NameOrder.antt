@@ -15,15 +15,15 @@ use Rattle.tl_county.specs.Laws.KeyOrders.{name_body_keys}
 use Rattle.tl_number.specs.NameItems.{rank_of, ranked_at, ranked_cmp, ranked_place}
 use Rattle.tl_number.specs.declared.name_order.RankedName.{RankedName}
 use Rattle.tl_number.proofs.Choices.AscendingArrangement.{options_total}
-use Rattle.tl_number.proofs.Arrangements.Carrying.{names_permutation}
-use Rattle.tl_number.proofs.Lists.Counting.{up_to-strict}
+use Rattle.canonical_form.proofs.Arrangements.Carrying.{names_permutation}
+use Rattle.canonical_form.proofs.Lists.Counting.{up_to-strict}
 use Rattle.tl_number.proofs.Names.NameRanks.{ranks_decide}
-use Rattle.tl_number.proofs.Arrangements.Placed.{placed_tlids}
+use Rattle.canonical_form.proofs.Arrangements.Placed.{placed_tlids}
 use Rattle.tl_number.proofs.Polygons.PolygonOrder.{read_mapped}
-use Rattle.tl_number.proofs.Unique.SameNames.{name_key_keys}
+use Rattle.canonical_form.proofs.Unique.SameNames.{name_key_keys}
 use Rattle.tl_number.proofs.Lists.SortedPlaces.{sorted_items}
 use Rattle.tl_number.proofs.Views.DirectedChains.{feats_placed}
-use Rattle.tl_number.proofs.Names.UsesOrder.{all_uses-strict}
+use Rattle.canonical_form.proofs.Names.UsesOrder.{all_uses-strict}
 use Rattle.tl_number.proofs.Views.ViewChains.{arranges}
 
 -- distinct keys are each seen once

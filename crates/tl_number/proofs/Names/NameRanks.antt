@@ -8,12 +8,12 @@ use Rattle.tl_number.proofs.Common.{times-no, times-of_number, use_cmp, uses_of_
 use Rattle.std.specs.List.Sorted.{IsStrictlySortedBy}
 use Rattle.ordered_lists.proofs.ByKey.Keys.{differ_apart, known-left}
 use Rattle.ordered_lists.proofs.Lists.Ranges.{less}
-use Rattle.tl_number.proofs.Numbering.FirstSeen.{known_within, place_from, place-append, place-new, seen_stays, unknown_at_end}
-use Rattle.tl_number.proofs.Numbering.FoundPlaces.{place_behind, to_position}
+use Rattle.canonical_form.proofs.Numbering.FirstSeen.{known_within, place_from, place-append, place-new, seen_stays, unknown_at_end}
+use Rattle.canonical_form.proofs.Numbering.FoundPlaces.{place_behind, to_position}
 use Rattle.tl_number.specs.NameItems.{from_one, rank_of}
 use Rattle.std.proofs.lemmas.Bool.{false_from_ne_true}
-use Rattle.tl_number.proofs.Numbering.FirstSeen.{known_after, all_after}
-use Rattle.tl_number.proofs.Names.UsesOrder.{use_keys, under_use}
+use Rattle.canonical_form.proofs.Numbering.FirstSeen.{known_after, all_after}
+use Rattle.canonical_form.proofs.Names.UsesOrder.{use_keys, under_use}
 
 -- the number of a FEAT among those seen, or 0
 abbrev rank : List ℕ → ℕ → ℕ

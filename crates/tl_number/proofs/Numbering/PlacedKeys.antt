@@ -8,8 +8,8 @@ use Rattle.std.proofs.lemmas.List.{get_or-set_other, get_or-set_same}
 use Rattle.std.proofs.lemmas.Option.{none-some, same_Some}
 use Rattle.tl_county.proofs.ByKey.PlacesOfCenids.{known_at}
 use Rattle.tl_number.specs.PlacedKeys.{AreApart, ArePlaced}
-use Rattle.tl_number.proofs.Numbering.SeenKeys.{place_found}
-use Rattle.tl_number.proofs.Numbering.FoundPlaces.{any_within, none_within, to_position}
+use Rattle.canonical_form.proofs.Numbering.SeenKeys.{place_found}
+use Rattle.canonical_form.proofs.Numbering.FoundPlaces.{any_within, none_within, to_position}
 
 module _ {K : Type 0} where
   -- an element of a list with one more key is that key, or was in the list before

@@ -1,8 +1,8 @@
 -- A key that was seen stays at its place.
 use Rattle.tl_number.proofs.Common.{◌≡◌, ◌≤◌, ℕ, List, ◌++◌, length, Ordering, Some, is_eq}
 use Rattle.tl_number.proofs.Common.{sym, ap, ◌∙◌, arith, length-append, IsKeyOrder, first_seen_after, position}
-use Rattle.tl_number.proofs.Numbering.FirstSeen.{seen_stays}
-use Rattle.tl_number.proofs.Numbering.FoundPlaces.{place_stays}
+use Rattle.canonical_form.proofs.Numbering.FirstSeen.{seen_stays}
+use Rattle.canonical_form.proofs.Numbering.FoundPlaces.{place_stays}
 
 module _ {K : Type 0} {cmp : K → K → Ordering} (o : IsKeyOrder cmp) where
   -- a key that was seen keeps its place, whatever is seen later

@@ -14,10 +14,10 @@ use Rattle.ordered_lists.proofs.Lists.InOrder.{strict-permutation}
 use Rattle.ordered_lists.proofs.Lists.EntryLists.{in_order-strict, value-at_place}
 use Rattle.ordered_lists.proofs.Lists.ByPlace.{all_at}
 use Rattle.tl_profile.proofs.PlacedOrder.{all_permuted}
-use Rattle.tl_number.proofs.Arrangements.Carrying.{polygon_lefts, polygons_permutation, polygons_renamed, polygons_arranged}
-use Rattle.tl_number.proofs.Lists.Counting.{map-equal_all, up_to-strict}
-use Rattle.tl_number.proofs.Numbering.FirstSeen.{first_seen-apart}
-use Rattle.tl_number.proofs.Arrangements.Placed.{lefts-numbered, rights-numbered}
+use Rattle.canonical_form.proofs.Arrangements.Carrying.{polygon_lefts, polygons_permutation, polygons_renamed, polygons_arranged}
+use Rattle.canonical_form.proofs.Lists.Counting.{map-equal_all, up_to-strict}
+use Rattle.canonical_form.proofs.Numbering.FirstSeen.{first_seen-apart}
+use Rattle.canonical_form.proofs.Arrangements.Placed.{lefts-numbered, rights-numbered}
 
 -- numbered elements, read by place
 pub numbered_at : {X : Type 0} (i : ℕ) (xs : List X) (k : ℕ) → slice_get (numbered_from i xs) k ≡ option_map (λ x. (i + k, x))

@@ -6,10 +6,10 @@ use Rattle.tl_number.proofs.Common.{directed_chain, first_seen, image, in_order,
 use Rattle.tl_number.proofs.Common.{map_agree_everywhere, name_key, name_key_cmp, names_in_order, new_keys, nodes_along, nodes_in_order}
 use Rattle.tl_number.proofs.Common.{numbered, numbered_from, on, placed, polygons_along, renaming_of, renumbered}
 use Rattle.tl_number.proofs.Common.{renumbered_polygon, side_of, under_cenid}
-use Rattle.tl_number.proofs.Arrangements.Carrying.{chains_arranged, names_arranged, names_renamed, nodes_renamed}
+use Rattle.canonical_form.proofs.Arrangements.Carrying.{chains_arranged, names_arranged, names_renamed, nodes_renamed}
 use Rattle.tl_number.proofs.Landmarks.BodiesFirst.{same_landmarks}
 use Rattle.tl_number.proofs.Texts.SamePolygons.{LinksAgree, links_agree, new_polygons_same, same_links, same_polygons}
-use Rattle.tl_number.proofs.Unique.SameNumbers.{kept_entry}
+use Rattle.canonical_form.proofs.Unique.SameNumbers.{kept_entry}
 use Rattle.tl_number.proofs.Views.ArrangedTables.{same_somes}
 use Rattle.tl_number.proofs.Views.ViewChains.{arranges, bodies_read, chains}
 

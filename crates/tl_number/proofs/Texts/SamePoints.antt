@@ -4,10 +4,10 @@ use Rattle.tl_number.proofs.Common.{Coordinates, County, Fields2, IsArranged, Is
 use Rattle.tl_number.proofs.Common.{in_order-equal, in_pieces, inner_points, length-map, numbered_choice, numbered_from, packed_twos}
 use Rattle.tl_number.proofs.Common.{points_cmp, points_keys, polygon_keys, polygons_along, type_2_by_chain, up_to}
 use Rattle.ordered_lists.proofs.Lists.Reordered.{SameElements, times-same}
-use Rattle.tl_number.proofs.Arrangements.ArrangedCounties.{is_arranged}
+use Rattle.canonical_form.proofs.Arrangements.ArrangedCounties.{is_arranged}
 use Rattle.tl_number.proofs.Choices.SameChoices.{choices_same}
-use Rattle.tl_number.proofs.Choices.TidyChoices.{numbered_is_choice}
-use Rattle.tl_number.proofs.CanonicalLists.SameShapes.{points_in_order, shapes_carried, tidy_shapes}
+use Rattle.canonical_form.proofs.Choices.TidyChoices.{numbered_is_choice}
+use Rattle.canonical_form.proofs.CanonicalLists.SameShapes.{points_in_order, shapes_carried, tidy_shapes}
 
 -- the type 2 records of a chain, from its TLID and its points
 abbrev twos : ℕ → List Coordinates → List Fields2

@@ -4,9 +4,9 @@ use Rattle.tl_number.proofs.Common.{slice_get, Equal, sym, refl, ap, ap₂, ◌�
 use Rattle.tl_number.proofs.Common.{County, DirectedChain, I, IsCounty, arranged_by, arrangement_of, chain_at, directed_chain, ends_of}
 use Rattle.tl_number.proofs.Common.{topologies_of, ltb-false, ltb-true, option_cmp, packed_i, placed, records_cmp, renaming_of, renumbered}
 use Rattle.tl_number.proofs.Common.{sides_of, slice_get-map, slice_get_past, spelling_cmp}
-use Rattle.tl_number.proofs.Arrangements.Carrying.{chains_arranged}
+use Rattle.canonical_form.proofs.Arrangements.Carrying.{chains_arranged}
 use Rattle.tl_number.proofs.Records.PackedGroups.{is}
-use Rattle.tl_number.proofs.Unique.SameNumbers.{kept_entry}
+use Rattle.canonical_form.proofs.Unique.SameNumbers.{kept_entry}
 use Rattle.tl_number.proofs.Texts.TiedOnes.{all_tied}
 use Rattle.tl_number.proofs.Texts.TypeOnes.{length_whole}
 use Rattle.tl_number.proofs.Views.ViewChains.{arranges, bodies_read, chains, chains_arranged_by, read_nowhere, read_there}

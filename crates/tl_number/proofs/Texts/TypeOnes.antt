@@ -5,10 +5,10 @@ use Rattle.tl_number.proofs.Common.{IsWithinLimits, One, Record, arranged_by, ar
 use Rattle.tl_number.proofs.Common.{length_permutation, most_records, nat_list_cmp_total, one_at, ones_of, option_cmp, packed_one, placed}
 use Rattle.tl_number.proofs.Common.{renaming_of, slice_get-map, spelling_cmp, spelling_of, tied_itself, tlid_at, tlids, turned_if}
 use Rattle.std.proofs.lemmas.List.{length-reverse}
-use Rattle.tl_number.proofs.Arrangements.Carrying.{chains_arranged}
+use Rattle.canonical_form.proofs.Arrangements.Carrying.{chains_arranged}
 use Rattle.tl_number.proofs.Records.ChainPlaces.{chain_there}
 use Rattle.tl_number.proofs.Records.PackedGroups.{ones}
-use Rattle.tl_number.proofs.Unique.SameNumbers.{kept_entry}
+use Rattle.canonical_form.proofs.Unique.SameNumbers.{kept_entry}
 use Rattle.tl_number.proofs.Views.ViewChains.{arranges, bodies_read, chains, chains_arranged_by, read_there}
 use Rattle.tl_number.proofs.Polygons.PolygonNumbers.{numbered_at}
 

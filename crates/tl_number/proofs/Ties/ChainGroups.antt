@@ -2,10 +2,10 @@
 use Rattle.tl_number.proofs.Common.{◌≡◌, ◌∙◌, ◌+◌, ℕ, suc, List, [], ◌∷◌, ◌++◌, length, map, map-map, Option, Some, None, refl, sym, ap, ap₂, arith}
 use Rattle.tl_number.proofs.Common.{AreWhole, Chain, County, DirectedChain, IsCounty, arranged_by, arrangement_of, directed_chain, grouped}
 use Rattle.tl_number.proofs.Common.{numbered_from, renaming_of, renumbered, slice_get}
-use Rattle.tl_number.proofs.Arrangements.Carrying.{chains_arranged}
+use Rattle.canonical_form.proofs.Arrangements.Carrying.{chains_arranged}
 use Rattle.tl_number.proofs.Texts.SameChains.{the_same}
 use Rattle.tl_number.proofs.Ties.OpenPlaces.{groups_from}
-use Rattle.tl_number.proofs.Unique.SameNumbers.{kept_entry}
+use Rattle.canonical_form.proofs.Unique.SameNumbers.{kept_entry}
 use Rattle.tl_number.proofs.Views.ViewChains.{arranges, bodies_read, chains, read_length, read_nowhere, read_there}
 
 -- groups made of elements and their numbers

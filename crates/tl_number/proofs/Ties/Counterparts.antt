@@ -6,8 +6,8 @@ use Rattle.tl_number.proofs.Common.{Option, Some, None, apart_tail, not, nat_lt,
 use Rattle.tl_number.proofs.Common.{ltb-false, ltb-true, slice_get-get_or, get_or, times, times-yes}
 use Rattle.std.proofs.lemmas.Grind.{flat_map-append}
 use Rattle.ordered_lists.proofs.ByKey.Keys.{known-append, known-later, known-left}
-use Rattle.tl_number.proofs.Numbering.FoundPlaces.{first_stays, place_behind}
-use Rattle.tl_number.proofs.Numbering.FirstSeen.{known_within, unknown_at_end}
+use Rattle.canonical_form.proofs.Numbering.FoundPlaces.{first_stays, place_behind}
+use Rattle.canonical_form.proofs.Numbering.FirstSeen.{known_within, unknown_at_end}
 use Rattle.tl_number.proofs.Ties.NewlySeen.{AreAlike, alike_append, alike_itself, as_many_new, newly_alike, newly_apart, newly_append, newly_both}
 use Rattle.tl_number.proofs.Ties.NewlySeen.{newly_unseen, seen_newly}
 

@@ -13,7 +13,7 @@ use Rattle.tl_number.specs.CriticalKeys.{brings, fixed_keys}
 use Rattle.tl_number.specs.declared.open_keys.OpenKeys.{OpenKeys}
 use Rattle.tl_number.proofs.Choices.ChosenArrangements.{arrangement_of_number_apart}
 use Rattle.tl_number.proofs.Landmarks.LandmarkLinks.{pieces_next}
-use Rattle.tl_number.proofs.Numbering.FirstSeen.{to_first_seen}
+use Rattle.canonical_form.proofs.Numbering.FirstSeen.{to_first_seen}
 use Rattle.tl_number.proofs.Ties.NewlySeen.{AreAlike}
 use Rattle.tl_number.proofs.Ties.OpenChains.{closed_apart}
 use Rattle.tl_number.proofs.Ties.TieNumbers.{chosen_chains, counterparts}

@@ -11,7 +11,7 @@ use Rattle.tl_county.specs.ChartWords.{polygon_under}
 use Rattle.tl_number.specs.CriticalKeys.{brings, fixed_keys, has_new}
 use Rattle.tl_number.specs.CriticalPlaces.{critical_from}
 use Rattle.tl_number.specs.declared.open_keys.OpenKeys.{OpenKeys}
-use Rattle.tl_number.proofs.Numbering.FirstSeen.{from_first_seen, to_first_seen}
+use Rattle.canonical_form.proofs.Numbering.FirstSeen.{from_first_seen, to_first_seen}
 use Rattle.tl_number.proofs.Numbering.SeenLists.{seen_append}
 use Rattle.tl_number.proofs.Ties.CriticalKeys.{fixed_more}
 

@@ -11,8 +11,8 @@ use Rattle.tl_county.specs.CountyRules.{chain_polygons}
 use Rattle.tl_number.specs.ChoiceSearch.{LeavesChoices}
 use Rattle.tl_number.specs.OpenKeys.{ArePlacedBy, all_by_order, key_by_order, place_by_order}
 use Rattle.tl_number.specs.declared.tie_tables.TieTables.{TieTables}
-use Rattle.tl_number.proofs.Numbering.FoundPlaces.{to_position}
-use Rattle.tl_number.proofs.Numbering.NewNumbers.{key_seen, key_unseen}
+use Rattle.canonical_form.proofs.Numbering.FoundPlaces.{to_position}
+use Rattle.canonical_form.proofs.Numbering.NewNumbers.{key_seen, key_unseen}
 use Rattle.tl_number.proofs.Texts.GroupOrders.{same_groups}
 use Rattle.tl_number.proofs.Texts.SamePolygons.{LinksAgree, same_links}
 use Rattle.tl_number.proofs.Ties.OpenLinks.{all_fail}

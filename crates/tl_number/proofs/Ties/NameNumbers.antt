@@ -19,9 +19,9 @@ use Rattle.tl_number.specs.declared.open_names.OpenNames.{OpenNames}
 use Rattle.tl_shape.specs.Turned.{turned}
 use Rattle.tl_number.proofs.Arrangements.PlacesFit.{few_names}
 use Rattle.tl_number.proofs.Choices.AscendingArrangement.{arrangement_ascend}
-use Rattle.tl_number.proofs.Choices.TidyChoices.{shapes_arrange}
+use Rattle.canonical_form.proofs.Choices.TidyChoices.{shapes_arrange}
 use Rattle.tl_number.proofs.Names.NamePlaces.{feats_permuted, name_stays}
-use Rattle.tl_number.proofs.Numbering.FirstSeen.{from_first_seen, known_within, unknown_at_end}
+use Rattle.canonical_form.proofs.Numbering.FirstSeen.{from_first_seen, known_within, unknown_at_end}
 use Rattle.tl_number.proofs.Ties.Counterparts.{AreCounterparts, found_there, opened_new, there_found}
 use Rattle.tl_number.proofs.Ties.CriticalKeys.{Stay, chains_of, new_of}
 use Rattle.tl_number.proofs.Ties.NameRecords.{names_order}

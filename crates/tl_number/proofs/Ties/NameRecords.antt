@@ -19,7 +19,7 @@ use Rattle.tl_number.specs.CriticalKeys.{brings}
 use Rattle.tl_number.specs.OpenNames.{chain_feats, fours_at, fours_of, fours_under, is_named, named_among}
 use Rattle.tl_number.proofs.Choices.SameChoices.{choices_same}
 use Rattle.tl_number.proofs.Landmarks.LandmarkOrder.{cmp_mapped}
-use Rattle.tl_number.proofs.Lists.Counting.{flat_map-map}
+use Rattle.canonical_form.proofs.Lists.Counting.{flat_map-map}
 use Rattle.tl_number.proofs.Records.Grouped.{grouped_map, none_past}
 use Rattle.tl_number.proofs.Records.Pieces.{numbered_list_length, pieces_counted}
 use Rattle.tl_number.proofs.Texts.TopologyRecords.{entry_of_directed}

@@ -5,7 +5,7 @@ use Rattle.tl_number.proofs.Common.{known-right, first_seen, first_seen_after, l
 use Rattle.tl_number.proofs.Common.{apart-permutation_of, ltb-false, times-append}
 use Rattle.ordered_lists.proofs.ByKey.Keys.{known-append, known-left}
 use Rattle.ordered_lists.proofs.Lists.Reordered.{stands_alike}
-use Rattle.tl_number.proofs.Numbering.FirstSeen.{all_after, first_seen-apart, known_after}
+use Rattle.canonical_form.proofs.Numbering.FirstSeen.{all_after, first_seen-apart, known_after}
 
 -- two lists have the same members
 abbrev pub AreAlike : {K : Type 0} → (K → K → Ordering) → List K → List K → Type 0

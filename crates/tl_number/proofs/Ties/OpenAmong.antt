@@ -9,7 +9,7 @@ use Rattle.std.proofs.lemmas.List.Elements.{filter-append}
 use Rattle.ordered_lists.proofs.ByKey.Keys.{filter_all, known-left, times-filter}
 use Rattle.tl_number.specs.OpenKeys.{place_by_order}
 use Rattle.tl_number.specs.declared.open_keys.OpenKeys.{OpenKeys}
-use Rattle.tl_number.proofs.Numbering.FirstSeen.{known_within, unknown_at_end}
+use Rattle.canonical_form.proofs.Numbering.FirstSeen.{known_within, unknown_at_end}
 use Rattle.tl_number.proofs.Ties.Counterparts.{AreCounterparts, found_there, got_known, place_of_open, place_of_other, there_found}
 use Rattle.tl_number.proofs.Ties.NewlySeen.{AreAlike, newly_append, seen_newly}
 use Rattle.tl_number.proofs.Ties.OpenOrder.{open_or_closed}

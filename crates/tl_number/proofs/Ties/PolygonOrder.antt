@@ -17,7 +17,7 @@ use Rattle.tl_number.specs.OpenKeys.{key_by_order}
 use Rattle.tl_number.specs.TieRecords.{polygon_in_choice}
 use Rattle.tl_number.specs.declared.tie_tables.TieTables.{TieTables}
 use Rattle.tl_number.proofs.Landmarks.LandmarkOrder.{cmp_mapped}
-use Rattle.tl_number.proofs.Numbering.FirstSeen.{first_seen-apart}
+use Rattle.canonical_form.proofs.Numbering.FirstSeen.{first_seen-apart}
 use Rattle.tl_number.proofs.Polygons.PolygonNumbers.{by_number, key_numbered}
 use Rattle.tl_number.proofs.Ties.CriticalKeys.{chains_of}
 use Rattle.tl_number.proofs.Ties.GapOrder.{gaps_decide}

@@ -18,7 +18,7 @@ use Rattle.tl_number.proofs.Choices.AscendingArrangement.{arrangement_there}
 use Rattle.tl_number.proofs.Choices.ChosenArrangements.{arrangement_of_number, arrangement_of_number_count, places_within}
 use Rattle.tl_number.proofs.Choices.LeastOnes.{agree_of_numbers, whole_of_number}
 use Rattle.tl_number.proofs.Landmarks.LandmarkLinks.{listed}
-use Rattle.tl_number.proofs.Numbering.FirstSeen.{first_seen-apart, known_within}
+use Rattle.canonical_form.proofs.Numbering.FirstSeen.{first_seen-apart, known_within}
 use Rattle.tl_number.proofs.Texts.TypeOnes.{length_whole}
 use Rattle.tl_number.proofs.Ties.Counterparts.{AreCounterparts, AreExchanged, AreKept, got_known, key_of_open, key_of_other, opened_new, there_found}
 use Rattle.tl_number.proofs.Ties.MovedKeys.{moved_exchange}

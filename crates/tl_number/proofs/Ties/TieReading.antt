@@ -3,7 +3,7 @@ use Rattle.tl_number.proofs.Common.{◌≡◌, ◌<◌, ◌≤◌, ◌+◌, ◌&
 use Rattle.tl_number.proofs.Common.{Ordering, Option, Some, None, option_map, option_to_list, refl, sym, ap, ap₂, subst, arith, append-nil, AllByRecursion, Chain, County, DirectedChain, IsApart, IsKeyOrder}
 use Rattle.tl_number.proofs.Common.{cons_option, critical_numbers, directed_chain, grouped, keys_along, newly_seen, open_keys, range_with_len, times, times-append}
 use Rattle.ordered_lists.specs.Places.{at_places}
-use Rattle.tl_number.proofs.Numbering.FirstSeen.{first_seen-apart}
+use Rattle.canonical_form.proofs.Numbering.FirstSeen.{first_seen-apart}
 use Rattle.tl_number.proofs.Ties.NewlySeen.{newly_append, seen_newly}
 
 -- keys of what is read of each directed chain

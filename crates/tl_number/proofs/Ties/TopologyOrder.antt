@@ -18,8 +18,8 @@ use Rattle.tl_number.specs.ChoiceSearch.{LeavesChoices}
 use Rattle.tl_number.specs.CriticalKeys.{brings}
 use Rattle.tl_number.specs.CriticalPlaces.{is_critical}
 use Rattle.tl_number.specs.declared.tie_tables.TieTables.{TieTables}
-use Rattle.tl_number.proofs.Lists.Counting.{flat_map-map}
-use Rattle.tl_number.proofs.Numbering.NewNumbers.{image-numbered, image-under_cenid}
+use Rattle.canonical_form.proofs.Lists.Counting.{flat_map-map}
+use Rattle.canonical_form.proofs.Numbering.NewNumbers.{image-numbered, image-under_cenid}
 use Rattle.tl_number.proofs.Records.Grouped.{grouped_map}
 use Rattle.tl_number.proofs.Records.PackedGroups.{is as is_packed}
 use Rattle.tl_number.proofs.Texts.TopologyRecords.{entry_of_directed, no_topology, topology_record_there}

@@ -10,7 +10,7 @@ use Rattle.ordered_lists.proofs.Lists.Places.{one_more_taken}
 use Rattle.tl_number.proofs.Records.Grouped.{get_dropped}
 use Rattle.tl_number.proofs.Numbering.SeenLists.{seen_append}
 use Rattle.tl_number.proofs.Numbering.SeenPlaces.{seen_fewer, seen_keeps}
-use Rattle.tl_number.proofs.Numbering.NewNumbers.{number_seen, key_seen, seen_within}
+use Rattle.canonical_form.proofs.Numbering.NewNumbers.{number_seen, key_seen, seen_within}
 
 -- the element at a place comes before those after it
 next_dropped : {X : Type 0} (xs : List X) (i : ℕ) (x : X) → Some x ≡ slice_get xs i → drop i xs ≡ x ∷ drop (suc i) xs

@@ -7,7 +7,7 @@ use Rattle.tl_number.proofs.Common.{key_cmp, map-map, nodes_at, nodes_in_order, 
 use Rattle.tl_number.proofs.Common.{renumbered, renumbered_polygon, rights-numbered_from, side_of, sides_of}
 use Rattle.tl_number.specs.EndsAndSides.{polygon_among, polygons_at, sides_among}
 use Rattle.tl_number.proofs.Polygons.PolygonOrder.{few_polygons}
-use Rattle.tl_number.proofs.Lists.Counting.{flat_map-map}
+use Rattle.canonical_form.proofs.Lists.Counting.{flat_map-map}
 use Rattle.tl_number.proofs.Views.ViewChains.{bodies_read, chains, values}
 use Rattle.tl_number.proofs.Views.ViewTables.{keys_paired, nodes_paired}
 

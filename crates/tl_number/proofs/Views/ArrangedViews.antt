@@ -3,8 +3,8 @@ use Rattle.tl_number.proofs.Common.{◌<◌, ◌^◌, length, arith, nat_cmp, Li
 use Rattle.tl_number.proofs.Common.{DirectedChain, HasChainsOf, IsApart, IsCounty, IsWithinLimits, NamesEachOnce, apart-permutation_of}
 use Rattle.tl_number.proofs.Common.{apart_from_sorted, arranged_tlids, arrangement_of, most_records, nat_keys, polygon_keys, polygons_along}
 use Rattle.tl_number.proofs.Common.{tlids}
-use Rattle.tl_number.proofs.Arrangements.ArrangedCounties.{arranged_county}
-use Rattle.tl_number.proofs.Arrangements.ArrangedNumbers.{arrangement_within}
+use Rattle.canonical_form.proofs.Arrangements.ArrangedCounties.{arranged_county}
+use Rattle.canonical_form.proofs.Arrangements.ArrangedNumbers.{arrangement_within}
 
 pub arranges_once : (county : County) (order : Arrangement) → IsCounty county → NamesEachOnce county order → Arranges order county
 arranges_once county order is once =

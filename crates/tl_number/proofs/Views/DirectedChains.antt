@@ -7,7 +7,7 @@ use Rattle.tl_number.proofs.Common.{rights-numbered_from, slice_get-map, times-o
 use Rattle.std.proofs.lemmas.Option.{get_or_from_slice_get}
 use Rattle.ordered_lists.proofs.Lists.Elements.{flat_map_agree}
 use Rattle.std.proofs.lemmas.Grind.{flat_map-append}
-use Rattle.tl_number.proofs.Lists.Counting.{flat_map-map}
+use Rattle.canonical_form.proofs.Lists.Counting.{flat_map-map}
 use Rattle.tl_number.proofs.Records.ChainPlaces.{some_at}
 
 -- the element at a place is in the list

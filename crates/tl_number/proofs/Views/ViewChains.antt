@@ -5,8 +5,8 @@ use Rattle.tl_number.proofs.Common.{DirectedChain, HasChainsOf, IsApart, IsCount
 use Rattle.tl_number.proofs.Common.{arranged_by, arranged_tlids, arrangement_of, chain_at, directed_chain, entries_of, entry_values}
 use Rattle.tl_number.proofs.Common.{length-map, map-map, nat_keys, placed, renaming_of, renumbered, rights-numbered_from, slice_get-map}
 use Rattle.tl_number.proofs.Common.{slice_get_past, tlid_at, tlids, turned_if, up_to}
-use Rattle.tl_number.proofs.Arrangements.Carrying.{chains_arranged, tlids_arranged}
-use Rattle.tl_number.proofs.Unique.SameNumbers.{kept_entry}
+use Rattle.canonical_form.proofs.Arrangements.Carrying.{chains_arranged, tlids_arranged}
+use Rattle.canonical_form.proofs.Unique.SameNumbers.{kept_entry}
 use Rattle.tl_number.proofs.Views.DirectedChains.{one_here}
 
 -- a list read through a function of another list's elements

@@ -12,10 +12,10 @@ use Rattle.ordered_lists.proofs.ByKey.Numbers.{distinct-in_order}
 use Rattle.tl_number.specs.ViewFacts.{MatchesNames, MatchesLandmarks}
 use Rattle.tl_number.specs.declared.arranged_tables.LandmarkTables.{LandmarkTables}
 use Rattle.tl_number.specs.declared.arranged_tables.NameTables.{NameTables}
-use Rattle.tl_number.proofs.Arrangements.Carrying.{names_arranged, landmarks_arranged, feats_arranged, lands_arranged, paired_nodes, node_rights}
-use Rattle.tl_number.proofs.Arrangements.Carrying.{nodes_renamed, names_renamed, polygons_renamed}
-use Rattle.tl_number.proofs.Lists.Grouping.{in_order-weaker, then-first}
-use Rattle.tl_number.proofs.Lists.Counting.{up_to-strict}
+use Rattle.canonical_form.proofs.Arrangements.Carrying.{names_arranged, landmarks_arranged, feats_arranged, lands_arranged, paired_nodes, node_rights}
+use Rattle.canonical_form.proofs.Arrangements.Carrying.{nodes_renamed, names_renamed, polygons_renamed}
+use Rattle.canonical_form.proofs.Lists.Grouping.{in_order-weaker, then-first}
+use Rattle.canonical_form.proofs.Lists.Counting.{up_to-strict}
 use Rattle.tl_number.proofs.Views.ViewChains.{arranges, read_there, read_nowhere, read_length}
 
 -- a strictly ascending list is in order

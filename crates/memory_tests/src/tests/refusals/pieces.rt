@@ -1,7 +1,7 @@
 //! What comes behind admission within whole calls, with growths refused as is asked for.
 
 ghost use Rattle.std.specs.Prelude.{◌≡◌};
-ghost use Rattle.tl_number.specs.Arrangement.{ascending};
+ghost use Rattle.canonical_form.specs.Arrangement.{ascending};
 ghost use Rattle.tl_number.specs.DirectedChains.{HasChainsOf, arrangement_of};
 ghost use Rattle.tl_profile.specs.Profile.{IsInProfile};
 

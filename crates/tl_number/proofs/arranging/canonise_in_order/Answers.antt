@@ -1,7 +1,7 @@
 use Rattle.tl_number.proofs.Common.{◌∙◌, sym, ap, subst, AreSame, Arrangement, Carries, County, IsCanonCounty, IsCounty, IsInProfile}
 use Rattle.tl_number.proofs.Common.{IsLeastChoice, arranged, arranged_by, arrangement_of, renaming_of}
 use Rattle.tl_number.proofs.Lemmas.{arrangement_carries}
-use Rattle.tl_number.proofs.CanonicalLists.Ascending.{few_in_profile, sides_in_profile}
+use Rattle.canonical_form.proofs.CanonicalLists.Ascending.{few_in_profile, sides_in_profile}
 use Rattle.tl_number.proofs.CanonicalLists.CanonLists.{least_choice_county}
 use Rattle.tl_number.proofs.arranging.canonise_in_order.Goals as goal
 

@@ -3,7 +3,7 @@ use Rattle.tl_number.proofs.Common.{IsNotAfter, arranged_by, choice_list, choice
 use Rattle.tl_number.specs.declared.numbered_arrangement.NumberedArrangement.{NumberedArrangement}
 use Rattle.tl_number.proofs.Choices.LeastNumbers.{not_after_both, tie_least, ties_least}
 use Rattle.tl_number.proofs.Choices.LeastOnes.{both_tied, lesser_tie, tied_along, tied_with_itself}
-use Rattle.tl_number.proofs.CanonicalLists.TidyLists.{not_after_itself}
+use Rattle.canonical_form.proofs.CanonicalLists.TidyLists.{not_after_itself}
 use Rattle.tl_number.proofs.least_choice.least_among_ties.Goals as goal
 
 -- what holds of two holds of one of them

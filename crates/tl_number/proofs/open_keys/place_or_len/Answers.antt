@@ -1,5 +1,5 @@
 use Rattle.tl_number.proofs.Common.{◌∙◌, ap, any-stands_in, is_eq, is_some, refl, sym}
-use Rattle.tl_number.proofs.Numbering.FoundPlaces.{none_at_end}
+use Rattle.canonical_form.proofs.Numbering.FoundPlaces.{none_at_end}
 use Rattle.tl_number.proofs.open_keys.place_or_len.Goals as goal
 
 pub returns-in-None : goal.returns-in-None

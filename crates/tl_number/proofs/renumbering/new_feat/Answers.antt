@@ -1,5 +1,5 @@
 use Rattle.tl_number.proofs.Common.{sym}
-use Rattle.tl_number.proofs.Numbering.NewNumbers.{number_seen, number_unseen}
+use Rattle.canonical_form.proofs.Numbering.NewNumbers.{number_seen, number_unseen}
 use Rattle.tl_number.proofs.renumbering.new_feat.Goals as goal
 
 pub returns-in-Some : goal.returns-in-Some

@@ -1,5 +1,5 @@
 use Rattle.tl_number.proofs.Common.{sym}
-use Rattle.tl_number.proofs.Numbering.NewNumbers.{key_seen, key_unseen}
+use Rattle.canonical_form.proofs.Numbering.NewNumbers.{key_seen, key_unseen}
 use Rattle.tl_number.proofs.renumbering.new_key.Goals as goal
 
 pub returns-in-Some-clause-image : goal.returns-in-Some-clause-image

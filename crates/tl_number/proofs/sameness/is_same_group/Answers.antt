@@ -1,7 +1,7 @@
 use Rattle.tl_number.proofs.Common.{◌≡◌, ◌∙◌, ◌-◌, ℕ, Decides, YieldsList-from_range, false≢true, group_at, refl, rules, slice_get, sym, true, false, arith}
 use Rattle.std.proofs.lemmas.Iterator.{cases_from_all}
 use Rattle.tl_number.proofs.Choices.FixedPlaces.{decides_equal}
-use Rattle.tl_number.proofs.Lists.Counting.{places_from_decide}
+use Rattle.canonical_form.proofs.Lists.Counting.{places_from_decide}
 use Rattle.tl_number.proofs.sameness.is_same_group.Goals as goal
 
 pub returns-then-count_in-count : goal.returns-then-count_in-count

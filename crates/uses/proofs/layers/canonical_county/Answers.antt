@@ -2,10 +2,10 @@ use Rattle.std.proofs.Common.{◌≡◌, subst, sym}
 use Rattle.tl_county.specs.County.{county_of}
 use Rattle.tl_county.specs.Packing.{packed}
 use Rattle.tl_profile.specs.Profile.{IsInProfile}
-use Rattle.tl_number.specs.Accepted.{IsAccepted, IsCanonicalOf}
-use Rattle.tl_number.specs.Arrangement.{arranged}
+use Rattle.canonical_form.specs.Accepted.{IsAccepted, IsCanonicalOf}
+use Rattle.canonical_form.specs.Arrangement.{arranged}
 use Rattle.tl_number.specs.Views.{arranged_county, arrangement_in}
-use Rattle.tl_number.specs.Tidy.{IsLeastChoice}
+use Rattle.canonical_form.specs.Tidy.{IsLeastChoice}
 use Rattle.uses.proofs.layers.canonical_county.Goals as goal
 
 pub returns : goal.returns

@@ -1,9 +1,9 @@
 use Rattle.tigercanon.proofs.Common.{◌∙◌, ap, subst, sym, masked, County, packed, masked_sight}
-use Rattle.tl_number.specs.Accepted.{IsCanonicalThrough}
-use Rattle.tl_number.specs.Arrangement.{arranged}
-use Rattle.tl_number.specs.Tidy.{IsLeastChoice}
+use Rattle.canonical_form.specs.Accepted.{IsCanonicalThrough}
+use Rattle.canonical_form.specs.Arrangement.{arranged}
+use Rattle.canonical_form.specs.Tidy.{IsLeastChoice}
 use Rattle.tl_number.specs.Views.{arrangement_in}
-use Rattle.tl_number.proofs.CanonicalLists.Ascending.{choice_is_canonical}
+use Rattle.canonical_form.proofs.CanonicalLists.Ascending.{choice_is_canonical}
 use Rattle.tigercanon.proofs.library.making.make_seen.Goals as goal
 
 pub returns-clause-made : goal.returns-clause-made

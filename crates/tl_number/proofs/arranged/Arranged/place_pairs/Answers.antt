@@ -1,5 +1,5 @@
 use Rattle.tl_number.proofs.Common.{◌∙◌, ap, map, subst, sym, AreReadAt, arrangement_of, landmarks_in_order, numbered, under_cenid}
-use Rattle.tl_number.specs.Arrangement.{renaming_of}
+use Rattle.canonical_form.specs.Arrangement.{renaming_of}
 use Rattle.tl_number.proofs.arranged.Arranged.place_pairs.Goals as goal
 
 pub returns-clause-polygons : goal.returns-clause-polygons

@@ -1,6 +1,6 @@
 use Rattle.tl_number.proofs.Common.{◌∙◌, ap, subst, sym, Carries, arranged_by, arrangement_of, numbered}
 use Rattle.tl_number.proofs.Lemmas.{arrangement_carries}
-use Rattle.tl_number.specs.Arrangement.{renaming_of}
+use Rattle.canonical_form.specs.Arrangement.{renaming_of}
 use Rattle.tl_number.proofs.Views.ViewChains.{arranges}
 use Rattle.tl_number.proofs.arranged.Arranged.renaming.Goals as goal
 

@@ -1,5 +1,5 @@
 use Rattle.tl_number.proofs.Common.{◌∙◌, ap, arranged_tlids, arrangement_of, numbered, turned_tlids}
-use Rattle.tl_number.specs.Arrangement.{renaming_of}
+use Rattle.canonical_form.specs.Arrangement.{renaming_of}
 use Rattle.tl_number.proofs.arranged.Arranged.tlid_pairs.Goals as goal
 
 pub returns-clause-chains : goal.returns-clause-chains

@@ -1,10 +1,10 @@
 use Rattle.std.proofs.Common.{sym, subst}
 use Rattle.tl_county.specs.CountyRules.{tlids}
 use Rattle.ordered_lists.proofs.ByKey.Keys.{nat_keys, times-permutation}
-use Rattle.tl_number.specs.Arrangement.{ascending, arranged_tlids}
+use Rattle.canonical_form.specs.Arrangement.{ascending, arranged_tlids}
 use Rattle.tl_number.specs.ViewFacts.{NamesEachOnce}
-use Rattle.tl_number.proofs.CanonicalLists.Ascending.{sides_in_profile}
-use Rattle.tl_number.proofs.Choices.TidyChoices.{shapes_arrange}
+use Rattle.canonical_form.proofs.CanonicalLists.Ascending.{sides_in_profile}
+use Rattle.canonical_form.proofs.Choices.TidyChoices.{shapes_arrange}
 use Rattle.memory_tests.proofs.tests.refusals.pieces.arrange_ascending.Goals as goal
 
 pub arrange-requires-clause-once : goal.arrange-requires-clause-once

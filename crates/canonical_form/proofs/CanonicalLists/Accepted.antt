@@ -1,0 +1,98 @@
+-- Each list of records is accepted or has one refusal. Through each view the canonical lists of two accepted lists have the same
+-- text if the view shows the same map of both counties, and are equal only then.
+use Rattle.canonical_form.proofs.Common.{◌≡◌, ◌⊎◌, List, refl, sym, ap, subst, inl, inr, AreSame, County, IsAccepted, IsCanonicalThrough}
+use Rattle.canonical_form.proofs.Common.{IsCounty, IsInProfile, IsLinked, IsSight, Record, county-is_county, county_of, plain, same-reflexive}
+use Rattle.canonical_form.proofs.Common.{same-symmetric, same-transitive, text_of}
+use Rattle.tl_county.specs.LinkRules.{IsFirstBrokenRule}
+use Rattle.tl_county.specs.declared.fault.LinkFault.{LinkFault}
+use Rattle.tl_county.proofs.Rules.LinkFaults.{linked_or_first, linked_has_none, one_first_rule}
+use Rattle.tl_profile.specs.Profile.{IsFirstBrokenClause}
+use Rattle.tl_profile.specs.declared.fault.ProfileFault.{ProfileFault}
+use Rattle.tl_profile.proofs.ProfileFaults.{profile_or_first, profile_has_none, one_first_clause}
+use Rattle.tl_profile.proofs.SameProfile.{same_in_profile}
+use Rattle.canonical_form.specs.Accepted.{RecordsRefusal, Unlinked, OutOfProfile, IsRefusal, IsCanonicalOf}
+use Rattle.canonical_form.proofs.CanonicalLists.TidyLists.{canonical_texts_equal}
+
+pub accepted_or_refused : (records : List Record) → IsAccepted records ⊎ ((refusal : RecordsRefusal) × IsRefusal records refusal)
+accepted_or_refused records = go (linked_or_first records)
+  where
+    profile : IsLinked records → IsInProfile (county_of records) ⊎ ((fault : ProfileFault) × IsFirstBrokenClause (county_of records) fault)
+        → IsAccepted records ⊎ ((refusal : RecordsRefusal) × IsRefusal records refusal)
+    profile linked (inl within) = inl (record { linked = linked; profile = within })
+    profile linked (inr f) = inr (OutOfProfile f.0, (linked, f.1))
+
+    go : IsLinked records ⊎ ((fault : LinkFault) × IsFirstBrokenRule records fault)
+        → IsAccepted records ⊎ ((refusal : RecordsRefusal) × IsRefusal records refusal)
+    go (inl linked) = profile linked (profile_or_first (county_of records))
+    go (inr f) = inr (Unlinked f.0, f.1)
+
+pub accepted_not_refused : (records : List Record) (refusal : RecordsRefusal) → IsAccepted records → IsRefusal records refusal → ⊥
+accepted_not_refused records (Unlinked f) a h = linked_has_none records f a.linked h
+accepted_not_refused records (OutOfProfile f) a h = profile_has_none (county_of records) f a.profile h.1
+
+pub one_refusal : (records : List Record) (f g : RecordsRefusal) → IsRefusal records f → IsRefusal records g → f ≡ g
+one_refusal records (Unlinked f) (Unlinked g) h k = ap Unlinked (one_first_rule records f g h k)
+one_refusal records (Unlinked f) (OutOfProfile g) h k = absurd (linked_has_none records f k.0 h)
+one_refusal records (OutOfProfile f) (Unlinked g) h k = absurd (linked_has_none records g h.0 k)
+one_refusal records (OutOfProfile f) (OutOfProfile g) h k = ap OutOfProfile (one_first_clause (county_of records) f g h.1 k.1)
+
+-- viewing the county itself is a view
+pub plain_sight : IsSight plain
+plain_sight = record {
+  is_county = λ county h. h;
+  profile = λ county h. h;
+  limits = λ limit county h. h;
+  once = λ county. refl;
+  carried = λ r old new carries own. refl;
+}
+
+-- canonical lists through a view
+module _ (seen : County → County) (sight : IsSight seen) where
+  seen_county : (records : List Record) → IsAccepted records → IsCounty (seen (county_of records))
+  seen_county records accepted = sight.is_county (county_of records) (county-is_county records accepted.linked)
+
+  module _ (xs ys c d : List Record) (h : IsCanonicalThrough seen xs c) (k : IsCanonicalThrough seen ys d) where
+    pub same_canonical_text : AreSame (seen (county_of xs)) (seen (county_of ys)) → text_of c ≡ text_of d
+    same_canonical_text s =
+        let old : County = seen (county_of xs) in
+        let other : County = seen (county_of ys) in
+        let back : AreSame (county_of c) old =
+        same-symmetric old (county_of c) (seen_county xs h.accepted) (county-is_county c h.canonical.in_form.linked) h.same in
+        let there : AreSame (county_of c) other =
+        same-transitive (county_of c) old other (county-is_county c h.canonical.in_form.linked) (seen_county xs h.accepted) back s in
+        canonical_texts_equal c d h.canonical k.canonical (same-transitive (county_of c) other (county_of d)
+        (county-is_county c h.canonical.in_form.linked) (seen_county ys k.accepted) there k.same)
+
+    pub one_canonical_same : c ≡ d → AreSame (seen (county_of xs)) (seen (county_of ys))
+    one_canonical_same e =
+        let old : County = seen (county_of xs) in
+        let other : County = seen (county_of ys) in
+        let back : AreSame (county_of d) other =
+        same-symmetric other (county_of d) (seen_county ys k.accepted) (county-is_county d k.canonical.in_form.linked) k.same in
+        let there : AreSame old (county_of d) = subst (λ l. AreSame old (county_of l)) e h.same in
+        same-transitive old (county_of d) other (seen_county xs h.accepted) (county-is_county d k.canonical.in_form.linked) there back
+
+  -- a canonical list of an accepted one is accepted
+  pub canonical_accepted : (xs c : List Record) → IsCanonicalThrough seen xs c → IsAccepted c
+  canonical_accepted xs c h = record {
+    linked = h.canonical.in_form.linked;
+    profile = same_in_profile (seen (county_of xs)) (county_of c) h.same (sight.profile (county_of xs) h.accepted.profile);
+  }
+
+  -- it is its own canonical list through the view
+  pub canonical_of_itself : (xs c : List Record) → IsCanonicalThrough seen xs c → IsCanonicalThrough seen c c
+  canonical_of_itself xs c h = record {
+    accepted = canonical_accepted xs c h;
+    canonical = h.canonical;
+    own = h.own;
+    same = subst (λ old. AreSame old (county_of c)) (sym h.own) (same-reflexive (county_of c));
+  }
+
+  -- and without the view
+  pub canonical_as_it_is : (xs c : List Record) → IsCanonicalThrough seen xs c → IsCanonicalOf c c
+  canonical_as_it_is xs c h = record {
+    accepted = canonical_accepted xs c h;
+    canonical = h.canonical;
+    own = refl;
+    same = same-reflexive (county_of c);
+  }

@@ -1,0 +1,71 @@
+-- Counties in the profile: their polygons are on sides, and they have few choices. Each accepted list of records has a canonical
+-- list, the list of a choice of least text.
+use Rattle.canonical_form.proofs.Common.{◌≡◌, ◌⊎◌, ◌≤◌, ◌||◌, List, true, Option, IsTrue, is_some, sym, ap, ◌∙◌, subst, inl, inr, AllKeysStandIn}
+use Rattle.canonical_form.proofs.Common.{Among, Arrangement, BodyP, County, HasShapesApart, IsAccepted, IsCanonicalThrough, IsCounty}
+use Rattle.canonical_form.proofs.Common.{IsInProfile, IsLeastChoice, IsSight, PolygonKey, Record, TooSymmetric, all_among, among-unmap, arranged}
+use Rattle.canonical_form.proofs.Common.{arranged_list, ascending, choices, county-is_county, county_of, each_from, key_cmp, lt-ltb, ltb-false}
+use Rattle.canonical_form.proofs.Common.{most_choices, numbered_choice, polygon_keys, polygons_along, renaming_of, stands_in, times}
+use Rattle.std.proofs.lemmas.Bool.{or_cases}
+use Rattle.tl_profile.proofs.SameProfile.{body_on_side}
+use Rattle.canonical_form.proofs.Arrangements.Carrying.{arrangement_carries}
+use Rattle.canonical_form.proofs.CanonicalLists.OneChoice.{only_choice}
+use Rattle.canonical_form.proofs.CanonicalLists.TidyLists.{choice_is_same, least_choice, least_choice_is_canonical, canonical_is_choice, read_back}
+
+module _ (county : County) (is : IsCounty county) (profile : IsInProfile county) where
+  -- each polygon is on a side
+  pub sides_in_profile : AllKeysStandIn (polygons_along county.chains) (polygon_keys county)
+  sides_in_profile = each_from (λ k. IsTrue (stands_in key_cmp k (polygons_along county.chains))) (polygon_keys county)
+      (λ k m. let e = among-unmap (λ (d : PolygonKey × Option BodyP). d.0) k county.polygons m in
+      let whole : (is_some e.0.1 || stands_in key_cmp e.0.0 (polygons_along county.chains)) ≡ true =
+      all_among (λ d. IsTrue
+      (is_some d.1 || stands_in key_cmp d.0 (polygons_along county.chains))) e.0 county.polygons is.whole.polygons e.1 in
+      subst (λ j. IsTrue (stands_in key_cmp j (polygons_along county.chains))) (sym e.2)
+      (go e.0 e.1 (or_cases (is_some e.0.1) (stands_in key_cmp e.0.0 (polygons_along county.chains)) whole)))
+    where
+      go : (d : PolygonKey × Option BodyP) → Among d county.polygons
+          → (is_some d.1 ≡ true) ⊎ (stands_in key_cmp d.0 (polygons_along county.chains) ≡ true)
+          → IsTrue (stands_in key_cmp d.0 (polygons_along county.chains))
+      go d m (inl some) = lt-ltb 0 (times key_cmp d.0 (polygons_along county.chains)) (body_on_side county profile d m some)
+      go d m (inr side) = side
+
+  -- the choices are few enough to be tried
+  pub few_in_profile : choices county ≤ most_choices
+  few_in_profile = ltb-false most_choices (choices county) (profile TooSymmetric)
+
+-- what a view shows of an accepted list
+module _ (seen : County → County) (sight : IsSight seen) (records : List Record) (accepted : IsAccepted records) where
+  abbrev shown : County
+  shown = seen (county_of records)
+
+  seen_is_county : IsCounty shown
+  seen_is_county = sight.is_county (county_of records) (county-is_county records accepted.linked)
+
+  seen_in_profile : IsInProfile shown
+  seen_in_profile = sight.profile (county_of records) accepted.profile
+
+  seen_sides : AllKeysStandIn (polygons_along shown.chains) (polygon_keys shown)
+  seen_sides = sides_in_profile shown seen_is_county seen_in_profile
+
+  -- each choice of least text makes a canonical list
+  pub choice_is_canonical : (arrangement : Arrangement) → IsLeastChoice shown arrangement → IsCanonicalThrough seen records (arranged_list shown arrangement)
+  choice_is_canonical arrangement least = record {
+    accepted = accepted;
+    canonical = least_choice_is_canonical shown seen_is_county seen_sides arrangement least;
+    own = subst (λ county. seen county ≡ county) (sym (read_back shown seen_is_county seen_sides arrangement least.choice))
+        (sight.carried (renaming_of shown arrangement) shown (arranged shown arrangement)
+        (arrangement_carries shown arrangement seen_is_county least.choice.arranges seen_sides) (sight.once (county_of records)));
+    same = choice_is_same shown seen_is_county seen_sides arrangement least.choice;
+  }
+
+  pub canonical_exists : (answer : List Record) × IsCanonicalThrough seen records answer
+  canonical_exists =
+      let found = least_choice shown seen_is_county seen_sides in
+      let arrangement : Arrangement = numbered_choice shown found.0 in
+      (arranged_list shown arrangement, choice_is_canonical arrangement found.2)
+
+  -- if shapes are distinct, the only canonical list is the one of the ascending arrangement
+  pub ascends_where_apart : HasShapesApart shown → (answer : List Record) → IsCanonicalThrough seen records answer
+      → answer ≡ arranged_list shown (ascending shown)
+  ascends_where_apart apart answer h =
+      let found = canonical_is_choice shown seen_is_county seen_sides answer h.canonical h.same in
+      found.2 ∙ ap (arranged_list shown) (only_choice shown seen_is_county apart found.0 found.1.choice)

@@ -1,0 +1,4 @@
+-- Choices of the order and the directions of chains: by number, by moves at open places, and the one with the least text.
+pub mod LesserDirections
+pub mod Choosing
+pub mod TidyChoices

@@ -1,0 +1,9 @@
+pub mod Numbering
+pub mod Lists
+pub mod Unique
+pub mod Names
+pub mod Arrangements
+pub mod CanonicalLists
+pub mod Choices
+pub mod Masks
+pub mod Common

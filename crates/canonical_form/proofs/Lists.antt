@@ -1,0 +1,4 @@
+-- Lemmas on lists of any elements.
+pub mod Counting
+pub mod Grouping
+pub mod Filtered

@@ -1,0 +1,2 @@
+-- Names in their new order.
+pub mod UsesOrder

@@ -1,0 +1,5 @@
+use Rattle.canonical_form.proofs.Common.{packed_county}
+use Rattle.canonical_form.proofs.laws.a_packed_county_is_read_back.Goals as goal
+
+pub returns : goal.returns
+returns c = packed_county

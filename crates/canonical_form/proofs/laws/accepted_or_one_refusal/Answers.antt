@@ -1,0 +1,9 @@
+use Rattle.canonical_form.proofs.CanonicalLists.Accepted.{accepted_or_refused, accepted_not_refused, one_refusal}
+use Rattle.canonical_form.proofs.laws.accepted_or_one_refusal.Goals as goal
+
+pub returns : goal.returns
+returns c = record {
+  either = accepted_or_refused;
+  not_both = accepted_not_refused;
+  only_one = one_refusal;
+}

@@ -1,0 +1,38 @@
+-- Whole lists of records: which are accepted, why the others are refused, and the canonical list of an accepted one.
+use Rattle.std.specs.Prelude.{◌≡◌, List}
+use Rattle.tl_layout.specs.declared.record_type.Record.{Record}
+use Rattle.tl_county.specs.County.{County, county_of}
+use Rattle.tl_county.specs.LinkRules.{IsLinked, IsFirstBrokenRule}
+use Rattle.tl_county.specs.Renumbering.{AreSame}
+use Rattle.tl_county.specs.declared.fault.LinkFault.{LinkFault}
+use Rattle.tl_profile.specs.Profile.{IsInProfile, IsFirstBrokenClause}
+use Rattle.tl_profile.specs.declared.fault.ProfileFault.{ProfileFault}
+use Rattle.canonical_form.specs.Canonical.{IsCanonical}
+use Rattle.canonical_form.specs.Sights.{plain}
+
+-- the records fit together, and their county is in the profile
+pub record IsAccepted (records : List Record) : Type 0 where
+  pub linked : IsLinked records
+  pub profile : IsInProfile (county_of records)
+
+-- the reasons for refusing records that were read
+pub data RecordsRefusal : Type 0 where
+  Unlinked : LinkFault → RecordsRefusal
+  OutOfProfile : ProfileFault → RecordsRefusal
+
+-- the first broken rule, or for records that fit together, the first broken clause of the profile
+abbrev pub IsRefusal : List Record → RecordsRefusal → Type 0
+IsRefusal records (Unlinked fault) = IsFirstBrokenRule records fault
+IsRefusal records (OutOfProfile fault) = IsLinked records × IsFirstBrokenClause (county_of records) fault
+
+-- an accepted list, and a canonical list whose county the view shows whole and which is the same as the view of the first
+-- list's county
+pub record IsCanonicalThrough (seen : County → County) (records answer : List Record) : Type 0 where
+  pub accepted : IsAccepted records
+  pub canonical : IsCanonical answer
+  pub own : seen (county_of answer) ≡ county_of answer
+  pub same : AreSame (seen (county_of records)) (county_of answer)
+
+-- an accepted list, and a canonical list with the same county
+abbrev pub IsCanonicalOf : List Record → List Record → Type 0
+IsCanonicalOf = IsCanonicalThrough plain

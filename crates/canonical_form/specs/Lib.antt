@@ -1,0 +1,13 @@
+pub mod Growth
+pub mod RecordNumbers
+pub mod Uses
+pub mod ArrangedCounty
+pub mod Canonical
+pub mod Arrangement
+pub mod Sights
+pub mod Accepted
+pub mod NumberedChoices
+pub mod Tidy
+pub mod Strict
+pub mod SeenRecords
+pub mod LeastNumber

@@ -1,5 +1,0 @@
-use Rattle.tl_number.proofs.Unique.Uniqueness.{rigid_lists}
-use Rattle.tl_number.proofs.laws.arranged_lists_with_one_choice_are_equal.Goals as goal
-
-pub returns : goal.returns
-returns c = rigid_lists

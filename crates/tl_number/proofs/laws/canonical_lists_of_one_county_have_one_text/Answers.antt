@@ -1,5 +1,0 @@
-use Rattle.tl_number.proofs.CanonicalLists.TidyLists.{canonical_texts_equal}
-use Rattle.tl_number.proofs.laws.canonical_lists_of_one_county_have_one_text.Goals as goal
-
-pub returns : goal.returns
-returns c = canonical_texts_equal

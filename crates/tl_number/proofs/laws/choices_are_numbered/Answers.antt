@@ -1,9 +1,0 @@
-use Rattle.tl_number.proofs.Choices.TidyChoices.{numbered_is_choice, choice_number, first_choice}
-use Rattle.tl_number.proofs.laws.choices_are_numbered.Goals as goal
-
-pub returns : goal.returns
-returns c = record {
-  stated = λ county number is. numbered_is_choice county is number;
-  each = λ county arrangement is. choice_number county is arrangement;
-  first = first_choice;
-}
