@@ -106,8 +106,7 @@ pub trait Chart {
         body.put_towards(turned, out);
     }
 
-    /// A byte made from bytes of the content of the type 1 record of the chain at a place. It has no meaning: reading it brings the
-    /// content into the cache before it's needed.
+    /// A byte made from the content of the type 1 record of the chain at a place. Reading it only brings the content into the cache.
     fn chain_byte(&self, _place: usize) -> u8 {
         0
     }
