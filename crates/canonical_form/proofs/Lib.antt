@@ -1,3 +1,6 @@
+pub mod Packing
+pub mod Sameness
+pub mod Limits
 pub mod Numbering
 pub mod Lists
 pub mod Unique

@@ -1,3 +1,4 @@
 -- Counties under a mask.
+pub mod MaskedCounties
 pub mod MaskedProfile
 pub mod MaskedSights

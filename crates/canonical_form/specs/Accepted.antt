@@ -1,10 +1,10 @@
 -- Whole lists of records: which are accepted, why the others are refused, and the canonical list of an accepted one.
 use Rattle.std.specs.Prelude.{◌≡◌, List}
 use Rattle.tl_layout.specs.declared.record_type.Record.{Record}
-use Rattle.tl_county.specs.County.{County, county_of}
-use Rattle.tl_county.specs.LinkRules.{IsLinked, IsFirstBrokenRule}
-use Rattle.tl_county.specs.Renumbering.{AreSame}
-use Rattle.tl_county.specs.declared.fault.LinkFault.{LinkFault}
+use Rattle.county_chart.specs.County.{County, county_of}
+use Rattle.county_chart.specs.LinkRules.{IsLinked, IsFirstBrokenRule}
+use Rattle.county_chart.specs.Renumbering.{AreSame}
+use Rattle.county_chart.specs.declared.fault.LinkFault.{LinkFault}
 use Rattle.tl_profile.specs.Profile.{IsInProfile, IsFirstBrokenClause}
 use Rattle.tl_profile.specs.declared.fault.ProfileFault.{ProfileFault}
 use Rattle.canonical_form.specs.Canonical.{IsCanonical}

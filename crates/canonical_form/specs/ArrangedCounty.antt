@@ -4,11 +4,11 @@ use Rattle.std.specs.List.{AllByRecursion}
 use Rattle.std.specs.Ordering.{is_gt, on}
 use Rattle.tl_layout.specs.Coordinates.{Coordinates}
 use Rattle.tl_shape.specs.Chain.{Chain}
-use Rattle.tl_county.specs.County.{County}
-use Rattle.tl_county.specs.CountyRules.{tlids, feats, lands, polygon_keys, nodes_along, polygons_along, AllKeysStandIn}
+use Rattle.county_chart.specs.County.{County}
+use Rattle.county_chart.specs.CountyRules.{tlids, feats, lands, polygon_keys, nodes_along, polygons_along, AllKeysStandIn}
 use Rattle.ordered_lists.specs.Orders.{IsInOrder}
 use Rattle.tl_shape.specs.PointOrder.{points_cmp}
-use Rattle.tl_county.specs.PolygonKeys.{PolygonKey}
+use Rattle.county_chart.specs.PolygonKeys.{PolygonKey}
 use Rattle.canonical_form.specs.Growth.{Grows, up_to}
 use Rattle.canonical_form.specs.Uses.{all_uses, name_key, name_key_cmp, landmark_key, landmark_key_cmp}
 

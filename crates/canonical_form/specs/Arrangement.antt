@@ -9,13 +9,13 @@ use Rattle.tl_layout.specs.declared.type7.Body7.{Body7}
 use Rattle.tl_shape.specs.Chain.{Chain}
 use Rattle.tl_shape.specs.PointOrder.{points_cmp}
 use Rattle.tl_shape.specs.Turned.{turned_if}
-use Rattle.tl_county.specs.BodyOrder.{link_cmp}
-use Rattle.tl_county.specs.County.{County, link_key}
-use Rattle.tl_county.specs.CountyRules.{tlids, nodes_along, polygons_along}
+use Rattle.county_chart.specs.BodyOrder.{link_cmp}
+use Rattle.county_chart.specs.County.{County, link_key}
+use Rattle.county_chart.specs.CountyRules.{tlids, nodes_along, polygons_along}
 use Rattle.ordered_lists.specs.Orders.{in_order}
-use Rattle.tl_county.specs.Packing.{numbered_from}
-use Rattle.tl_county.specs.PolygonKeys.{PolygonKey, key_cmp}
-use Rattle.tl_county.specs.Renumbering.{Renumbering, carried_chain, carried_name, carried_polygon, carried_landmark, carried_link}
+use Rattle.county_chart.specs.Packing.{numbered_from}
+use Rattle.county_chart.specs.PolygonKeys.{PolygonKey, key_cmp}
+use Rattle.county_chart.specs.Renumbering.{Renumbering, carried_chain, carried_name, carried_polygon, carried_landmark, carried_link}
 use Rattle.ordered_lists.specs.Pairs.{image}
 use Rattle.tl_profile.specs.Shapes.{least_points}
 use Rattle.canonical_form.specs.Growth.{first_seen, numbered}

@@ -3,7 +3,7 @@ use Rattle.std.specs.Prelude.{ℕ, ◌+◌, ◌≤◌, max, List, [], ◌∷◌,
 use Rattle.std.specs.List.{range_with_len}
 use Rattle.std.specs.declared.cmp.Ordering.{Ordering}
 use Rattle.ordered_lists.specs.Orders.{stands_in}
-use Rattle.tl_county.specs.Packing.{numbered_from}
+use Rattle.county_chart.specs.Packing.{numbered_from}
 
 -- the numbers up to greatest have occurred; each further number has occurred before or is the next one
 abbrev pub GrowsFrom : ℕ → List ℕ → Type 0

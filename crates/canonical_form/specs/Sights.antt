@@ -1,9 +1,9 @@
 -- Views of a county: the county itself, or the county without some of its content. Each canonical list belongs to one view.
 use Rattle.std.specs.Prelude.{ℕ, ◌≡◌}
-use Rattle.tl_county.specs.County.{County}
-use Rattle.tl_county.specs.CountyRules.{IsCounty}
-use Rattle.tl_county.specs.Limits.{IsWithinLimits}
-use Rattle.tl_county.specs.Renumbering.{Renumbering, Carries}
+use Rattle.county_chart.specs.County.{County}
+use Rattle.county_chart.specs.CountyRules.{IsCounty}
+use Rattle.county_chart.specs.Limits.{IsWithinLimits}
+use Rattle.county_chart.specs.Renumbering.{Renumbering, Carries}
 use Rattle.tl_profile.specs.Profile.{IsInProfile}
 
 -- the county itself

@@ -7,9 +7,9 @@ use Rattle.std.specs.List.Sorted.{IsStrictlySortedBy}
 use Rattle.std.specs.Ordering.{on}
 use Rattle.tl_layout.specs.declared.record_type.Record.{Record}
 use Rattle.tl_shape.specs.PointOrder.{points_cmp}
-use Rattle.tl_county.specs.County.{County, county_of}
-use Rattle.tl_county.specs.LinkRules.{IsLinked}
-use Rattle.tl_county.specs.Renumbering.{AreSame}
+use Rattle.county_chart.specs.County.{County, county_of}
+use Rattle.county_chart.specs.LinkRules.{IsLinked}
+use Rattle.county_chart.specs.Renumbering.{AreSame}
 use Rattle.tl_profile.specs.Profile.{AreAllOnSides}
 use Rattle.canonical_form.specs.ArrangedCounty.{entry_points}
 use Rattle.canonical_form.specs.Canonical.{IsArrangedList}

@@ -4,9 +4,9 @@ use Rattle.std.specs.List.{AllByRecursion}
 use Rattle.tl_layout.specs.Coordinates.{Coordinates}
 use Rattle.tl_layout.specs.declared.record_type.Record.{Record}
 use Rattle.tl_shape.specs.PointOrder.{points_cmp}
-use Rattle.tl_county.specs.County.{County}
+use Rattle.county_chart.specs.County.{County}
 use Rattle.ordered_lists.specs.Orders.{has_repeat}
-use Rattle.tl_county.specs.Packing.{packed}
+use Rattle.county_chart.specs.Packing.{packed}
 use Rattle.tl_profile.specs.Choices.{is_either_way, shapes}
 use Rattle.canonical_form.specs.ArrangedCounty.{IsTidy}
 use Rattle.canonical_form.specs.Arrangement.{Arrangement, Arranges, entries_of, entry_shape, arranged, ascending}

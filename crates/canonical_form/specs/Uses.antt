@@ -7,7 +7,7 @@ use Rattle.std.specs.Cmp.Lexicographic.{slice_cmp}
 use Rattle.tl_layout.specs.Fields.{Fields8}
 use Rattle.tl_layout.specs.declared.type5.Body5.{Body5}
 use Rattle.tl_layout.specs.declared.type7.Body7.{Body7}
-use Rattle.tl_county.specs.BodyOrder.{name_body_cmp, landmark_body_cmp, LinkPart, link_part, link_part_cmp}
+use Rattle.county_chart.specs.BodyOrder.{name_body_cmp, landmark_body_cmp, LinkPart, link_part, link_part_cmp}
 use Rattle.tl_shape.specs.Chain.{Chain}
 
 -- a use of a name: a TLID, and the place in the chain's list of names, counted from 1

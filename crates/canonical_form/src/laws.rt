@@ -2,12 +2,12 @@
 
 ghost use Rattle.std.specs.List.{AllByRecursion};
 ghost use Rattle.std.specs.Prelude.{◌<◌, ◌≡◌, ◌≤◌, ◌⊎◌, List, ℕ};
-ghost use Rattle.tl_county.specs.MaskedCounty.{masked};
-ghost use Rattle.tl_county.specs.County.{County, county_of};
-ghost use Rattle.tl_county.specs.CountyRules.{AllKeysStandIn, IsCounty, polygon_keys, polygons_along};
-ghost use Rattle.tl_county.specs.Limits.{most_records};
-ghost use Rattle.tl_county.specs.Packing.{packed};
-ghost use Rattle.tl_county.specs.Renumbering.{AreSame, Carries, Renumbering};
+ghost use Rattle.county_chart.specs.MaskedCounty.{masked};
+ghost use Rattle.county_chart.specs.County.{County, county_of};
+ghost use Rattle.county_chart.specs.CountyRules.{AllKeysStandIn, IsCounty, polygon_keys, polygons_along};
+ghost use Rattle.county_chart.specs.Limits.{most_records};
+ghost use Rattle.county_chart.specs.Packing.{packed};
+ghost use Rattle.county_chart.specs.Renumbering.{AreSame, Carries, Renumbering};
 ghost use Rattle.tl_layout.specs.declared.mask.Mask.{Mask};
 ghost use Rattle.tl_layout.specs.declared.record_type.Record.{Record};
 ghost use Rattle.tl_layout.specs.Limits.{IsWithinLimit, count_of_type};

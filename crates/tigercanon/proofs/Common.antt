@@ -31,12 +31,12 @@ pub use Rattle.tigercanon.specs.declared.program.ending.Ending.{Ending}
 pub use Rattle.tigercanon.specs.declared.program.ending.Ending.TheVariants.{Done}
 pub use Rattle.tigercanon.specs.declared.program.ending.Stopped.{Stopped}
 pub use Rattle.tigercanon.specs.declared.program.files.Opened.{Opened}
-pub use Rattle.tl_county.proofs.Packing.PackedCounty.{packed_county}
-pub use Rattle.tl_county.specs.County.{County, county_of}
-pub use Rattle.tl_county.specs.CountyRules.{IsCounty}
-pub use Rattle.tl_county.specs.MaskedCounty.{masked}
-pub use Rattle.tl_county.specs.Packing.{packed}
-pub use Rattle.tl_county.specs.Renumbering.{AreSame, Carries, Renumbering}
+pub use Rattle.canonical_form.proofs.Packing.PackedCounty.{packed_county}
+pub use Rattle.county_chart.specs.County.{County, county_of}
+pub use Rattle.county_chart.specs.CountyRules.{IsCounty}
+pub use Rattle.county_chart.specs.MaskedCounty.{masked}
+pub use Rattle.county_chart.specs.Packing.{packed}
+pub use Rattle.county_chart.specs.Renumbering.{AreSame, Carries, Renumbering}
 pub use Rattle.tl_layout.specs.Masked.{no_mask}
 pub use Rattle.tl_layout.specs.RecordText.{text_of}
 pub use Rattle.tl_layout.specs.declared.mask.Mask.{Mask}

@@ -1,6 +1,6 @@
 -- Sets under a mask: the view of a set's county, and the mask that leaves nothing out.
 use Rattle.tigercanon.proofs.Common.{◌≡◌, ◌∙◌, ℕ, List, sym, subst, no_mask, Mask, County, county_of, masked, plain, IsAcceptable}
-use Rattle.tl_county.proofs.Masks.MaskedCounties.{masked_by_none}
+use Rattle.canonical_form.proofs.Masks.MaskedCounties.{masked_by_none}
 use Rattle.tigercanon.specs.Sets.{IsSeenSet}
 
 -- a mask that leaves nothing out shows counties as they are

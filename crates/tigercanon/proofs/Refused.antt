@@ -4,7 +4,7 @@ use Rattle.tigercanon.proofs.Common.{Option, arith, MatchResult, OnOk, Device, M
 use Rattle.tigercanon.proofs.Common.{Memory, Ending, Done, Stopped, Opened, IsOfNoLines, GivenOutput, GivenSet, HoldsAccepted}
 use Rattle.tigercanon.proofs.Common.{ReportsSet, fault_line, IsOfMissing, Does, LeavesStopped, ReportsFor}
 use Rattle.std.proofs.Common.{Contains, IfErr, lit<}
-use Rattle.tl_county.specs.declared.fault.LinkFault.TheVariants.{Memory as LinkMemory}
+use Rattle.county_chart.specs.declared.fault.LinkFault.TheVariants.{Memory as LinkMemory}
 use Rattle.tl_load.specs.declared.fault.LoadFault.TheVariants.{Memory as LoadMemory}
 use Rattle.tl_profile.specs.declared.fault.ProfileFault.TheVariants.{Memory as ProfileMemory}
 use Rattle.tigercanon.specs.declared.program.ending.Ending.TheVariants.{Different}

@@ -5,7 +5,7 @@ use Rattle.tigercanon.proofs.Common.{Fault, Load, Link, Profile, Write, Memory, 
 use Rattle.tigercanon.proofs.Common.{AreRead, record_limit}
 use Rattle.tl_layout.specs.Tables.{HoldsByType}
 use Rattle.tl_layout.specs.declared.tables.Tables.{Tables}
-use Rattle.tl_county.specs.Limits.{HoldsWithinLimits}
+use Rattle.county_chart.specs.Limits.{HoldsWithinLimits}
 use Rattle.tigercanon.specs.Faults.{RefusesRecords, ReportsRefusalOfRead}
 use Rattle.tigercanon.specs.Normalising.{is_stopped}
 

@@ -4,7 +4,7 @@ use Rattle.tigercanon.proofs.Common.{ReportsRefusalOfOneRead, IsWantOfMemory, Re
 use Rattle.tigercanon.proofs.Common.{Fault, Load, Link, Profile, Write, Memory, CompareFault, In}
 use Rattle.std.proofs.Common.{IfErr}
 use Rattle.tl_load.specs.declared.fault.LoadFault.TheVariants as faults
-use Rattle.tl_county.specs.declared.fault.LinkFault.TheVariants.{Memory as LinkMemory}
+use Rattle.county_chart.specs.declared.fault.LinkFault.TheVariants.{Memory as LinkMemory}
 use Rattle.tl_profile.specs.declared.fault.ProfileFault.TheVariants.{Memory as ProfileMemory}
 use Rattle.tigercanon.specs.Comparing.{ReportsMemoryOfAccepted, ReportsRefusalOfOne}
 use Rattle.tigercanon.specs.declared.library.comparing.CompareFault.TheVariants.{Memory as NoMemory}

@@ -17,15 +17,15 @@ use Rattle.canonical_form.specs.Accepted.{IsAccepted, RecordsRefusal, Unlinked, 
 use Rattle.canonical_form.specs.Strict.{IsStrictThrough}
 use Rattle.tigercanon.specs.Normalising.{IsOnlyText}
 use Rattle.tigercanon.specs.Sets.{IsCanonicalText}
-use Rattle.tl_county.specs.LinkRules.{IsLinked, IsFirstBrokenRule}
-use Rattle.tl_county.proofs.Rules.LinkFaults.{linked_has_none, one_first_rule}
+use Rattle.county_chart.specs.LinkRules.{IsLinked, IsFirstBrokenRule}
+use Rattle.county_chart.proofs.Rules.LinkFaults.{linked_has_none, one_first_rule}
 use Rattle.tl_profile.proofs.ProfileFaults.{profile_has_none, one_first_clause}
 use Rattle.canonical_form.proofs.CanonicalLists.Accepted.{accepted_or_refused, same_canonical_text}
 use Rattle.canonical_form.proofs.CanonicalLists.Accepted.{canonical_accepted, canonical_as_it_is, canonical_of_itself}
 use Rattle.canonical_form.proofs.CanonicalLists.Ascending.{canonical_exists}
 use Rattle.canonical_form.proofs.Arrangements.ArrangedNumbers.{canonical_within}
 use Rattle.canonical_form.proofs.CanonicalLists.StrictLists.{strict_through}
-use Rattle.tl_county.proofs.Sameness.Equivalence.{same-reflexive}
+use Rattle.county_chart.proofs.Sameness.Equivalence.{same-reflexive}
 
 pub set_accepted_or_refused : (parts : List (List ℕ))
     → ((records : List Record) × IsAcceptedSet parts records) ⊎ ((refusal : Fault) × IsSetRefusal parts refusal)

@@ -1,8 +1,8 @@
 -- The outcome of comparing two sets: whether they are one map, and why there may be no verdict.
 use Rattle.std.specs.Prelude.{ℕ, ◌≡◌, ◌++◌, ◌∷◌, [], ◌⊎◌, List, codes}
 use Rattle.tl_layout.specs.declared.record_type.Record.{Record}
-use Rattle.tl_county.specs.County.{County, county_of}
-use Rattle.tl_county.specs.Renumbering.{AreSame, Renumbering}
+use Rattle.county_chart.specs.County.{County, county_of}
+use Rattle.county_chart.specs.Renumbering.{AreSame, Renumbering}
 use Rattle.canonical_form.specs.Sights.{plain}
 use Rattle.tigercanon.specs.Faults.{IsWantOfMemory, ReportsRefusal, ReportsRefusalOfRead}
 use Rattle.tigercanon.specs.Sets.{CarriesSetThrough, IsAcceptedSet}

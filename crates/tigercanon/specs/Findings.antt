@@ -1,8 +1,8 @@
 -- What is found for two sets, or for two counties and their canonical counties.
 use Rattle.std.specs.Prelude.{ℕ, ◌≡◌, ◌≢◌, List, Result, Ok, Err}
-use Rattle.tl_county.specs.County.{County}
-use Rattle.tl_county.specs.Packing.{packed}
-use Rattle.tl_county.specs.Renumbering.{Carries, Renumbering}
+use Rattle.county_chart.specs.County.{County}
+use Rattle.county_chart.specs.Packing.{packed}
+use Rattle.county_chart.specs.Renumbering.{Carries, Renumbering}
 use Rattle.tigercanon.specs.Comparing.{AreDifferentThrough, AreOneMapThrough, IsAcceptable}
 use Rattle.tigercanon.specs.Sets.{CarriesSetThrough}
 use Rattle.tigercanon.specs.declared.library.comparing.Verdict.{Verdict}

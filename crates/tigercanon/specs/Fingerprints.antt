@@ -2,7 +2,7 @@
 use Rattle.std.specs.Prelude.{ℕ, ◌≡◌, ◌++◌, ◌∷◌, [], List}
 use Rattle.hex.specs.Hex.{encode_lower}
 use Rattle.sha2.specs.Sha256.{sha256}
-use Rattle.tl_county.specs.County.{County}
+use Rattle.county_chart.specs.County.{County}
 use Rattle.canonical_form.specs.Sights.{plain}
 use Rattle.tigercanon.specs.Normalising.{IsOnlyTextThrough}
 use Rattle.tigercanon.specs.Sets.{IsCanonicalTextThrough}

@@ -3,9 +3,9 @@ use Rattle.std.specs.Prelude.{ℕ, ◌≡◌, List}
 use Rattle.tl_layout.specs.declared.record_type.Record.{Record}
 use Rattle.tl_load.specs.Choice.{tiger}
 use Rattle.tl_load.specs.Outcome.{SpellsWithin}
-use Rattle.tl_county.specs.County.{county_of}
-use Rattle.tl_county.specs.LinkRules.{IsLinked}
-use Rattle.tl_county.specs.Packing.{Typed, type_after_type}
+use Rattle.county_chart.specs.County.{county_of}
+use Rattle.county_chart.specs.LinkRules.{IsLinked}
+use Rattle.county_chart.specs.Packing.{Typed, type_after_type}
 use Rattle.tigercanon.specs.Respelling.{record_limit}
 
 -- the records fit together, and their county is that of the tables

@@ -3,9 +3,9 @@ use Rattle.std.specs.Prelude.{◌≡◌, ◌≢◌, ℕ, ◌<◌, ◌+◌, Bool,
 use Rattle.tl_layout.specs.RecordText.{text_of}
 use Rattle.tl_layout.specs.declared.record_type.Record.{Record}
 use Rattle.tl_load.specs.Loaded.{IsOfLines}
-use Rattle.tl_county.specs.County.{County, county_of}
-use Rattle.tl_county.specs.Renumbering.{AreSame}
-use Rattle.tl_county.specs.declared.fault.LinkFault.TheVariants.{Memory as LinkMemory}
+use Rattle.county_chart.specs.County.{County, county_of}
+use Rattle.county_chart.specs.Renumbering.{AreSame}
+use Rattle.county_chart.specs.declared.fault.LinkFault.TheVariants.{Memory as LinkMemory}
 use Rattle.canonical_form.specs.Canonical.{IsCanonical}
 use Rattle.canonical_form.specs.Sights.{plain}
 use Rattle.tl_profile.specs.declared.fault.ProfileFault.TheVariants.{Memory as ProfileMemory}

@@ -5,10 +5,10 @@ use Rattle.tl_layout.specs.declared.record_type.Record.{Record}
 use Rattle.tl_load.specs.Choice.{tiger}
 use Rattle.tl_load.specs.Outcome.{SpellsWithin}
 use Rattle.tl_load.specs.Verdicts.{without_place}
-use Rattle.tl_county.specs.County.{County, county_of}
-use Rattle.tl_county.specs.Packing.{packed}
-use Rattle.tl_county.specs.Renumbering.{Renumbering, Carries}
-use Rattle.tl_county.specs.LinkRules.{IsLinked, IsFirstBrokenRule}
+use Rattle.county_chart.specs.County.{County, county_of}
+use Rattle.county_chart.specs.Packing.{packed}
+use Rattle.county_chart.specs.Renumbering.{Renumbering, Carries}
+use Rattle.county_chart.specs.LinkRules.{IsLinked, IsFirstBrokenRule}
 use Rattle.tl_profile.specs.Profile.{IsFirstBrokenClause}
 use Rattle.canonical_form.specs.Accepted.{IsAccepted, IsCanonicalThrough}
 use Rattle.canonical_form.specs.Sights.{plain}

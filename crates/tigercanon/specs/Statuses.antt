@@ -7,7 +7,7 @@ use Rattle.tigercanon.specs.declared.fault.Fault.TheVariants.{Load, Link, Profil
 use Rattle.tigercanon.specs.declared.program.ending.Ending.{Ending}
 use Rattle.tigercanon.specs.declared.program.ending.Ending.TheVariants.{Done, Different}
 use Rattle.tigercanon.specs.declared.program.ending.Stopped.{Stopped}
-use Rattle.tl_county.specs.declared.fault.LinkFault.TheVariants.{Memory as LinkMemory}
+use Rattle.county_chart.specs.declared.fault.LinkFault.TheVariants.{Memory as LinkMemory}
 use Rattle.tl_load.specs.declared.fault.LoadFault.TheVariants.{Device, Memory as LoadMemory}
 use Rattle.tl_profile.specs.declared.fault.ProfileFault.TheVariants.{Memory as ProfileMemory}
 

@@ -7,7 +7,7 @@ use Rattle.tigercanon.specs.declared.program.ending.Ending.TheVariants.{Done, Di
 use Rattle.tigercanon.specs.declared.program.ending.Stopped.{Stopped}
 use Rattle.tigercanon.specs.declared.fault.Fault.{Fault}
 use Rattle.tigercanon.specs.declared.fault.Fault.TheVariants.{Write}
-use Rattle.tl_county.specs.MaskedCounty.{masked}
+use Rattle.county_chart.specs.MaskedCounty.{masked}
 use Rattle.tl_layout.specs.declared.mask.Mask.{Mask}
 use Rattle.tigercanon.specs.Comparing.{SaysSameThrough, SaysDifferentThrough}
 use Rattle.tigercanon.specs.Faults.{IsOfNoLines}

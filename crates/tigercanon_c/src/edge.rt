@@ -12,7 +12,7 @@ ghost use Rattle.tigercanon.specs.Respelling.{record_limit, IsRespelt};
 ghost use Rattle.tigercanon.specs.Sets.{IsAcceptedSet, IsCanonicalText, IsCanonicalTextThrough, IsOneCanonicalTextThrough};
 ghost use Rattle.tigercanon_c.specs.Answers.{ReportsFirstFaultOfRead, ReportsOne, ReportsOneOfTwo, bytes_of_lent, mask_of};
 ghost use Rattle.tigercanon_c.specs.Reported.{no_fault};
-ghost use Rattle.tl_county.specs.MaskedCounty.{masked};
+ghost use Rattle.county_chart.specs.MaskedCounty.{masked};
 ghost use Rattle.tl_layout.specs.declared.record_type.Record.{Record};
 ghost use Rattle.tl_load.specs.Choice.{tiger};
 ghost use Rattle.tl_load.specs.Outcome.{SpellsWithin};

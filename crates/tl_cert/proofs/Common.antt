@@ -14,10 +14,10 @@ pub use Rattle.std.specs.Bool.{Decides}
 pub use Rattle.std.specs.Cmp.Lexicographic.{slice_cmp}
 pub use Rattle.tl_cert.specs.Images.{named_images, pair_on}
 pub use Rattle.tl_cert.specs.LinkFields.{LinkFields, link_fields}
-pub use Rattle.tl_county.specs.County.{County, eight_land}
-pub use Rattle.tl_county.specs.CountyRules.{IsCounty, lands}
-pub use Rattle.tl_county.specs.PolygonKeys.{key_cmp}
-pub use Rattle.tl_county.specs.Renumbering.{Carries, NumbersArePaired, Renumbering, carried_link, renumbered, turns}
+pub use Rattle.county_chart.specs.County.{County, eight_land}
+pub use Rattle.county_chart.specs.CountyRules.{IsCounty, lands}
+pub use Rattle.county_chart.specs.PolygonKeys.{key_cmp}
+pub use Rattle.county_chart.specs.Renumbering.{Carries, NumbersArePaired, Renumbering, carried_link, renumbered, turns}
 pub use Rattle.tl_layout.specs.ByType.{of_number}
 pub use Rattle.tl_layout.specs.Fields.{Fields8}
 pub use Rattle.tl_shape.specs.Turned.{turned_if}

@@ -5,9 +5,9 @@ use Rattle.tl_cert.proofs.Common.{IsPermutation-map, Decides, of_number, Fields8
 use Rattle.tl_cert.proofs.Common.{Known, nat_keys, apart_from_sorted, all_weaker, map-map, LinkFields, link_fields, decides_same}
 use Rattle.std.proofs.Common.{◌+◌, IsTrue, add-one}
 use Rattle.std.proofs.lemmas.Bool.{ltb-true}
-use Rattle.tl_county.specs.ChartWords.{links_with}
+use Rattle.county_chart.specs.ChartWords.{links_with}
 use Rattle.ordered_lists.proofs.Lists.Elements.{map_itself}
-use Rattle.tl_county.proofs.Lists.OfNumber.{groups-permutation}
+use Rattle.county_chart.proofs.Lists.OfNumber.{groups-permutation}
 
 -- the links of the landmarks with these LANDs, landmark by landmark
 abbrev pub under_lands : List Fields8 → List ℕ → List Fields8

@@ -7,19 +7,19 @@ use Rattle.tl_layout.specs.declared.type5.Body5.{Body5}
 use Rattle.tl_layout.specs.declared.type7.Body7.{Body7}
 use Rattle.tl_layout.specs.declared.type_p.BodyP.{BodyP}
 use Rattle.tl_shape.specs.Turned.{turned_if}
-use Rattle.tl_county.specs.County.{County}
-use Rattle.tl_county.specs.CountyRules.{IsCounty, tlids, feats, polygon_keys, lands}
+use Rattle.county_chart.specs.County.{County}
+use Rattle.county_chart.specs.CountyRules.{IsCounty, tlids, feats, polygon_keys, lands}
 use Rattle.ordered_lists.specs.Entries.{entry_keys, value_under}
-use Rattle.tl_county.specs.PolygonKeys.{PolygonKey}
-use Rattle.tl_county.specs.Renumbering.{Renumbering, turns, renumbered, carried_link, NumbersArePaired, Carries}
+use Rattle.county_chart.specs.PolygonKeys.{PolygonKey}
+use Rattle.county_chart.specs.Renumbering.{Renumbering, turns, renumbered, carried_link, NumbersArePaired, Carries}
 use Rattle.ordered_lists.specs.Pairs.{image, ArePaired}
 use Rattle.ordered_lists.proofs.ByKey.Keys.{IsKeyOrder, IsApart, Known, nat_keys, lefts, same_or_not, same-itself, times-yes, apart_tail}
 use Rattle.ordered_lists.proofs.ByKey.Keys.{apart-permutation, images-lefts, apart_from_sorted}
-use Rattle.tl_county.specs.Laws.KeyOrders.{key_keys}
+use Rattle.county_chart.specs.Laws.KeyOrders.{key_keys}
 use Rattle.ordered_lists.proofs.Lists.Elements.{all_weaker, all_both, all_map, all_unmap, map-map}
 use Rattle.ordered_lists.proofs.Lists.Among.{Among, all_among}
 use Rattle.ordered_lists.proofs.Lists.Members.{among-permutation}
-use Rattle.tl_county.proofs.Sameness.Equivalence.{keys_known}
+use Rattle.county_chart.proofs.Sameness.Equivalence.{keys_known}
 use Rattle.tl_cert.specs.PartsThere.{IsLandmarkThere, ArePartsThere}
 
 -- a property of each element that is among others is one of each element

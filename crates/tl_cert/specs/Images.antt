@@ -4,7 +4,7 @@ use Rattle.std.specs.declared.cmp.Ordering.{Ordering}
 use Rattle.std.specs.Ordering.{nat_cmp}
 use Rattle.ordered_lists.specs.Entries.{value_under}
 use Rattle.ordered_lists.specs.Orders.{stands_in}
-use Rattle.tl_county.specs.Renumbering.{exactly_one}
+use Rattle.county_chart.specs.Renumbering.{exactly_one}
 use Rattle.ordered_lists.specs.Pairs.{image}
 
 -- the new numbers of the old ones that pairs name

@@ -7,12 +7,12 @@ use Rattle.tl_layout.specs.declared.type7.Body7.{Body7}
 use Rattle.tl_layout.specs.declared.type_p.BodyP.{BodyP}
 use Rattle.tl_shape.specs.Chain.{Chain}
 use Rattle.tl_shape.specs.Turned.{turned_if}
-use Rattle.tl_county.specs.ChartWords.{points_of, feats_of, ranges_of, chain_under, name_under, polygon_under, bodies_under}
-use Rattle.tl_county.specs.County.{County}
-use Rattle.tl_county.specs.DirectedChains.{directed_chain}
-use Rattle.tl_county.specs.declared.directed_chain.DirectedChain.{DirectedChain}
-use Rattle.tl_county.specs.PolygonKeys.{PolygonKey, key_cmp}
-use Rattle.tl_county.specs.Renumbering.{Renumbering, turns, renumbered}
+use Rattle.county_chart.specs.ChartWords.{points_of, feats_of, ranges_of, chain_under, name_under, polygon_under, bodies_under}
+use Rattle.county_chart.specs.County.{County}
+use Rattle.county_chart.specs.DirectedChains.{directed_chain}
+use Rattle.county_chart.specs.declared.directed_chain.DirectedChain.{DirectedChain}
+use Rattle.county_chart.specs.PolygonKeys.{PolygonKey, key_cmp}
+use Rattle.county_chart.specs.Renumbering.{Renumbering, turns, renumbered}
 use Rattle.ordered_lists.specs.Pairs.{image}
 
 -- a directed chain under its new numbers

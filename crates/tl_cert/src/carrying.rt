@@ -6,9 +6,9 @@
 
 ghost use Rattle.std.specs.Bool.{Decides};
 ghost use Rattle.std.specs.Prelude.{IfOk};
-ghost use Rattle.tl_county.specs.MaskedCounty.{masked};
+ghost use Rattle.county_chart.specs.MaskedCounty.{masked};
 ghost use Rattle.tl_cert.specs.PartsThere.{ArePartsThere};
-ghost use Rattle.tl_county.specs.Renumbering.{Carries, NumbersArePaired};
+ghost use Rattle.county_chart.specs.Renumbering.{Carries, NumbersArePaired};
 
 use crate::chains::Chains;
 use crate::links::are_links_there;
@@ -16,8 +16,8 @@ use crate::numbers_paired::numbers_are_paired;
 use crate::parts::{Landmarks, Names, Polygons};
 use crate::renaming::Renaming;
 use crate::renaming_tables::RenamingTables;
+use county_chart::{Chart, Lent, Masked, all_hold};
 use std::alloc::{AllocError, Global};
-use tl_county::{Chart, Lent, Masked, all_hold};
 use tl_layout::Mask;
 
 /// Whether `b` has each chain, name, polygon and landmark of `a` under its new number, with the chains turned that the renaming turns.

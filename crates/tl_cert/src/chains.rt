@@ -4,13 +4,13 @@ ghost use Rattle.std.specs.Bool.{Decides};
 ghost use Rattle.std.specs.Ordering.{nat_cmp};
 ghost use Rattle.std.specs.Prelude.{◌≡◌, map, option_map};
 ghost use Rattle.tl_cert.specs.PartsThere.{HaveSameContent, HaveSameEnds, HaveSameLists, chain_carried};
-ghost use Rattle.tl_county.specs.ChartWords.{chain_at, feats_of};
-ghost use Rattle.tl_county.specs.DirectedChains.{directed_chain};
+ghost use Rattle.county_chart.specs.ChartWords.{chain_at, feats_of};
+ghost use Rattle.county_chart.specs.DirectedChains.{directed_chain};
 ghost use Rattle.ordered_lists.specs.Pairs.{image};
-ghost use Rattle.tl_county.specs.Renumbering.{renumbered_side};
+ghost use Rattle.county_chart.specs.Renumbering.{renumbered_side};
 
 use crate::renaming_tables::RenamingTables;
-use tl_county::{
+use county_chart::{
     ChainFeats, ChainPoints, ChainRanges, Chart, DirectedChain, Listed, Same, Tested, are_same,
 };
 use tl_layout::Side;
@@ -75,7 +75,7 @@ struct NewFeats<'a, C> {
 impl<'a, C: Chart> Listed for NewFeats<'a, C> {
     ghost use Rattle.std.specs.Ordering.{nat_cmp};
     ghost use Rattle.std.specs.Prelude.{map};
-    ghost use Rattle.tl_county.specs.ChartWords.{chain_at, feats_of};
+    ghost use Rattle.county_chart.specs.ChartWords.{chain_at, feats_of};
     ghost use Rattle.ordered_lists.specs.Pairs.{image};
 
     type Item = u32;

@@ -2,16 +2,16 @@
 
 ghost use Rattle.std.specs.Prelude.{◌≡◌, ◌<◌, IfOk, Some, length, slice_get};
 
+use county_chart::{Chart, Listed, PolygonKey, push_all};
 use ordered_lists::Key;
 use std::alloc::{AllocError, Global};
 use std::marker::PhantomData;
-use tl_county::{Chart, Listed, PolygonKey, push_all};
 
 /// A kind of numbers of a county, such as TLIDs.
 pub(crate) trait NumberKind<K: Key> {
     ghost use Rattle.std.specs.Prelude.{List};
-    ghost use Rattle.tl_county.specs.County.{County};
-    ghost use Rattle.tl_county.specs.CountyRules.{IsCounty};
+    ghost use Rattle.county_chart.specs.County.{County};
+    ghost use Rattle.county_chart.specs.CountyRules.{IsCounty};
     ghost use Rattle.ordered_lists.specs.Orders.{IsInOrder};
 
     /// The numbers of this kind.
@@ -36,7 +36,7 @@ pub(crate) struct Tlids;
 impl NumberKind<u64> for Tlids {
     ghost use Rattle.std.specs.Ordering.{nat_cmp};
     ghost use Rattle.ordered_lists.proofs.Lists.EntryLists.{in_order-strict};
-    ghost use Rattle.tl_county.specs.CountyRules.{tlids};
+    ghost use Rattle.county_chart.specs.CountyRules.{tlids};
 
     ghost numbers = { tlids };
 
@@ -57,7 +57,7 @@ pub(crate) struct Feats;
 impl NumberKind<u32> for Feats {
     ghost use Rattle.std.specs.Ordering.{nat_cmp};
     ghost use Rattle.ordered_lists.proofs.Lists.EntryLists.{in_order-strict};
-    ghost use Rattle.tl_county.specs.CountyRules.{feats};
+    ghost use Rattle.county_chart.specs.CountyRules.{feats};
 
     ghost numbers = { feats };
 
@@ -77,8 +77,8 @@ pub(crate) struct PolygonKeys;
 
 impl NumberKind<PolygonKey> for PolygonKeys {
     ghost use Rattle.ordered_lists.proofs.Lists.EntryLists.{in_order-strict};
-    ghost use Rattle.tl_county.specs.CountyRules.{polygon_keys};
-    ghost use Rattle.tl_county.specs.PolygonKeys.{key_cmp};
+    ghost use Rattle.county_chart.specs.CountyRules.{polygon_keys};
+    ghost use Rattle.county_chart.specs.PolygonKeys.{key_cmp};
 
     ghost numbers = { polygon_keys };
 
@@ -99,7 +99,7 @@ pub(crate) struct Lands;
 impl NumberKind<u64> for Lands {
     ghost use Rattle.std.specs.Ordering.{nat_cmp};
     ghost use Rattle.ordered_lists.proofs.Lists.EntryLists.{in_order-strict};
-    ghost use Rattle.tl_county.specs.CountyRules.{lands};
+    ghost use Rattle.county_chart.specs.CountyRules.{lands};
 
     ghost numbers = { lands };
 
@@ -122,7 +122,7 @@ impl NumberKind<u64> for Nodes {
     ghost use Rattle.ordered_lists.proofs.ByKey.Keys.{nat_keys};
     ghost use Rattle.ordered_lists.proofs.ByKey.Numbers.{distinct-strict};
     ghost use Rattle.ordered_lists.proofs.Lists.EntryLists.{in_order-strict};
-    ghost use Rattle.tl_county.specs.CountyRules.{nodes, nodes_along};
+    ghost use Rattle.county_chart.specs.CountyRules.{nodes, nodes_along};
 
     ghost numbers = { nodes };
 

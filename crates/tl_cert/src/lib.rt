@@ -22,5 +22,5 @@ mod sorted_numbers;
 mod turning;
 
 pub use carrying::{check, check_masked};
+pub use county_chart::PolygonKey;
 pub use renaming::{Renaming, RenamingParts};
-pub use tl_county::PolygonKey;

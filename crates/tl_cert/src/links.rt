@@ -3,12 +3,12 @@
 ghost use Rattle.std.specs.Bool.{Decides};
 ghost use Rattle.std.specs.Prelude.{◌≡◌, IfOk, IsPermutation, map};
 ghost use Rattle.tl_cert.specs.LinkFields.{link_fields};
-ghost use Rattle.tl_county.specs.Renumbering.{carried_link};
+ghost use Rattle.county_chart.specs.Renumbering.{carried_link};
 
 use crate::pairing::are_reordered;
 use crate::renaming_tables::RenamingTables;
+use county_chart::{Chart, Listed, push_all};
 use std::alloc::{AllocError, Global};
-use tl_county::{Chart, Listed, push_all};
 use tl_layout::Rec8;
 
 /// The fields of a link in the order in which links are compared: LAND, POLYID, CENID, FILE.
@@ -22,7 +22,7 @@ struct LandmarkLinks<'a, C> {
 }
 
 impl<'a, C: Chart> Listed for LandmarkLinks<'a, C> {
-    ghost use Rattle.tl_county.specs.ChartWords.{links_at};
+    ghost use Rattle.county_chart.specs.ChartWords.{links_at};
 
     type Item = Rec8;
 

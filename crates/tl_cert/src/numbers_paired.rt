@@ -4,18 +4,18 @@ ghost use Rattle.std.specs.Bool.{Decides};
 ghost use Rattle.std.specs.List.{AllByRecursion};
 ghost use Rattle.std.specs.Ordering.{nat_cmp};
 ghost use Rattle.std.specs.Prelude.{◌≡◌, IfOk, IsPermutation, IsTrue, false};
-ghost use Rattle.tl_county.specs.CountyRules.{feats, lands, nodes, polygon_keys, tlids};
+ghost use Rattle.county_chart.specs.CountyRules.{feats, lands, nodes, polygon_keys, tlids};
 ghost use Rattle.ordered_lists.specs.Orders.{has_repeat, stands_in};
 ghost use Rattle.ordered_lists.specs.Pairs.{ArePaired};
-ghost use Rattle.tl_county.specs.Renumbering.{NumbersArePaired};
+ghost use Rattle.county_chart.specs.Renumbering.{NumbersArePaired};
 
 use crate::county_numbers::{Feats, Lands, Nodes, NumberKind, PolygonKeys, Tlids, numbers_of};
 use crate::pairing::{are_known, new_numbers, old_numbers};
 use crate::renaming::Renaming;
 use crate::sorted_numbers::SortedNumbers;
+use county_chart::{Chart, PolygonKey, Tested, all_hold};
 use ordered_lists::Key;
 use std::alloc::{AllocError, Global};
-use tl_county::{Chart, PolygonKey, Tested, all_hold};
 
 /// Whether the numbers are a permutation of those of one kind of a county.
 fn are_numbers_of<K: Key, N: NumberKind<K>, C: Chart>(
@@ -63,7 +63,7 @@ struct PolygonPairs<'a> {
 }
 
 impl<'a> Tested for PolygonPairs<'a> {
-    ghost use Rattle.tl_county.specs.PolygonKeys.{PolygonKey};
+    ghost use Rattle.county_chart.specs.PolygonKeys.{PolygonKey};
 
     ghost Entry = { PolygonKey × PolygonKey };
 

@@ -1,7 +1,7 @@
 //! Whether a county has the names, the polygons and the landmarks of another under their new numbers.
 
 use crate::renaming_tables::RenamingTables;
-use tl_county::{Chart, LandmarkBodies, Same, Tested, are_same};
+use county_chart::{Chart, LandmarkBodies, Same, Tested, are_same};
 
 /// The names of `a`, each looked for in `b` under its new FEAT.
 #[derive(Drop)]
@@ -46,7 +46,7 @@ pub(crate) struct Polygons<'a, A, B> {
 impl<'a, A: Chart, B: Chart> Tested for Polygons<'a, A, B> {
     ghost use Rattle.std.specs.Prelude.{Option};
     ghost use Rattle.tl_cert.specs.PartsThere.{IsPolygonThere};
-    ghost use Rattle.tl_county.specs.PolygonKeys.{PolygonKey};
+    ghost use Rattle.county_chart.specs.PolygonKeys.{PolygonKey};
     ghost use Rattle.tl_layout.specs.declared.type_p.BodyP.{BodyP};
 
     ghost Entry = { PolygonKey × Option BodyP };

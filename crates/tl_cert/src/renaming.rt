@@ -2,9 +2,9 @@
 
 ghost use Rattle.std.specs.Prelude.{◌≡◌};
 
+use county_chart::PolygonKey;
 use std::alloc::Global;
 use std::marker::Model;
-use tl_county::PolygonKey;
 
 /// The named parts of a renaming: pairs of an old and a new number for each kind of number, and the old TLIDs of the chains
 /// that are turned.
@@ -32,7 +32,7 @@ pub struct Renaming {
 }
 
 impl Model for Renaming {
-    ghost use Rattle.tl_county.specs.Renumbering.{Renumbering};
+    ghost use Rattle.county_chart.specs.Renumbering.{Renumbering};
 
     ghost Value = { Renumbering };
 

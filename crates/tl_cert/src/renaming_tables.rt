@@ -2,16 +2,16 @@
 
 ghost use Rattle.std.specs.Ordering.{nat_cmp};
 ghost use Rattle.std.specs.Prelude.{◌≡◌, IfOk};
-ghost use Rattle.tl_county.specs.PolygonKeys.{key_cmp};
+ghost use Rattle.county_chart.specs.PolygonKeys.{key_cmp};
 ghost use Rattle.ordered_lists.specs.Pairs.{image};
-ghost use Rattle.tl_county.specs.Renumbering.{turns};
+ghost use Rattle.county_chart.specs.Renumbering.{turns};
 
 use crate::images::Images;
 use crate::renaming::Renaming;
 use crate::sorted_numbers::SortedNumbers;
+use county_chart::PolygonKey;
 use std::alloc::{AllocError, Global};
 use std::marker::Model;
-use tl_county::PolygonKey;
 
 /// The pairs of TLIDs and of FEATs, and the TLIDs of the turned chains.
 #[derive(Drop)]
@@ -73,7 +73,7 @@ pub(crate) struct RenamingTables<'a> {
 }
 
 impl<'a> Model for RenamingTables<'a> {
-    ghost use Rattle.tl_county.specs.Renumbering.{Renumbering};
+    ghost use Rattle.county_chart.specs.Renumbering.{Renumbering};
 
     ghost Value = { Renumbering };
 

@@ -1,4 +1,1 @@
-pub mod KeySets
-pub mod PolygonSets
 pub mod MarkedNames
-pub mod PlacesOfCenids

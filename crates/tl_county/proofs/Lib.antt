@@ -4,7 +4,4 @@ pub mod Sameness
 pub mod Rules
 pub mod Samples
 pub mod Packing
-pub mod Limits
-pub mod Masks
-pub mod DirectedChains
 pub mod Common

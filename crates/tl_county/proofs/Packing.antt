@@ -1,9 +1,2 @@
 pub mod Repacking
 pub mod Splitting
-pub mod PackedNumbers
-pub mod PackedChains
-pub mod PackedNamed
-pub mod PackedLinked
-pub mod PackedCounty
-pub mod PackedGroups
-pub mod Pieces

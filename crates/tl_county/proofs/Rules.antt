@@ -1,13 +1,8 @@
-pub mod FirstFault
-pub mod LinkFaults
-pub mod LinkedCounty
 pub mod RuleOrders
 pub mod RuleTests
 pub mod TlidsInOrder
 pub mod GatheredLists
-pub mod PolygonBodies
 pub mod TypedRecords
 pub mod WithoutChain
 pub mod LinkedTables
 pub mod BuiltTables
-pub mod StoredParts

@@ -1,6 +1,3 @@
-pub mod Equivalence
-pub mod Carried
-pub mod SameCounty
-pub mod CarriedCounty
-pub mod SameRules
 pub mod SameChains
+pub mod SameCounty
+pub mod SameRules

@@ -1,2 +1,1 @@
-pub mod Counties
 pub mod OnSamples

@@ -6,12 +6,12 @@ use Rattle.tl_layout.specs.ByType.{of_number}
 use Rattle.tl_layout.specs.Fields.{Fields1, Fields2, Fields4, Fields6, Fields7, Fields8, FieldsI, FieldsP}
 use Rattle.tl_layout.specs.declared.type_p.BodyP.{BodyP}
 use Rattle.tl_shape.specs.Chain.{Chain}
-use Rattle.tl_county.specs.County.{County, one_tlid, two_tlid, four_tlid, six_tlid, seven_land, eight_land, p_key, side_keys, first}
-use Rattle.tl_county.specs.StoredCounty.{county_with}
+use Rattle.county_chart.specs.County.{County, one_tlid, two_tlid, four_tlid, six_tlid, seven_land, eight_land, p_key, side_keys, first}
+use Rattle.county_chart.specs.StoredCounty.{county_with}
 use Rattle.ordered_lists.specs.Orders.{distinct}
-use Rattle.tl_county.specs.Packing.{Typed}
-use Rattle.tl_county.specs.LandmarkParts.{LandmarkParts}
-use Rattle.tl_county.specs.PolygonKeys.{PolygonKey, key_cmp}
+use Rattle.county_chart.specs.Packing.{Typed}
+use Rattle.county_chart.specs.LandmarkParts.{LandmarkParts}
+use Rattle.county_chart.specs.PolygonKeys.{PolygonKey, key_cmp}
 
 -- the chain made from its records, with those of types 2, 4 and 6 in the order of their RTSQs
 abbrev pub chain_with : Fields1 → FieldsI → List Fields2 → List Fields4 → List Fields6 → Chain

@@ -1,17 +1,15 @@
 -- Tables of records by type, each in the order of its records' numbers.
 use Rattle.std.specs.Prelude.{IsPermutation}
-use Rattle.std.specs.declared.cmp.Ordering.{Ordering}
-use Rattle.std.specs.Ordering.{nat_cmp, on, ordering_then}
+use Rattle.std.specs.Ordering.{nat_cmp, on}
 use Rattle.tl_layout.specs.declared.tables.Tables.{Tables}
 use Rattle.tl_county.specs.declared.linking.table_order.OrderedTables.{OrderedTables}
-use Rattle.tl_layout.specs.Fields.{Fields7}
-use Rattle.tl_county.specs.BodyOrder.{landmark_body_cmp, link_cmp}
-use Rattle.tl_county.specs.County.{one_tlid, five_feat, i_tlid, p_key}
+use Rattle.county_chart.specs.BodyOrder.{landmark_cmp, link_cmp}
+use Rattle.county_chart.specs.County.{one_tlid, five_feat, i_tlid, p_key}
 use Rattle.ordered_lists.specs.Orders.{IsInOrder}
 use Rattle.ordered_lists.specs.Places.{at_places}
-use Rattle.tl_county.specs.Packing.{Typed}
-use Rattle.tl_county.specs.PolygonKeys.{key_cmp}
-use Rattle.tl_county.specs.SequenceKeys.{sequence_cmp, two_sequence, four_sequence, six_sequence}
+use Rattle.county_chart.specs.Packing.{Typed}
+use Rattle.county_chart.specs.PolygonKeys.{key_cmp}
+use Rattle.county_chart.specs.SequenceKeys.{sequence_cmp, two_sequence, four_sequence, six_sequence}
 
 -- the records that the tables hold, type by type
 abbrev pub typed_of : Tables → Typed
@@ -40,10 +38,6 @@ ordered_of tables = record {
   of_type_i = at_places tables.records.type_i.items tables.links.items;
   of_type_p = tables.records.type_p.items;
 }
-
--- LAND, then the content
-abbrev pub landmark_cmp : Fields7 → Fields7 → Ordering
-landmark_cmp a b = ordering_then (nat_cmp a.land b.land) (landmark_body_cmp a.body b.body)
 
 -- each table is in the order of its records' numbers: types 1 and I by TLID, 2, 4 and 6 by TLID and RTSQ, 5 by FEAT, 7 by
 -- LAND and content, 8 by LAND, POLYID, CENID and FILE, P by CENID and POLYID

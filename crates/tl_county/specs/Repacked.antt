@@ -5,11 +5,11 @@ use Rattle.std.specs.Ordering.{nat_cmp}
 use Rattle.tl_layout.specs.Fields.{Fields2, Fields4}
 use Rattle.tl_layout.specs.declared.record_type.Record.{Record}
 use Rattle.tl_layout.specs.declared.record_type.Record.TheVariants.{One, Two, Four, Five, Six, Seven, Eight, I, P}
-use Rattle.tl_county.specs.declared.fault.SequencedType.{SequencedType}
-use Rattle.tl_county.specs.declared.fault.SequencedType.TheVariants as sequenced
+use Rattle.county_chart.specs.declared.fault.SequencedType.{SequencedType}
+use Rattle.county_chart.specs.declared.fault.SequencedType.TheVariants as sequenced
 use Rattle.tl_layout.specs.ByType.{of_type_2, of_type_4, of_number}
-use Rattle.tl_county.specs.County.{two_tlid, two_rtsq, four_tlid, four_rtsq}
-use Rattle.tl_county.specs.LinkRules.{rtsqs}
+use Rattle.county_chart.specs.County.{two_tlid, two_rtsq, four_tlid, four_rtsq}
+use Rattle.county_chart.specs.LinkRules.{rtsqs}
 use Rattle.ordered_lists.specs.Orders.{stands_in}
 
 -- A record of a chain is cut into two: it holds the items of the first and then those of the second, the first keeps its RTSQ, the

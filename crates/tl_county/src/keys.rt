@@ -1,7 +1,4 @@
-//! Record keys, in order, and sets of them.
+//! Records by their keys: the keys that occur twice, and the order of records that stay where they are.
 
-pub(crate) mod key_set;
-pub(crate) mod keyed;
 pub(crate) mod number_order;
-pub(crate) mod polygon_set;
-pub(crate) mod record_keys;
+pub(crate) mod repeated;

@@ -2,20 +2,20 @@
 
 ghost use Rattle.std.specs.List.{AllByRecursion};
 ghost use Rattle.std.specs.Prelude.{◌≡◌, ◌⊎◌, IsPermutation, List, map, ℕ};
-ghost use Rattle.tl_county.specs.County.{County, county_of};
-ghost use Rattle.tl_county.specs.CountyRules.{IsCounty};
-ghost use Rattle.tl_county.specs.declared.fault.LinkFault.{LinkFault};
-ghost use Rattle.tl_county.specs.Limits.{IsWithinLimits};
-ghost use Rattle.tl_county.specs.LinkRules.{IsFirstBrokenRule, IsLinked};
-ghost use Rattle.tl_county.specs.Packing.{packed};
-ghost use Rattle.tl_county.specs.Renumbering.{AreSame, Carries, Renumbering, identity, inverse, then};
+ghost use Rattle.county_chart.specs.County.{County, county_of};
+ghost use Rattle.county_chart.specs.CountyRules.{IsCounty};
+ghost use Rattle.county_chart.specs.declared.fault.LinkFault.{LinkFault};
+ghost use Rattle.county_chart.specs.Limits.{IsWithinLimits};
+ghost use Rattle.county_chart.specs.LinkRules.{IsFirstBrokenRule, IsLinked};
+ghost use Rattle.county_chart.specs.Packing.{packed};
+ghost use Rattle.county_chart.specs.Renumbering.{AreSame, Carries, Renumbering, identity, inverse, then};
 ghost use Rattle.tl_county.specs.Repacked.{IsSplit, KeepsSequence, LeavesEmptyOut, Sequence, resequenced};
 ghost use Rattle.tl_layout.specs.declared.record_type.Record.{Record};
 ghost use Rattle.tl_layout.specs.Limits.{IsWithinLimit};
 ghost use Rattle.tl_layout.specs.RecordText.{FitsRecord};
 
 /// `AreSame` is an equivalence of counties.
-#[tactic(auto, using(crate::proofs::Sameness::Equivalence::laws_of_sameness))]
+#[tactic(auto, using(county_chart::proofs::Sameness::Equivalence::laws_of_sameness))]
 pub fn sameness_is_an_equivalence()
     ensures reflexive { (a : County) → AreSame a a }
     ensures symmetric { (a b : County) → IsCounty a → IsCounty b → AreSame a b → AreSame b a }
@@ -32,7 +32,7 @@ pub fn renamings_compose()
 {}
 
 /// A list of records either is linked or has exactly one first broken rule.
-#[tactic(auto, using(crate::proofs::Rules::LinkFaults::linked_has_none, crate::proofs::Rules::LinkFaults::one_first_rule))]
+#[tactic(auto, using(county_chart::proofs::Rules::LinkFaults::linked_has_none, county_chart::proofs::Rules::LinkFaults::one_first_rule))]
 pub fn linked_or_one_first_broken_rule()
     ensures either { (records : List Record) →
         IsLinked records ⊎ ((fault : LinkFault) × IsFirstBrokenRule records fault) }

@@ -7,18 +7,18 @@
 ghost use Rattle.std.specs.Ordering.{nat_cmp};
 ghost use Rattle.std.specs.Prelude.{◌≡◌, ◌≢◌, ◌++◌, List, map, flat_map, OnOk, IfOk, IfErr, IsPermutation};
 ghost use Rattle.tl_county.specs.Building.{county_along, landmarks_along, link_nodes};
-ghost use Rattle.tl_county.specs.County.{county_of, five_feat, i_tlid, link_key, one_tlid, p_key, side_keys};
-ghost use Rattle.tl_county.specs.declared.fault.LinkFault.TheVariants.{Memory};
+ghost use Rattle.county_chart.specs.County.{county_of, five_feat, i_tlid, link_key, one_tlid, p_key, side_keys};
+ghost use Rattle.county_chart.specs.declared.fault.LinkFault.TheVariants.{Memory};
 ghost use Rattle.ordered_lists.specs.Entries.{map_values};
 ghost use Rattle.ordered_lists.specs.Keyed.{IsLeastPassing, is_unknown};
-ghost use Rattle.tl_county.specs.Limits.{HoldsWithinLimits, IsWithinLimits, most_records};
-ghost use Rattle.tl_county.specs.LinkRules.{IsFirstBrokenRule, IsLinked};
+ghost use Rattle.county_chart.specs.Limits.{HoldsWithinLimits, IsWithinLimits, most_records};
+ghost use Rattle.county_chart.specs.LinkRules.{IsFirstBrokenRule, IsLinked};
 ghost use Rattle.tl_county.specs.OrderedTables.{ordered_of, typed_of, AreInOrder, ArePermuted};
 ghost use Rattle.ordered_lists.specs.Orders.{IsInOrder, distinct};
-ghost use Rattle.tl_county.specs.Packing.{by_type, type_after_type};
-ghost use Rattle.tl_county.specs.PolygonKeys.{key_cmp};
+ghost use Rattle.county_chart.specs.Packing.{by_type, type_after_type};
+ghost use Rattle.county_chart.specs.PolygonKeys.{key_cmp};
 ghost use Rattle.tl_county.specs.RepeatedKeys.{AreLeastRepeated};
-ghost use Rattle.tl_county.specs.SequenceKeys.{is_unnamed, sequence_cmp, uses_of};
+ghost use Rattle.county_chart.specs.SequenceKeys.{is_unnamed, sequence_cmp, uses_of};
 ghost use Rattle.tl_layout.specs.declared.record_type.Record.{Record};
 ghost use Rattle.tl_layout.specs.Fields.{Fields5};
 ghost use Rattle.tl_layout.specs.Limits.{IsWithinLimit};
@@ -27,6 +27,7 @@ ghost use Rattle.tl_layout.specs.Tables.{HoldsByType};
 mod arena;
 mod building;
 mod chain_heads;
+pub(crate) mod chain_over;
 mod gathering;
 pub(crate) mod linked_records;
 pub(crate) mod near_order;
@@ -34,10 +35,7 @@ mod owned;
 mod rules;
 mod table_order;
 
-use crate::chart::Chart;
-use crate::fault::LinkFault;
-use crate::keys::keyed::keys_of;
-use crate::keys::record_keys::PolygonKey;
+use crate::keys::repeated::keys_of;
 use crate::linking::building::{
     ChainBuilder, LandmarkBuilder, chains_of_records, landmarks_of, lands_of, nodes_of,
     polygon_bodies,
@@ -49,10 +47,11 @@ use crate::linking::rules::{
     check_chains, check_landmarks, check_links, check_names, check_sequences, unnamed_use,
 };
 use crate::linking::table_order::{Ordered, OrderedTables, order_tables};
-use crate::stored::storage::{StoredChain, StoredLandmark, StoredName};
-use crate::stored::table::Table;
-use crate::stored::{County, CountyIn, StoredCounty};
 use bumpalo::Bump;
+use county_chart::{
+    Chart, County, CountyIn, LinkFault, PolygonKey, StoredChain, StoredCounty, StoredLandmark,
+    StoredName, Table,
+};
 use std::alloc::{AllocError, Global};
 use tl_layout::{BodyP, Rec5, Record, Tables};
 
@@ -267,13 +266,14 @@ pub(crate) fn build_county<
     ensures { IfOk result (λ county. ⟦<StoredCounty<C, N, L> as Chart>⟧.county county ≡ county_of (type_after_type (ordered_of tables.now))) }
 {
     let parts = build_parts::<C, L, B>(alloc, builder, tables, tlids, polygons)?;
-    Ok(StoredCounty {
-        chains: parts.chains,
-        names: Table::new(feats, names),
-        polygons: parts.polygons,
-        landmarks: parts.landmarks,
-        nodes: parts.nodes,
-    })
+    let names = Table::new(feats, names);
+    Ok(StoredCounty::new(
+        parts.chains,
+        names,
+        parts.polygons,
+        parts.landmarks,
+        parts.nodes,
+    ))
 }
 
 /// What was gathered from tables in order: the TLIDs of chains and the FEATs of names, both in order, and the polygons.

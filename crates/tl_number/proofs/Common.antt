@@ -20,7 +20,8 @@ pub use Rattle.canonical_form.proofs.Common.{length-take, map-append, take_all, 
 pub use Rattle.canonical_form.proofs.Common.{IsPermutation-map, IsPermutation-sym, IsPermutation-trans, Decides, IsTotalOrder}
 pub use Rattle.canonical_form.proofs.Common.{AllByRecursion, cons_option, insert, list_any, position, position_or_len, range_with_len}
 pub use Rattle.canonical_form.proofs.Common.{MatchOrdering, on, ordering_reverse, ordering_then, then_cmp, any-stands_in, times-of_number}
-pub use Rattle.canonical_form.proofs.Common.{packed_county, rights-numbered_from, county-is_county, same-symmetric, same-transitive}
+pub use Rattle.canonical_form.proofs.Common.{rights-numbered_from, county-is_county, same-symmetric, same-transitive}
+pub use Rattle.canonical_form.proofs.Packing.PackedCounty.{packed_county}
 pub use Rattle.canonical_form.proofs.Common.{landmark_body_cmp, link_cmp, link_part, link_part_cmp, County, county_of, eight_land, link_key}
 pub use Rattle.canonical_form.proofs.Common.{AllKeysStandIn, AllStandIn, IsCounty, chain_polygons, feats, lands, nodes, nodes_along}
 pub use Rattle.canonical_form.proofs.Common.{polygon_keys, polygons_along, tlids, key_keys, link_keys, link_part_keys, points_keys}
@@ -53,11 +54,11 @@ pub use Rattle.std.proofs.lemmas.Option.{slice_get-get_or, slice_get-map, slice_
 pub use Rattle.std.proofs.lemmas.Result.{IfOk-weaker, err_from_is_err_and}
 pub use Rattle.std.specs.Cmp.Lexicographic.{slice_cmp}
 pub use Rattle.std.specs.Option.{option_cmp}
-pub use Rattle.tl_county.proofs.Limits.FewChains.{few_chains}
-pub use Rattle.tl_county.specs.ChartWords.{bodies_at, chain_at, feats_of, links_at, links_with, points_of, ranges_of}
-pub use Rattle.tl_county.specs.DirectedChains.{directed_chain}
-pub use Rattle.tl_county.specs.Packing.{first_point}
-pub use Rattle.tl_county.specs.Renumbering.{side_of}
+pub use Rattle.county_chart.proofs.Limits.FewChains.{few_chains}
+pub use Rattle.county_chart.specs.ChartWords.{bodies_at, chain_at, feats_of, links_at, links_with, points_of, ranges_of}
+pub use Rattle.county_chart.specs.DirectedChains.{directed_chain}
+pub use Rattle.county_chart.specs.Packing.{first_point}
+pub use Rattle.county_chart.specs.Renumbering.{side_of}
 pub use Rattle.tl_layout.specs.Columns.{joined}
 pub use Rattle.tl_layout.specs.PolygonSide.{PolygonSide}
 pub use Rattle.tl_layout.specs.RecordText.{spelling_of}

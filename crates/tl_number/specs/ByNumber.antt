@@ -3,10 +3,10 @@ use Rattle.std.specs.Prelude.{ℕ, List, Option}
 use Rattle.std.specs.Option.{option_and_then}
 use Rattle.std.specs.Ordering.{nat_cmp, on}
 use Rattle.tl_layout.specs.declared.type_p.BodyP.{BodyP}
-use Rattle.tl_county.specs.ChartWords.{polygon_under}
-use Rattle.tl_county.specs.County.{County}
+use Rattle.county_chart.specs.ChartWords.{polygon_under}
+use Rattle.county_chart.specs.County.{County}
 use Rattle.ordered_lists.specs.Orders.{in_order}
-use Rattle.tl_county.specs.PolygonKeys.{PolygonKey}
+use Rattle.county_chart.specs.PolygonKeys.{PolygonKey}
 
 -- the POLYID of a polygon
 abbrev pub entry_polyid : PolygonKey × Option BodyP → ℕ

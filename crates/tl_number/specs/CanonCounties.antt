@@ -1,11 +1,11 @@
 -- A canonical county: it has the numbers, directions and order of the canonical form.
 use Rattle.std.specs.Prelude.{ℕ, max, List, [], ◌∷◌}
 use Rattle.std.proofs.Props.{props}
-use Rattle.tl_county.specs.County.{County}
-use Rattle.tl_county.specs.CountyProps.{IsInOrder-prop}
-use Rattle.tl_county.specs.CountyRules.{IsCounty}
-use Rattle.tl_county.specs.Packing.{packed}
-use Rattle.tl_county.specs.Renumbering.{AreSame}
+use Rattle.county_chart.specs.County.{County}
+use Rattle.county_chart.specs.CountyProps.{IsInOrder-prop}
+use Rattle.county_chart.specs.CountyRules.{IsCounty}
+use Rattle.county_chart.specs.Packing.{packed}
+use Rattle.county_chart.specs.Renumbering.{AreSame}
 use Rattle.canonical_form.specs.Growth.{GrowsFrom}
 use Rattle.canonical_form.specs.ArrangedCounty.{IsArranged, IsTidy}
 use Rattle.canonical_form.specs.Canonical.{IsNotAfter}

@@ -1,9 +1,9 @@
 -- What is known of a county whose least choice is searched, and of the choices that are compared.
 use Rattle.std.specs.Prelude.{ℕ, ◌≡◌, ◌≤◌, List, length}
 use Rattle.std.specs.declared.cmp.Ordering.TheVariants.{Equal}
-use Rattle.tl_county.specs.County.{County}
-use Rattle.tl_county.specs.CountyRules.{AllKeysStandIn, polygon_keys, polygons_along}
-use Rattle.tl_county.specs.declared.directed_chain.DirectedChain.{DirectedChain}
+use Rattle.county_chart.specs.County.{County}
+use Rattle.county_chart.specs.CountyRules.{AllKeysStandIn, polygon_keys, polygons_along}
+use Rattle.county_chart.specs.declared.directed_chain.DirectedChain.{DirectedChain}
 use Rattle.canonical_form.specs.Canonical.{IsNotAfter}
 use Rattle.canonical_form.specs.LeastNumber.{choice_list}
 use Rattle.tl_number.specs.MovedChains.{AreWithin, other_way}

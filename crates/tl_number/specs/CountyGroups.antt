@@ -5,11 +5,11 @@ use Rattle.tl_layout.specs.Fields.{Fields1, Fields2, Fields4, Fields5, Fields6, 
 use Rattle.tl_layout.specs.declared.record_type.Record.{Record}
 use Rattle.tl_layout.specs.declared.record_type.Record.TheVariants.{One, Two, Four, Five, Six, Seven, Eight, I, P}
 use Rattle.tl_layout.specs.declared.type_p.BodyP.{BodyP}
-use Rattle.tl_county.specs.County.{County}
-use Rattle.tl_county.specs.ChartWords.{chain_at}
-use Rattle.tl_county.specs.Packing.{first_point, last_point, packed_one, packed_twos, packed_fours, packed_five, packed_sixes}
-use Rattle.tl_county.specs.Packing.{packed_sevens, packed_i, packed_p}
-use Rattle.tl_county.specs.PolygonKeys.{PolygonKey}
+use Rattle.county_chart.specs.County.{County}
+use Rattle.county_chart.specs.ChartWords.{chain_at}
+use Rattle.county_chart.specs.Packing.{first_point, last_point, packed_one, packed_twos, packed_fours, packed_five, packed_sixes}
+use Rattle.county_chart.specs.Packing.{packed_sevens, packed_i, packed_p}
+use Rattle.county_chart.specs.PolygonKeys.{PolygonKey}
 use Rattle.tl_number.specs.ByNumber.{polygons_by_number}
 use Rattle.tl_number.specs.Groups.{grouped}
 

@@ -4,11 +4,11 @@ use Rattle.std.specs.List.{list_any, range_with_len}
 use Rattle.std.specs.Option.{option_and_then}
 use Rattle.std.specs.Ordering.{nat_cmp}
 use Rattle.ordered_lists.specs.Orders.{stands_in}
-use Rattle.tl_county.specs.ChartWords.{polygon_under}
-use Rattle.tl_county.specs.County.{County, link_key}
-use Rattle.tl_county.specs.CountyRules.{chain_nodes, chain_polygons}
-use Rattle.tl_county.specs.PolygonKeys.{PolygonKey, key_cmp}
-use Rattle.tl_county.specs.declared.directed_chain.DirectedChain.{DirectedChain}
+use Rattle.county_chart.specs.ChartWords.{polygon_under}
+use Rattle.county_chart.specs.County.{County, link_key}
+use Rattle.county_chart.specs.CountyRules.{chain_nodes, chain_polygons}
+use Rattle.county_chart.specs.PolygonKeys.{PolygonKey, key_cmp}
+use Rattle.county_chart.specs.declared.directed_chain.DirectedChain.{DirectedChain}
 use Rattle.tl_profile.specs.ShapeOrder.{OrderOfShapes}
 use Rattle.tl_profile.specs.declared.open_places.OpenPlace.{OpenPlace}
 use Rattle.tl_number.specs.CriticalKeys.{brings}

@@ -2,11 +2,11 @@
 use Rattle.std.specs.Prelude.{ℕ, ◌<◌, List, map, Option, slice_index, length}
 use Rattle.std.specs.List.{AllByRecursion}
 use Rattle.tl_shape.specs.Chain.{Chain}
-use Rattle.tl_county.specs.County.{County}
-use Rattle.tl_county.specs.CountyRules.{tlids}
-use Rattle.tl_county.specs.DirectedChains.{directed_chain}
+use Rattle.county_chart.specs.County.{County}
+use Rattle.county_chart.specs.CountyRules.{tlids}
+use Rattle.county_chart.specs.DirectedChains.{directed_chain}
 use Rattle.canonical_form.specs.Arrangement.{Arrangement}
-use Rattle.tl_county.specs.declared.directed_chain.DirectedChain.{DirectedChain}
+use Rattle.county_chart.specs.declared.directed_chain.DirectedChain.{DirectedChain}
 
 -- the TLID at a place; the place is below the number of chains
 abbrev pub tlid_at : County → ℕ → ℕ

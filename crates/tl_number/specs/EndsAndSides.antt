@@ -4,9 +4,9 @@ use Rattle.std.proofs.Common.{arith}
 use Rattle.std.specs.Ordering.{nat_cmp}
 use Rattle.tl_layout.specs.PolygonSide.{PolygonSide}
 use Rattle.tl_shape.specs.Chain.{Chain}
-use Rattle.tl_county.specs.PolygonKeys.{PolygonKey, key_cmp, key_on}
+use Rattle.county_chart.specs.PolygonKeys.{PolygonKey, key_cmp, key_on}
 use Rattle.ordered_lists.specs.Pairs.{image}
-use Rattle.tl_county.specs.Renumbering.{side_of}
+use Rattle.county_chart.specs.Renumbering.{side_of}
 use Rattle.canonical_form.specs.Arrangement.{under_cenid}
 use Rattle.canonical_form.specs.Growth.{numbered}
 

@@ -5,12 +5,12 @@ use Rattle.std.specs.declared.cmp.Ordering.TheVariants.{Equal}
 use Rattle.std.specs.Cmp.Lexicographic.{slice_cmp}
 use Rattle.std.specs.Ordering.{nat_cmp, ordering_then}
 use Rattle.tl_layout.specs.Fields.{Fields8}
-use Rattle.tl_county.specs.BodyOrder.{landmark_body_cmp, link_cmp, link_part, link_part_cmp}
-use Rattle.tl_county.specs.ChartWords.{bodies_at, links_with}
-use Rattle.tl_county.specs.County.{County, link_key}
-use Rattle.tl_county.specs.CountyRules.{lands}
+use Rattle.county_chart.specs.BodyOrder.{landmark_body_cmp, link_cmp, link_part, link_part_cmp}
+use Rattle.county_chart.specs.ChartWords.{bodies_at, links_with}
+use Rattle.county_chart.specs.County.{County, link_key}
+use Rattle.county_chart.specs.CountyRules.{lands}
 use Rattle.ordered_lists.specs.Orders.{in_order}
-use Rattle.tl_county.specs.PolygonKeys.{PolygonKey, key_cmp}
+use Rattle.county_chart.specs.PolygonKeys.{PolygonKey, key_cmp}
 use Rattle.ordered_lists.specs.Pairs.{image}
 use Rattle.canonical_form.specs.Arrangement.{under_cenid}
 use Rattle.canonical_form.specs.Growth.{numbered, up_to}

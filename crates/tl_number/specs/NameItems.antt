@@ -5,12 +5,12 @@ use Rattle.std.specs.List.{position}
 use Rattle.std.specs.Option.{option_cmp}
 use Rattle.std.specs.Ordering.{is_eq, nat_cmp, ordering_then}
 use Rattle.ordered_lists.specs.Orders.{IsInOrder}
-use Rattle.tl_county.specs.BodyOrder.{name_body_cmp}
-use Rattle.tl_county.specs.ChartWords.{feats_of, name_at}
-use Rattle.tl_county.specs.County.{County}
-use Rattle.tl_county.specs.CountyRules.{feats}
-use Rattle.tl_county.specs.DirectedChains.{directed_chain}
-use Rattle.tl_county.specs.declared.directed_chain.DirectedChain.{DirectedChain}
+use Rattle.county_chart.specs.BodyOrder.{name_body_cmp}
+use Rattle.county_chart.specs.ChartWords.{feats_of, name_at}
+use Rattle.county_chart.specs.County.{County}
+use Rattle.county_chart.specs.CountyRules.{feats}
+use Rattle.county_chart.specs.DirectedChains.{directed_chain}
+use Rattle.county_chart.specs.declared.directed_chain.DirectedChain.{DirectedChain}
 use Rattle.tl_number.specs.declared.name_order.RankedName.{RankedName}
 
 -- the FEATs that chains list, along directed chains

@@ -5,8 +5,8 @@ use Rattle.std.specs.Ordering.{is_eq}
 use Rattle.std.specs.declared.cmp.Ordering.{Ordering}
 use Rattle.ordered_lists.specs.Orders.{stands_in}
 use Rattle.tl_shape.specs.Chain.{Chain}
-use Rattle.tl_county.specs.County.{County}
-use Rattle.tl_county.specs.declared.directed_chain.DirectedChain.{DirectedChain}
+use Rattle.county_chart.specs.County.{County}
+use Rattle.county_chart.specs.declared.directed_chain.DirectedChain.{DirectedChain}
 use Rattle.tl_profile.specs.declared.open_places.OpenPlace.{OpenPlace}
 use Rattle.tl_number.specs.DirectedChains.{parts_along}
 use Rattle.tl_number.specs.Groups.{grouped}

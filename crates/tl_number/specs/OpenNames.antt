@@ -6,13 +6,13 @@ use Rattle.ordered_lists.specs.Entries.{entry_keys}
 use Rattle.ordered_lists.specs.Orders.{stands_in}
 use Rattle.tl_layout.specs.Fields.{Fields4}
 use Rattle.tl_shape.specs.Chain.{Chain}
-use Rattle.tl_county.specs.ChartWords.{feats_of}
-use Rattle.tl_county.specs.County.{County}
-use Rattle.tl_county.specs.CountyRules.{feats}
-use Rattle.tl_county.specs.DirectedChains.{directed_chain}
-use Rattle.tl_county.specs.Limits.{most_records}
-use Rattle.tl_county.specs.Packing.{in_pieces, numbered_from}
-use Rattle.tl_county.specs.declared.directed_chain.DirectedChain.{DirectedChain}
+use Rattle.county_chart.specs.ChartWords.{feats_of}
+use Rattle.county_chart.specs.County.{County}
+use Rattle.county_chart.specs.CountyRules.{feats}
+use Rattle.county_chart.specs.DirectedChains.{directed_chain}
+use Rattle.county_chart.specs.Limits.{most_records}
+use Rattle.county_chart.specs.Packing.{in_pieces, numbered_from}
+use Rattle.county_chart.specs.declared.directed_chain.DirectedChain.{DirectedChain}
 use Rattle.tl_profile.specs.ShapeOrder.{OrderOfShapes}
 use Rattle.tl_profile.specs.declared.open_places.OpenPlace.{OpenPlace}
 use Rattle.canonical_form.specs.Arrangement.{names_in_order}

@@ -2,11 +2,11 @@
 use Rattle.std.specs.Prelude.{ℕ, ◌+◌, List, [], map, Option, Some, None, option_map, slice_get}
 use Rattle.tl_layout.specs.Fields.{Fields6}
 use Rattle.tl_layout.specs.declared.ranges.Ranges.{Ranges}
-use Rattle.tl_county.specs.ChartWords.{ranges_of}
-use Rattle.tl_county.specs.County.{County}
-use Rattle.tl_county.specs.DirectedChains.{directed_chain}
-use Rattle.tl_county.specs.Packing.{numbered_from}
-use Rattle.tl_county.specs.declared.directed_chain.DirectedChain.{DirectedChain}
+use Rattle.county_chart.specs.ChartWords.{ranges_of}
+use Rattle.county_chart.specs.County.{County}
+use Rattle.county_chart.specs.DirectedChains.{directed_chain}
+use Rattle.county_chart.specs.Packing.{numbered_from}
+use Rattle.county_chart.specs.declared.directed_chain.DirectedChain.{DirectedChain}
 
 -- an open place with its chain in an arrangement
 abbrev pub open_chain : List DirectedChain → ℕ → Option (ℕ × DirectedChain)

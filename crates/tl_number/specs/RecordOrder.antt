@@ -8,7 +8,7 @@ use Rattle.std.specs.declared.cmp.Ordering.TheVariants.{Equal}
 use Rattle.tl_layout.specs.RecordText.{spelling_of}
 use Rattle.tl_layout.specs.declared.record_type.Record.{Record}
 use Rattle.tl_layout.specs.declared.record_type.Record.TheVariants.{One, Two, Four, Five, Six, Seven, Eight, I, P}
-use Rattle.tl_county.specs.County.{County}
+use Rattle.county_chart.specs.County.{County}
 use Rattle.tl_number.specs.CountyGroups.{type_1_by_chain, type_2_by_chain, type_4_by_chain, type_5_by_name, type_6_by_chain}
 use Rattle.tl_number.specs.CountyGroups.{type_7_by_landmark, type_8_together, type_i_by_chain, type_p_by_number}
 use Rattle.tl_number.specs.Groups.{grouped}

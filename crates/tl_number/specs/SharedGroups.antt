@@ -1,6 +1,6 @@
 -- What two counties with the same records share.
 use Rattle.std.specs.Prelude.{◌≡◌, length}
-use Rattle.tl_county.specs.County.{County}
+use Rattle.county_chart.specs.County.{County}
 use Rattle.tl_number.specs.CountyGroups.{type_1_by_chain, type_2_by_chain, type_4_by_chain, type_5_by_name, type_6_by_chain}
 use Rattle.tl_number.specs.CountyGroups.{type_7_by_landmark, type_8_together, type_i_by_chain, type_p_by_number}
 

@@ -1,8 +1,8 @@
 -- The facts about keys in the order of a choice have at most one proof each.
 use Rattle.std.specs.Prelude.{ℕ, List}
 use Rattle.std.proofs.Props.{props}
-use Rattle.tl_county.specs.County.{County}
-use Rattle.tl_county.specs.PolygonKeys.{PolygonKey, key_cmp}
+use Rattle.county_chart.specs.County.{County}
+use Rattle.county_chart.specs.PolygonKeys.{PolygonKey, key_cmp}
 use Rattle.tl_number.specs.LandmarkItems.{HaveSameBodies}
 use Rattle.tl_number.specs.OpenKeys.{ArePlacedBy}
 use Rattle.tl_number.specs.OpenNames.{AreFewFeats}

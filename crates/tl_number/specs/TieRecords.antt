@@ -4,9 +4,9 @@ use Rattle.std.specs.Option.{option_and_then}
 use Rattle.std.specs.Ordering.{nat_cmp}
 use Rattle.tl_layout.specs.Fields.{FieldsP}
 use Rattle.tl_layout.specs.PolygonSide.{PolygonSide}
-use Rattle.tl_county.specs.County.{County}
-use Rattle.tl_county.specs.Packing.{packed_p}
-use Rattle.tl_county.specs.PolygonKeys.{PolygonKey, key_cmp}
+use Rattle.county_chart.specs.County.{County}
+use Rattle.county_chart.specs.Packing.{packed_p}
+use Rattle.county_chart.specs.PolygonKeys.{PolygonKey, key_cmp}
 use Rattle.tl_number.specs.ByNumber.{under_number}
 use Rattle.tl_number.specs.OpenKeys.{key_by_order, place_by_order}
 use Rattle.tl_number.specs.declared.open_keys.OpenKeys.{OpenKeys}

@@ -1,10 +1,10 @@
 -- The records by which a choice is compared with others that tie with it.
 use Rattle.std.specs.Prelude.{◌≡◌, IfSome, List, filter_map, map}
 use Rattle.ordered_lists.specs.Places.{at_places}
-use Rattle.tl_county.specs.County.{County}
-use Rattle.tl_county.specs.CountyRules.{chain_polygons}
-use Rattle.tl_county.specs.PolygonKeys.{key_cmp}
-use Rattle.tl_county.specs.declared.directed_chain.DirectedChain.{DirectedChain}
+use Rattle.county_chart.specs.County.{County}
+use Rattle.county_chart.specs.CountyRules.{chain_polygons}
+use Rattle.county_chart.specs.PolygonKeys.{key_cmp}
+use Rattle.county_chart.specs.declared.directed_chain.DirectedChain.{DirectedChain}
 use Rattle.tl_layout.specs.declared.record_type.Record.TheVariants.{I}
 use Rattle.tl_profile.specs.ShapeOrder.{OrderOfShapes}
 use Rattle.tl_number.specs.OpenKeys.{first_open, keys_along}

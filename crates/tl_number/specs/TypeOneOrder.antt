@@ -4,15 +4,15 @@ use Rattle.std.specs.Ordering.{is_gt}
 use Rattle.std.specs.declared.cmp.Ordering.{Ordering}
 use Rattle.tl_layout.specs.declared.record_type.Record.{Record}
 use Rattle.tl_layout.specs.declared.record_type.Record.TheVariants.{One}
-use Rattle.tl_county.specs.County.{County}
-use Rattle.tl_county.specs.Packing.{packed_one}
-use Rattle.tl_county.specs.declared.directed_chain.DirectedChain.{DirectedChain}
+use Rattle.county_chart.specs.County.{County}
+use Rattle.county_chart.specs.Packing.{packed_one}
+use Rattle.county_chart.specs.declared.directed_chain.DirectedChain.{DirectedChain}
 use Rattle.canonical_form.specs.Arrangement.{arranged}
 use Rattle.tl_number.specs.CountyGroups.{type_1_by_chain}
 use Rattle.tl_number.specs.Groups.{grouped}
 use Rattle.canonical_form.specs.LeastNumber.{choice_list}
 use Rattle.tl_number.specs.RecordOrder.{groups_cmp}
-use Rattle.tl_county.specs.DirectedChains.{directed_chain}
+use Rattle.county_chart.specs.DirectedChains.{directed_chain}
 use Rattle.canonical_form.specs.Canonical.{IsNotAfter}
 use Rattle.canonical_form.specs.Tidy.{numbered_choice}
 

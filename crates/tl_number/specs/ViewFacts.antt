@@ -3,10 +3,10 @@ use Rattle.std.specs.Prelude.{ℕ, ◌≡◌, ◌+◌, ◌<◌, ◌^◌, List, m
 use Rattle.std.specs.List.{range_with_len}
 use Rattle.std.specs.Ordering.{nat_cmp}
 use Rattle.tl_layout.specs.Fields.{Fields8}
-use Rattle.tl_county.specs.County.{County}
-use Rattle.tl_county.specs.CountyRules.{IsCounty, tlids, polygon_keys}
+use Rattle.county_chart.specs.County.{County}
+use Rattle.county_chart.specs.CountyRules.{IsCounty, tlids, polygon_keys}
 use Rattle.ordered_lists.specs.Entries.{entry_keys, entry_values}
-use Rattle.tl_county.specs.Limits.{IsWithinLimits, most_records}
+use Rattle.county_chart.specs.Limits.{IsWithinLimits, most_records}
 use Rattle.ordered_lists.specs.Orders.{times}
 use Rattle.canonical_form.specs.Arrangement.{Arrangement, arranged_tlids, nodes_in_order, polygons_in_order, names_in_order}
 use Rattle.canonical_form.specs.Arrangement.{landmarks_in_order, arranged}
@@ -14,7 +14,7 @@ use Rattle.tl_number.specs.EndsAndSides.{ends_of, sides_of}
 use Rattle.tl_number.specs.ByNumber.{polygons_by_number, under_number}
 use Rattle.canonical_form.specs.Growth.{numbered}
 use Rattle.tl_number.specs.DirectedChains.{HasChainsOf, arrangement_of}
-use Rattle.tl_county.specs.declared.directed_chain.DirectedChain.{DirectedChain}
+use Rattle.county_chart.specs.declared.directed_chain.DirectedChain.{DirectedChain}
 use Rattle.tl_number.specs.declared.arranged_tables.LandmarkTables.{LandmarkTables}
 use Rattle.tl_number.specs.declared.arranged_tables.NameTables.{NameTables}
 use Rattle.tl_number.specs.declared.arranged_tables.NodeTables.{NodeTables}

@@ -1,12 +1,12 @@
 -- The facts about a county in an arrangement have at most one proof each.
 use Rattle.std.specs.Prelude.{List}
 use Rattle.std.proofs.Props.{props}
-use Rattle.tl_county.specs.County.{County}
-use Rattle.tl_county.specs.CountyProps.{IsCounty-prop}
-use Rattle.tl_county.specs.CountyRules.{AllKeysStandIn, polygon_keys, polygons_along}
-use Rattle.tl_county.specs.LimitsProps.{IsWithinLimits-prop}
+use Rattle.county_chart.specs.County.{County}
+use Rattle.county_chart.specs.CountyProps.{IsCounty-prop}
+use Rattle.county_chart.specs.CountyRules.{AllKeysStandIn, polygon_keys, polygons_along}
+use Rattle.county_chart.specs.LimitsProps.{IsWithinLimits-prop}
 use Rattle.tl_number.specs.ViewFacts.{AreWhole, MatchesNodes, MatchesPolygons, MatchesNames, MatchesLandmarks}
-use Rattle.tl_county.specs.declared.directed_chain.DirectedChain.{DirectedChain}
+use Rattle.county_chart.specs.declared.directed_chain.DirectedChain.{DirectedChain}
 use Rattle.tl_number.specs.declared.arranged_tables.LandmarkTables.{LandmarkTables}
 use Rattle.tl_number.specs.declared.arranged_tables.NameTables.{NameTables}
 use Rattle.tl_number.specs.declared.arranged_tables.NodeTables.{NodeTables}

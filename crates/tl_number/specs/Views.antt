@@ -1,8 +1,8 @@
 -- An arranged county: its source county, its arrangement, and the resulting county.
 use Rattle.std.specs.Global.{Vec}
-use Rattle.tl_county.specs.County.{County}
-use Rattle.tl_county.specs.declared.chart.Chart.{Ghosts as Charts}
-use Rattle.tl_county.specs.declared.directed_chain.DirectedChain.{DirectedChain}
+use Rattle.county_chart.specs.County.{County}
+use Rattle.county_chart.specs.declared.chart.Chart.{Ghosts as Charts}
+use Rattle.county_chart.specs.declared.directed_chain.DirectedChain.{DirectedChain}
 use Rattle.canonical_form.specs.Arrangement.{Arrangement}
 use Rattle.tl_number.specs.DirectedChains.{arrangement_of}
 use Rattle.tl_number.specs.ViewFacts.{arranged_by}

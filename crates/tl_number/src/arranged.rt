@@ -3,10 +3,10 @@
 ghost use Rattle.std.specs.Ordering.{nat_cmp};
 ghost use Rattle.std.specs.Option.{option_and_then};
 ghost use Rattle.std.specs.Prelude.{◌≡◌, ◌<◌, Some, length, option_map, slice_get};
-ghost use Rattle.tl_county.specs.ChartWords.{chain_at, polygon_under};
-ghost use Rattle.tl_county.specs.CountyRules.{AllKeysStandIn, polygon_keys, polygons_along};
-ghost use Rattle.tl_county.specs.DirectedChains.{directed_chain};
-ghost use Rattle.tl_county.specs.Renumbering.{renumbered};
+ghost use Rattle.county_chart.specs.ChartWords.{chain_at, polygon_under};
+ghost use Rattle.county_chart.specs.CountyRules.{AllKeysStandIn, polygon_keys, polygons_along};
+ghost use Rattle.county_chart.specs.DirectedChains.{directed_chain};
+ghost use Rattle.county_chart.specs.Renumbering.{renumbered};
 ghost use Rattle.ordered_lists.specs.Entries.{entry_values};
 ghost use Rattle.ordered_lists.specs.Pairs.{image};
 ghost use Rattle.canonical_form.specs.Arrangement.{renaming_of};
@@ -19,13 +19,13 @@ ghost use Rattle.tl_number.specs.ViewProps.{AreWhole-prop, StandOnSides-prop, Ma
 use crate::arranged_tables::{Ends, LandmarkTables, NameTables, NodeTables, PolygonTables, Sides};
 use crate::numbers::stands_at;
 use crate::renumbering::new_feat;
+use county_chart::{Chart, DirectedChain, PolygonKey};
 use std::marker::PhantomData;
-use tl_county::{Chart, DirectedChain, PolygonKey};
 use tl_layout::{BodyP, Rec8};
 
 /// A fact about an arranged county, in terms of its source county and of itself.
 pub trait Evidence {
-    ghost use Rattle.tl_county.specs.County.{County};
+    ghost use Rattle.county_chart.specs.County.{County};
 
     ghost holds: { County → County → Type 0 };
 }

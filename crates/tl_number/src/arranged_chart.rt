@@ -10,8 +10,8 @@ ghost use Rattle.canonical_form.specs.Growth.{up_to};
 
 use crate::arranged::{Arranged, Evidence, old_place};
 use crate::landmark_links::{link_at, links_of_landmark};
+use county_chart::{Chart, Listed, PolygonKey};
 use ordered_lists::place_of;
-use tl_county::{Chart, Listed, PolygonKey};
 use tl_layout::{Body1, Body5, Body7, BodyI, BodyP, Point, Ranges, Rec8, Side};
 
 /// The number at a place, counted from 0, or `None` past the last one.

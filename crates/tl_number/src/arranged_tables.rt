@@ -1,7 +1,7 @@
 //! What a county in an arrangement stores about its nodes, polygons, names and landmarks.
 
 use crate::numbers::Interner;
-use tl_county::PolygonKey;
+use county_chart::PolygonKey;
 use tl_layout::{NumberOrNone, Rec8, Side};
 
 /// The start node and the end node of a chain.

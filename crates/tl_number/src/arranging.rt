@@ -1,8 +1,8 @@
 //! Making the county of an arrangement, and the canonical county.
 
 ghost use Rattle.std.specs.Prelude.{◌≡◌, ◌<◌, ◌^◌, Err, IfOk, MatchResult, Ok, length};
-ghost use Rattle.tl_county.specs.CountyRules.{AllKeysStandIn, polygon_keys, polygons_along};
-ghost use Rattle.tl_county.specs.Renumbering.{AreSame, Carries};
+ghost use Rattle.county_chart.specs.CountyRules.{AllKeysStandIn, polygon_keys, polygons_along};
+ghost use Rattle.county_chart.specs.Renumbering.{AreSame, Carries};
 ghost use Rattle.canonical_form.specs.Arrangement.{arranged, polygons_in_order, renaming_of};
 ghost use Rattle.tl_number.specs.CanonCounties.{IsCanonCounty};
 ghost use Rattle.tl_number.specs.DirectedChains.{HasChainsOf, arrangement_of};
@@ -21,10 +21,10 @@ use crate::name_order::arrange_names;
 use crate::numbers::Interner;
 use crate::pairing::both;
 use crate::polygon_order::arrange_nodes_and_polygons;
+use county_chart::{Chart, CountyIn, DirectedChain, PolygonKey};
 use std::alloc::{AllocError, Global};
 use std::marker::PhantomData;
 use tl_cert::Renaming;
-use tl_county::{Chart, CountyIn, DirectedChain, PolygonKey};
 use tl_profile::{Admitted, AdmittedIn, ShapeOrder};
 
 /// The tables of a county in an arrangement, for its nodes, polygons, names and landmarks.

@@ -4,8 +4,8 @@ ghost use Rattle.std.specs.Prelude.{◌≡◌, IfOk};
 ghost use Rattle.canonical_form.specs.Arrangement.{ascending};
 ghost use Rattle.tl_number.specs.DirectedChains.{HasChainsOf, arrangement_of};
 
+use county_chart::{Chart, DirectedChain};
 use std::alloc::{AllocError, Global};
-use tl_county::{Chart, DirectedChain};
 use tl_profile::{ShapeOrder, order_by_shape};
 
 /// A copy of the directed chains, which are in the order of their shapes.

@@ -1,7 +1,7 @@
 //! The canonical county.
 
 use crate::arranged::{Arranged, Evidence};
-use tl_county::{County, CountyIn};
+use county_chart::{County, CountyIn};
 
 /// The fact that a county is in canonical form: the points of its chains determine their directions and order; if these leave a
 /// choice, it is the one with the least text; all numbers follow from these, and the county is the same map as its source
@@ -10,7 +10,7 @@ use tl_county::{County, CountyIn};
 pub struct Canonical;
 
 impl Evidence for Canonical {
-    ghost use Rattle.tl_county.specs.Renumbering.{AreSame};
+    ghost use Rattle.county_chart.specs.Renumbering.{AreSame};
     ghost use Rattle.tl_number.specs.CanonCounties.{IsCanonCounty};
 
     ghost holds = { λ source county. IsCanonCounty county × AreSame source county };

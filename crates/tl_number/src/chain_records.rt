@@ -1,14 +1,14 @@
 //! The records of a county's chains.
 
 ghost use Rattle.std.specs.Prelude.{◌≡◌, ◌<◌, ◌+◌, Some, length, slice_get, take, drop};
-ghost use Rattle.tl_county.specs.CountyRules.{tlids};
+ghost use Rattle.county_chart.specs.CountyRules.{tlids};
 ghost use Rattle.tl_layout.specs.Numbers.{IsNumber};
 
 use crate::groups::{CountedGroups, RecordGroups};
 use crate::heads::HeadBuffers;
 use arrayvec::ArrayVec;
+use county_chart::{ChainFeats, Chart, Listed};
 use std::marker::PhantomData;
-use tl_county::{ChainFeats, Chart, Listed};
 use tl_layout::{Point, Rec1, Rec2, Rec4, Rec6, RecI, Tabled};
 
 /// The number of shape points in a full record of type 2.
@@ -58,8 +58,8 @@ struct ShapePoints<'a, C> {
 }
 
 impl<C: Chart> Listed for ShapePoints<'_, C> {
-    ghost use Rattle.tl_county.specs.ChartWords.{chain_at, points_of};
-    ghost use Rattle.tl_county.specs.Packing.{inner_points};
+    ghost use Rattle.county_chart.specs.ChartWords.{chain_at, points_of};
+    ghost use Rattle.county_chart.specs.Packing.{inner_points};
 
     type Item = Point;
 
@@ -137,7 +137,7 @@ impl<C: Chart> RecordGroups for ChainRecords<'_, C> {
 /// names or further address ranges.
 pub trait SequencedRecord: Tabled {
     ghost use Rattle.std.specs.Prelude.{◌≡◌, ◌<◌, List, Some, length, slice_get};
-    ghost use Rattle.tl_county.specs.County.{County};
+    ghost use Rattle.county_chart.specs.County.{County};
     ghost use Rattle.tl_number.specs.Groups.{group_at};
 
     /// The records of each chain of a county.
@@ -161,7 +161,7 @@ pub trait SequencedRecord: Tabled {
 /// Records of type 2: shape points.
 impl SequencedRecord for Rec2 {
     ghost use Rattle.std.proofs.lemmas.List.{length-map};
-    ghost use Rattle.tl_county.specs.Packing.{packed_twos};
+    ghost use Rattle.county_chart.specs.Packing.{packed_twos};
     ghost use Rattle.tl_number.specs.CountyGroups.{type_2_by_chain};
 
     ghost by_chain = { type_2_by_chain };
@@ -182,7 +182,7 @@ impl SequencedRecord for Rec2 {
 /// Records of type 4: further names.
 impl SequencedRecord for Rec4 {
     ghost use Rattle.std.proofs.lemmas.List.{length-map};
-    ghost use Rattle.tl_county.specs.Packing.{packed_fours};
+    ghost use Rattle.county_chart.specs.Packing.{packed_fours};
     ghost use Rattle.tl_number.specs.CountyGroups.{type_4_by_chain};
 
     ghost by_chain = { type_4_by_chain };
@@ -206,7 +206,7 @@ impl SequencedRecord for Rec4 {
 /// Records of type 6: further address ranges.
 impl SequencedRecord for Rec6 {
     ghost use Rattle.std.proofs.lemmas.List.{length-map};
-    ghost use Rattle.tl_county.specs.Packing.{packed_sixes};
+    ghost use Rattle.county_chart.specs.Packing.{packed_sixes};
     ghost use Rattle.tl_number.specs.CountyGroups.{type_6_by_chain};
 
     ghost by_chain = { type_6_by_chain };

@@ -2,10 +2,10 @@
 
 ghost use Rattle.std.specs.Prelude.{◌≡◌, ◌<◌, Some, length, option_map};
 ghost use Rattle.tl_number.specs.EndsAndSides.{ends_of, sides_of};
-ghost use Rattle.tl_county.specs.DirectedChains.{directed_chain};
+ghost use Rattle.county_chart.specs.DirectedChains.{directed_chain};
 
 use crate::arranged_tables::{Ends, Sides};
-use tl_county::{Chart, DirectedChain};
+use county_chart::{Chart, DirectedChain};
 use tl_layout::NumberOrNone;
 
 /// The nodes at the start and the end of a directed chain.

@@ -10,17 +10,17 @@ ghost use Rattle.canonical_form.specs.Arrangement.{polygons_in_order};
 ghost use Rattle.tl_number.specs.EndsAndSides.{changed_both, ends_of, keys_at, sides_of};
 ghost use Rattle.canonical_form.specs.Growth.{first_seen};
 ghost use Rattle.tl_number.specs.DirectedChains.{HasChainsOf, arrangement_of};
-ghost use Rattle.tl_county.specs.DirectedChains.{directed_chain};
+ghost use Rattle.county_chart.specs.DirectedChains.{directed_chain};
 ghost use Rattle.tl_number.specs.ViewFacts.{AreWhole, MatchesNodes, arranged_by};
 
 use crate::arranged_tables::{Ends, NodeTables, Sides};
 use crate::directed_readers::{ends_of_directed, sides_of_directed};
 use crate::numbers::{Interner, NumericKey, marks_for};
 use crate::pairing::if_done;
+use county_chart::{Chart, DirectedChain, PolygonKey};
 use ordered_lists::Key;
 use std::alloc::{AllocError, Global};
 use std::hash::Hash;
-use tl_county::{Chart, DirectedChain, PolygonKey};
 use tl_layout::{NumberOrNone, Side};
 
 /// The ends and the sides of these directed chains, each one after the other. They are read before any node or polygon is numbered, so
@@ -106,7 +106,7 @@ impl Half for NumberOrNone {
 
 /// A side, with its polygon's CENID and POLYID.
 impl Half for Side {
-    ghost use Rattle.tl_county.specs.PolygonKeys.{key_on};
+    ghost use Rattle.county_chart.specs.PolygonKeys.{key_on};
     ghost use Rattle.tl_number.specs.EndsAndSides.{AreFewPolygons, fewer_polygons, side_among};
 
     type Old = PolygonKey;

@@ -1,6 +1,6 @@
 //! Buffers for the heads of groups.
 
-use tl_county::PolygonKey;
+use county_chart::PolygonKey;
 use tl_layout::{BodyP, Point};
 
 /// How many heads are read together, so that no head waits for the one before it: the data of groups may be anywhere in memory.

@@ -4,10 +4,10 @@ ghost use Rattle.std.specs.Prelude.{◌≡◌, ◌++◌, OnOk};
 
 use crate::first_appearance::Half;
 use crate::numbers::NumericKey;
+use county_chart::{Chart, DirectedChain, push_all};
 use ordered_lists::Key;
 use std::alloc::AllocError;
 use std::hash::Hash;
-use tl_county::{Chart, DirectedChain, push_all};
 
 /// Keys of chains, chain by chain.
 pub(crate) trait KeyGroups {

@@ -5,14 +5,14 @@ ghost use Rattle.std.specs.Cmp.Lexicographic.{slice_cmp};
 ghost use Rattle.std.specs.List.{range_with_len};
 ghost use Rattle.std.specs.Option.{option_cmp};
 ghost use Rattle.std.specs.Prelude.{◌≡◌, ◌<◌, ◌^◌, IfOk, length};
-ghost use Rattle.tl_county.specs.BodyOrder.{landmark_body_cmp};
-ghost use Rattle.tl_county.specs.ChartWords.{bodies_at};
+ghost use Rattle.county_chart.specs.BodyOrder.{landmark_body_cmp};
+ghost use Rattle.county_chart.specs.ChartWords.{bodies_at};
 ghost use Rattle.tl_number.specs.LandmarkItems.{HaveSameBodies};
 ghost use Rattle.tl_number.specs.TieProps.{HaveSameBodies-prop};
 
+use county_chart::{Chart, cmp_landmark_bodies};
 use std::alloc::{AllocError, Global};
 use std::cmp::Ordering;
-use tl_county::{Chart, cmp_landmark_bodies};
 use tl_layout::Body7;
 
 /// Compares two bodies; a missing one comes first.

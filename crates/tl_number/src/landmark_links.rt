@@ -3,9 +3,9 @@
 ghost use Rattle.std.specs.List.{range_with_len};
 ghost use Rattle.std.specs.Ordering.{nat_cmp, on};
 ghost use Rattle.std.specs.Prelude.{◌≡◌, ◌++◌, ◌+◌, ◌-◌, ◌<◌, ◌^◌, IfOk, IsPermutation, OnOk, flat_map, length, map, slice_get};
-ghost use Rattle.tl_county.specs.BodyOrder.{link_cmp};
-ghost use Rattle.tl_county.specs.ChartWords.{links_at, links_with};
-ghost use Rattle.tl_county.specs.County.{eight_land};
+ghost use Rattle.county_chart.specs.BodyOrder.{link_cmp};
+ghost use Rattle.county_chart.specs.ChartWords.{links_at, links_with};
+ghost use Rattle.county_chart.specs.County.{eight_land};
 ghost use Rattle.ordered_lists.specs.Orders.{IsInOrder, in_order};
 ghost use Rattle.canonical_form.specs.Growth.{up_to};
 ghost use Rattle.tl_number.specs.LandmarkItems.{link_under};
@@ -13,8 +13,8 @@ ghost use Rattle.tl_number.specs.ViewFacts.{link_bounds};
 
 use crate::numbers::Interner;
 use crate::renumbering::{PolygonNumbers, new_land};
+use county_chart::{Chart, put_in_order, split_group};
 use std::alloc::{AllocError, Global};
-use tl_county::{Chart, put_in_order, split_group};
 use tl_layout::Rec8;
 
 /// The fields of a link in the order of comparison: LAND, POLYID, CENID, FILE.

@@ -4,9 +4,9 @@ ghost use Rattle.std.specs.Cmp.Lexicographic.{slice_cmp};
 ghost use Rattle.std.specs.List.{range_with_len};
 ghost use Rattle.std.specs.Ordering.{nat_cmp, on};
 ghost use Rattle.std.specs.Prelude.{◌≡◌, ◌<◌, ◌^◌, ◌-◌, IfOk, IsPermutation, false, length, map};
-ghost use Rattle.tl_county.specs.BodyOrder.{link_part, link_part_cmp};
-ghost use Rattle.tl_county.specs.County.{eight_land};
-ghost use Rattle.tl_county.specs.CountyProps.{IsInOrder-prop};
+ghost use Rattle.county_chart.specs.BodyOrder.{link_part, link_part_cmp};
+ghost use Rattle.county_chart.specs.County.{eight_land};
+ghost use Rattle.county_chart.specs.CountyProps.{IsInOrder-prop};
 ghost use Rattle.ordered_lists.specs.Orders.{IsInOrder, has_repeat};
 ghost use Rattle.canonical_form.specs.Arrangement.{polygons_in_order};
 ghost use Rattle.tl_number.specs.LandmarkItems.{HaveSameBodies, landmark_place_cmp, lands_at, numbered_links, place_cmp_under};
@@ -18,9 +18,9 @@ use crate::landmark_bodies::{KnownBodies, all_places, cmp_known_bodies};
 use crate::landmark_links::{bounds_of, links_of_landmark, links_under};
 use crate::numbers::Interner;
 use crate::renumbering::PolygonNumbers;
+use county_chart::{Chart, DirectedChain};
 use std::alloc::{AllocError, Global};
 use std::cmp::Ordering;
-use tl_county::{Chart, DirectedChain};
 use tl_layout::Rec8;
 
 /// The fields of a link without its LAND in the order of comparison: POLYID, CENID, FILE.

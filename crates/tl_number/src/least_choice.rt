@@ -8,7 +8,7 @@
 ghost use Rattle.std.specs.declared.cmp.Ordering.TheVariants.{Equal};
 ghost use Rattle.std.specs.Ordering.{is_gt};
 ghost use Rattle.std.specs.Prelude.{◌≡◌, ◌<◌, ◌≤◌, cond, false, true, IfOk, None};
-ghost use Rattle.tl_county.specs.CountyRules.{AllKeysStandIn, polygon_keys, polygons_along};
+ghost use Rattle.county_chart.specs.CountyRules.{AllKeysStandIn, polygon_keys, polygons_along};
 ghost use Rattle.canonical_form.specs.Canonical.{IsNotAfter};
 ghost use Rattle.tl_number.specs.ChoiceSearch.{IsChosen, LeavesChoices};
 ghost use Rattle.tl_number.specs.CriticalPlaces.{AreTieTables};
@@ -26,10 +26,10 @@ use crate::tie_links::ChoiceLinks;
 use crate::tie_order::compare_ties;
 use crate::tie_tables::{TieTables, tie_tables};
 use crate::type_1_order::compare_ones;
+use county_chart::{Chart, DirectedChain};
 use std::alloc::{AllocError, Global};
 use std::cmp::Ordering;
 use std::mem::swap;
-use tl_county::{Chart, DirectedChain};
 use tl_profile::ShapeOrder;
 
 /// Compares two choices by their records of type 1.

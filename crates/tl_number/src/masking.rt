@@ -1,8 +1,8 @@
 //! Admitted counties under a mask, and their canonical counties.
 
 ghost use Rattle.std.specs.Prelude.{◌≡◌, IfErr, IfOk, true};
-ghost use Rattle.tl_county.specs.MaskedCounty.{masked};
-ghost use Rattle.tl_county.specs.Renumbering.{Carries};
+ghost use Rattle.county_chart.specs.MaskedCounty.{masked};
+ghost use Rattle.county_chart.specs.Renumbering.{Carries};
 ghost use Rattle.canonical_form.specs.Arrangement.{arranged, renaming_of};
 ghost use Rattle.tl_number.specs.CanonCounties.{IsCanonCounty};
 ghost use Rattle.canonical_form.specs.Tidy.{IsLeastChoice};
@@ -10,9 +10,9 @@ ghost use Rattle.tl_number.specs.Views.{arranged_county, arrangement_in, source_
 
 use crate::arranging::canonise;
 use crate::canon_county::CanonCounty;
+use county_chart::{Chart, CountyIn, Masked};
 use std::alloc::{AllocError, Global};
 use tl_cert::Renaming;
-use tl_county::{Chart, CountyIn, Masked};
 use tl_layout::Mask;
 use tl_profile::{Admitted, AdmittedIn};
 

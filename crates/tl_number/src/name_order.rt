@@ -7,8 +7,8 @@ ghost use Rattle.std.specs.List.{range_with_len};
 ghost use Rattle.std.specs.Option.{option_cmp};
 ghost use Rattle.std.specs.Ordering.{nat_cmp};
 ghost use Rattle.std.specs.Prelude.{◌≡◌, ◌<◌, ◌^◌, IfOk, false, filter_map, length, map, slice_get};
-ghost use Rattle.tl_county.specs.BodyOrder.{name_body_cmp};
-ghost use Rattle.tl_county.specs.CountyRules.{feats};
+ghost use Rattle.county_chart.specs.BodyOrder.{name_body_cmp};
+ghost use Rattle.county_chart.specs.CountyRules.{feats};
 ghost use Rattle.ordered_lists.specs.Orders.{has_repeat};
 ghost use Rattle.canonical_form.specs.Arrangement.{names_in_order};
 ghost use Rattle.canonical_form.specs.Growth.{first_seen};
@@ -18,9 +18,9 @@ ghost use Rattle.tl_number.specs.ViewFacts.{AreReadAt, AreWhole, MatchesNames};
 
 use crate::arranged_tables::NameTables;
 use crate::numbers::{Interner, marks_for};
+use county_chart::{Chart, DirectedChain};
 use std::alloc::{AllocError, Global};
 use std::cmp::Ordering;
-use tl_county::{Chart, DirectedChain};
 use tl_layout::Body5;
 
 /// A name, given by its place, with the rank of its first use.

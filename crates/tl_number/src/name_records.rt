@@ -2,7 +2,7 @@
 
 use crate::arranged::{Arranged, Evidence};
 use crate::groups::CountedGroups;
-use tl_county::Chart;
+use county_chart::Chart;
 use tl_layout::{Rec5, Rec7, Rec8};
 
 /// The type 5 record of each name.

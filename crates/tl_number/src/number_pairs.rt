@@ -2,7 +2,7 @@
 
 ghost use Rattle.std.specs.Prelude.{◌≡◌, ◌<◌, ◌^◌, ℕ, List, IfOk, length, map};
 ghost use Rattle.ordered_lists.specs.Entries.{entry_keys};
-ghost use Rattle.tl_county.specs.Renumbering.{Carries};
+ghost use Rattle.county_chart.specs.Renumbering.{Carries};
 ghost use Rattle.tl_layout.specs.declared.type7.Body7.{Body7};
 ghost use Rattle.canonical_form.specs.Arrangement.{arranged_tlids, renaming_of, turned_tlids, under_cenid};
 ghost use Rattle.canonical_form.specs.Growth.{numbered};
@@ -12,9 +12,9 @@ ghost use Rattle.tl_number.specs.Views.{arranged_county, arrangement_in, source_
 
 use crate::arranged::{Arranged, Evidence};
 use crate::landmark_order::lands_there;
+use county_chart::{Chart, DirectedChain, PolygonKey};
 use std::alloc::{AllocError, Global};
 use tl_cert::Renaming;
-use tl_county::{Chart, DirectedChain, PolygonKey};
 
 /// Numbers, each with its place, counted from 1.
 fn number_all(alloc: Global, olds: &[u64]) -> Result<Vec<(u64, u64)>, AllocError>

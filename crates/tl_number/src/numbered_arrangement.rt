@@ -8,8 +8,8 @@ ghost use Rattle.tl_number.specs.MovedChains.{AgreeApart, AreWithin, IsWithin, o
 ghost use Rattle.canonical_form.specs.NumberedChoices.{moved, moved_at};
 
 use crate::ascending_order::arrangement_in_order;
+use county_chart::DirectedChain;
 use std::alloc::{AllocError, Global};
-use tl_county::DirectedChain;
 use tl_profile::{OpenPlace, ShapeOrder};
 
 /// Inserts the chain at an open place among those of its shape that come after it, by the last two digits of a number. The last digit

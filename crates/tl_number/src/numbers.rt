@@ -15,11 +15,11 @@ ghost use Rattle.tl_number.specs.PlacedKeys.{AreApart, ArePlaced, found_by_eithe
 
 use crate::other_places::OtherPlaces;
 use crate::pairing::if_done;
+use county_chart::{Listed, PolygonKey};
 use ordered_lists::Key;
 use std::alloc::{AllocError, Global};
 use std::hash::Hash;
 use std::marker::Model;
-use tl_county::{Listed, PolygonKey};
 
 /// The most keys that a list can hold: each takes at least a byte.
 const MOST_KEYS: usize = isize::MAX as usize;

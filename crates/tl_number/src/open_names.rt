@@ -22,8 +22,8 @@ use crate::numbers::Interner;
 use crate::open_keys::{OpenKeys, has_key, open_keys, order_of, places_among};
 use crate::pairing::both;
 use crate::tie_tables::chains_at;
+use county_chart::Chart;
 use std::alloc::{AllocError, Global};
-use tl_county::Chart;
 use tl_profile::ShapeOrder;
 
 /// The names of a county whose chains are in the order of their shapes, and those whose numbers differ.

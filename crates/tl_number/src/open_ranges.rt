@@ -8,7 +8,7 @@ ghost use Rattle.tl_number.specs.OpenRanges.{open_chain};
 
 use crate::chain_records::sequence_number;
 use crate::groups::CountedGroups;
-use tl_county::{Chart, DirectedChain, Listed};
+use county_chart::{Chart, DirectedChain, Listed};
 use tl_layout::Rec6;
 
 /// An open place with its chain in an arrangement.

@@ -3,7 +3,7 @@
 use crate::arranged::{Arranged, Evidence};
 use crate::groups::RecordGroups;
 use crate::heads::HeadBuffers;
-use tl_county::{Chart, PolygonKey};
+use county_chart::{Chart, PolygonKey};
 use tl_layout::{BodyP, RecP};
 
 /// The type P record of each polygon that has one, in the order of the polygons' numbers.

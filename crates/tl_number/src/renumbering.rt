@@ -2,14 +2,14 @@
 
 ghost use Rattle.std.specs.Ordering.{nat_cmp};
 ghost use Rattle.std.specs.Prelude.{◌≡◌, ◌<◌, ◌^◌, length, map};
-ghost use Rattle.tl_county.specs.PolygonKeys.{key_cmp};
+ghost use Rattle.county_chart.specs.PolygonKeys.{key_cmp};
 ghost use Rattle.ordered_lists.specs.Pairs.{image};
 ghost use Rattle.tl_layout.specs.Numbers.{IsNumber};
 ghost use Rattle.canonical_form.specs.Arrangement.{under_cenid};
 ghost use Rattle.canonical_form.specs.Growth.{numbered};
 
 use crate::numbers::Interner;
-use tl_county::PolygonKey;
+use county_chart::PolygonKey;
 
 /// New numbers of polygons.
 pub(crate) trait PolygonNumbers {

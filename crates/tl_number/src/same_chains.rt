@@ -4,11 +4,11 @@
 ghost use Rattle.std.specs.Bool.{Decides};
 ghost use Rattle.std.specs.Prelude.{◌≡◌, ◌+◌, ◌<◌, length, map};
 ghost use Rattle.tl_cert.specs.PartsThere.{HaveSameContent, HaveSameEnds, HaveSameLists};
-ghost use Rattle.tl_county.specs.ChartWords.{feats_of, points_of, ranges_of};
+ghost use Rattle.county_chart.specs.ChartWords.{feats_of, points_of, ranges_of};
 ghost use Rattle.tl_number.specs.MovedChains.{AgreeButOpen, HaveSameChainAt, HaveSameChainsBelow, IsWithin};
-ghost use Rattle.tl_county.specs.DirectedChains.{directed_chain};
+ghost use Rattle.county_chart.specs.DirectedChains.{directed_chain};
 
-use tl_county::{Chart, DirectedChain, Same, are_same};
+use county_chart::{Chart, DirectedChain, Same, are_same};
 use tl_profile::OpenPlace;
 
 /// Whether two directed chains have the same points.

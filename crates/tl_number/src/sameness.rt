@@ -2,7 +2,7 @@
 
 ghost use Rattle.std.specs.Bool.{Decides};
 ghost use Rattle.std.specs.Prelude.{◌≡◌, ◌<◌, ◌≤◌, ◌+◌, length, drop, take, slice_get};
-ghost use Rattle.tl_county.specs.Packing.{packed};
+ghost use Rattle.county_chart.specs.Packing.{packed};
 ghost use Rattle.tl_number.specs.Groups.{AreHeads, group_at};
 ghost use Rattle.tl_number.specs.SharedGroups.{HaveSameChains, HaveSameCounts, HaveSameEntries, HaveSameHeads, HaveSameLandmarks, HaveSameLists};
 ghost use Rattle.tl_number.specs.Views.{arranged_county};
@@ -14,8 +14,8 @@ use crate::heads::HeadBuffers;
 use crate::name_records::{LandmarkLinkRecords, LandmarkRecords, NameRecords};
 use crate::polygon_records::PolygonRecords;
 use crate::record_eq::RecordEq;
+use county_chart::Chart;
 use std::marker::PhantomData;
-use tl_county::Chart;
 use tl_layout::{Rec2, Rec4, Rec6};
 
 /// Whether a record of a group is the same in both counties.

@@ -5,8 +5,8 @@
 //! and their links, but no chain. Links that were made for a choice are kept for its next comparison.
 
 ghost use Rattle.std.specs.Prelude.{◌≡◌, IfOk, IfSome, OnOk, length};
-ghost use Rattle.tl_county.specs.CountyRules.{chain_polygons};
-ghost use Rattle.tl_county.specs.PolygonKeys.{key_cmp};
+ghost use Rattle.county_chart.specs.CountyRules.{chain_polygons};
+ghost use Rattle.county_chart.specs.PolygonKeys.{key_cmp};
 ghost use Rattle.tl_layout.specs.declared.record_type.Record.TheVariants.{Eight};
 ghost use Rattle.tl_number.specs.ChoiceSearch.{IsChosen, LeavesChoices};
 ghost use Rattle.tl_number.specs.CountyGroups.{type_8_together};
@@ -24,9 +24,9 @@ use crate::numbers::Interner;
 use crate::open_keys::{OpenKeys, place_in_choice};
 use crate::renumbering::PolygonNumbers;
 use crate::tie_tables::TieTables;
+use county_chart::{Chart, PolygonKey, are_same};
 use std::alloc::{AllocError, Global};
 use std::cmp::Ordering;
-use tl_county::{Chart, PolygonKey, are_same};
 use tl_layout::Rec8;
 use tl_profile::ShapeOrder;
 

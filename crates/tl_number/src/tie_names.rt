@@ -23,9 +23,9 @@ use crate::open_keys::{OpenKeys, place_in_choice};
 use crate::open_names::names_of_choice;
 use crate::open_ranges::open_chain_of;
 use crate::tie_tables::TieTables;
+use county_chart::{ChainFeats, Chart, DirectedChain, Listed};
 use std::alloc::{AllocError, Global};
 use std::cmp::Ordering;
-use tl_county::{ChainFeats, Chart, DirectedChain, Listed};
 use tl_layout::Rec4;
 use tl_profile::ShapeOrder;
 
@@ -55,7 +55,7 @@ struct NumberedFeats<'a, C: Chart> {
 
 impl<C: Chart> Listed for NumberedFeats<'_, C> {
     ghost use Rattle.std.specs.Prelude.{map};
-    ghost use Rattle.tl_county.specs.ChartWords.{chain_at, feats_of};
+    ghost use Rattle.county_chart.specs.ChartWords.{chain_at, feats_of};
     ghost use Rattle.tl_number.specs.OpenNames.{numbered_feat};
 
     type Item = u32;

@@ -25,9 +25,9 @@ use crate::tie_links::{ChoiceLinks, OrderedChoice, compare_links};
 use crate::tie_names::compare_names;
 use crate::tie_records::{TiedRecords, tied_records};
 use crate::tie_tables::TieTables;
+use county_chart::{Chart, DirectedChain};
 use std::alloc::{AllocError, Global};
 use std::cmp::Ordering;
-use tl_county::{Chart, DirectedChain};
 use tl_profile::ShapeOrder;
 
 /// Compares two arrangements by their records of type 6 at open places.

@@ -18,8 +18,8 @@ use crate::numbered_arrangement::NumberedArrangement;
 use crate::numbers::Interner;
 use crate::open_keys::{OpenKeys, key_in_choice, place_in_choice};
 use crate::tie_tables::{OpenOrder, TieTables, open_order};
+use county_chart::{Chart, PolygonKey};
 use std::alloc::{AllocError, Global};
-use tl_county::{Chart, PolygonKey};
 use tl_layout::{NumberOrNone, RecI, RecP, Side};
 use tl_profile::ShapeOrder;
 

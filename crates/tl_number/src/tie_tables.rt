@@ -4,8 +4,8 @@ ghost use Rattle.std.specs.Prelude.{◌≡◌, ◌<◌, ◌^◌, IfOk, filter, l
 ghost use Rattle.std.specs.Ordering.{nat_cmp};
 ghost use Rattle.ordered_lists.specs.Orders.{stands_in};
 ghost use Rattle.ordered_lists.specs.Places.{at_places};
-ghost use Rattle.tl_county.specs.CountyRules.{chain_nodes, chain_polygons};
-ghost use Rattle.tl_county.specs.PolygonKeys.{key_cmp};
+ghost use Rattle.county_chart.specs.CountyRules.{chain_nodes, chain_polygons};
+ghost use Rattle.county_chart.specs.PolygonKeys.{key_cmp};
 ghost use Rattle.tl_number.specs.ChoiceSearch.{IsChosen, LeavesChoices};
 ghost use Rattle.tl_number.specs.CriticalPlaces.{AreTieTables, IsOpenOrder, critical_among};
 ghost use Rattle.tl_number.specs.DirectedChains.{HasChainsOf};
@@ -27,8 +27,8 @@ use crate::numbers::Interner;
 use crate::open_keys::{OpenKeys, open_keys, order_of};
 use crate::open_names::{OpenNames, open_names};
 use crate::pairing::both;
+use county_chart::{Chart, DirectedChain, PolygonKey};
 use std::alloc::{AllocError, Global};
-use tl_county::{Chart, DirectedChain, PolygonKey};
 use tl_profile::{OpenPlace, ShapeOrder};
 
 /// What is known of all choices of a county.

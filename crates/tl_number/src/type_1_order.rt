@@ -4,18 +4,18 @@
 ghost use Rattle.std.specs.declared.cmp.Ordering.TheVariants.{Equal};
 ghost use Rattle.std.specs.Option.{option_cmp};
 ghost use Rattle.std.specs.Prelude.{◌≡◌, ◌≢◌, ◌<◌, ◌+◌, Some, length, option_map};
-ghost use Rattle.tl_county.specs.Packing.{packed_one};
+ghost use Rattle.county_chart.specs.Packing.{packed_one};
 ghost use Rattle.tl_layout.specs.declared.record_type.Record.TheVariants.{One};
 ghost use Rattle.tl_number.specs.CountyGroups.{type_1_by_chain};
 ghost use Rattle.tl_number.specs.MovedChains.{AgreeButOpen, IsWithin};
 ghost use Rattle.tl_number.specs.RecordOrder.{AreTiedBelow, groups_cmp, records_cmp, spelling_cmp};
-ghost use Rattle.tl_county.specs.DirectedChains.{directed_chain};
+ghost use Rattle.county_chart.specs.DirectedChains.{directed_chain};
 ghost use Rattle.tl_number.specs.TypeOneOrder.{one_at, ones_of};
 ghost use Rattle.tl_number.specs.ViewFacts.{AreWhole, arranged_by};
 
 use crate::group_order::compare_records;
+use county_chart::{Chart, DirectedChain, Listed, Same};
 use std::cmp::Ordering;
-use tl_county::{Chart, DirectedChain, Listed, Same};
 use tl_layout::Rec1;
 use tl_profile::OpenPlace;
 

@@ -16,8 +16,8 @@ use crate::chain_records::TopologyRecords;
 use crate::group_order::{compare_records, compare_unless};
 use crate::groups::RecordGroups;
 use crate::polygon_records::PolygonRecords;
+use county_chart::{Chart, Same, are_same};
 use std::cmp::Ordering;
-use tl_county::{Chart, Same, are_same};
 use tl_layout::RecI;
 
 /// Whether two arrangements of a county have the same chain at a place, in the same direction, with the same nodes at its ends

@@ -1,7 +1,7 @@
 //! Passing the records of an arranged county to a visitor, in the order of its packing.
 
 ghost use Rattle.std.specs.Prelude.{◌++◌, OnOk, map};
-ghost use Rattle.tl_county.specs.Packing.{packed};
+ghost use Rattle.county_chart.specs.Packing.{packed};
 ghost use Rattle.tl_number.specs.CountyGroups.{types_1_to_4, types_5_to_7, types_8_to_p};
 ghost use Rattle.tl_number.specs.Groups.{grouped};
 ghost use Rattle.tl_number.specs.Views.{arranged_county};
@@ -13,8 +13,8 @@ use crate::heads::HeadBuffers;
 use crate::name_records::{LandmarkLinkRecords, LandmarkRecords, NameRecords};
 use crate::polygon_records::PolygonRecords;
 use crate::visitor::RecordVisitor;
+use county_chart::Chart;
 use std::marker::PhantomData;
-use tl_county::Chart;
 use tl_layout::{Rec2, Rec4, Rec6};
 
 /// Passes on the records of three types, one type after another.

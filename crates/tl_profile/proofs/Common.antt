@@ -16,14 +16,14 @@ pub use Rattle.std.proofs.lemmas.List.Sorted.{IsPermutation-sym}
 pub use Rattle.std.proofs.lemmas.Option.{slice_get-map}
 pub use Rattle.std.specs.List.{AllByRecursion, range_with_len}
 pub use Rattle.std.specs.Ordering.{ordering_then}
-pub use Rattle.tl_county.proofs.Limits.FewChains.{few_chains}
-pub use Rattle.tl_county.specs.ChartWords.{chain_at, points_of}
-pub use Rattle.tl_county.specs.County.{County}
-pub use Rattle.tl_county.specs.CountyRules.{IsCounty, chain_polygons, has_body, polygons_along}
-pub use Rattle.tl_county.specs.Laws.KeyOrders.{key_keys, points_keys}
-pub use Rattle.tl_county.specs.PolygonKeys.{PolygonKey, key_cmp}
-pub use Rattle.tl_county.specs.Renumbering.{AreSame, Carries, Renumbering, carried_chain, turns}
-pub use Rattle.tl_county.specs.declared.directed_chain.DirectedChain.{DirectedChain}
+pub use Rattle.county_chart.proofs.Limits.FewChains.{few_chains}
+pub use Rattle.county_chart.specs.ChartWords.{chain_at, points_of}
+pub use Rattle.county_chart.specs.County.{County}
+pub use Rattle.county_chart.specs.CountyRules.{IsCounty, chain_polygons, has_body, polygons_along}
+pub use Rattle.county_chart.specs.Laws.KeyOrders.{key_keys, points_keys}
+pub use Rattle.county_chart.specs.PolygonKeys.{PolygonKey, key_cmp}
+pub use Rattle.county_chart.specs.Renumbering.{AreSame, Carries, Renumbering, carried_chain, turns}
+pub use Rattle.county_chart.specs.declared.directed_chain.DirectedChain.{DirectedChain}
 pub use Rattle.tl_layout.specs.Coordinates.{Coordinates}
 pub use Rattle.tl_layout.specs.declared.type_p.BodyP.{BodyP}
 pub use Rattle.tl_profile.specs.Choices.{choices, is_either_way, is_first, is_settled, most_choices, open_place_at, open_places}

@@ -10,7 +10,7 @@ use Rattle.std.specs.Ordering.{nat_cmp}
 use Rattle.std.proofs.lemmas.List.{take_all}
 use Rattle.std.proofs.lemmas.List.FromFn.{length-map-range_with_len}
 use Rattle.std.proofs.lemmas.List.Sorted.{length_permutation}
-use Rattle.tl_county.specs.Limits.{IsWithinLimits, most_records}
+use Rattle.county_chart.specs.Limits.{IsWithinLimits, most_records}
 use Rattle.tl_profile.specs.Choices.{counted_choices}
 use Rattle.tl_profile.proofs.CountedChoices.{IsCounted, counted_next, more_choices-append}
 use Rattle.tl_profile.proofs.SameChoices.{choices_stated}

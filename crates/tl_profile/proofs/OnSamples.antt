@@ -2,8 +2,8 @@
 use Rattle.tl_profile.proofs.Common.{List, [], ◌∷◌, Some, refl, IsInProfile, IsFirstBrokenClause, PolygonWithoutChain, TooSymmetric}
 use Rattle.std.proofs.Common.{flat_map, codes}
 use Rattle.tl_layout.specs.declared.record_type.Record.{Record}
-use Rattle.tl_county.specs.County.{county_of}
-use Rattle.tl_county.proofs.Samples.Counties.{
+use Rattle.county_chart.specs.County.{county_of}
+use Rattle.county_chart.proofs.Samples.Counties.{
   cenid_1,
   there,
   loop,

@@ -6,7 +6,7 @@ use Rattle.tl_profile.proofs.Common.{IsCounty, Among, all_among, DirectedChain, 
 use Rattle.std.proofs.Common.{IsSome}
 use Rattle.std.specs.Ordering.{is_lt}
 use Rattle.std.proofs.lemmas.List.{length-reverse}
-use Rattle.tl_county.proofs.DirectedChains.{points_turned}
+use Rattle.county_chart.proofs.DirectedChains.{points_turned}
 
 -- an item, and the lists before and after it
 pub record StandsAt {X : Type 0} (xs : List X) (place : ℕ) : Type 0 where

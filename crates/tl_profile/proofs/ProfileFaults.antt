@@ -4,8 +4,8 @@ use Rattle.tl_profile.proofs.Common.{refl, subst, Option, false≢true, and_part
 use Rattle.tl_profile.proofs.Common.{PolygonKey, key_cmp, Among, key_keys, same-true, among-map, ProfileFault, PolygonWithoutChain}
 use Rattle.tl_profile.proofs.Common.{TooSymmetric, Memory, is_clause_broken, profile_fault_place, IsInProfile, IsFirstBrokenClause}
 use Rattle.std.proofs.Common.{◌==◌}
-use Rattle.tl_county.proofs.Rules.FirstFault.{first_or_none, not_first, one_first, none_there}
-use Rattle.tl_county.proofs.Rules.FirstFault.{least_there, none_computed, first_computed}
+use Rattle.county_chart.proofs.Rules.FirstFault.{first_or_none, not_first, one_first, none_there}
+use Rattle.county_chart.proofs.Rules.FirstFault.{least_there, none_computed, first_computed}
 use Rattle.ordered_lists.proofs.Lists.Members.{any_among}
 
 -- the fault at a place

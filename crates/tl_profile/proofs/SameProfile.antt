@@ -5,11 +5,11 @@ use Rattle.tl_profile.proofs.Common.{IsCounty, polygons_along, chain_polygons, s
 use Rattle.tl_profile.proofs.Common.{Carries, AreSame, turns, carried_chain, turned_if, Among, key_keys, Known, among-permutation}
 use Rattle.tl_profile.proofs.Common.{among-map, PolygonWithoutChain, TooSymmetric, Memory, most_choices, IsInProfile}
 use Rattle.std.proofs.lemmas.Bool.{and_from, false_from_ne_true}
-use Rattle.tl_county.specs.Renumbering.{carried_polygon, renumbered}
+use Rattle.county_chart.specs.Renumbering.{carried_polygon, renumbered}
 use Rattle.ordered_lists.specs.Pairs.{image}
-use Rattle.tl_county.proofs.Sameness.Carried.{chain_polygons-renumbered, among-unpieces, among-turned}
+use Rattle.county_chart.proofs.Sameness.Carried.{chain_polygons-renumbered, among-unpieces, among-turned}
 use Rattle.ordered_lists.proofs.ByKey.Keys.{same-itself}
-use Rattle.tl_county.proofs.Sameness.Equivalence.{same-symmetric}
+use Rattle.county_chart.proofs.Sameness.Equivalence.{same-symmetric}
 use Rattle.ordered_lists.proofs.Lists.Members.{among-unmap, among-pieces, among_any, among_known, known_is_among}
 use Rattle.tl_profile.specs.Profile.{AreAllOnSides}
 use Rattle.tl_profile.proofs.ProfileFaults.{body_entry}

@@ -9,11 +9,11 @@ use Rattle.std.specs.List.{list_any, filter_map, cons_option}
 use Rattle.std.specs.Ordering.{on}
 use Rattle.std.proofs.lemmas.Grind.{flat_map-append}
 use Rattle.tl_layout.specs.PolygonSide.{PolygonSide}
-use Rattle.tl_county.specs.PolygonKeys.{key_on}
+use Rattle.county_chart.specs.PolygonKeys.{key_on}
 use Rattle.ordered_lists.proofs.Lists.EntryLists.{in_order-strict}
 use Rattle.ordered_lists.proofs.Lists.InOrder.{strict-map, in_order-map}
 use Rattle.ordered_lists.proofs.ByKey.KeyedLists.{in_order-filter}
-use Rattle.tl_county.proofs.ByKey.KeySets.{stands_in-distinct}
+use Rattle.county_chart.proofs.ByKey.KeySets.{stands_in-distinct}
 use Rattle.tl_profile.specs.Sides.{keys_with_body}
 use Rattle.tl_profile.proofs.Places.{ChainStands, chain_stands}
 

@@ -6,7 +6,7 @@ use Rattle.std.specs.declared.cmp.Ordering.{Ordering}
 use Rattle.std.specs.Ordering.{is_eq}
 use Rattle.tl_layout.specs.Coordinates.{Coordinates}
 use Rattle.tl_shape.specs.PointOrder.{points_cmp}
-use Rattle.tl_county.specs.County.{County}
+use Rattle.county_chart.specs.County.{County}
 use Rattle.ordered_lists.specs.Orders.{distinct, times}
 use Rattle.tl_profile.specs.Shapes.{least_points}
 use Rattle.tl_profile.specs.declared.open_places.OpenPlace.{OpenPlace}

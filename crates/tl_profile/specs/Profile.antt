@@ -1,9 +1,9 @@
 -- The profile of a county, and which clause of it a county breaks.
 use Rattle.std.specs.Prelude.{ℕ, ◌≡◌, List, [], ◌∷◌, Bool, false, nat_lt}
-use Rattle.tl_county.specs.County.{County}
-use Rattle.tl_county.specs.CountyRules.{is_without_chain}
-use Rattle.tl_county.specs.FirstOf.{IsFirst}
-use Rattle.tl_county.specs.PolygonKeys.{PolygonKey}
+use Rattle.county_chart.specs.County.{County}
+use Rattle.county_chart.specs.CountyRules.{is_without_chain}
+use Rattle.county_chart.specs.FirstOf.{IsFirst}
+use Rattle.county_chart.specs.PolygonKeys.{PolygonKey}
 use Rattle.tl_profile.specs.Choices.{choices, most_choices}
 use Rattle.tl_profile.specs.declared.fault.ProfileFault.{ProfileFault}
 use Rattle.tl_profile.specs.declared.fault.ProfileFault.TheVariants.{PolygonWithoutChain, TooSymmetric, Memory}

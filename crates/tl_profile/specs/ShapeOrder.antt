@@ -5,13 +5,13 @@ use Rattle.std.specs.declared.cmp.Ordering.{Ordering}
 use Rattle.std.specs.Ordering.{is_lt, nat_cmp, ordering_then}
 use Rattle.tl_layout.specs.Coordinates.{Coordinates}
 use Rattle.tl_shape.specs.PointOrder.{points_cmp}
-use Rattle.tl_county.specs.ChartWords.{points_of}
-use Rattle.tl_county.specs.County.{County}
-use Rattle.tl_county.specs.DirectedChains.{directed_chain}
+use Rattle.county_chart.specs.ChartWords.{points_of}
+use Rattle.county_chart.specs.County.{County}
+use Rattle.county_chart.specs.DirectedChains.{directed_chain}
 use Rattle.ordered_lists.specs.Orders.{IsInOrder}
 use Rattle.tl_profile.specs.Choices.{choices, counted_choices, is_either_way, most_choices, open_places}
 use Rattle.tl_profile.specs.Shapes.{points_at}
-use Rattle.tl_county.specs.declared.directed_chain.DirectedChain.{DirectedChain}
+use Rattle.county_chart.specs.declared.directed_chain.DirectedChain.{DirectedChain}
 use Rattle.tl_profile.specs.declared.open_places.OpenPlace.{OpenPlace}
 
 -- the points of a directed chain

@@ -3,8 +3,8 @@ use Rattle.std.specs.Prelude.{ℕ, List, reverse, Bool, cond}
 use Rattle.std.specs.Ordering.{is_lt}
 use Rattle.tl_layout.specs.Coordinates.{Coordinates}
 use Rattle.tl_shape.specs.PointOrder.{points_cmp}
-use Rattle.tl_county.specs.ChartWords.{chain_at, points_of}
-use Rattle.tl_county.specs.County.{County}
+use Rattle.county_chart.specs.ChartWords.{chain_at, points_of}
+use Rattle.county_chart.specs.County.{County}
 
 -- the points in their own direction, or from the other end
 abbrev pub points_from : Bool → List Coordinates → List Coordinates

@@ -2,7 +2,7 @@
 use Rattle.std.specs.Prelude.{List, [], map, filter, cond, Option, Some, None, is_some}
 use Rattle.tl_layout.specs.PolygonSide.{PolygonSide}
 use Rattle.tl_layout.specs.declared.type_p.BodyP.{BodyP}
-use Rattle.tl_county.specs.PolygonKeys.{PolygonKey, key_on}
+use Rattle.county_chart.specs.PolygonKeys.{PolygonKey, key_on}
 
 -- the polygon on a side, if there is a side
 abbrev pub keys_on : Option PolygonSide → List PolygonKey

@@ -1,9 +1,9 @@
 //! Admission: a county in the profile is kept as such. For any other county, the first clause that it breaks is reported.
 
 ghost use Rattle.std.specs.Prelude.{◌≡◌, ◌≢◌, IfOk, IfErr};
-ghost use Rattle.tl_county.specs.CountyRules.{is_without_chain};
+ghost use Rattle.county_chart.specs.CountyRules.{is_without_chain};
 ghost use Rattle.ordered_lists.specs.Keyed.{IsLeastPassing};
-ghost use Rattle.tl_county.specs.PolygonKeys.{key_cmp};
+ghost use Rattle.county_chart.specs.PolygonKeys.{key_cmp};
 ghost use Rattle.tl_profile.specs.declared.fault.ProfileFault.TheVariants.{Memory};
 ghost use Rattle.tl_profile.specs.Profile.{AreAllOnSides, IsFirstBrokenClause, IsInProfile};
 ghost use Rattle.tl_profile.specs.ShapeOrder.{IsShapeOrder};
@@ -12,9 +12,9 @@ use crate::fault::ProfileFault;
 use crate::open_places::MOST_CHOICES;
 use crate::shape_order::{ShapeOrder, order_by_shape};
 use crate::sides::{check_polygons, refuse_without_chain};
+use county_chart::{Chart, County, CountyIn, PolygonKey};
 use std::alloc::Global;
 use std::marker::Model;
-use tl_county::{Chart, County, CountyIn, PolygonKey};
 
 /// A county in the profile, however it is stored: each polygon with a record of type P is on a side of a chain, and the shapes
 /// of the chains leave at most 5,040 choices open. It keeps the order of its chains by their shapes, which the choices are

@@ -1,9 +1,9 @@
 //! Laws of the definitions in `specs/`. The functions do nothing; their contracts are the laws.
 
 ghost use Rattle.std.specs.Prelude.{◌≡◌, ◌⊎◌};
-ghost use Rattle.tl_county.specs.County.{County};
-ghost use Rattle.tl_county.specs.CountyRules.{IsCounty};
-ghost use Rattle.tl_county.specs.Renumbering.{AreSame};
+ghost use Rattle.county_chart.specs.County.{County};
+ghost use Rattle.county_chart.specs.CountyRules.{IsCounty};
+ghost use Rattle.county_chart.specs.Renumbering.{AreSame};
 ghost use Rattle.tl_profile.specs.Choices.{choices};
 ghost use Rattle.tl_profile.specs.declared.fault.ProfileFault.{ProfileFault};
 ghost use Rattle.tl_profile.specs.Profile.{IsFirstBrokenClause, IsInProfile};

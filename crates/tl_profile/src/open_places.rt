@@ -12,8 +12,8 @@ ghost use Rattle.tl_profile.specs.ShapeOrder.{AreInShapeOrder};
 ghost use Rattle.tl_shape.specs.PointOrder.{points_cmp};
 
 use crate::shapes::{PlacedShape, compare_shapes};
+use county_chart::Chart;
 use std::alloc::{AllocError, Global};
-use tl_county::Chart;
 
 /// The greatest number of choices that are tried.
 pub(crate) const MOST_CHOICES: u64 = 5040;

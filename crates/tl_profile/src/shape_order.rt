@@ -7,9 +7,9 @@ ghost use Rattle.tl_profile.specs.ShapeOrder.{AreInShapeOrder, IsShapeOrder};
 
 use crate::open_places::{OpenPlace, find_choices};
 use crate::shapes::{PlacedShape, ordered_shapes};
+use county_chart::{Chart, DirectedChain};
 use std::alloc::{AllocError, Global};
 use std::marker::Model;
-use tl_county::{Chart, DirectedChain};
 
 /// The chains of a county in the order of their shapes, each with the direction in which its points are its shape, which is the
 /// lesser of the points and their reverse. It also has the places at which several chains have the same shape, or at which a

@@ -12,9 +12,9 @@ ghost use Rattle.tl_profile.specs.Shapes.{points_at};
 ghost use Rattle.tl_shape.specs.PointOrder.{points_cmp};
 
 use crate::point_rank::PointRank;
+use county_chart::{Chart, DirectedChain, Listed, compare};
 use std::alloc::{AllocError, Global};
 use std::cmp::Ordering;
-use tl_county::{Chart, DirectedChain, Listed, compare};
 
 /// A chain with the beginning of its shape, in which most shapes differ. Its shape is the lesser of its points and their
 /// reverse.

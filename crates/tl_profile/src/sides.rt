@@ -1,18 +1,18 @@
 //! Polygons with a record of type P that are on no side of a chain.
 
 ghost use Rattle.std.specs.Prelude.{◌≡◌, ◌≢◌, ◌++◌, IfOk, IfErr, OnOk, slice_get};
-ghost use Rattle.tl_county.specs.County.{County};
-ghost use Rattle.tl_county.specs.CountyRules.{is_without_chain, polygons_along};
+ghost use Rattle.county_chart.specs.County.{County};
+ghost use Rattle.county_chart.specs.CountyRules.{is_without_chain, polygons_along};
 ghost use Rattle.ordered_lists.specs.Keyed.{IsLeastPassing};
 ghost use Rattle.ordered_lists.specs.Orders.{distinct};
-ghost use Rattle.tl_county.specs.PolygonKeys.{key_cmp};
+ghost use Rattle.county_chart.specs.PolygonKeys.{key_cmp};
 ghost use Rattle.tl_profile.specs.declared.fault.ProfileFault.TheVariants.{Memory};
 ghost use Rattle.tl_profile.specs.Profile.{AreAllOnSides, IsFirstBrokenClause};
 ghost use Rattle.tl_profile.specs.Sides.{key_if_bodied, keys_on, keys_with_body};
 
 use crate::fault::ProfileFault;
+use county_chart::{Chart, KeySet, PolygonKey, least_unknown};
 use std::alloc::{AllocError, Global};
-use tl_county::{Chart, KeySet, PolygonKey, least_unknown};
 use tl_layout::Side;
 
 /// Inserts the polygon on a side into a set, if there is a polygon.

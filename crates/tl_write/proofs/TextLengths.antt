@@ -6,13 +6,13 @@ use Rattle.tl_layout.specs.RecordText.{FitsRecord, len_of, spelling_of, text_of}
 use Rattle.tl_layout.specs.Laws.RecordLaws.{spelling_is_line}
 use Rattle.tl_layout.specs.declared.record_type.Record.{Record}
 use Rattle.tl_layout.specs.declared.record_type.Record.TheVariants.{One, Two, Four, Five, Six, Seven, Eight, I, P}
-use Rattle.tl_county.specs.County.{County}
-use Rattle.tl_county.specs.CountyRules.{IsCounty}
-use Rattle.tl_county.specs.Limits.{IsWithinLimits, most_records}
-use Rattle.tl_county.specs.Packing.{Typed, packed, packed_by_type, type_after_type}
-use Rattle.tl_county.proofs.Limits.FitsPacked.{packed-fits}
-use Rattle.tl_county.specs.Laws.PackedTypes.{by_type_of}
-use Rattle.tl_county.specs.Laws.TypeCounts.{HasAtMost, by_type_within}
+use Rattle.county_chart.specs.County.{County}
+use Rattle.county_chart.specs.CountyRules.{IsCounty}
+use Rattle.county_chart.specs.Limits.{IsWithinLimits, most_records}
+use Rattle.county_chart.specs.Packing.{Typed, packed, packed_by_type, type_after_type}
+use Rattle.county_chart.proofs.Limits.FitsPacked.{packed-fits}
+use Rattle.county_chart.specs.Laws.PackedTypes.{by_type_of}
+use Rattle.county_chart.specs.Laws.TypeCounts.{HasAtMost, by_type_within}
 
 line_length : (r : Record) → len_of r ≤ 228
 unfolding len_of

@@ -1,7 +1,7 @@
 //! The records of a canonical county, as a list and as a text.
 
 ghost use Rattle.std.specs.Prelude.{◌≡◌, ◌<◌, ◌+◌, ◌++◌, ℕ, List, length, take, IfErr, IfOk, MatchResult, is_ok, if◌then◌else◌};
-ghost use Rattle.tl_county.specs.Packing.{packed};
+ghost use Rattle.county_chart.specs.Packing.{packed};
 ghost use Rattle.tl_layout.specs.RecordText.{text_of};
 ghost use Rattle.canonical_form.specs.Canonical.{IsCanonical};
 ghost use Rattle.tl_number.specs.Views.{arranged_county};
@@ -10,8 +10,8 @@ use crate::fault::WriteFault;
 use crate::sink::Sink;
 use crate::text_buffer::TextBuffer;
 use crate::visitor::NoDevice;
+use county_chart::Chart;
 use std::alloc::{AllocError, Global};
-use tl_county::Chart;
 use tl_layout::Record;
 use tl_number::{CanonCounty, visit_records};
 

@@ -1,10 +1,10 @@
 -- Two sets with the same canonical text, and the renaming from the first set to the second through it.
 use Rattle.std.proofs.Common.{◌≡◌, ◌∙◌, ◌⊎◌, inl, inr, ℕ, List, [], ◌∷◌, subst, sym}
 use Rattle.tl_layout.specs.declared.record_type.Record.{Record}
-use Rattle.tl_county.specs.County.{County, county_of}
-use Rattle.tl_county.specs.CountyRules.{IsCounty}
-use Rattle.tl_county.specs.Renumbering.{Renumbering, Carries}
-use Rattle.tl_county.specs.LinkRules.{IsLinked}
+use Rattle.county_chart.specs.County.{County, county_of}
+use Rattle.county_chart.specs.CountyRules.{IsCounty}
+use Rattle.county_chart.specs.Renumbering.{Renumbering, Carries}
+use Rattle.county_chart.specs.LinkRules.{IsLinked}
 use Rattle.tl_load.specs.Choice.{tiger}
 use Rattle.tl_load.specs.Outcome.{SpellsWithin, IsSpelled, IsFaulty}
 use Rattle.tigercanon.specs.Respelling.{record_limit}

@@ -4,10 +4,10 @@ ghost use Rattle.std.specs.Bool.{Decides};
 ghost use Rattle.std.specs.Ordering.{nat_cmp};
 ghost use Rattle.std.specs.Prelude.{◌≡◌, ◌∷◌, [], Some, IfOk, IfSome};
 ghost use Rattle.tigercanon.specs.Sets.{CarriesSet};
-ghost use Rattle.tl_county.specs.County.{County};
-ghost use Rattle.tl_county.specs.CountyRules.{IsCounty};
+ghost use Rattle.county_chart.specs.County.{County};
+ghost use Rattle.county_chart.specs.CountyRules.{IsCounty};
 ghost use Rattle.ordered_lists.specs.Entries.{value_under};
-ghost use Rattle.tl_county.specs.Renumbering.{Carries, Renumbering};
+ghost use Rattle.county_chart.specs.Renumbering.{Carries, Renumbering};
 
 use std::alloc::{AllocError, Global};
 use tigercanon::{Fault, normalise_with_renaming};

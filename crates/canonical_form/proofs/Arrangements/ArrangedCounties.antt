@@ -13,7 +13,7 @@ use Rattle.canonical_form.proofs.Common.{names_in_order, nat_keys, new_keys, nod
 use Rattle.canonical_form.proofs.Common.{polygon_keys, polygons_along, polygons_in_order, relinked, renaming_of, rights, same_or_not, stands_in}
 use Rattle.canonical_form.proofs.Common.{strict_from_order, times, times-no, times-permutation, times-yes, under_cenid, up_to, uses_of_name}
 use Rattle.canonical_form.proofs.Common.{Some, position_or_len, refl, slice_get}
-use Rattle.tl_county.proofs.Sameness.CarriedCounty.{carried_closed, carried_whole, feats-turned}
+use Rattle.canonical_form.proofs.Sameness.CarriedCounty.{carried_closed, carried_whole, feats-turned}
 use Rattle.ordered_lists.proofs.ByKey.Keys.{map_agree}
 use Rattle.canonical_form.specs.ArrangedCounty.{HasOneCenidEach}
 use Rattle.canonical_form.specs.Uses.{links_of}

@@ -9,12 +9,12 @@ use Rattle.canonical_form.proofs.Common.{link_key, lt-ltb, ltb-true, most_record
 use Rattle.canonical_form.proofs.Common.{packed_one, packed_sevens, polygon_keys, polygons_along, renaming_of, stands_in, times, tlids, up_to}
 use Rattle.tl_layout.specs.Limits.{IsWithinLimit, count_of_type}
 use Rattle.tl_layout.specs.RecordText.{FitsRecord}
-use Rattle.tl_county.proofs.Limits.CarriedLimits.{carried_contents, carried_lists, carried_counts}
-use Rattle.tl_county.proofs.Limits.FitsCounty.{county_counts, county-within_limits}
-use Rattle.tl_county.proofs.Limits.FitsPacked.{packed-fits}
+use Rattle.canonical_form.proofs.Limits.CarriedLimits.{carried_contents, carried_lists, carried_counts}
+use Rattle.county_chart.proofs.Limits.FitsCounty.{county_counts, county-within_limits}
+use Rattle.county_chart.proofs.Limits.FitsPacked.{packed-fits}
 use Rattle.ordered_lists.proofs.Lists.Elements.{all_pieces}
-use Rattle.tl_county.specs.Laws.TypeCounts.{HasAtMost, HasWithin, KeepsLimits, by_type_keeps, by_type_within, packed_keeps}
-use Rattle.tl_county.specs.Laws.TypeCounts.{packed_within}
+use Rattle.county_chart.specs.Laws.TypeCounts.{HasAtMost, HasWithin, KeepsLimits, by_type_keeps, by_type_within, packed_keeps}
+use Rattle.county_chart.specs.Laws.TypeCounts.{packed_within}
 use Rattle.canonical_form.specs.SeenRecords.{ShowsNoMore}
 use Rattle.canonical_form.proofs.CanonicalLists.Ascending.{sides_in_profile}
 use Rattle.canonical_form.proofs.Arrangements.Carrying.{arrangement_carries}

@@ -13,14 +13,14 @@ use Rattle.canonical_form.proofs.Common.{name_key, name_key_cmp, names_in_order,
 use Rattle.canonical_form.proofs.Common.{numbered, on, placed, polygon_keys, polygons_along, polygons_in_order, rights, rights-numbered_from}
 use Rattle.canonical_form.proofs.Common.{stands_in, times, tlids, turned_if, turned_tlids, under_cenid, up_to}
 use Rattle.std.proofs.lemmas.List.Sorted.{IsPermutation-refl}
-use Rattle.tl_county.specs.Renumbering.{NumbersArePaired}
+use Rattle.county_chart.specs.Renumbering.{NumbersArePaired}
 use Rattle.ordered_lists.specs.Pairs.{ArePaired}
-use Rattle.tl_county.proofs.Sameness.Carried.{among-unpieces, among-turned}
-use Rattle.tl_county.proofs.Sameness.CarriedCounty.{nodes-turned, nodes-unturned, polygons-unturned}
+use Rattle.county_chart.proofs.Sameness.Carried.{among-unpieces, among-turned}
+use Rattle.canonical_form.proofs.Sameness.CarriedCounty.{nodes-turned, nodes-unturned, polygons-unturned}
 use Rattle.ordered_lists.proofs.Lists.Distinct.{known_from_distinct}
 use Rattle.ordered_lists.proofs.ByKey.Keys.{image-known}
 use Rattle.ordered_lists.proofs.Lists.Members.{among-pieces}
-use Rattle.tl_county.proofs.Lists.OfNumber.{of_number-among}
+use Rattle.county_chart.proofs.Lists.OfNumber.{of_number-among}
 use Rattle.canonical_form.specs.Arrangement.{renaming_of, arranged}
 use Rattle.canonical_form.proofs.Lists.Counting.{up_to-strict}
 use Rattle.canonical_form.proofs.Numbering.FirstSeen.{first_seen-apart, from_first_seen, to_first_seen}

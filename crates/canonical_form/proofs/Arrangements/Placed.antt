@@ -8,10 +8,10 @@ use Rattle.canonical_form.proofs.Common.{known_cases, length-map, lt-ltb, map-ap
 use Rattle.canonical_form.proofs.Common.{placed, renumbered, rights-numbered_from, same_or_not, stands_in, times, times-no, times-of_number}
 use Rattle.canonical_form.proofs.Common.{times-yes, tlids, turned_if, turned_tlids, turns, up_to}
 use Rattle.ordered_lists.proofs.ByKey.Keys.{known-later, differ}
-use Rattle.tl_county.proofs.Lists.OfNumber.{of_number-all, groups-permutation}
+use Rattle.county_chart.proofs.Lists.OfNumber.{of_number-all, groups-permutation}
 use Rattle.ordered_lists.proofs.ByKey.Numbers.{only_one}
 use Rattle.canonical_form.proofs.Lists.Counting.{entries_equal, flat_map-map}
-use Rattle.tl_county.proofs.Packing.Pieces.{lefts-numbered_from}
+use Rattle.county_chart.proofs.Packing.Pieces.{lefts-numbered_from}
 use Rattle.canonical_form.proofs.Unique.SameNumbers.{kept_entry}
 
 -- numbered keys as pairs

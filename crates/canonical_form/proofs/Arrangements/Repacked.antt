@@ -8,19 +8,19 @@ use Rattle.canonical_form.proofs.Common.{packed_fours, packed_i, packed_one, pac
 use Rattle.canonical_form.proofs.Common.{strict_from_order, then_cmp, times, up_to}
 use Rattle.tl_layout.specs.Fields.{Fields1, Fields5}
 use Rattle.tl_layout.specs.ByType.{of_type_1, of_type_2, of_type_4, of_type_5, of_type_6, of_type_7, of_type_i}
-use Rattle.tl_county.specs.County.{one_tlid, two_tlid, two_rtsq, four_tlid, four_rtsq, five_feat, six_tlid, six_rtsq, seven_land}
-use Rattle.tl_county.specs.County.{i_tlid, shape_points, further_names, chain_of, chains_of, names_of, landmarks_of}
-use Rattle.tl_county.specs.LinkRules.{chain_tlids, linked_tlids}
-use Rattle.tl_county.specs.declared.fault.LinkFault.TheVariants.{NoChain}
-use Rattle.tl_county.specs.declared.fault.LinkedType.{LinkedType}
-use Rattle.tl_county.specs.declared.fault.LinkedType.TheVariants.{Two, Four, Six, I}
+use Rattle.county_chart.specs.County.{one_tlid, two_tlid, two_rtsq, four_tlid, four_rtsq, five_feat, six_tlid, six_rtsq, seven_land}
+use Rattle.county_chart.specs.County.{i_tlid, shape_points, further_names, chain_of, chains_of, names_of, landmarks_of}
+use Rattle.county_chart.specs.LinkRules.{chain_tlids, linked_tlids}
+use Rattle.county_chart.specs.declared.fault.LinkFault.TheVariants.{NoChain}
+use Rattle.county_chart.specs.declared.fault.LinkedType.{LinkedType}
+use Rattle.county_chart.specs.declared.fault.LinkedType.TheVariants.{Two, Four, Six, I}
 use Rattle.ordered_lists.specs.Orders.{distinct}
 use Rattle.ordered_lists.proofs.Lists.InOrder.{in_order-itself, in_order-from_strict}
-use Rattle.tl_county.proofs.Rules.LinkedCounty.{needed, apart_chains, the_link}
-use Rattle.tl_county.proofs.Lists.OfNumber.{of_number-all}
+use Rattle.county_chart.proofs.Rules.LinkedCounty.{needed, apart_chains, the_link}
+use Rattle.county_chart.proofs.Lists.OfNumber.{of_number-all}
 use Rattle.ordered_lists.proofs.ByKey.Numbers.{distinct-strict}
-use Rattle.tl_county.specs.OrderedTables.{landmark_cmp}
-use Rattle.tl_county.specs.Packing.{without_last}
+use Rattle.county_chart.specs.BodyOrder.{landmark_cmp}
+use Rattle.county_chart.specs.Packing.{without_last}
 use Rattle.canonical_form.proofs.Lists.Counting.{flat_map-map, up_to-strict}
 use Rattle.canonical_form.proofs.Lists.Grouping.{in_order-weaker, then-first, in_order-filter, parts_in_order, grouped, pieces-joined, rtsqs-back}
 

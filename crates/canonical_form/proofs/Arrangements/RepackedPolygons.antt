@@ -10,16 +10,16 @@ use Rattle.canonical_form.proofs.Common.{packed_by_type, packed_p, polygon_keys,
 use Rattle.canonical_form.proofs.Common.{times-yes, true≢false}
 use Rattle.std.specs.List.Sorted.{IsStrictlySortedBy}
 use Rattle.tl_layout.specs.ByType.{of_type_p, of_type_i, of_type_8}
-use Rattle.tl_county.specs.County.{p_key, side_keys, polygon_body, polygons_of}
-use Rattle.tl_county.specs.declared.fault.LinkFault.TheVariants.{PolygonTwice}
+use Rattle.county_chart.specs.County.{p_key, side_keys, polygon_body, polygons_of}
+use Rattle.county_chart.specs.declared.fault.LinkFault.TheVariants.{PolygonTwice}
 use Rattle.ordered_lists.specs.Orders.{distinct}
 use Rattle.ordered_lists.proofs.Lists.InOrder.{in_order-itself, strict-equal}
-use Rattle.tl_county.proofs.Rules.PolygonBodies.{first_body, body_found}
+use Rattle.canonical_form.proofs.Packing.PolygonBodies.{first_body, body_found}
 use Rattle.ordered_lists.proofs.ByKey.Keys.{times-cons}
-use Rattle.tl_county.proofs.Rules.LinkedCounty.{keys-county}
+use Rattle.county_chart.proofs.Rules.LinkedCounty.{keys-county}
 use Rattle.ordered_lists.proofs.Lists.Members.{in_filter_map, to_filter_map}
 use Rattle.ordered_lists.proofs.ByKey.Numbers.{times-in_order, from_in_order, to_in_order}
-use Rattle.tl_county.specs.Packing.{by_type, type_after_type}
+use Rattle.county_chart.specs.Packing.{by_type, type_after_type}
 use Rattle.canonical_form.proofs.Arrangements.Repacked.{ones_back, twos_back, fours_back, fives_back, sixes_back, sevens_back, is_back}
 
 -- in order by a number, if equal numbers mean equal keys and no key occurs twice

@@ -6,8 +6,8 @@ use Rattle.canonical_form.proofs.Common.{PolygonKey, Ranges, Record, Seven, Six,
 use Rattle.canonical_form.proofs.Common.{all_joined, all_left, all_map, all_right, all_weaker, chain_nodes, chain_polygons, in_order, in_pieces}
 use Rattle.canonical_form.proofs.Common.{inner_points, key_on, key_under, numbered_from, on, p_polyid, packed, packed_body, packed_five}
 use Rattle.canonical_form.proofs.Common.{packed_fours, packed_i, packed_one, packed_p, packed_sevens, packed_sixes, packed_twos}
-use Rattle.tl_county.specs.Limits.{NumbersFit}
-use Rattle.tl_county.proofs.Packing.Pieces.{all_in_pieces, all_numbered_from}
+use Rattle.county_chart.specs.Limits.{NumbersFit}
+use Rattle.county_chart.proofs.Packing.Pieces.{all_in_pieces, all_numbered_from}
 use Rattle.ordered_lists.proofs.Lists.Counted.{all_selected}
 use Rattle.canonical_form.specs.RecordNumbers.{numbers_of, greatest_number}
 

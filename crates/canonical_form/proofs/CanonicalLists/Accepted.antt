@@ -3,9 +3,9 @@
 use Rattle.canonical_form.proofs.Common.{◌≡◌, ◌⊎◌, List, refl, sym, ap, subst, inl, inr, AreSame, County, IsAccepted, IsCanonicalThrough}
 use Rattle.canonical_form.proofs.Common.{IsCounty, IsInProfile, IsLinked, IsSight, Record, county-is_county, county_of, plain, same-reflexive}
 use Rattle.canonical_form.proofs.Common.{same-symmetric, same-transitive, text_of}
-use Rattle.tl_county.specs.LinkRules.{IsFirstBrokenRule}
-use Rattle.tl_county.specs.declared.fault.LinkFault.{LinkFault}
-use Rattle.tl_county.proofs.Rules.LinkFaults.{linked_or_first, linked_has_none, one_first_rule}
+use Rattle.county_chart.specs.LinkRules.{IsFirstBrokenRule}
+use Rattle.county_chart.specs.declared.fault.LinkFault.{LinkFault}
+use Rattle.county_chart.proofs.Rules.LinkFaults.{linked_or_first, linked_has_none, one_first_rule}
 use Rattle.tl_profile.specs.Profile.{IsFirstBrokenClause}
 use Rattle.tl_profile.specs.declared.fault.ProfileFault.{ProfileFault}
 use Rattle.tl_profile.proofs.ProfileFaults.{profile_or_first, profile_has_none, one_first_clause}

@@ -5,11 +5,11 @@ use Rattle.canonical_form.proofs.Common.{IsPermutation-map, IsPermutation-sym, I
 use Rattle.canonical_form.proofs.Common.{apart-permutation, apart_from_sorted, arranged, arranged_tlids, false≢true, image, images-lefts}
 use Rattle.canonical_form.proofs.Common.{known-permutation, known-permutation_to, known_all, lefts, length-map, map-map, nat_keys, numbered}
 use Rattle.canonical_form.proofs.Common.{polygon_keys, polygons_along, renaming_of, rights, stands_in, tlids, turns, up_to}
-use Rattle.tl_county.specs.Renumbering.{inverse, then, exactly_one}
+use Rattle.county_chart.specs.Renumbering.{inverse, then, exactly_one}
 use Rattle.ordered_lists.specs.Pairs.{swapped}
 use Rattle.ordered_lists.proofs.ByKey.Keys.{image-known}
 use Rattle.ordered_lists.proofs.Lists.Elements.{map_itself}
-use Rattle.tl_county.proofs.Sameness.Equivalence.{Follows, there_and_back, inverse_follows, inverse_carries, then_follows, then_carries}
+use Rattle.county_chart.proofs.Sameness.Equivalence.{Follows, there_and_back, inverse_follows, inverse_carries, then_follows, then_carries}
 use Rattle.canonical_form.proofs.Arrangements.ArrangedCounties.{arranged_county, is_arranged}
 use Rattle.canonical_form.proofs.Arrangements.Carrying.{arrangement_carries, chains_renamed, turned_renamed, images-numbered}
 use Rattle.canonical_form.proofs.Lists.Counting.{map-equal_all}

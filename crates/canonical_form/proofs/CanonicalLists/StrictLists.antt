@@ -5,7 +5,7 @@ use Rattle.canonical_form.proofs.Common.{IsSight, IsTidy, Mask, Record, TooSymme
 use Rattle.canonical_form.proofs.Common.{apart_from_no_repeat, county-is_county, county_of, each_from, entry_points, has_repeat}
 use Rattle.canonical_form.proofs.Common.{has_repeat-apart, is_either_way, least_points, map-map, masked, most_choices, plain, points_cmp}
 use Rattle.canonical_form.proofs.Common.{points_keys, same-symmetric, same-transitive, shapes, strict-map, strict_from_order}
-use Rattle.tl_county.specs.MaskedCounty.{masked_chain}
+use Rattle.county_chart.specs.MaskedCounty.{masked_chain}
 use Rattle.ordered_lists.proofs.Lists.Reordered.{SameElements, apart-same}
 use Rattle.tl_profile.specs.Profile.{AreAllOnSides}
 use Rattle.tl_profile.specs.declared.fault.ProfileFault.TheVariants.{PolygonWithoutChain, Memory}

@@ -3,7 +3,8 @@
 use Rattle.canonical_form.proofs.Common.{IsLeastBelow, ◌≡◌, ◌<◌, ℕ, List, sym, ap, ◌∙◌, subst, arith, AllKeysStandIn, AreSame, Arrangement, Carries, County}
 use Rattle.canonical_form.proofs.Common.{IsCanonical, IsChoice, IsCounty, IsLeastChoice, IsNotAfter, IsTidy, IsTidyList, Record, arranged}
 use Rattle.canonical_form.proofs.Common.{arranged_list, choices, county-is_county, county_of, numbered_choice, order_antisymm, packed}
-use Rattle.canonical_form.proofs.Common.{packed_county, polygon_keys, polygons_along, renaming_of, same-symmetric, same-transitive, text_of}
+use Rattle.canonical_form.proofs.Common.{polygon_keys, polygons_along, renaming_of, same-symmetric, same-transitive, text_of}
+use Rattle.canonical_form.proofs.Packing.PackedCounty.{packed_county}
 use Rattle.ordered_lists.proofs.ByKey.KeyOrders.{bytes_keys}
 use Rattle.ordered_lists.proofs.ByKey.Keys.{order_itself}
 use Rattle.canonical_form.proofs.Arrangements.ArrangedCounties.{arranged_county, is_arranged}

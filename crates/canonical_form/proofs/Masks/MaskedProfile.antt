@@ -6,10 +6,10 @@ use Rattle.canonical_form.proofs.Common.{masked, most_choices, open_places, orde
 use Rattle.canonical_form.proofs.Common.{running, stands_in}
 use Rattle.std.specs.Prelude.{nat_lt}
 use Rattle.std.specs.Ordering.{is_lt}
-use Rattle.tl_county.specs.CountyRules.{has_body}
-use Rattle.tl_county.specs.MaskedCounty.{masked_chain}
-use Rattle.tl_county.specs.Laws.MaskedCounties.{sides_masked}
-use Rattle.tl_county.proofs.Masks.MaskedReads.{chain_count_masked, points_masked}
+use Rattle.county_chart.specs.CountyRules.{has_body}
+use Rattle.county_chart.specs.MaskedCounty.{masked_chain}
+use Rattle.county_chart.specs.Laws.MaskedCounties.{sides_masked}
+use Rattle.county_chart.proofs.Masks.MaskedReads.{chain_count_masked, points_masked}
 use Rattle.tl_profile.specs.Profile.{is_clause_broken}
 use Rattle.tl_profile.proofs.Places.{along_from}
 use Rattle.tl_profile.specs.ShapeOrder.{along_shape, along_shapes, directed_cmp, IsShapeOrder}

@@ -1,10 +1,10 @@
 -- Each mask is a view, and never takes more records than the whole county.
 use Rattle.canonical_form.proofs.Common.{ℕ, arith, subst, IsSight, Mask, by_type_of, masked, packed, packed_by_type}
 use Rattle.tl_layout.specs.Limits.{count_of_type}
-use Rattle.tl_county.specs.Laws.MaskedCounties.{masked_is_county}
-use Rattle.tl_county.specs.Laws.MaskedLimits.{counts_masked, masked_within_limits}
-use Rattle.tl_county.proofs.Masks.MaskedCounties.{masked_twice, carried_masked}
-use Rattle.tl_county.specs.Laws.TypeCounts.{HasWithin, by_type_keeps, packed_keeps}
+use Rattle.county_chart.specs.Laws.MaskedCounties.{masked_is_county}
+use Rattle.county_chart.specs.Laws.MaskedLimits.{counts_masked, masked_within_limits}
+use Rattle.canonical_form.proofs.Masks.MaskedCounties.{masked_twice, carried_masked}
+use Rattle.county_chart.specs.Laws.TypeCounts.{HasWithin, by_type_keeps, packed_keeps}
 use Rattle.canonical_form.specs.SeenRecords.{ShowsNoMore}
 use Rattle.canonical_form.proofs.Masks.MaskedProfile.{masked_in_profile}
 

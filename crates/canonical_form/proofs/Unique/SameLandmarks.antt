@@ -9,13 +9,13 @@ use Rattle.canonical_form.proofs.Common.{link_key, link_keys, link_part, link_pa
 use Rattle.canonical_form.proofs.Common.{nat_cmp_total, nat_keys, ne_eqb, ordering_then, pair_keys, polygon_keys, stands_in, tied_itself, times}
 use Rattle.std.proofs.lemmas.Bool.{cases_eq}
 use Rattle.ordered_lists.proofs.Lists.Counted.{filter-agree}
-use Rattle.tl_county.proofs.Lists.OfNumber.{of_number-all}
+use Rattle.county_chart.proofs.Lists.OfNumber.{of_number-all}
 use Rattle.canonical_form.proofs.Lists.Grouping.{in_order-filter, parts_in_order}
 use Rattle.canonical_form.proofs.Lists.Filtered.{filter-agree_all, filter-filtered, filter-mapped, same_after}
 use Rattle.std.proofs.lemmas.List.Sums.{length-filter}
 use Rattle.std.proofs.lemmas.List.Sorted.{sum_by-IsPermutation}
-use Rattle.tl_county.specs.BodyOrder.{LinkPart}
-use Rattle.tl_county.specs.Laws.KeyOrders.{landmark_body_keys}
+use Rattle.county_chart.specs.BodyOrder.{LinkPart}
+use Rattle.county_chart.specs.Laws.KeyOrders.{landmark_body_keys}
 use Rattle.ordered_lists.proofs.ByKey.Keys.{differ}
 use Rattle.canonical_form.specs.Uses.{links_of}
 use Rattle.canonical_form.proofs.Unique.SameNumbers.{counted_injective}

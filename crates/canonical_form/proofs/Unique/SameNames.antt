@@ -6,7 +6,7 @@ use Rattle.canonical_form.proofs.Common.{IsKeyOrder, IsStrictlySortedBy, Known, 
 use Rattle.canonical_form.proofs.Common.{all_weaker, among-unmap, apart_from_sorted, feats, image, lists_keys, ltb-true, map-append, map-map}
 use Rattle.canonical_form.proofs.Common.{name_key_cmp, pair_keys, stands_in, times, use_cmp, uses_from, uses_of_name}
 use Rattle.canonical_form.proofs.Lists.Filtered.{filter-agree_all, filter-mapped, same_after}
-use Rattle.tl_county.specs.Laws.KeyOrders.{name_body_keys}
+use Rattle.county_chart.specs.Laws.KeyOrders.{name_body_keys}
 use Rattle.ordered_lists.proofs.Lists.Members.{one_entry}
 use Rattle.canonical_form.proofs.Lists.Counting.{up_to-strict}
 use Rattle.canonical_form.proofs.Unique.SameKeys.{entries_same, parts_same}

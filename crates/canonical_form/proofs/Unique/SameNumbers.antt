@@ -6,9 +6,9 @@ use Rattle.canonical_form.proofs.Common.{IsClosed, Known, PolygonKey, Renumberin
 use Rattle.canonical_form.proofs.Common.{apart-distinct, apart-permutation, apart_from_sorted, chain_nodes, chain_polygons, image, key_cmp}
 use Rattle.canonical_form.proofs.Common.{key_keys, known-distinct, known-permutation, lefts, ltb-true, map-append, map-map, nat_keys, nodes}
 use Rattle.canonical_form.proofs.Common.{nodes_along, polygon_keys, polygons_along, renumbered, rights, stands_in, times, up_to}
-use Rattle.tl_county.proofs.Sameness.Carried.{chain_nodes-renumbered, chain_polygons-renumbered}
+use Rattle.county_chart.proofs.Sameness.Carried.{chain_nodes-renumbered, chain_polygons-renumbered}
 use Rattle.ordered_lists.proofs.ByKey.Keys.{image-injective}
-use Rattle.tl_county.proofs.Sameness.Equivalence.{image-keeps}
+use Rattle.county_chart.proofs.Sameness.Equivalence.{image-keeps}
 use Rattle.canonical_form.proofs.Lists.Counting.{up_to-strict}
 use Rattle.canonical_form.proofs.Numbering.Growth.{grown}
 

@@ -11,8 +11,8 @@ ghost use Rattle.tigercanon.specs.LentParts.{bytes_of_parts};
 ghost use Rattle.tigercanon.specs.Refusals.{reported_of};
 ghost use Rattle.tigercanon.specs.Stopping.{stopped_by};
 ghost use Rattle.tigercanon.specs.Sets.{CarriesSet, CarriesSetThrough, IsCanonSetThrough};
-ghost use Rattle.tl_county.specs.MaskedCounty.{masked};
-ghost use Rattle.tl_county.specs.Renumbering.{Renumbering};
+ghost use Rattle.county_chart.specs.MaskedCounty.{masked};
+ghost use Rattle.county_chart.specs.Renumbering.{Renumbering};
 ghost use Rattle.tl_number.specs.Views.{arranged_county, source_of};
 
 use crate::fault::Fault;

@@ -3,8 +3,8 @@
 ghost use Rattle.std.specs.Prelude.{◌≡◌, IfOk, if◌then◌else◌};
 ghost use Rattle.tigercanon.specs.Findings.{Finding, IsFoundOfCounties, finding_of};
 ghost use Rattle.tigercanon.specs.Findings.Finding.{OneMap, TwoMaps};
-ghost use Rattle.tl_county.specs.Packing.{packed};
-ghost use Rattle.tl_county.specs.Renumbering.{Carries};
+ghost use Rattle.county_chart.specs.Packing.{packed};
+ghost use Rattle.county_chart.specs.Renumbering.{Carries};
 ghost use Rattle.tl_number.specs.Views.{arranged_county, source_of};
 
 use crate::library::comparing::Verdict;

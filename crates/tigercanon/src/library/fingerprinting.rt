@@ -5,7 +5,7 @@ ghost use Rattle.tigercanon.specs.Faults.{IsWantOfMemory, ReportsRefusal};
 ghost use Rattle.tigercanon.specs.Fingerprints.{IsFingerprint, IsFingerprintThrough};
 ghost use Rattle.tigercanon.specs.LentParts.{bytes_of_parts};
 ghost use Rattle.tigercanon.specs.Sets.{IsAcceptedSet};
-ghost use Rattle.tl_county.specs.MaskedCounty.{masked};
+ghost use Rattle.county_chart.specs.MaskedCounty.{masked};
 ghost use Rattle.tl_layout.specs.declared.record_type.Record.{Record};
 
 use crate::fault::Fault;

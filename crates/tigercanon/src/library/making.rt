@@ -4,7 +4,7 @@ ghost use Rattle.std.specs.Prelude.{◌≡◌, ℕ, List, IfOk, IfErr};
 ghost use Rattle.tigercanon.specs.Faults.{RefusesRecords, ReportsRefusalOfRead};
 ghost use Rattle.tigercanon.specs.Linked.{AreLinkedAs, IsLinkedSet};
 ghost use Rattle.tigercanon.specs.Sets.{IsCanonSetThrough, IsSeenSet};
-ghost use Rattle.tl_county.specs.MaskedCounty.{masked};
+ghost use Rattle.county_chart.specs.MaskedCounty.{masked};
 ghost use Rattle.tl_layout.specs.declared.mask.Mask.{Mask};
 ghost use Rattle.tl_layout.specs.declared.record_type.Record.{Record};
 ghost use Rattle.canonical_form.specs.Sights.{plain};

@@ -7,7 +7,7 @@ ghost use Rattle.tigercanon.specs.Linked.{IsLinkedSet};
 ghost use Rattle.tigercanon.specs.Normalising.{AreNormalised, AreNormalisedThrough, IsCutOff, IsCutOffThrough, IsOnlyText, IsOnlyTextThrough, ReportsRead, Took, is_of_sink, is_stopped};
 ghost use Rattle.tigercanon.specs.Reading.{AreRead, NoneFailed, OneFailed};
 ghost use Rattle.tigercanon.specs.Sets.{CarriesSet, CarriesSetThrough, IsAcceptedSet, IsCanonicalText, IsCanonicalTextThrough, IsOneCanonicalText, IsOneCanonicalTextThrough};
-ghost use Rattle.tl_county.specs.MaskedCounty.{masked};
+ghost use Rattle.county_chart.specs.MaskedCounty.{masked};
 ghost use Rattle.tl_layout.specs.declared.record_type.Record.{Record};
 ghost use Rattle.tl_write.specs.declared.fault.WriteFault.{WriteFault};
 

@@ -5,8 +5,8 @@ ghost use Rattle.std.specs.Prelude.{◌≡◌, ◌<◌, [], ◌∷◌, IfOk};
 ghost use Rattle.tigercanon.specs.Fingerprints.{IsFingerprintThrough};
 ghost use Rattle.tigercanon.specs.Normalising.{IsWrittenThrough};
 ghost use Rattle.tigercanon.specs.Sets.{CarriesSetThrough, IsCanonicalTextThrough};
-ghost use Rattle.tl_county.specs.MaskedCounty.{masked};
-ghost use Rattle.tl_county.specs.Packing.{packed};
+ghost use Rattle.county_chart.specs.MaskedCounty.{masked};
+ghost use Rattle.county_chart.specs.Packing.{packed};
 ghost use Rattle.tl_layout.specs.RecordText.{text_of};
 ghost use Rattle.tl_number.specs.Views.{arranged_county};
 

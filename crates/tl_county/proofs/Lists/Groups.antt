@@ -3,8 +3,8 @@ use Rattle.std.proofs.Common.{rules, ◌≡◌, ◌==◌, ℕ, List, [], ◌∷�
 use Rattle.std.proofs.Common.{Option}
 use Rattle.tl_county.proofs.Common.{AllByRecursion, Body7, BodyP, Chain, Fields1, Fields2, Fields4, Fields6, Fields7, Fields8, FieldsI}
 use Rattle.tl_county.proofs.Common.{FieldsP, LandmarkParts, PolygonKey, chains_along, eight_land, first, four_tlid, key_cmp, key_keys}
-use Rattle.tl_county.proofs.Common.{landmark_of, later_than, nat_keys, of_number, one_tlid, p_key, polygon_body_of, seven_land, six_tlid}
-use Rattle.tl_county.proofs.Common.{strict_head, two_tlid}
+use Rattle.tl_county.proofs.Common.{landmark_of, later_than, nat_keys, of_number, one_tlid, p_key, polygon_body_of, seven_land}
+use Rattle.tl_county.proofs.Common.{six_tlid, strict_head, two_tlid}
 use Rattle.std.specs.List.Sorted.{IsStrictlySortedBy}
 use Rattle.tl_county.specs.Building.{chain_with}
 use Rattle.ordered_lists.proofs.Lists.Counted.{filter-agree, eq_test}

@@ -1,25 +1,25 @@
 -- The county depends on the packing of types 2 and 4 and on RTSQs only through the contents in their order.
-use Rattle.std.proofs.Common.{not, ◌&&◌, rules, arith, ◌≡◌, ◌<◌, ℕ, ◌==◌, List, [], ◌∷◌, ◌++◌, map, flat_map, filter_map, cond, Option, Some, None}
-use Rattle.std.proofs.Common.{option_map, Ordering, Less, Equal, Greater, is_gt, sym, refl, ap, ap₂, ◌∙◌, nat_cmp, IsTrue, nat_lt, ◌||◌}
-use Rattle.tl_county.proofs.Common.{eight_land, seven_land, link_key, side_keys, common_steps, AllByRecursion, ChainTwice, Eight}
-use Rattle.tl_county.proofs.Common.{Fields1, Fields2, Fields4, Fields6, FieldsI, Five, IsLinked, LandUnknown, LinkFault, LinkMissing}
-use Rattle.tl_county.proofs.Common.{LinkTwice, LinkedType, Memory, NameTwice, NameUnknown, NoChain, One, P, PolygonTwice}
-use Rattle.tl_county.proofs.Common.{PolygonUnknown, Record, SequenceBroken, SequencedType, Seven, Typed, all-in_order, all_known}
-use Rattle.tl_county.proofs.Common.{all_map, by_type, chain_of, chains_of, cons_option, county_of, five_feat, four_rtsq, four_tlid}
-use Rattle.tl_county.proofs.Common.{further_names, further_ranges, has_repeat, i_tlid, in_order, is_rule_broken, key_cmp, linked_tlids}
-use Rattle.tl_county.proofs.Common.{lt-ltb, map-map, map_agree_all, map_agree_everywhere, named_feats, nat_cmp_total, nat_keys}
-use Rattle.tl_county.proofs.Common.{of_number, of_type_2, of_type_4, of_type_6, on, one_tlid, p_key, polygons_of, put_in_order, rtsqs}
-use Rattle.tl_county.proofs.Common.{shape_points, six_rtsq, six_tlid, stands_in, tied_itself, times, two_rtsq, two_tlid, as_type}
+use Rattle.std.proofs.Common.{not, ◌&&◌, rules, arith, ◌≡◌, ◌<◌, ℕ, List, [], ◌∷◌, ◌++◌, map, flat_map, filter_map, Option, Some, None}
+use Rattle.std.proofs.Common.{option_map, Ordering, is_gt, sym, refl, ap, ap₂, ◌∙◌, nat_cmp, IsTrue, nat_lt, ◌||◌}
+use Rattle.tl_county.proofs.Common.{AllByRecursion, ChainTwice, Eight, Fields1, Fields2, Fields4, Fields6, FieldsI, Five, IsLinked}
+use Rattle.tl_county.proofs.Common.{LandUnknown, LinkFault, LinkMissing, LinkTwice, LinkedType, Memory, NameTwice, NameUnknown, NoChain}
+use Rattle.tl_county.proofs.Common.{One, P, PolygonTwice, PolygonUnknown, Record, SequenceBroken, SequencedType, Seven, Typed}
+use Rattle.tl_county.proofs.Common.{all-in_order, all_known, all_map, as_type, by_type, chain_of, chains_of, common_steps, cons_option}
+use Rattle.tl_county.proofs.Common.{county_of, eight_land, five_feat, four_rtsq, four_tlid, further_names, further_ranges, has_repeat}
+use Rattle.tl_county.proofs.Common.{i_tlid, in_order, is_rule_broken, key_cmp, link_key, linked_tlids, lt-ltb, map-map, map_agree_all}
+use Rattle.tl_county.proofs.Common.{map_agree_everywhere, named_feats, nat_cmp_total, nat_keys, of_number, of_type_2, of_type_4}
+use Rattle.tl_county.proofs.Common.{of_type_6, on, one_tlid, p_key, polygons_of, put_in_order, rtsqs, seven_land, shape_points}
+use Rattle.tl_county.proofs.Common.{side_keys, six_rtsq, six_tlid, stands_in, tied_itself, times, two_rtsq, two_tlid}
 use Rattle.std.proofs.lemmas.Bool.{cases_order}
-use Rattle.std.specs.Ordering.{ordering_reverse}
 use Rattle.tl_layout.specs.declared.record_type.Record.TheVariants.{Two, Four, Six, I}
 use Rattle.tl_layout.specs.RecordTypes as record_types
-use Rattle.tl_county.specs.declared.fault.LinkedType.TheVariants.{Two as Type2, Four as Type4, Six as Type6, I as TypeI}
-use Rattle.tl_county.specs.declared.fault.SequencedType.TheVariants as sequenced
+use Rattle.county_chart.specs.declared.fault.LinkedType.TheVariants.{Two as Type2, Four as Type4, Six as Type6, I as TypeI}
+use Rattle.county_chart.specs.declared.fault.SequencedType.TheVariants as sequenced
 use Rattle.tl_county.specs.Repacked.{Sequence, resequenced, KeepsSequence}
 use Rattle.ordered_lists.proofs.Lists.Elements.{all_both, all_unmap}
 use Rattle.tl_county.proofs.Sameness.SameChains.{chains_alike}
-use Rattle.tl_county.proofs.Lists.OfNumber.{of_number-all}
+use Rattle.county_chart.proofs.Lists.OfNumber.{of_number-all}
+use Rattle.county_chart.proofs.Lists.Compared.{less, greater}
 
 -- the records of the types that aren't ordered by RTSQ
 abbrev pub unsequenced : List Record → Typed
@@ -71,12 +71,6 @@ order-changed : {X : Type 0} (by : X → X → Ordering) (f : X → X) (Q : X �
     → in_order by (map f xs) ≡ map f (in_order by xs)
 order-changed by f Q k [] a = refl
 order-changed by f Q k (x ∷ xs) a = search (rules, put-changed, all-in_order, order-changed by f Q k xs a.1)
-
-pub less : (m n : ℕ) → m < n → nat_cmp m n ≡ Less
-less m n h = ap (λ b. cond b Less (cond (m == n) Equal Greater)) (lt-ltb m n h)
-
-pub greater : (m n : ℕ) → n < m → nat_cmp m n ≡ Greater
-greater m n h = nat_cmp_total.antisymm m n ∙ ap ordering_reverse (less n m h)
 
 -- two numbers that increase with two others have the same order
 rising : (f : ℕ → ℕ) (i j : ℕ) → (i < j → f i < f j) → (j < i → f j < f i) → nat_cmp (f i) (f j) ≡ nat_cmp i j

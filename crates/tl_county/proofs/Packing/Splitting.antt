@@ -1,16 +1,17 @@
 -- Cutting a record of type 2 or 4 into two, or leaving out an empty one, changes neither whether a list is linked nor its county.
 use Rattle.std.proofs.Common.{rules, ◌≡◌, ◌⊎◌, ◌<◌, ℕ, ◌==◌, List, [], ◌∷◌, ◌++◌, map, flat_map, Bool, true, false, cond, not, ◌&&◌}
 use Rattle.std.proofs.Common.{Ordering, is_eq, is_gt, sym, refl, ap, ◌∙◌, subst, inl, inr, arith, nat_cmp, IsPermutation, append_assoc}
-use Rattle.tl_county.proofs.Common.{common_steps, AllByRecursion, Fields2, Fields4, IsLinked, IsPermutation-sym, LinkFault, NameUnknown}
-use Rattle.tl_county.proofs.Common.{NoChain, Record, SequenceBroken, all-in_order, chain_tlids, county_of, eqb-true, false≢true, four_rtsq}
-use Rattle.tl_county.proofs.Common.{four_tlid, has_repeat, in_order, is_rule_broken, lt-ltb, nat_keys, of_number, of_type_2, of_type_4}
-use Rattle.tl_county.proofs.Common.{of_type_5, on, put_in_order, stands_in, times-no, two_rtsq, two_tlid}
+use Rattle.tl_county.proofs.Common.{AllByRecursion, Fields2, Fields4, IsLinked, IsPermutation-sym, LinkFault, NameUnknown, NoChain}
+use Rattle.tl_county.proofs.Common.{Record, SequenceBroken, all-in_order, chain_tlids, common_steps, county_of, eqb-true, false≢true}
+use Rattle.tl_county.proofs.Common.{four_rtsq, four_tlid, has_repeat, in_order, is_rule_broken, lt-ltb, nat_keys, of_number, of_type_2}
+use Rattle.tl_county.proofs.Common.{of_type_4, of_type_5, on, put_in_order, stands_in, times-no, two_rtsq, two_tlid}
 use Rattle.tl_layout.specs.declared.record_type.Record.TheVariants.{Two, Four}
 use Rattle.tl_county.specs.Repacked.{IsCut, AreCut, IsSplit, IsEmpty, LeavesEmptyOut}
-use Rattle.tl_county.specs.declared.fault.LinkedType.TheVariants.{Two as Type2, Four as Type4}
-use Rattle.tl_county.proofs.Packing.Repacking.{AreRepacked, less, greater, repacked-county}
+use Rattle.county_chart.specs.declared.fault.LinkedType.TheVariants.{Two as Type2, Four as Type4}
+use Rattle.tl_county.proofs.Packing.Repacking.{AreRepacked, repacked-county}
+use Rattle.county_chart.proofs.Lists.Compared.{less, greater}
 use Rattle.tl_county.proofs.Sameness.SameCounty.{reordered-linked, reordered-county}
-use Rattle.tl_county.specs.declared.fault.SequencedType.TheVariants as sequenced_types
+use Rattle.county_chart.specs.declared.fault.SequencedType.TheVariants as sequenced_types
 
 module _ {X : Type 0} (by : X → X → Ordering) (x y : X) (ys : List X) where
   put-after : is_gt (by x y) ≡ true → put_in_order by x (y ∷ ys) ≡ y ∷ put_in_order by x ys

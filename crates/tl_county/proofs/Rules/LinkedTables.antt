@@ -1,16 +1,16 @@
 -- The county of linked records in the order of their numbers is the one built by walking their tables.
-use Rattle.tl_county.proofs.Common.{common_steps}
+use Rattle.tl_county.proofs.Common.{AllByRecursion, Among, AreInOrder, Fields1, Fields5, Fields7, Fields8, FieldsI, I, IsInOrder}
+use Rattle.tl_county.proofs.Common.{IsLinked, Known, LandUnknown, LandmarkParts, LinkTwice, NameTwice, NoChain, Record, all_weaker}
+use Rattle.tl_county.proofs.Common.{among-map, among_known, by_type, chain_of, chain_tlids, chains_along, chains_of, common_steps}
+use Rattle.tl_county.proofs.Common.{county_along, county_of, distinct, distinct-strict, eight_land, eq-eqb, false≢true, filter_all}
+use Rattle.tl_county.proofs.Common.{first_least, five_feat, four_tlid, i_tlid, in_order, in_order-filter, in_order-itself, in_order-map}
+use Rattle.tl_county.proofs.Common.{in_order-strict, known-distinct, known_cases, known_is_among, landmark_body_cmp, landmark_entry}
+use Rattle.tl_county.proofs.Common.{landmark_of, later_than, link_cmp, link_part, link_part_cmp, linked_tlids, lt-ltb, ltb-false}
+use Rattle.tl_county.proofs.Common.{ltb-true, nat_cmp_total, nat_keys, of_number, of_type_1, of_type_2, of_type_4, of_type_5, of_type_6}
+use Rattle.tl_county.proofs.Common.{of_type_7, of_type_8, of_type_i, on, one_tlid, ordering_then, seven_land, six_tlid, stands_in}
+use Rattle.tl_county.proofs.Common.{strict_head, strict_tail, tied_itself, times, two_tlid}
 use Rattle.std.proofs.Common.{rules, ◌≡◌, ◌⊎◌, ◌<◌, ℕ, List, [], ◌∷◌, ◌++◌, map, flat_map, filter, Bool, true, false, not, cond, Ordering}
 use Rattle.std.proofs.Common.{Less, Equal, is_eq, is_gt, sym, refl, ap, ◌∙◌, subst, inl, inr, arith, nat_cmp}
-use Rattle.tl_county.proofs.Common.{AllByRecursion, Among, AreInOrder, Fields1, Fields5, Fields7, Fields8, FieldsI, I, IsInOrder, IsLinked}
-use Rattle.tl_county.proofs.Common.{Known, LandUnknown, LandmarkParts, LinkTwice, NameTwice, NoChain, Record, all_weaker, among-map}
-use Rattle.tl_county.proofs.Common.{among_known, by_type, chain_of, chain_tlids, chains_along, chains_of, county_along, county_of, distinct}
-use Rattle.tl_county.proofs.Common.{distinct-strict, eight_land, eq-eqb, false≢true, filter_all, first_least, five_feat, four_tlid, i_tlid}
-use Rattle.tl_county.proofs.Common.{in_order, in_order-filter, in_order-itself, in_order-map, in_order-strict, known-distinct, known_cases}
-use Rattle.tl_county.proofs.Common.{known_is_among, landmark_body_cmp, landmark_entry, landmark_of, later_than, link_cmp, link_part}
-use Rattle.tl_county.proofs.Common.{link_part_cmp, linked_tlids, lt-ltb, ltb-false, ltb-true, nat_cmp_total, nat_keys, of_number, of_type_1}
-use Rattle.tl_county.proofs.Common.{of_type_2, of_type_4, of_type_5, of_type_6, of_type_7, of_type_8, of_type_i, on, one_tlid}
-use Rattle.tl_county.proofs.Common.{ordering_then, seven_land, six_tlid, stands_in, strict_head, strict_tail, tied_itself, times, two_tlid}
 use Rattle.std.specs.List.{zip}
 use Rattle.std.specs.List.Sorted.{IsStrictlySortedBy}
 use Rattle.std.specs.Ordering.{is_lt}
@@ -19,9 +19,9 @@ use Rattle.tl_county.specs.Building.{chain_with}
 use Rattle.tl_county.proofs.Lists.Groups.{group-of_number, number-later}
 use Rattle.ordered_lists.proofs.Lists.InOrder.{strict-equal}
 use Rattle.ordered_lists.proofs.ByKey.KeyedLists.{group-and_later, lt_reversed}
-use Rattle.tl_county.proofs.Rules.LinkedCounty.{apart_chains, one_link, the_link, needed}
+use Rattle.county_chart.proofs.Rules.LinkedCounty.{apart_chains, one_link, the_link, needed}
 use Rattle.ordered_lists.proofs.ByKey.Numbers.{all_themselves, strict_from_order}
-use Rattle.tl_county.proofs.Lists.OfNumber.{of_number-all}
+use Rattle.county_chart.proofs.Lists.OfNumber.{of_number-all}
 use Rattle.ordered_lists.proofs.Lists.Reordered.{to_filter}
 
 -- in a group with one number, an order by the number and something else is an order by the other

@@ -2,14 +2,14 @@
 use Rattle.std.proofs.Common.{rules, ◌≡◌, ◌<◌, ◌≤◌, ◌==◌, ℕ, suc, nat_lt, List, [], ◌∷◌, ◌++◌, Bool, true, false, cond, not, ◌||◌, Ordering}
 use Rattle.std.proofs.Common.{Less, Equal, Greater, is_gt, sym, refl, ap, ◌∙◌, inl, inr, arith, nat_cmp, Some, None}
 use Rattle.tl_county.proofs.Common.{Among, ChainTwice, Four, I, IsFirstBrokenRule, IsLeastPassing, IsLinked, LandUnknown, LinkFault}
-use Rattle.tl_county.proofs.Common.{LinkMissing, LinkTwice, Memory, NameTwice, NameUnknown, NoChain, PolygonTwice, PolygonUnknown, Record}
-use Rattle.tl_county.proofs.Common.{RulesHold, SequenceBroken, Six, Two, and_parts, eqb-true, false≢true, is_rule_broken, list_all}
-use Rattle.tl_county.proofs.Common.{list_any, lt-ltb, ltb-false, ltb-true, ordering_then, place_cmp, slice_cmp}
-use Rattle.tl_county.specs.LinkRules.{link_fault_place}
+use Rattle.tl_county.proofs.Common.{LinkMissing, LinkTwice, Memory, NameTwice, NameUnknown, NoChain, PolygonTwice, PolygonUnknown}
+use Rattle.tl_county.proofs.Common.{Record, RulesHold, SequenceBroken, Six, Two, and_parts, eqb-true, false≢true, is_rule_broken}
+use Rattle.tl_county.proofs.Common.{list_all, list_any, lt-ltb, ltb-false, ltb-true, ordering_then, place_cmp, slice_cmp}
+use Rattle.county_chart.specs.LinkRules.{link_fault_place}
 use Rattle.tl_county.specs.RuleOrder.{rule_place, IsFirstFrom}
-use Rattle.tl_county.proofs.Rules.LinkFaults.{part, number}
+use Rattle.county_chart.proofs.Rules.LinkFaults.{part, number}
 use Rattle.ordered_lists.proofs.Lists.Members.{any_among}
-use Rattle.tl_county.specs.declared.fault.SequencedType.TheVariants as sequenced
+use Rattle.county_chart.specs.declared.fault.SequencedType.TheVariants as sequenced
 
 -- a fault's place begins with the place of its rule and ends with its key
 abbrev head_of_rule : ℕ → List (List ℕ)

@@ -3,22 +3,22 @@ use Rattle.std.proofs.Common.{rules, ◌≡◌, ◌⊎◌, ◌<◌, ◌+◌, ◌
 use Rattle.std.proofs.Common.{cond, Ordering, Less, Equal, Greater, is_eq, is_gt, sym, refl, ap, ◌∙◌, subst, inl, inr, arith, nat_cmp, Some}
 use Rattle.std.proofs.Common.{None, zero-add, IsPermutation}
 use Rattle.tl_county.proofs.Common.{Fields4, IsInOrder, IsKeyOrder, IsLeastPassing, LandUnknown, LinkFault, NameTwice, NameUnknown}
-use Rattle.tl_county.proofs.Common.{PolygonKey, PolygonTwice, PolygonUnknown, Record, SequenceBroken, Typed, all_weaker}
-use Rattle.tl_county.proofs.Common.{and_parts, apart_from_no_repeat, by_type, bytes_cmp, common_steps, distinct, eight_land, eq-eqb}
-use Rattle.tl_county.proofs.Common.{false≢true, first_least, five_feat, four_rtsq, four_tlid, has_repeat, is_repeated, is_rule_broken}
-use Rattle.tl_county.proofs.Common.{is_unknown, is_unnamed, key_cmp, key_keys, least-same, link_key, lt-ltb, ltb-true, nat_cmp_total}
-use Rattle.tl_county.proofs.Common.{nat_keys, ne_eqb, of_number, or_cases, ordering_then, p_key, place_cmp, same-itself, same_or_not}
+use Rattle.tl_county.proofs.Common.{PolygonKey, PolygonTwice, PolygonUnknown, Record, SequenceBroken, Typed, all_weaker, and_parts}
+use Rattle.tl_county.proofs.Common.{apart_from_no_repeat, by_type, bytes_cmp, common_steps, distinct, eight_land, eq-eqb, false≢true}
+use Rattle.tl_county.proofs.Common.{first_least, five_feat, four_rtsq, four_tlid, has_repeat, is_repeated, is_rule_broken, is_unknown}
+use Rattle.tl_county.proofs.Common.{is_unnamed, key_cmp, key_keys, least-same, link_key, lt-ltb, ltb-true, nat_cmp_total, nat_keys}
+use Rattle.tl_county.proofs.Common.{ne_eqb, of_number, or_cases, ordering_then, p_key, place_cmp, same-itself, same_or_not}
 use Rattle.tl_county.proofs.Common.{sequence_cmp, seven_land, side_keys, six_rtsq, six_tlid, stands_in, tied_itself, times, times-cons}
 use Rattle.tl_county.proofs.Common.{times-no, times-yes, two_rtsq, two_tlid, uses_of}
 use Rattle.std.specs.List.{find}
-use Rattle.tl_county.specs.LinkRules.{link_fault_place}
+use Rattle.county_chart.specs.LinkRules.{link_fault_place}
 use Rattle.tl_county.specs.RuleOrder.{rule_place}
 use Rattle.ordered_lists.proofs.Lists.Distinct.{times-distinct, bit}
 use Rattle.ordered_lists.proofs.ByKey.KeyOrders.{pair_keys}
 use Rattle.ordered_lists.proofs.ByKey.Keys.{times-permutation, times-append, known-here}
-use Rattle.tl_county.proofs.Rules.LinkFaults.{part, number}
+use Rattle.county_chart.proofs.Rules.LinkFaults.{part, number}
 use Rattle.tl_county.proofs.Rules.RuleOrders.{IsRule, fault_of_rule}
-use Rattle.tl_county.specs.declared.fault.SequencedType.TheVariants as sequenced
+use Rattle.county_chart.specs.declared.fault.SequencedType.TheVariants as sequenced
 
 -- orders of lists of one or two numbers
 pub single : (a : Ordering) → is_gt a ≡ false → is_gt (ordering_then (ordering_then a Equal) Equal) ≡ false

@@ -1,7 +1,7 @@
 -- Records type after type are the records of a list in another order.
 use Rattle.std.proofs.Common.{ℕ, List, [], ◌∷◌, ◌++◌, map, take, IsPermutation}
-use Rattle.tl_county.proofs.Common.{Eight, Five, IsPermutation-refl, IsPermutation-sym, IsPermutation-trans, One, P, Record, Seven, Typed}
-use Rattle.tl_county.proofs.Common.{by_type, of_type, record_of, type_after_type}
+use Rattle.tl_county.proofs.Common.{Eight, Five, IsPermutation-refl, IsPermutation-sym, IsPermutation-trans, One, P, Record, Seven}
+use Rattle.tl_county.proofs.Common.{Typed, by_type, of_type, record_of, type_after_type}
 use Rattle.std.proofs.lemmas.List.Sorted.{IsPermutation-cons, IsPermutation-middle, IsPermutation-map, IsPermutation-append}
 use Rattle.std.proofs.lemmas.List.Sorted.{IsPermutation-append_right}
 use Rattle.tl_layout.specs.RecordTypes.{types}

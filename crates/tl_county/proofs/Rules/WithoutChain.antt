@@ -1,15 +1,16 @@
 -- Polygons with a type P record that are on no side: in the tables of linked records, and in their county.
 use Rattle.std.proofs.Common.{rules, ◌≡◌, ℕ, suc, nat_lt, List, [], ◌∷◌, ◌++◌, length, filter, map, flat_map, Bool, true, false, cond, not}
 use Rattle.std.proofs.Common.{◌&&◌, ◌||◌, Option, is_eq, is_some, refl, sym, ap, ap₂, ◌∙◌, arith, Ordering, None, Some, map-id}
-use Rattle.tl_county.proofs.Common.{AllByRecursion, Among, Chain, Fields1, FieldsI, IsKeyOrder, IsLeastPassing, IsLinked, Known, PolygonKey}
-use Rattle.tl_county.proofs.Common.{Record, all_among, among-pieces, among_known, chain_of, chain_polygons, chains_of, count-map, county_of}
-use Rattle.tl_county.proofs.Common.{distinct, distinct_same, each_from, false≢true, first, is_unknown, key_cmp, key_keys, known-append}
-use Rattle.tl_county.proofs.Common.{known-left, known-right, known_is_among, list_any, lt-ltb, ltb-true, of_type_1, of_type_i, of_type_p}
-use Rattle.tl_county.proofs.Common.{p_key, polygon_body, polygons_along, same-true, side_keys, stands_alike, stands_in}
-use Rattle.tl_county.specs.CountyRules.{has_body, is_without_chain}
-use Rattle.tl_county.proofs.Sameness.Carried.{among-unpieces}
-use Rattle.tl_county.proofs.ByKey.KeySets.{stands_in-distinct}
-use Rattle.tl_county.proofs.Rules.LinkedCounty.{chains_all, linked_chain, needed}
+use Rattle.tl_county.proofs.Common.{AllByRecursion, Among, Chain, Fields1, FieldsI, IsKeyOrder, IsLeastPassing, IsLinked, Known}
+use Rattle.tl_county.proofs.Common.{PolygonKey, Record, all_among, among-pieces, among_known, chain_of, chain_polygons, chains_of}
+use Rattle.tl_county.proofs.Common.{count-map, county_of, distinct, distinct_same, each_from, false≢true, first, is_unknown, key_cmp}
+use Rattle.tl_county.proofs.Common.{key_keys, known-append, known-left, known-right, known_is_among, list_any, lt-ltb, ltb-true}
+use Rattle.tl_county.proofs.Common.{of_type_1, of_type_i, of_type_p, p_key, polygon_body, polygons_along, same-true, side_keys}
+use Rattle.tl_county.proofs.Common.{stands_alike, stands_in}
+use Rattle.county_chart.specs.CountyRules.{has_body, is_without_chain}
+use Rattle.county_chart.proofs.Sameness.Carried.{among-unpieces}
+use Rattle.county_chart.proofs.ByKey.KeySets.{stands_in-distinct}
+use Rattle.county_chart.proofs.Rules.LinkedCounty.{chains_all, linked_chain, needed}
 
 -- a list has a first element exactly if it isn't empty
 first_there : {X Y : Type 0} (f : X → Y) (xs : List X) → is_some (first (map f xs)) ≡ nat_lt 0 (length xs)

@@ -1,19 +1,20 @@
 -- Lists with the same records break the same rules at the same places.
 use Rattle.std.proofs.Common.{◌≡◌, ◌⊎◌, ℕ, nat_lt, ◌==◌, List, ◌++◌, map, flat_map, Bool, true, false, not, ◌&&◌, sym, refl, ap, ap₂, ◌∙◌}
 use Rattle.std.proofs.Common.{subst, inl, inr, nat_cmp}
-use Rattle.tl_county.proofs.Common.{Among, ChainTwice, Fields4, FieldsI, FieldsP, Four, I, IsFirstBrokenRule, IsLinked, Known, LandUnknown}
-use Rattle.tl_county.proofs.Common.{LinkFault, LinkMissing, LinkTwice, LinkedType, Memory, NameTwice, NameUnknown, NoChain, PolygonKey}
-use Rattle.tl_county.proofs.Common.{PolygonTwice, PolygonUnknown, Record, RecordType, SameElements, SequenceBroken, Six, Two, Type1, Type2}
-use Rattle.tl_county.proofs.Common.{Type4, Type5, Type6, Type7, Type8, TypeI, TypeP, among-map, among-pieces, among-unmap, among_known}
-use Rattle.tl_county.proofs.Common.{apart_from_no_repeat, as_type, chain_tlids, eight_land, false≢true, five_feat, four_rtsq, four_tlid}
-use Rattle.tl_county.proofs.Common.{has_repeat, has_repeat-apart, i_tlid, is_rule_broken, key_cmp, key_keys, known-append, known-left}
-use Rattle.tl_county.proofs.Common.{known-right, known_is_among, link_key, linked_tlids, named_feats, nat_keys, of_number, of_type}
-use Rattle.tl_county.proofs.Common.{of_type_2, of_type_4, of_type_5, of_type_6, of_type_7, of_type_8, of_type_i, of_type_p, one_tlid, p_key}
-use Rattle.tl_county.proofs.Common.{rtsqs, seven_land, side_keys, six_rtsq, six_tlid, stands_alike, stands_in, two_rtsq, two_tlid}
+use Rattle.tl_county.proofs.Common.{Among, ChainTwice, Fields4, FieldsI, FieldsP, Four, I, IsFirstBrokenRule, IsLinked, Known}
+use Rattle.tl_county.proofs.Common.{LandUnknown, LinkFault, LinkMissing, LinkTwice, LinkedType, Memory, NameTwice, NameUnknown, NoChain}
+use Rattle.tl_county.proofs.Common.{PolygonKey, PolygonTwice, PolygonUnknown, Record, RecordType, SameElements, SequenceBroken, Six}
+use Rattle.tl_county.proofs.Common.{Two, Type1, Type2, Type4, Type5, Type6, Type7, Type8, TypeI, TypeP, among-map, among-pieces}
+use Rattle.tl_county.proofs.Common.{among-unmap, among_known, apart_from_no_repeat, as_type, chain_tlids, eight_land, false≢true}
+use Rattle.tl_county.proofs.Common.{five_feat, four_rtsq, four_tlid, has_repeat, has_repeat-apart, i_tlid, is_rule_broken, key_cmp}
+use Rattle.tl_county.proofs.Common.{key_keys, known-append, known-left, known-right, known_is_among, link_key, linked_tlids}
+use Rattle.tl_county.proofs.Common.{named_feats, nat_keys, of_number, of_type, of_type_2, of_type_4, of_type_5, of_type_6, of_type_7}
+use Rattle.tl_county.proofs.Common.{of_type_8, of_type_i, of_type_p, one_tlid, p_key, rtsqs, seven_land, side_keys, six_rtsq, six_tlid}
+use Rattle.tl_county.proofs.Common.{stands_alike, stands_in, two_rtsq, two_tlid}
 use Rattle.tl_layout.specs.RecordTypes.{FieldsOf}
-use Rattle.tl_county.proofs.Sameness.Carried.{among-unpieces, pieces_alike}
+use Rattle.county_chart.proofs.Sameness.Carried.{among-unpieces, pieces_alike}
 use Rattle.ordered_lists.proofs.Lists.Reordered.{same-filter_map, same-filter, same-map, times-same, apart-same}
-use Rattle.tl_county.specs.declared.fault.SequencedType.TheVariants as sequenced
+use Rattle.county_chart.specs.declared.fault.SequencedType.TheVariants as sequenced
 
 -- the same, seen from the other list
 pub same-sym : {X : Type 0} (xs ys : List X) → SameElements xs ys → SameElements ys xs

@@ -2,17 +2,17 @@
 use Rattle.std.proofs.Common.{rules, ◌≡◌, ℕ, List, [], ◌∷◌, ◌++◌, map, length, Bool, true, false, Some, sym, refl, ap, ◌∙◌, arith}
 use Rattle.std.proofs.Common.{IsPermutation, codes, ◌==◌, ◌&&◌, ◌⊎◌, inl, inr, slice_index, lit<, nat_cmp}
 use Rattle.tl_county.proofs.Common.{Body7, Carries, Chain, ChainTwice, IsFirstBrokenRule, IsLinked, IsPermutation-refl, NameUnknown}
-use Rattle.tl_county.proofs.Common.{PolygonUnknown, Renumbering, SequenceBroken, among-permutation, carried_chain, county_of, false≢true}
-use Rattle.tl_county.proofs.Common.{image, nodes, polygon_keys, renumbered, turned_if, turns}
+use Rattle.tl_county.proofs.Common.{PolygonUnknown, Renumbering, SequenceBroken, among-permutation, carried_chain, county_of}
+use Rattle.tl_county.proofs.Common.{false≢true, image, nodes, polygon_keys, renumbered, turned_if, turns}
 use Rattle.std.proofs.lemmas.List.Sorted.{length_permutation}
-use Rattle.tl_county.specs.Renumbering.{AreSame}
+use Rattle.county_chart.specs.Renumbering.{AreSame}
 use Rattle.tl_layout.specs.Turned.{turned_body}
-use Rattle.tl_county.proofs.Rules.LinkFaults.{linked_computed, first_rule_computed}
-use Rattle.tl_county.proofs.Samples.Counties.{filled, right, street, ranges_back, east_end, street_there, street_back, west_end, topology}
-use Rattle.tl_county.proofs.Samples.Counties.{no_side, cenid_1, cenid_2, there, back, back_wrong, back_shaped, there_shaped}
-use Rattle.tl_county.proofs.Samples.Counties.{canonical_shaped, points_up, two_polygons, named, schools, landmark, in_polygon, four, two}
-use Rattle.tl_county.proofs.Samples.Counties.{chain_there, meeting, old_mill}
-use Rattle.tl_county.specs.declared.fault.SequencedType.TheVariants as sequenced
+use Rattle.county_chart.proofs.Rules.LinkFaults.{linked_computed, first_rule_computed}
+use Rattle.county_chart.proofs.Samples.Counties.{filled, right, street, ranges_back, east_end, street_there, street_back, west_end, topology}
+use Rattle.county_chart.proofs.Samples.Counties.{no_side, cenid_1, cenid_2, there, back, back_wrong, back_shaped, there_shaped}
+use Rattle.county_chart.proofs.Samples.Counties.{canonical_shaped, points_up, two_polygons, named, schools, landmark, in_polygon, four, two}
+use Rattle.county_chart.proofs.Samples.Counties.{chain_there, meeting, old_mill}
+use Rattle.county_chart.specs.declared.fault.SequencedType.TheVariants as sequenced
 
 -- the only chain, with further names
 abbrev named_chain : List ℕ → Chain

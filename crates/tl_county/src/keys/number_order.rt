@@ -6,7 +6,8 @@ ghost use Rattle.std.specs.Ordering.{nat_cmp, on};
 ghost use Rattle.std.specs.Prelude.{◌≡◌, get_or, length, map, slice_get, OnOk, IfOk, IsPermutation};
 ghost use Rattle.ordered_lists.specs.Places.{at_places};
 
-use crate::keys::keyed::{Keyed, are_in_order, keys_of};
+use crate::keys::repeated::keys_of;
+use county_chart::{Keyed, are_in_order};
 use ordered_lists::{all_places, near_places};
 use std::alloc::{AllocError, Global};
 

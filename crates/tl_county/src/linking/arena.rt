@@ -11,9 +11,9 @@ use crate::linking::building::{
     name_bodies, surroundings_of,
 };
 use crate::linking::chain_heads::ChainHead;
-use crate::stored::chain_over::ChainOver;
-use crate::stored::lent::{LandmarkIn, NameIn};
+use crate::linking::chain_over::ChainOver;
 use bumpalo::Bump;
+use county_chart::{LandmarkIn, NameIn};
 use std::alloc::{AllocError, Global};
 use tl_layout::{Body5, Body7, Point, Ranges, Rec2, Rec4, Rec5, Rec6, Rec7, Rec8};
 use tl_shape::ChainIn;

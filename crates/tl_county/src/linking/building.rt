@@ -5,17 +5,16 @@ ghost use Rattle.std.specs.List.Sorted.{IsStrictlySortedBy};
 ghost use Rattle.std.specs.Ordering.{is_gt, nat_cmp, on};
 ghost use Rattle.std.specs.Prelude.{◌≡◌, ◌∷◌, [], ◌++◌, map, filter, flat_map, option_to_list, OnOk, IfOk};
 ghost use Rattle.tl_county.specs.Building.{chain_with, chains_along, landmark_of, link_nodes, polygon_body_of};
-ghost use Rattle.tl_county.specs.County.{one_tlid, two_tlid, four_tlid, six_tlid, seven_land, eight_land, p_key, first};
+ghost use Rattle.county_chart.specs.County.{one_tlid, two_tlid, four_tlid, six_tlid, seven_land, eight_land, p_key, first};
 ghost use Rattle.ordered_lists.specs.Orders.{IsInOrder, distinct};
-ghost use Rattle.tl_county.specs.PolygonKeys.{key_cmp};
+ghost use Rattle.county_chart.specs.PolygonKeys.{key_cmp};
 ghost use Rattle.tl_layout.specs.ByType.{of_number};
 ghost use Rattle.tl_layout.specs.Fields.{Fields2, Fields4, Fields5, Fields6, Fields7, FieldsP};
 ghost use Rattle.tl_layout.specs.Numbers.{IsNumber, IsNumberOrNone};
 
-use crate::keys::keyed::{keys_of, split_group};
-use crate::keys::record_keys::PolygonKey;
+use crate::keys::repeated::keys_of;
 use crate::linking::chain_heads::{ChainHead, ChainLink};
-use crate::stored::storage::{StoredChain, StoredLandmark};
+use county_chart::{PolygonKey, StoredChain, StoredLandmark, split_group};
 use ordered_lists::NumberSet;
 use std::alloc::{AllocError, Global};
 use tl_layout::{

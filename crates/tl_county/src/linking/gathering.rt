@@ -3,16 +3,15 @@
 ghost use Rattle.std.specs.List.Sorted.{IsStrictlySortedBy};
 ghost use Rattle.std.specs.Ordering.{on};
 ghost use Rattle.std.specs.Prelude.{◌≡◌, ◌++◌, map, flat_map, OnOk, IfOk, IsPermutation};
-ghost use Rattle.tl_county.specs.BodyOrder.{bytes_cmp};
-ghost use Rattle.tl_county.specs.County.{link_key, p_key, side_keys};
+ghost use Rattle.county_chart.specs.BodyOrder.{bytes_cmp};
+ghost use Rattle.county_chart.specs.County.{link_key, p_key, side_keys};
 ghost use Rattle.ordered_lists.specs.Keyed.{IsLeastPassing, is_unknown};
 ghost use Rattle.ordered_lists.specs.Orders.{IsInOrder, distinct};
-ghost use Rattle.tl_county.specs.PolygonKeys.{key_cmp};
-ghost use Rattle.tl_county.specs.SequenceKeys.{sequence_cmp, uses_of};
+ghost use Rattle.county_chart.specs.PolygonKeys.{key_cmp};
+ghost use Rattle.county_chart.specs.SequenceKeys.{sequence_cmp, uses_of};
 
-use crate::keys::keyed::{Keyed, keys_of, least_unknown};
-use crate::keys::polygon_set::{cenids_of, distinct_polygons};
-use crate::keys::record_keys::PolygonKey;
+use crate::keys::repeated::keys_of;
+use county_chart::{Keyed, PolygonKey, cenids_of, distinct_polygons, least_unknown};
 use ordered_lists::sort_keys;
 use std::alloc::{AllocError, Global};
 use tl_layout::{Rec4, Rec8, RecI, RecP};

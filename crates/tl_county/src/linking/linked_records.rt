@@ -1,28 +1,26 @@
 //! Records that fit together, in order, and the counties built from them.
 
 ghost use Rattle.std.specs.Prelude.{◌≡◌, ◌≢◌, List, IfOk, IfErr};
-ghost use Rattle.tl_county.specs.County.{county_of};
-ghost use Rattle.tl_county.specs.CountyRules.{is_without_chain};
-ghost use Rattle.tl_county.specs.declared.fault.LinkFault.TheVariants.{Memory};
+ghost use Rattle.county_chart.specs.County.{county_of};
+ghost use Rattle.county_chart.specs.CountyRules.{is_without_chain};
+ghost use Rattle.county_chart.specs.declared.fault.LinkFault.TheVariants.{Memory};
 ghost use Rattle.ordered_lists.specs.Keyed.{IsLeastPassing};
-ghost use Rattle.tl_county.specs.Limits.{HoldsWithinLimits};
-ghost use Rattle.tl_county.specs.LinkRules.{IsFirstBrokenRule, IsLinked};
-ghost use Rattle.tl_county.specs.Packing.{type_after_type};
-ghost use Rattle.tl_county.specs.PolygonKeys.{key_cmp};
+ghost use Rattle.county_chart.specs.Limits.{HoldsWithinLimits};
+ghost use Rattle.county_chart.specs.LinkRules.{IsFirstBrokenRule, IsLinked};
+ghost use Rattle.county_chart.specs.Packing.{type_after_type};
+ghost use Rattle.county_chart.specs.PolygonKeys.{key_cmp};
 ghost use Rattle.tl_layout.specs.declared.record_type.Record.{Record};
 ghost use Rattle.tl_layout.specs.Tables.{HoldsByType};
 
-use crate::chart::Chart;
-use crate::fault::LinkFault;
-use crate::keys::record_keys::PolygonKey;
 use crate::linking::arena::{InArena, names_in, names_over};
 use crate::linking::building::name_bodies;
+use crate::linking::chain_over::CountyOver;
 use crate::linking::gathering::Polygons;
 use crate::linking::owned::Owned;
 use crate::linking::table_order::OrderedTables;
 use crate::linking::{build_county, sort_and_check};
-use crate::stored::{County, CountyIn, CountyOver};
 use bumpalo::Bump;
+use county_chart::{Chart, County, CountyIn, LinkFault, PolygonKey};
 use std::alloc::{AllocError, Global};
 use std::marker::Model;
 use tl_layout::Tables;
@@ -38,14 +36,14 @@ pub struct LinkedRecords {
 
 impl Model for LinkedRecords {
     ghost use Rattle.std.specs.Prelude.{◌≡◌, ◌++◌, map, flat_map, IsPermutation};
-    ghost use Rattle.tl_county.specs.County.{county_of, five_feat, one_tlid, p_key, side_keys};
+    ghost use Rattle.county_chart.specs.County.{county_of, five_feat, one_tlid, p_key, side_keys};
     ghost use Rattle.ordered_lists.specs.Keyed.{IsLeastPassing, is_unknown};
-    ghost use Rattle.tl_county.specs.Limits.{IsWithinLimits, most_records};
-    ghost use Rattle.tl_county.specs.LinkRules.{IsLinked};
+    ghost use Rattle.county_chart.specs.Limits.{IsWithinLimits, most_records};
+    ghost use Rattle.county_chart.specs.LinkRules.{IsLinked};
     ghost use Rattle.tl_county.specs.OrderedTables.{ordered_of, AreInOrder};
     ghost use Rattle.ordered_lists.specs.Orders.{distinct};
-    ghost use Rattle.tl_county.specs.Packing.{Typed, type_after_type};
-    ghost use Rattle.tl_county.specs.PolygonKeys.{key_cmp};
+    ghost use Rattle.county_chart.specs.Packing.{Typed, type_after_type};
+    ghost use Rattle.county_chart.specs.PolygonKeys.{key_cmp};
 
     ghost Value = { Typed };
 

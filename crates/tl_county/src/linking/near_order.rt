@@ -5,8 +5,8 @@ ghost use Rattle.ordered_lists.specs.Orders.{IsInOrder};
 ghost use Rattle.std.specs.Ordering.{on};
 ghost use Rattle.std.specs.Prelude.{map, OnOk, IfOk, IsPermutation};
 
-use crate::keys::keyed::{Keyed, put_in_order_with_repeated};
-use crate::keys::record_keys::PolygonKey;
+use crate::keys::repeated::put_in_order_with_repeated;
+use county_chart::{Keyed, PolygonKey, polygon_number};
 use ordered_lists::{Key, bring_close};
 use std::alloc::AllocError;
 
@@ -21,14 +21,6 @@ impl Numbered for (u64, u16) {
     fn number(&self) -> u64 {
         self.0.wrapping_shl(10) | u64::from(self.1)
     }
-}
-
-/// A number that mostly orders polygons as their keys do: CENID, and in the 24 bits below it POLYID, or the greatest number that
-/// fits.
-pub fn polygon_number(key: PolygonKey) -> u64 {
-    let [first, second, third, fourth, fifth] = key.0;
-    let cenid = u64::from_be_bytes([first, second, third, fourth, fifth, 0, 0, 0]);
-    cenid | key.1.min(0xff_ffff)
 }
 
 impl Numbered for PolygonKey {

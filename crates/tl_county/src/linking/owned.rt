@@ -8,7 +8,7 @@ use crate::linking::building::{
     surroundings_of,
 };
 use crate::linking::chain_heads::ChainHead;
-use crate::stored::landmark::Landmark;
+use county_chart::Landmark;
 use std::alloc::{AllocError, Global};
 use tl_layout::{Rec2, Rec7, Rec8};
 use tl_shape::{Chain, Shape};

@@ -2,24 +2,23 @@
 
 ghost use Rattle.std.specs.Ordering.{nat_cmp};
 ghost use Rattle.std.specs.Prelude.{◌≡◌, List, map, flat_map, ◌++◌, MatchResult, IfOk, IsPermutation};
-ghost use Rattle.tl_county.specs.County.{link_key, five_feat, i_tlid, one_tlid, p_key, side_keys};
+ghost use Rattle.county_chart.specs.County.{link_key, five_feat, i_tlid, one_tlid, p_key, side_keys};
 ghost use Rattle.ordered_lists.specs.Keyed.{IsLeastPassing, is_repeated};
 ghost use Rattle.tl_county.specs.Marks.{all_have_names, have_names};
 ghost use Rattle.ordered_lists.specs.Marks.{AreMarksOf};
 ghost use Rattle.tl_county.specs.OrderedTables.{ordered_of, AreInOrder};
 ghost use Rattle.ordered_lists.specs.Orders.{IsInOrder, distinct};
-ghost use Rattle.tl_county.specs.Packing.{by_type};
-ghost use Rattle.tl_county.specs.PolygonKeys.{key_cmp};
+ghost use Rattle.county_chart.specs.Packing.{by_type};
+ghost use Rattle.county_chart.specs.PolygonKeys.{key_cmp};
 ghost use Rattle.tl_county.specs.RepeatedKeys.{AreLeastRepeated};
 ghost use Rattle.tl_county.specs.RuleOrder.{RulesHold, IsFirstFrom};
-ghost use Rattle.tl_county.specs.SequenceKeys.{is_unnamed, sequence_cmp, uses_of};
+ghost use Rattle.county_chart.specs.SequenceKeys.{is_unnamed, sequence_cmp, uses_of};
 ghost use Rattle.tl_layout.specs.declared.record_type.Record.{Record};
 
-use crate::fault::{LinkFault, LinkedType, SequencedType};
-use crate::keys::keyed::{least_repeated, least_unknown};
-use crate::keys::record_keys::PolygonKey;
+use crate::keys::repeated::least_repeated;
 use crate::linking::gathering::uses_in_order;
 use crate::linking::table_order::{OrderedTables, Repeated};
+use county_chart::{LinkFault, LinkedType, PolygonKey, SequencedType, least_unknown};
 use ordered_lists::{is_marked, marks_of, place_of};
 use std::alloc::{AllocError, Global};
 use tl_layout::{Rec2, Rec4, Rec5, Rec6, Rec7, Rec8};

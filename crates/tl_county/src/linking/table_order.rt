@@ -6,19 +6,19 @@
 
 ghost use Rattle.std.specs.Ordering.{nat_cmp, on};
 ghost use Rattle.std.specs.Prelude.{◌≡◌, map, OnOk, IfOk, IsPermutation};
-ghost use Rattle.tl_county.specs.BodyOrder.{link_cmp};
-ghost use Rattle.tl_county.specs.County.{five_feat, i_tlid, one_tlid, p_key};
+ghost use Rattle.county_chart.specs.BodyOrder.{landmark_cmp, link_cmp};
+ghost use Rattle.county_chart.specs.County.{five_feat, i_tlid, one_tlid, p_key};
 ghost use Rattle.ordered_lists.specs.Keyed.{IsLeastPassing, is_repeated};
-ghost use Rattle.tl_county.specs.OrderedTables.{landmark_cmp, ordered_of, typed_of, AreInOrder, ArePermuted};
-ghost use Rattle.tl_county.specs.PolygonKeys.{key_cmp};
+ghost use Rattle.tl_county.specs.OrderedTables.{ordered_of, typed_of, AreInOrder, ArePermuted};
+ghost use Rattle.county_chart.specs.PolygonKeys.{key_cmp};
 ghost use Rattle.ordered_lists.specs.PutInOrder.{IsPutInOrder};
 ghost use Rattle.tl_county.specs.RepeatedKeys.{AreLeastRepeated};
-ghost use Rattle.tl_county.specs.SequenceKeys.{sequence_cmp, two_sequence, four_sequence, six_sequence};
+ghost use Rattle.county_chart.specs.SequenceKeys.{sequence_cmp, two_sequence, four_sequence, six_sequence};
 
-use crate::keys::keyed::{put_in_order, put_in_order_with_repeated};
 use crate::keys::number_order::number_order;
-use crate::keys::record_keys::{LandmarkKey, LinkKey, PolygonKey};
+use crate::keys::repeated::put_in_order_with_repeated;
 use crate::linking::near_order::put_copies_in_order;
+use county_chart::{LandmarkKey, LinkKey, PolygonKey, put_in_order};
 use std::alloc::{AllocError, Global};
 use tl_layout::{Rec1, Rec2, Rec4, Rec5, Rec6, Rec7, Rec8, RecI, RecP, Tables};
 

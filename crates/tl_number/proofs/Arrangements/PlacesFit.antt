@@ -6,7 +6,7 @@ use Rattle.tl_number.proofs.Common.{key_keys, known_is_among, length-map, ltb-tr
 use Rattle.tl_number.proofs.Common.{packed_one, packed_sevens, polygon_keys, polygons_along, same-itself, stands_in, times, to_filter}
 use Rattle.std.specs.Prelude.{Option}
 use Rattle.ordered_lists.proofs.Lists.Counted.{few_in_groups}
-use Rattle.tl_county.specs.Laws.TypeCounts.{HasAtMost, by_type_within}
+use Rattle.county_chart.specs.Laws.TypeCounts.{HasAtMost, by_type_within}
 use Rattle.canonical_form.proofs.Arrangements.ArrangedNumbers.{few_landmarks, long_joined, short_joined, two_polygons}
 
 -- the places of chains, names, polygons and landmarks fit into 32 bits

@@ -3,9 +3,9 @@ use Rattle.tl_number.proofs.Common.{◌≡◌, [], ◌∷◌, refl, ap, arith, l
 use Rattle.tl_number.proofs.Common.{IsCanonical, IsLinked, Record, Renumbering, county-is_county, county_of, packed, subst, true≢false}
 use Rattle.std.proofs.lemmas.List.Sorted.{IsPermutation-refl}
 use Rattle.std.specs.List.Sorted.{IsStrictlySortedBy}
-use Rattle.tl_county.proofs.Rules.LinkFaults.{linked_computed}
-use Rattle.tl_county.proofs.Samples.Counties.{there, canonical_there, canonical_shaped, canonical_polygons, canonical_named}
-use Rattle.tl_county.proofs.Samples.Counties.{canonical_schools, canonical_meeting}
+use Rattle.county_chart.proofs.Rules.LinkFaults.{linked_computed}
+use Rattle.county_chart.proofs.Samples.Counties.{there, canonical_there, canonical_shaped, canonical_polygons, canonical_named}
+use Rattle.county_chart.proofs.Samples.Counties.{canonical_schools, canonical_meeting}
 use Rattle.canonical_form.proofs.Arrangements.ArrangedPacking.{packed_arranged}
 use Rattle.canonical_form.proofs.CanonicalLists.OneChoice.{strict_is_canonical}
 

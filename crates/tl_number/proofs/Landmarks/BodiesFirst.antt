@@ -3,8 +3,8 @@ use Rattle.tl_number.proofs.Common.{◌≡◌, ◌∙◌, ℕ, List, map, length
 use Rattle.tl_number.proofs.Common.{IsPermutation, IsPermutation-map, IsPermutation-sym, IsPermutation-trans, arranged, in_order-in_order, in_order-is_permutation}
 use Rattle.tl_number.proofs.Common.{in_order-map, in_order-permutation, landmark_body_cmp, landmark_key, landmark_key_cmp, landmarks_in_order, length-map}
 use Rattle.tl_number.proofs.Common.{link_part_cmp, links_relinked, lists_keys, map-map, on, on_total, renaming_of, slice_cmp}
-use Rattle.tl_county.specs.Laws.KeyOrders.{landmark_body_keys}
-use Rattle.tl_county.specs.Renumbering.{carried_landmark}
+use Rattle.county_chart.specs.Laws.KeyOrders.{landmark_body_keys}
+use Rattle.county_chart.specs.Renumbering.{carried_landmark}
 use Rattle.canonical_form.specs.Growth.{up_to}
 use Rattle.canonical_form.specs.Uses.{links_of}
 use Rattle.canonical_form.proofs.Arrangements.Carrying.{lands_arranged, landmarks_arranged}

@@ -9,7 +9,7 @@ use Rattle.tl_number.proofs.Common.{links_up_to, links_with, ltb-true, map-appen
 use Rattle.tl_number.proofs.Common.{times, true≢false}
 use Rattle.std.proofs.lemmas.Bool.Decides.{leb_tells}
 use Rattle.std.proofs.lemmas.List.Filters.{length-filter_both}
-use Rattle.tl_county.proofs.Lists.OfNumber.{groups-permutation}
+use Rattle.county_chart.proofs.Lists.OfNumber.{groups-permutation}
 use Rattle.ordered_lists.proofs.Lists.AtPlaces.{all_at_places}
 use Rattle.ordered_lists.proofs.Lists.Counted.{filter-agree}
 use Rattle.canonical_form.proofs.Lists.Filtered.{filter-filtered}

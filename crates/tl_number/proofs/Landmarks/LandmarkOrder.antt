@@ -12,7 +12,7 @@ use Rattle.tl_number.proofs.Common.{links_relinked, links_with, ltb-true, map-ma
 use Rattle.tl_number.proofs.Common.{numbered_links, on, on_total, ordering_then, polygons_in_order, range_with_len, relinked, slice_cmp}
 use Rattle.tl_number.proofs.Common.{slice_get-map, stands_in, then_total, times, up_to}
 use Rattle.std.proofs.lemmas.Cmp.{lists_total}
-use Rattle.tl_county.specs.Laws.KeyOrders.{landmark_body_keys}
+use Rattle.county_chart.specs.Laws.KeyOrders.{landmark_body_keys}
 use Rattle.ordered_lists.proofs.ByKey.Keys.{image-injective}
 use Rattle.tl_number.specs.LandmarkItems.{own_links}
 use Rattle.canonical_form.specs.Uses.{links_of}

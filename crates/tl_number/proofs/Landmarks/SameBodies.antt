@@ -5,7 +5,7 @@ use Rattle.std.proofs.lemmas.Cmp.{lists_total}
 use Rattle.std.proofs.lemmas.List.{get_or-set_other, get_or-set_same, length-set}
 use Rattle.std.proofs.lemmas.List.FromFn.{get_or-range_with_len}
 use Rattle.ordered_lists.proofs.ByKey.Keys.{differ_apart, same_or_not}
-use Rattle.tl_county.specs.Laws.KeyOrders.{landmark_body_keys}
+use Rattle.county_chart.specs.Laws.KeyOrders.{landmark_body_keys}
 use Rattle.tl_number.specs.LandmarkItems.{HaveSameBodies}
 
 bodies_total : IsTotalOrder (slice_cmp landmark_body_cmp)

@@ -3,9 +3,9 @@ use Rattle.tl_number.proofs.Common.{◌≡◌, ◌∙◌, ◌∷◌, [], ℕ, ma
 use Rattle.tl_number.proofs.Common.{IsPermutation, IsPermutation-map, IsPermutation-sym, IsPermutation-trans, all_uses, arranged, carried_name}
 use Rattle.tl_number.proofs.Common.{in_order-in_order, in_order-map, in_order-permutation, length-map, map-map, name_key, name_key_cmp}
 use Rattle.tl_number.proofs.Common.{names_in_order, on, on_total, placed, renaming_of, slice_cmp, type_5_by_name, up_to, use_cmp, uses_of_name}
-use Rattle.tl_county.specs.BodyOrder.{name_body_cmp}
-use Rattle.tl_county.specs.Laws.KeyOrders.{name_body_keys}
-use Rattle.tl_county.specs.Packing.{packed_five}
+use Rattle.county_chart.specs.BodyOrder.{name_body_cmp}
+use Rattle.county_chart.specs.Laws.KeyOrders.{name_body_keys}
+use Rattle.county_chart.specs.Packing.{packed_five}
 use Rattle.canonical_form.proofs.Arrangements.Carrying.{feats_arranged, names_arranged, names_permutation}
 use Rattle.canonical_form.proofs.Lists.Counting.{entries_equal}
 use Rattle.canonical_form.proofs.Lists.Grouping.{in_order-weaker, then-first}

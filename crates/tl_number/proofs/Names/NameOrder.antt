@@ -9,9 +9,9 @@ use Rattle.tl_number.proofs.Common.{has_repeat-apart, length-map, length_permuta
 use Rattle.tl_number.proofs.Common.{names_in_order, nat_cmp_total, nat_keys, on_total, option_cmp, ordering_then, placed, range_with_len}
 use Rattle.tl_number.proofs.Common.{slice_cmp, slice_get-map, stands_in, then_total, times-append, times-yes, use_cmp, uses_from}
 use Rattle.tl_number.proofs.Common.{uses_of_name}
-use Rattle.tl_county.specs.BodyOrder.{name_body_cmp}
-use Rattle.tl_county.specs.ChartWords.{name_at}
-use Rattle.tl_county.specs.Laws.KeyOrders.{name_body_keys}
+use Rattle.county_chart.specs.BodyOrder.{name_body_cmp}
+use Rattle.county_chart.specs.ChartWords.{name_at}
+use Rattle.county_chart.specs.Laws.KeyOrders.{name_body_keys}
 use Rattle.tl_number.specs.NameItems.{rank_of, ranked_at, ranked_cmp, ranked_place}
 use Rattle.tl_number.specs.declared.name_order.RankedName.{RankedName}
 use Rattle.tl_number.proofs.Choices.AscendingArrangement.{options_total}

@@ -13,9 +13,9 @@ use Rattle.ordered_lists.proofs.ByKey.KeyOrders.{then-equal}
 use Rattle.ordered_lists.proofs.ByKey.Keys.{differ, differ_apart}
 use Rattle.ordered_lists.proofs.Lists.Counted.{filter-agree}
 use Rattle.ordered_lists.proofs.Lists.Ranges.{less}
-use Rattle.tl_county.specs.BodyOrder.{name_body_cmp}
-use Rattle.tl_county.specs.ChartWords.{name_under}
-use Rattle.tl_county.specs.Laws.KeyOrders.{name_body_keys}
+use Rattle.county_chart.specs.BodyOrder.{name_body_cmp}
+use Rattle.county_chart.specs.ChartWords.{name_under}
+use Rattle.county_chart.specs.Laws.KeyOrders.{name_body_keys}
 use Rattle.tl_number.specs.NameItems.{rank_of}
 use Rattle.tl_number.specs.OpenNames.{feats_in_order}
 use Rattle.canonical_form.proofs.Arrangements.Carrying.{names_permutation}

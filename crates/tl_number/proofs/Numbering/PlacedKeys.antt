@@ -6,7 +6,7 @@ use Rattle.tl_number.proofs.Common.{lt-ltb, position, same-itself, stands_in, ti
 use Rattle.std.specs.Prelude.{OnOk}
 use Rattle.std.proofs.lemmas.List.{get_or-set_other, get_or-set_same}
 use Rattle.std.proofs.lemmas.Option.{none-some, same_Some}
-use Rattle.tl_county.proofs.ByKey.PlacesOfCenids.{known_at}
+use Rattle.county_chart.proofs.ByKey.PlacesOfCenids.{known_at}
 use Rattle.tl_number.specs.PlacedKeys.{AreApart, ArePlaced}
 use Rattle.canonical_form.proofs.Numbering.SeenKeys.{place_found}
 use Rattle.canonical_form.proofs.Numbering.FoundPlaces.{any_within, none_within, to_position}

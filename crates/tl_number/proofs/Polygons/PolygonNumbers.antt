@@ -8,7 +8,7 @@ use Rattle.tl_number.proofs.Common.{in_order-permutation, key_cmp, key_keys, lef
 use Rattle.tl_number.proofs.Common.{numbered_from, on, on_total, placed, polygon_keys, polygons_along, polygons_by_number}
 use Rattle.tl_number.proofs.Common.{polygons_in_order, renaming_of, rights, slice_get-map, strict-map, under_cenid, under_number, up_to}
 use Rattle.std.specs.Option.{option_and_then}
-use Rattle.tl_county.specs.ChartWords.{polygon_under}
+use Rattle.county_chart.specs.ChartWords.{polygon_under}
 use Rattle.ordered_lists.specs.Entries.{value_under}
 use Rattle.ordered_lists.proofs.Lists.InOrder.{strict-permutation}
 use Rattle.ordered_lists.proofs.Lists.EntryLists.{in_order-strict, value-at_place}

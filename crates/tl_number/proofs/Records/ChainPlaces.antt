@@ -3,8 +3,8 @@ use Rattle.tl_number.proofs.Common.{◌≡◌, ◌+◌, ◌-◌, ◌<◌, ◌≤
 use Rattle.tl_number.proofs.Common.{refl, ap, ◌∙◌, subst, arith, AllByRecursion, Chain, Coordinates, County, FitsNumbers, IsCounty}
 use Rattle.tl_number.proofs.Common.{IsNumber, IsWithinLimits, chain_at, first_point, inner_points, last_point, most_records, points_of}
 use Rattle.tl_number.proofs.Common.{slice_get-map, tlids}
-use Rattle.tl_county.specs.Limits.{ListsFit, most_shape_points}
-use Rattle.tl_county.specs.Packing.{without_last}
+use Rattle.county_chart.specs.Limits.{ListsFit, most_shape_points}
+use Rattle.county_chart.specs.Packing.{without_last}
 use Rattle.tl_number.proofs.Records.Grouped.{some-same}
 
 -- a property of all elements of a list is a property of the element at a place

@@ -4,7 +4,7 @@ use Rattle.tl_number.proofs.Common.{option_map, slice_get, map, refl, ap, ◌∙
 use Rattle.tl_number.proofs.Common.{slice_get-map}
 use Rattle.std.proofs.lemmas.Grind.{div_ceil_times}
 use Rattle.std.proofs.lemmas.List.{length-drop, drop-drop}
-use Rattle.tl_county.proofs.Packing.Pieces.{length-numbered_from}
+use Rattle.county_chart.proofs.Packing.Pieces.{length-numbered_from}
 use Rattle.tl_number.proofs.Polygons.PolygonNumbers.{numbered_at}
 
 module _ {X : Type 0} (n : ℕ) where

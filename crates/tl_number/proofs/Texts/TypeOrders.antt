@@ -4,9 +4,9 @@ use Rattle.tl_number.proofs.Common.{Eight, Five, Four, I, IsCounty, IsWithinLimi
 use Rattle.tl_number.proofs.Common.{length-map, most_records, ordering_then, packed, packed_by_type, records_cmp, slice_cmp, spelling_cmp}
 use Rattle.tl_number.proofs.Common.{text_of, tied_itself, type_1_by_chain, type_2_by_chain, type_4_by_chain, types_1_to_4, types_5_to_7}
 use Rattle.tl_number.proofs.Common.{types_8_to_p}
-use Rattle.tl_county.proofs.Limits.CarriedLimits.{carried_many}
-use Rattle.tl_county.proofs.Limits.FitsPacked.{packed-fits}
-use Rattle.tl_county.specs.Laws.TypeCounts.{HasAsMany}
+use Rattle.canonical_form.proofs.Limits.CarriedLimits.{carried_many}
+use Rattle.county_chart.proofs.Limits.FitsPacked.{packed-fits}
+use Rattle.county_chart.specs.Laws.TypeCounts.{HasAsMany}
 use Rattle.tl_number.specs.RecordOrder.{types_1_to_4_cmp, types_5_to_7_cmp, types_8_to_p_cmp}
 use Rattle.tl_number.proofs.Texts.GroupOrders.{records_total}
 use Rattle.tl_number.proofs.Records.PackedGroups.{all_groups, ones, twos, fours, fives, sixes, sevens, eights, is}

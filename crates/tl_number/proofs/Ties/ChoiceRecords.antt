@@ -7,12 +7,12 @@ use Rattle.ordered_lists.proofs.ByKey.Keys.{known-left}
 use Rattle.ordered_lists.proofs.Lists.ByPlace.{all_at}
 use Rattle.ordered_lists.specs.Entries.{value_under}
 use Rattle.std.specs.Option.{option_and_then}
-use Rattle.tl_county.specs.ChartWords.{polygon_under}
-use Rattle.tl_county.specs.CountyRules.{chain_nodes, chain_polygons}
-use Rattle.tl_county.specs.Limits.{FitsNumbers, FitsPolygon}
-use Rattle.tl_county.specs.PolygonKeys.{key_on}
-use Rattle.tl_county.specs.Renumbering.{Renumbering, renumbered_side}
-use Rattle.tl_county.proofs.Limits.FieldsFit.{polygon_cenid_fits}
+use Rattle.county_chart.specs.ChartWords.{polygon_under}
+use Rattle.county_chart.specs.CountyRules.{chain_nodes, chain_polygons}
+use Rattle.county_chart.specs.Limits.{FitsNumbers, FitsPolygon}
+use Rattle.county_chart.specs.PolygonKeys.{key_on}
+use Rattle.county_chart.specs.Renumbering.{Renumbering, renumbered_side}
+use Rattle.county_chart.proofs.Limits.FieldsFit.{polygon_cenid_fits}
 use Rattle.tl_layout.specs.Bytes.{IsText}
 use Rattle.tl_number.specs.ChoiceSearch.{LeavesChoices}
 use Rattle.tl_number.specs.TieRecords.{numbered_node, numbered_polygon, numbered_side}

@@ -7,7 +7,7 @@ use Rattle.std.proofs.lemmas.List.Elements.{filter-append}
 use Rattle.std.specs.Option.{option_and_then}
 use Rattle.ordered_lists.proofs.ByKey.Keys.{known-later}
 use Rattle.ordered_lists.proofs.Lists.Reordered.{stands_alike}
-use Rattle.tl_county.specs.ChartWords.{polygon_under}
+use Rattle.county_chart.specs.ChartWords.{polygon_under}
 use Rattle.tl_number.specs.CriticalKeys.{brings, fixed_keys, has_new}
 use Rattle.tl_number.specs.CriticalPlaces.{critical_from}
 use Rattle.tl_number.specs.declared.open_keys.OpenKeys.{OpenKeys}

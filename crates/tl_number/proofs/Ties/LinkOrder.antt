@@ -7,7 +7,7 @@ use Rattle.tl_number.proofs.Common.{first_open, first_seen, grouped, groups_cmp,
 use Rattle.tl_number.proofs.Common.{numbered, numbered_arrangement, place_in}
 use Rattle.tl_number.proofs.Common.{stands_in, times}
 use Rattle.tl_number.proofs.Common.{type_8_together, under_cenid}
-use Rattle.tl_county.specs.CountyRules.{chain_polygons}
+use Rattle.county_chart.specs.CountyRules.{chain_polygons}
 use Rattle.tl_number.specs.ChoiceSearch.{LeavesChoices}
 use Rattle.tl_number.specs.OpenKeys.{ArePlacedBy, all_by_order, key_by_order, place_by_order}
 use Rattle.tl_number.specs.declared.tie_tables.TieTables.{TieTables}

@@ -8,8 +8,8 @@ use Rattle.tl_number.proofs.Common.{on_total, ordering_then, packed_fours, refl,
 use Rattle.tl_number.proofs.Common.{tied_itself, type_4_by_chain}
 use Rattle.std.proofs.lemmas.Bool.{or_parts, or_right}
 use Rattle.std.proofs.lemmas.Cmp.{lists_total}
-use Rattle.tl_county.proofs.Limits.CarriedLimits.{carried_many}
-use Rattle.tl_county.proofs.Packing.PackedCounty.{pieces_together}
+use Rattle.canonical_form.proofs.Limits.CarriedLimits.{carried_many}
+use Rattle.canonical_form.proofs.Packing.PackedCounty.{pieces_together}
 use Rattle.tl_layout.specs.FieldTexts.{number_text, rows_texts}
 use Rattle.tl_layout.specs.RecordText.{FitsRecord, spelling_of}
 use Rattle.tl_layout.specs.RecordTables.{table_4}

@@ -12,8 +12,8 @@ use Rattle.std.proofs.lemmas.Option.{get_or_from_slice_get}
 use Rattle.ordered_lists.proofs.ByKey.Keys.{apart-filter}
 use Rattle.ordered_lists.proofs.Lists.Elements.{flat_map_agree}
 use Rattle.ordered_lists.proofs.Lists.EntryLists.{value-at_place}
-use Rattle.tl_county.specs.BodyOrder.{name_body_cmp}
-use Rattle.tl_county.specs.ChartWords.{name_under}
+use Rattle.county_chart.specs.BodyOrder.{name_body_cmp}
+use Rattle.county_chart.specs.ChartWords.{name_under}
 use Rattle.tl_number.specs.NameItems.{rank_of, ranked_at, ranked_cmp, ranked_place}
 use Rattle.tl_number.specs.OpenNames.{chain_feats, feats_among, feats_in_order, open_feats}
 use Rattle.tl_number.specs.declared.name_order.RankedName.{RankedName}

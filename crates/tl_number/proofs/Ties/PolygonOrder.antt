@@ -7,9 +7,9 @@ use Rattle.tl_number.proofs.Common.{key_keys, keys_along, list_any, place_in, le
 use Rattle.tl_number.proofs.Common.{range_with_len, records_cmp, slice_cmp, slice_get-get_or, slice_get-map, slice_get_past, spelling_cmp, spelling_of, stands_in, tied_itself, type_p_by_number, under_number}
 use Rattle.std.proofs.lemmas.Bool.{or_parts}
 use Rattle.std.specs.Option.{option_and_then}
-use Rattle.tl_county.specs.ChartWords.{polygon_under}
-use Rattle.tl_county.specs.CountyRules.{chain_polygons}
-use Rattle.tl_county.specs.Packing.{packed_body}
+use Rattle.county_chart.specs.ChartWords.{polygon_under}
+use Rattle.county_chart.specs.CountyRules.{chain_polygons}
+use Rattle.county_chart.specs.Packing.{packed_body}
 use Rattle.tl_layout.specs.RecordText.{FitsRecord}
 use Rattle.tl_number.specs.ChoiceSearch.{LeavesChoices}
 use Rattle.tl_number.specs.CriticalPlaces.{has_record, is_open_number}
@@ -25,7 +25,7 @@ use Rattle.tl_number.proofs.Ties.RecordExact.{polygon_exact, polygons_fit}
 use Rattle.tl_number.proofs.Ties.TieNumbers.{all_alike, key_is, whole_numbered}
 use Rattle.tl_number.proofs.Ties.TopologyOrder.{all_polygons, turned_polygons}
 use Rattle.tl_number.proofs.Views.ViewChains.{arranges}
-use Rattle.tl_county.proofs.Packing.Pieces.{length-numbered_from}
+use Rattle.county_chart.proofs.Packing.Pieces.{length-numbered_from}
 
 -- groups of at most one element each, read by place
 read_groups : {X : Type 0} (f : ℕ → Option X) (groups : List (List X)) (p : ℕ)

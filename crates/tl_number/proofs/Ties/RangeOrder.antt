@@ -5,7 +5,7 @@ use Rattle.tl_number.proofs.Common.{OpenPlace, Ranges, Six, arith, ap, ap₂, ar
 use Rattle.tl_number.proofs.Common.{nat_cmp, nat_list_cmp_total, numbered_from, on, on_total, packed_sixes, ranges_of, refl, slice_cmp, slice_get}
 use Rattle.tl_number.proofs.Common.{spelling_cmp, sym, tied_itself, type_6_by_chain}
 use Rattle.std.proofs.lemmas.Cmp.{lists_total}
-use Rattle.tl_county.proofs.Limits.CarriedLimits.{carried_many}
+use Rattle.canonical_form.proofs.Limits.CarriedLimits.{carried_many}
 use Rattle.tl_layout.specs.FieldTexts.{number_text, rows_texts}
 use Rattle.tl_layout.specs.RecordText.{spelling_of}
 use Rattle.tl_layout.specs.RecordTables.{table_6}

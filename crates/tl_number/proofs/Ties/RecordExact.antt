@@ -3,7 +3,7 @@ use Rattle.tl_number.proofs.Common.{◌≡◌, ◌∙◌, ◌++◌, map, Equal, 
 use Rattle.tl_number.proofs.Common.{IsCounty, IsWithinLimits, P, all_left, all_right, all_unmap, grouped, lists_keys, most_records, nat_keys, spelling_cmp}
 use Rattle.tl_number.proofs.Common.{One, Two, topologies_of, type_1_by_chain, type_2_by_chain, type_4_by_chain, type_8_together}
 use Rattle.tl_number.proofs.Common.{type_p_by_number, types_1_to_4, types_5_to_7, types_8_to_p}
-use Rattle.tl_county.proofs.Limits.FitsPacked.{packed-fits}
+use Rattle.county_chart.proofs.Limits.FitsPacked.{packed-fits}
 use Rattle.tl_layout.specs.Laws.TypeLaws.{layout_laws}
 use Rattle.tl_layout.specs.RecordText.{FitsRecord, spelling_of}
 use Rattle.tl_layout.specs.RecordTypes.{Type4, TypeI, TypeP, fields_spelling, reading_of}

@@ -9,9 +9,9 @@ use Rattle.tl_number.proofs.Common.{rights-numbered_from, slice_cmp, spelling_cm
 use Rattle.std.proofs.lemmas.Bool.{or_parts}
 use Rattle.ordered_lists.proofs.Lists.ByPlace.{all_at}
 use Rattle.ordered_lists.specs.Places.{at_places}
-use Rattle.tl_county.specs.CountyRules.{chain_nodes, chain_polygons}
-use Rattle.tl_county.specs.PolygonKeys.{PolygonKey, key_on}
-use Rattle.tl_county.specs.Renumbering.{renumbered_side}
+use Rattle.county_chart.specs.CountyRules.{chain_nodes, chain_polygons}
+use Rattle.county_chart.specs.PolygonKeys.{PolygonKey, key_on}
+use Rattle.county_chart.specs.Renumbering.{renumbered_side}
 use Rattle.tl_layout.specs.RecordText.{FitsRecord}
 use Rattle.tl_shape.specs.Turned.{turned}
 use Rattle.tl_number.specs.ChoiceSearch.{LeavesChoices}

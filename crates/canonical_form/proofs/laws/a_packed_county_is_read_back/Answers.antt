@@ -1,4 +1,4 @@
-use Rattle.canonical_form.proofs.Common.{packed_county}
+use Rattle.canonical_form.proofs.Packing.PackedCounty.{packed_county}
 use Rattle.canonical_form.proofs.laws.a_packed_county_is_read_back.Goals as goal
 
 pub returns : goal.returns

@@ -1,8 +1,8 @@
 //! Admission within whole calls, of a county over linked records, with growths refused as is asked for.
 
 ghost use Rattle.std.specs.Prelude.{◌≡◌};
-ghost use Rattle.tl_county.specs.County.{county_of};
-ghost use Rattle.tl_county.specs.Packing.{type_after_type};
+ghost use Rattle.county_chart.specs.County.{county_of};
+ghost use Rattle.county_chart.specs.Packing.{type_after_type};
 
 use super::super::Host;
 use super::super::comparing::same;

@@ -1,6 +1,6 @@
 //! Loaders with growths refused as requested.
 
-ghost use Rattle.tl_county.specs.Limits.{HoldsWithinLimits};
+ghost use Rattle.county_chart.specs.Limits.{HoldsWithinLimits};
 
 use super::super::Host;
 use super::super::comparing::same;

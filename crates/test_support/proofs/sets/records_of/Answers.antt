@@ -1,6 +1,6 @@
 use Rattle.std.proofs.Common.{[]}
 use Rattle.std.proofs.lemmas.Result.{IfOk-weaker}
-use Rattle.tl_county.specs.Limits.{most_records}
+use Rattle.county_chart.specs.Limits.{most_records}
 use Rattle.tl_load.proofs.RecordLines.{accepted_within}
 use Rattle.tl_load.specs.Choice.{tiger}
 use Rattle.tl_load.specs.Loaded.{all_parts}

@@ -2,7 +2,7 @@ use Rattle.std.proofs.Common.{◌≡◌, ◌∙◌, ap, subst, sym}
 use Rattle.tigercanon.specs.LentParts.{bytes_of_parts}
 use Rattle.tigercanon.specs.Normalising.{IsOnlyTextThrough}
 use Rattle.tigercanon.specs.Sets.{IsOneCanonicalTextThrough}
-use Rattle.tl_county.specs.MaskedCounty.{masked}
+use Rattle.county_chart.specs.MaskedCounty.{masked}
 use Rattle.tigercanon_c.proofs.calls.normalise_parts.Goals as goal
 
 pub returns-in-Ok-clause-only : goal.returns-in-Ok-clause-only

@@ -2,7 +2,7 @@ use Rattle.std.proofs.Common.{◌≡◌, ◌∙◌, List, ℕ, inr, subst, sym}
 use Rattle.tigercanon.specs.Normalising.{IsOnlyTextThrough}
 use Rattle.tigercanon.specs.Sets.{IsOneCanonicalTextThrough}
 use Rattle.tigercanon_c.specs.Answers.{bytes_of_lent, mask_of}
-use Rattle.tl_county.specs.MaskedCounty.{masked}
+use Rattle.county_chart.specs.MaskedCounty.{masked}
 use Rattle.tigercanon_c.proofs.edge.tigercanon_normalise.Goals as goal
 
 pub returns-in-Ok-clause-only : goal.returns-in-Ok-clause-only

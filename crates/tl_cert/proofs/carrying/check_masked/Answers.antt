@@ -1,5 +1,5 @@
 use Rattle.tl_cert.proofs.Common.{IfOk, ap, ◌∙◌, subst, Decides, County, Carries}
-use Rattle.tl_county.specs.MaskedCounty.{masked}
+use Rattle.county_chart.specs.MaskedCounty.{masked}
 use Rattle.tl_cert.proofs.carrying.check_masked.Goals as goal
 
 pub returns : goal.returns

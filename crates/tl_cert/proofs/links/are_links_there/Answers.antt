@@ -1,4 +1,4 @@
-use Rattle.tl_county.specs.Renumbering.{carried_link}
+use Rattle.county_chart.specs.Renumbering.{carried_link}
 use Rattle.tl_cert.proofs.LinksCarried.{links_decided}
 use Rattle.tl_cert.proofs.links.are_links_there.Goals as goal
 

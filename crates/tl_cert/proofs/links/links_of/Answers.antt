@@ -1,6 +1,6 @@
 use Rattle.tl_cert.proofs.Common.{◌++◌, take, ap, refl, sym, ◌∙◌, subst, IsPermutation, lands}
 use Rattle.std.proofs.lemmas.List.{length-map}
-use Rattle.tl_county.specs.ChartWords.{links_at}
+use Rattle.county_chart.specs.ChartWords.{links_at}
 use Rattle.tl_cert.proofs.LinksCarried.{under_lands, next_land, all_lands}
 use Rattle.ordered_lists.proofs.Lists.ByPlace.{taken_all}
 use Rattle.tl_cert.proofs.links.links_of.Goals as goal

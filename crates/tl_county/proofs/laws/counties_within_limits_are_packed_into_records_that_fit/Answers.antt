@@ -1,4 +1,4 @@
-use Rattle.tl_county.proofs.Limits.FitsPacked.{packed-fits}
+use Rattle.county_chart.proofs.Limits.FitsPacked.{packed-fits}
 use Rattle.tl_county.proofs.laws.counties_within_limits_are_packed_into_records_that_fit.Goals as goal
 
 pub returns : goal.returns

@@ -1,4 +1,4 @@
-use Rattle.tl_county.proofs.Rules.LinkFaults.{linked_or_first}
+use Rattle.county_chart.proofs.Rules.LinkFaults.{linked_or_first}
 use Rattle.tl_county.proofs.laws.linked_or_one_first_broken_rule.Goals as goal
 
 pub returns-clause-either : goal.returns-clause-either

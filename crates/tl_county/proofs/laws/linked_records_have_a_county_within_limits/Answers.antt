@@ -1,4 +1,4 @@
-use Rattle.tl_county.proofs.Limits.FitsCounty.{county-within_limits}
+use Rattle.county_chart.proofs.Limits.FitsCounty.{county-within_limits}
 use Rattle.tl_county.proofs.laws.linked_records_have_a_county_within_limits.Goals as goal
 
 pub returns : goal.returns

@@ -1,4 +1,4 @@
-use Rattle.tl_county.proofs.Sameness.Equivalence.{identity_carries, inverse_carries, then_carries}
+use Rattle.county_chart.proofs.Sameness.Equivalence.{identity_carries, inverse_carries, then_carries}
 use Rattle.tl_county.proofs.laws.renamings_compose.Goals as goal
 
 pub returns-clause-identity : goal.returns-clause-identity

@@ -1,6 +1,6 @@
 use Rattle.std.proofs.Common.{◌≡◌, map, length, sym, ap, ◌∙◌, subst, nat_cmp}
-use Rattle.tl_county.proofs.Common.{chains_along, entries-equal, keys-map_values, keys-zip, length-map, map_values}
-use Rattle.tl_county.proofs.Common.{one_tlid, ordered_of, values-map_values, values-zip}
+use Rattle.tl_county.proofs.Common.{chains_along, entries-equal, keys-map_values, keys-zip, length-map, map_values, one_tlid}
+use Rattle.tl_county.proofs.Common.{ordered_of, values-map_values, values-zip}
 use Rattle.std.specs.List.Sorted.{IsStrictlySortedBy}
 use Rattle.ordered_lists.specs.Places.{at_places}
 use Rattle.tl_county.proofs.Rules.BuiltTables.{tlids-ascend, beside, length-chains_along}

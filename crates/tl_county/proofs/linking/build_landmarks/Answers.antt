@@ -1,6 +1,6 @@
 use Rattle.std.proofs.Common.{rules, ◌≡◌, ℕ, List, map, map-id, sym, ap, ◌∙◌, nat_cmp}
-use Rattle.tl_county.proofs.Common.{distinct, distinct-strict, entries-equal, keys-map_values, landmark_of, map-map, map_values, nat_keys}
-use Rattle.tl_county.proofs.Common.{seven_land, values-map_values}
+use Rattle.tl_county.proofs.Common.{distinct, distinct-strict, entries-equal, keys-map_values, landmark_of, map-map, map_values}
+use Rattle.tl_county.proofs.Common.{nat_keys, seven_land, values-map_values}
 use Rattle.tl_county.proofs.Rules.TlidsInOrder.{tables_in_order}
 use Rattle.tl_county.proofs.linking.build_landmarks.Goals as goal
 

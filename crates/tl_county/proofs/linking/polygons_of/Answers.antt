@@ -1,10 +1,10 @@
 use Rattle.std.proofs.Common.{◌≡◌, ◌&&◌, ◌++◌, List, ap, flat_map, map, not, ◌∙◌}
-use Rattle.tl_county.proofs.Common.{FieldsI, IsLeastPassing, PolygonKey, distinct, distinct_same, is_unknown, key_cmp, key_keys, least-same}
-use Rattle.tl_county.proofs.Common.{ordered_of, p_key, side_keys, stands_in}
+use Rattle.tl_county.proofs.Common.{FieldsI, IsLeastPassing, PolygonKey, distinct, distinct_same, is_unknown, key_cmp, key_keys}
+use Rattle.tl_county.proofs.Common.{least-same, ordered_of, p_key, side_keys, stands_in}
 use Rattle.std.proofs.lemmas.Result.{IfOk-weaker}
 use Rattle.ordered_lists.proofs.Lists.Reordered.{from_permutation}
-use Rattle.tl_county.proofs.ByKey.KeySets.{distinct-more}
-use Rattle.tl_county.proofs.Sameness.Carried.{pieces_alike}
+use Rattle.county_chart.proofs.ByKey.KeySets.{distinct-more}
+use Rattle.county_chart.proofs.Sameness.Carried.{pieces_alike}
 use Rattle.tl_county.proofs.linking.polygons_of.Goals as goal
 
 pub returns-clause-keys : goal.returns-clause-keys

@@ -1,5 +1,5 @@
 use Rattle.tl_number.proofs.Common.{subst, Carries, County, IfOk-weaker, arranged_county, masked}
-use Rattle.tl_county.proofs.Masks.MaskedCounties.{masked_twice, carried_masked}
+use Rattle.canonical_form.proofs.Masks.MaskedCounties.{masked_twice, carried_masked}
 use Rattle.tl_number.proofs.masking.canonise_masked.Goals as goal
 
 pub returns-clause-own : goal.returns-clause-own

@@ -1,5 +1,5 @@
 use Rattle.tl_number.proofs.Common.{◌≡◌, ◌∙◌, ◌⊎◌, ◌∷◌, [], ap, ap₂, sym, append-nil, inl, inr, false, Eight, Equal, Fields8, List, arranged_by, first_open, groups_cmp, key_cmp, keys_along, map, records_cmp, type_8_together}
-use Rattle.tl_county.specs.CountyRules.{chain_polygons}
+use Rattle.county_chart.specs.CountyRules.{chain_polygons}
 use Rattle.tl_number.proofs.Ties.LinkOrder.{links_tie}
 use Rattle.tl_number.proofs.tie_links.compare_links.Given.{Over}
 use Rattle.tl_number.proofs.tie_links.compare_links.Goals as goal

@@ -1,5 +1,5 @@
 use Rattle.tl_number.proofs.Common.{◌≡◌, ◌∙◌, ap, sym, subst, AreWhole, arranged_by, arrangement_of, first_open, key_cmp, keys_along, numbered_arrangement, polygons_in_order}
-use Rattle.tl_county.specs.CountyRules.{chain_polygons}
+use Rattle.county_chart.specs.CountyRules.{chain_polygons}
 use Rattle.tl_number.specs.LandmarkItems.{HaveSameBodies}
 use Rattle.tl_number.specs.OpenKeys.{all_by_order}
 use Rattle.tl_number.proofs.Arrangements.PlacesFit.{places_fit}

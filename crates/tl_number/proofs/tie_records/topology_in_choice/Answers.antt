@@ -2,7 +2,7 @@ use Rattle.tl_number.proofs.Common.{◌≡◌, ◌<◌, ◌+◌, ◌∙◌, ap, 
 use Rattle.tl_number.proofs.Common.{directed_chain, ends_of, option_map, renumbered, sides_of, slice_get, length, numbered_arrangement}
 use Rattle.tl_number.proofs.Common.{ℕ, Bool, None, PolygonSide, arranged_by, chain_at, County, refl, topologies_of, true, false, turned_if}
 use Rattle.tl_layout.specs.declared.type_i.BodyI.{BodyI}
-use Rattle.tl_county.specs.Limits.{FitsNumbers}
+use Rattle.county_chart.specs.Limits.{FitsNumbers}
 use Rattle.tl_number.specs.TieRecords.{numbered_node, numbered_side}
 use Rattle.tl_number.proofs.Texts.TypeOnes.{StepThere, directed_there}
 use Rattle.tl_number.proofs.Ties.ChoiceRecords.{directed_at, directed_in, ends_read, few_places, nodes_counted, numbers_fit, polygons_counted, sides_read}

@@ -1,7 +1,7 @@
 use Rattle.tl_number.proofs.Common.{Ok, Result, ap, arith, length, nat_cmp, rules, subst, sym, ◌∙◌, ◌≡◌}
 use Rattle.std.specs.Prelude.{IfOk, false}
-use Rattle.tl_county.specs.CountyRules.{chain_nodes, chain_polygons}
-use Rattle.tl_county.specs.PolygonKeys.{key_cmp}
+use Rattle.county_chart.specs.CountyRules.{chain_nodes, chain_polygons}
+use Rattle.county_chart.specs.PolygonKeys.{key_cmp}
 use Rattle.tl_number.specs.CriticalPlaces.{critical_among, critical_from, has_open_link}
 use Rattle.tl_number.specs.LandmarkItems.{HaveSameBodies}
 use Rattle.tl_number.specs.OpenKeys.{AreOpenKeys, keys_along}

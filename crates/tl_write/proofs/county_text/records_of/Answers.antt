@@ -1,6 +1,6 @@
 use Rattle.std.proofs.Common.{◌++◌, ◌∙◌, List, sym, ap, subst}
 use Rattle.tl_layout.specs.declared.record_type.Record.{Record}
-use Rattle.tl_county.specs.Packing.{packed}
+use Rattle.county_chart.specs.Packing.{packed}
 use Rattle.std.proofs.Math.Logic.{∥∥₁_elim}
 use Rattle.canonical_form.specs.Canonical.{IsCanonical}
 use Rattle.tl_number.specs.CanonCounties.{IsCanonCounty, IsCanonCounty-prop}

@@ -1,6 +1,6 @@
 use Rattle.std.proofs.Common.{◌≡◌, subst, sym}
-use Rattle.tl_county.specs.County.{county_of}
-use Rattle.tl_county.specs.Packing.{packed}
+use Rattle.county_chart.specs.County.{county_of}
+use Rattle.county_chart.specs.Packing.{packed}
 use Rattle.tl_profile.specs.Profile.{IsInProfile}
 use Rattle.canonical_form.specs.Accepted.{IsAccepted, IsCanonicalOf}
 use Rattle.canonical_form.specs.Arrangement.{arranged}

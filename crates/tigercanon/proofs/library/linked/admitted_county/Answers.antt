@@ -1,7 +1,7 @@
 use Rattle.tigercanon.proofs.Common.{◌∙◌, subst, sym, err_from_is_err_and, County, IsFirstBrokenClause}
-use Rattle.tl_county.specs.CountyRules.{is_without_chain}
+use Rattle.county_chart.specs.CountyRules.{is_without_chain}
 use Rattle.ordered_lists.specs.Keyed.{IsLeastPassing}
-use Rattle.tl_county.specs.PolygonKeys.{key_cmp}
+use Rattle.county_chart.specs.PolygonKeys.{key_cmp}
 use Rattle.tigercanon.proofs.library.linked.admitted_county.Goals as goal
 
 pub admit_linked-requires : goal.admit_linked-requires

@@ -1,7 +1,7 @@
 use Rattle.tl_cert.proofs.Common.{◌≡◌, ap, ◌∙◌, nat_cmp, option_map, arith, turned_if, image, turns, renumbered, decides_over}
-use Rattle.tl_county.specs.ChartWords.{chain_at, chain_under}
+use Rattle.county_chart.specs.ChartWords.{chain_at, chain_under}
 use Rattle.tl_cert.specs.PartsThere.{chain_carried}
-use Rattle.tl_county.proofs.Limits.FewChains.{few_chains}
+use Rattle.county_chart.proofs.Limits.FewChains.{few_chains}
 use Rattle.tl_cert.proofs.Places.{decides_entry}
 use Rattle.tl_cert.proofs.chains.ChainsTested.holds.Goals as goal
 

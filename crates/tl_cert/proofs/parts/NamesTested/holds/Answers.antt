@@ -1,5 +1,5 @@
 use Rattle.tl_cert.proofs.Common.{◌∙◌, nat_cmp, image}
-use Rattle.tl_county.specs.ChartWords.{name_under}
+use Rattle.county_chart.specs.ChartWords.{name_under}
 use Rattle.tl_cert.proofs.Places.{decides_found}
 use Rattle.tl_cert.proofs.parts.NamesTested.holds.Goals as goal
 

@@ -1,5 +1,5 @@
 use Rattle.tl_cert.proofs.Common.{◌∙◌, key_cmp, image}
-use Rattle.tl_county.specs.ChartWords.{polygon_under}
+use Rattle.county_chart.specs.ChartWords.{polygon_under}
 use Rattle.tl_cert.proofs.Places.{decides_found}
 use Rattle.tl_cert.proofs.parts.PolygonsTested.holds.Goals as goal
 

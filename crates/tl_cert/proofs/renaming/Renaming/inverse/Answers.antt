@@ -1,6 +1,6 @@
 use Rattle.tl_cert.proofs.Common.{◌∙◌, ap, ap₂, sym, subst, map, filter, nat_cmp, Carries, image, is_named}
 use Rattle.ordered_lists.specs.Pairs.{swapped}
-use Rattle.tl_county.proofs.Sameness.Equivalence.{inverse_carries}
+use Rattle.county_chart.proofs.Sameness.Equivalence.{inverse_carries}
 use Rattle.tl_cert.proofs.renaming.Renaming.inverse.Goals as goal
 
 pub returns-clause-value : goal.returns-clause-value

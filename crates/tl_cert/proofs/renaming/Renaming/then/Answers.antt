@@ -1,5 +1,5 @@
 use Rattle.tl_cert.proofs.Common.{◌≡◌, ◌∙◌, ap₂, sym, subst, map, filter, nat_cmp, key_cmp, Carries, composed}
-use Rattle.tl_county.proofs.Sameness.Equivalence.{then_carries}
+use Rattle.county_chart.proofs.Sameness.Equivalence.{then_carries}
 use Rattle.tl_cert.specs.Images.{is_turned_once}
 use Rattle.tl_cert.proofs.renaming.Renaming.then.Goals as goal
 

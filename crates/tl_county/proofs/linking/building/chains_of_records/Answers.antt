@@ -1,7 +1,7 @@
 use Rattle.std.proofs.Common.{◌≡◌, ◌∷◌, ◌++◌, ◌+◌, ◌≤◌, ◌<◌, ◌⊎◌, List, [], append-nil, ap, arith, drop, inl, inr, is_gt, length, map, min, nat_cmp}
 use Rattle.std.proofs.Common.{refl, sym, ◌∙◌, subst, ℕ}
-use Rattle.tl_county.proofs.Common.{Fields1, Fields2, Fields4, Fields6, FieldsI, IsInOrder, chains_along, four_tlid, in_order-filter, on}
-use Rattle.tl_county.proofs.Common.{one_tlid, six_tlid, strict_tail, two_tlid}
+use Rattle.tl_county.proofs.Common.{Fields1, Fields2, Fields4, Fields6, FieldsI, IsInOrder, chains_along, four_tlid, in_order-filter}
+use Rattle.tl_county.proofs.Common.{on, one_tlid, six_tlid, strict_tail, two_tlid}
 use Rattle.std.proofs.lemmas.Bool.{cases_lt}
 use Rattle.std.proofs.lemmas.List.{drop_all, drop_more}
 use Rattle.std.proofs.Math.Nat.{min-le_left, min-le_right, min-eq_left, min-eq_right}

@@ -1,8 +1,8 @@
 use Rattle.std.proofs.Common.{◌≡◌, ◌++◌, List, map, flat_map, ap, sym, ◌∙◌, subst}
-use Rattle.tl_county.proofs.Common.{IsInOrder, IsLeastPassing, PolygonKey, distinct, distinct-in_order, distinct_same, is_unknown, key_cmp}
-use Rattle.tl_county.proofs.Common.{key_keys, least-same, p_key, side_keys}
-use Rattle.tl_county.proofs.ByKey.KeySets.{distinct-more, stands_in-distinct}
-use Rattle.tl_county.proofs.ByKey.PolygonSets.{keys_themselves}
+use Rattle.tl_county.proofs.Common.{IsInOrder, IsLeastPassing, PolygonKey, distinct, distinct-in_order, distinct_same, is_unknown}
+use Rattle.tl_county.proofs.Common.{key_cmp, key_keys, least-same, p_key, side_keys}
+use Rattle.county_chart.proofs.ByKey.KeySets.{distinct-more, stands_in-distinct}
+use Rattle.county_chart.proofs.ByKey.PolygonSets.{keys_themselves}
 use Rattle.tl_county.proofs.Rules.WithoutChain.{distinct-all_known, none_passes, unknown-distinct}
 use Rattle.tl_county.proofs.linking.gathering.gather_polygons.Goals as goal
 use Rattle.tl_county.proofs.linking.gathering.gather_polygons.Goals.{then-is_some+in_ok-push_points+in_ok-cenids-2+in_ok-keys-2, else-is_some}

@@ -1,8 +1,8 @@
 use Rattle.std.proofs.Common.{rules, ◌≡◌, ℕ, List, ◌++◌, map, flat_map, sym, ◌∙◌, subst, nat_cmp, Option, Some, None, arith, map-id}
 use Rattle.std.proofs.Common.{IsPermutation}
 use Rattle.tl_county.proofs.Common.{FieldsP, IsInOrder, IsLeastPassing, PolygonKey, Record, RulesHold, Typed, by_type, distinct}
-use Rattle.tl_county.proofs.Common.{distinct-in_order, eight_land, is_repeated, is_unknown, key_cmp, key_keys, least-same, link_key, p_key}
-use Rattle.tl_county.proofs.Common.{seven_land, side_keys, ordered_of}
+use Rattle.tl_county.proofs.Common.{distinct-in_order, eight_land, is_repeated, is_unknown, key_cmp, key_keys, least-same, link_key}
+use Rattle.tl_county.proofs.Common.{ordered_of, p_key, seven_land, side_keys}
 use Rattle.ordered_lists.proofs.ByKey.KeyedLists.{at_lists}
 use Rattle.tl_county.proofs.Rules.TlidsInOrder.{tables_in_order}
 use Rattle.tl_county.proofs.Rules.RuleOrders.{rule-holds, rule-broken, rules-join, first-after}

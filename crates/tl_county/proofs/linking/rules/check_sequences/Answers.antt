@@ -1,7 +1,7 @@
 use Rattle.std.proofs.Common.{rules, ℕ, List, map, refl, subst, Option, None, arith}
 use Rattle.tl_county.proofs.Common.{IsLeastPassing, Record, RulesHold, Typed, by_type, four_rtsq, four_tlid, is_repeated, sequence_cmp}
 use Rattle.tl_county.proofs.Common.{six_rtsq, six_tlid, two_rtsq, two_tlid}
-use Rattle.tl_county.specs.SequenceKeys.{two_sequence, four_sequence, six_sequence}
+use Rattle.county_chart.specs.SequenceKeys.{two_sequence, four_sequence, six_sequence}
 use Rattle.tl_county.proofs.Rules.RuleOrders.{rule-holds, rule-broken, rules-join, first-after}
 use Rattle.tl_county.proofs.Rules.RuleTests.{least-repeat, no_repeat, rule_13_two, rule_13_four, rule_13_six}
 use Rattle.tl_county.proofs.linking.rules.check_sequences.Goals as goal

@@ -1,5 +1,5 @@
 use Rattle.tl_number.proofs.Common.{◌∙◌, sym, arith, chain_at, points_of}
-use Rattle.tl_county.proofs.Limits.CarriedLimits.{length-inner}
+use Rattle.canonical_form.proofs.Limits.CarriedLimits.{length-inner}
 use Rattle.tl_number.proofs.Records.ChainPlaces.{few_inner, inner_at}
 use Rattle.tl_number.proofs.chain_records.ShapePointsListed.item.Goals as goal
 

@@ -1,8 +1,8 @@
 use Rattle.std.proofs.Common.{subst, sym}
-use Rattle.tl_county.specs.County.{County}
-use Rattle.tl_county.specs.CountyRules.{is_without_chain}
+use Rattle.county_chart.specs.County.{County}
+use Rattle.county_chart.specs.CountyRules.{is_without_chain}
 use Rattle.ordered_lists.specs.Keyed.{IsLeastPassing}
-use Rattle.tl_county.specs.PolygonKeys.{key_cmp}
+use Rattle.county_chart.specs.PolygonKeys.{key_cmp}
 use Rattle.memory_tests.proofs.tests.refusals.over_linked.admit_over.Goals as goal
 
 pub admit_linked-requires : goal.admit_linked-requires

@@ -1,5 +1,5 @@
 use Rattle.std.proofs.Common.{sym, subst}
-use Rattle.tl_county.specs.CountyRules.{tlids}
+use Rattle.county_chart.specs.CountyRules.{tlids}
 use Rattle.ordered_lists.proofs.ByKey.Keys.{nat_keys, times-permutation}
 use Rattle.canonical_form.specs.Arrangement.{ascending, arranged_tlids}
 use Rattle.tl_number.specs.ViewFacts.{NamesEachOnce}

@@ -1,0 +1,2 @@
+-- Limits that counties keep.
+pub mod CarriedLimits

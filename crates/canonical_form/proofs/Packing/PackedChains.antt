@@ -1,0 +1,54 @@
+-- The records of a chain in a packed county: each belongs to a chain of the county, and no RTSQ occurs twice.
+use Rattle.std.proofs.Common.{rules, ◌≡◌, ℕ, List, map, flat_map, false, sym, refl, ap, ◌∙◌, subst, nat_cmp}
+use Rattle.canonical_form.proofs.Common.{AllByRecursion, Chain, County, IsCounty, Known, LinkedType, Ranges, SequencedType}
+use Rattle.canonical_form.proofs.Common.{all_everywhere, all_joined, all_map, all_weaker, among_known, apart_from_sorted, each_from}
+use Rattle.canonical_form.proofs.Common.{four_rtsq, four_tlid, has_repeat, has_repeat-apart, in_pieces, inner_points, linked_tlids}
+use Rattle.canonical_form.proofs.Common.{map-map, map_agree_everywhere, nat_keys, numbered_from, of_number, packed, packed_fours}
+use Rattle.canonical_form.proofs.Common.{packed_sixes, packed_twos, rtsqs, six_rtsq, six_tlid, tlids, two_rtsq, two_tlid}
+use Rattle.county_chart.specs.declared.fault.LinkedType.TheVariants.{Four, I, Six, Two}
+use Rattle.canonical_form.proofs.Packing.PackedGroups.{group_holds}
+use Rattle.county_chart.proofs.Sameness.Equivalence.{keys_known}
+use Rattle.canonical_form.proofs.Packing.PackedNumbers.{four_own, six_own, two_own, numbered_strict, fours, link_numbers, sixes, tlids_apart}
+use Rattle.canonical_form.proofs.Packing.PackedNumbers.{twos}
+use Rattle.county_chart.specs.declared.fault.SequencedType.TheVariants as sequenced
+
+module _ (c : County) (is : IsCounty c) where
+  linked_known : {X : Type 0} (tlid : X → ℕ) (pack : ℕ × Chain → List X) → ((e : ℕ × Chain) → AllByRecursion (λ x. tlid x ≡ e.0) (pack e))
+      → AllByRecursion (Known nat_cmp (tlids c)) (map tlid (flat_map pack c.chains))
+  linked_known tlid pack own = all_map (Known nat_cmp (tlids c)) tlid (flat_map pack c.chains)
+      (all_joined (λ x. Known nat_cmp (tlids c) (tlid x)) pack c.chains
+      (all_weaker (λ e. Known nat_cmp (tlids c) e.0) (λ e. AllByRecursion (λ x. Known nat_cmp (tlids c) (tlid x)) (pack e))
+      (λ e k. all_weaker (λ x. tlid x ≡ e.0) (λ x. Known nat_cmp (tlids c) (tlid x)) (λ x f. subst (Known nat_cmp (tlids c)) (sym f) k)
+      (pack e) (own e)) c.chains (keys_known nat_keys c.chains)))
+
+  pub all_linked : (t : LinkedType) → AllByRecursion (Known nat_cmp (tlids c)) (linked_tlids t (packed c))
+  all_linked Two = search (rules, twos, linked_known, two_own)
+  all_linked Four = search (rules, fours, linked_known, four_own)
+  all_linked Six = search (rules, sixes, linked_known, six_own)
+  all_linked I = search (rules, link_numbers, each_from, among_known, nat_keys)
+
+  -- records with the RTSQs 1, 2, 3, .. repeat none
+  no_repeat : {X Y : Type 0} (rtsq : X → ℕ) (make : ℕ × Y → X) → ((piece : ℕ × Y) → rtsq (make piece) ≡ piece.0) → (ys : List Y)
+      → has_repeat nat_cmp (map rtsq (map make (numbered_from 1 ys))) ≡ false
+  no_repeat {X} {Y} rtsq make stated ys =
+      let numbers : map rtsq (map make (numbered_from 1 ys)) ≡ map (λ (piece : ℕ × Y). piece.0) (numbered_from 1 ys) =
+      search (rules, map-map, map_agree_everywhere) in
+      ap (has_repeat nat_cmp) numbers ∙ has_repeat-apart nat_keys (map (λ (piece : ℕ × Y). piece.0) (numbered_from 1 ys))
+      (apart_from_sorted nat_keys (map (λ (piece : ℕ × Y). piece.0) (numbered_from 1 ys)) (numbered_strict 1 ys))
+
+  pub sequence : (t : SequencedType) (tlid : ℕ) → has_repeat nat_cmp (rtsqs t tlid (packed c)) ≡ false
+  sequence sequenced.Two tlid = ap (λ xs. has_repeat nat_cmp (map two_rtsq (of_number two_tlid tlid xs))) (twos c is)
+      ∙ group_holds two_tlid packed_twos two_own (λ xs. has_repeat nat_cmp (map two_rtsq xs) ≡ false) refl c.chains (tlids_apart c is)
+      (all_everywhere (λ e. has_repeat nat_cmp (map two_rtsq (packed_twos e)) ≡ false)
+      (λ e. no_repeat two_rtsq (λ (piece : ℕ × List _). record { tlid = e.0; rtsq = piece.0; points = piece.1 }) (λ piece. refl)
+      (in_pieces 10 (inner_points e.1.points))) c.chains) tlid
+  sequence sequenced.Four tlid = ap (λ xs. has_repeat nat_cmp (map four_rtsq (of_number four_tlid tlid xs))) (fours c is)
+      ∙ group_holds four_tlid packed_fours four_own (λ xs. has_repeat nat_cmp (map four_rtsq xs) ≡ false) refl c.chains (tlids_apart c is)
+      (all_everywhere (λ e. has_repeat nat_cmp (map four_rtsq (packed_fours e)) ≡ false)
+      (λ e. no_repeat four_rtsq (λ (piece : ℕ × List ℕ). record { tlid = e.0; rtsq = piece.0; feats = piece.1 }) (λ piece. refl)
+      (in_pieces 5 e.1.feats)) c.chains) tlid
+  sequence sequenced.Six tlid = ap (λ xs. has_repeat nat_cmp (map six_rtsq (of_number six_tlid tlid xs))) (sixes c is)
+      ∙ group_holds six_tlid packed_sixes six_own (λ xs. has_repeat nat_cmp (map six_rtsq xs) ≡ false) refl c.chains (tlids_apart c is)
+      (all_everywhere (λ e. has_repeat nat_cmp (map six_rtsq (packed_sixes e)) ≡ false)
+      (λ e. no_repeat six_rtsq (λ (piece : ℕ × Ranges). record { tlid = e.0; rtsq = piece.0; ranges = piece.1 })
+      (λ piece. refl) e.1.ranges) c.chains) tlid

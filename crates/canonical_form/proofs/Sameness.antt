@@ -1,0 +1,2 @@
+-- Counties that a renaming carries onto one another.
+pub mod CarriedCounty

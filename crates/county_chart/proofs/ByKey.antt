@@ -1,0 +1,3 @@
+pub mod KeySets
+pub mod PolygonSets
+pub mod PlacesOfCenids

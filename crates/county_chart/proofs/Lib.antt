@@ -1,0 +1,10 @@
+pub mod Lists
+pub mod ByKey
+pub mod Sameness
+pub mod Rules
+pub mod Samples
+pub mod Packing
+pub mod Limits
+pub mod Masks
+pub mod DirectedChains
+pub mod Common

@@ -1,0 +1,4 @@
+pub mod FitsPacked
+pub mod FitsCounty
+pub mod FieldsFit
+pub mod FewChains

@@ -1,0 +1,11 @@
+-- A county within its limits has few enough chains for 32-bit places.
+use Rattle.std.proofs.Common.{◌^◌, ◌<◌, ◌≤◌, map, length, subst, arith}
+use Rattle.county_chart.proofs.Common.{County, IsWithinLimits, by_type_of, length-map, most_records, packed, packed_by_type, packed_one}
+use Rattle.county_chart.specs.Laws.TypeCounts.{HasAtMost, by_type_within}
+
+pub few_chains : (county : County) → IsWithinLimits most_records county → length county.chains < 2 ^ 32
+few_chains county within =
+    let counts : HasAtMost most_records (packed_by_type county) =
+    subst (HasAtMost most_records) (by_type_of (packed_by_type county)) (by_type_within most_records (packed county) within.counts) in
+    let ones : length (map packed_one county.chains) ≤ most_records = counts.of_type_1 in
+    omega (arith, ones, length-map county.chains packed_one)

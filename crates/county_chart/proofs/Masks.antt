@@ -1,0 +1,2 @@
+pub mod MaskedReads
+pub mod JoinedPieces

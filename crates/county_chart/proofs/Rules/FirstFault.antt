@@ -1,0 +1,108 @@
+-- If all faults are in a finite list, either there is none or exactly one is the first.
+use Rattle.std.proofs.Common.{rules, ◌≡◌, ◌⊎◌, ℕ, List, [], ◌∷◌, Bool, true, false, not, ◌&&◌, ◌||◌, is_gt, sym, refl, ap, ◌∙◌, inl, inr}
+use Rattle.county_chart.proofs.Common.{AllByRecursion, Among, IsKeyOrder, all_among, and_parts, bytes_keys, false≢true, list_all}
+use Rattle.county_chart.proofs.Common.{or_cases, place_cmp}
+use Rattle.std.proofs.lemmas.Bool.{not-true}
+use Rattle.std.proofs.lemmas.Cmp.{upto}
+use Rattle.county_chart.specs.FirstOf.{IsFirst}
+use Rattle.ordered_lists.proofs.ByKey.Keys.{order_antisymm, order_total, order_itself}
+use Rattle.ordered_lists.proofs.ByKey.KeyOrders.{lists_keys}
+
+pub place_keys : IsKeyOrder place_cmp
+place_keys = lists_keys bytes_keys
+
+module _ {F : Type 0} (there : F → Bool) (place : F → List (List ℕ)) where
+  -- f is present, and no fault in the list comes before it
+  abbrev pub IsLeastOf : List F → F → Type 0
+  IsLeastOf cs f = (there f ≡ true) × AllByRecursion (λ c. there c ≡ true → is_gt (place_cmp (place f) (place c)) ≡ false) cs
+
+  vacuous : (f : F) (cs : List F) → AllByRecursion (λ c. there c ≡ false) cs
+      → AllByRecursion (λ c. there c ≡ true → is_gt (place_cmp (place f) (place c)) ≡ false) cs
+  vacuous f [] h = tt
+  vacuous f (c ∷ cs) h = ((λ t. absurd (false≢true (sym h.0 ∙ t))), vacuous f cs h.1)
+
+  lower : (f g : F) → is_gt (place_cmp (place f) (place g)) ≡ false → (cs : List F)
+      → AllByRecursion (λ c. there c ≡ true → is_gt (place_cmp (place g) (place c)) ≡ false) cs
+      → AllByRecursion (λ c. there c ≡ true → is_gt (place_cmp (place f) (place c)) ≡ false) cs
+  lower f g e [] h = tt
+  lower f g e (c ∷ cs) h = ((λ t. upto (place_keys.total) (place f) (place g) (place c) e (h.0 t)), lower f g e cs h.1)
+
+  pub first_among : (cs : List F) → AllByRecursion (λ c. there c ≡ false) cs ⊎ ((f : F) × IsLeastOf cs f)
+  first_among [] = inl tt
+  first_among (c ∷ cs) = go (there c) refl (first_among cs)
+    where
+      pick : there c ≡ true → (f : F) → IsLeastOf cs f → (b : Bool) → is_gt (place_cmp (place c) (place f)) ≡ b
+          → (g : F) × IsLeastOf (c ∷ cs) g
+      pick t f h false e = (c, (t, ((λ u. order_itself place_keys (place c)), lower c f e cs h.1)))
+      pick t f h true e = (f, (h.0, ((λ u. order_total place_keys (place c) (place f) e), h.1)))
+
+      go : (b : Bool) → there c ≡ b → AllByRecursion (λ d. there d ≡ false) cs ⊎ ((f : F) × IsLeastOf cs f)
+          → AllByRecursion (λ d. there d ≡ false) (c ∷ cs) ⊎ ((f : F) × IsLeastOf (c ∷ cs) f)
+      go true t (inl none) = inr (c, (t, ((λ u. order_itself place_keys (place c)), vacuous c cs none)))
+      go true t (inr p) = inr (pick t p.0 p.1 (is_gt (place_cmp (place c) (place p.0))) refl)
+      go false t (inl none) = inl (t, none)
+      go false t (inr p) = inr (p.0, (p.1.0, ((λ u. absurd (false≢true (sym t ∙ u))), p.1.1)))
+
+  -- if each present fault is in the list
+  pub first_or_none : (cs : List F) → ((f : F) → there f ≡ true → Among f cs)
+      → ((f : F) → there f ≡ false) ⊎ ((f : F) × IsFirst there place f)
+  first_or_none cs all = go (first_among cs)
+    where
+      none : AllByRecursion (λ c. there c ≡ false) cs → (f : F) (b : Bool) → there f ≡ b → there f ≡ false
+      none h f true e = all_among (λ c. there c ≡ false) f cs h (all f e)
+      none h f false e = e
+
+      go : AllByRecursion (λ c. there c ≡ false) cs ⊎ ((f : F) × IsLeastOf cs f)
+          → ((f : F) → there f ≡ false) ⊎ ((f : F) × IsFirst there place f)
+      go (inl h) = inl (λ f. none h f (there f) refl)
+      go (inr p) = search (rules, all_among)
+
+  pub not_first : (f : F) → ((g : F) → there g ≡ false) → IsFirst there place f → ⊥
+  not_first f none h = false≢true (sym (none f) ∙ h.there)
+
+  pub one_first : (at : List (List ℕ) → F) → ((f : F) → at (place f) ≡ f) → (f g : F) → IsFirst there place f → IsFirst there place g
+      → f ≡ g
+  one_first at back f g h k = sym (back f) ∙ ap at (order_antisymm place_keys (place f) (place g) (h.least g k.there) (k.least f h.there))
+      ∙ back g
+
+  -- the same by computing, over a list that has each present fault
+  abbrev pub none_there : List F → Bool
+  none_there cs = list_all (λ c. not (there c)) cs
+
+  abbrev pub least_there : F → List F → Bool
+  least_there f cs = there f && list_all (λ c. not (there c) || not (is_gt (place_cmp (place f) (place c)))) cs
+
+  none_by : (cs : List F) → none_there cs ≡ true → AllByRecursion (λ c. there c ≡ false) cs
+  none_by [] e = tt
+  none_by (c ∷ cs) e =
+      let both = and_parts (not (there c)) (list_all (λ d. not (there d)) cs) e in
+      (not-true (there c) both.0, none_by cs both.1)
+
+  least_by : (f : F) (cs : List F) → list_all (λ c. not (there c) || not (is_gt (place_cmp (place f) (place c)))) cs ≡ true
+      → AllByRecursion (λ c. there c ≡ true → is_gt (place_cmp (place f) (place c)) ≡ false) cs
+  least_by f [] e = tt
+  least_by f (c ∷ cs) e =
+      let both = and_parts (not (there c) || not (is_gt (place_cmp (place f) (place c))))
+      (list_all (λ d. not (there d) || not (is_gt (place_cmp (place f) (place d)))) cs) e in
+      ((λ t. at (or_cases (not (there c)) (not (is_gt (place_cmp (place f) (place c)))) both.0) t), least_by f cs both.1)
+    where
+      at : (not (there c) ≡ true) ⊎ (not (is_gt (place_cmp (place f) (place c))) ≡ true) → there c ≡ true
+          → is_gt (place_cmp (place f) (place c)) ≡ false
+      at (inl g) t = absurd (false≢true (sym (not-true (there c) g) ∙ t))
+      at (inr g) t = not-true (is_gt (place_cmp (place f) (place c))) g
+
+  pub none_computed : (cs : List F) → ((f : F) → there f ≡ true → Among f cs) → none_there cs ≡ true → (f : F) → there f ≡ false
+  none_computed cs all e f = go (there f) refl
+    where
+      go : (b : Bool) → there f ≡ b → there f ≡ false
+      go true t = all_among (λ c. there c ≡ false) f cs (none_by cs e) (all f t)
+      go false t = t
+
+  pub first_computed : (cs : List F) → ((f : F) → there f ≡ true → Among f cs) → (f : F) → least_there f cs ≡ true → IsFirst there place f
+  first_computed cs all f e =
+      let both = and_parts (there f) (list_all (λ c. not (there c) || not (is_gt (place_cmp (place f) (place c)))) cs) e in
+      record {
+        there = both.0;
+        least =
+            λ g t. all_among (λ c. there c ≡ true → is_gt (place_cmp (place f) (place c)) ≡ false) g cs (least_by f cs both.1) (all g t) t;
+      }

@@ -1,0 +1,6 @@
+use Rattle.std.proofs.Common.{rules}
+use Rattle.county_chart.proofs.Common.{key_keys, value-stated}
+use Rattle.county_chart.proofs.chart.Chart.polygon_place_or_end.Goals as goal
+
+pub returns-clause-polygon : goal.returns-clause-polygon
+returns-clause-polygon g c = search (rules, value-stated, key_keys)

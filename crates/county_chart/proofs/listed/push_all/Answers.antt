@@ -1,0 +1,10 @@
+use Rattle.std.proofs.Common.{rules, append_assoc}
+use Rattle.ordered_lists.proofs.Lists.Places.{one_more_taken}
+use Rattle.ordered_lists.proofs.Lists.ByPlace.{taken_all}
+use Rattle.county_chart.proofs.listed.push_all.Goals as goal
+
+pub loop-place-preserved : goal.loop-place-preserved
+loop-place-preserved g c = search (rules, append_assoc, one_more_taken)
+
+pub returns : goal.returns
+returns g c = search (rules, taken_all)

@@ -1,0 +1,9 @@
+use Rattle.std.proofs.Common.{rules}
+use Rattle.ordered_lists.proofs.Lists.EntryLists.{none-under, value-at_place}
+use Rattle.county_chart.proofs.stored.table.Table.get.Goals as goal
+
+pub returns-in-Some : goal.returns-in-Some
+returns-in-Some g c = search (rules, value-at_place)
+
+pub returns-in-None : goal.returns-in-None
+returns-in-None g c = search (rules, none-under)

@@ -1,0 +1,39 @@
+//! One county: what the map is that a list of records describes, and how a county is read, however it is stored.
+//!
+//! The definitions of counties, of the rules for records that fit together and of renamings are in `specs/`; `tl_county` links
+//! records to a county. A county is read by the calls of `Chart`: by place (`tlid_at`), by number (`chain_body_of`), and at a place
+//! that is known to exist (`tlid_there`). To store a county another way, implement `Chart`, or a `StoredChain` for a county in
+//! tables. `County` and `CountyIn` are such counties, `Masked` is a county under a mask, `Lent` one behind a reference, and a
+//! `DirectedChain` reads a chain from either end.
+#![tactic(auto)]
+
+mod body_order;
+mod chart;
+mod chart_lists;
+mod directed_chain;
+mod fault;
+mod joined_lists;
+mod keys;
+mod lent;
+mod listed;
+mod masked;
+mod masked_bodies;
+mod stored;
+
+pub use body_order::cmp_landmark_bodies;
+pub use chart::Chart;
+pub use chart_lists::LandmarkBodies;
+pub use directed_chain::{ChainFeats, ChainPoints, ChainRanges, DirectedChain};
+pub use fault::{LinkFault, LinkedType, SequencedType};
+pub use keys::key_set::KeySet;
+pub use keys::keyed::{Keyed, are_in_order, least_unknown, put_in_order, split_group};
+pub use keys::polygon_set::{OnPolygons, cenids_of, distinct_polygons};
+pub use keys::record_keys::{LandmarkKey, LinkKey, PolygonKey, polygon_number};
+pub use lent::Lent;
+pub use listed::{Listed, Same, Tested, all_hold, are_same, compare, push_all};
+pub use masked::Masked;
+pub use stored::landmark::Landmark;
+pub use stored::lent::{LandmarkIn, NameIn};
+pub use stored::storage::{StoredChain, StoredLandmark, StoredName};
+pub use stored::table::Table;
+pub use stored::{County, CountyIn, StoredCounty};

@@ -1,0 +1,97 @@
+//! Tables: values under ascending keys.
+
+ghost use Rattle.std.specs.List.Sorted.{IsStrictlySortedBy};
+ghost use Rattle.std.specs.Option.{option_copied};
+ghost use Rattle.std.specs.Prelude.{◌≡◌, List, Some, length, is_some, IfSome, slice_get};
+ghost use Rattle.ordered_lists.specs.Entries.{entry_keys, entry_values, value_under};
+ghost use Rattle.ordered_lists.specs.Orders.{stands_in};
+
+use ordered_lists::{Key, place_of};
+use std::marker::Model;
+
+/// Values under keys. The keys ascend, and no key occurs twice.
+#[derive(Debug, Drop)]
+pub struct Table<K: Key, V> {
+    keys: Vec<K>,
+    values: Vec<V>,
+}
+
+impl<K: Key, V> Model for Table<K, V> {
+    ghost use Rattle.std.specs.List.{zip};
+    ghost use Rattle.std.specs.List.Sorted.{IsStrictlySortedBy};
+    ghost use Rattle.std.specs.Prelude.{◌≡◌, List, length};
+
+    ghost Value = { List (K × V) };
+
+    ghost view = { λ t. zip t.keys.items t.values.items };
+
+    ghost invariant = { λ t. IsStrictlySortedBy K.cmp t.keys.items × (length t.keys.items ≡ length t.values.items) };
+}
+
+#[tactic(auto, using(crate::proofs::Lists::TableEntries::table_entries))]
+impl<K: Key, V> Table<K, V> {
+    /// The table of these values under these keys. The keys must ascend, and there must be as many values as keys.
+    pub fn new(keys: Vec<K>, values: Vec<V>) -> Table<K, V>
+        requires ascending { IsStrictlySortedBy K.cmp keys.items }
+        requires same_length { length keys.items ≡ length values.items }
+        ensures keys { entry_keys result ≡ keys.items }
+        ensures values { entry_values result ≡ values.items }
+    {
+        Table { keys, values }
+    }
+
+    /// The number of keys.
+    pub(crate) fn len(&self) -> usize
+        ensures { result ≡ length self.now }
+    {
+        self.keys().len()
+    }
+
+    /// The keys, ascending.
+    pub(crate) fn keys(&self) -> &[K]
+        ensures value { result.now ≡ entry_keys self.now }
+        ensures ascending { IsStrictlySortedBy K.cmp (entry_keys self.now) }
+    {
+        self.keys.as_slice()
+    }
+
+    /// The values, in the order of their keys.
+    pub(crate) fn values(&self) -> &[V]
+        ensures { result.now ≡ entry_values self.now }
+    {
+        self.values.as_slice()
+    }
+
+    /// The key at a place, counted from 0, or none past the end.
+    pub(crate) fn key_at(&self, place: usize) -> Option<K>
+        ensures { result ≡ slice_get (entry_keys self.now) place }
+    {
+        self.keys().get(place).copied()
+    }
+
+    /// The value at a place, counted from 0, or none past the end.
+    pub(crate) fn value_at(&self, place: usize) -> Option<&V>
+        ensures { option_copied result ≡ slice_get (entry_values self.now) place }
+    {
+        self.values().get(place)
+    }
+
+    /// The place of a key, counted from 0, or none if the table doesn't have it.
+    pub(crate) fn place(&self, key: K) -> Option<usize>
+        ensures found { IfSome result (λ place. slice_get (entry_keys self.now) place ≡ Some key) }
+        ensures known { is_some result ≡ stands_in K.cmp key (entry_keys self.now) }
+        ensures ascending { IsStrictlySortedBy K.cmp (entry_keys self.now) }
+    {
+        place_of(self.keys(), key)
+    }
+
+    /// The value under a key, or none if the table doesn't have it.
+    pub(crate) fn get(&self, key: K) -> Option<&V>
+        ensures { option_copied result ≡ value_under K.cmp key self.now }
+    {
+        match self.place(key) {
+            Some(place) => self.value_at(place),
+            None => None,
+        }
+    }
+}

@@ -1,5 +1,0 @@
-pub mod FitsPacked
-pub mod FitsCounty
-pub mod FieldsFit
-pub mod CarriedLimits
-pub mod FewChains

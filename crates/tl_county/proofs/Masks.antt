@@ -1,3 +1,0 @@
-pub mod MaskedReads
-pub mod MaskedCounties
-pub mod JoinedPieces

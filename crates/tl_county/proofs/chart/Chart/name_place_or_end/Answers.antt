@@ -1,6 +1,0 @@
-use Rattle.std.proofs.Common.{rules}
-use Rattle.tl_county.proofs.Common.{nat_keys, value-stated}
-use Rattle.tl_county.proofs.chart.Chart.name_place_or_end.Goals as goal
-
-pub returns-clause-name : goal.returns-clause-name
-returns-clause-name g c = search (rules, value-stated, nat_keys)

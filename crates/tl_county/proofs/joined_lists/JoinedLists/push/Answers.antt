@@ -1,6 +1,0 @@
-use Rattle.std.proofs.Common.{rules}
-use Rattle.tl_county.proofs.Masks.JoinedPieces.{list_joined}
-use Rattle.tl_county.proofs.joined_lists.JoinedLists.push.Goals as goal
-
-pub returns : goal.returns
-returns g c = search (rules, list_joined)

@@ -1,6 +1,0 @@
-use Rattle.std.proofs.Common.{rules}
-use Rattle.tl_county.proofs.ByKey.KeySets.{inserted-distinct}
-use Rattle.tl_county.proofs.keys.key_set.KeySet.insert.Goals as goal
-
-pub returns-clause-inserted : goal.returns-clause-inserted
-returns-clause-inserted g c = search (rules, inserted-distinct)

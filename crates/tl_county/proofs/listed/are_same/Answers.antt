@@ -1,9 +1,0 @@
-use Rattle.std.proofs.Common.{rules}
-use Rattle.ordered_lists.proofs.Lists.ByPlace.{same_next, same_seen}
-use Rattle.tl_county.proofs.listed.are_same.Goals as goal
-
-pub loop-place-preserved : goal.loop-place-preserved
-loop-place-preserved g c = search (rules, same_next)
-
-pub returns : goal.returns
-returns g c = search (rules, same_seen)

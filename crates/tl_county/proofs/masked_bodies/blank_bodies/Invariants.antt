@@ -1,7 +1,0 @@
--- The contents so far are under the mask, and the others stand as they stood.
-use Rattle.std.proofs.Common.{◌≡◌, ◌++◌, map, take, drop}
-use Rattle.tl_county.proofs.Common.{masked_body_7}
-use Rattle.tl_county.proofs.masked_bodies.blank_bodies.Given as goal
-
-abbrev pub invariant-loop-body : goal.invariant-loop-body
-invariant-loop-body l = l.bodies ≡ map (masked_body_7 l.mask) (take l.body-index l.initial.bodies) ++ drop l.body-index l.initial.bodies

@@ -1,6 +1,0 @@
-use Rattle.std.proofs.Common.{◌≡◌, take}
-use Rattle.tl_county.proofs.Common.{entry_values, masked}
-use Rattle.tl_county.proofs.masked_bodies.masked_lists.Given as goal
-
-abbrev pub invariant-loop-place : goal.invariant-loop-place
-invariant-loop-place g l = l.lists ≡ take l.place (entry_values (masked l.mask (g.C.Chart.county l.chart)).landmarks)
