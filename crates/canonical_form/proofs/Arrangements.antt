@@ -7,3 +7,5 @@ pub mod ArrangedCounties
 pub mod ArrangedPacking
 pub mod SmallNumbers
 pub mod ArrangedNumbers
+pub mod PlacesFit
+pub mod PolygonNumbers

@@ -6,3 +6,5 @@ pub mod TidyLists
 pub mod OneChoice
 pub mod SameShapes
 pub mod StrictLists
+pub mod OnSamples
+pub mod CanonLists

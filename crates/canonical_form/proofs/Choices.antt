@@ -2,3 +2,8 @@
 pub mod LesserDirections
 pub mod Choosing
 pub mod TidyChoices
+pub mod AscendingArrangement
+pub mod MovedChoice
+pub mod FixedPlaces
+pub mod ChosenArrangements
+pub mod SameChoices

@@ -8,5 +8,6 @@ pub mod Names
 pub mod Arrangements
 pub mod CanonicalLists
 pub mod Choices
+pub mod Views
 pub mod Masks
 pub mod Common

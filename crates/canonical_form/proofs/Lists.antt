@@ -2,3 +2,5 @@
 pub mod Counting
 pub mod Grouping
 pub mod Filtered
+pub mod ListPlaces
+pub mod SortedPlaces

@@ -11,3 +11,9 @@ pub mod Tidy
 pub mod Strict
 pub mod SeenRecords
 pub mod LeastNumber
+pub mod DirectedChains
+pub mod EndsAndSides
+pub mod ByNumber
+pub mod CanonCounties
+pub mod WholeArrangements
+pub mod MovedChains

@@ -1,6 +1,2 @@
 -- Landmarks and their links in their new order.
-pub mod LinkSlices
-pub mod SameBodies
-pub mod LandmarkLinks
-pub mod LandmarkOrder
 pub mod BodiesFirst

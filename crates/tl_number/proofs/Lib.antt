@@ -1,14 +1,7 @@
-pub mod Numbering
 pub mod Lists
 pub mod Names
-pub mod Arrangements
-pub mod CanonicalLists
-pub mod Views
 pub mod Choices
 pub mod Landmarks
-pub mod Polygons
-pub mod Records
-pub mod Results
 pub mod Texts
 pub mod Ties
 pub mod Common

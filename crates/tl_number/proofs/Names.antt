@@ -1,5 +1,3 @@
 -- Names in their new order.
-pub mod NameRanks
-pub mod NameOrder
 pub mod ContentFirst
 pub mod NamePlaces

@@ -1,20 +1,15 @@
 -- Choices that tie in type 1, compared without making their counties.
-pub mod NumberTexts
 pub mod NewlySeen
 pub mod Counterparts
 pub mod MovedKeys
 pub mod OpenOrder
 pub mod OpenAmong
-pub mod PartOrder
 pub mod GapOrder
 pub mod OpenChains
 pub mod OpenLinks
-pub mod OpenRecords
-pub mod OpenPlaces
 pub mod ChainGroups
 pub mod RangeOrder
 pub mod TieNumbers
-pub mod RecordExact
 pub mod CriticalKeys
 pub mod TopologyOrder
 pub mod NameRecords

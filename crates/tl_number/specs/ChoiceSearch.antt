@@ -6,9 +6,9 @@ use Rattle.county_chart.specs.CountyRules.{AllKeysStandIn, polygon_keys, polygon
 use Rattle.county_chart.specs.declared.directed_chain.DirectedChain.{DirectedChain}
 use Rattle.canonical_form.specs.Canonical.{IsNotAfter}
 use Rattle.canonical_form.specs.LeastNumber.{choice_list}
-use Rattle.tl_number.specs.MovedChains.{AreWithin, other_way}
+use Rattle.canonical_form.specs.MovedChains.{AreWithin, other_way}
 use Rattle.canonical_form.specs.NumberedChoices.{moved}
-use Rattle.tl_number.specs.TypeOneOrder.{ones_cmp}
+use Rattle.record_groups.specs.TypeOneOrder.{ones_cmp}
 use Rattle.tl_number.specs.declared.numbered_arrangement.NumberedArrangement.{NumberedArrangement}
 use Rattle.tl_profile.specs.Choices.{choices, most_choices}
 use Rattle.tl_profile.specs.ShapeOrder.{IsShapeOrder, OrderOfShapes}

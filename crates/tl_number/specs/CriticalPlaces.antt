@@ -12,7 +12,7 @@ use Rattle.county_chart.specs.declared.directed_chain.DirectedChain.{DirectedCha
 use Rattle.tl_profile.specs.ShapeOrder.{OrderOfShapes}
 use Rattle.tl_profile.specs.declared.open_places.OpenPlace.{OpenPlace}
 use Rattle.tl_number.specs.CriticalKeys.{brings}
-use Rattle.tl_number.specs.LandmarkItems.{HaveSameBodies}
+use Rattle.arranged_county.specs.LandmarkItems.{HaveSameBodies}
 use Rattle.tl_number.specs.OpenNames.{AreOpenNames}
 use Rattle.tl_number.specs.OpenKeys.{AreOpenKeys, first_open, is_open, keys_along, open_among}
 use Rattle.tl_number.specs.declared.open_keys.OpenKeys.{OpenKeys}

@@ -17,10 +17,10 @@ use Rattle.tl_profile.specs.ShapeOrder.{OrderOfShapes}
 use Rattle.tl_profile.specs.declared.open_places.OpenPlace.{OpenPlace}
 use Rattle.canonical_form.specs.Arrangement.{names_in_order}
 use Rattle.tl_number.specs.CriticalKeys.{brings}
-use Rattle.tl_number.specs.DirectedChains.{arrangement_of}
+use Rattle.canonical_form.specs.DirectedChains.{arrangement_of}
 use Rattle.tl_number.specs.OpenKeys.{first_open, is_open, keys_along, place_by_order, place_in}
-use Rattle.tl_number.specs.OpenRanges.{open_chain}
-use Rattle.tl_number.specs.ViewFacts.{AreReadAt}
+use Rattle.record_groups.specs.OpenRanges.{open_chain}
+use Rattle.canonical_form.specs.WholeArrangements.{AreReadAt}
 use Rattle.tl_number.specs.declared.open_keys.OpenKeys.{OpenKeys}
 use Rattle.tl_number.specs.declared.open_names.OpenNames.{OpenNames}
 

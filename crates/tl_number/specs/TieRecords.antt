@@ -7,7 +7,7 @@ use Rattle.tl_layout.specs.PolygonSide.{PolygonSide}
 use Rattle.county_chart.specs.County.{County}
 use Rattle.county_chart.specs.Packing.{packed_p}
 use Rattle.county_chart.specs.PolygonKeys.{PolygonKey, key_cmp}
-use Rattle.tl_number.specs.ByNumber.{under_number}
+use Rattle.canonical_form.specs.ByNumber.{under_number}
 use Rattle.tl_number.specs.OpenKeys.{key_by_order, place_by_order}
 use Rattle.tl_number.specs.declared.open_keys.OpenKeys.{OpenKeys}
 

@@ -8,9 +8,9 @@ use Rattle.county_chart.specs.declared.directed_chain.DirectedChain.{DirectedCha
 use Rattle.tl_layout.specs.declared.record_type.Record.TheVariants.{I}
 use Rattle.tl_profile.specs.ShapeOrder.{OrderOfShapes}
 use Rattle.tl_number.specs.OpenKeys.{first_open, keys_along}
-use Rattle.tl_number.specs.RecordOrder.{topologies_of}
+use Rattle.record_groups.specs.RecordOrder.{topologies_of}
 use Rattle.tl_number.specs.TieRecords.{polygon_in_choice}
-use Rattle.tl_number.specs.ViewFacts.{arranged_by}
+use Rattle.canonical_form.specs.WholeArrangements.{arranged_by}
 use Rattle.tl_number.specs.declared.tie_links.ChoiceLinks.{ChoiceLinks}
 use Rattle.tl_number.specs.declared.tie_records.TiedRecords.{TiedRecords}
 use Rattle.tl_number.specs.declared.tie_tables.TieTables.{TieTables}

@@ -1,6 +1,6 @@
 //! The canonical county.
 
-use crate::arranged::{Arranged, Evidence};
+use arranged_county::{Arranged, Evidence};
 use county_chart::{County, CountyIn};
 
 /// The fact that a county is in canonical form: the points of its chains determine their directions and order; if these leave a
@@ -11,7 +11,7 @@ pub struct Canonical;
 
 impl Evidence for Canonical {
     ghost use Rattle.county_chart.specs.Renumbering.{AreSame};
-    ghost use Rattle.tl_number.specs.CanonCounties.{IsCanonCounty};
+    ghost use Rattle.canonical_form.specs.CanonCounties.{IsCanonCounty};
 
     ghost holds = { λ source county. IsCanonCounty county × AreSame source county };
 }

@@ -14,14 +14,13 @@ ghost use Rattle.county_chart.specs.County.{link_key};
 ghost use Rattle.county_chart.specs.PolygonKeys.{key_cmp};
 ghost use Rattle.tl_number.specs.CriticalKeys.{brings, has_new};
 ghost use Rattle.tl_number.specs.CriticalPlaces.{critical_from, has_open_link};
-ghost use Rattle.tl_number.specs.Groups.{group_at};
+ghost use Rattle.record_groups.specs.Groups.{group_at};
 ghost use Rattle.canonical_form.specs.Growth.{first_seen_after};
 ghost use Rattle.tl_number.specs.OpenKeys.{is_open, open_among as open_places_among};
 
 use crate::key_groups::KeyGroups;
-use crate::numbers::{Interner, NumericKey};
 use crate::open_keys::{OpenKeys, has_key, is_open_at, see_opened};
-use crate::pairing::if_done;
+use arranged_county::{Interner, NumericKey, if_done};
 use county_chart::{Chart, PolygonKey};
 use ordered_lists::Key;
 use std::alloc::{AllocError, Global};

@@ -2,8 +2,7 @@
 
 ghost use Rattle.std.specs.Prelude.{◌≡◌, ◌++◌, OnOk};
 
-use crate::first_appearance::Half;
-use crate::numbers::NumericKey;
+use arranged_county::{Half, NumericKey};
 use county_chart::{Chart, DirectedChain, push_all};
 use ordered_lists::Key;
 use std::alloc::AllocError;
@@ -12,7 +11,7 @@ use std::hash::Hash;
 /// Keys of chains, chain by chain.
 pub(crate) trait KeyGroups {
     ghost use Rattle.std.specs.Prelude.{◌≡◌, ◌<◌, List, OnOk, length};
-    ghost use Rattle.tl_number.specs.Groups.{group_at};
+    ghost use Rattle.record_groups.specs.Groups.{group_at};
 
     /// A key.
     type Item: Key + Hash + NumericKey;
@@ -46,7 +45,7 @@ pub(crate) struct PairKeys<'a, T: Half>(pub(crate) &'a [(T, T)]);
 
 impl<T: Half> KeyGroups for PairKeys<'_, T> {
     ghost use Rattle.std.specs.Prelude.{map};
-    ghost use Rattle.tl_number.specs.EndsAndSides.{keys_at};
+    ghost use Rattle.canonical_form.specs.EndsAndSides.{keys_at};
 
     type Item = T::Old;
 

@@ -4,12 +4,12 @@ ghost use Rattle.std.specs.Prelude.{◌≡◌, IfErr, IfOk, true};
 ghost use Rattle.county_chart.specs.MaskedCounty.{masked};
 ghost use Rattle.county_chart.specs.Renumbering.{Carries};
 ghost use Rattle.canonical_form.specs.Arrangement.{arranged, renaming_of};
-ghost use Rattle.tl_number.specs.CanonCounties.{IsCanonCounty};
+ghost use Rattle.canonical_form.specs.CanonCounties.{IsCanonCounty};
 ghost use Rattle.canonical_form.specs.Tidy.{IsLeastChoice};
-ghost use Rattle.tl_number.specs.Views.{arranged_county, arrangement_in, source_of};
+ghost use Rattle.arranged_county.specs.Views.{arranged_county, arrangement_in, source_of};
 
-use crate::arranging::canonise;
 use crate::canon_county::CanonCounty;
+use crate::canonising::canonise;
 use county_chart::{Chart, CountyIn, Masked};
 use std::alloc::{AllocError, Global};
 use tl_cert::Renaming;

@@ -6,13 +6,12 @@
 
 ghost use Rattle.std.specs.Prelude.{◌≡◌, ◌++◌, ◌∷◌, [], IfOk, OnOk, cond, false, filter, length, map};
 ghost use Rattle.ordered_lists.specs.Orders.{has_repeat, stands_in};
-ghost use Rattle.tl_number.specs.Groups.{grouped};
+ghost use Rattle.record_groups.specs.Groups.{grouped};
 ghost use Rattle.canonical_form.specs.Growth.{first_seen, first_seen_after};
 ghost use Rattle.tl_number.specs.OpenKeys.{AreOpenKeys, first_open, is_open, key_by_order, newly_seen, place_by_order, place_in};
 
 use crate::key_groups::KeyGroups;
-use crate::numbers::{Interner, NumericKey, marks_for};
-use crate::pairing::{both, if_done};
+use arranged_county::{Interner, NumericKey, both, if_done, marks_for};
 use ordered_lists::Key;
 use std::alloc::{AllocError, Global};
 use std::hash::Hash;

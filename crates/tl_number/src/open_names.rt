@@ -9,19 +9,18 @@ ghost use Rattle.std.specs.Ordering.{nat_cmp};
 ghost use Rattle.ordered_lists.specs.Orders.{has_repeat, stands_in};
 ghost use Rattle.ordered_lists.specs.Places.{at_places};
 ghost use Rattle.tl_number.specs.ChoiceSearch.{IsChosen, LeavesChoices};
-ghost use Rattle.tl_number.specs.NameItems.{ranked_at};
+ghost use Rattle.arranged_county.specs.NameItems.{ranked_at};
 ghost use Rattle.tl_number.specs.OpenKeys.{keys_along, open_among, place_in};
 ghost use Rattle.tl_number.specs.OpenNames.{AreNamesAt, AreOpenFeats, AreOpenNames, chain_feats, feats_among, named_among, open_feats};
 
-use crate::arranged_tables::NameTables;
 use crate::critical_places::{critical_places, new_at_places};
 use crate::key_groups::FeatKeys;
-use crate::name_order::{RankedName, arrange_names, number_feats, ranked_name, sorted_places};
 use crate::numbered_arrangement::NumberedArrangement;
-use crate::numbers::Interner;
 use crate::open_keys::{OpenKeys, has_key, open_keys, order_of, places_among};
-use crate::pairing::both;
 use crate::tie_tables::chains_at;
+use arranged_county::{
+    Interner, NameTables, RankedName, arrange_names, both, number_feats, ranked_name, sorted_places,
+};
 use county_chart::Chart;
 use std::alloc::{AllocError, Global};
 use tl_profile::ShapeOrder;

@@ -1,9 +1,8 @@
 //! The records of a county's polygons.
 
-use crate::arranged::{Arranged, Evidence};
-use crate::groups::RecordGroups;
-use crate::heads::HeadBuffers;
+use arranged_county::{Arranged, Evidence};
 use county_chart::{Chart, PolygonKey};
+use record_groups::{HeadBuffers, RecordGroups};
 use tl_layout::{BodyP, RecP};
 
 /// The type P record of each polygon that has one, in the order of the polygons' numbers.
@@ -14,8 +13,8 @@ pub struct PolygonRecords<'a, C: Chart, S: Evidence> {
 }
 
 impl<C: Chart, S: Evidence> RecordGroups for PolygonRecords<'_, C, S> {
-    ghost use Rattle.tl_number.specs.CountyGroups.{IsPolygonAt, type_p_by_number};
-    ghost use Rattle.tl_number.specs.Views.{arranged_county};
+    ghost use Rattle.record_groups.specs.CountyGroups.{IsPolygonAt, type_p_by_number};
+    ghost use Rattle.arranged_county.specs.Views.{arranged_county};
 
     type Item = RecP;
 

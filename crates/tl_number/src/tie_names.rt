@@ -7,23 +7,22 @@ ghost use Rattle.std.specs.Prelude.{◌≡◌, ◌<◌, IfOk, length};
 ghost use Rattle.tl_layout.specs.Numbers.{IsNumber};
 ghost use Rattle.tl_layout.specs.declared.record_type.Record.TheVariants.{Four};
 ghost use Rattle.tl_number.specs.ChoiceSearch.{IsChosen, LeavesChoices};
-ghost use Rattle.tl_number.specs.CountyGroups.{type_4_by_chain};
+ghost use Rattle.record_groups.specs.CountyGroups.{type_4_by_chain};
 ghost use Rattle.tl_number.specs.CriticalPlaces.{AreTieTables};
 ghost use Rattle.tl_number.specs.OpenNames.{AreFewFeats, feats_among, numbered_feat};
-ghost use Rattle.tl_number.specs.RecordOrder.{groups_cmp};
+ghost use Rattle.record_groups.specs.RecordOrder.{groups_cmp};
 ghost use Rattle.tl_number.specs.TieProps.{AreFewFeats-prop};
-ghost use Rattle.tl_number.specs.ViewFacts.{arranged_by};
+ghost use Rattle.canonical_form.specs.WholeArrangements.{arranged_by};
 
-use crate::chain_records::{NAMES_A_RECORD, items_from, sequence_number};
-use crate::group_order::compare_groups;
-use crate::groups::CountedGroups;
 use crate::numbered_arrangement::NumberedArrangement;
-use crate::numbers::Interner;
 use crate::open_keys::{OpenKeys, place_in_choice};
 use crate::open_names::names_of_choice;
-use crate::open_ranges::open_chain_of;
 use crate::tie_tables::TieTables;
+use arranged_county::Interner;
 use county_chart::{ChainFeats, Chart, DirectedChain, Listed};
+use record_groups::{
+    CountedGroups, NAMES_A_RECORD, compare_groups, items_from, open_chain_of, sequence_number,
+};
 use std::alloc::{AllocError, Global};
 use std::cmp::Ordering;
 use tl_layout::Rec4;

@@ -8,25 +8,21 @@ ghost use Rattle.county_chart.specs.CountyRules.{chain_nodes, chain_polygons};
 ghost use Rattle.county_chart.specs.PolygonKeys.{key_cmp};
 ghost use Rattle.tl_number.specs.ChoiceSearch.{IsChosen, LeavesChoices};
 ghost use Rattle.tl_number.specs.CriticalPlaces.{AreTieTables, IsOpenOrder, critical_among};
-ghost use Rattle.tl_number.specs.DirectedChains.{HasChainsOf};
-ghost use Rattle.tl_number.specs.EndsAndSides.{nodes_at, polygons_at};
-ghost use Rattle.tl_number.specs.Groups.{grouped};
+ghost use Rattle.canonical_form.specs.DirectedChains.{HasChainsOf};
+ghost use Rattle.canonical_form.specs.EndsAndSides.{nodes_at, polygons_at};
+ghost use Rattle.record_groups.specs.Groups.{grouped};
 ghost use Rattle.canonical_form.specs.Growth.{first_seen};
-ghost use Rattle.tl_number.specs.LandmarkItems.{HaveSameBodies};
+ghost use Rattle.arranged_county.specs.LandmarkItems.{HaveSameBodies};
 ghost use Rattle.tl_number.specs.OpenKeys.{AreOpenKeys, keys_along};
 
-use crate::arranged_tables::{Ends, Sides};
 use crate::critical_places::{
     critical_places, critical_polygons, has_open_links, new_at_places, open_among,
 };
-use crate::first_appearance::links_along;
 use crate::key_groups::PairKeys;
-use crate::landmark_bodies::same_bodies;
 use crate::numbered_arrangement::NumberedArrangement;
-use crate::numbers::Interner;
 use crate::open_keys::{OpenKeys, open_keys, order_of};
 use crate::open_names::{OpenNames, open_names};
-use crate::pairing::both;
+use arranged_county::{Ends, Interner, Sides, both, links_along, same_bodies};
 use county_chart::{Chart, DirectedChain, PolygonKey};
 use std::alloc::{AllocError, Global};
 use tl_profile::{OpenPlace, ShapeOrder};

@@ -1,41 +1,20 @@
 //! Passing the records of an arranged county to a visitor, in the order of its packing.
 
-ghost use Rattle.std.specs.Prelude.{◌++◌, OnOk, map};
+ghost use Rattle.std.specs.Prelude.{OnOk};
 ghost use Rattle.county_chart.specs.Packing.{packed};
-ghost use Rattle.tl_number.specs.CountyGroups.{types_1_to_4, types_5_to_7, types_8_to_p};
-ghost use Rattle.tl_number.specs.Groups.{grouped};
-ghost use Rattle.tl_number.specs.Views.{arranged_county};
+ghost use Rattle.record_groups.specs.CountyGroups.{types_1_to_4, types_5_to_7, types_8_to_p};
+ghost use Rattle.arranged_county.specs.Views.{arranged_county};
 
-use crate::arranged::{Arranged, Evidence};
-use crate::chain_records::{ChainRecords, SequencedRecords, TopologyRecords};
-use crate::groups::{RecordGroups, visit_groups};
-use crate::heads::HeadBuffers;
-use crate::name_records::{LandmarkLinkRecords, LandmarkRecords, NameRecords};
+use crate::landmark_link_records::LandmarkLinkRecords;
 use crate::polygon_records::PolygonRecords;
-use crate::visitor::RecordVisitor;
+use arranged_county::{Arranged, Evidence};
 use county_chart::Chart;
+use record_groups::{
+    ChainRecords, HeadBuffers, LandmarkRecords, NameRecords, RecordVisitor, SequencedRecords,
+    TopologyRecords, visit_three,
+};
 use std::marker::PhantomData;
 use tl_layout::{Rec2, Rec4, Rec6};
-
-/// Passes on the records of three types, one type after another.
-fn visit_three<D, A: RecordGroups, B: RecordGroups, C: RecordGroups, T: RecordVisitor<D>>(
-    first: &A,
-    second: &B,
-    third: &C,
-    buffers: &mut HeadBuffers,
-    visitor: &mut T,
-    device: &mut D,
-) -> Result<(), T::Fault>
-    requires { T.IsReady visitor.old device.old }
-    ensures given { T.Takes (map A.Item.as_record (grouped (A.groups first.now))
-        ++ (map B.Item.as_record (grouped (B.groups second.now)) ++ map C.Item.as_record (grouped (C.groups third.now))))
-        visitor.old device.old result visitor.new device.new }
-    ensures ready { OnOk result (T.IsReady visitor.new device.new) }
-{
-    visit_groups(first, A::buffer(buffers), visitor, device)?;
-    visit_groups(second, B::buffer(buffers), visitor, device)?;
-    visit_groups(third, C::buffer(buffers), visitor, device)
-}
 
 /// Passes the records of the types 1, 2 and 4.
 fn visit_chains<D, C: Chart, S: Evidence, T: RecordVisitor<D>>(

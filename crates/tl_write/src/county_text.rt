@@ -4,7 +4,7 @@ ghost use Rattle.std.specs.Prelude.{◌≡◌, ◌<◌, ◌+◌, ◌++◌, ℕ, 
 ghost use Rattle.county_chart.specs.Packing.{packed};
 ghost use Rattle.tl_layout.specs.RecordText.{text_of};
 ghost use Rattle.canonical_form.specs.Canonical.{IsCanonical};
-ghost use Rattle.tl_number.specs.Views.{arranged_county};
+ghost use Rattle.arranged_county.specs.Views.{arranged_county};
 
 use crate::fault::WriteFault;
 use crate::sink::Sink;

@@ -1,7 +1,7 @@
 //! A buffer between the lines of a text and the sink that it is written to.
 
 ghost use Rattle.std.specs.Prelude.{◌≡◌, ◌<◌, ◌≤◌, ◌+◌, ◌++◌, ◌∷◌, ℕ, List, [], length, MatchResult, OnOk, Some, is_ok, slice_get, if◌then◌else◌};
-ghost use Rattle.tl_number.specs.Groups.{group_at};
+ghost use Rattle.record_groups.specs.Groups.{group_at};
 ghost use Rattle.tl_write.specs.GoingOut.{HasCounted, HoldsBeginning, IsGoingOut, up_to_most};
 
 use crate::bytes_out::write_bytes;

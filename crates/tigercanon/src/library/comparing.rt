@@ -13,7 +13,7 @@ ghost use Rattle.tigercanon.specs.Stopping.{stopped_by};
 ghost use Rattle.tigercanon.specs.Sets.{CarriesSet, CarriesSetThrough, IsCanonSetThrough};
 ghost use Rattle.county_chart.specs.MaskedCounty.{masked};
 ghost use Rattle.county_chart.specs.Renumbering.{Renumbering};
-ghost use Rattle.tl_number.specs.Views.{arranged_county, source_of};
+ghost use Rattle.arranged_county.specs.Views.{arranged_county, source_of};
 
 use crate::fault::Fault;
 use crate::library::comparison::Comparison;

@@ -5,7 +5,7 @@ ghost use Rattle.tigercanon.specs.Findings.{Finding, IsFoundOfCounties, finding_
 ghost use Rattle.tigercanon.specs.Findings.Finding.{OneMap, TwoMaps};
 ghost use Rattle.county_chart.specs.Packing.{packed};
 ghost use Rattle.county_chart.specs.Renumbering.{Carries};
-ghost use Rattle.tl_number.specs.Views.{arranged_county, source_of};
+ghost use Rattle.arranged_county.specs.Views.{arranged_county, source_of};
 
 use crate::library::comparing::Verdict;
 use std::alloc::{AllocError, Global};

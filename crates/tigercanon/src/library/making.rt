@@ -8,7 +8,7 @@ ghost use Rattle.county_chart.specs.MaskedCounty.{masked};
 ghost use Rattle.tl_layout.specs.declared.mask.Mask.{Mask};
 ghost use Rattle.tl_layout.specs.declared.record_type.Record.{Record};
 ghost use Rattle.canonical_form.specs.Sights.{plain};
-ghost use Rattle.tl_number.specs.Views.{arranged_county, source_of};
+ghost use Rattle.arranged_county.specs.Views.{arranged_county, source_of};
 
 use crate::fault::Fault;
 use crate::library::linked::admitted_county;

@@ -8,7 +8,7 @@ ghost use Rattle.tigercanon.specs.Sets.{CarriesSetThrough, IsCanonicalTextThroug
 ghost use Rattle.county_chart.specs.MaskedCounty.{masked};
 ghost use Rattle.county_chart.specs.Packing.{packed};
 ghost use Rattle.tl_layout.specs.RecordText.{text_of};
-ghost use Rattle.tl_number.specs.Views.{arranged_county};
+ghost use Rattle.arranged_county.specs.Views.{arranged_county};
 
 use crate::library::hashing::Hashing;
 use crate::library::making::Product;

@@ -6,22 +6,22 @@ use Rattle.tl_number.proofs.Common.{StandInOrder, arranged, choice_list, choices
 use Rattle.tl_number.proofs.Common.{most_records, moved, not_greater, numbered_choice, ones_cmp, ones_of, open_places, ordering_then}
 use Rattle.tl_number.proofs.Common.{other_way, packed, points_along, points_cmp, polygon_keys, polygons_along, tied_itself, upto}
 use Rattle.std.specs.Ordering.{is_le}
-use Rattle.tl_number.specs.MovedChains.{AgreeButOpen}
-use Rattle.tl_number.specs.TypeOneOrder.{IsLeastOne}
+use Rattle.canonical_form.specs.MovedChains.{AgreeButOpen}
+use Rattle.record_groups.specs.TypeOneOrder.{IsLeastOne}
 use Rattle.canonical_form.proofs.Arrangements.ArrangedCounties.{arranged_county}
 use Rattle.canonical_form.proofs.Arrangements.ArrangedNumbers.{arrangement_within}
-use Rattle.tl_number.proofs.Views.ArrangedViews.{whole_arrangement}
-use Rattle.tl_number.proofs.Choices.ChosenArrangements.{places_in_order, places_within, arrangement_of_number, arrangement_of_number_apart, arrangement_of_number_count}
-use Rattle.tl_number.proofs.Choices.ChosenArrangements.{arrangement_of_number_there, arrangement_of_number_once}
+use Rattle.canonical_form.proofs.Views.ArrangedViews.{whole_arrangement}
+use Rattle.canonical_form.proofs.Choices.ChosenArrangements.{places_in_order, places_within, arrangement_of_number, arrangement_of_number_apart, arrangement_of_number_count}
+use Rattle.canonical_form.proofs.Choices.ChosenArrangements.{arrangement_of_number_there, arrangement_of_number_once}
 use Rattle.canonical_form.proofs.Choices.Choosing.{one_more}
-use Rattle.tl_number.proofs.Texts.GroupOrders.{records_total}
-use Rattle.tl_number.proofs.Choices.FixedPlaces.{agree_both}
+use Rattle.record_groups.proofs.Texts.GroupOrders.{records_total}
+use Rattle.canonical_form.proofs.Choices.FixedPlaces.{agree_both}
 use Rattle.tl_number.proofs.Choices.LeastNumbers.{lesser_of}
-use Rattle.tl_number.proofs.Choices.SameChoices.{choices_same}
+use Rattle.canonical_form.proofs.Choices.SameChoices.{choices_same}
 use Rattle.tl_number.proofs.Texts.SameChains.{arranged_by_same}
 use Rattle.canonical_form.proofs.Choices.TidyChoices.{numbered_is_choice}
 use Rattle.canonical_form.proofs.CanonicalLists.TidyLists.{not_after_itself}
-use Rattle.tl_number.proofs.Texts.TypeOrders.{texts_in_order}
+use Rattle.record_groups.proofs.Texts.TypeOrders.{texts_in_order}
 use Rattle.canonical_form.proofs.Lists.Counting.{less_from}
 
 pub greater_from : (o : Ordering) → is_le o ≡ false → is_gt o ≡ true

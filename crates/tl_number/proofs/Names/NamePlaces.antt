@@ -16,18 +16,19 @@ use Rattle.ordered_lists.proofs.Lists.Ranges.{less}
 use Rattle.county_chart.specs.BodyOrder.{name_body_cmp}
 use Rattle.county_chart.specs.ChartWords.{name_under}
 use Rattle.county_chart.specs.Laws.KeyOrders.{name_body_keys}
-use Rattle.tl_number.specs.NameItems.{rank_of}
+use Rattle.arranged_county.specs.NameItems.{rank_of}
 use Rattle.tl_number.specs.OpenNames.{feats_in_order}
 use Rattle.canonical_form.proofs.Arrangements.Carrying.{names_permutation}
-use Rattle.tl_number.proofs.Choices.AscendingArrangement.{options_total}
+use Rattle.canonical_form.proofs.Choices.AscendingArrangement.{options_total}
 use Rattle.tl_number.proofs.Lists.OrderPlaces.{by_number, compare_alike, in_order-among, numbered_order, place_counted}
-use Rattle.tl_number.proofs.Names.NameOrder.{by_uses, then_assoc}
-use Rattle.tl_number.proofs.Names.NameRanks.{greater, ranked_there, unranked}
+use Rattle.arranged_county.proofs.Names.NameOrder.{by_uses}
+use Rattle.canonical_form.proofs.Lists.ListPlaces.{then_assoc}
+use Rattle.arranged_county.proofs.Names.NameRanks.{greater, ranked_there, unranked}
 use Rattle.canonical_form.proofs.Numbering.FirstSeen.{unknown_at_end}
 use Rattle.tl_number.proofs.Ties.Counterparts.{there_found}
 use Rattle.tl_number.proofs.Ties.NewlySeen.{AreAlike}
 use Rattle.canonical_form.proofs.Unique.SameNames.{name_key_keys}
-use Rattle.tl_number.proofs.Views.ViewChains.{arranges}
+use Rattle.canonical_form.proofs.Views.ViewChains.{arranges}
 
 -- FEATs by the content of their names, then by their ranks, then by themselves
 abbrev pub feat_cmp : County → List ℕ → ℕ → ℕ → Ordering

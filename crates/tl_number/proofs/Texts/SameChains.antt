@@ -10,8 +10,8 @@ use Rattle.canonical_form.proofs.Arrangements.Carrying.{chains_arranged, names_a
 use Rattle.tl_number.proofs.Landmarks.BodiesFirst.{same_landmarks}
 use Rattle.tl_number.proofs.Texts.SamePolygons.{LinksAgree, links_agree, new_polygons_same, same_links, same_polygons}
 use Rattle.canonical_form.proofs.Unique.SameNumbers.{kept_entry}
-use Rattle.tl_number.proofs.Views.ArrangedTables.{same_somes}
-use Rattle.tl_number.proofs.Views.ViewChains.{arranges, bodies_read, chains}
+use Rattle.arranged_county.proofs.Views.ArrangedTables.{same_somes}
+use Rattle.canonical_form.proofs.Views.ViewChains.{arranges, bodies_read, chains}
 
 pub the_same : {X : Type 0} (x y : X) → Some x ≡ Some y → x ≡ y
 the_same x y e = cc

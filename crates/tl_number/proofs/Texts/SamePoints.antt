@@ -5,7 +5,7 @@ use Rattle.tl_number.proofs.Common.{in_order-equal, in_pieces, inner_points, len
 use Rattle.tl_number.proofs.Common.{points_cmp, points_keys, polygon_keys, polygons_along, type_2_by_chain, up_to}
 use Rattle.ordered_lists.proofs.Lists.Reordered.{SameElements, times-same}
 use Rattle.canonical_form.proofs.Arrangements.ArrangedCounties.{is_arranged}
-use Rattle.tl_number.proofs.Choices.SameChoices.{choices_same}
+use Rattle.canonical_form.proofs.Choices.SameChoices.{choices_same}
 use Rattle.canonical_form.proofs.Choices.TidyChoices.{numbered_is_choice}
 use Rattle.canonical_form.proofs.CanonicalLists.SameShapes.{points_in_order, shapes_carried, tidy_shapes}
 

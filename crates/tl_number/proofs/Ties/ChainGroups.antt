@@ -4,9 +4,9 @@ use Rattle.tl_number.proofs.Common.{AreWhole, Chain, County, DirectedChain, IsCo
 use Rattle.tl_number.proofs.Common.{numbered_from, renaming_of, renumbered, slice_get}
 use Rattle.canonical_form.proofs.Arrangements.Carrying.{chains_arranged}
 use Rattle.tl_number.proofs.Texts.SameChains.{the_same}
-use Rattle.tl_number.proofs.Ties.OpenPlaces.{groups_from}
+use Rattle.record_groups.proofs.Texts.OpenPlaces.{groups_from}
 use Rattle.canonical_form.proofs.Unique.SameNumbers.{kept_entry}
-use Rattle.tl_number.proofs.Views.ViewChains.{arranges, bodies_read, chains, read_length, read_nowhere, read_there}
+use Rattle.canonical_form.proofs.Views.ViewChains.{arranges, bodies_read, chains, read_length, read_nowhere, read_there}
 
 -- groups made of elements and their numbers
 numbered_groups : {X Y : Type 0} (under : ℕ → X → List Y) (F : ℕ → List Y) (xs : List X) (p : ℕ)

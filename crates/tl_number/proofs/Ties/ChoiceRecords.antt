@@ -18,7 +18,7 @@ use Rattle.tl_number.specs.ChoiceSearch.{LeavesChoices}
 use Rattle.tl_number.specs.TieRecords.{numbered_node, numbered_polygon, numbered_side}
 use Rattle.tl_number.specs.declared.tie_tables.OpenOrder.{OpenOrder}
 use Rattle.tl_number.specs.declared.tie_tables.TieTables.{TieTables}
-use Rattle.tl_number.proofs.Texts.TopologyRecords.{entry_of_directed}
+use Rattle.record_groups.proofs.Texts.TopologyRecords.{entry_of_directed}
 use Rattle.tl_number.proofs.Ties.CriticalKeys.{chains_of, key_of_chain, new_of}
 use Rattle.tl_number.proofs.Ties.TakenPlaces.{each_place}
 use Rattle.tl_number.proofs.Ties.TieNumbers.{as_many_places, few_by_shape, length_numbered, place_is, whole_numbered}

@@ -11,8 +11,8 @@ use Rattle.tl_shape.specs.Turned.{turned}
 use Rattle.tl_number.specs.ChoiceSearch.{LeavesChoices}
 use Rattle.tl_number.specs.CriticalKeys.{brings, fixed_keys}
 use Rattle.tl_number.specs.declared.open_keys.OpenKeys.{OpenKeys}
-use Rattle.tl_number.proofs.Choices.ChosenArrangements.{arrangement_of_number_apart}
-use Rattle.tl_number.proofs.Landmarks.LandmarkLinks.{pieces_next}
+use Rattle.canonical_form.proofs.Choices.ChosenArrangements.{arrangement_of_number_apart}
+use Rattle.arranged_county.proofs.Landmarks.LandmarkLinks.{pieces_next}
 use Rattle.canonical_form.proofs.Numbering.FirstSeen.{to_first_seen}
 use Rattle.tl_number.proofs.Ties.NewlySeen.{AreAlike}
 use Rattle.tl_number.proofs.Ties.OpenChains.{closed_apart}

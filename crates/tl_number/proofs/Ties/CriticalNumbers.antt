@@ -12,7 +12,7 @@ use Rattle.tl_number.specs.CriticalKeys.{brings, fixed_keys, has_new}
 use Rattle.tl_number.specs.CriticalPlaces.{critical_from}
 use Rattle.tl_number.specs.declared.open_keys.OpenKeys.{OpenKeys}
 use Rattle.canonical_form.proofs.Numbering.FirstSeen.{from_first_seen, to_first_seen}
-use Rattle.tl_number.proofs.Numbering.SeenLists.{seen_append}
+use Rattle.arranged_county.proofs.Numbering.SeenLists.{seen_append}
 use Rattle.tl_number.proofs.Ties.CriticalKeys.{fixed_more}
 
 -- Critical numbers.

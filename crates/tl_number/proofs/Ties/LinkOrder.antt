@@ -13,13 +13,13 @@ use Rattle.tl_number.specs.OpenKeys.{ArePlacedBy, all_by_order, key_by_order, pl
 use Rattle.tl_number.specs.declared.tie_tables.TieTables.{TieTables}
 use Rattle.canonical_form.proofs.Numbering.FoundPlaces.{to_position}
 use Rattle.canonical_form.proofs.Numbering.NewNumbers.{key_seen, key_unseen}
-use Rattle.tl_number.proofs.Texts.GroupOrders.{same_groups}
+use Rattle.record_groups.proofs.Texts.GroupOrders.{same_groups}
 use Rattle.tl_number.proofs.Texts.SamePolygons.{LinksAgree, same_links}
 use Rattle.tl_number.proofs.Ties.OpenLinks.{all_fail}
 use Rattle.tl_number.proofs.Ties.PolygonOrder.{as_many_seen}
 use Rattle.tl_number.proofs.Ties.TieNumbers.{as_many_places, counterparts, key_is, place_is, whole_numbered}
 use Rattle.tl_number.proofs.Ties.TopologyOrder.{all_polygons, turned_polygons}
-use Rattle.tl_number.proofs.Views.ViewChains.{arranges}
+use Rattle.canonical_form.proofs.Views.ViewChains.{arranges}
 
 -- a key at one place in two lists of one length has one number in both
 image_by_place : (ks js : List PolygonKey) (k : PolygonKey) → place_in key_cmp ks k ≡ place_in key_cmp js k → length ks ≡ length js

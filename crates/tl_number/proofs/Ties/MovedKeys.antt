@@ -6,7 +6,7 @@ use Rattle.tl_number.proofs.Common.{append-nil, inl, inr, known-right, length-ap
 use Rattle.std.proofs.lemmas.Grind.{flat_map-append}
 use Rattle.std.proofs.lemmas.List.{take-append-drop}
 use Rattle.ordered_lists.proofs.ByKey.Keys.{known-append, known-left}
-use Rattle.tl_number.proofs.Choices.FixedPlaces.{moved_count}
+use Rattle.canonical_form.proofs.Choices.FixedPlaces.{moved_count}
 use Rattle.tl_number.proofs.Ties.NewlySeen.{AreAlike, alike_itself}
 use Rattle.tl_number.proofs.Ties.OpenChains.{Covers}
 use Rattle.tl_number.proofs.Ties.Counterparts.{AreExchanged, exchanged_itself, exchanged_of_block, exchanged_then}

@@ -11,14 +11,14 @@ use Rattle.ordered_lists.proofs.Lists.Permutations.{apart-permutation_of}
 use Rattle.ordered_lists.proofs.Lists.Reordered.{stands_alike}
 use Rattle.ordered_lists.specs.Places.{at_places}
 use Rattle.tl_number.specs.ChoiceSearch.{LeavesChoices}
-use Rattle.tl_number.specs.NameItems.{AreSortedNames, ranked_at}
+use Rattle.arranged_county.specs.NameItems.{AreSortedNames, ranked_at}
 use Rattle.tl_number.specs.OpenKeys.{open_among, place_by_order}
 use Rattle.tl_number.specs.OpenNames.{AreFewFeats, AreOpenNames, chain_feats, feats_among, feats_in_order, fours_at, fours_of, fours_under, numbered_feat, open_feats}
-use Rattle.tl_number.specs.OpenRanges.{open_chain}
+use Rattle.record_groups.specs.OpenRanges.{open_chain}
 use Rattle.tl_number.specs.declared.open_names.OpenNames.{OpenNames}
 use Rattle.tl_shape.specs.Turned.{turned}
-use Rattle.tl_number.proofs.Arrangements.PlacesFit.{few_names}
-use Rattle.tl_number.proofs.Choices.AscendingArrangement.{arrangement_ascend}
+use Rattle.canonical_form.proofs.Arrangements.PlacesFit.{few_names}
+use Rattle.canonical_form.proofs.Choices.AscendingArrangement.{arrangement_ascend}
 use Rattle.canonical_form.proofs.Choices.TidyChoices.{shapes_arrange}
 use Rattle.tl_number.proofs.Names.NamePlaces.{feats_permuted, name_stays}
 use Rattle.canonical_form.proofs.Numbering.FirstSeen.{from_first_seen, known_within, unknown_at_end}
@@ -30,7 +30,7 @@ use Rattle.tl_number.proofs.Ties.NewlySeen.{AreAlike, alike_itself, seen_newly}
 use Rattle.tl_number.proofs.Ties.OpenAmong.{as_many_placed, counterparts_among, in_filtered, placed_by_order, to_filtered}
 use Rattle.tl_number.proofs.Ties.TieNumbers.{counterparts, kept, order_among, there_by_shape, whole_numbered}
 use Rattle.tl_number.proofs.Ties.TieReading.{opened_apart}
-use Rattle.tl_number.proofs.Views.ArrangedViews.{whole_arrangement}
+use Rattle.canonical_form.proofs.Views.ArrangedViews.{whole_arrangement}
 
 -- if elements are distinct, the places at which some were read are their places in the list
 places_are : (fs places found : List ℕ) → IsApart nat_cmp fs → AreReadAt fs places found → places ≡ map (place_in nat_cmp fs) found

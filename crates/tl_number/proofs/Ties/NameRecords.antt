@@ -17,17 +17,18 @@ use Rattle.tl_layout.specs.RecordTypes.{fields_spelling}
 use Rattle.tl_number.specs.ChoiceSearch.{LeavesChoices}
 use Rattle.tl_number.specs.CriticalKeys.{brings}
 use Rattle.tl_number.specs.OpenNames.{chain_feats, fours_at, fours_of, fours_under, is_named, named_among}
-use Rattle.tl_number.proofs.Choices.SameChoices.{choices_same}
-use Rattle.tl_number.proofs.Landmarks.LandmarkOrder.{cmp_mapped}
+use Rattle.canonical_form.proofs.Choices.SameChoices.{choices_same}
+use Rattle.arranged_county.proofs.Landmarks.LandmarkOrder.{cmp_mapped}
 use Rattle.canonical_form.proofs.Lists.Counting.{flat_map-map}
-use Rattle.tl_number.proofs.Records.Grouped.{grouped_map, none_past}
-use Rattle.tl_number.proofs.Records.Pieces.{numbered_list_length, pieces_counted}
-use Rattle.tl_number.proofs.Texts.TopologyRecords.{entry_of_directed}
+use Rattle.record_groups.proofs.Records.Grouped.{grouped_map}
+use Rattle.canonical_form.proofs.Lists.ListPlaces.{none_past}
+use Rattle.record_groups.proofs.Records.Pieces.{numbered_list_length, pieces_counted}
+use Rattle.record_groups.proofs.Texts.TopologyRecords.{entry_of_directed}
 use Rattle.tl_number.proofs.Ties.ChainGroups.{chains_by_place}
 use Rattle.tl_number.proofs.Ties.CriticalKeys.{Stay, alike_there, chains_of, fixed_there, new_of}
-use Rattle.tl_number.proofs.Ties.NumberTexts.{number_decides}
-use Rattle.tl_number.proofs.Ties.OpenPlaces.{groups_from, those_decide, those_groups}
-use Rattle.tl_number.proofs.Ties.RecordExact.{four_exact, fours_fit}
+use Rattle.record_groups.proofs.Texts.NumberTexts.{number_decides}
+use Rattle.record_groups.proofs.Texts.OpenPlaces.{groups_from, those_decide, those_groups}
+use Rattle.record_groups.proofs.Texts.RecordExact.{four_exact, fours_fit}
 use Rattle.tl_number.proofs.Ties.TieNumbers.{choice_of, few_by_shape, length_numbered, whole_numbered}
 
 abbrev four_cmp : Fields4 → Fields4 → Ordering

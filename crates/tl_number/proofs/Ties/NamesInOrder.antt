@@ -14,21 +14,21 @@ use Rattle.ordered_lists.proofs.Lists.Elements.{flat_map_agree}
 use Rattle.ordered_lists.proofs.Lists.EntryLists.{value-at_place}
 use Rattle.county_chart.specs.BodyOrder.{name_body_cmp}
 use Rattle.county_chart.specs.ChartWords.{name_under}
-use Rattle.tl_number.specs.NameItems.{rank_of, ranked_at, ranked_cmp, ranked_place}
+use Rattle.arranged_county.specs.NameItems.{rank_of, ranked_at, ranked_cmp, ranked_place}
 use Rattle.tl_number.specs.OpenNames.{chain_feats, feats_among, feats_in_order, open_feats}
-use Rattle.tl_number.specs.declared.name_order.RankedName.{RankedName}
+use Rattle.arranged_county.specs.declared.name_order.RankedName.{RankedName}
 use Rattle.canonical_form.proofs.Arrangements.Carrying.{names_renamed}
 use Rattle.canonical_form.proofs.Lists.Counting.{flat_map-map}
 use Rattle.canonical_form.proofs.Lists.Grouping.{in_order-filter}
 use Rattle.tl_number.proofs.Lists.OrderPlaces.{in_order-among, places_compare}
-use Rattle.tl_number.proofs.Names.NameOrder.{filter_map_all}
+use Rattle.arranged_county.proofs.Names.NameOrder.{filter_map_all}
 use Rattle.tl_number.proofs.Names.NamePlaces.{feat_cmp, feat_keys, feats_ordered, feats_permuted}
-use Rattle.tl_number.proofs.Names.NameRanks.{ranked_there}
+use Rattle.arranged_county.proofs.Names.NameRanks.{ranked_there}
 use Rattle.canonical_form.proofs.Numbering.FirstSeen.{first_seen-apart}
 use Rattle.canonical_form.proofs.Numbering.NewNumbers.{image-numbered}
 use Rattle.tl_number.proofs.Ties.OpenAmong.{cmp_alike, in_filtered, opened_among, order_filtered, to_filtered}
-use Rattle.tl_number.proofs.Views.DirectedChains.{among-get}
-use Rattle.tl_number.proofs.Views.ViewChains.{arranges}
+use Rattle.canonical_form.proofs.Views.DirectedChains.{among-get}
+use Rattle.canonical_form.proofs.Views.ViewChains.{arranges}
 
 -- Joining the FEATs of all chains gives the FEATs along the arrangement.
 same_feats : (chain : Option Chain) → flat_map chain_feats (option_to_list chain) ≡ feats_of chain

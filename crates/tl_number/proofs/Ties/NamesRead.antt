@@ -5,12 +5,12 @@ use Rattle.tl_number.proofs.Common.{chain_at, Chain, County, DirectedChain, Fiel
 use Rattle.tl_number.proofs.Common.{nat_cmp, nat_keys, place_in, turned_if}
 use Rattle.ordered_lists.specs.Places.{at_places}
 use Rattle.tl_number.specs.OpenNames.{AreFewFeats, fours_at, fours_of, numbered_feat}
-use Rattle.tl_number.specs.OpenRanges.{open_chain}
+use Rattle.record_groups.specs.OpenRanges.{open_chain}
 use Rattle.tl_number.specs.declared.open_keys.OpenKeys.{OpenKeys}
-use Rattle.tl_number.proofs.Records.ChainPlaces.{chain_there}
-use Rattle.tl_number.proofs.Records.Grouped.{group_of}
-use Rattle.tl_number.proofs.Records.Pieces.{numbered_list_at, numbered_list_length, piece_begins, pieces_at, pieces_counted}
-use Rattle.tl_number.proofs.Records.RecordPlaces.{four_of}
+use Rattle.canonical_form.proofs.Views.ChainPlaces.{chain_there}
+use Rattle.record_groups.proofs.Records.Grouped.{group_of}
+use Rattle.record_groups.proofs.Records.Pieces.{numbered_list_at, numbered_list_length, piece_begins, pieces_at, pieces_counted}
+use Rattle.record_groups.proofs.Records.RecordPlaces.{four_of}
 use Rattle.tl_number.proofs.Ties.Counterparts.{there_found}
 
 -- the places at which some elements were read, found among the places at which all were read

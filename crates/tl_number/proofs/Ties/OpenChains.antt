@@ -3,7 +3,7 @@ use Rattle.tl_number.proofs.Common.{◌≡◌, ◌<◌, ◌≤◌, ◌+◌, ◌&
 use Rattle.tl_number.proofs.Common.{Bool, true, false, sym, refl, ap, ◌∙◌, AllByRecursion}
 use Rattle.tl_number.proofs.Common.{OpenPlace, false≢true, is_open, lt-ltb, ltb-false}
 use Rattle.std.proofs.lemmas.Bool.{and_from, le-leb}
-use Rattle.tl_number.specs.MovedChains.{IsApart}
+use Rattle.canonical_form.specs.MovedChains.{IsApart}
 
 -- a place that isn't open is apart from each open place
 pub closed_apart : (place : ℕ) (places : List OpenPlace) → is_open places place ≡ false → AllByRecursion (IsApart place) places

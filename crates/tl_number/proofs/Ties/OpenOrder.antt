@@ -8,7 +8,7 @@ use Rattle.ordered_lists.proofs.ByKey.Keys.{known-append, known-later, known-lef
 use Rattle.ordered_lists.proofs.Lists.Reordered.{stands_alike}
 use Rattle.tl_number.proofs.Ties.NewlySeen.{AreAlike, newly_unseen, seen_newly}
 use Rattle.tl_number.proofs.Ties.Counterparts.{opened_new}
-use Rattle.tl_number.proofs.Numbering.SeenLists.{seen_append}
+use Rattle.arranged_county.proofs.Numbering.SeenLists.{seen_append}
 
 module _ {K : Type 0} {cmp : K → K → Ordering} (o : IsKeyOrder cmp) (chosen : List K) where
   abbrev is_chosen : K → Bool

@@ -16,15 +16,15 @@ use Rattle.tl_number.specs.CriticalPlaces.{has_record, is_open_number}
 use Rattle.tl_number.specs.OpenKeys.{key_by_order}
 use Rattle.tl_number.specs.TieRecords.{polygon_in_choice}
 use Rattle.tl_number.specs.declared.tie_tables.TieTables.{TieTables}
-use Rattle.tl_number.proofs.Landmarks.LandmarkOrder.{cmp_mapped}
+use Rattle.arranged_county.proofs.Landmarks.LandmarkOrder.{cmp_mapped}
 use Rattle.canonical_form.proofs.Numbering.FirstSeen.{first_seen-apart}
-use Rattle.tl_number.proofs.Polygons.PolygonNumbers.{by_number, key_numbered}
+use Rattle.canonical_form.proofs.Arrangements.PolygonNumbers.{by_number, key_numbered}
 use Rattle.tl_number.proofs.Ties.CriticalKeys.{chains_of}
 use Rattle.tl_number.proofs.Ties.GapOrder.{gaps_decide}
-use Rattle.tl_number.proofs.Ties.RecordExact.{polygon_exact, polygons_fit}
+use Rattle.record_groups.proofs.Texts.RecordExact.{polygon_exact, polygons_fit}
 use Rattle.tl_number.proofs.Ties.TieNumbers.{all_alike, key_is, whole_numbered}
 use Rattle.tl_number.proofs.Ties.TopologyOrder.{all_polygons, turned_polygons}
-use Rattle.tl_number.proofs.Views.ViewChains.{arranges}
+use Rattle.canonical_form.proofs.Views.ViewChains.{arranges}
 use Rattle.county_chart.proofs.Packing.Pieces.{length-numbered_from}
 
 -- groups of at most one element each, read by place

@@ -11,15 +11,15 @@ use Rattle.tl_layout.specs.RecordText.{spelling_of}
 use Rattle.tl_layout.specs.RecordTables.{table_6}
 use Rattle.tl_layout.specs.RecordTypes.{fields_spelling}
 use Rattle.tl_number.specs.OpenKeys.{is_open, open_among}
-use Rattle.tl_number.specs.MovedChains.{AgreeButOpen}
-use Rattle.tl_number.specs.OpenRanges.{sixes_at, sixes_of, sixes_under}
-use Rattle.tl_number.proofs.Landmarks.LandmarkOrder.{cmp_mapped}
-use Rattle.tl_number.proofs.Records.Grouped.{grouped_map}
-use Rattle.tl_number.proofs.Texts.TypeOnes.{length_whole}
+use Rattle.canonical_form.specs.MovedChains.{AgreeButOpen}
+use Rattle.record_groups.specs.OpenRanges.{sixes_at, sixes_of, sixes_under}
+use Rattle.arranged_county.proofs.Landmarks.LandmarkOrder.{cmp_mapped}
+use Rattle.record_groups.proofs.Records.Grouped.{grouped_map}
+use Rattle.record_groups.proofs.Texts.TypeOnes.{length_whole}
 use Rattle.tl_number.proofs.Ties.ChainGroups.{chains_by_place}
-use Rattle.tl_number.proofs.Ties.NumberTexts.{number_decides}
+use Rattle.record_groups.proofs.Texts.NumberTexts.{number_decides}
 use Rattle.tl_number.proofs.Ties.OpenChains.{closed_apart}
-use Rattle.tl_number.proofs.Ties.OpenPlaces.{groups_from, those_decide, those_groups}
+use Rattle.record_groups.proofs.Texts.OpenPlaces.{groups_from, those_decide, those_groups}
 
 abbrev six_cmp : Fields6 → Fields6 → Ordering
 six_cmp = on Six spelling_cmp

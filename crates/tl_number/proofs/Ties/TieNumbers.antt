@@ -11,15 +11,15 @@ use Rattle.ordered_lists.proofs.Lists.AtPlaces.{map-at_places}
 use Rattle.ordered_lists.proofs.ByKey.Keys.{known-append, known-left}
 use Rattle.tl_shape.specs.Turned.{turned}
 use Rattle.tl_number.specs.ChoiceSearch.{LeavesChoices}
-use Rattle.tl_number.specs.MovedChains.{AgreeButOpen}
+use Rattle.canonical_form.specs.MovedChains.{AgreeButOpen}
 use Rattle.tl_number.specs.OpenKeys.{key_by_order, open_among, place_by_order}
 use Rattle.tl_number.specs.declared.open_keys.OpenKeys.{OpenKeys}
-use Rattle.tl_number.proofs.Choices.AscendingArrangement.{arrangement_there}
-use Rattle.tl_number.proofs.Choices.ChosenArrangements.{arrangement_of_number, arrangement_of_number_count, places_within}
+use Rattle.canonical_form.proofs.Choices.AscendingArrangement.{arrangement_there}
+use Rattle.canonical_form.proofs.Choices.ChosenArrangements.{arrangement_of_number, arrangement_of_number_count, places_within}
 use Rattle.tl_number.proofs.Choices.LeastOnes.{agree_of_numbers, whole_of_number}
-use Rattle.tl_number.proofs.Landmarks.LandmarkLinks.{listed}
+use Rattle.arranged_county.proofs.Landmarks.LandmarkLinks.{listed}
 use Rattle.canonical_form.proofs.Numbering.FirstSeen.{first_seen-apart, known_within}
-use Rattle.tl_number.proofs.Texts.TypeOnes.{length_whole}
+use Rattle.record_groups.proofs.Texts.TypeOnes.{length_whole}
 use Rattle.tl_number.proofs.Ties.Counterparts.{AreCounterparts, AreExchanged, AreKept, got_known, key_of_open, key_of_other, opened_new, there_found}
 use Rattle.tl_number.proofs.Ties.MovedKeys.{moved_exchange}
 use Rattle.tl_number.proofs.Ties.NewlySeen.{AreAlike, alike_itself, seen_newly}

@@ -8,22 +8,22 @@ use Rattle.tl_number.proofs.Common.{slice_cmp, text_of, type_1_by_chain, type_2_
 use Rattle.tl_number.proofs.Common.{type_7_by_landmark, type_8_together}
 use Rattle.tl_number.specs.ChoiceSearch.{LeavesChoices}
 use Rattle.tl_number.specs.OpenKeys.{open_among}
-use Rattle.tl_number.specs.OpenRanges.{sixes_at}
-use Rattle.tl_number.specs.RecordOrder.{types_8_to_p_cmp}
+use Rattle.record_groups.specs.OpenRanges.{sixes_at}
+use Rattle.record_groups.specs.RecordOrder.{types_8_to_p_cmp}
 use Rattle.tl_number.specs.TiedRecords.{AreTiedRecords}
 use Rattle.tl_number.specs.declared.tie_records.TiedRecords.{TiedRecords}
 use Rattle.tl_number.specs.declared.tie_tables.TieTables.{TieTables}
 use Rattle.tl_number.proofs.Texts.SamePoints.{twos_of_numbers}
 use Rattle.tl_number.proofs.Landmarks.BodiesFirst.{same_landmarks}
 use Rattle.tl_number.proofs.Names.ContentFirst.{same_type_5}
-use Rattle.tl_number.proofs.Texts.GroupOrders.{same_groups}
-use Rattle.tl_number.proofs.Texts.TypeOrders.{tied_texts_in_order}
+use Rattle.record_groups.proofs.Texts.GroupOrders.{same_groups}
+use Rattle.record_groups.proofs.Texts.TypeOrders.{tied_texts_in_order}
 use Rattle.tl_number.proofs.Ties.NameRecords.{one_map}
 use Rattle.tl_number.proofs.Ties.PolygonOrder.{polygons_order}
 use Rattle.tl_number.proofs.Ties.RangeOrder.{ranges_order}
 use Rattle.tl_number.proofs.Ties.TieNumbers.{agree_of_both, choice_of, length_numbered, whole_numbered}
 use Rattle.tl_number.proofs.Ties.TopologyOrder.{topologies_order}
-use Rattle.tl_number.proofs.Views.ViewChains.{arranges}
+use Rattle.canonical_form.proofs.Views.ViewChains.{arranges}
 
 -- a comparison and then one that finds both equal
 then_equal : (o : Ordering) → ordering_then o Equal ≡ o

@@ -20,17 +20,17 @@ use Rattle.tl_number.specs.CriticalPlaces.{is_critical}
 use Rattle.tl_number.specs.declared.tie_tables.TieTables.{TieTables}
 use Rattle.canonical_form.proofs.Lists.Counting.{flat_map-map}
 use Rattle.canonical_form.proofs.Numbering.NewNumbers.{image-numbered, image-under_cenid}
-use Rattle.tl_number.proofs.Records.Grouped.{grouped_map}
-use Rattle.tl_number.proofs.Records.PackedGroups.{is as is_packed}
-use Rattle.tl_number.proofs.Texts.TopologyRecords.{entry_of_directed, no_topology, topology_record_there}
-use Rattle.tl_number.proofs.Texts.TypeOnes.{same_one}
+use Rattle.record_groups.proofs.Records.Grouped.{grouped_map}
+use Rattle.record_groups.proofs.Records.PackedGroups.{is as is_packed}
+use Rattle.record_groups.proofs.Texts.TopologyRecords.{entry_of_directed, no_topology, topology_record_there}
+use Rattle.record_groups.proofs.Texts.TypeOnes.{same_one}
 use Rattle.tl_number.proofs.Ties.CriticalKeys.{alike_there, chains_of, fixed_there, new_of, places_stay}
 use Rattle.tl_number.proofs.Ties.NewlySeen.{AreAlike}
-use Rattle.tl_number.proofs.Ties.PartOrder.{part_decides}
-use Rattle.tl_number.proofs.Ties.RecordExact.{topologies_fit, topology_exact}
+use Rattle.record_groups.proofs.Texts.PartOrder.{part_decides}
+use Rattle.record_groups.proofs.Texts.RecordExact.{topologies_fit, topology_exact}
 use Rattle.tl_number.proofs.Ties.TieNumbers.{length_numbered, swapped_alike, whole_numbered}
-use Rattle.tl_number.proofs.Views.ViewChains.{bodies_read, chains, chains_arranged_by}
-use Rattle.tl_number.proofs.Views.ViewTables.{keys_paired, nodes_paired}
+use Rattle.canonical_form.proofs.Views.ViewChains.{bodies_read, chains, chains_arranged_by}
+use Rattle.arranged_county.proofs.Views.ViewTables.{keys_paired, nodes_paired}
 
 -- values read from each directed chain are read from the chains in their new order
 read_along : (county : County) (is : IsCounty county) {X : Type 0} (part : Option Chain → X) (arrangement : List DirectedChain)

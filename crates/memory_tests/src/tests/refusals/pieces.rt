@@ -2,7 +2,7 @@
 
 ghost use Rattle.std.specs.Prelude.{◌≡◌};
 ghost use Rattle.canonical_form.specs.Arrangement.{ascending};
-ghost use Rattle.tl_number.specs.DirectedChains.{HasChainsOf, arrangement_of};
+ghost use Rattle.canonical_form.specs.DirectedChains.{HasChainsOf, arrangement_of};
 ghost use Rattle.tl_profile.specs.Profile.{IsInProfile};
 
 use super::super::Host;

@@ -1,6 +1,6 @@
 use Rattle.tl_number.proofs.Common.{◌∙◌, ap, sym, subst, IsLeastChoice, numbered_arrangement}
 use Rattle.tl_number.proofs.Lemmas.{arrangement_of_number, places_within}
-use Rattle.tl_number.proofs.Choices.ChosenArrangements.{arrangement_of_number_there, arrangement_of_number_once}
+use Rattle.canonical_form.proofs.Choices.ChosenArrangements.{arrangement_of_number_there, arrangement_of_number_once}
 use Rattle.canonical_form.proofs.CanonicalLists.TidyLists.{least_of_all}
 use Rattle.tl_number.proofs.least_choice.least_arrangement.Goals as goal
 

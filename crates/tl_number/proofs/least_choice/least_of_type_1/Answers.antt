@@ -1,5 +1,5 @@
 use Rattle.tl_number.proofs.Common.{◌≡◌, ◌+◌, is_gt, sym, ap, ◌∙◌, subst, true, IsChosen, ones_cmp}
-use Rattle.tl_number.specs.TypeOneOrder.{IsLeastOne}
+use Rattle.record_groups.specs.TypeOneOrder.{IsLeastOne}
 use Rattle.tl_number.proofs.Choices.LeastOnes.{first_one, greater_from, one_gives_way}
 use Rattle.tl_number.proofs.least_choice.least_of_type_1.Goals as goal
 

@@ -1,6 +1,6 @@
 -- The choice with the least records of type 1 among the numbers so far.
 use Rattle.tl_number.proofs.Common.{IsChosen}
-use Rattle.tl_number.specs.TypeOneOrder.{IsLeastOne}
+use Rattle.record_groups.specs.TypeOneOrder.{IsLeastOne}
 use Rattle.tl_number.proofs.least_choice.least_of_type_1.Given as goal
 
 abbrev pub invariant-loop-number : goal.invariant-loop-number

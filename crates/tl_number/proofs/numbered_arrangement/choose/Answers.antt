@@ -1,6 +1,6 @@
 use Rattle.tl_number.proofs.Common.{◌∷◌, [], length, sym, ap, ◌∙◌, subst, AreWithin, all_left, moved, other_way}
-use Rattle.tl_number.specs.MovedChains.{IsWithin}
-use Rattle.tl_number.proofs.Choices.MovedChoice.{moved-last}
+use Rattle.canonical_form.specs.MovedChains.{IsWithin}
+use Rattle.canonical_form.proofs.Choices.MovedChoice.{moved-last}
 use Rattle.tl_number.proofs.numbered_arrangement.choose.Goals as goal
 
 pub loop-at-preserved : goal.loop-at-preserved

@@ -2,8 +2,8 @@ use Rattle.tl_number.proofs.Common.{◌≡◌, ◌∙◌, AreWhole, ap, arith, f
 use Rattle.std.proofs.lemmas.Result.{IfOk-at_ok}
 use Rattle.ordered_lists.specs.Places.{at_places}
 use Rattle.tl_number.specs.OpenNames.{feats_in_order}
-use Rattle.tl_number.proofs.Arrangements.PlacesFit.{few_names}
-use Rattle.tl_number.proofs.Polygons.PolygonOrder.{read_mapped}
+use Rattle.canonical_form.proofs.Arrangements.PlacesFit.{few_names}
+use Rattle.arranged_county.proofs.Polygons.PolygonOrder.{read_mapped}
 use Rattle.tl_number.proofs.Ties.NameNumbers.{each_once, whole_by_shape}
 use Rattle.tl_number.proofs.Ties.NamesRead.{read_among}
 use Rattle.tl_number.proofs.Ties.OpenAmong.{in_filtered}

@@ -1,5 +1,5 @@
 use Rattle.tl_number.proofs.Common.{◌≡◌, ◌∙◌, IfOk-weaker, ap, feats, filter_map, has_repeat, has_repeat-apart, map, nat_cmp, nat_keys, numbered_arrangement, slice_get, subst, sym}
-use Rattle.tl_number.specs.NameItems.{AreSortedNames, ranked_at}
+use Rattle.arranged_county.specs.NameItems.{AreSortedNames, ranked_at}
 use Rattle.tl_number.specs.OpenNames.{feats_among, open_feats}
 use Rattle.tl_number.proofs.Ties.NameNumbers.{among_once, names_sorted}
 use Rattle.tl_number.proofs.open_names.names_by_uses.Given.{Over}

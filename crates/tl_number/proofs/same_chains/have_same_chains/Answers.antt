@@ -1,8 +1,8 @@
 use Rattle.tl_number.proofs.Common.{◌∙◌, map, option_map, refl, sym, ap, subst, AllByRecursion}
 use Rattle.tl_number.proofs.Common.{DirectedChain, StandInOrder, directed_chain, slice_get-map}
 use Rattle.tl_number.proofs.Lemmas.{nothing_left}
-use Rattle.tl_number.specs.MovedChains.{IsApart}
-use Rattle.tl_number.proofs.Choices.FixedPlaces.{before_apart, same_everywhere}
+use Rattle.canonical_form.specs.MovedChains.{IsApart}
+use Rattle.canonical_form.proofs.Choices.FixedPlaces.{before_apart, same_everywhere}
 use Rattle.tl_number.proofs.same_chains.have_same_chains.Goals as goal
 
 pub loop-at-init : goal.loop-at-init

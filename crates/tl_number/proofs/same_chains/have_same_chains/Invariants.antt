@@ -1,6 +1,6 @@
 -- The lists of the chains apart from the remaining open places are the same.
 use Rattle.tl_number.proofs.Common.{ℕ, length, AllByRecursion, AreWithin, StandInOrder}
-use Rattle.tl_number.specs.MovedChains.{HaveSameChainAt, IsApart}
+use Rattle.canonical_form.specs.MovedChains.{HaveSameChainAt, IsApart}
 use Rattle.tl_number.proofs.same_chains.have_same_chains.Given as goal
 
 abbrev pub invariant-loop-at : goal.invariant-loop-at

@@ -1,7 +1,7 @@
 use Rattle.tl_number.proofs.Common.{◌+◌, ◌-◌, Decides, YieldsList-from_range, false≢true, refl, rules, true, false}
 use Rattle.std.proofs.lemmas.Iterator.{cases_from_all}
 use Rattle.canonical_form.proofs.Lists.Counting.{places_from_decide}
-use Rattle.tl_number.specs.MovedChains.{HaveSameChainAt}
+use Rattle.canonical_form.specs.MovedChains.{HaveSameChainAt}
 use Rattle.tl_number.proofs.same_chains.have_same_chains_at.Goals as goal
 
 pub returns : goal.returns

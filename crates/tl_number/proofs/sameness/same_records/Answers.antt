@@ -1,5 +1,5 @@
 use Rattle.tl_number.proofs.Common.{arranged_by}
-use Rattle.tl_number.proofs.Records.SameGroups.{decides_packing}
+use Rattle.record_groups.proofs.Records.SameGroups.{decides_packing}
 use Rattle.tl_number.proofs.sameness.same_records.Goals as goal
 
 pub returns : goal.returns

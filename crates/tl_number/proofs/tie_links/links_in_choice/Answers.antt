@@ -1,9 +1,9 @@
 use Rattle.tl_number.proofs.Common.{◌≡◌, ◌∙◌, ap, sym, subst, AreWhole, arranged_by, arrangement_of, first_open, key_cmp, keys_along, numbered_arrangement, polygons_in_order}
 use Rattle.county_chart.specs.CountyRules.{chain_polygons}
-use Rattle.tl_number.specs.LandmarkItems.{HaveSameBodies}
+use Rattle.arranged_county.specs.LandmarkItems.{HaveSameBodies}
 use Rattle.tl_number.specs.OpenKeys.{all_by_order}
-use Rattle.tl_number.proofs.Arrangements.PlacesFit.{places_fit}
-use Rattle.tl_number.proofs.Polygons.PolygonOrder.{few_polygons}
+use Rattle.canonical_form.proofs.Arrangements.PlacesFit.{places_fit}
+use Rattle.arranged_county.proofs.Polygons.PolygonOrder.{few_polygons}
 use Rattle.tl_number.proofs.Ties.LinkOrder.{are_counted, are_placed, in_order_is}
 use Rattle.tl_number.proofs.Ties.TieNumbers.{whole_numbered}
 use Rattle.tl_number.proofs.tie_links.links_in_choice.Given.{Over}

@@ -1,7 +1,7 @@
 use Rattle.tl_number.proofs.Common.{◌≡◌, ◌∙◌, IfOk-weaker, ap, map, sym, Six, arranged_by, groups_cmp, ordering_then, type_6_by_chain}
-use Rattle.tl_number.specs.OpenRanges.{sixes_at}
-use Rattle.tl_number.specs.RecordOrder.{types_8_to_p_cmp}
-use Rattle.tl_number.proofs.Texts.GroupOrders.{decided}
+use Rattle.record_groups.specs.OpenRanges.{sixes_at}
+use Rattle.record_groups.specs.RecordOrder.{types_8_to_p_cmp}
+use Rattle.record_groups.proofs.Texts.GroupOrders.{decided}
 use Rattle.tl_number.proofs.Ties.TieOrder.{sixes}
 use Rattle.tl_number.proofs.tie_order.compare_behind_names.Given.{Over}
 use Rattle.tl_number.proofs.tie_order.compare_behind_names.Goals.{After-compare_open_ranges}

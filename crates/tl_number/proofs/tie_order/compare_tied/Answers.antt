@@ -1,7 +1,7 @@
 use Rattle.tl_number.proofs.Common.{◌≡◌, ◌∙◌, ap, map, sym, subst, Eight, I, P, arranged_by, groups_cmp, ordering_then, records_cmp, type_8_together}
-use Rattle.tl_number.specs.RecordOrder.{types_8_to_p_cmp}
+use Rattle.record_groups.specs.RecordOrder.{types_8_to_p_cmp}
 use Rattle.tl_number.specs.TiedRecords.{AreTiedRecords}
-use Rattle.tl_number.proofs.Texts.GroupOrders.{decided}
+use Rattle.record_groups.proofs.Texts.GroupOrders.{decided}
 use Rattle.tl_number.proofs.Ties.TieOrder.{numbers_order}
 use Rattle.tl_number.proofs.tie_order.compare_tied.Given.{Over}
 use Rattle.tl_number.proofs.tie_order.compare_tied.Goals.{Start}

@@ -1,6 +1,6 @@
 use Rattle.tl_number.proofs.Common.{◌≡◌, ◌∙◌, IfOk-weaker, ap, sym, Four, Six, arranged_by, choices_cmp, groups_cmp, ordering_then, type_4_by_chain, type_6_by_chain}
-use Rattle.tl_number.specs.RecordOrder.{types_8_to_p_cmp}
-use Rattle.tl_number.proofs.Texts.GroupOrders.{decided}
+use Rattle.record_groups.specs.RecordOrder.{types_8_to_p_cmp}
+use Rattle.record_groups.proofs.Texts.GroupOrders.{decided}
 use Rattle.tl_number.proofs.Ties.TieOrder.{ties_decide}
 use Rattle.tl_number.proofs.tie_order.compare_ties.Given.{Over}
 use Rattle.tl_number.proofs.tie_order.compare_ties.Goals.{Start}

@@ -1,6 +1,6 @@
 use Rattle.tl_number.proofs.Common.{◌<◌, arith, subst, sym, AllByRecursion, IsOpenOrder, key_keys, length}
 use Rattle.county_chart.specs.CountyRules.{chain_polygons}
-use Rattle.tl_number.proofs.Polygons.PolygonOrder.{few_polygons}
+use Rattle.arranged_county.proofs.Polygons.PolygonOrder.{few_polygons}
 use Rattle.tl_number.proofs.Ties.PolygonOrder.{as_many_seen}
 use Rattle.tl_number.proofs.Ties.TieNumbers.{as_many_open, whole_numbered}
 use Rattle.tl_number.proofs.Ties.TieReading.{critical_below}

@@ -4,7 +4,7 @@ use Rattle.tl_number.proofs.Common.{ℕ, Bool, None, PolygonSide, arranged_by, c
 use Rattle.tl_layout.specs.declared.type_i.BodyI.{BodyI}
 use Rattle.county_chart.specs.Limits.{FitsNumbers}
 use Rattle.tl_number.specs.TieRecords.{numbered_node, numbered_side}
-use Rattle.tl_number.proofs.Texts.TypeOnes.{StepThere, directed_there}
+use Rattle.record_groups.proofs.Texts.TypeOnes.{StepThere, directed_there}
 use Rattle.tl_number.proofs.Ties.ChoiceRecords.{directed_at, directed_in, ends_read, few_places, nodes_counted, numbers_fit, polygons_counted, sides_read}
 use Rattle.tl_number.proofs.Ties.CriticalKeys.{new_of}
 use Rattle.tl_number.proofs.Ties.TopologyOrder.{record_there}

@@ -1,6 +1,6 @@
 use Rattle.tl_number.proofs.Common.{◌≡◌, ◌||◌, ◌∙◌, ap, ap₂, arith, false, filter, get_or, is_open, key_cmp, length, length-map, length-range_with_len, map, nat_cmp, nodes_at, range_with_len}
 use Rattle.tl_number.specs.CriticalKeys.{brings}
-use Rattle.tl_number.specs.EndsAndSides.{polygons_at}
+use Rattle.canonical_form.specs.EndsAndSides.{polygons_at}
 use Rattle.tl_number.proofs.Ties.TieReading.{filter_alike, marks_read}
 use Rattle.tl_number.proofs.tie_tables.critical_along.Goals.{After-deref-2}
 use Rattle.tl_number.proofs.tie_tables.critical_along.Goals as goal

@@ -1,7 +1,7 @@
 use Rattle.tl_number.proofs.Common.{◌≡◌, ◌∙◌, ap, arith, sym, subst, AreOpenKeys, IfOk-weaker, ends_of, key_cmp, keys_along, length, length-map, map, nat_cmp, nodes_at, sides_of}
 use Rattle.county_chart.specs.CountyRules.{chain_nodes, chain_polygons}
 use Rattle.tl_number.specs.CriticalPlaces.{critical_among}
-use Rattle.tl_number.specs.EndsAndSides.{polygons_at}
+use Rattle.canonical_form.specs.EndsAndSides.{polygons_at}
 use Rattle.tl_number.proofs.Ties.TieReading.{read_keys}
 use Rattle.tl_number.proofs.tie_tables.keys_and_places.Given.{Over}
 use Rattle.tl_number.proofs.tie_tables.keys_and_places.Goals.{After-deref-2}

@@ -2,9 +2,9 @@ use Rattle.tl_number.proofs.Common.{◌≡◌, ◌<◌, ◌∙◌, ap, ap₂, sy
 use Rattle.tl_number.proofs.Common.{nat_cmp, nat_keys, nodes_at, numbered_arrangement, sides_of, stands_in}
 use Rattle.ordered_lists.specs.Places.{at_places}
 use Rattle.county_chart.specs.CountyRules.{chain_nodes, chain_polygons}
-use Rattle.tl_number.specs.EndsAndSides.{polygons_at}
+use Rattle.canonical_form.specs.EndsAndSides.{polygons_at}
 use Rattle.tl_number.specs.OpenKeys.{open_among}
-use Rattle.tl_number.proofs.Results.{from_both}
+use Rattle.arranged_county.proofs.Results.{from_both}
 use Rattle.tl_number.proofs.Ties.TieNumbers.{order_is, whole_numbered}
 use Rattle.tl_number.proofs.Ties.TieReading.{all_there, read_keys}
 use Rattle.tl_number.proofs.Ties.TopologyOrder.{turned_nodes, turned_polygons}

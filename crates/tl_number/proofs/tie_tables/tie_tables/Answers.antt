@@ -3,10 +3,10 @@ use Rattle.std.specs.Prelude.{IfOk, false}
 use Rattle.county_chart.specs.CountyRules.{chain_nodes, chain_polygons}
 use Rattle.county_chart.specs.PolygonKeys.{key_cmp}
 use Rattle.tl_number.specs.CriticalPlaces.{critical_among, critical_from, has_open_link}
-use Rattle.tl_number.specs.LandmarkItems.{HaveSameBodies}
+use Rattle.arranged_county.specs.LandmarkItems.{HaveSameBodies}
 use Rattle.tl_number.specs.OpenKeys.{AreOpenKeys, keys_along}
 use Rattle.tl_number.specs.OpenNames.{AreOpenNames}
-use Rattle.tl_number.proofs.Arrangements.PlacesFit.{places_fit}
+use Rattle.canonical_form.proofs.Arrangements.PlacesFit.{places_fit}
 use Rattle.tl_number.proofs.Ties.TieNumbers.{few_by_shape, there_by_shape}
 use Rattle.tl_number.proofs.tie_tables.tie_tables.Goals as goal
 

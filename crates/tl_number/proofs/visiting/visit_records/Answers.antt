@@ -1,7 +1,7 @@
 use Rattle.tl_number.proofs.Common.{◌++◌, subst, arranged_by, err_from_is_err_and, types_1_to_4, types_5_to_7, types_8_to_p}
 use Rattle.tl_number.proofs.Lemmas.{second_stops}
-use Rattle.tl_number.proofs.Records.OneAfterAnother.{third_ends}
-use Rattle.tl_number.proofs.Records.PackedGroups.{all_groups}
+use Rattle.record_groups.proofs.Records.OneAfterAnother.{third_ends}
+use Rattle.record_groups.proofs.Records.PackedGroups.{all_groups}
 use Rattle.tl_number.proofs.visiting.visit_records.Goals as goal
 
 pub returns-in_err-visit_chains-clause-given : goal.returns-in_err-visit_chains-clause-given

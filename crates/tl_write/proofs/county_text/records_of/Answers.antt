@@ -3,9 +3,9 @@ use Rattle.tl_layout.specs.declared.record_type.Record.{Record}
 use Rattle.county_chart.specs.Packing.{packed}
 use Rattle.std.proofs.Math.Logic.{∥∥₁_elim}
 use Rattle.canonical_form.specs.Canonical.{IsCanonical}
-use Rattle.tl_number.specs.CanonCounties.{IsCanonCounty, IsCanonCounty-prop}
-use Rattle.tl_number.specs.ViewFacts.{arranged_by}
-use Rattle.tl_number.proofs.CanonicalLists.CanonLists.{canonical_packing}
+use Rattle.canonical_form.specs.CanonCounties.{IsCanonCounty, IsCanonCounty-prop}
+use Rattle.canonical_form.specs.WholeArrangements.{arranged_by}
+use Rattle.canonical_form.proofs.CanonicalLists.CanonLists.{canonical_packing}
 use Rattle.tl_write.proofs.county_text.records_of.Goals as goal
 
 pub returns-clause-canonical : goal.returns-clause-canonical

@@ -2,7 +2,7 @@ use Rattle.std.proofs.Common.{[], sym, length, subst, arith}
 use Rattle.std.proofs.lemmas.Result.{err_from_is_err_and}
 use Rattle.tl_layout.specs.RecordText.{text_of}
 use Rattle.county_chart.specs.Packing.{packed}
-use Rattle.tl_number.specs.ViewFacts.{arranged_by}
+use Rattle.canonical_form.specs.WholeArrangements.{arranged_by}
 use Rattle.tl_write.specs.GoingOut.{HasCounted, IsGoingOut}
 use Rattle.tl_write.proofs.Finished.{at_the_start, none_counted, begun, whole_length, whole_short, whole_bytes}
 use Rattle.tl_write.proofs.TextLengths.{few_bytes}

@@ -4,7 +4,7 @@ use Rattle.county_chart.specs.Packing.{packed}
 use Rattle.tl_profile.specs.Profile.{IsInProfile}
 use Rattle.canonical_form.specs.Accepted.{IsAccepted, IsCanonicalOf}
 use Rattle.canonical_form.specs.Arrangement.{arranged}
-use Rattle.tl_number.specs.Views.{arranged_county, arrangement_in}
+use Rattle.arranged_county.specs.Views.{arranged_county, arrangement_in}
 use Rattle.canonical_form.specs.Tidy.{IsLeastChoice}
 use Rattle.uses.proofs.layers.canonical_county.Goals as goal
 

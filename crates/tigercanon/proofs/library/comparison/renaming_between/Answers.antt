@@ -1,5 +1,5 @@
 use Rattle.tigercanon.proofs.Common.{◌≡◌, sym, subst, IfOk-weaker, Carries}
-use Rattle.tl_number.specs.ViewFacts.{arranged_by}
+use Rattle.canonical_form.specs.WholeArrangements.{arranged_by}
 use Rattle.tigercanon.proofs.Verdicts.{one_county}
 use Rattle.tigercanon.proofs.library.comparison.renaming_between.Goals as goal
 

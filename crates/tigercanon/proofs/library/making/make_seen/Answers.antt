@@ -2,7 +2,7 @@ use Rattle.tigercanon.proofs.Common.{◌∙◌, ap, subst, sym, masked, County, 
 use Rattle.canonical_form.specs.Accepted.{IsCanonicalThrough}
 use Rattle.canonical_form.specs.Arrangement.{arranged}
 use Rattle.canonical_form.specs.Tidy.{IsLeastChoice}
-use Rattle.tl_number.specs.Views.{arrangement_in}
+use Rattle.arranged_county.specs.Views.{arrangement_in}
 use Rattle.canonical_form.proofs.CanonicalLists.Ascending.{choice_is_canonical}
 use Rattle.tigercanon.proofs.library.making.make_seen.Goals as goal
 

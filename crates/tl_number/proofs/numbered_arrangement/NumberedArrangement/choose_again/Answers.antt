@@ -1,5 +1,5 @@
 use Rattle.tl_number.proofs.Common.{length, sym, ap, ◌∙◌, subst, AgreeApart, AreWithin, other_way, slice_get}
-use Rattle.tl_number.proofs.Choices.FixedPlaces.{moved_apart, moved_count}
+use Rattle.canonical_form.proofs.Choices.FixedPlaces.{moved_apart, moved_count}
 use Rattle.tl_number.proofs.numbered_arrangement.NumberedArrangement.choose_again.Goals as goal
 
 pub put_back-requires : goal.put_back-requires

@@ -1,5 +1,5 @@
 use Rattle.tl_number.proofs.Common.{◌∙◌, option_to_list, sym, arranged_by, packed_p}
-use Rattle.tl_number.proofs.Records.EntryPlaces.{polygons_counted}
+use Rattle.record_groups.proofs.Records.EntryPlaces.{polygons_counted}
 use Rattle.tl_number.proofs.polygon_records.PolygonRecordsRecordGroups.count.Goals as goal
 
 pub returns : goal.returns

@@ -1,5 +1,5 @@
 use Rattle.tl_number.proofs.Common.{◌<◌, option_to_list, subst, arranged_by, packed_p}
-use Rattle.tl_number.proofs.Records.EntryPlaces.{polygons_counted}
+use Rattle.record_groups.proofs.Records.EntryPlaces.{polygons_counted}
 use Rattle.tl_number.proofs.polygon_records.PolygonRecordsRecordGroups.head.Goals as goal
 
 pub polygon_by_number-requires : goal.polygon_by_number-requires

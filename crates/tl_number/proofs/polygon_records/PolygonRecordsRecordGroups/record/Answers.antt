@@ -1,6 +1,6 @@
 use Rattle.tl_number.proofs.Common.{◌∙◌, Some, option_to_list, sym, ap, arranged_by, group_at, packed_body, type_p_by_number}
-use Rattle.tl_number.proofs.Records.EntryPlaces.{polygon_group, polygon_fits}
-use Rattle.tl_number.proofs.Records.Grouped.{lone}
+use Rattle.record_groups.proofs.Records.EntryPlaces.{polygon_group, polygon_fits}
+use Rattle.canonical_form.proofs.Lists.ListPlaces.{lone}
 use Rattle.tl_number.proofs.polygon_records.PolygonRecordsRecordGroups.record.Goals as goal
 
 pub new-requires-clause-cenid : goal.new-requires-clause-cenid

@@ -1,7 +1,7 @@
 use Rattle.tl_number.proofs.Common.{◌≡◌, ◌*◌, ◌+◌, ◌<◌, ◌∙◌, AllByRecursion, IsNumber, Some, arith, directed_chain, drop, feats_of, get_or, length, length-map, map, slice_get, slice_get-get_or, sym, ap, subst, take}
 use Rattle.ordered_lists.proofs.Lists.Counted.{all_take, all_drop}
 use Rattle.tl_number.specs.OpenNames.{fours_at, numbered_feat}
-use Rattle.tl_number.proofs.Records.RecordPlaces.{four_of}
+use Rattle.record_groups.proofs.Records.RecordPlaces.{four_of}
 use Rattle.tl_number.proofs.Ties.NamesRead.{few_names_of, four_begins, four_there, numbers_fit}
 use Rattle.tl_number.proofs.tie_names.NameRecordsAtCountedGroups.record_at.Given.{Over}
 use Rattle.tl_number.proofs.tie_names.NameRecordsAtCountedGroups.record_at.Goals.{After-unwrap-at}

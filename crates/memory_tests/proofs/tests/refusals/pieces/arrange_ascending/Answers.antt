@@ -2,7 +2,7 @@ use Rattle.std.proofs.Common.{sym, subst}
 use Rattle.county_chart.specs.CountyRules.{tlids}
 use Rattle.ordered_lists.proofs.ByKey.Keys.{nat_keys, times-permutation}
 use Rattle.canonical_form.specs.Arrangement.{ascending, arranged_tlids}
-use Rattle.tl_number.specs.ViewFacts.{NamesEachOnce}
+use Rattle.canonical_form.specs.WholeArrangements.{NamesEachOnce}
 use Rattle.canonical_form.proofs.CanonicalLists.Ascending.{sides_in_profile}
 use Rattle.canonical_form.proofs.Choices.TidyChoices.{shapes_arrange}
 use Rattle.memory_tests.proofs.tests.refusals.pieces.arrange_ascending.Goals as goal

@@ -1,0 +1,201 @@
+-- Landmarks sorted by their bodies, their links and their places are in their new order.
+use Rattle.arranged_county.proofs.Common.{◌≡◌, ◌≤◌, ℕ, suc, List, [], ◌∷◌, map, filter_map, length, Option, Some, None, arith, option_map}
+use Rattle.arranged_county.proofs.Common.{unwrap_or, slice_get, Ordering, refl, sym, ap, ap₂, ◌∙◌, subst, nat_cmp, IsPermutation, IsTrue, false}
+use Rattle.arranged_county.proofs.Common.{AllByRecursion, AreReadAt, AreWhole, Arrangement, Body7, County, DirectedChain, Fields8, IsApart}
+use Rattle.arranged_county.proofs.Common.{IsCounty, IsInOrder, IsPermutation-map, IsPermutation-sym, IsTotalOrder, Known, PolygonKey}
+use Rattle.canonical_form.proofs.Common.{all_map}
+use Rattle.arranged_county.proofs.Common.{all_weaker, among_known, apart-permutation, apart_from_sorted, arranged_by, arrangement_of, bodies_at}
+use Rattle.arranged_county.proofs.Common.{cons_option, eight_land, entry_keys, has_repeat, has_repeat-apart, image, in_order}
+use Rattle.canonical_form.proofs.Common.{in_order-equal}
+use Rattle.arranged_county.proofs.Common.{in_order-in_order, in_order-is_permutation, key_cmp, landmark_body_cmp}
+use Rattle.canonical_form.proofs.Common.{landmark_key, landmark_key_cmp}
+use Rattle.arranged_county.proofs.Common.{landmark_place_cmp, landmarks_in_order, lands, lands_at, length-map, length-range_with_len}
+use Rattle.arranged_county.proofs.Common.{length_permutation, link_cmp, link_keys, link_part, link_part_cmp, link_under}
+use Rattle.canonical_form.proofs.Common.{link_key, link_part_keys}
+use Rattle.arranged_county.proofs.Common.{links_with, ltb-true, map-map, nat_cmp_total, nat_keys, numbered}
+use Rattle.canonical_form.proofs.Common.{links_relinked, new_keys}
+use Rattle.arranged_county.proofs.Common.{numbered_links, on, on_total, ordering_then, polygons_in_order, range_with_len, slice_cmp}
+use Rattle.canonical_form.proofs.Common.{relinked}
+use Rattle.arranged_county.proofs.Common.{slice_get-map, stands_in, then_total, times, up_to}
+use Rattle.std.proofs.lemmas.Cmp.{lists_total}
+use Rattle.county_chart.specs.Laws.KeyOrders.{landmark_body_keys}
+use Rattle.ordered_lists.proofs.ByKey.Keys.{image-injective}
+use Rattle.arranged_county.specs.LandmarkItems.{own_links}
+use Rattle.canonical_form.specs.Uses.{links_of}
+use Rattle.canonical_form.proofs.Arrangements.Carrying.{landmarks_permutation, links_arranged, lands_renamed, images-numbered}
+use Rattle.canonical_form.proofs.Lists.Counting.{up_to-strict}
+use Rattle.arranged_county.proofs.Names.NameOrder.{filter_map_all}
+use Rattle.canonical_form.proofs.Lists.ListPlaces.{then_assoc}
+use Rattle.canonical_form.proofs.Arrangements.Placed.{lefts-numbered, rights-numbered}
+use Rattle.arranged_county.proofs.Polygons.PolygonOrder.{read_mapped}
+use Rattle.canonical_form.proofs.Unique.SameLandmarks.{landmark_key_keys, relanded, count-permutation, is_link, times-links, links_of-in_order}
+use Rattle.canonical_form.proofs.Unique.SameLandmarks.{count-relanded}
+use Rattle.canonical_form.proofs.Lists.SortedPlaces.{sorted_places}
+use Rattle.canonical_form.proofs.Views.DirectedChains.{among-get}
+use Rattle.canonical_form.proofs.Views.ViewChains.{arranges}
+use Rattle.arranged_county.proofs.Landmarks.LandmarkLinks.{listed}
+use Rattle.arranged_county.proofs.Views.ViewTables.{by_land, keys_paired}
+
+-- lists compared by images of their elements
+pub cmp_mapped : {X K : Type 0} (f : X → K) (cmp : K → K → Ordering) (xs ys : List X)
+    → slice_cmp cmp (map f xs) (map f ys) ≡ slice_cmp (on f cmp) xs ys
+cmp_mapped f cmp [] [] = refl
+cmp_mapped f cmp [] (y ∷ ys) = refl
+cmp_mapped f cmp (x ∷ xs) [] = refl
+cmp_mapped f cmp (x ∷ xs) (y ∷ ys) = ap (ordering_then (cmp (f x) (f y))) (cmp_mapped f cmp xs ys)
+
+-- the comparison of landmarks by their places is an order
+pub landmark_places_total : (county : County) (links : List Fields8) (count : ℕ) → IsTotalOrder (landmark_place_cmp county links count)
+landmark_places_total county links count =
+    then_total (on_total (bodies_at county) (lists_total landmark_body_keys.total))
+    (then_total (on_total (λ i. map link_part (own_links links count i)) (lists_total link_part_keys.total)) nat_cmp_total)
+
+-- the LANDs at all places are all LANDs
+pub all_lands : (county : County) → lands_at county (range_with_len 0 (length county.landmarks)) ≡ lands county
+all_lands county =
+    (let len : length county.landmarks ≡ length (lands county) = sym (length-map county.landmarks (λ (d : ℕ × List Body7). d.0)) in
+    ap (λ n. filter_map (slice_get (lands county)) (range_with_len 0 n)) len)
+    ∙ filter_map_all (slice_get (lands county)) (range_with_len 0 (length (lands county))) (lands county) (listed (lands county))
+
+pub all_lands_once : (county : County) → IsCounty county
+    → has_repeat nat_cmp (lands_at county (range_with_len 0 (length county.landmarks))) ≡ false
+all_lands_once county is = ap (has_repeat nat_cmp) (all_lands county)
+    ∙ has_repeat-apart nat_keys (lands county) (apart_from_sorted nat_keys (lands county) is.ascending.landmarks)
+
+-- there are as many places as landmarks
+pub places_counted : (county : County) (places : List ℕ) → IsPermutation (range_with_len 0 (length county.landmarks)) places
+    → length places ≡ length county.landmarks
+places_counted county places p = length_permutation (range_with_len 0 (length county.landmarks)) places p
+    ∙ length-range_with_len 0 (length county.landmarks)
+
+-- there are at most as many LANDs as places
+pub few_lands : {X Y : Type 0} (h : X → Option Y) (xs : List X) → length (filter_map h xs) ≤ length xs
+few_lands h [] = omega arith
+few_lands h (x ∷ xs) = go (h x) (few_lands h xs)
+  where
+    go : (o : Option _) → length (filter_map h xs) ≤ length xs → length (cons_option o (filter_map h xs)) ≤ suc (length xs)
+    go None l = omega (arith, l)
+    go (Some y) l = omega (arith, l)
+
+-- links under new numbers are in the order of their LANDs
+pub numbered_by_land : (county : County) (polygons : List PolygonKey) (numbers : List ℕ)
+    → IsInOrder (on eight_land nat_cmp) (numbered_links county polygons numbers)
+numbered_by_land county polygons numbers =
+    by_land (numbered_links county polygons numbers) (in_order-in_order link_keys.total (map (link_under polygons numbers) county.links))
+
+module _ (county : County) (arrangement : List DirectedChain) (is : IsCounty county) (whole : AreWhole county arrangement) (polygons : List PolygonKey)
+    (stated : polygons ≡ polygons_in_order county (arrangement_of county arrangement)) where
+  abbrev order : Arrangement
+  order = arrangement_of county arrangement
+
+  abbrev f_old : ℕ → ℕ
+  f_old = image nat_cmp (numbered (lands county))
+
+  abbrev relinks : List Fields8
+  relinks = map (relinked (new_keys county order)) county.links
+
+  lands_apart : IsApart nat_cmp (lands county)
+  lands_apart = apart_from_sorted nat_keys (lands county) is.ascending.landmarks
+
+  old_injective : (n m : ℕ) → Known nat_cmp (lands county) n → Known nat_cmp (lands county) m → f_old n ≡ f_old m → n ≡ m
+  old_injective n m k l = image-injective nat_keys (numbered (lands county)) n m
+      (subst (IsApart nat_cmp) (sym (rights-numbered (lands county)))
+      (apart_from_sorted nat_keys (up_to (length (lands county))) (up_to-strict (length (lands county)))))
+      (subst (λ ks. Known nat_cmp ks n) (sym (lefts-numbered (lands county))) k)
+      (subst (λ ks. Known nat_cmp ks m) (sym (lefts-numbered (lands county))) l)
+
+  under_old : map (link_under polygons (lands county)) county.links ≡ map (relanded f_old) relinks
+  under_old = ap (λ ks. map (link_under ks (lands county)) county.links) stated
+      ∙ sym (map-map (relanded f_old) (relinked (new_keys county order)) county.links)
+
+  relinks_known : AllByRecursion (λ (l : Fields8). Known nat_cmp (lands county) l.land) relinks
+  relinks_known = all_map (λ (l : Fields8). Known nat_cmp (lands county) l.land) (relinked (new_keys county order)) county.links
+      (all_weaker (λ (l : Fields8). IsTrue (stands_in nat_cmp l.land (lands county))) (λ l. Known nat_cmp (lands county) l.land)
+      (λ l t. ltb-true 0 (times nat_cmp l.land (lands county)) t) county.links is.closed.link_lands)
+
+  module _ (links : List Fields8) (sorted : links ≡ in_order link_cmp (map (link_under polygons (lands county)) county.links)) where
+    links_ordered : IsInOrder link_cmp links
+    links_ordered = subst (IsInOrder link_cmp) (sym sorted)
+        (in_order-in_order link_keys.total (map (link_under polygons (lands county)) county.links))
+
+    links_permuted : IsPermutation (map (relanded f_old) relinks) links
+    links_permuted = subst (λ ls. IsPermutation ls links) under_old
+        (subst (IsPermutation (map (link_under polygons (lands county)) county.links)) (sym sorted)
+        (IsPermutation-sym (in_order link_cmp (map (link_under polygons (lands county)) county.links))
+        (map (link_under polygons (lands county)) county.links)
+        (in_order-is_permutation link_cmp (map (link_under polygons (lands county)) county.links))))
+
+    own_kept : (n : ℕ) → Known nat_cmp (lands county) n → links_of links (f_old n) ≡ links_of (links_relinked county order) n
+    own_kept n d = in_order-equal link_part_keys (links_of links (f_old n)) (links_of (links_relinked county order) n)
+        (links_of-in_order links links_ordered (f_old n))
+        (links_of-in_order (links_relinked county order) (in_order-in_order link_keys.total relinks) n)
+        (λ k. times-links links (f_old n) k
+        ∙ sym (count-permutation (is_link (f_old n) k) (map (relanded f_old) relinks) links links_permuted)
+        ∙ count-relanded f_old (Known nat_cmp (lands county)) old_injective relinks relinks_known n d k
+        ∙ sym (count-permutation (is_link n k) (links_relinked county order) relinks (in_order-is_permutation link_cmp relinks))
+        ∙ sym (times-links (links_relinked county order) n k))
+
+    land_count : length county.landmarks ≡ length (lands county)
+    land_count = sym (length-map county.landmarks (λ (d : ℕ × List Body7). d.0))
+
+    place_of_land : (i n : ℕ) → slice_get (lands county) i ≡ Some n → slice_get (up_to (length (lands county))) i ≡ Some (f_old n)
+    place_of_land i n h = ap (λ ks. slice_get ks i) (sym (images-numbered (lands county) lands_apart))
+        ∙ slice_get-map f_old (lands county) i ∙ ap (option_map f_old) h
+
+    own : (i n : ℕ) → slice_get (lands county) i ≡ Some n
+        → map link_part (own_links links (length county.landmarks) i) ≡ links_of (links_relinked county order) n
+    own i n h =
+        ap (λ c. map link_part (links_with links (slice_get (up_to c) i))) land_count
+        ∙ ap (λ (o : Option ℕ). map link_part (links_with links o)) (place_of_land i n h)
+        ∙ own_kept n (among_known nat_keys n (lands county) (among-get (lands county) i n h))
+
+    body_read : (i : ℕ) (x : ℕ × List Body7) → slice_get county.landmarks i ≡ Some x → bodies_at county i ≡ x.1
+    body_read i x h = ap (λ (o : Option (List Body7)). unwrap_or o [])
+        (slice_get-map (λ (d : ℕ × List Body7). d.1) county.landmarks i ∙ ap (option_map (λ (d : ℕ × List Body7). d.1)) h)
+
+    land_read : (i : ℕ) (x : ℕ × List Body7) → slice_get county.landmarks i ≡ Some x → slice_get (lands county) i ≡ Some x.0
+    land_read i x h = slice_get-map (λ (d : ℕ × List Body7). d.0) county.landmarks i ∙ ap (option_map (λ (d : ℕ × List Body7). d.0)) h
+
+    agrees : (i j : ℕ) (x y : ℕ × List Body7) → slice_get county.landmarks i ≡ Some x → slice_get county.landmarks j ≡ Some y
+        → landmark_place_cmp county links (length county.landmarks) i j ≡ ordering_then
+        (landmark_key_cmp (landmark_key (links_relinked county order) x) (landmark_key (links_relinked county order) y)) (nat_cmp i j)
+    agrees i j x y h k =
+        ap₂ (λ bs cs. ordering_then (slice_cmp landmark_body_cmp bs cs)
+        (ordering_then (slice_cmp link_part_cmp (map link_part (own_links links (length county.landmarks) i))
+        (map link_part (own_links links (length county.landmarks) j))) (nat_cmp i j))) (body_read i x h) (body_read j y k)
+        ∙ ap₂ (λ ps qs. ordering_then (slice_cmp landmark_body_cmp x.1 y.1) (ordering_then (slice_cmp link_part_cmp ps qs) (nat_cmp i j)))
+        (own i x.0 (land_read i x h)) (own j y.0 (land_read j y k))
+        ∙ then_assoc (slice_cmp landmark_body_cmp x.1 y.1)
+        (slice_cmp link_part_cmp (links_of (links_relinked county order) x.0) (links_of (links_relinked county order) y.0)) (nat_cmp i j)
+
+    module _ (places : List ℕ) (p : IsPermutation (range_with_len 0 (length county.landmarks)) places)
+        (ordered : IsInOrder (landmark_place_cmp county links (length county.landmarks)) places) where
+      pub landmarks_stated : AreReadAt county.landmarks places (landmarks_in_order county order)
+      landmarks_stated = sorted_places (on_total (landmark_key (links_relinked county order)) landmark_key_keys.total) county.landmarks
+          (landmark_place_cmp county links (length county.landmarks)) agrees places p ordered
+
+      lands_stated : lands_at county places ≡ entry_keys (landmarks_in_order county order)
+      lands_stated = filter_map_all (slice_get (lands county)) places (entry_keys (landmarks_in_order county order))
+          (read_mapped (λ (d : ℕ × List Body7). d.0) county.landmarks (landmarks_in_order county order) places landmarks_stated)
+
+      permuted_landmarks : IsPermutation (landmarks_in_order county order) county.landmarks
+      permuted_landmarks = landmarks_permutation county order is (arranges county arrangement is whole)
+
+      pub lands_once : has_repeat nat_cmp (lands_at county places) ≡ false
+      lands_once = ap (has_repeat nat_cmp) lands_stated
+          ∙ has_repeat-apart nat_keys (entry_keys (landmarks_in_order county order))
+          (apart-permutation nat_keys (entry_keys (landmarks_in_order county order)) (lands county)
+          (IsPermutation-map (λ (d : ℕ × List Body7). d.0) (landmarks_in_order county order) county.landmarks permuted_landmarks)
+          lands_apart)
+
+      pub new_links : numbered_links county polygons (lands_at county places) ≡ (arranged_by county arrangement).links
+      new_links =
+          ap₂ (λ ps ls. in_order link_cmp (map (λ (l : Fields8). record {
+            file = l.file;
+            cenid = (image key_cmp ps (link_key l)).0;
+            polyid = (image key_cmp ps (link_key l)).1;
+            land = image nat_cmp ls l.land;
+          }) county.links))
+          (keys_paired county arrangement is whole polygons stated)
+          (ap numbered lands_stated ∙ sym (lands_renamed county order is (arranges county arrangement is whole)))
+          ∙ sym (links_arranged county order is (arranges county arrangement is whole))

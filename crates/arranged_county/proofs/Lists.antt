@@ -1,0 +1,2 @@
+-- Lemmas on lists of any elements.
+pub mod ItemByItem

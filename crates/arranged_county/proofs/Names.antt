@@ -1,0 +1,3 @@
+-- Names in their new order.
+pub mod NameRanks
+pub mod NameOrder

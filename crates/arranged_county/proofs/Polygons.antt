@@ -1,0 +1,2 @@
+-- Polygons under their new numbers and in their new order.
+pub mod PolygonOrder

@@ -1,0 +1,40 @@
+-- The numbers from 1.
+use Rattle.arranged_county.proofs.Common.{◌≡◌, ◌⊎◌, ◌<◌, ◌≤◌, ◌+◌, ◌-◌, ℕ, zero, suc, true, false, Some, None, sym, ap, ◌∙◌, inl, inr, arith}
+use Rattle.arranged_county.proofs.Common.{nat_cmp, slice_get, all_among, among_known, length-range_with_len, lt-ltb, ltb-true}
+use Rattle.canonical_form.proofs.Common.{known_is_among}
+use Rattle.arranged_county.proofs.Common.{nat_keys, range_with_len, stands_in, times, up_to}
+use Rattle.std.proofs.lemmas.Option.{slice_get_past}
+use Rattle.std.proofs.lemmas.Bool.{false_from_ne_true}
+use Rattle.ordered_lists.proofs.Lists.Ranges.{range_bounds}
+use Rattle.canonical_form.proofs.Views.DirectedChains.{among-get}
+
+get_range : (a n p : ℕ) → p < n → slice_get (range_with_len a n) p ≡ Some (a + p)
+get_range a zero p h = absurd (omega (arith, h))
+get_range a (suc n) zero h = ap Some (let t : a ≡ a + 0 = omega arith in t)
+get_range a (suc n) (suc p) h = get_range (a + 1) n p (omega (arith, h)) ∙ ap Some (let t : (a + 1) + p ≡ a + suc p = omega arith in t)
+
+pub get_up_to : (n p : ℕ) → p < n → slice_get (up_to n) p ≡ Some (p + 1)
+get_up_to n p h = get_range 1 n p h ∙ ap Some (let t : 1 + p ≡ p + 1 = omega arith in t)
+
+pub none_up_to : (n p : ℕ) → n ≤ p → slice_get (up_to n) p ≡ None
+none_up_to n p h = slice_get_past (up_to n) p (let len = length-range_with_len 1 n in omega (arith, len, h))
+
+pub known_up_to : (n k : ℕ) → 0 < k → k ≤ n → stands_in nat_cmp k (up_to n) ≡ true
+known_up_to n k low high =
+    let there : slice_get (up_to n) (k - 1) ≡ Some k =
+    get_up_to n (k - 1) (omega (arith, low, high)) ∙ ap Some (let t : k - 1 + 1 ≡ k = omega (arith, low) in t) in
+    lt-ltb 0 (times nat_cmp k (up_to n)) (among_known nat_keys k (up_to n) (among-get (up_to n) (k - 1) k there))
+
+pub unknown_up_to : (n k : ℕ) → (k ≡ 0) ⊎ (n < k) → stands_in nat_cmp k (up_to n) ≡ false
+unknown_up_to n k h = false_from_ne_true (stands_in nat_cmp k (up_to n)) (λ e. out h
+    (all_among (λ j. (1 ≤ j) × (j < 1 + n)) k (up_to n) (range_bounds 1 n)
+    (known_is_among nat_keys k (up_to n) (ltb-true 0 (times nat_cmp k (up_to n)) e))))
+  where
+    out : (k ≡ 0) ⊎ (n < k) → (1 ≤ k) × (k < 1 + n) → ⊥
+    out (inl z) b = let low = b.0 in omega (arith, z, low)
+    out (inr g) b = let high = b.1 in omega (arith, g, high)
+
+pub within_up_to : (n p k : ℕ) → Some k ≡ slice_get (up_to n) p → k ≤ n
+within_up_to n p k e =
+    let bounds = all_among (λ j. (1 ≤ j) × (j < 1 + n)) k (up_to n) (range_bounds 1 n) (among-get (up_to n) p k (sym e)) in
+    let high = bounds.1 in omega (arith, high)

@@ -1,0 +1,156 @@
+-- Nodes, names, polygons and landmarks of a county in an arrangement, read from its tables.
+use Rattle.arranged_county.proofs.Common.{◌≡◌, ℕ, suc, List, [], ◌∷◌, map, length, Option, Some, None, option_map, Less, is_gt, false, ◌+◌, ◌-◌}
+use Rattle.arranged_county.proofs.Common.{ap₂, Ordering, slice_get, unwrap_or, sym, ap, ◌∙◌, subst, arith, nat_cmp, IsPermutation, AreReadAt}
+use Rattle.arranged_county.proofs.Common.{AreWhole, Arrangement, Body5, Body7, County, DirectedChain, Fields8, IsCounty, IsInOrder, PolygonKey}
+use Rattle.arranged_county.proofs.Common.{all_weaker, arranged_by, arrangement_of, eight_land, entry_values}
+use Rattle.canonical_form.proofs.Common.{carried_landmark, carried_name}
+use Rattle.arranged_county.proofs.Common.{feats, in_order-permutation, landmarks_in_order, lands, length-map, link_bounds, link_cmp, link_part}
+use Rattle.arranged_county.proofs.Common.{link_part_cmp, links_at, links_up_to, links_with, map-map, names_in_order, nat_keys}
+use Rattle.canonical_form.proofs.Common.{nodes, nodes_along}
+use Rattle.arranged_county.proofs.Common.{nodes_in_order, numbered, on, polygons_in_order, renaming_of, slice_get-map, under_cenid, up_to}
+use Rattle.std.proofs.lemmas.List.FromFn.{length-map-range_with_len}
+use Rattle.std.specs.List.Sorted.{IsStrictlySortedBy}
+use Rattle.ordered_lists.proofs.ByKey.Numbers.{distinct-in_order}
+use Rattle.arranged_county.specs.ViewFacts.{MatchesNames, MatchesLandmarks}
+use Rattle.arranged_county.specs.declared.arranged_tables.LandmarkTables.{LandmarkTables}
+use Rattle.arranged_county.specs.declared.arranged_tables.NameTables.{NameTables}
+use Rattle.canonical_form.proofs.Arrangements.Carrying.{names_arranged, landmarks_arranged, feats_arranged, lands_arranged, paired_nodes, node_rights}
+use Rattle.canonical_form.proofs.Arrangements.Carrying.{nodes_renamed, names_renamed, polygons_renamed}
+use Rattle.canonical_form.proofs.Lists.Grouping.{in_order-weaker, then-first}
+use Rattle.canonical_form.proofs.Lists.Counting.{up_to-strict}
+use Rattle.canonical_form.proofs.Views.ViewChains.{arranges, read_there, read_nowhere, read_length}
+
+-- a strictly ascending list is in order
+pub order_from_strict : {K : Type 0} (cmp : K → K → Ordering) (ks : List K) → IsStrictlySortedBy cmp ks → IsInOrder cmp ks
+unfolding IsStrictlySortedBy
+order_from_strict cmp [] h = tt
+order_from_strict cmp (k ∷ ks) h =
+    (all_weaker (λ j. cmp k j ≡ Less) (λ j. is_gt (cmp k j) ≡ false) (λ j e. ap is_gt e) ks h.0, order_from_strict cmp ks h.1)
+
+-- links in order are in the order of their LANDs
+pub by_land : (links : List Fields8) → IsInOrder link_cmp links → IsInOrder (on eight_land nat_cmp) links
+by_land = in_order-weaker link_cmp (on eight_land nat_cmp) (λ l m. then-first (nat_cmp l.land m.land) (link_part_cmp (link_part l) (link_part m)))
+
+-- an element read at its old place
+pub read_at : {X : Type 0} (xs ys : List X) (places : List ℕ) → AreReadAt xs places ys → (i p : ℕ) → Some p ≡ slice_get places i
+    → slice_get xs p ≡ slice_get ys i
+read_at xs ys places e i p h = let y = read_there (slice_get xs) places ys e i p (sym h) in y.2 ∙ sym y.1
+
+pub read_past : {X : Type 0} (xs ys : List X) (places : List ℕ) → AreReadAt xs places ys → (i : ℕ) → None ≡ slice_get places i
+    → None ≡ slice_get ys i
+read_past xs ys places e i h = sym (read_nowhere (slice_get xs) places ys e i (sym h))
+
+-- the value of an entry read at its old place
+pub value_at : {V : Type 0} (xs ys : List (ℕ × V)) (places : List ℕ) → AreReadAt xs places ys → (i p : ℕ) → Some p ≡ slice_get places i
+    → slice_get (entry_values xs) p ≡ slice_get (entry_values ys) i
+value_at {V} xs ys places e i p h =
+    slice_get-map (λ (d : ℕ × V). d.1) xs p ∙ ap (option_map (λ (d : ℕ × V). d.1)) (read_at xs ys places e i p h)
+    ∙ sym (slice_get-map (λ (d : ℕ × V). d.1) ys i)
+
+pub value_past : {V : Type 0} (xs ys : List (ℕ × V)) (places : List ℕ) → AreReadAt xs places ys → (i : ℕ) → None ≡ slice_get places i
+    → None ≡ slice_get (entry_values ys) i
+value_past {V} xs ys places e i h =
+    ap (option_map (λ (d : ℕ × V). d.1)) (read_past xs ys places e i h) ∙ sym (slice_get-map (λ (d : ℕ × V). d.1) ys i)
+
+module _ (county : County) (arrangement : List DirectedChain) (is : IsCounty county) (whole : AreWhole county arrangement) where
+  abbrev order : Arrangement
+  order = arrangement_of county arrangement
+
+  pub nodes_arranged_by : (ns : List ℕ) → ns ≡ nodes_in_order county order → nodes (arranged_by county arrangement) ≡ up_to (length ns)
+  nodes_arranged_by ns e =
+      let n : ℕ = length (nodes_in_order county order) in
+      let permuted : IsPermutation (up_to n) (nodes (arranged_by county arrangement)) =
+      subst (λ ks. IsPermutation ks (nodes (arranged_by county arrangement)))
+      (node_rights county order is (arranges county arrangement is whole)) (paired_nodes county order is
+      (arranges county arrangement is whole)).right in
+      sym (in_order-permutation nat_keys (up_to n) (nodes (arranged_by county arrangement)) (order_from_strict nat_cmp (up_to n) (up_to-strict n))
+      (distinct-in_order nat_keys (nodes_along (arranged_by county arrangement).chains)) permuted) ∙ ap (λ ks. up_to (length ks)) (sym e)
+
+  -- the tables have the renaming's pairs of numbers
+  pub nodes_paired : (ns : List ℕ) → ns ≡ nodes_in_order county order → numbered ns ≡ (renaming_of county order).nodes
+  nodes_paired ns e = ap numbered e ∙ sym (nodes_renamed county order is (arranges county arrangement is whole))
+
+  pub keys_paired : (ks : List PolygonKey) → ks ≡ polygons_in_order county order
+      → map under_cenid (numbered ks) ≡ (renaming_of county order).polygons
+  keys_paired ks e = ap (λ js. map under_cenid (numbered js)) e ∙ sym (polygons_renamed county order is (arranges county arrangement is whole))
+
+  module _ (tables : NameTables) (stated : MatchesNames county arrangement tables) where
+    pub feats_paired : numbered tables.feats ≡ (renaming_of county order).names
+    feats_paired = ap numbered stated.feats ∙ sym (names_renamed county order is (arranges county arrangement is whole))
+
+    name_values : entry_values (arranged_by county arrangement).names ≡ entry_values (names_in_order county order)
+    name_values = ap entry_values (names_arranged county order is (arranges county arrangement is whole))
+        ∙ map-map (λ (d : ℕ × Body5). d.1) (carried_name (renaming_of county order)) (names_in_order county order)
+
+    count : length tables.feats ≡ length (names_in_order county order)
+    count = ap length stated.feats ∙ length-map (names_in_order county order) (λ (d : ℕ × Body5). d.0)
+
+    pub feats_arranged_by : feats (arranged_by county arrangement) ≡ up_to (length tables.feats)
+    feats_arranged_by = feats_arranged county order is (arranges county arrangement is whole) ∙ ap up_to (sym count)
+
+    pub names_arranged_by : length (arranged_by county arrangement).names ≡ length tables.feats
+    names_arranged_by = ap length (names_arranged county order is (arranges county arrangement is whole))
+        ∙ length-map (names_in_order county order) (carried_name (renaming_of county order)) ∙ sym count
+
+    pub name_there : (i p : ℕ) → Some p ≡ slice_get tables.places.items i
+        → slice_get (entry_values county.names) p ≡ slice_get (entry_values (arranged_by county arrangement).names) i
+    name_there i p h = value_at county.names (names_in_order county order) tables.places.items stated.names i p h
+        ∙ ap (λ vs. slice_get vs i) (sym name_values)
+
+    pub name_missing : (i : ℕ) → None ≡ slice_get tables.places.items i → None ≡ slice_get (entry_values (arranged_by county arrangement).names) i
+    name_missing i h = value_past county.names (names_in_order county order) tables.places.items stated.names i h
+        ∙ ap (λ vs. slice_get vs i) (sym name_values)
+
+  module _ (tables : LandmarkTables) (stated : MatchesLandmarks county arrangement tables) where
+    landmark_values : entry_values (arranged_by county arrangement).landmarks ≡ entry_values (landmarks_in_order county order)
+    landmark_values = ap entry_values (landmarks_arranged county order is (arranges county arrangement is whole))
+        ∙ map-map (λ (d : ℕ × List Body7). d.1) (carried_landmark (renaming_of county order)) (landmarks_in_order county order)
+
+    lands_count : length tables.places.items ≡ length (landmarks_in_order county order)
+    lands_count = sym (read_length (slice_get county.landmarks) tables.places.items (landmarks_in_order county order) stated.landmarks)
+
+    pub lands_arranged_by : lands (arranged_by county arrangement) ≡ up_to (length tables.places.items)
+    lands_arranged_by = lands_arranged county order is (arranges county arrangement is whole) ∙ ap up_to (sym lands_count)
+
+    pub landmarks_arranged_by : length (arranged_by county arrangement).landmarks ≡ length tables.places.items
+    landmarks_arranged_by = ap length (landmarks_arranged county order is (arranges county arrangement is whole))
+        ∙ length-map (landmarks_in_order county order) (carried_landmark (renaming_of county order)) ∙ sym lands_count
+
+    pub landmark_there : (i p : ℕ) → Some p ≡ slice_get tables.places.items i
+        → unwrap_or (slice_get (entry_values county.landmarks) p) [] ≡ unwrap_or (slice_get (entry_values
+        (arranged_by county arrangement).landmarks) i) []
+    landmark_there i p h = ap (λ (o : Option (List Body7)). unwrap_or o [])
+        (value_at county.landmarks (landmarks_in_order county order) tables.places.items stated.landmarks i p h
+        ∙ ap (λ vs. slice_get vs i) (sym landmark_values))
+
+    pub landmark_missing : (i : ℕ) → None ≡ slice_get tables.places.items i
+        → [] ≡ unwrap_or (slice_get (entry_values (arranged_by county arrangement).landmarks) i) []
+    landmark_missing i h = ap (λ (o : Option (List Body7)). unwrap_or o [])
+        (value_past county.landmarks (landmarks_in_order county order) tables.places.items stated.landmarks i h
+        ∙ ap (λ vs. slice_get vs i) (sym landmark_values))
+
+    -- the links are between their bounds
+    pub bounds_counted : length tables.bounds.items ≡ suc (length tables.places.items)
+    bounds_counted = ap length stated.bounds
+        ∙ length-map-range_with_len (links_up_to (arranged_by county arrangement).links) 0 (length tables.places.items + 1)
+        ∙ (let t : length tables.places.items + 1 ≡ suc (length tables.places.items) = omega arith in t)
+
+    fewer : length tables.bounds.items - 1 ≡ length tables.places.items
+    fewer = omega (arith, bounds_counted)
+
+    pub bounds_stated : (links : List Fields8) (bounds : List ℕ) → links ≡ tables.links.items → bounds ≡ tables.bounds.items
+        → bounds ≡ link_bounds links (length bounds - 1)
+    bounds_stated links bounds e f =
+        f ∙ stated.bounds
+        ∙ ap₂ (λ ls n. link_bounds ls n) (sym (e ∙ stated.links)) (sym (ap (λ bs. length bs - 1) f ∙ fewer))
+
+    pub links_stated : (links : List Fields8) (bounds : List ℕ) → links ≡ tables.links.items → bounds ≡ tables.bounds.items → (i : ℕ)
+        → links_with links (slice_get (up_to (length bounds - 1)) i) ≡ links_at (arranged_by county arrangement) i
+    links_stated links bounds e f i =
+        ap₂ (λ ls n. links_with ls (slice_get (up_to n) i)) (e ∙ stated.links) (ap (λ bs. length bs - 1) f ∙ fewer)
+        ∙ ap (λ ls. links_with (arranged_by county arrangement).links (slice_get ls i)) (sym lands_arranged_by)
+
+    pub links_ordered : (links : List Fields8) → links ≡ tables.links.items → IsInOrder (on eight_land nat_cmp) links
+    links_ordered links e =
+        subst (IsInOrder (on eight_land nat_cmp)) (sym (e ∙ stated.links)) (by_land
+        (arranged_by county arrangement).links whole.is_county.ascending.links)

@@ -1,0 +1,16 @@
+use Rattle.arranged_county.proofs.Common.{◌≡◌, ℕ, List, Some, IfSome, slice_get, nat_cmp, sym, ap, ◌∙◌, subst, stands_in, up_to}
+use Rattle.arranged_county.proofs.Views.ViewTables.{feats_arranged_by}
+use Rattle.arranged_county.proofs.arranged_chart.ArrangedChart.name_place.Goals as goal
+
+pub returns-clause-found : goal.returns-clause-found
+returns-clause-found g c =
+    subst (λ (numbers : List ℕ). IfSome c.place_of_number.result (λ place. slice_get numbers place ≡ Some c.args.feat))
+    (ap up_to (c.len.ensures.len) ∙ sym (feats_arranged_by (g.C.Chart.county c.args.self.now.chart) c.args.self.now.arrangement.items
+    (g.met.C.Chart.is_county c.args.self.now.chart) c.args.self.now.whole c.args.self.now.names c.args.self.now.names_stated))
+    c.place_of_number.ensures.found
+
+pub returns-clause-known : goal.returns-clause-known
+returns-clause-known g c =
+    c.place_of_number.ensures.known ∙ ap (stands_in nat_cmp c.args.feat)
+    (ap up_to (c.len.ensures.len) ∙ sym (feats_arranged_by (g.C.Chart.county c.args.self.now.chart) c.args.self.now.arrangement.items
+    (g.met.C.Chart.is_county c.args.self.now.chart) c.args.self.now.whole c.args.self.now.names c.args.self.now.names_stated))

@@ -1,0 +1,13 @@
+-- The keys seen so far and those of the remaining pairs together are the keys of all pairs. The pairs so far have their final numbers,
+-- and the remaining ones are unchanged.
+use Rattle.arranged_county.proofs.Common.{◌≡◌, drop, flat_map, map, take, changed_both, first_seen, first_seen_after, keys_at}
+use Rattle.arranged_county.proofs.first_appearance.see_pairs.Given as goal
+
+abbrev pub invariant-loop-pair : goal.invariant-loop-pair
+invariant-loop-pair g l =
+    (first_seen_after g.T.Old.Ord.cmp l.numbers (flat_map (keys_at g.T.Half.keys) (drop l.pair-index l.initial.pairs))
+    ≡ first_seen g.T.Old.Ord.cmp (flat_map (keys_at g.T.Half.keys) l.initial.pairs))
+    × (take l.pair-index l.pairs
+    ≡ map (changed_both (g.T.Half.among (first_seen g.T.Old.Ord.cmp (flat_map (keys_at g.T.Half.keys) l.initial.pairs))))
+    (take l.pair-index l.initial.pairs))
+    × (drop l.pair-index l.pairs ≡ drop l.pair-index l.initial.pairs)

@@ -1,0 +1,19 @@
+use Rattle.arranged_county.proofs.Common.{◌≡◌, ◌+◌, IfOk, ap, arith, length, map, rules, subst, tests, YieldsList-at, YieldsList-from_map}
+use Rattle.arranged_county.proofs.Common.{YieldsList-from_range, YieldsList-from_slice, items_from_collect, under_cenid}
+use Rattle.std.proofs.lemmas.Iterator.{YieldsList-from_zip}
+use Rattle.std.proofs.lemmas.Iterator.Consumers.{YieldsList-from_copied}
+use Rattle.arranged_county.proofs.Views.RenamingPairs.{zip_numbered}
+use Rattle.arranged_county.proofs.number_pairs.polygon_pairs.Goals as goal
+
+pub returns : goal.returns
+returns c =
+    let polygons = c.args.polygons.now in
+    subst (λ pairs. IfOk c.collect.result (λ made. made.items ≡ pairs)) (ap (map under_cenid) (zip_numbered polygons))
+    (items_from_collect _ c.collect.ensures.ran
+    (YieldsList-from_map _ under_cenid
+    (YieldsList-at c.map.ensures.source
+    (YieldsList-from_zip
+    (YieldsList-at c.zip.ensures.first
+    (YieldsList-from_copied (YieldsList-at c.copied.ensures.source (YieldsList-from_slice polygons c.iter.ensures.rest))))
+    (YieldsList-from_range 1 (length polygons + 1) (length polygons) c.zip.ensures.second (omega arith))))
+    c.map.ensures.closure (λ x r q k. search (rules, tests))))

@@ -1,0 +1,7 @@
+pub mod PlacedKeys
+pub mod ViewFacts
+pub mod ViewProps
+pub mod TableItems
+pub mod NameItems
+pub mod LandmarkItems
+pub mod Views

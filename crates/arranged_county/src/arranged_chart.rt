@@ -1,0 +1,223 @@
+//! A county in an arrangement, as a chart.
+//!
+//! Chains, names, landmarks and nodes are numbered from 1, so the place of a number follows from it. Old numbers and points
+//! aren't copied: chains are read through the source county, and turned and renumbered as they are read.
+
+ghost use Rattle.std.specs.Ordering.{nat_cmp};
+ghost use Rattle.std.specs.Prelude.{◌≡◌, IfSome, Some, is_some, slice_get};
+ghost use Rattle.ordered_lists.specs.Orders.{stands_in};
+ghost use Rattle.canonical_form.specs.Growth.{up_to};
+
+use crate::arranged::{Arranged, Evidence, old_place};
+use crate::landmark_links::{link_at, links_of_landmark};
+use county_chart::{Chart, Listed, PolygonKey};
+use ordered_lists::place_of;
+use tl_layout::{Body1, Body5, Body7, BodyI, BodyP, Point, Ranges, Rec8, Side};
+
+/// The number at a place, counted from 0, or `None` past the last one.
+pub(crate) fn number_at(count: usize, place: usize) -> Option<u64>
+    ensures { result ≡ slice_get (up_to count) place }
+{
+    if place < count {
+        Some(place as u64 + 1)
+    } else {
+        None
+    }
+}
+
+/// The place of a number, counted from 0, or `None` if it isn't one of them.
+pub(crate) fn place_of_number(count: usize, number: u64) -> Option<usize>
+    ensures found { IfSome result (λ place. slice_get (up_to count) place ≡ Some number) }
+    ensures known { is_some result ≡ stands_in nat_cmp number (up_to count) }
+{
+    if number == 0 {
+        return None;
+    }
+    let place = (number - 1) as usize;
+    if place < count { Some(place) } else { None }
+}
+
+/// The county that the arrangement makes from the source county.
+impl<C: Chart, S: Evidence> Chart for Arranged<C, S> {
+    ghost use Rattle.canonical_form.specs.WholeArrangements.{arranged_by};
+
+    ghost county = { λ view. arranged_by (C.county view.chart) view.arrangement.items };
+
+    fn chain_count(&self) -> usize {
+        self.arrangement.as_slice().len()
+    }
+
+    fn tlid_at(&self, place: usize) -> Option<u64> {
+        number_at(self.arrangement.as_slice().len(), place)
+    }
+
+    fn chain_place(&self, tlid: u64) -> Option<usize> {
+        place_of_number(self.arrangement.as_slice().len(), tlid)
+    }
+
+    fn name_count(&self) -> usize {
+        self.names.feats.len()
+    }
+
+    fn feat_at(&self, place: usize) -> Option<u32> {
+        match number_at(self.names.feats.len(), place) {
+            Some(feat) => Some(feat as u32),
+            None => None,
+        }
+    }
+
+    fn name_place(&self, feat: u32) -> Option<usize> {
+        place_of_number(self.names.feats.len(), feat as u64)
+    }
+
+    fn polygon_count(&self) -> usize {
+        self.polygons.keys.as_slice().len()
+    }
+
+    fn polygon_key_at(&self, place: usize) -> Option<PolygonKey> {
+        self.polygons.keys.as_slice().get(place).copied()
+    }
+
+    fn polygon_place(&self, key: PolygonKey) -> Option<usize> {
+        place_of(self.polygons.keys.as_slice(), key)
+    }
+
+    fn landmark_count(&self) -> usize {
+        self.landmarks.places.as_slice().len()
+    }
+
+    fn land_at(&self, place: usize) -> Option<u64> {
+        number_at(self.landmarks.places.as_slice().len(), place)
+    }
+
+    fn landmark_place(&self, land: u64) -> Option<usize> {
+        place_of_number(self.landmarks.places.as_slice().len(), land)
+    }
+
+    fn node_count(&self) -> usize {
+        self.nodes.numbers.len()
+    }
+
+    fn node_at(&self, place: usize) -> Option<u64> {
+        number_at(self.nodes.numbers.len(), place)
+    }
+
+    fn node_place(&self, node: u64) -> Option<usize> {
+        place_of_number(self.nodes.numbers.len(), node)
+    }
+
+    fn chain_body_at(&self, place: usize) -> Option<Body1> {
+        self.directed_or_past(place).body(&self.chart)
+    }
+
+    fn put_chain_body(&self, place: usize, turned: bool, out: &mut [u8]) {
+        match self.directed_at(place) {
+            Some(directed) => directed.put_body(&self.chart, turned, out),
+            None => {}
+        }
+    }
+
+    fn chain_byte(&self, place: usize) -> u8 {
+        match self.directed_at(place) {
+            Some(directed) => self.chart.chain_byte(directed.place as usize),
+            None => 0,
+        }
+    }
+
+    fn point_count_at(&self, place: usize) -> usize {
+        self.directed_or_past(place).points(&self.chart).count()
+    }
+
+    fn point_at(&self, place: usize, point: usize) -> Option<Point> {
+        self.directed_or_past(place).points(&self.chart).get(point)
+    }
+
+    fn feat_count_at(&self, place: usize) -> usize {
+        self.directed_or_past(place).feats(&self.chart).count()
+    }
+
+    fn chain_feat_at(&self, place: usize, name: usize) -> Option<u32> {
+        let feats = self.directed_or_past(place).feats(&self.chart);
+        self.renumbered_feat(feats.get(name))
+    }
+
+    fn range_count_at(&self, place: usize) -> usize {
+        let ranges = self.directed_or_past(place).ranges(&self.chart);
+        ranges.count()
+    }
+
+    fn range_at(&self, place: usize, range: usize) -> Option<Ranges> {
+        let ranges = self.directed_or_past(place).ranges(&self.chart);
+        ranges.get(range)
+    }
+
+    fn topology_at(&self, place: usize) -> Option<BodyI> {
+        self.directed_or_past(place).topology(&self.chart)
+    }
+
+    fn start_node_at(&self, place: usize) -> Option<Option<u64>> {
+        match self.ends_at(place) {
+            Some(pair) => Some(pair.0.get()),
+            None => None,
+        }
+    }
+
+    fn end_node_at(&self, place: usize) -> Option<Option<u64>> {
+        match self.ends_at(place) {
+            Some(pair) => Some(pair.1.get()),
+            None => None,
+        }
+    }
+
+    fn left_at(&self, place: usize) -> Option<Side> {
+        match self.sides_at(place) {
+            Some(pair) => Some(pair.0),
+            None => None,
+        }
+    }
+
+    fn right_at(&self, place: usize) -> Option<Side> {
+        match self.sides_at(place) {
+            Some(pair) => Some(pair.1),
+            None => None,
+        }
+    }
+
+    fn name_body_at(&self, place: usize) -> Option<Body5> {
+        match old_place(&self.names.places, place) {
+            Some(old) => self.chart.name_body_at(old),
+            None => None,
+        }
+    }
+
+    fn polygon_body_at(&self, place: usize) -> Option<Option<BodyP>> {
+        self.polygon_body_at_key(place)
+    }
+
+    fn body_count_at(&self, place: usize) -> usize {
+        match old_place(&self.landmarks.places, place) {
+            Some(old) => self.chart.body_count_at(old),
+            None => 0,
+        }
+    }
+
+    fn landmark_body_at(&self, place: usize, body: usize) -> Option<Body7> {
+        match old_place(&self.landmarks.places, place) {
+            Some(old) => self.chart.landmark_body_at(old, body),
+            None => None,
+        }
+    }
+
+    fn link_count_at(&self, place: usize) -> usize {
+        links_of_landmark(&self.landmarks.links, &self.landmarks.bounds, place).len()
+    }
+
+    fn landmark_link_at(&self, place: usize, link: usize) -> Option<Rec8> {
+        let links = links_of_landmark(&self.landmarks.links, &self.landmarks.bounds, place);
+        link_at(links, link)
+    }
+
+    ghost is_county = { λ view. view.whole.is_county };
+
+    ghost within_limits = { λ view. view.whole.within_limits };
+}

@@ -1,0 +1,112 @@
+//! Making the county of an arrangement.
+
+ghost use Rattle.std.specs.Prelude.{◌≡◌, ◌<◌, ◌^◌, IfOk, length};
+ghost use Rattle.county_chart.specs.CountyRules.{AllKeysStandIn, polygon_keys, polygons_along};
+ghost use Rattle.canonical_form.specs.Arrangement.{arranged, polygons_in_order};
+ghost use Rattle.canonical_form.specs.DirectedChains.{HasChainsOf, arrangement_of};
+ghost use Rattle.canonical_form.specs.WholeArrangements.{AreWhole, NamesEachOnce};
+ghost use Rattle.arranged_county.specs.ViewFacts.{MatchesLandmarks, MatchesNames, MatchesNodes, MatchesPolygons};
+ghost use Rattle.arranged_county.specs.Views.{arranged_county, source_of, directed_chains_of};
+
+use crate::arranged::{Arranged, Evidence};
+use crate::arranged_tables::{LandmarkTables, NameTables, NodeTables, PolygonTables};
+use crate::landmark_order::arrange_landmarks;
+use crate::name_order::arrange_names;
+use crate::numbers::Interner;
+use crate::pairing::both;
+use crate::polygon_order::arrange_nodes_and_polygons;
+use county_chart::{Chart, DirectedChain, PolygonKey};
+use std::alloc::{AllocError, Global};
+use std::marker::PhantomData;
+
+/// The tables of a county in an arrangement, for its nodes, polygons, names and landmarks.
+type Tables = (NodeTables, PolygonTables, NameTables, LandmarkTables);
+
+/// The names and the landmarks of a county in this arrangement, with its polygons by first appearance.
+fn arrange_names_and_landmarks<C: Chart>(
+    alloc: Global,
+    chart: &C,
+    arrangement: &[DirectedChain],
+    polygons: &Interner<PolygonKey>,
+) -> Result<(NameTables, LandmarkTables), AllocError>
+    requires whole { AreWhole (C.county chart.now) arrangement.now }
+    requires polygons { polygons.now ≡ polygons_in_order (C.county chart.now) (arrangement_of (C.county chart.now) arrangement.now) }
+    requires few_polygons { length polygons.now < 10 ^ 10 }
+    requires few_names { length (C.county chart.now).names < 2 ^ 32 }
+    requires few_landmarks { length (C.county chart.now).landmarks < 2 ^ 32 }
+    ensures names { IfOk result (λ tables. MatchesNames (C.county chart.now) arrangement.now tables.0) }
+    ensures landmarks { IfOk result (λ tables. MatchesLandmarks (C.county chart.now) arrangement.now tables.1) }
+{
+    let names = arrange_names(alloc, chart, arrangement)?;
+    let landmarks = arrange_landmarks(alloc, chart, arrangement, polygons, &[])?;
+    Ok((names, landmarks))
+}
+
+/// All tables of a county in this arrangement.
+fn arrange_tables<C: Chart>(
+    alloc: Global,
+    chart: &C,
+    arrangement: &[DirectedChain],
+) -> Result<Tables, AllocError>
+    requires whole { AreWhole (C.county chart.now) arrangement.now }
+    requires sides { AllKeysStandIn (polygons_along (C.county chart.now).chains) (polygon_keys (C.county chart.now)) }
+    requires few_polygons { length (C.county chart.now).polygons < 2 ^ 32 }
+    requires few_names { length (C.county chart.now).names < 2 ^ 32 }
+    requires few_landmarks { length (C.county chart.now).landmarks < 2 ^ 32 }
+    ensures nodes { IfOk result (λ tables. MatchesNodes (C.county chart.now) arrangement.now tables.0) }
+    ensures polygons { IfOk result (λ tables. MatchesPolygons (C.county chart.now) arrangement.now tables.1) }
+    ensures names { IfOk result (λ tables. MatchesNames (C.county chart.now) arrangement.now tables.2) }
+    ensures landmarks { IfOk result (λ tables. MatchesLandmarks (C.county chart.now) arrangement.now tables.3) }
+{
+    let (nodes, polygons) = arrange_nodes_and_polygons(alloc, chart, arrangement)?;
+    let others = arrange_names_and_landmarks(alloc, chart, arrangement, &polygons.numbers);
+    let ((nodes, polygons), (names, landmarks)) = both((nodes, polygons), others)?;
+    Ok((nodes, polygons, names, landmarks))
+}
+
+/// A county in this arrangement. Its polygons on sides must be in the county, and the arrangement must name each of its chains once.
+///
+/// # Errors
+///
+/// `AllocError` if an allocation failed.
+pub fn arrange<C: Chart + Drop>(
+    alloc: Global,
+    chart: C,
+    arrangement: Vec<DirectedChain>,
+) -> Result<Arranged<C>, AllocError>
+    requires there { HasChainsOf (C.county chart) arrangement.items }
+    requires once { NamesEachOnce (C.county chart) (arrangement_of (C.county chart) arrangement.items) }
+    requires sides { AllKeysStandIn (polygons_along (C.county chart).chains) (polygon_keys (C.county chart)) }
+    ensures source { IfOk result (λ view. source_of view ≡ chart) }
+    ensures order { IfOk result (λ view. directed_chains_of view ≡ arrangement) }
+    ensures county { IfOk result
+        (λ view. arranged_county view ≡ arranged (C.county chart) (arrangement_of (C.county chart) arrangement.items)) }
+{
+    let (nodes, polygons, names, landmarks) = arrange_tables(alloc, &chart, &arrangement)?;
+    Ok(Arranged {
+        chart,
+        arrangement,
+        nodes,
+        polygons,
+        names,
+        landmarks,
+        evidence: PhantomData,
+    })
+}
+
+/// The same arranged county with a further fact about it, which must hold of its source county and of itself.
+pub fn with_evidence<C: Chart + Drop, S: Evidence>(view: Arranged<C>) -> Arranged<C, S>
+    requires { S.holds (C.county (source_of view)) (arranged_county view) }
+    ensures source { source_of result ≡ source_of view }
+    ensures order { directed_chains_of result ≡ directed_chains_of view }
+{
+    Arranged {
+        chart: view.chart,
+        arrangement: view.arrangement,
+        nodes: view.nodes,
+        polygons: view.polygons,
+        names: view.names,
+        landmarks: view.landmarks,
+        evidence: PhantomData,
+    }
+}

@@ -1,0 +1,39 @@
+//! The ends and the sides of a directed chain, in its direction.
+
+ghost use Rattle.std.specs.Prelude.{◌≡◌, ◌<◌, Some, length, option_map};
+ghost use Rattle.canonical_form.specs.EndsAndSides.{ends_of, sides_of};
+ghost use Rattle.county_chart.specs.DirectedChains.{directed_chain};
+
+use crate::arranged_tables::{Ends, Sides};
+use county_chart::{Chart, DirectedChain};
+use tl_layout::NumberOrNone;
+
+/// The nodes at the start and the end of a directed chain.
+pub fn ends_of_directed<C: Chart>(chart: &C, directed: DirectedChain) -> Ends
+    requires { directed.place < length (C.county chart.now).chains }
+    ensures { Some result ≡ option_map ends_of (directed_chain (C.county chart.now) directed) }
+{
+    let place = directed.place as usize;
+    let start = NumberOrNone::new(chart.start_node_there(place));
+    let end = NumberOrNone::new(chart.end_node_there(place));
+    if directed.turned {
+        (end, start)
+    } else {
+        (start, end)
+    }
+}
+
+/// The left and the right side of a directed chain.
+pub fn sides_of_directed<C: Chart>(chart: &C, directed: DirectedChain) -> Sides
+    requires { directed.place < length (C.county chart.now).chains }
+    ensures { Some result ≡ option_map sides_of (directed_chain (C.county chart.now) directed) }
+{
+    let place = directed.place as usize;
+    let left = chart.left_there(place);
+    let right = chart.right_there(place);
+    if directed.turned {
+        (right, left)
+    } else {
+        (left, right)
+    }
+}

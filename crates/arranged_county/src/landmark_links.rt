@@ -1,0 +1,136 @@
+//! The links of a county's landmarks with new numbers, in order, and the links of one landmark among them.
+
+ghost use Rattle.std.specs.List.{range_with_len};
+ghost use Rattle.std.specs.Ordering.{nat_cmp, on};
+ghost use Rattle.std.specs.Prelude.{◌≡◌, ◌++◌, ◌+◌, ◌-◌, ◌<◌, ◌^◌, IfOk, IsPermutation, OnOk, flat_map, length, map, slice_get};
+ghost use Rattle.county_chart.specs.BodyOrder.{link_cmp};
+ghost use Rattle.county_chart.specs.ChartWords.{links_at, links_with};
+ghost use Rattle.county_chart.specs.County.{eight_land};
+ghost use Rattle.ordered_lists.specs.Orders.{IsInOrder, in_order};
+ghost use Rattle.canonical_form.specs.Growth.{up_to};
+ghost use Rattle.arranged_county.specs.LandmarkItems.{link_under};
+ghost use Rattle.canonical_form.specs.WholeArrangements.{link_bounds};
+
+use crate::numbers::Interner;
+use crate::renumbering::{PolygonNumbers, new_land};
+use county_chart::{Chart, put_in_order, split_group};
+use std::alloc::{AllocError, Global};
+use tl_layout::Rec8;
+
+/// The fields of a link in the order of comparison: LAND, POLYID, CENID, FILE.
+type LinkKey = (u64, (u64, ([u8; 5], [u8; 5])));
+
+/// The new numbers of polygons, and the landmarks of a county in the order of their new numbers.
+#[derive(Drop)]
+struct NewOrder<'a, P: PolygonNumbers> {
+    polygons: &'a P,
+    lands: &'a Interner<u64>,
+    ghost few_polygons: { length (P.in_order polygons.now) < 10 ^ 10 },
+    ghost few_lands: { length lands.now < 10 ^ 10 },
+}
+
+/// A link with the new numbers of its polygon and its landmark.
+fn renumbered_link<P: PolygonNumbers>(order: &NewOrder<'_, P>, link: &Rec8) -> Rec8
+    ensures { result ≡ link_under (P.in_order order.now.polygons.now) order.now.lands.now link.now }
+{
+    let cenid = link.cenid();
+    let key = order.polygons.key_of((cenid, link.polyid()));
+    let land = new_land(order.lands, link.land());
+    Rec8::new(link.file(), cenid, key.1, land)
+}
+
+/// Appends the links of the landmark at a place with their new numbers.
+fn push_links<C: Chart, P: PolygonNumbers>(
+    links: &mut Vec<Rec8>,
+    chart: &C,
+    order: &NewOrder<'_, P>,
+    place: usize,
+) -> Result<(), AllocError>
+    ensures { OnOk result (links.new.items
+        ≡ links.old.items ++ map (link_under (P.in_order order.now.polygons.now) order.now.lands.now) (links_at (C.county chart.now) place)) }
+{
+    let own = (0..chart.link_count_at(place)).filter_map(|link| chart.landmark_link_at(
+        place, link,
+    ));
+    links.extend(own.map(|link| renumbered_link(order, &link)))
+}
+
+/// The links of the landmarks at places with their new numbers, landmark after landmark.
+fn gather_links<C: Chart, P: PolygonNumbers>(
+    alloc: Global,
+    chart: &C,
+    order: &NewOrder<'_, P>,
+    places: &[u32],
+) -> Result<Vec<Rec8>, AllocError>
+    ensures { IfOk result (λ links. links.items ≡ flat_map (λ place. map (link_under (P.in_order order.now.polygons.now) order.now.lands.now)
+        (links_at (C.county chart.now) place)) places.now) }
+{
+    let mut links = Vec::new(alloc);
+    for place in places {
+        push_links(&mut links, chart, order, *place as usize)?;
+    }
+    Ok(links)
+}
+
+/// The links of a county in order, with these numbers of their polygons, and with their landmarks numbered by their places in a table.
+/// They are gathered along `places`, all places of landmarks in any order. If it's the order of the table, there is little to sort.
+pub(crate) fn links_under<C: Chart, P: PolygonNumbers>(
+    alloc: Global,
+    chart: &C,
+    polygons: &P,
+    lands: &Interner<u64>,
+    places: &[u32],
+) -> Result<Vec<Rec8>, AllocError>
+    requires few_polygons { length (P.in_order polygons.now) < 10 ^ 10 }
+    requires few_lands { length lands.now < 10 ^ 10 }
+    requires all { IsPermutation (range_with_len 0 (length (C.county chart.now).landmarks)) places.now }
+    ensures { IfOk result (λ links. links.items ≡ in_order link_cmp (map (link_under (P.in_order polygons.now) lands.now) (C.county chart.now).links)) }
+{
+    let mut links = gather_links(alloc, chart, &NewOrder { polygons, lands }, places)?;
+    put_in_order::<LinkKey, Rec8>(&mut links)?;
+    Ok(links)
+}
+
+/// For each of 0, 1, 2, .., up to `count`, how many links have a LAND up to it.
+pub(crate) fn bounds_of(
+    alloc: Global,
+    links: &[Rec8],
+    count: usize,
+) -> Result<Vec<usize>, AllocError>
+    requires in_order { IsInOrder (on eight_land nat_cmp) links.now }
+    requires few { count < 2 ^ 32 }
+    ensures { IfOk result (λ bounds. bounds.items ≡ link_bounds links.now count) }
+{
+    let mut bounds = Vec::with_capacity(alloc, count + 1)?;
+    let mut rest = links;
+    for land in 0..count + 1 {
+        let (_, later) = split_group::<u64, Rec8>(rest, land as u64);
+        rest = later;
+        bounds.push(links.len() - rest.len())?;
+    }
+    Ok(bounds)
+}
+
+/// The links of the landmark at a place, for LANDs counted from 1. `bounds` are how many links have a LAND up to 0, 1, 2, ..
+pub(crate) fn links_of_landmark<'a>(links: &'a [Rec8], bounds: &[usize], place: usize) -> &'a [Rec8]
+    requires in_order { IsInOrder (on eight_land nat_cmp) links.now }
+    requires some { 0 < length bounds.now }
+    requires bounds { bounds.now ≡ link_bounds links.now (length bounds.now - 1) }
+    ensures { result.now ≡ links_with links.now (slice_get (up_to (length bounds.now - 1)) place) }
+{
+    if place >= bounds.len() - 1 {
+        return &links[..0];
+    }
+    let start = bounds[place];
+    let end = bounds[place + 1];
+    let (_, rest) = links.split_at(start);
+    let (own, _) = rest.split_at(end - start);
+    own
+}
+
+/// A link of a list, or `None` past the last one.
+pub(crate) fn link_at(links: &[Rec8], link: usize) -> Option<Rec8>
+    ensures { result ≡ slice_get links.now link }
+{
+    links.get(link).copied()
+}

@@ -1,0 +1,24 @@
+//! Values kept with what is made after them.
+//!
+//! Where making the second value fails, the first is dropped in one call for the prover, which otherwise reads the drop of each part.
+
+ghost use Rattle.std.specs.Prelude.{◌≡◌, IfOk, Ok, OnOk};
+
+use std::alloc::AllocError;
+
+/// A value and another one, if that could be made.
+pub fn both<A: Drop, B: Drop>(first: A, second: Result<B, AllocError>) -> Result<(A, B), AllocError>
+    ensures first { IfOk result (λ pair. pair.0 ≡ first) }
+    ensures second { IfOk result (λ pair. second ≡ Ok pair.1) }
+{
+    Ok((first, second?))
+}
+
+/// A value, if what was done after it was made succeeded.
+pub fn if_done<A: Drop>(value: A, done: Result<(), AllocError>) -> Result<A, AllocError>
+    ensures value { IfOk result (λ kept. kept ≡ value) }
+    ensures done { OnOk result (done ≡ Ok tt) }
+{
+    done?;
+    Ok(value)
+}

@@ -1,0 +1,96 @@
+-- The chains of an arrangement given by directed chains are those at their places.
+use Rattle.canonical_form.proofs.Common.{◌≡◌, ◌⊎◌, ◌<◌, ◌≤◌, ◌==◌, ℕ, zero, suc, List, [], ◌∷◌, ◌++◌, map, flat_map, length, Option, Some, None}
+use Rattle.canonical_form.proofs.Common.{option_map, slice_get, sym, refl, ap, ap₂, ◌∙◌, inl, inr, arith, append-nil, Among, Arrangement, Chain}
+use Rattle.canonical_form.proofs.Common.{County, DirectedChain, IsCounty, apart_from_sorted}
+use Rattle.canonical_form.specs.DirectedChains.{HasChainsOf, arrangement_of, tlid_at}
+use Rattle.county_chart.specs.ChartWords.{chain_at, feats_of}
+use Rattle.canonical_form.proofs.Common.{chains_in_order, entries_of, eq-eqb, nat_keys, numbered_from, placed}
+use Rattle.county_chart.specs.DirectedChains.{directed_chain}
+use Rattle.canonical_form.proofs.Common.{rights-numbered_from, times-of_number, tlids, to_filter, turned_if}
+use Rattle.std.proofs.lemmas.Option.{slice_get-map, get_or_from_slice_get}
+use Rattle.ordered_lists.proofs.Lists.Elements.{flat_map_agree}
+use Rattle.std.proofs.lemmas.Grind.{flat_map-append}
+use Rattle.canonical_form.proofs.Lists.Counting.{flat_map-map}
+use Rattle.canonical_form.proofs.Views.ChainPlaces.{some_at}
+
+-- the element at a place is in the list
+pub among-get : {X : Type 0} (xs : List X) (i : ℕ) (x : X) → slice_get xs i ≡ Some x → Among x xs
+among-get [] i x e = cc
+among-get (y ∷ ys) zero x e = let t : x ≡ y = cc in inl t
+among-get (y ∷ ys) (suc i) x e = inr (among-get ys i x e)
+
+alone : {X : Type 0} (x : X) (xs : List X) → Among x xs → length xs ≤ 1 → xs ≡ x ∷ []
+alone x [] m h = absurd m
+alone x (y ∷ []) m h = go m
+  where
+    go : (x ≡ y) ⊎ Among x [] → y ∷ [] ≡ x ∷ []
+    go (inl e) = ap (λ z. z ∷ []) (sym e)
+    go (inr n) = absurd n
+alone x (y ∷ z ∷ zs) m h = absurd (omega (arith, h))
+
+-- a list read from a chain, or an empty list without a chain
+abbrev of_chain : {X : Type 0} → (Chain → List X) → Option Chain → List X
+of_chain f None = []
+of_chain f (Some chain) = f chain
+
+module _ (county : County) (is : IsCounty county) where
+  -- the TLID at a place belongs to exactly one entry, the one at that place
+  pub one_here : (p : ℕ) → p < length county.chains
+      → (e : ℕ × Chain) × (slice_get county.chains p ≡ Some e) × (entries_of county.chains (tlid_at county p) ≡ e ∷ []) ×
+      (tlid_at county p ≡ e.0)
+  one_here p h =
+      let e = some_at county.chains p h in
+      let tlid : tlid_at county p ≡ e.0.0 =
+      get_or_from_slice_get (tlids county) p e.0.0 0
+      (slice_get-map (λ (d : ℕ × Chain). d.0) county.chains p ∙ ap (option_map (λ (d : ℕ × Chain). d.0)) e.1) in
+      let among : Among e.0 (entries_of county.chains e.0.0) =
+      to_filter (λ (d : ℕ × Chain). d.0 == e.0.0) e.0 county.chains (among-get county.chains p e.0 e.1) (eq-eqb e.0.0 e.0.0 refl) in
+      let count = times-of_number (λ (d : ℕ × Chain). d.0) e.0.0 county.chains in
+      let few = apart_from_sorted nat_keys (tlids county) is.ascending.chains e.0.0 in
+      (e.0, e.1, ap (entries_of county.chains) tlid ∙ alone e.0 (entries_of county.chains e.0.0) among (omega (arith, count, few)), tlid)
+
+  abbrev bodies : Arrangement → List Chain
+  bodies ss = flat_map (λ s. map (λ (entry : ℕ × Chain). turned_if s.1 entry.1) (entries_of county.chains s.0)) ss
+
+  along_bodies : {X : Type 0} (f : Chain → List X) (arrangement : List DirectedChain) → HasChainsOf county arrangement
+      → flat_map f (bodies (arrangement_of county arrangement)) ≡ flat_map (λ directed. of_chain f (directed_chain county directed)) arrangement
+  along_bodies f [] h = refl
+  along_bodies f (s ∷ ss) h =
+      let here = one_here s.place h.0 in
+      let rest = bodies (arrangement_of county ss) in
+      let chain : chain_at county s.place ≡ Some here.0.1 =
+      slice_get-map (λ (d : ℕ × Chain). d.1) county.chains s.place ∙ ap (option_map (λ (d : ℕ × Chain). d.1)) here.1 in
+      flat_map-append f (map (λ (entry : ℕ × Chain). turned_if s.turned entry.1) (entries_of county.chains (tlid_at county s.place))) rest
+      ∙ ap₂ (λ xs ys. xs ++ ys)
+      (ap (λ es. flat_map f (map (λ (entry : ℕ × Chain). turned_if s.turned entry.1) es)) here.2
+      ∙ append-nil (f (turned_if s.turned here.0.1))
+      ∙ ap (λ o. of_chain f (option_map (turned_if s.turned) o)) (sym chain))
+      (along_bodies f ss h.1)
+
+  along_placed : {X : Type 0} (f : Chain → List X) (arrangement : List DirectedChain) → HasChainsOf county arrangement
+      → flat_map (λ (entry : ℕ × Chain). f entry.1) (placed county (arrangement_of county arrangement)) ≡ flat_map
+      (λ directed. of_chain f (directed_chain county directed)) arrangement
+  along_placed f arrangement h =
+      let bs = bodies (arrangement_of county arrangement) in
+      sym (flat_map-map f (λ (entry : ℕ × Chain). entry.1) (numbered_from 1 bs))
+      ∙ ap (flat_map f) (rights-numbered_from 1 bs) ∙ along_bodies f arrangement h
+
+  same_feats : (o : Option Chain) → of_chain (λ c. c.feats) o ≡ feats_of o
+  same_feats None = refl
+  same_feats (Some c) = refl
+
+  pub feats_placed : (arrangement : List DirectedChain) → HasChainsOf county arrangement
+      → flat_map (λ (entry : ℕ × Chain). entry.1.feats) (placed county (arrangement_of county arrangement)) ≡ flat_map
+      (λ directed. feats_of (directed_chain county directed)) arrangement
+  feats_placed arrangement h = along_placed (λ c. c.feats) arrangement h
+      ∙ flat_map_agree (λ (directed : DirectedChain). of_chain (λ c. c.feats) (directed_chain county directed)) (λ directed. feats_of (directed_chain county directed))
+      (λ directed. same_feats (directed_chain county directed)) arrangement
+
+  -- the chains in their new order, read at the places of the directed chains
+  pub chains_read : (arrangement : List DirectedChain) → HasChainsOf county arrangement
+      → map Some (chains_in_order county (arrangement_of county arrangement)) ≡ map (λ directed. slice_get county.chains directed.place) arrangement
+  chains_read [] h = refl
+  chains_read (s ∷ ss) h =
+      let here = one_here s.place h.0 in
+      let rest = chains_in_order county (arrangement_of county ss) in
+      ap (λ es. map Some (es ++ rest)) here.2 ∙ (λ i. sym here.1 i ∷ chains_read ss h.1 i)

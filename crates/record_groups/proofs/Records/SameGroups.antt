@@ -1,0 +1,70 @@
+-- Lists that are compared place by place, and tests that decide whether they are the same.
+use Rattle.record_groups.proofs.Common.{◌≡◌, ◌<◌, ◌≤◌, ℕ, zero, suc, List, [], ◌∷◌, length, take, Bool, Some, slice_get, map, ◌++◌, sym}
+use Rattle.record_groups.proofs.Common.{ap, ◌∙◌, arith, County, Decides, Eight, Five, Four, I, IsCounty, One, P, Seven, Six, Two}
+use Rattle.canonical_form.proofs.Common.{county_of}
+use Rattle.record_groups.proofs.Common.{group_at, grouped, packed, type_1_by_chain, type_2_by_chain, type_4_by_chain}
+use Rattle.canonical_form.proofs.Common.{take_all}
+use Rattle.canonical_form.proofs.Packing.PackedCounty.{packed_county}
+use Rattle.record_groups.proofs.Common.{type_5_by_name, type_6_by_chain, type_7_by_landmark, type_8_together, type_i_by_chain, type_p_by_number}
+use Rattle.record_groups.specs.SharedGroups.{HaveSameCounts, HaveSameChains, HaveSameEntries}
+use Rattle.record_groups.proofs.Records.PackedGroups.{all_groups}
+
+module _ {X : Type 0} where
+  -- lists that agree up to the end of both
+  pub same_whole : (xs ys : List X) (place : ℕ) → take place xs ≡ take place ys → length xs ≤ place → length ys ≤ place → xs ≡ ys
+  same_whole xs ys place e h k = sym (take_all place xs h) ∙ e ∙ take_all place ys k
+
+-- groups at a place that both have
+pub same_group : {X : Type 0} (xs ys : List (List X)) (place : ℕ) → place < length xs → place < length ys
+    → group_at xs place ≡ group_at ys place → slice_get xs place ≡ slice_get ys place
+same_group [] ys place h k e = absurd (omega (arith, h))
+same_group (x ∷ xs) [] place h k e = absurd (omega (arith, k))
+same_group (x ∷ xs) (y ∷ ys) zero h k e = ap (λ z. Some z) e
+same_group (x ∷ xs) (y ∷ ys) (suc place) h k e = same_group xs ys place (omega (arith, h)) (omega (arith, k)) e
+
+module _ (a b : County) where
+  -- if the groups of all types are the same, so is the packing
+  same_packing : HaveSameChains a b → HaveSameEntries a b → packed a ≡ packed b
+  same_packing chains entries = sym (all_groups a)
+      ∙ (λ k. (map One (grouped (chains.heads.chains k)) ++ (map Two (grouped (chains.lists.shape_points k))
+      ++ map Four (grouped (chains.lists.further_names k)))) ++ ((map Five (grouped (entries.names k))
+      ++ (map Six (grouped (chains.lists.ranges k)) ++ map Seven (grouped (entries.landmarks.landmarks k))))
+      ++ (map Eight (grouped (entries.landmarks.landmark_links k)) ++ (map I (grouped (chains.heads.links k)) ++ map P (grouped (entries.polygons k))))))
+      ∙ all_groups b
+
+  -- if the packing is the same, the counties are the same, and so are all their groups
+  same_county : IsCounty a → IsCounty b → packed a ≡ packed b → a ≡ b
+  same_county h k e = sym (packed_county a h) ∙ ap county_of e ∙ packed_county b k
+
+  same_counts : a ≡ b → HaveSameCounts a b
+  same_counts e = record {
+    chains = ap (λ c. length c.chains) e;
+    names = ap (λ c. length c.names) e;
+    polygons = ap (λ c. length c.polygons) e;
+    landmarks = ap (λ c. length c.landmarks) e;
+  }
+
+  same_chains : a ≡ b → HaveSameChains a b
+  same_chains e = record {
+    heads = record { chains = ap type_1_by_chain e; links = ap type_i_by_chain e };
+    lists = record {
+      shape_points = ap type_2_by_chain e;
+      further_names = ap type_4_by_chain e;
+      ranges = ap type_6_by_chain e;
+    };
+  }
+
+  same_entries : a ≡ b → HaveSameEntries a b
+  same_entries e = record {
+    names = ap type_5_by_name e;
+    landmarks = record { landmarks = ap type_7_by_landmark e; landmark_links = ap type_8_together e };
+    polygons = ap type_p_by_number e;
+  }
+
+  -- A test for the same groups of all types is therefore a test for the same packing.
+  pub decides_packing : IsCounty a → IsCounty b → (test : Bool)
+      → Decides test ((HaveSameCounts a b × HaveSameChains a b) × HaveSameEntries a b) → Decides test (packed a ≡ packed b)
+  decides_packing h k test d = (
+    λ e. same_packing (d.0 e).0.1 (d.0 e).1,
+    λ packings. let e = same_county h k packings in d.1 ((same_counts e, same_chains e), same_entries e),
+  )

@@ -1,0 +1,16 @@
+-- The written bytes are the spelling of the chain's record.
+use Rattle.record_groups.proofs.Common.{◌∙◌, ◌∷◌, [], Some, option_map, sym, ap, packed_i}
+use Rattle.record_groups.proofs.Records.RecordPlaces.{chain_of_group, lone_of}
+use Rattle.tl_layout.specs.TypeI.{type_i_spelling}
+use Rattle.record_groups.proofs.Records.RecordPlaces.{topology_of}
+use Rattle.record_groups.proofs.chain_records.TopologyRecordsRecordGroups.put.Goals as goal
+
+pub returns : goal.returns
+returns g c =
+    let chart = c.args.self.now.chart.now in
+    let there = chain_of_group (λ entry. packed_i entry ∷ []) (g.C.Chart.county chart) (g.met.C.Chart.is_county chart)
+    (g.met.C.Chart.within_limits chart) c.args.group c.requires.group in
+    ap Some (c.put_fields.ensures ∙ ap type_i_spelling (topology_of there _ c.chain_tlid.ensures.tlid c.topology_there.ensures c.start_node_there.ensures
+    c.end_node_there.ensures c.left_there.ensures c.right_there.ensures))
+    ∙ sym (ap (option_map type_i_spelling) (lone_of packed_i (g.C.Chart.county chart) (g.met.C.Chart.is_county chart)
+    (g.met.C.Chart.within_limits chart) c.args.group c.requires.group c.args._place c.requires.place))

@@ -1,0 +1,14 @@
+use Rattle.record_groups.proofs.Common.{◌≡◌, ◌+◌, ◌∙◌, drop, suc, take, sym, ap, arith}
+use Rattle.std.specs.List.{push}
+use Rattle.ordered_lists.proofs.Lists.Places.{next_taken}
+use Rattle.canonical_form.proofs.Lists.ListPlaces.{get_dropped}
+use Rattle.record_groups.proofs.chain_records.items_from.Goals as goal
+
+pub loop-ahead-preserved : goal.loop-ahead-preserved
+loop-ahead-preserved g c =
+    let all = g.L.Listed.items c.args.list.now in
+    let first = c.args.first in
+    let ahead = c.loop-ahead.ahead in
+    c.push.ensures.items ∙ ap (λ xs. push xs c.item.result) c.loop-ahead.invariant
+    ∙ sym (ap (λ n. take n (drop first all)) (let e : ahead + 1 ≡ suc ahead = omega arith in e)
+    ∙ next_taken (drop first all) ahead c.item.result (c.item.ensures ∙ sym (get_dropped first all ahead)))

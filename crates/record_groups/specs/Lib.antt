@@ -1,0 +1,6 @@
+pub mod Groups
+pub mod CountyGroups
+pub mod RecordOrder
+pub mod TypeOneOrder
+pub mod OpenRanges
+pub mod SharedGroups

@@ -1,0 +1,101 @@
+//! Comparing records in groups, one after another.
+//!
+//! No text is made: lines are made for two records at a time, and the first records that differ decide. The groups of two
+//! arrangements needn't line up, because a chain can have more records of a type than the chain at its place in the other
+//! arrangement. Each side is therefore read with its own cursor.
+
+ghost use Rattle.std.specs.Cmp.Lexicographic.{slice_cmp};
+ghost use Rattle.std.specs.declared.cmp.Ordering.TheVariants.{Greater};
+ghost use Rattle.std.specs.Ordering.{nat_cmp};
+ghost use Rattle.std.specs.Prelude.{◌≡◌, MatchOption, map};
+ghost use Rattle.record_groups.specs.RecordOrder.{groups_cmp, records_cmp, spelling_cmp};
+
+use crate::cursor::{Cursor, next};
+use crate::groups::{CountedGroups, RecordGroups};
+use crate::record_eq::RecordEq;
+use std::cmp::Ordering;
+use tl_layout::{LONGEST_LINE, Layout, Tabled};
+
+/// Compares two records of one type by their lines.
+fn compare_lines<L: Layout>(a: &L, b: &L) -> Ordering
+    ensures { result ≡ slice_cmp nat_cmp (L.spelling a.now) (L.spelling b.now) }
+{
+    let mut line = [0; LONGEST_LINE];
+    let mut other = [0; LONGEST_LINE];
+    let len = L::LEN;
+    a.put(&mut line[..len]);
+    b.put(&mut other[..len]);
+    line[..len].cmp(&other[..len])
+}
+
+/// Compares two records of one type by their canonical spellings, byte by byte. Their lines are only made if the records differ.
+pub fn compare_records<L: RecordEq>(a: &L, b: &L) -> Ordering
+    ensures { result ≡ spelling_cmp (L.as_record a.now) (L.as_record b.now) }
+{
+    if a.is_same(b) {
+        return Ordering::Equal;
+    }
+    compare_lines(a, b)
+}
+
+/// Compares a record with the other one at its place, if there is one.
+fn compare_with<L: RecordEq>(a: &L, b: &Option<L>) -> Ordering
+    ensures { MatchOption b.now (result ≡ Greater) (λ found. result ≡ spelling_cmp (L.as_record a.now) (L.as_record found)) }
+{
+    match b {
+        Some(found) => compare_records(a, found),
+        None => Ordering::Greater,
+    }
+}
+
+/// Compares records in groups, record by record, by their canonical spellings. If there are no more on one side, that side is less.
+pub fn compare_groups<L: RecordEq, G: RecordGroups<Item = L>, H: RecordGroups<Item = L>>(
+    a: &G,
+    b: &H,
+) -> Ordering
+    ensures { result ≡ groups_cmp L.as_record (G.groups a.now) (H.groups b.now) }
+{
+    let mut at = Cursor::new();
+    let mut other_at = Cursor::new();
+    while let Some(record) = next(a, &mut at) {
+        match compare_with(&record, &next(b, &mut other_at)) {
+            Ordering::Equal => {}
+            unequal => return unequal,
+        }
+    }
+    match next(b, &mut other_at) {
+        Some(_) => Ordering::Less,
+        None => Ordering::Equal,
+    }
+}
+
+/// Records of a type, in one group.
+#[derive(Drop)]
+struct RecordList<'a, L: Tabled>(&'a [L]);
+
+impl<L: Tabled + Copy> CountedGroups for RecordList<'_, L> {
+    ghost use Rattle.std.specs.Prelude.{◌∷◌, []};
+
+    type Record = L;
+
+    ghost counted = { λ list. list.0.now ∷ [] };
+
+    fn group_count(&self) -> usize {
+        1
+    }
+
+    fn record_count(&self, _group: usize) -> usize {
+        self.0.len()
+    }
+
+    fn record_at(&self, _group: usize, place: usize) -> L {
+        self.0[place]
+    }
+}
+
+/// Compares two lists of records, record by record, like `compare_groups`.
+pub fn compare_lists<L: RecordEq + Copy>(a: &[L], b: &[L]) -> Ordering
+    ensures { result ≡ records_cmp (map L.as_record a.now) (map L.as_record b.now) }
+{
+    compare_groups(&RecordList(a), &RecordList(b))
+}

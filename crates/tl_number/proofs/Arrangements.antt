@@ -1,2 +1,0 @@
--- The county of an arrangement, its packing and its limits.
-pub mod PlacesFit

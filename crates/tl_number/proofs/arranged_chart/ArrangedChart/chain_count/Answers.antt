@@ -1,8 +1,0 @@
-use Rattle.tl_number.proofs.Common.{sym, ap, ◌∙◌, length}
-use Rattle.tl_number.proofs.Views.ViewChains.{chains_arranged_by}
-use Rattle.tl_number.proofs.arranged_chart.ArrangedChart.chain_count.Goals as goal
-
-pub returns : goal.returns
-returns g c = ap length c.as_slice.ensures.value ∙ sym (chains_arranged_by
-    (g.C.Chart.county c.args.self.now.chart) c.args.self.now.arrangement.items
-    (g.met.C.Chart.is_county c.args.self.now.chart) c.args.self.now.whole)

@@ -1,7 +1,0 @@
-use Rattle.tl_number.proofs.Common.{sym, ◌∙◌}
-use Rattle.tl_number.proofs.Views.ViewTables.{names_arranged_by}
-use Rattle.tl_number.proofs.arranged_chart.ArrangedChart.name_count.Goals as goal
-
-pub returns : goal.returns
-returns g c = c.len.ensures.len ∙ sym (names_arranged_by (g.C.Chart.county c.args.self.now.chart) c.args.self.now.arrangement.items
-    (g.met.C.Chart.is_county c.args.self.now.chart) c.args.self.now.whole c.args.self.now.names c.args.self.now.names_stated)

@@ -1,9 +1,0 @@
-use Rattle.tl_number.proofs.Common.{sym, ap, ◌∙◌, length, length-range_with_len}
-use Rattle.tl_number.proofs.Lemmas.{nodes_arranged_by}
-use Rattle.tl_number.proofs.arranged_chart.ArrangedChart.node_count.Goals as goal
-
-pub returns : goal.returns
-returns g c =
-    c.len.ensures.len ∙ sym (length-range_with_len 1 _) ∙ sym (ap length (nodes_arranged_by
-    (g.C.Chart.county c.args.self.now.chart) c.args.self.now.arrangement.items
-    (g.met.C.Chart.is_county c.args.self.now.chart) c.args.self.now.whole c.args.self.now.nodes.numbers c.args.self.now.nodes_stated.numbers))

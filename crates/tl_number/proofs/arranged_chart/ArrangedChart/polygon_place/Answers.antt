@@ -1,8 +1,0 @@
-use Rattle.tl_number.proofs.Common.{sym, ◌∙◌, subst, IsInOrder, key_cmp}
-use Rattle.tl_number.proofs.Views.ViewTables.{order_from_strict}
-use Rattle.tl_number.proofs.arranged_chart.ArrangedChart.polygon_place.Goals as goal
-
-pub place_of-requires : goal.place_of-requires
-place_of-requires g c =
-    subst (IsInOrder key_cmp) (sym (c.as_slice.ensures.value ∙ c.args.self.now.polygons_stated.keys))
-    (order_from_strict key_cmp _ c.args.self.now.whole.is_county.ascending.polygons)

@@ -1,0 +1,59 @@
+use Rattle.tl_number.proofs.Common.{◌≡◌, ◌∙◌, Result, Ok, Err, IfOk, ap, sym, subst, Carries, County, IfOk-weaker, IsCanonCounty}
+use Rattle.tl_number.proofs.Common.{IsLeastChoice, arranged, arranged_county, renaming_of}
+use Rattle.std.specs.Prelude.{MatchResult}
+use Rattle.arranged_county.specs.Views.{arrangement_in, source_of}
+use Rattle.tl_number.proofs.canonising.canonise.Goals as goal
+
+-- what holds of a value holds of it beside any other
+with_other : {A B E : Type 0} (a : A) (r : Result B E) (pair : Result (A × B) E) (P : A → Type 0)
+    → MatchResult r (λ b. pair ≡ Ok (a, b)) (λ e. pair ≡ Err e) → P a → IfOk pair (λ p. P p.0)
+with_other a (Ok b) pair P is h = subst (λ r. IfOk r (λ p. P p.0)) (sym is) h
+with_other a (Err e) pair P is h = subst (λ r. IfOk r (λ p. P p.0)) (sym is) tt
+
+-- and what holds of both
+with_both : {A B E : Type 0} (a : A) (r : Result B E) (pair : Result (A × B) E) (P : A → B → Type 0)
+    → MatchResult r (λ b. pair ≡ Ok (a, b)) (λ e. pair ≡ Err e) → IfOk r (P a) → IfOk pair (λ p. P p.0 p.1)
+with_both a (Ok b) pair P is h = subst (λ r. IfOk r (λ p. P p.0 p.1)) (sym is) h
+with_both a (Err e) pair P is h = subst (λ r. IfOk r (λ p. P p.0 p.1)) (sym is) tt
+
+pub returns-clause-source : goal.returns-clause-source
+returns-clause-source g c =
+    let county : County = g.C.Chart.county c.args.admitted in
+    with_other c.in_ok-canon.canon c.renaming-renaming.result c.paired.result
+    (λ view. g.C.Chart.county (source_of view) ≡ county) c.paired.ensures c.in_ok-canon.ensures.source_county
+
+pub returns-clause-county : goal.returns-clause-county
+returns-clause-county g c =
+    let county : County = g.C.Chart.county c.args.admitted in
+    with_other c.in_ok-canon.canon c.renaming-renaming.result c.paired.result
+    (λ view. arranged_county view ≡ arranged county (arrangement_in view)) c.paired.ensures c.in_ok-canon.ensures.county
+
+pub returns-clause-choice : goal.returns-clause-choice
+returns-clause-choice g c =
+    let county : County = g.C.Chart.county c.args.admitted in
+    with_other c.in_ok-canon.canon c.renaming-renaming.result c.paired.result
+    (λ view. IsLeastChoice county (arrangement_in view)) c.paired.ensures c.in_ok-canon.ensures.choice
+
+pub returns-clause-renaming : goal.returns-clause-renaming
+returns-clause-renaming g c =
+    let county : County = g.C.Chart.county c.args.admitted in
+    let arrangement = arrangement_in c.in_ok-canon.canon in
+    with_both c.in_ok-canon.canon c.renaming-renaming.result c.paired.result
+    (λ view r. r ≡ renaming_of county (arrangement_in view)) c.paired.ensures
+    (IfOk-weaker c.renaming-renaming.result _ _
+    (λ r is. is ∙ ap (λ (from : County). renaming_of from arrangement) c.in_ok-canon.ensures.source_county) c.renaming-renaming.ensures.value)
+
+pub returns-clause-carried : goal.returns-clause-carried
+returns-clause-carried g c =
+    let county : County = g.C.Chart.county c.args.admitted in
+    let canon : County = arranged_county c.in_ok-canon.canon in
+    with_both c.in_ok-canon.canon c.renaming-renaming.result c.paired.result
+    (λ view r. Carries r county (arranged_county view)) c.paired.ensures
+    (IfOk-weaker c.renaming-renaming.result _ _
+    (λ r carries. subst (λ (from : County). Carries r from canon) c.in_ok-canon.ensures.source_county carries)
+    c.renaming-renaming.ensures.carries)
+
+pub returns-clause-canonical : goal.returns-clause-canonical
+returns-clause-canonical g c =
+    with_other c.in_ok-canon.canon c.renaming-renaming.result c.paired.result
+    (λ view. IsCanonCounty (arranged_county view)) c.paired.ensures c.in_ok-canon.ensures.canonical

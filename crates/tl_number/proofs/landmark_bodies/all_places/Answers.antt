@@ -1,7 +1,0 @@
-use Rattle.tl_number.proofs.Common.{arith, length, YieldsList-from_range, items_from_collect}
-use Rattle.tl_number.proofs.landmark_bodies.all_places.Goals as goal
-
-pub returns : goal.returns
-returns g c =
-    let count = length (g.C.Chart.county c.args.chart.now).landmarks in
-    items_from_collect _ c.collect.ensures.ran (YieldsList-from_range 0 count count (cc) (omega arith))

@@ -1,8 +1,0 @@
-use Rattle.tl_number.proofs.Common.{Some}
-use Rattle.tl_number.proofs.Numbering.SeenLists.{seen_next}
-use Rattle.tl_number.proofs.numbers.Interner.see_all.Goals as goal
-
-pub loop-place-preserved : goal.loop-place-preserved
-loop-place-preserved g c =
-    seen_next g.K.Ord.cmp c.loop-place.place c.loop-place.self c.see.new.self (g.L.Listed.items c.args.keys.now) (Some c.item.result) _
-    c.in_ok-see.ensures.seen c.item.ensures c.loop-place.invariant

@@ -1,9 +1,0 @@
-use Rattle.tl_number.proofs.Common.{sym}
-use Rattle.canonical_form.proofs.Numbering.NewNumbers.{key_seen, key_unseen}
-use Rattle.tl_number.proofs.renumbering.new_key.Goals as goal
-
-pub returns-in-Some-clause-image : goal.returns-in-Some-clause-image
-returns-in-Some-clause-image c = sym (key_seen c.args.polygons.now c.args.key c.in-Some.place c.in-Some.ensures.first)
-
-pub returns-in-None-clause-image : goal.returns-in-None-clause-image
-returns-in-None-clause-image c = sym (key_unseen c.args.polygons.now c.args.key c.in-None.ensures.first)

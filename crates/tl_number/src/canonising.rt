@@ -1,0 +1,125 @@
+//! Making the canonical county.
+
+ghost use Rattle.std.specs.Prelude.{◌≡◌, Err, IfOk, MatchResult, Ok};
+ghost use Rattle.county_chart.specs.Renumbering.{AreSame, Carries};
+ghost use Rattle.canonical_form.specs.Arrangement.{arranged, renaming_of};
+ghost use Rattle.canonical_form.specs.CanonCounties.{IsCanonCounty};
+ghost use Rattle.canonical_form.specs.Tidy.{IsLeastChoice};
+ghost use Rattle.arranged_county.specs.Views.{arranged_county, arrangement_in, source_of, directed_chains_of};
+ghost use Rattle.tl_profile.specs.Profile.{IsInProfile};
+ghost use Rattle.tl_profile.specs.ShapeOrder.{IsShapeOrder};
+
+use crate::canon_county::{CanonCounty, CanonCountyIn};
+use crate::least_choice::least_arrangement;
+use arranged_county::{Arranged, arrange, with_evidence};
+use county_chart::{Chart, CountyIn};
+use std::alloc::{AllocError, Global};
+use tl_cert::Renaming;
+use tl_profile::{Admitted, AdmittedIn, ShapeOrder};
+
+/// Marks an arranged county as canonical. It must be canonical and the same map as its source county.
+fn known_as_canonical<C: Chart + Drop>(view: Arranged<C>) -> CanonCounty<C>
+    requires canonical { IsCanonCounty (arranged_county view) }
+    requires same { AreSame (C.county (source_of view)) (arranged_county view) }
+    ensures source { source_of result ≡ source_of view }
+    ensures order { directed_chains_of result ≡ directed_chains_of view }
+{
+    with_evidence(view)
+}
+
+/// The canonical county of a county in the profile, from the order of its chains by their shapes.
+fn canonise_in_order<C: Chart + Drop>(
+    alloc: Global,
+    chart: C,
+    order: &ShapeOrder,
+) -> Result<CanonCounty<C>, AllocError>
+    requires profile { IsInProfile (C.county chart) }
+    requires shapes { IsShapeOrder (C.county chart) order.now }
+    ensures source { IfOk result (λ canon. source_of canon ≡ chart) }
+    ensures source_county { IfOk result (λ canon. C.county (source_of canon) ≡ C.county chart) }
+    ensures county { IfOk result (λ canon. arranged_county canon ≡ arranged (C.county chart) (arrangement_in canon)) }
+    ensures choice { IfOk result (λ canon. IsLeastChoice (C.county chart) (arrangement_in canon)) }
+    ensures carried { IfOk result
+        (λ canon. Carries (renaming_of (C.county chart) (arrangement_in canon)) (C.county chart)
+        (arranged_county canon)) }
+    ensures canonical { IfOk result (λ canon. IsCanonCounty (arranged_county canon)) }
+{
+    let arrangement = least_arrangement(alloc, &chart, order)?;
+    let view = arrange(alloc, chart, arrangement)?;
+    Ok(known_as_canonical(view))
+}
+
+/// The canonical county of an admitted county, without the renaming onto it. Its chains have the order and the directions that their
+/// points decide; what the points leave open is decided by the least text. All other numbers follow, and it is the same map.
+///
+/// # Errors
+///
+/// `AllocError` if an allocation failed.
+pub fn canonise_alone<C: Chart + Drop>(
+    alloc: Global,
+    admitted: Admitted<C>,
+) -> Result<CanonCounty<C>, AllocError>
+    ensures source { IfOk result (λ canon. source_of canon ≡ admitted) }
+    ensures source_county { IfOk result (λ canon. C.county (source_of canon) ≡ C.county admitted) }
+    ensures county { IfOk result (λ canon. arranged_county canon ≡ arranged (C.county admitted) (arrangement_in canon)) }
+    ensures choice { IfOk result (λ canon. IsLeastChoice (C.county admitted) (arrangement_in canon)) }
+    ensures carried { IfOk result
+        (λ canon. Carries (renaming_of (C.county admitted) (arrangement_in canon)) (C.county admitted)
+        (arranged_county canon)) }
+    ensures canonical { IfOk result (λ canon. IsCanonCounty (arranged_county canon)) }
+{
+    let (chart, order) = admitted.into_parts();
+    canonise_in_order(alloc, chart, &order)
+}
+
+/// Pairs a value with another one, or passes on the error of the other.
+fn paired<A: Drop, B: Drop>(first: A, second: Result<B, AllocError>) -> Result<(A, B), AllocError>
+    ensures { MatchResult second (λ other. result ≡ Ok (first, other)) (λ error. result ≡ Err error) }
+{
+    Ok((first, second?))
+}
+
+/// Makes the canonical county of an admitted county, and the renaming that carries the admitted county onto it.
+///
+/// # Errors
+///
+/// `AllocError` if an allocation failed.
+pub fn canonise<C: Chart + Drop>(
+    alloc: Global,
+    admitted: Admitted<C>,
+) -> Result<(CanonCounty<C>, Renaming), AllocError>
+    ensures source { IfOk result (λ pair. C.county (source_of pair.0) ≡ C.county admitted) }
+    ensures county { IfOk result (λ pair. arranged_county pair.0 ≡ arranged (C.county admitted) (arrangement_in pair.0)) }
+    ensures choice { IfOk result (λ pair. IsLeastChoice (C.county admitted) (arrangement_in pair.0)) }
+    ensures renaming { IfOk result (λ pair. pair.1 ≡ renaming_of (C.county admitted) (arrangement_in pair.0)) }
+    ensures carried { IfOk result (λ pair. Carries pair.1 (C.county admitted) (arranged_county pair.0)) }
+    ensures canonical { IfOk result (λ pair. IsCanonCounty (arranged_county pair.0)) }
+{
+    let canon = canonise_alone(alloc, admitted)?;
+    let renaming = canon.renaming(alloc);
+    paired(canon, renaming)
+}
+
+/// Makes the canonical county of an admitted county in an arena, and the renaming that carries the admitted county onto it.
+///
+/// # Errors
+///
+/// `AllocError` if an allocation failed.
+pub fn canonise_in<'a>(
+    alloc: Global,
+    admitted: AdmittedIn<'a>,
+) -> Result<(CanonCountyIn<'a>, Renaming), AllocError>
+    ensures source { IfOk result
+        (λ pair. ⟦<CountyIn<'a> as Chart>⟧.county (source_of pair.0) ≡ ⟦<CountyIn<'a> as Chart>⟧.county admitted.entry) }
+    ensures county { IfOk result
+        (λ pair. arranged_county pair.0 ≡ arranged (⟦<CountyIn<'a> as Chart>⟧.county admitted.entry) (arrangement_in pair.0)) }
+    ensures choice { IfOk result
+        (λ pair. IsLeastChoice (⟦<CountyIn<'a> as Chart>⟧.county admitted.entry) (arrangement_in pair.0)) }
+    ensures renaming { IfOk result
+        (λ pair. pair.1 ≡ renaming_of (⟦<CountyIn<'a> as Chart>⟧.county admitted.entry) (arrangement_in pair.0)) }
+    ensures carried { IfOk result
+        (λ pair. Carries pair.1 (⟦<CountyIn<'a> as Chart>⟧.county admitted.entry) (arranged_county pair.0)) }
+    ensures canonical { IfOk result (λ pair. IsCanonCounty (arranged_county pair.0)) }
+{
+    canonise(alloc, admitted)
+}
