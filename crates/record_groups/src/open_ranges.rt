@@ -12,10 +12,7 @@ use tl_county::{Chart, DirectedChain, Listed};
 use tl_layout::Rec6;
 
 /// A place with its chain in an arrangement, or `None` past the last one.
-pub fn open_chain_of(
-    arrangement: &[DirectedChain],
-    place: u32,
-) -> Option<(u32, DirectedChain)>
+pub fn open_chain_of(arrangement: &[DirectedChain], place: u32) -> Option<(u32, DirectedChain)>
     ensures { result ≡ open_chain arrangement.now place }
 {
     arrangement

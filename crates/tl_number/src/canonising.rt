@@ -73,10 +73,7 @@ pub fn canonise_alone<C: Chart + Drop>(
 }
 
 /// Pairs a value with another one, or passes on the error of the other.
-fn paired<A: Drop, B: Drop>(
-    first: A,
-    second: Result<B, AllocError>,
-) -> Result<(A, B), AllocError>
+fn paired<A: Drop, B: Drop>(first: A, second: Result<B, AllocError>) -> Result<(A, B), AllocError>
     ensures { MatchResult second (λ other. result ≡ Ok (first, other)) (λ error. result ≡ Err error) }
 {
     Ok((first, second?))

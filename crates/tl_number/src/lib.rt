@@ -39,8 +39,8 @@ pub use landmark_link_records::LandmarkLinkRecords;
 pub use masking::{canonise_in_masked, canonise_masked, under_mask};
 pub use polygon_records::PolygonRecords;
 pub use record_groups::{
-    ChainRecords, CountedGroups, HeadBuffers, LandmarkRecords, NameRecords, RecordEq, RecordGroups, RecordVisitor, SequencedRecord,
-    SequencedRecords, TopologyRecords, read_heads,
+    ChainRecords, CountedGroups, HeadBuffers, LandmarkRecords, NameRecords, RecordEq, RecordGroups,
+    RecordVisitor, SequencedRecord, SequencedRecords, TopologyRecords, read_heads,
 };
 pub use sameness::same_records;
 pub use visiting::visit_records;

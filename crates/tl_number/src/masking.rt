@@ -8,8 +8,8 @@ ghost use Rattle.canonical_form.specs.CanonCounties.{IsCanonCounty};
 ghost use Rattle.canonical_form.specs.Tidy.{IsLeastChoice};
 ghost use Rattle.arranged_county.specs.Views.{arranged_county, arrangement_in, source_of};
 
-use crate::canonising::canonise;
 use crate::canon_county::CanonCounty;
+use crate::canonising::canonise;
 use std::alloc::{AllocError, Global};
 use tl_cert::Renaming;
 use tl_county::{Chart, CountyIn, Masked};

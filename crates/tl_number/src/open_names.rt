@@ -18,7 +18,9 @@ use crate::key_groups::FeatKeys;
 use crate::numbered_arrangement::NumberedArrangement;
 use crate::open_keys::{OpenKeys, has_key, open_keys, order_of, places_among};
 use crate::tie_tables::chains_at;
-use arranged_county::{Interner, NameTables, RankedName, arrange_names, both, number_feats, ranked_name, sorted_places};
+use arranged_county::{
+    Interner, NameTables, RankedName, arrange_names, both, number_feats, ranked_name, sorted_places,
+};
 use std::alloc::{AllocError, Global};
 use tl_county::Chart;
 use tl_profile::ShapeOrder;

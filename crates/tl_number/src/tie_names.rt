@@ -19,7 +19,9 @@ use crate::open_keys::{OpenKeys, place_in_choice};
 use crate::open_names::names_of_choice;
 use crate::tie_tables::TieTables;
 use arranged_county::Interner;
-use record_groups::{CountedGroups, NAMES_A_RECORD, compare_groups, items_from, open_chain_of, sequence_number};
+use record_groups::{
+    CountedGroups, NAMES_A_RECORD, compare_groups, items_from, open_chain_of, sequence_number,
+};
 use std::alloc::{AllocError, Global};
 use std::cmp::Ordering;
 use tl_county::{ChainFeats, Chart, DirectedChain, Listed};

@@ -8,7 +8,10 @@ ghost use Rattle.arranged_county.specs.Views.{arranged_county};
 use crate::landmark_link_records::LandmarkLinkRecords;
 use crate::polygon_records::PolygonRecords;
 use arranged_county::{Arranged, Evidence};
-use record_groups::{ChainRecords, HeadBuffers, LandmarkRecords, NameRecords, RecordVisitor, SequencedRecords, TopologyRecords, visit_three};
+use record_groups::{
+    ChainRecords, HeadBuffers, LandmarkRecords, NameRecords, RecordVisitor, SequencedRecords,
+    TopologyRecords, visit_three,
+};
 use std::marker::PhantomData;
 use tl_county::Chart;
 use tl_layout::{Rec2, Rec4, Rec6};
