@@ -9,6 +9,10 @@ use std::alloc::{AllocError, Global};
 use tl_profile::{ShapeOrder, order_by_shape};
 
 /// A copy of the directed chains, which are in the order of their shapes.
+///
+/// # Errors
+///
+/// `AllocError` if an allocation failed.
 pub fn arrangement_in_order(
     alloc: Global,
     order: &ShapeOrder,

@@ -26,6 +26,10 @@ use tl_layout::{NumberOrNone, Side};
 
 /// The ends and the sides of these directed chains, each one after the other. They are read before any node or polygon is numbered, so
 /// that reading one chain need not wait for another, and in one walk, since a chain may lie anywhere in memory.
+///
+/// # Errors
+///
+/// `AllocError` if an allocation failed.
 pub fn links_along<C: Chart>(
     alloc: Global,
     chart: &C,

@@ -91,7 +91,11 @@ fn same_bodies_along<C: Chart>(
     Ok(same)
 }
 
-/// For each landmark, the place of one with the same bodies: the same place for all that have them.
+/// For each landmark, the place of one with the same bodies: the same place for all that have them. Places are counted from 0.
+///
+/// # Errors
+///
+/// `AllocError` if an allocation failed.
 pub fn same_bodies<C: Chart>(alloc: Global, chart: &C) -> Result<Vec<u32>, AllocError>
     requires { length (C.county chart.now).landmarks < 2 ^ 32 }
     ensures { IfOk result (λ same. HaveSameBodies (C.county chart.now) same.items) }

@@ -168,6 +168,10 @@ fn places_in_order<C: Chart, P: PolygonNumbers>(
 
 /// The landmarks of a county in this arrangement, which numbers its polygons in this way. `same` are the places of landmarks with the same
 /// bodies as the first ones, as far as these are known.
+///
+/// # Errors
+///
+/// `AllocError` if an allocation failed.
 pub fn arrange_landmarks<C: Chart, P: PolygonNumbers>(
     alloc: Global,
     chart: &C,

@@ -94,7 +94,7 @@ fn rank(uses: &Interner<u32>, feat: Option<u32>) -> usize
     }
 }
 
-/// The name at a place with its rank.
+/// The name at a place with its rank by its first use, counted from 1, or 0 without a use.
 pub fn ranked_name<C: Chart>(chart: &C, uses: &Interner<u32>, place: u32) -> RankedName
     ensures { result ≡ ranked_at (C.county chart.now) uses.now place }
 {
@@ -153,7 +153,11 @@ fn feats_there<C: Chart>(alloc: Global, chart: &C, places: &[u32]) -> Result<Vec
         .collect(alloc)
 }
 
-/// The FEATs at places, numbered in this order.
+/// The FEATs at places, numbered in this order. No FEAT is at two of the places.
+///
+/// # Errors
+///
+/// `AllocError` if an allocation failed.
 pub fn number_feats<C: Chart>(
     alloc: Global,
     chart: &C,
@@ -167,7 +171,11 @@ pub fn number_feats<C: Chart>(
     Ok(numbers)
 }
 
-/// The places of ranked names in their order.
+/// The places of ranked names in their order: by content, by rank, and then by place.
+///
+/// # Errors
+///
+/// `AllocError` if an allocation failed.
 pub fn sorted_places<C: Chart>(
     alloc: Global,
     chart: &C,
@@ -196,7 +204,11 @@ fn places_in_order<C: Chart>(
     sorted_places(alloc, chart, names)
 }
 
-/// The names of a county in this arrangement.
+/// The names of a county in this arrangement. There are fewer than 2^32.
+///
+/// # Errors
+///
+/// `AllocError` if an allocation failed.
 pub fn arrange_names<C: Chart>(
     alloc: Global,
     chart: &C,

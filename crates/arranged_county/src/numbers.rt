@@ -317,6 +317,10 @@ impl<K: Key + Hash + NumericKey> Interner<K> {
     }
 
     /// Sees keys, one after another.
+    ///
+    /// # Errors
+    ///
+    /// `AllocError` if an allocation failed. Some of the keys may then have been seen.
     pub fn see_all<L: Listed<Item = K>>(&mut self, keys: &L) -> Result<(), AllocError>
         ensures { OnOk result (self.new ≡ first_seen_after K.cmp self.old (L.items keys.now)) }
     {
@@ -327,6 +331,10 @@ impl<K: Key + Hash + NumericKey> Interner<K> {
     }
 
     /// Numbers keys in their order. No key is repeated.
+    ///
+    /// # Errors
+    ///
+    /// `AllocError` if an allocation failed.
     pub fn of_distinct(alloc: Global, keys: &[K]) -> Result<Interner<K>, AllocError>
         requires { has_repeat K.cmp keys.now ≡ false }
         ensures { IfOk result (λ numbers. numbers ≡ keys.now) }

@@ -7,6 +7,10 @@ ghost use Rattle.std.specs.Prelude.{◌≡◌, IfOk, Ok, OnOk};
 use std::alloc::AllocError;
 
 /// A value and another one, if that could be made.
+///
+/// # Errors
+///
+/// The error of the other value.
 pub fn both<A: Drop, B: Drop>(first: A, second: Result<B, AllocError>) -> Result<(A, B), AllocError>
     ensures first { IfOk result (λ pair. pair.0 ≡ first) }
     ensures second { IfOk result (λ pair. second ≡ Ok pair.1) }
@@ -15,6 +19,10 @@ pub fn both<A: Drop, B: Drop>(first: A, second: Result<B, AllocError>) -> Result
 }
 
 /// A value, if what was done after it was made succeeded.
+///
+/// # Errors
+///
+/// The error of what was done.
 pub fn if_done<A: Drop>(value: A, done: Result<(), AllocError>) -> Result<A, AllocError>
     ensures value { IfOk result (λ kept. kept ≡ value) }
     ensures done { OnOk result (done ≡ Ok tt) }

@@ -56,7 +56,7 @@ pub(crate) fn new_feat(feats: &Interner<u32>, feat: u32) -> u32
     }
 }
 
-/// The new key of a polygon: its CENID with its new POLYID.
+/// The new key of a polygon: its CENID with its new POLYID. A polygon that wasn't seen keeps its key.
 pub fn new_key(polygons: &Interner<PolygonKey>, key: PolygonKey) -> PolygonKey
     ensures image { result ≡ image key_cmp (map under_cenid (numbered polygons.now)) key }
     ensures cenid { result.0 ≡ key.0 }
