@@ -7,8 +7,8 @@ use Rattle.tl_layout.specs.declared.record_type.Record.TheVariants.{One, Two, Fo
 use Rattle.tl_layout.specs.declared.type_p.BodyP.{BodyP}
 use Rattle.tl_county.specs.County.{County}
 use Rattle.tl_county.specs.ChartWords.{chain_at}
-use Rattle.tl_county.specs.Packing.{first_point, last_point, packed_one, packed_twos, packed_fours, packed_five, packed_sixes}
-use Rattle.tl_county.specs.Packing.{packed_sevens, packed_i, packed_p}
+use Rattle.tl_county.specs.Packing.{first_point, last_point, packed_one, packed_twos, packed_fours, packed_five, packed_sixes, packed_sevens}
+use Rattle.tl_county.specs.Packing.{packed_i, packed_p}
 use Rattle.tl_county.specs.PolygonKeys.{PolygonKey}
 use Rattle.canonical_form.specs.ByNumber.{polygons_by_number}
 use Rattle.record_groups.specs.Groups.{grouped}

@@ -1,18 +1,14 @@
 -- Names sorted by their bytes, the ranks of their first uses and their places are in their new order.
-use Rattle.arranged_county.proofs.Common.{◌≡◌, ℕ, suc, List, [], ◌∷◌, ◌++◌, map, flat_map, filter_map, length, Bool, true, false, cond}
-use Rattle.arranged_county.proofs.Common.{Ordering, Less, Equal, Greater, Option, Some, option_map, slice_get, sym, refl, ap, ap₂, ◌∙◌, subst}
-use Rattle.arranged_county.proofs.Common.{arith, nat_cmp, IsPermutation, append-nil, append_assoc, AreReadAt, AreWhole, Arrangement, Body5, Chain}
-use Rattle.arranged_county.proofs.Common.{County, DirectedChain, IsApart, IsCounty, IsInOrder, IsKeyOrder, IsPermutation-map}
-use Rattle.canonical_form.proofs.Common.{IsStrictlySortedBy}
-use Rattle.arranged_county.proofs.Common.{IsTotalOrder, Use, apart-permutation, apart_from_sorted, arranged_tlids, arrangement_of}
-use Rattle.canonical_form.proofs.Common.{all_uses}
-use Rattle.arranged_county.proofs.Common.{cons_option, entry_keys, feats, feats_along_arrangement, first_seen, first_seen_after, has_repeat}
-use Rattle.arranged_county.proofs.Common.{has_repeat-apart, length-map, length_permutation, ltb-true, map-append}
-use Rattle.canonical_form.proofs.Common.{name_key, name_key_cmp}
-use Rattle.arranged_county.proofs.Common.{names_in_order, nat_cmp_total, nat_keys, on_total, option_cmp, ordering_then, placed, range_with_len}
-use Rattle.arranged_county.proofs.Common.{slice_cmp, slice_get-map, stands_in, then_total, times-append, use_cmp}
-use Rattle.canonical_form.proofs.Common.{times-yes, uses_from}
-use Rattle.arranged_county.proofs.Common.{uses_of_name}
+use Rattle.arranged_county.proofs.Common.{◌≡◌, ℕ, suc, List, [], ◌∷◌, ◌++◌, map, flat_map, filter_map, length, Bool, true, false, cond, Ordering}
+use Rattle.arranged_county.proofs.Common.{Less, Equal, Greater, Option, Some, option_map, slice_get, sym, refl, ap, ap₂, ◌∙◌, subst, arith}
+use Rattle.arranged_county.proofs.Common.{nat_cmp, IsPermutation, append-nil, append_assoc, AreReadAt, AreWhole, Arrangement, Body5, Chain}
+use Rattle.arranged_county.proofs.Common.{County, DirectedChain, IsApart, IsCounty, IsInOrder, IsKeyOrder, IsPermutation-map, IsTotalOrder, Use}
+use Rattle.arranged_county.proofs.Common.{apart-permutation, apart_from_sorted, arranged_tlids, arrangement_of, cons_option, entry_keys, feats}
+use Rattle.arranged_county.proofs.Common.{feats_along_arrangement, first_seen, first_seen_after, has_repeat, has_repeat-apart, length-map}
+use Rattle.arranged_county.proofs.Common.{length_permutation, ltb-true, map-append, names_in_order, nat_cmp_total, nat_keys, on_total}
+use Rattle.arranged_county.proofs.Common.{option_cmp, ordering_then, placed, range_with_len, slice_cmp, slice_get-map, stands_in, then_total}
+use Rattle.arranged_county.proofs.Common.{times-append, use_cmp, uses_of_name}
+use Rattle.canonical_form.proofs.Common.{IsStrictlySortedBy, all_uses, name_key, name_key_cmp, times-yes, uses_from}
 use Rattle.tl_county.specs.BodyOrder.{name_body_cmp}
 use Rattle.tl_county.specs.ChartWords.{name_at}
 use Rattle.tl_county.specs.Laws.KeyOrders.{name_body_keys}

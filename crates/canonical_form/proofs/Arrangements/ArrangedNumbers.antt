@@ -13,8 +13,7 @@ use Rattle.tl_county.proofs.Limits.CarriedLimits.{carried_contents, carried_list
 use Rattle.tl_county.proofs.Limits.FitsCounty.{county_counts, county-within_limits}
 use Rattle.tl_county.proofs.Limits.FitsPacked.{packed-fits}
 use Rattle.ordered_lists.proofs.Lists.Elements.{all_pieces}
-use Rattle.tl_county.specs.Laws.TypeCounts.{HasAtMost, HasWithin, KeepsLimits, by_type_keeps, by_type_within, packed_keeps}
-use Rattle.tl_county.specs.Laws.TypeCounts.{packed_within}
+use Rattle.tl_county.specs.Laws.TypeCounts.{HasAtMost, HasWithin, KeepsLimits, by_type_keeps, by_type_within, packed_keeps, packed_within}
 use Rattle.canonical_form.specs.SeenRecords.{ShowsNoMore}
 use Rattle.canonical_form.proofs.CanonicalLists.Ascending.{sides_in_profile}
 use Rattle.canonical_form.proofs.Arrangements.Carrying.{arrangement_carries}

@@ -1,20 +1,20 @@
 -- The packing of an arranged county is an arranged list of records.
-use Rattle.canonical_form.proofs.Common.{flat_map, ◌≡◌, ◌≤◌, ◌-◌, min, ℕ, zero, suc, List, [], ◌∷◌, map, filter_map, length, take, drop, Ordering, is_gt}
-use Rattle.canonical_form.proofs.Common.{false, sym, refl, ap, ap₂, ◌∙◌, subst, arith, nat_cmp, map-id, length-drop, AllByRecursion, AreFull}
-use Rattle.canonical_form.proofs.Common.{Body7, Chain, Coordinates, County, Fields2, Fields4, Fields6, Fields7, IsArranged, IsArrangedList}
-use Rattle.canonical_form.proofs.Common.{IsCounty, IsInOrder, IsPacked, IsStrictlySortedBy, Ranges, StandsInOrder, all_everywhere, all_weaker}
-use Rattle.canonical_form.proofs.Common.{by_type_of, in_order-in_order, in_pieces, inner_points, landmark_body_cmp, length-map, length-take}
-use Rattle.canonical_form.proofs.Common.{link_cmp, map-map, map_agree_everywhere, nat_cmp_total, numbered_from, of_number, on, on_total}
-use Rattle.canonical_form.proofs.Common.{p_polyid, packed, packed_by_type, packed_county, packed_five, packed_fours, packed_i, packed_one}
-use Rattle.canonical_form.proofs.Common.{packed_p, packed_sevens, packed_sixes, packed_twos, pieces, rights-numbered_from, then_cmp, up_to}
-use Rattle.tl_county.specs.County.{one_tlid, two_tlid, two_rtsq, four_tlid, four_rtsq, five_feat, six_tlid, six_rtsq}
-use Rattle.tl_county.specs.County.{seven_land, i_tlid}
+use Rattle.canonical_form.proofs.Common.{flat_map, ◌≡◌, ◌≤◌, ◌-◌, min, ℕ, zero, suc, List, [], ◌∷◌, map, filter_map, length, take, drop}
+use Rattle.canonical_form.proofs.Common.{Ordering, is_gt, false, sym, refl, ap, ap₂, ◌∙◌, subst, arith, nat_cmp, map-id, length-drop}
+use Rattle.canonical_form.proofs.Common.{AllByRecursion, AreFull, Body7, Chain, Coordinates, County, Fields2, Fields4, Fields6, Fields7}
+use Rattle.canonical_form.proofs.Common.{IsArranged, IsArrangedList, IsCounty, IsInOrder, IsPacked, IsStrictlySortedBy, Ranges, StandsInOrder}
+use Rattle.canonical_form.proofs.Common.{all_everywhere, all_weaker, by_type_of, in_order-in_order, in_pieces, inner_points, landmark_body_cmp}
+use Rattle.canonical_form.proofs.Common.{length-map, length-take, link_cmp, map-map, map_agree_everywhere, nat_cmp_total, numbered_from}
+use Rattle.canonical_form.proofs.Common.{of_number, on, on_total, p_polyid, packed, packed_by_type, packed_county, packed_five, packed_fours}
+use Rattle.canonical_form.proofs.Common.{packed_i, packed_one, packed_p, packed_sevens, packed_sixes, packed_twos, pieces, rights-numbered_from}
+use Rattle.canonical_form.proofs.Common.{then_cmp, up_to}
+use Rattle.tl_county.specs.County.{one_tlid, two_tlid, two_rtsq, four_tlid, four_rtsq, five_feat, six_tlid, six_rtsq, seven_land, i_tlid}
 use Rattle.tl_county.specs.Packing.{type_after_type}
 use Rattle.tl_county.proofs.Packing.Pieces.{lefts-numbered_from, length-numbered_from}
 use Rattle.tl_county.proofs.Packing.PackedGroups.{group_holds, groups_in_order}
 use Rattle.ordered_lists.proofs.Lists.InOrder.{in_order-from_strict}
-use Rattle.tl_county.proofs.Packing.PackedNumbers.{two_own, four_own, six_own, seven_own, numbered_strict, tlids_apart, ones, twos, fours}
-use Rattle.tl_county.proofs.Packing.PackedNumbers.{fives, sixes, sevens, eights, links_of_chains, polygons_packed}
+use Rattle.tl_county.proofs.Packing.PackedNumbers.{two_own, four_own, six_own, seven_own, numbered_strict, tlids_apart, ones, twos, fours, fives}
+use Rattle.tl_county.proofs.Packing.PackedNumbers.{sixes, sevens, eights, links_of_chains, polygons_packed}
 use Rattle.tl_county.proofs.Packing.PackedLinked.{packed_linked}
 use Rattle.tl_county.specs.OrderedTables.{landmark_cmp}
 

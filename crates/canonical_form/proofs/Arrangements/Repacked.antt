@@ -8,8 +8,8 @@ use Rattle.canonical_form.proofs.Common.{packed_fours, packed_i, packed_one, pac
 use Rattle.canonical_form.proofs.Common.{strict_from_order, then_cmp, times, up_to}
 use Rattle.tl_layout.specs.Fields.{Fields1, Fields5}
 use Rattle.tl_layout.specs.ByType.{of_type_1, of_type_2, of_type_4, of_type_5, of_type_6, of_type_7, of_type_i}
-use Rattle.tl_county.specs.County.{one_tlid, two_tlid, two_rtsq, four_tlid, four_rtsq, five_feat, six_tlid, six_rtsq, seven_land}
-use Rattle.tl_county.specs.County.{i_tlid, shape_points, further_names, chain_of, chains_of, names_of, landmarks_of}
+use Rattle.tl_county.specs.County.{one_tlid, two_tlid, two_rtsq, four_tlid, four_rtsq, five_feat, six_tlid, six_rtsq, seven_land, i_tlid}
+use Rattle.tl_county.specs.County.{shape_points, further_names, chain_of, chains_of, names_of, landmarks_of}
 use Rattle.tl_county.specs.LinkRules.{chain_tlids, linked_tlids}
 use Rattle.tl_county.specs.declared.fault.LinkFault.TheVariants.{NoChain}
 use Rattle.tl_county.specs.declared.fault.LinkedType.{LinkedType}

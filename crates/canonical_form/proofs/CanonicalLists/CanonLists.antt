@@ -1,8 +1,8 @@
 -- A county is canonical exactly if its packing is a canonical list.
-use Rattle.canonical_form.proofs.Common.{◌≡◌, sym, subst, AllKeysStandIn, AreSame, Arrangement, County, IsArranged, IsCanonical}
-use Rattle.canonical_form.specs.CanonCounties.{IsCanonCounty}
-use Rattle.canonical_form.proofs.Common.{IsCounty, IsLeastChoice, IsNotAfter, IsTidy, IsTidyList, arranged, county-is_county, county_of, packed}
+use Rattle.canonical_form.proofs.Common.{◌≡◌, sym, subst, AllKeysStandIn, AreSame, Arrangement, County, IsArranged, IsCanonical, IsCounty}
+use Rattle.canonical_form.proofs.Common.{IsLeastChoice, IsNotAfter, IsTidy, IsTidyList, arranged, county-is_county, county_of, packed}
 use Rattle.canonical_form.proofs.Common.{packed_county, polygon_keys, polygons_along}
+use Rattle.canonical_form.specs.CanonCounties.{IsCanonCounty}
 use Rattle.canonical_form.proofs.Arrangements.ArrangedCounties.{arranged_county}
 use Rattle.canonical_form.proofs.Arrangements.ArrangedPacking.{packed_arranged}
 use Rattle.canonical_form.proofs.Arrangements.RepackedPolygons.{arranged_list_is_packed}

@@ -1,12 +1,12 @@
 -- The canonical form of the samples: which lists are canonical, and that the samples are carried onto them.
-use Rattle.canonical_form.proofs.Common.{◌≡◌, [], ◌∷◌, refl, ap, arith, ◌==◌, List, AreSame, IsArranged, IsArrangedList}
+use Rattle.canonical_form.proofs.Common.{◌≡◌, [], ◌∷◌, refl, ap, arith, ◌==◌, List, AreSame, IsArranged, IsArrangedList, IsCanonical, IsLinked}
+use Rattle.canonical_form.proofs.Common.{Record, Renumbering, county-is_county, county_of, packed, subst, true≢false}
 use Rattle.std.proofs.Common.{lit≤, slice_index}
-use Rattle.canonical_form.proofs.Common.{IsCanonical, IsLinked, Record, Renumbering, county-is_county, county_of, packed, subst, true≢false}
 use Rattle.std.proofs.lemmas.List.Sorted.{IsPermutation-refl}
 use Rattle.std.specs.List.Sorted.{IsStrictlySortedBy}
 use Rattle.tl_county.proofs.Rules.LinkFaults.{linked_computed}
-use Rattle.tl_county.proofs.Samples.Counties.{there, canonical_there, canonical_shaped, canonical_polygons, canonical_named}
-use Rattle.tl_county.proofs.Samples.Counties.{canonical_schools, canonical_meeting}
+use Rattle.tl_county.proofs.Samples.Counties.{there, canonical_there, canonical_shaped, canonical_polygons, canonical_named, canonical_schools}
+use Rattle.tl_county.proofs.Samples.Counties.{canonical_meeting}
 use Rattle.canonical_form.proofs.Arrangements.ArrangedPacking.{packed_arranged}
 use Rattle.canonical_form.proofs.CanonicalLists.OneChoice.{strict_is_canonical}
 

@@ -1,8 +1,8 @@
 -- The tidy lists of a map are the lists of its choices. Some choice has the least text, its list is canonical, and all canonical
 -- lists of one map have the same text.
-use Rattle.canonical_form.proofs.Common.{IsLeastBelow, ◌≡◌, ◌<◌, ℕ, List, sym, ap, ◌∙◌, subst, arith, AllKeysStandIn, AreSame, Arrangement, Carries, County}
-use Rattle.canonical_form.proofs.Common.{IsCanonical, IsChoice, IsCounty, IsLeastChoice, IsNotAfter, IsTidy, IsTidyList, Record, arranged}
-use Rattle.canonical_form.proofs.Common.{arranged_list, choices, county-is_county, county_of, numbered_choice, order_antisymm, packed}
+use Rattle.canonical_form.proofs.Common.{IsLeastBelow, ◌≡◌, ◌<◌, ℕ, List, sym, ap, ◌∙◌, subst, arith, AllKeysStandIn, AreSame, Arrangement}
+use Rattle.canonical_form.proofs.Common.{Carries, County, IsCanonical, IsChoice, IsCounty, IsLeastChoice, IsNotAfter, IsTidy, IsTidyList, Record}
+use Rattle.canonical_form.proofs.Common.{arranged, arranged_list, choices, county-is_county, county_of, numbered_choice, order_antisymm, packed}
 use Rattle.canonical_form.proofs.Common.{packed_county, polygon_keys, polygons_along, renaming_of, same-symmetric, same-transitive, text_of}
 use Rattle.ordered_lists.proofs.ByKey.KeyOrders.{bytes_keys}
 use Rattle.ordered_lists.proofs.ByKey.Keys.{order_itself}

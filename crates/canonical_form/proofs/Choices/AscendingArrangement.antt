@@ -1,12 +1,11 @@
 -- All chains in the order of their shapes and places are the ascending arrangement.
 use Rattle.canonical_form.proofs.Common.{◌≡◌, ◌<◌, ℕ, List, [], ◌∷◌, map, length, Bool, Less, Equal, Option, Some, None, option_map, slice_get}
 use Rattle.canonical_form.proofs.Common.{is_lt, refl, sym, ap, ap₂, ◌∙◌, subst, nat_cmp, reverse, Ordering, AllByRecursion, AreInShapeOrder}
-use Rattle.canonical_form.proofs.Common.{Chain, County, DirectedChain, IsTotalOrder, all_unmap, ascending}
+use Rattle.canonical_form.proofs.Common.{Chain, County, DirectedChain, IsTotalOrder, all_unmap, ascending, entry_shape, in_order, least_points}
+use Rattle.canonical_form.proofs.Common.{on, on_total, ordering_reverse, ordering_then, points_along, points_cmp, points_keys, tlids}
 use Rattle.canonical_form.specs.DirectedChains.{HasChainsOf, arrangement_of, tlid_at}
 use Rattle.tl_county.specs.ChartWords.{chain_at, points_of}
-use Rattle.canonical_form.proofs.Common.{entry_shape, in_order, least_points, on, on_total, ordering_reverse, ordering_then}
 use Rattle.std.specs.Option.{option_cmp}
-use Rattle.canonical_form.proofs.Common.{points_along, points_cmp, points_keys, tlids}
 use Rattle.std.proofs.lemmas.Option.{slice_get-map, get_or_from_slice_get}
 use Rattle.tl_profile.proofs.Places.{along_from}
 use Rattle.tl_profile.specs.ShapeOrder.{along_shape, directed_cmp}

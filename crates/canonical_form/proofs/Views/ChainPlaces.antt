@@ -1,13 +1,11 @@
 -- The chain at a place of a county within its limits.
 use Rattle.canonical_form.proofs.Common.{◌≡◌, ◌+◌, ◌-◌, ◌<◌, ◌≤◌, ℕ, zero, suc, List, [], ◌∷◌, length, Option, Some, None, option_map, slice_get}
 use Rattle.canonical_form.proofs.Common.{refl, ap, ◌∙◌, subst, arith, AllByRecursion, Chain, Coordinates, County, FitsNumbers, IsCounty}
-use Rattle.canonical_form.proofs.Common.{IsNumber, IsWithinLimits, inner_points, last_point, most_records}
+use Rattle.canonical_form.proofs.Common.{IsNumber, IsWithinLimits, inner_points, last_point, most_records, tlids, sym, IfSome, IsNumberOrNone}
 use Rattle.tl_county.specs.ChartWords.{chain_at, points_of}
 use Rattle.tl_county.specs.Packing.{first_point, without_last}
-use Rattle.canonical_form.proofs.Common.{tlids}
 use Rattle.std.proofs.lemmas.Option.{slice_get-map}
 use Rattle.tl_county.specs.Limits.{ListsFit, most_shape_points}
-use Rattle.canonical_form.proofs.Common.{sym, IfSome, IsNumberOrNone}
 use Rattle.canonical_form.proofs.Lists.ListPlaces.{some-same}
 
 -- a property of all elements of a list is a property of the element at a place

@@ -1,12 +1,11 @@
 -- The chains of an arrangement given by directed chains are those at their places.
 use Rattle.canonical_form.proofs.Common.{◌≡◌, ◌⊎◌, ◌<◌, ◌≤◌, ◌==◌, ℕ, zero, suc, List, [], ◌∷◌, ◌++◌, map, flat_map, length, Option, Some, None}
 use Rattle.canonical_form.proofs.Common.{option_map, slice_get, sym, refl, ap, ap₂, ◌∙◌, inl, inr, arith, append-nil, Among, Arrangement, Chain}
-use Rattle.canonical_form.proofs.Common.{County, DirectedChain, IsCounty, apart_from_sorted}
+use Rattle.canonical_form.proofs.Common.{County, DirectedChain, IsCounty, apart_from_sorted, chains_in_order, entries_of, eq-eqb, nat_keys}
+use Rattle.canonical_form.proofs.Common.{numbered_from, placed, rights-numbered_from, times-of_number, tlids, to_filter, turned_if}
 use Rattle.canonical_form.specs.DirectedChains.{HasChainsOf, arrangement_of, tlid_at}
 use Rattle.tl_county.specs.ChartWords.{chain_at, feats_of}
-use Rattle.canonical_form.proofs.Common.{chains_in_order, entries_of, eq-eqb, nat_keys, numbered_from, placed}
 use Rattle.tl_county.specs.DirectedChains.{directed_chain}
-use Rattle.canonical_form.proofs.Common.{rights-numbered_from, times-of_number, tlids, to_filter, turned_if}
 use Rattle.std.proofs.lemmas.Option.{slice_get-map, get_or_from_slice_get}
 use Rattle.ordered_lists.proofs.Lists.Elements.{flat_map_agree}
 use Rattle.std.proofs.lemmas.Grind.{flat_map-append}

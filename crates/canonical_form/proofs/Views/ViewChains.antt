@@ -1,16 +1,15 @@
 -- The chains of a county in an arrangement, read at the places of its directed chains.
 use Rattle.canonical_form.proofs.Common.{◌≡◌, ◌≤◌, ℕ, zero, suc, List, [], ◌∷◌, ◌++◌, map, flat_map, length, Option, Some, None, option_map}
-use Rattle.canonical_form.proofs.Common.{slice_get, sym, refl, ap, ◌∙◌, arith, nat_cmp, Arrangement, Arranges, Chain, County}
+use Rattle.canonical_form.proofs.Common.{slice_get, sym, refl, ap, ◌∙◌, arith, nat_cmp, Arrangement, Arranges, Chain, County, DirectedChain}
+use Rattle.canonical_form.proofs.Common.{IsApart, IsCounty, Renumbering, apart-permutation_of, apart_from_sorted, arranged_tlids, entries_of}
+use Rattle.canonical_form.proofs.Common.{length-map, map-map, nat_keys, placed, renaming_of, renumbered, rights-numbered_from, tlids, turned_if}
+use Rattle.canonical_form.proofs.Common.{up_to}
 use Rattle.canonical_form.specs.WholeArrangements.{AreWhole, arranged_by}
-use Rattle.canonical_form.proofs.Common.{DirectedChain, IsApart, IsCounty, Renumbering, apart-permutation_of, apart_from_sorted}
 use Rattle.canonical_form.specs.DirectedChains.{HasChainsOf, arrangement_of, tlid_at}
-use Rattle.canonical_form.proofs.Common.{arranged_tlids, entries_of}
 use Rattle.tl_county.specs.ChartWords.{chain_at}
 use Rattle.tl_county.specs.DirectedChains.{directed_chain}
 use Rattle.ordered_lists.specs.Entries.{entry_values}
-use Rattle.canonical_form.proofs.Common.{length-map, map-map, nat_keys, placed, renaming_of, renumbered, rights-numbered_from}
 use Rattle.std.proofs.lemmas.Option.{slice_get-map, slice_get_past}
-use Rattle.canonical_form.proofs.Common.{tlids, turned_if, up_to}
 use Rattle.canonical_form.proofs.Arrangements.Carrying.{chains_arranged, tlids_arranged}
 use Rattle.canonical_form.proofs.Unique.SameNumbers.{kept_entry}
 use Rattle.canonical_form.proofs.Views.DirectedChains.{one_here}

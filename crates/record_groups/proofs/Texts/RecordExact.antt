@@ -1,9 +1,9 @@
 -- Records of types 4, I and P that fit and have the same spelling are the same.
-use Rattle.record_groups.proofs.Common.{◌≡◌, ◌∙◌, ◌++◌, map, Equal, Ok, Result, sym, ap, subst, AllByRecursion, County, Eight, Fields4, FieldsI, FieldsP, Four, I}
-use Rattle.record_groups.proofs.Common.{IsCounty, IsWithinLimits, P, grouped, most_records, spelling_cmp}
+use Rattle.record_groups.proofs.Common.{◌≡◌, ◌∙◌, ◌++◌, map, Equal, Ok, Result, sym, ap, subst, AllByRecursion, County, Eight, Fields4, FieldsI}
+use Rattle.record_groups.proofs.Common.{FieldsP, Four, I, IsCounty, IsWithinLimits, P, grouped, most_records, spelling_cmp, One, Two}
+use Rattle.record_groups.proofs.Common.{topologies_of, type_1_by_chain, type_2_by_chain, type_4_by_chain, type_8_together, type_p_by_number}
+use Rattle.record_groups.proofs.Common.{types_1_to_4, types_5_to_7, types_8_to_p}
 use Rattle.canonical_form.proofs.Common.{all_left, all_right, all_unmap, lists_keys, nat_keys}
-use Rattle.record_groups.proofs.Common.{One, Two, topologies_of, type_1_by_chain, type_2_by_chain, type_4_by_chain, type_8_together}
-use Rattle.record_groups.proofs.Common.{type_p_by_number, types_1_to_4, types_5_to_7, types_8_to_p}
 use Rattle.tl_county.proofs.Limits.FitsPacked.{packed-fits}
 use Rattle.tl_layout.specs.Laws.TypeLaws.{layout_laws}
 use Rattle.tl_layout.specs.RecordText.{FitsRecord, spelling_of}

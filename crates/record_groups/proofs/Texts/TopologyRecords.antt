@@ -1,11 +1,11 @@
 -- The records of types I and P of a county in two arrangements.
 use Rattle.record_groups.proofs.Common.{◌≡◌, ◌≤◌, ◌+◌, ℕ, nat_lt, List, map, length, Bool, true, false, Option, Some, None, option_map}
 use Rattle.record_groups.proofs.Common.{slice_get, Equal, sym, refl, ap, ap₂, ◌∙◌, subst, arith, AreTiedAt, AreTiedBelow, AreWhole, Chain}
-use Rattle.record_groups.proofs.Common.{County, DirectedChain, I, IsCounty, arranged_by, arrangement_of, chain_at, directed_chain}
+use Rattle.record_groups.proofs.Common.{County, DirectedChain, I, IsCounty, arranged_by, arrangement_of, chain_at, directed_chain, topologies_of}
+use Rattle.record_groups.proofs.Common.{ltb-false, ltb-true, option_cmp, packed_i, placed, records_cmp, renaming_of, slice_get-map}
+use Rattle.record_groups.proofs.Common.{slice_get_past, spelling_cmp}
 use Rattle.canonical_form.specs.EndsAndSides.{ends_of, sides_of}
-use Rattle.record_groups.proofs.Common.{topologies_of, ltb-false, ltb-true, option_cmp, packed_i, placed, records_cmp, renaming_of}
 use Rattle.canonical_form.proofs.Common.{renumbered}
-use Rattle.record_groups.proofs.Common.{slice_get-map, slice_get_past, spelling_cmp}
 use Rattle.canonical_form.proofs.Arrangements.Carrying.{chains_arranged}
 use Rattle.record_groups.proofs.Records.PackedGroups.{is}
 use Rattle.canonical_form.proofs.Unique.SameNumbers.{kept_entry}

@@ -1,11 +1,9 @@
 -- For two packings with equally many records of each type, the first type that differs decides the order.
-use Rattle.record_groups.proofs.Common.{◌≡◌, ◌∙◌, ◌+◌, List, ◌++◌, length, map, length-append, nat_cmp, Equal, sym, ap, ap₂, County}
-use Rattle.canonical_form.proofs.Common.{AreSame}
-use Rattle.record_groups.proofs.Common.{Eight, Five, Four, I, IsCounty, IsWithinLimits, One, Record, Seven, Six, Two, grouped, groups_cmp}
-use Rattle.record_groups.proofs.Common.{length-map, most_records, ordering_then, packed, records_cmp, slice_cmp, spelling_cmp}
-use Rattle.canonical_form.proofs.Common.{packed_by_type}
-use Rattle.record_groups.proofs.Common.{text_of, tied_itself, type_1_by_chain, type_2_by_chain, type_4_by_chain, types_1_to_4, types_5_to_7}
-use Rattle.record_groups.proofs.Common.{types_8_to_p}
+use Rattle.record_groups.proofs.Common.{◌≡◌, ◌∙◌, ◌+◌, List, ◌++◌, length, map, length-append, nat_cmp, Equal, sym, ap, ap₂, County, Eight, Five}
+use Rattle.record_groups.proofs.Common.{Four, I, IsCounty, IsWithinLimits, One, Record, Seven, Six, Two, grouped, groups_cmp, length-map}
+use Rattle.record_groups.proofs.Common.{most_records, ordering_then, packed, records_cmp, slice_cmp, spelling_cmp, text_of, tied_itself}
+use Rattle.record_groups.proofs.Common.{type_1_by_chain, type_2_by_chain, type_4_by_chain, types_1_to_4, types_5_to_7, types_8_to_p}
+use Rattle.canonical_form.proofs.Common.{AreSame, packed_by_type}
 use Rattle.tl_county.proofs.Limits.CarriedLimits.{carried_many}
 use Rattle.tl_county.proofs.Limits.FitsPacked.{packed-fits}
 use Rattle.tl_county.specs.Laws.TypeCounts.{HasAsMany}

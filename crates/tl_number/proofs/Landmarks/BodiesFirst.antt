@@ -1,8 +1,9 @@
 -- Landmarks are ordered by their bodies first, so two arrangements of a county have the same landmarks.
 use Rattle.tl_number.proofs.Common.{◌≡◌, ◌∙◌, ℕ, List, map, length, sym, ap, Arrangement, Arranges, Body7, County, IsCounty, IsInOrder}
-use Rattle.tl_number.proofs.Common.{IsPermutation, IsPermutation-map, IsPermutation-sym, IsPermutation-trans, arranged, in_order-in_order, in_order-is_permutation}
-use Rattle.tl_number.proofs.Common.{in_order-map, in_order-permutation, landmark_body_cmp, landmark_key, landmark_key_cmp, landmarks_in_order, length-map}
-use Rattle.tl_number.proofs.Common.{link_part_cmp, links_relinked, lists_keys, map-map, on, on_total, renaming_of, slice_cmp}
+use Rattle.tl_number.proofs.Common.{IsPermutation, IsPermutation-map, IsPermutation-sym, IsPermutation-trans, arranged, in_order-in_order}
+use Rattle.tl_number.proofs.Common.{in_order-is_permutation, in_order-map, in_order-permutation, landmark_body_cmp, landmark_key}
+use Rattle.tl_number.proofs.Common.{landmark_key_cmp, landmarks_in_order, length-map, link_part_cmp, links_relinked, lists_keys, map-map, on}
+use Rattle.tl_number.proofs.Common.{on_total, renaming_of, slice_cmp}
 use Rattle.tl_county.specs.Laws.KeyOrders.{landmark_body_keys}
 use Rattle.tl_county.specs.Renumbering.{carried_landmark}
 use Rattle.canonical_form.specs.Growth.{up_to}

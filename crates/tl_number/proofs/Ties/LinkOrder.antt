@@ -1,12 +1,11 @@
 -- The links of landmarks in a choice: the numbers of their polygons, and when two choices have the same.
-use Rattle.tl_number.proofs.Common.{◌≡◌, ◌⊎◌, ◌∙◌, ◌<◌, ◌≤◌, ◌+◌, ℕ, suc, List, ◌∷◌, [], length, map, nat_lt, Bool, true, false, Some, None, Equal, inl, inr, refl, sym, ap, ap₂, subst}
-use Rattle.tl_number.proofs.Common.{arith, get_or, length-map, option_map, polygons_in_order, slice_get, slice_get-get_or, slice_get-map}
-use Rattle.tl_number.proofs.Common.{AllByRecursion, AreTieTables, County, DirectedChain, Eight, Fields8, IsCounty, IsWithinLimits, Known}
-use Rattle.tl_number.proofs.Common.{OrderOfShapes, PolygonKey, all_everywhere, all_weaker, arranged_by, arrangement_of, cond}
-use Rattle.tl_number.proofs.Common.{first_open, first_seen, grouped, groups_cmp, image, is_eq, key_cmp, key_keys, keys_along, link_key, lt-ltb, ltb-true, most_records, new_keys}
-use Rattle.tl_number.proofs.Common.{numbered, numbered_arrangement, place_in}
-use Rattle.tl_number.proofs.Common.{stands_in, times}
-use Rattle.tl_number.proofs.Common.{type_8_together, under_cenid}
+use Rattle.tl_number.proofs.Common.{◌≡◌, ◌⊎◌, ◌∙◌, ◌<◌, ◌≤◌, ◌+◌, ℕ, suc, List, ◌∷◌, [], length, map, nat_lt, Bool, true, false, Some, None}
+use Rattle.tl_number.proofs.Common.{Equal, inl, inr, refl, sym, ap, ap₂, subst, arith, get_or, length-map, option_map, polygons_in_order}
+use Rattle.tl_number.proofs.Common.{slice_get, slice_get-get_or, slice_get-map, AllByRecursion, AreTieTables, County, DirectedChain, Eight}
+use Rattle.tl_number.proofs.Common.{Fields8, IsCounty, IsWithinLimits, Known, OrderOfShapes, PolygonKey, all_everywhere, all_weaker, arranged_by}
+use Rattle.tl_number.proofs.Common.{arrangement_of, cond, first_open, first_seen, grouped, groups_cmp, image, is_eq, key_cmp, key_keys}
+use Rattle.tl_number.proofs.Common.{keys_along, link_key, lt-ltb, ltb-true, most_records, new_keys, numbered, numbered_arrangement, place_in}
+use Rattle.tl_number.proofs.Common.{stands_in, times, type_8_together, under_cenid}
 use Rattle.tl_county.specs.CountyRules.{chain_polygons}
 use Rattle.tl_number.specs.ChoiceSearch.{LeavesChoices}
 use Rattle.tl_number.specs.OpenKeys.{ArePlacedBy, all_by_order, key_by_order, place_by_order}

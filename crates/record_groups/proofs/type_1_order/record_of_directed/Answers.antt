@@ -1,6 +1,6 @@
-use Rattle.record_groups.proofs.Common.{◌≡◌, ◌+◌, ◌-◌, Some, is_some, length, option_map, slice_get, sym, ap, ◌∙◌, arith}
+use Rattle.record_groups.proofs.Common.{◌≡◌, ◌+◌, ◌-◌, Some, is_some, length, option_map, slice_get, sym, ap, ◌∙◌, arith, first_point}
+use Rattle.record_groups.proofs.Common.{last_point, packed_one, points_of}
 use Rattle.tl_county.proofs.Limits.FewChains.{few_chains}
-use Rattle.record_groups.proofs.Common.{first_point, last_point, packed_one, points_of}
 use Rattle.canonical_form.proofs.Lists.ListPlaces.{some-same}
 use Rattle.canonical_form.proofs.Views.ChainPlaces.{first_at, last_at}
 use Rattle.record_groups.proofs.Texts.TypeOnes.{directed_there}
