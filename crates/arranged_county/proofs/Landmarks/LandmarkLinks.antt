@@ -1,18 +1,13 @@
 -- Links gathered landmark by landmark, and counted LAND by LAND.
-use Rattle.arranged_county.proofs.Common.{◌≡◌, ◌⊎◌, ◌<◌, ◌≤◌, ◌+◌, ◌-◌, ℕ, zero, suc, nat_le, List, [], ◌∷◌, ◌++◌, map, filter, filter_map, flat_map}
-use Rattle.canonical_form.proofs.Common.{◌&&◌}
-use Rattle.arranged_county.proofs.Common.{length, Bool, true, false, Ordering, Less, Equal, Greater, is_gt, Option, None, Some, slice_get, refl, sym, ap}
-use Rattle.canonical_form.proofs.Common.{not}
-use Rattle.arranged_county.proofs.Common.{ap₂, ◌∙◌, subst, inl, inr, arith, nat_cmp, append-nil, append_assoc, IsPermutation, IsTrue, County}
-use Rattle.arranged_county.proofs.Common.{Fields8, IsCounty, IsInOrder, IsPermutation-map, IsPermutation-sym, IsPermutation-trans, Known}
-use Rattle.arranged_county.proofs.Common.{all_weaker, apart-permutation, apart_from_sorted, cons_option, eight_land, in_order, in_order-in_order}
-use Rattle.canonical_form.proofs.Common.{MatchOrdering}
-use Rattle.arranged_county.proofs.Common.{in_order-is_permutation, in_order-permutation, lands, lands_at, length-map, link_cmp, link_keys, links_at}
-use Rattle.canonical_form.proofs.Common.{known-permutation_to}
-use Rattle.arranged_county.proofs.Common.{links_up_to, links_with, ltb-true, map-append, nat_keys, range_with_len, stands_in}
-use Rattle.canonical_form.proofs.Common.{of_number, ranked}
-use Rattle.arranged_county.proofs.Common.{times}
-use Rattle.canonical_form.proofs.Common.{true≢false}
+use Rattle.arranged_county.proofs.Common.{◌≡◌, ◌⊎◌, ◌<◌, ◌≤◌, ◌+◌, ◌-◌, ℕ, zero, suc, nat_le, List, [], ◌∷◌, ◌++◌, map, filter, filter_map}
+use Rattle.arranged_county.proofs.Common.{flat_map, length, Bool, true, false, Ordering, Less, Equal, Greater, is_gt, Option, None, Some}
+use Rattle.arranged_county.proofs.Common.{slice_get, refl, sym, ap, ap₂, ◌∙◌, subst, inl, inr, arith, nat_cmp, append-nil, append_assoc}
+use Rattle.arranged_county.proofs.Common.{IsPermutation, IsTrue, County, Fields8, IsCounty, IsInOrder, IsPermutation-map, IsPermutation-sym}
+use Rattle.arranged_county.proofs.Common.{IsPermutation-trans, Known, all_weaker, apart-permutation, apart_from_sorted, cons_option, eight_land}
+use Rattle.arranged_county.proofs.Common.{in_order, in_order-in_order, in_order-is_permutation, in_order-permutation, lands, lands_at}
+use Rattle.arranged_county.proofs.Common.{length-map, link_cmp, link_keys, links_at, links_up_to, links_with, ltb-true, map-append, nat_keys}
+use Rattle.arranged_county.proofs.Common.{range_with_len, stands_in, times}
+use Rattle.canonical_form.proofs.Common.{◌&&◌, not, MatchOrdering, known-permutation_to, of_number, ranked, true≢false}
 use Rattle.std.proofs.lemmas.Bool.Decides.{leb_tells}
 use Rattle.std.proofs.lemmas.List.Filters.{length-filter_both}
 use Rattle.county_chart.proofs.Lists.OfNumber.{groups-permutation}

@@ -2,21 +2,16 @@
 use Rattle.arranged_county.proofs.Common.{◌≡◌, ◌≤◌, ℕ, suc, List, [], ◌∷◌, map, filter_map, length, Option, Some, None, arith, option_map}
 use Rattle.arranged_county.proofs.Common.{unwrap_or, slice_get, Ordering, refl, sym, ap, ap₂, ◌∙◌, subst, nat_cmp, IsPermutation, IsTrue, false}
 use Rattle.arranged_county.proofs.Common.{AllByRecursion, AreReadAt, AreWhole, Arrangement, Body7, County, DirectedChain, Fields8, IsApart}
-use Rattle.arranged_county.proofs.Common.{IsCounty, IsInOrder, IsPermutation-map, IsPermutation-sym, IsTotalOrder, Known, PolygonKey}
-use Rattle.canonical_form.proofs.Common.{all_map}
-use Rattle.arranged_county.proofs.Common.{all_weaker, among_known, apart-permutation, apart_from_sorted, arranged_by, arrangement_of, bodies_at}
-use Rattle.arranged_county.proofs.Common.{cons_option, eight_land, entry_keys, has_repeat, has_repeat-apart, image, in_order}
-use Rattle.canonical_form.proofs.Common.{in_order-equal}
-use Rattle.arranged_county.proofs.Common.{in_order-in_order, in_order-is_permutation, key_cmp, landmark_body_cmp}
-use Rattle.canonical_form.proofs.Common.{landmark_key, landmark_key_cmp}
-use Rattle.arranged_county.proofs.Common.{landmark_place_cmp, landmarks_in_order, lands, lands_at, length-map, length-range_with_len}
-use Rattle.arranged_county.proofs.Common.{length_permutation, link_cmp, link_keys, link_part, link_part_cmp, link_under}
-use Rattle.canonical_form.proofs.Common.{link_key, link_part_keys}
-use Rattle.arranged_county.proofs.Common.{links_with, ltb-true, map-map, nat_cmp_total, nat_keys, numbered}
-use Rattle.canonical_form.proofs.Common.{links_relinked, new_keys}
+use Rattle.arranged_county.proofs.Common.{IsCounty, IsInOrder, IsPermutation-map, IsPermutation-sym, IsTotalOrder, Known, PolygonKey, all_weaker}
+use Rattle.arranged_county.proofs.Common.{among_known, apart-permutation, apart_from_sorted, arranged_by, arrangement_of, bodies_at, cons_option}
+use Rattle.arranged_county.proofs.Common.{eight_land, entry_keys, has_repeat, has_repeat-apart, image, in_order, in_order-in_order}
+use Rattle.arranged_county.proofs.Common.{in_order-is_permutation, key_cmp, landmark_body_cmp, landmark_place_cmp, landmarks_in_order, lands}
+use Rattle.arranged_county.proofs.Common.{lands_at, length-map, length-range_with_len, length_permutation, link_cmp, link_keys, link_part}
+use Rattle.arranged_county.proofs.Common.{link_part_cmp, link_under, links_with, ltb-true, map-map, nat_cmp_total, nat_keys, numbered}
 use Rattle.arranged_county.proofs.Common.{numbered_links, on, on_total, ordering_then, polygons_in_order, range_with_len, slice_cmp}
-use Rattle.canonical_form.proofs.Common.{relinked}
 use Rattle.arranged_county.proofs.Common.{slice_get-map, stands_in, then_total, times, up_to}
+use Rattle.canonical_form.proofs.Common.{all_map, in_order-equal, landmark_key, landmark_key_cmp, link_key, link_part_keys, links_relinked}
+use Rattle.canonical_form.proofs.Common.{new_keys, relinked}
 use Rattle.std.proofs.lemmas.Cmp.{lists_total}
 use Rattle.county_chart.specs.Laws.KeyOrders.{landmark_body_keys}
 use Rattle.ordered_lists.proofs.ByKey.Keys.{image-injective}

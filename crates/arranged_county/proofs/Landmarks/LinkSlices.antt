@@ -1,9 +1,9 @@
 -- In a list in the order of its numbers, the elements with one number are between two counts.
 use Rattle.arranged_county.proofs.Common.{◌≡◌, ◌⊎◌, ◌≢◌, ◌<◌, ◌≤◌, ◌+◌, ◌-◌, ◌==◌, ℕ, suc, nat_le, List, [], ◌∷◌, filter, length, take, drop}
-use Rattle.arranged_county.proofs.Common.{Bool, true, false, cond, is_gt, get_or, slice_get, nat_cmp, refl, sym, ap, ap₂, ◌∙◌, subst, inl}
-use Rattle.std.proofs.Common.{eqb}
-use Rattle.arranged_county.proofs.Common.{inr, arith, AllByRecursion, Fields8, IsInOrder, all_weaker, eight_land, link_bounds, links_up_to}
+use Rattle.arranged_county.proofs.Common.{Bool, true, false, cond, is_gt, get_or, slice_get, nat_cmp, refl, sym, ap, ap₂, ◌∙◌, subst, inl, inr}
+use Rattle.arranged_county.proofs.Common.{arith, AllByRecursion, Fields8, IsInOrder, all_weaker, eight_land, link_bounds, links_up_to}
 use Rattle.arranged_county.proofs.Common.{links_with, on, up_to}
+use Rattle.std.proofs.Common.{eqb}
 use Rattle.std.proofs.lemmas.Bool.Decides.{leb_tells, eqb_tells}
 use Rattle.std.proofs.lemmas.List.FromFn.{get_or-map-range_with_len}
 use Rattle.arranged_county.proofs.Views.ViewNumbers.{get_up_to}

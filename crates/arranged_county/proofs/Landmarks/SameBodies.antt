@@ -1,6 +1,7 @@
 -- Landmarks with the same bodies.
-use Rattle.arranged_county.proofs.Common.{◌≡◌, ◌⊎◌, ◌<◌, ◌+◌, ◌∙◌, ℕ, List, length, get_or, set, inl, inr, false, is_eq, sym, ap, subst, arith, nat_cmp, Equal}
-use Rattle.arranged_county.proofs.Common.{County, IsTotalOrder, bodies_at, landmark_body_cmp, length-range_with_len, nat_keys, range_with_len, slice_cmp, tied_itself}
+use Rattle.arranged_county.proofs.Common.{◌≡◌, ◌⊎◌, ◌<◌, ◌+◌, ◌∙◌, ℕ, List, length, get_or, set, inl, inr, false, is_eq, sym, ap, subst, arith}
+use Rattle.arranged_county.proofs.Common.{nat_cmp, Equal, County, IsTotalOrder, bodies_at, landmark_body_cmp, length-range_with_len, nat_keys}
+use Rattle.arranged_county.proofs.Common.{range_with_len, slice_cmp, tied_itself}
 use Rattle.std.proofs.lemmas.Cmp.{lists_total}
 use Rattle.std.proofs.lemmas.List.{get_or-set_other, get_or-set_same, length-set}
 use Rattle.std.proofs.lemmas.List.FromFn.{get_or-range_with_len}

@@ -1,11 +1,9 @@
 -- Keys in a list that are found by marks or in a table of others: that one more key is found too, and where a key stands.
-use Rattle.arranged_county.proofs.Common.{◌≡◌, ◌⊎◌, ◌<◌, ◌+◌, ◌%◌, ℕ, zero, suc, List, [], ◌∷◌, ◌++◌, length, set, get_or, slice_get}
+use Rattle.arranged_county.proofs.Common.{◌≡◌, ◌⊎◌, ◌<◌, ◌+◌, ◌%◌, ℕ, zero, suc, List, [], ◌∷◌, ◌++◌, length, set, get_or, slice_get, Bool, true}
+use Rattle.arranged_county.proofs.Common.{false, Ordering, Option, Some, None, IfSome, is_eq, is_some, refl, sym, ap, ◌∙◌, subst, inl, inr}
+use Rattle.arranged_county.proofs.Common.{arith, length-append, Result, Ok, Err, IfOk, IsKeyOrder, lt-ltb, position, stands_in, times}
 use Rattle.std.proofs.Common.{length-set}
-use Rattle.arranged_county.proofs.Common.{Bool, true, false, Ordering, Option, Some, None, IfSome, is_eq, is_some, refl, sym, ap, ◌∙◌, subst, inl}
-use Rattle.arranged_county.proofs.Common.{inr, arith, length-append, Result, Ok, Err, IfOk, IsKeyOrder}
-use Rattle.canonical_form.proofs.Common.{any-stands_in, false≢true, list_any}
-use Rattle.arranged_county.proofs.Common.{lt-ltb, position, stands_in, times}
-use Rattle.canonical_form.proofs.Common.{same-itself}
+use Rattle.canonical_form.proofs.Common.{any-stands_in, false≢true, list_any, same-itself}
 use Rattle.std.specs.Prelude.{OnOk}
 use Rattle.std.proofs.lemmas.List.{get_or-set_other, get_or-set_same}
 use Rattle.std.proofs.lemmas.Option.{none-some, same_Some}

@@ -1,6 +1,6 @@
 -- A key that was seen stays at its place.
-use Rattle.arranged_county.proofs.Common.{◌≡◌, ◌≤◌, ℕ, List, ◌++◌, length, Ordering, Some, is_eq}
-use Rattle.arranged_county.proofs.Common.{sym, ap, ◌∙◌, arith, length-append, IsKeyOrder, first_seen_after, position}
+use Rattle.arranged_county.proofs.Common.{◌≡◌, ◌≤◌, ℕ, List, ◌++◌, length, Ordering, Some, is_eq, sym, ap, ◌∙◌, arith, length-append, IsKeyOrder}
+use Rattle.arranged_county.proofs.Common.{first_seen_after, position}
 use Rattle.canonical_form.proofs.Numbering.FirstSeen.{seen_stays}
 use Rattle.canonical_form.proofs.Numbering.FoundPlaces.{place_stays}
 

@@ -1,10 +1,9 @@
 -- The ends and the sides of chains, numbered in order of appearance.
 use Rattle.arranged_county.proofs.Common.{◌≡◌, ◌≤◌, ℕ, zero, suc, List, [], ◌∷◌, ◌++◌, map, flat_map, drop, take, length, Ordering, Option, Some}
 use Rattle.arranged_county.proofs.Common.{slice_get, sym, ap, ◌∙◌, arith, ◌+◌, Equal, ◌<◌, ◌^◌, get_or, is_eq, nat_cmp, set, IsKeyOrder}
-use Rattle.arranged_county.proofs.Common.{IsTotalOrder, PolygonKey, PolygonSide, changed_both, first_seen_after, key_cmp, key_keys}
-use Rattle.canonical_form.proofs.Common.{key_on}
-use Rattle.arranged_county.proofs.Common.{keys_at, map-append, nat_keys, position, side_of}
-use Rattle.canonical_form.proofs.Common.{key_under}
+use Rattle.arranged_county.proofs.Common.{IsTotalOrder, PolygonKey, PolygonSide, changed_both, first_seen_after, key_cmp, key_keys, keys_at}
+use Rattle.arranged_county.proofs.Common.{map-append, nat_keys, position, side_of}
+use Rattle.canonical_form.proofs.Common.{key_on, key_under}
 use Rattle.canonical_form.specs.EndsAndSides.{node_among, polygon_among, side_among}
 use Rattle.std.proofs.lemmas.Grind.{drop_more_same}
 use Rattle.std.proofs.lemmas.List.{drop_more, drop-set-lt}

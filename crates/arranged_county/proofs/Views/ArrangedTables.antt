@@ -1,11 +1,11 @@
 -- Going along the directed chains meets the nodes and the polygons of the arrangement, and gives the ends and the sides under
 -- their numbers.
 use Rattle.arranged_county.proofs.Common.{◌≡◌, ◌<◌, ◌^◌, ℕ, List, [], ◌∷◌, map, flat_map, length, Option, Some, None, option_map, Ordering}
-use Rattle.arranged_county.proofs.Common.{nat_cmp, sym, refl, ap, ◌∙◌, AreWhole, Arrangement, Chain, County, DirectedChain, IsCounty, PolygonSide}
-use Rattle.arranged_county.proofs.Common.{arranged_by, arrangement_of, directed_chain, ends_of, entry_values, first_seen, image}
-use Rattle.canonical_form.specs.EndsAndSides.{ends_among, nodes_at, polygon_among, polygons_at, sides_among}
+use Rattle.arranged_county.proofs.Common.{nat_cmp, sym, refl, ap, ◌∙◌, AreWhole, Arrangement, Chain, County, DirectedChain, IsCounty}
+use Rattle.arranged_county.proofs.Common.{PolygonSide, arranged_by, arrangement_of, directed_chain, ends_of, entry_values, first_seen, image}
 use Rattle.arranged_county.proofs.Common.{key_cmp, map-map, nodes_in_order, numbered_from, placed, polygons_in_order, renaming_of}
 use Rattle.arranged_county.proofs.Common.{rights-numbered_from, side_of, sides_of}
+use Rattle.canonical_form.specs.EndsAndSides.{ends_among, nodes_at, polygon_among, polygons_at, sides_among}
 use Rattle.canonical_form.proofs.Common.{renumbered, renumbered_polygon}
 use Rattle.arranged_county.proofs.Polygons.PolygonOrder.{few_polygons}
 use Rattle.canonical_form.proofs.Lists.Counting.{flat_map-map}

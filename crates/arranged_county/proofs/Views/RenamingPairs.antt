@@ -1,9 +1,9 @@
 -- The pairs of a renaming, one after another.
-use Rattle.arranged_county.proofs.Common.{◌≡◌, ◌<◌, ◌+◌, ℕ, suc, List, [], ◌∷◌, filter, filter_map, length, map, cond, Some, slice_get, refl}
-use Rattle.std.proofs.Common.{zip}
-use Rattle.arranged_county.proofs.Common.{ap, ap₂, ◌∙◌, arith, Bool, true, false, AreReadAt, Body7, County, DirectedChain, HasChainsOf}
+use Rattle.arranged_county.proofs.Common.{◌≡◌, ◌<◌, ◌+◌, ℕ, suc, List, [], ◌∷◌, filter, filter_map, length, map, cond, Some, slice_get, refl, ap}
+use Rattle.arranged_county.proofs.Common.{ap₂, ◌∙◌, arith, Bool, true, false, AreReadAt, Body7, County, DirectedChain, HasChainsOf}
 use Rattle.arranged_county.proofs.Common.{arranged_tlids, arrangement_of, cons_option, entry_keys, lands, lands_at, length-map, numbered}
 use Rattle.arranged_county.proofs.Common.{numbered_from, range_with_len, tlid_at, tlids, turned_tlids}
+use Rattle.std.proofs.Common.{zip}
 use Rattle.std.proofs.lemmas.Option.{slice_get-get_or}
 use Rattle.std.specs.List.{enumerate_from}
 use Rattle.arranged_county.proofs.Names.NameOrder.{filter_map_all}

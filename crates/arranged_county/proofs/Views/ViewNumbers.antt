@@ -1,8 +1,8 @@
 -- The numbers from 1.
 use Rattle.arranged_county.proofs.Common.{◌≡◌, ◌⊎◌, ◌<◌, ◌≤◌, ◌+◌, ◌-◌, ℕ, zero, suc, true, false, Some, None, sym, ap, ◌∙◌, inl, inr, arith}
-use Rattle.arranged_county.proofs.Common.{nat_cmp, slice_get, all_among, among_known, length-range_with_len, lt-ltb, ltb-true}
+use Rattle.arranged_county.proofs.Common.{nat_cmp, slice_get, all_among, among_known, length-range_with_len, lt-ltb, ltb-true, nat_keys}
+use Rattle.arranged_county.proofs.Common.{range_with_len, stands_in, times, up_to}
 use Rattle.canonical_form.proofs.Common.{known_is_among}
-use Rattle.arranged_county.proofs.Common.{nat_keys, range_with_len, stands_in, times, up_to}
 use Rattle.std.proofs.lemmas.Option.{slice_get_past}
 use Rattle.std.proofs.lemmas.Bool.{false_from_ne_true}
 use Rattle.ordered_lists.proofs.Lists.Ranges.{range_bounds}

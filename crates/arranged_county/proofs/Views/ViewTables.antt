@@ -2,20 +2,19 @@
 use Rattle.arranged_county.proofs.Common.{◌≡◌, ℕ, suc, List, [], ◌∷◌, map, length, Option, Some, None, option_map, Less, is_gt, false, ◌+◌, ◌-◌}
 use Rattle.arranged_county.proofs.Common.{ap₂, Ordering, slice_get, unwrap_or, sym, ap, ◌∙◌, subst, arith, nat_cmp, IsPermutation, AreReadAt}
 use Rattle.arranged_county.proofs.Common.{AreWhole, Arrangement, Body5, Body7, County, DirectedChain, Fields8, IsCounty, IsInOrder, PolygonKey}
-use Rattle.arranged_county.proofs.Common.{all_weaker, arranged_by, arrangement_of, eight_land, entry_values}
-use Rattle.canonical_form.proofs.Common.{carried_landmark, carried_name}
-use Rattle.arranged_county.proofs.Common.{feats, in_order-permutation, landmarks_in_order, lands, length-map, link_bounds, link_cmp, link_part}
-use Rattle.arranged_county.proofs.Common.{link_part_cmp, links_at, links_up_to, links_with, map-map, names_in_order, nat_keys}
-use Rattle.canonical_form.proofs.Common.{nodes, nodes_along}
-use Rattle.arranged_county.proofs.Common.{nodes_in_order, numbered, on, polygons_in_order, renaming_of, slice_get-map, under_cenid, up_to}
+use Rattle.arranged_county.proofs.Common.{all_weaker, arranged_by, arrangement_of, eight_land, entry_values, feats, in_order-permutation}
+use Rattle.arranged_county.proofs.Common.{landmarks_in_order, lands, length-map, link_bounds, link_cmp, link_part, link_part_cmp, links_at}
+use Rattle.arranged_county.proofs.Common.{links_up_to, links_with, map-map, names_in_order, nat_keys, nodes_in_order, numbered, on}
+use Rattle.arranged_county.proofs.Common.{polygons_in_order, renaming_of, slice_get-map, under_cenid, up_to}
+use Rattle.canonical_form.proofs.Common.{carried_landmark, carried_name, nodes, nodes_along}
 use Rattle.std.proofs.lemmas.List.FromFn.{length-map-range_with_len}
 use Rattle.std.specs.List.Sorted.{IsStrictlySortedBy}
 use Rattle.ordered_lists.proofs.ByKey.Numbers.{distinct-in_order}
 use Rattle.arranged_county.specs.ViewFacts.{MatchesNames, MatchesLandmarks}
 use Rattle.arranged_county.specs.declared.arranged_tables.LandmarkTables.{LandmarkTables}
 use Rattle.arranged_county.specs.declared.arranged_tables.NameTables.{NameTables}
-use Rattle.canonical_form.proofs.Arrangements.Carrying.{names_arranged, landmarks_arranged, feats_arranged, lands_arranged, paired_nodes, node_rights}
-use Rattle.canonical_form.proofs.Arrangements.Carrying.{nodes_renamed, names_renamed, polygons_renamed}
+use Rattle.canonical_form.proofs.Arrangements.Carrying.{names_arranged, landmarks_arranged, feats_arranged, lands_arranged, paired_nodes}
+use Rattle.canonical_form.proofs.Arrangements.Carrying.{node_rights, nodes_renamed, names_renamed, polygons_renamed}
 use Rattle.canonical_form.proofs.Lists.Grouping.{in_order-weaker, then-first}
 use Rattle.canonical_form.proofs.Lists.Counting.{up_to-strict}
 use Rattle.canonical_form.proofs.Views.ViewChains.{arranges, read_there, read_nowhere, read_length}

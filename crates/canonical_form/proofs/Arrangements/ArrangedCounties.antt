@@ -17,17 +17,16 @@ use Rattle.canonical_form.proofs.Sameness.CarriedCounty.{carried_closed, carried
 use Rattle.ordered_lists.proofs.ByKey.Keys.{map_agree}
 use Rattle.canonical_form.specs.ArrangedCounty.{HasOneCenidEach}
 use Rattle.canonical_form.specs.Uses.{links_of}
-use Rattle.canonical_form.proofs.Arrangements.Carrying.{arrangement_carries, from_placed, polygons_to_placed, keys_arranged}
-use Rattle.canonical_form.proofs.Arrangements.Carrying.{tlids_arranged, feats_arranged, lands_arranged, nodes_along_arranged, chains_arranged}
-use Rattle.canonical_form.proofs.Arrangements.Carrying.{names_arranged, polygons_arranged, landmarks_arranged, links_arranged, nodes_renamed}
-use Rattle.canonical_form.proofs.Arrangements.Carrying.{polygons_renamed}
+use Rattle.canonical_form.proofs.Arrangements.Carrying.{arrangement_carries, from_placed, polygons_to_placed, keys_arranged, tlids_arranged}
+use Rattle.canonical_form.proofs.Arrangements.Carrying.{feats_arranged, lands_arranged, nodes_along_arranged, chains_arranged, names_arranged}
+use Rattle.canonical_form.proofs.Arrangements.Carrying.{polygons_arranged, landmarks_arranged, links_arranged, nodes_renamed, polygons_renamed}
 use Rattle.canonical_form.proofs.Lists.Counting.{up_to-strict}
 use Rattle.canonical_form.proofs.Numbering.FirstSeen.{first_seen-grows, known_within, place_from, to_first_seen}
 use Rattle.canonical_form.proofs.Numbering.NewNumbers.{image-numbered, image-under_cenid}
 use Rattle.canonical_form.proofs.Numbering.SeenKeys.{found_key}
 use Rattle.canonical_form.proofs.Arrangements.Placed.{chain_count, rights-numbered}
-use Rattle.canonical_form.proofs.Unique.SameLandmarks.{landmark_key_keys, relanded, count-permutation, is_link, times-links}
-use Rattle.canonical_form.proofs.Unique.SameLandmarks.{links_of-in_order, count-relanded}
+use Rattle.canonical_form.proofs.Unique.SameLandmarks.{landmark_key_keys, relanded, count-permutation, is_link, times-links, links_of-in_order}
+use Rattle.canonical_form.proofs.Unique.SameLandmarks.{count-relanded}
 use Rattle.canonical_form.proofs.Unique.SameKeys.{key_with}
 use Rattle.canonical_form.proofs.Unique.SameNames.{name_key_keys, all_uses-kept, all_uses-all, uses_of-renamed}
 use Rattle.canonical_form.proofs.Unique.SameNumbers.{counted_injective, kept_entry, polygons_along-kept}

@@ -24,8 +24,8 @@ use Rattle.county_chart.proofs.Lists.OfNumber.{of_number-among}
 use Rattle.canonical_form.specs.Arrangement.{renaming_of, arranged}
 use Rattle.canonical_form.proofs.Lists.Counting.{up_to-strict}
 use Rattle.canonical_form.proofs.Numbering.FirstSeen.{first_seen-apart, from_first_seen, to_first_seen}
-use Rattle.canonical_form.proofs.Arrangements.Placed.{lefts-numbered, rights-numbered, arrangement_apart, order-permutation, placed_tlids, carried_placed}
-use Rattle.canonical_form.proofs.Arrangements.Placed.{turned_apart, turned_known}
+use Rattle.canonical_form.proofs.Arrangements.Placed.{lefts-numbered, rights-numbered, arrangement_apart, order-permutation, placed_tlids}
+use Rattle.canonical_form.proofs.Arrangements.Placed.{carried_placed, turned_apart, turned_known}
 use Rattle.canonical_form.proofs.Unique.SameNumbers.{kept_entry, nodes_along-kept}
 
 pub permutation_of_equal : {X : Type 0} (xs ys : List X) → xs ≡ ys → IsPermutation xs ys

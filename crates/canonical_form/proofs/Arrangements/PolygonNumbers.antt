@@ -1,14 +1,14 @@
 -- Polygons in the order of first appearance are the polygons of the arranged county by number.
-use Rattle.canonical_form.proofs.Common.{map_agree_all, ◌≡◌, ℕ, List, [], ◌∷◌, map, length, Option, Some, sym, refl, ap, ◌∙◌, subst, nat_cmp, IsPermutation}
-use Rattle.canonical_form.proofs.Common.{IfSome, zero, suc, slice_get, option_map, None, arith, ◌+◌, AllByRecursion, AllKeysStandIn, Arrangement}
-use Rattle.canonical_form.proofs.Common.{Arranges, BodyP, County, IsApart, IsCounty, IsPermutation-map, IsPermutation-sym, IsPermutation-trans}
-use Rattle.canonical_form.proofs.Common.{IsStrictlySortedBy, PolygonKey, arranged, carried_polygon}
-use Rattle.ordered_lists.specs.Entries.{entry_keys, entry_values, value_under}
-use Rattle.canonical_form.specs.ByNumber.{entry_polyid, polygons_by_number, under_number}
+use Rattle.canonical_form.proofs.Common.{map_agree_all, ◌≡◌, ℕ, List, [], ◌∷◌, map, length, Option, Some, sym, refl, ap, ◌∙◌, subst, nat_cmp}
+use Rattle.canonical_form.proofs.Common.{IsPermutation, IfSome, zero, suc, slice_get, option_map, None, arith, ◌+◌, AllByRecursion}
+use Rattle.canonical_form.proofs.Common.{AllKeysStandIn, Arrangement, Arranges, BodyP, County, IsApart, IsCounty, IsPermutation-map}
+use Rattle.canonical_form.proofs.Common.{IsPermutation-sym, IsPermutation-trans, IsStrictlySortedBy, PolygonKey, arranged, carried_polygon}
 use Rattle.canonical_form.proofs.Common.{image, images-lefts, in_order, in_order-in_order, in_order-is_permutation, in_order-map}
 use Rattle.canonical_form.proofs.Common.{in_order-permutation, key_cmp, key_keys, lefts, map-map, nat_cmp_total, nat_keys, numbered}
-use Rattle.canonical_form.proofs.Common.{numbered_from, on, on_total, placed, polygon_keys, polygons_along}
-use Rattle.canonical_form.proofs.Common.{polygons_in_order, renaming_of, rights, strict-map, under_cenid, up_to}
+use Rattle.canonical_form.proofs.Common.{numbered_from, on, on_total, placed, polygon_keys, polygons_along, polygons_in_order, renaming_of}
+use Rattle.canonical_form.proofs.Common.{rights, strict-map, under_cenid, up_to}
+use Rattle.ordered_lists.specs.Entries.{entry_keys, entry_values, value_under}
+use Rattle.canonical_form.specs.ByNumber.{entry_polyid, polygons_by_number, under_number}
 use Rattle.std.proofs.lemmas.Option.{slice_get-map}
 use Rattle.std.specs.Option.{option_and_then}
 use Rattle.county_chart.specs.ChartWords.{polygon_under}

@@ -7,10 +7,9 @@ use Rattle.canonical_form.proofs.Common.{apart_from_sorted, apart_tail, arranged
 use Rattle.canonical_form.proofs.Common.{county_of, entry_points, entry_shape, has_repeat-apart, is_either_way, map_agree_all, numbered_choice}
 use Rattle.canonical_form.proofs.Common.{points_cmp, points_from, points_keys, running, same-reflexive, shapes, times, times-yes}
 use Rattle.ordered_lists.proofs.Lists.EntryLists.{in_order-strict}
-use Rattle.ordered_lists.proofs.Lists.InOrder.{strict-unmap}
+use Rattle.ordered_lists.proofs.Lists.InOrder.{strict-unmap, in_order-unmap}
 use Rattle.canonical_form.specs.Strict.{IsStrict}
 use Rattle.canonical_form.proofs.Choices.LesserDirections.{turned_same}
-use Rattle.ordered_lists.proofs.Lists.InOrder.{in_order-unmap}
 use Rattle.canonical_form.proofs.Choices.TidyChoices.{choice_number, first_choice}
 use Rattle.canonical_form.proofs.CanonicalLists.TidyLists.{tidy_is_choice, not_after_itself}
 

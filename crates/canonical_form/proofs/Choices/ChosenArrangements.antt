@@ -1,15 +1,14 @@
 -- Chains in the order of their shapes, moved at their open places, are the choice with a number.
 use Rattle.canonical_form.proofs.Common.{◌≡◌, ◌<◌, ◌≤◌, ◌+◌, ◌/◌, ◌%◌, ℕ, zero, suc, List, [], ◌∷◌, ◌++◌, map, take, drop, length, Bool, true}
-use Rattle.canonical_form.proofs.Common.{false, cond, Ordering, sym, refl, ap, ◌∙◌, subst, arith, AllByRecursion, AreInShapeOrder}
+use Rattle.canonical_form.proofs.Common.{false, cond, Ordering, sym, refl, ap, ◌∙◌, subst, arith, AllByRecursion, AreInShapeOrder, County}
+use Rattle.canonical_form.proofs.Common.{DirectedChain, IsCounty, IsKeyOrder, arranged_tlids, chosen, insert, is_either_way, length-map}
+use Rattle.canonical_form.proofs.Common.{map-append, nat_keys, numbered_choice, open_places, points_along, points_cmp, points_keys, stood, times}
+use Rattle.canonical_form.proofs.Common.{times-permutation, tlids, turned_by}
 use Rattle.canonical_form.specs.MovedChains.{AgreeApart, AreWithin, StandInOrder, other_way}
-use Rattle.canonical_form.proofs.Common.{County, DirectedChain, IsCounty, IsKeyOrder}
 use Rattle.canonical_form.specs.DirectedChains.{HasChainsOf, arrangement_of, tlid_at}
 use Rattle.canonical_form.specs.WholeArrangements.{NamesEachOnce}
 use Rattle.tl_profile.specs.declared.open_places.OpenPlace.{OpenPlace}
-use Rattle.canonical_form.proofs.Common.{arranged_tlids, chosen, insert, is_either_way, length-map}
-use Rattle.canonical_form.proofs.Common.{map-append, nat_keys, numbered_choice, open_places}
 use Rattle.canonical_form.specs.NumberedChoices.{moved}
-use Rattle.canonical_form.proofs.Common.{points_along, points_cmp, points_keys, stood, times, times-permutation, tlids, turned_by}
 use Rattle.std.proofs.lemmas.List.{drop-map, take-map}
 use Rattle.tl_profile.specs.Choices.{is_settled, open_place_at}
 use Rattle.tl_profile.proofs.CountedChoices.{alike_few}

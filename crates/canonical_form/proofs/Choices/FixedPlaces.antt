@@ -1,11 +1,10 @@
 -- Moves at open places leave the elements at all other places as they are.
 use Rattle.canonical_form.proofs.Common.{◌≡◌, ◌<◌, ◌≤◌, ◌+◌, ◌/◌, ◌%◌, ℕ, zero, suc, nat_lt, List, [], ◌∷◌, ◌++◌, take, drop, length, Bool, true}
 use Rattle.canonical_form.proofs.Common.{false, cond, Ordering, Some, None, slice_get, sym, refl, ap, ◌∙◌, arith, AllByRecursion}
+use Rattle.canonical_form.proofs.Common.{IsPermutation-insert, all_weaker, insert, Decides, ltb-false, ltb-true, open_places, turned_by}
 use Rattle.canonical_form.specs.MovedChains.{AgreeApart, AreWithin, StandInOrder, IsApart}
-use Rattle.canonical_form.proofs.Common.{IsPermutation-insert, all_weaker, insert}
 use Rattle.tl_profile.specs.declared.open_places.OpenPlace.{OpenPlace}
 use Rattle.canonical_form.specs.NumberedChoices.{first_stood, moved}
-use Rattle.canonical_form.proofs.Common.{Decides, ltb-false, ltb-true, open_places, turned_by}
 use Rattle.std.proofs.lemmas.List.Sorted.{length_permutation}
 use Rattle.std.proofs.lemmas.Option.{slice_get_past}
 use Rattle.tl_profile.specs.Choices.{is_settled, open_place_at}

@@ -1,9 +1,9 @@
 -- The choice with a number is reached by moving only the elements at open places, from the last place to the first.
 use Rattle.canonical_form.proofs.Common.{◌≡◌, ◌+◌, ◌*◌, ◌==◌, ℕ, suc, List, [], ◌∷◌, ◌++◌, map, take, drop, length, Bool, true, false, cond, not}
-use Rattle.canonical_form.proofs.Common.{◌&&◌, Ordering, sym, refl, ap, ◌∙◌, arith, chosen, eqb-true, open_places}
+use Rattle.canonical_form.proofs.Common.{◌&&◌, Ordering, sym, refl, ap, ◌∙◌, arith, chosen, eqb-true, open_places, stood, take-append_seam}
+use Rattle.canonical_form.proofs.Common.{times}
 use Rattle.tl_profile.specs.declared.open_places.OpenPlace.{OpenPlace}
 use Rattle.canonical_form.specs.NumberedChoices.{first_stood, moved, moved_at}
-use Rattle.canonical_form.proofs.Common.{stood, take-append_seam, times}
 use Rattle.std.proofs.lemmas.Bool.{and_parts, not-true}
 use Rattle.std.proofs.lemmas.List.{append_assoc, length-append}
 use Rattle.std.proofs.Math.Seq.{drop-append_seam}

@@ -1,8 +1,7 @@
 -- Lists that count from a number: they ascend, and lists with the same length are equal.
-use Rattle.canonical_form.proofs.Common.{Ordering, is_gt, is_eq, false, true≢false, ◌≡◌, ◌<◌, ◌+◌, ℕ, List, [], ◌∷◌, ◌++◌, map, flat_map, Less, Equal, Greater, refl, ap, arith}
-use Rattle.canonical_form.proofs.Common.{nat_cmp, AllByRecursion, range_with_len, up_to}
-use Rattle.canonical_form.proofs.Common.{◌≤◌, ◌-◌, Bool, Decides, false≢true, length, length-range_with_len, ltb-false, ltb-true, nat_lt, subst}
-use Rattle.canonical_form.proofs.Common.{sym, true, ◌∙◌}
+use Rattle.canonical_form.proofs.Common.{Ordering, is_gt, is_eq, false, true≢false, ◌≡◌, ◌<◌, ◌+◌, ℕ, List, [], ◌∷◌, ◌++◌, map, flat_map, Less}
+use Rattle.canonical_form.proofs.Common.{Equal, Greater, refl, ap, arith, nat_cmp, AllByRecursion, range_with_len, up_to, ◌≤◌, ◌-◌, Bool}
+use Rattle.canonical_form.proofs.Common.{Decides, false≢true, length, length-range_with_len, ltb-false, ltb-true, nat_lt, subst, sym, true, ◌∙◌}
 use Rattle.std.proofs.lemmas.List.FromFn.{get_or-range_with_len}
 use Rattle.std.specs.Bool.{MatchBool}
 use Rattle.std.specs.List.{AllWithin, HoldsAt}

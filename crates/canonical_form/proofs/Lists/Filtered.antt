@@ -1,6 +1,6 @@
 -- The elements of a list that pass a test.
-use Rattle.canonical_form.proofs.Common.{◌≡◌, ◌⊎◌, ◌==◌, ◌&&◌, ℕ, List, [], ◌∷◌, map, filter, Bool, true, false, cond, refl, sym, ap, ◌∙◌, inl, inr}
-use Rattle.canonical_form.proofs.Common.{AllByRecursion, eq-eqb, ne_eqb}
+use Rattle.canonical_form.proofs.Common.{◌≡◌, ◌⊎◌, ◌==◌, ◌&&◌, ℕ, List, [], ◌∷◌, map, filter, Bool, true, false, cond, refl, sym, ap, ◌∙◌, inl}
+use Rattle.canonical_form.proofs.Common.{inr, AllByRecursion, eq-eqb, ne_eqb}
 use Rattle.std.proofs.lemmas.Bool.{cases_eq}
 
 -- of a mapped list

@@ -1,9 +1,10 @@
 -- A list that ascends by a number is its elements number by number; and a list in pieces is joined again.
-use Rattle.canonical_form.proofs.Common.{take-append_seam, drop_all, nat_cmp_total, take_all, tied_itself, ◌≡◌, ◌⊎◌, ◌<◌, ◌≤◌, ◌+◌, ℕ, zero, suc, List, [], ◌∷◌, ◌++◌, map, flat_map, filter, length}
-use Rattle.canonical_form.proofs.Common.{length-append, take, drop, Bool, true, false, cond, Ordering, Less, Equal, Greater, is_gt, is_eq, sym}
-use Rattle.canonical_form.proofs.Common.{refl, ap, ap₂, ◌∙◌, subst, inl, inr, arith, nat_cmp, add-one, append-nil, AllByRecursion, AreFull}
-use Rattle.canonical_form.proofs.Common.{IsInOrder, Known, MatchOrdering, all_weaker, eq-eqb, false≢true, known_all, known_cases, nat_keys}
-use Rattle.canonical_form.proofs.Common.{ne_eqb, numbered_from, of_number, on, ordering_then, pieces, range_with_len, ranked}
+use Rattle.canonical_form.proofs.Common.{take-append_seam, drop_all, nat_cmp_total, take_all, tied_itself, ◌≡◌, ◌⊎◌, ◌<◌, ◌≤◌, ◌+◌, ℕ, zero, suc}
+use Rattle.canonical_form.proofs.Common.{List, [], ◌∷◌, ◌++◌, map, flat_map, filter, length, length-append, take, drop, Bool, true, false, cond}
+use Rattle.canonical_form.proofs.Common.{Ordering, Less, Equal, Greater, is_gt, is_eq, sym, refl, ap, ap₂, ◌∙◌, subst, inl, inr, arith, nat_cmp}
+use Rattle.canonical_form.proofs.Common.{add-one, append-nil, AllByRecursion, AreFull, IsInOrder, Known, MatchOrdering, all_weaker, eq-eqb}
+use Rattle.canonical_form.proofs.Common.{false≢true, known_all, known_cases, nat_keys, ne_eqb, numbered_from, of_number, on, ordering_then}
+use Rattle.canonical_form.proofs.Common.{pieces, range_with_len, ranked}
 use Rattle.std.proofs.Math.Seq.{drop-append_seam}
 use Rattle.std.specs.List.Sorted.{IsStrictlySortedBy}
 use Rattle.ordered_lists.proofs.Lists.Elements.{all_filter}

@@ -1,7 +1,7 @@
 -- Lists read by place, and parts of lists.
 use Rattle.canonical_form.proofs.Common.{◌≡◌, ◌+◌, ◌<◌, ◌≤◌, ℕ, zero, suc, List, [], ◌∷◌, ◌++◌, length, take, drop, map, Option, Some, None}
-use Rattle.canonical_form.proofs.Common.{slice_get, length-drop, length-take, min, sym, refl, ap, ◌∙◌, arith}
-use Rattle.canonical_form.proofs.Common.{Ordering, Less, Equal, Greater, ordering_then}
+use Rattle.canonical_form.proofs.Common.{slice_get, length-drop, length-take, min, sym, refl, ap, ◌∙◌, arith, Ordering, Less, Equal, Greater}
+use Rattle.canonical_form.proofs.Common.{ordering_then}
 
 pub some-same : {X : Type 0} (o : Option X) (x y : X) → Some x ≡ o → o ≡ Some y → x ≡ y
 some-same o x y e f = cc
@@ -48,19 +48,6 @@ get_taken (x ∷ xs) (suc n) (suc i) h = get_taken xs n i (omega (arith, h))
 -- consecutive groups
 pub length_headed : {X : Type 0} (xs : List X) (first n : ℕ) → first + n ≤ length xs → length (take n (drop first xs)) ≡ n
 length_headed xs first n h = length-take n (drop first xs) ∙ ap (min n) (length-drop first xs) ∙ omega (arith, h)
-
--- taking more elements changes nothing if none is left
-pub taken_enough : {X : Type 0} (xs : List X) (m n : ℕ) → m ≤ n → (m < n → length xs ≤ m) → take m xs ≡ take n xs
-taken_enough {X} [] m n l h = nothing m ∙ sym (nothing n)
-  where
-    nothing : (k : ℕ) → take {A = X} k [] ≡ []
-    nothing zero = refl
-    nothing (suc k) = refl
-taken_enough (x ∷ xs) zero zero l h = refl
-taken_enough (x ∷ xs) zero (suc n) l h = absurd (omega (arith, h (omega arith)))
-taken_enough (x ∷ xs) (suc m) zero l h = absurd (omega (arith, l))
-taken_enough (x ∷ xs) (suc m) (suc n) l h = ap (λ ys. x ∷ ys)
-    (taken_enough xs m n (omega (arith, l)) (λ k. omega (arith, h (omega (arith, k)))))
 
 -- the order of three tests
 pub then_assoc : (a b c : Ordering) → ordering_then a (ordering_then b c) ≡ ordering_then (ordering_then a b) c

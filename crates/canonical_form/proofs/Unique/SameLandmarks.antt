@@ -4,9 +4,9 @@ use Rattle.canonical_form.proofs.Common.{eight_land, ◌≡◌, ◌⊎◌, ◌<�
 use Rattle.canonical_form.proofs.Common.{◌&&◌, IsTrue, Ordering, Less, Equal, Greater, is_eq, sym, refl, ap, ◌∙◌, subst, inl, inr, arith}
 use Rattle.canonical_form.proofs.Common.{nat_cmp, IsPermutation, AllByRecursion, Body7, Carries, County, Fields8, IsArranged, IsAscending}
 use Rattle.canonical_form.proofs.Common.{IsClosed, IsInOrder, IsKeyOrder, Known, PolygonKey, Renumbering, all_weaker, carried_link, eq-eqb}
-use Rattle.canonical_form.proofs.Common.{false≢true, image, in_order-equal, key_cmp, landmark_key_cmp, lands, length-map, link_cmp}
-use Rattle.canonical_form.proofs.Common.{link_key, link_keys, link_part, link_part_cmp, link_part_keys, lists_keys, ltb-true, map_agree_all}
-use Rattle.canonical_form.proofs.Common.{nat_cmp_total, nat_keys, ne_eqb, ordering_then, pair_keys, polygon_keys, stands_in, tied_itself, times}
+use Rattle.canonical_form.proofs.Common.{false≢true, image, in_order-equal, key_cmp, landmark_key_cmp, lands, length-map, link_cmp, link_key}
+use Rattle.canonical_form.proofs.Common.{link_keys, link_part, link_part_cmp, link_part_keys, lists_keys, ltb-true, map_agree_all, nat_cmp_total}
+use Rattle.canonical_form.proofs.Common.{nat_keys, ne_eqb, ordering_then, pair_keys, polygon_keys, stands_in, tied_itself, times}
 use Rattle.std.proofs.lemmas.Bool.{cases_eq}
 use Rattle.ordered_lists.proofs.Lists.Counted.{filter-agree}
 use Rattle.county_chart.proofs.Lists.OfNumber.{of_number-all}

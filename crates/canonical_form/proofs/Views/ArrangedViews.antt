@@ -1,11 +1,10 @@
 -- Directed chains that name each chain once turn a county into a county.
-use Rattle.canonical_form.proofs.Common.{◌<◌, length, arith, nat_cmp, List, AllKeysStandIn, Arrangement, Arranges, County}
+use Rattle.canonical_form.proofs.Common.{◌<◌, length, arith, nat_cmp, List, AllKeysStandIn, Arrangement, Arranges, County, DirectedChain}
+use Rattle.canonical_form.proofs.Common.{IsApart, IsCounty, IsWithinLimits, apart-permutation_of, apart_from_sorted, arranged_tlids}
+use Rattle.canonical_form.proofs.Common.{most_records, nat_keys, polygon_keys, polygons_along, tlids}
 use Rattle.std.proofs.Common.{◌^◌}
 use Rattle.canonical_form.specs.WholeArrangements.{AreWhole, NamesEachOnce}
-use Rattle.canonical_form.proofs.Common.{DirectedChain, IsApart, IsCounty, IsWithinLimits, apart-permutation_of}
 use Rattle.canonical_form.specs.DirectedChains.{HasChainsOf, arrangement_of}
-use Rattle.canonical_form.proofs.Common.{apart_from_sorted, arranged_tlids, most_records, nat_keys, polygon_keys, polygons_along}
-use Rattle.canonical_form.proofs.Common.{tlids}
 use Rattle.canonical_form.proofs.Arrangements.ArrangedCounties.{arranged_county}
 use Rattle.canonical_form.proofs.Arrangements.ArrangedNumbers.{arrangement_within}
 

@@ -1,11 +1,9 @@
 -- The name, the landmark and the polygon at a place of a county within its limits.
-use Rattle.record_groups.proofs.Common.{AllByRecursion, ◌≡◌, ◌<◌, ℕ, List, length, map, Option, Some, option_map}
+use Rattle.record_groups.proofs.Common.{AllByRecursion, ◌≡◌, ◌<◌, ℕ, List, length, map, Option, Some, option_map, option_to_list, slice_get, sym}
+use Rattle.record_groups.proofs.Common.{ap, ◌∙◌, subst, nat_cmp, Body7, BodyP, County, IsNumber, IsWithinLimits, PolygonKey, entry_polyid}
+use Rattle.record_groups.proofs.Common.{group_at, length-map, most_records, on, packed_p, polygons_by_number, slice_get-map, type_p_by_number}
 use Rattle.ordered_lists.specs.Entries.{entry_values}
-use Rattle.record_groups.proofs.Common.{option_to_list, slice_get, sym, ap, ◌∙◌, subst, nat_cmp, Body7, BodyP}
-use Rattle.canonical_form.proofs.Common.{Body5}
-use Rattle.record_groups.proofs.Common.{County, IsNumber, IsWithinLimits, PolygonKey, entry_polyid, group_at, length-map}
-use Rattle.canonical_form.proofs.Common.{all-in_order}
-use Rattle.record_groups.proofs.Common.{most_records, on, packed_p, polygons_by_number, slice_get-map, type_p_by_number}
+use Rattle.canonical_form.proofs.Common.{Body5, all-in_order}
 use Rattle.tl_layout.specs.Bytes.{IsText}
 use Rattle.ordered_lists.proofs.ByKey.Numbers.{length-in_order}
 use Rattle.canonical_form.proofs.Views.ChainPlaces.{all_at, some_at}

@@ -1,8 +1,8 @@
 -- The rest of records in groups, from a place.
 use Rattle.record_groups.proofs.Common.{◌≡◌, ◌≤◌, ◌+◌, ◌∙◌, ℕ, zero, suc, List, [], ◌∷◌, ◌++◌, length, drop, Some, Option, Bool, true, false}
-use Rattle.record_groups.proofs.Common.{nat_lt, slice_get, unwrap_or, sym, refl, ap, ap₂, add-one, arith, group_at, grouped}
+use Rattle.record_groups.proofs.Common.{nat_lt, slice_get, unwrap_or, sym, refl, ap, ap₂, add-one, arith, group_at, grouped, ltb-false, rest_of}
+use Rattle.record_groups.proofs.Common.{slice_get_past}
 use Rattle.canonical_form.proofs.Common.{drop_all}
-use Rattle.record_groups.proofs.Common.{ltb-false, rest_of, slice_get_past}
 use Rattle.std.specs.Bool.{if◌then◌else◌}
 
 -- an element, then the rest after it

@@ -1,7 +1,7 @@
 -- Groups made from the entries of a list, and lists read by place.
 use Rattle.record_groups.proofs.Common.{◌≡◌, ◌+◌, ◌<◌, ◌≤◌, ℕ, zero, suc, List, [], ◌∷◌, ◌++◌, length, take, drop, map, flat_map, Option, Some}
-use Rattle.record_groups.proofs.Common.{None, option_map, unwrap_or, slice_get, min, append-nil, append_assoc, sym, refl, ap, ◌∙◌}
-use Rattle.record_groups.proofs.Common.{arith, group_at, grouped, length-take, slice_get-map}
+use Rattle.record_groups.proofs.Common.{None, option_map, unwrap_or, slice_get, min, append-nil, append_assoc, sym, refl, ap, ◌∙◌, arith}
+use Rattle.record_groups.proofs.Common.{group_at, grouped, length-take, slice_get-map}
 use Rattle.canonical_form.proofs.Lists.ListPlaces.{get_dropped, get_taken}
 use Rattle.std.proofs.Math.Seq.{take-add}
 use Rattle.std.proofs.lemmas.Grind.{flat_map-append}

@@ -1,8 +1,7 @@
 -- Pieces of a list, read by place.
 use Rattle.record_groups.proofs.Common.{◌≡◌, ◌+◌, ◌*◌, ◌-◌, ◌<◌, ◌≤◌, ◌/◌, ◌%◌, ℕ, zero, suc, List, [], ◌∷◌, length, take, drop, min, Some}
-use Rattle.record_groups.proofs.Common.{option_map, slice_get, map, refl, ap, ◌∙◌, arith, in_pieces, length-map, numbered_from}
+use Rattle.record_groups.proofs.Common.{option_map, slice_get, map, refl, ap, ◌∙◌, arith, in_pieces, length-map, numbered_from, slice_get-map}
 use Rattle.canonical_form.proofs.Common.{pieces}
-use Rattle.record_groups.proofs.Common.{slice_get-map}
 use Rattle.std.proofs.lemmas.Grind.{div_ceil_times}
 use Rattle.std.proofs.lemmas.List.{length-drop, drop-drop}
 use Rattle.county_chart.proofs.Packing.Pieces.{length-numbered_from}

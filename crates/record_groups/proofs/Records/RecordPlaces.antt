@@ -1,11 +1,9 @@
 -- A record at a place among those of a chain.
-use Rattle.record_groups.proofs.Common.{◌≡◌, ◌+◌, ◌*◌, ◌/◌, ◌%◌, ◌<◌, ◌≤◌, ◌∙◌, ℕ, suc, List, [], ◌∷◌, Option, Some, None, length, map}
-use Rattle.canonical_form.proofs.Common.{IfSome}
-use Rattle.record_groups.proofs.Common.{min, take, drop, slice_get, option_map, sym, ap, subst, Chain, Coordinates, County, Fields4}
-use Rattle.canonical_form.proofs.Common.{Fields2}
-use Rattle.record_groups.proofs.Common.{FieldsI, IsCounty, IsNumberOrNone, IsWithinLimits, Ranges, chain_at, group_at}
-use Rattle.canonical_form.proofs.Common.{Fields6, FitsNumbers}
-use Rattle.record_groups.proofs.Common.{in_pieces, length-map, most_records, numbered_from, packed_i, points_of, tlids}
+use Rattle.record_groups.proofs.Common.{◌≡◌, ◌+◌, ◌*◌, ◌/◌, ◌%◌, ◌<◌, ◌≤◌, ◌∙◌, ℕ, suc, List, [], ◌∷◌, Option, Some, None, length, map, min}
+use Rattle.record_groups.proofs.Common.{take, drop, slice_get, option_map, sym, ap, subst, Chain, Coordinates, County, Fields4, FieldsI}
+use Rattle.record_groups.proofs.Common.{IsCounty, IsNumberOrNone, IsWithinLimits, Ranges, chain_at, group_at, in_pieces, length-map}
+use Rattle.record_groups.proofs.Common.{most_records, numbered_from, packed_i, points_of, tlids}
+use Rattle.canonical_form.proofs.Common.{IfSome, Fields2, Fields6, FitsNumbers}
 use Rattle.canonical_form.proofs.Views.ChainPlaces.{ChainThere, chain_there, part_of}
 use Rattle.record_groups.proofs.Records.Grouped.{group_of}
 use Rattle.canonical_form.proofs.Lists.ListPlaces.{lone, some-same}

@@ -1,9 +1,8 @@
 -- Selecting from a list that is put in order.
 use Rattle.record_groups.proofs.Common.{◌≡◌, ℕ, List, [], ◌∷◌, ◌++◌, map, filter_map, Bool, true, false, cond, Option, Some, None}
-use Rattle.record_groups.proofs.Common.{option_to_list, Ordering, sym, refl, ap, ◌∙◌, nat_cmp, AllByRecursion, all_weaker}
-use Rattle.canonical_form.proofs.Common.{is_gt, IsInOrder}
-use Rattle.record_groups.proofs.Common.{cons_option, grouped, in_order, on, on_total}
-use Rattle.canonical_form.proofs.Common.{in_order-in_order, nat_cmp_total, upto}
+use Rattle.record_groups.proofs.Common.{option_to_list, Ordering, sym, refl, ap, ◌∙◌, nat_cmp, AllByRecursion, all_weaker, cons_option, grouped}
+use Rattle.record_groups.proofs.Common.{in_order, on, on_total}
+use Rattle.canonical_form.proofs.Common.{is_gt, IsInOrder, in_order-in_order, nat_cmp_total, upto}
 use Rattle.ordered_lists.specs.Orders.{put_in_order}
 
 pub grouped_selected : {X Y : Type 0} (h : X → Option Y) (xs : List X) → grouped (map (λ x. option_to_list (h x)) xs) ≡ filter_map h xs

@@ -1,8 +1,7 @@
 -- Records in groups, compared one by one.
-use Rattle.record_groups.proofs.Common.{◌≡◌, ◌∙◌, List, map, Ordering, Less, Equal, Greater, sym, ap, refl, Record, grouped}
+use Rattle.record_groups.proofs.Common.{◌≡◌, ◌∙◌, List, map, Ordering, Less, Equal, Greater, sym, ap, refl, Record, grouped, groups_cmp}
+use Rattle.record_groups.proofs.Common.{nat_list_cmp_total, on_total, ordering_then, records_cmp, spelling_cmp, spelling_of, tied_itself}
 use Rattle.canonical_form.proofs.Common.{IsTotalOrder}
-use Rattle.record_groups.proofs.Common.{groups_cmp, nat_list_cmp_total, on_total, ordering_then, records_cmp, spelling_cmp, spelling_of}
-use Rattle.record_groups.proofs.Common.{tied_itself}
 use Rattle.std.proofs.lemmas.Cmp.{lists_total}
 
 pub records_total : IsTotalOrder records_cmp

@@ -1,10 +1,9 @@
 -- Numbers are in the order of their canonical texts of one width.
-use Rattle.record_groups.proofs.Common.{◌≡◌, ◌==◌, ◌<◌, ◌+◌, ◌/◌, ◌%◌, ◌≢◌, ◌∙◌, ℕ, zero, suc, List, [], ◌∷◌, ◌++◌, length, length-append}
+use Rattle.record_groups.proofs.Common.{◌≡◌, ◌==◌, ◌<◌, ◌+◌, ◌/◌, ◌%◌, ◌≢◌, ◌∙◌, ℕ, zero, suc, List, [], ◌∷◌, ◌++◌, length, length-append, Bool}
+use Rattle.record_groups.proofs.Common.{true, false, cond, Ordering, Less, Equal, Greater, nat_cmp, refl, sym, ap, ap₂, arith, exact_unsigned}
+use Rattle.record_groups.proofs.Common.{joined, nat_list_cmp_total, ordering_then, slice_cmp, tied_itself}
 use Rattle.std.proofs.Common.{◌^◌, nat_eq}
-use Rattle.record_groups.proofs.Common.{Bool, true, false, cond, Ordering, Less, Equal, Greater, nat_cmp, refl, sym, ap, ap₂, arith}
-use Rattle.canonical_form.proofs.Common.{MatchOrdering}
-use Rattle.record_groups.proofs.Common.{exact_unsigned, joined, nat_list_cmp_total, ordering_then, slice_cmp, tied_itself}
-use Rattle.canonical_form.proofs.Common.{eqb-true, ranked}
+use Rattle.canonical_form.proofs.Common.{MatchOrdering, eqb-true, ranked}
 use Rattle.std.proofs.lemmas.Bool.{eqb-false}
 use Rattle.std.specs.Cmp.{nat_cmp_is}
 use Rattle.tl_layout.specs.FieldTexts.{number_text}

@@ -1,8 +1,8 @@
 -- Records in groups by place, compared at some places alone.
-use Rattle.record_groups.proofs.Common.{◌≡◌, ◌≢◌, ◌∙◌, ◌<◌, ◌≤◌, ◌+◌, ℕ, zero, suc, List, [], ◌∷◌, ◌++◌, length, length-append, cond, Bool, true, false}
-use Rattle.record_groups.proofs.Common.{Ordering, Less, Equal, Greater, AllByRecursion, all_weaker, arith, ap, ap₂, filter, grouped, map}
-use Rattle.canonical_form.proofs.Common.{all_append}
+use Rattle.record_groups.proofs.Common.{◌≡◌, ◌≢◌, ◌∙◌, ◌<◌, ◌≤◌, ◌+◌, ℕ, zero, suc, List, [], ◌∷◌, ◌++◌, length, length-append, cond, Bool, true}
+use Rattle.record_groups.proofs.Common.{false, Ordering, Less, Equal, Greater, AllByRecursion, all_weaker, arith, ap, ap₂, filter, grouped, map}
 use Rattle.record_groups.proofs.Common.{ltb-false, ltb-true, nat_cmp, nat_lt, ordering_then, range_with_len, refl, slice_cmp, subst, sym}
+use Rattle.canonical_form.proofs.Common.{all_append}
 use Rattle.std.specs.Cmp.{nat_cmp_is}
 use Rattle.record_groups.proofs.Texts.RecordTexts.{cmp-append}
 use Rattle.record_groups.proofs.Texts.PartOrder.{then_same}

@@ -1,7 +1,8 @@
 -- The records of type 6 at open places, read one by one.
 use Rattle.record_groups.proofs.Common.{◌≡◌, ◌∙◌, ◌≤◌, ◌+◌, ℕ, List, length, length-map, map, nat_lt, Bool, true, false, Some, None, option_map}
-use Rattle.record_groups.proofs.Common.{slice_get, slice_get_past, refl, sym, ap, subst, arith, chain_at, Chain, County, DirectedChain, IsCounty, IsWithinLimits}
-use Rattle.record_groups.proofs.Common.{Ranges, directed_chain, group_at, ltb-false, ltb-true, most_records, ranges_of, turned_if}
+use Rattle.record_groups.proofs.Common.{slice_get, slice_get_past, refl, sym, ap, subst, arith, chain_at, Chain, County, DirectedChain, IsCounty}
+use Rattle.record_groups.proofs.Common.{IsWithinLimits, Ranges, directed_chain, group_at, ltb-false, ltb-true, most_records, ranges_of}
+use Rattle.record_groups.proofs.Common.{turned_if}
 use Rattle.tl_layout.specs.Turned.{turned_ranges}
 use Rattle.record_groups.specs.OpenRanges.{open_chain, sixes_at, sixes_of}
 use Rattle.canonical_form.proofs.Views.ChainPlaces.{chain_there}

@@ -1,7 +1,7 @@
 -- Lists of records that are compared at some of their places alone.
-use Rattle.record_groups.proofs.Common.{◌≡◌, ◌<◌, ◌+◌, ℕ, zero, suc, List, [], ◌∷◌, filter, length, Bool, true, false, cond}
-use Rattle.record_groups.proofs.Common.{Ordering, Less, Equal, Greater, Option, Some, None, refl, sym, ap, ap₂, ◌∙◌, arith, cons_option, is_some, subst}
-use Rattle.record_groups.proofs.Common.{nat_lt, ltb-false, ltb-true, option_cmp, ordering_then, range_with_len, slice_cmp, slice_get, slice_get_past}
+use Rattle.record_groups.proofs.Common.{◌≡◌, ◌<◌, ◌+◌, ℕ, zero, suc, List, [], ◌∷◌, filter, length, Bool, true, false, cond, Ordering, Less}
+use Rattle.record_groups.proofs.Common.{Equal, Greater, Option, Some, None, refl, sym, ap, ap₂, ◌∙◌, arith, cons_option, is_some, subst, nat_lt}
+use Rattle.record_groups.proofs.Common.{ltb-false, ltb-true, option_cmp, ordering_then, range_with_len, slice_cmp, slice_get, slice_get_past}
 use Rattle.ordered_lists.proofs.Lists.AtPlaces.{at_all_places}
 use Rattle.ordered_lists.specs.Places.{at_places}
 

@@ -1,9 +1,8 @@
 -- Texts are ordered by the spellings of their records, one after the other.
-use Rattle.record_groups.proofs.Common.{◌≡◌, ◌==◌, ◌+◌, ℕ, List, [], ◌∷◌, ◌++◌, length, cond, Ordering, Less, Equal, Greater, nat_cmp}
-use Rattle.canonical_form.proofs.Common.{◌⊎◌, inl}
-use Rattle.record_groups.proofs.Common.{refl, sym, ap, ◌∙◌, subst, length-append, arith, AllByRecursion, Eight, Five, Four, I, One, P}
-use Rattle.canonical_form.proofs.Common.{inr}
-use Rattle.record_groups.proofs.Common.{Record, Seven, Six, Two, exact_unsigned, ordering_then, records_cmp, slice_cmp, spelling_of, text_of}
+use Rattle.record_groups.proofs.Common.{◌≡◌, ◌==◌, ◌+◌, ℕ, List, [], ◌∷◌, ◌++◌, length, cond, Ordering, Less, Equal, Greater, nat_cmp, refl, sym}
+use Rattle.record_groups.proofs.Common.{ap, ◌∙◌, subst, length-append, arith, AllByRecursion, Eight, Five, Four, I, One, P, Record, Seven, Six}
+use Rattle.record_groups.proofs.Common.{Two, exact_unsigned, ordering_then, records_cmp, slice_cmp, spelling_of, text_of}
+use Rattle.canonical_form.proofs.Common.{◌⊎◌, inl, inr}
 use Rattle.tl_layout.specs.Bytes.{IsLine}
 use Rattle.tl_layout.specs.Laws.RecordLaws.{spelling_is_line}
 use Rattle.tl_layout.specs.RecordText.{FitsRecord, len_of, type_of}

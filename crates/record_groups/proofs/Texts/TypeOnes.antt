@@ -1,11 +1,11 @@
 -- The type 1 records of a county in an arrangement.
 use Rattle.record_groups.proofs.Common.{◌≡◌, ◌<◌, ◌≤◌, ◌+◌, ℕ, List, map, length, Bool, true, false, Option, Some, None, option_map, slice_get}
 use Rattle.record_groups.proofs.Common.{Equal, sym, refl, ap, ◌∙◌, subst, arith, AreWhole, Chain, County, DirectedChain, IsCounty}
-use Rattle.record_groups.proofs.Common.{IsWithinLimits, One, Record, arranged_by, arrangement_of, directed_chain, length-map}
+use Rattle.record_groups.proofs.Common.{IsWithinLimits, One, Record, arranged_by, arrangement_of, directed_chain, length-map, most_records}
+use Rattle.record_groups.proofs.Common.{nat_list_cmp_total, one_at, ones_of, option_cmp, packed_one, placed, renaming_of, slice_get-map}
+use Rattle.record_groups.proofs.Common.{spelling_cmp, spelling_of, tied_itself, tlids, turned_if}
 use Rattle.canonical_form.proofs.Common.{arranged_tlids}
-use Rattle.record_groups.proofs.Common.{most_records, nat_list_cmp_total, one_at, ones_of, option_cmp, packed_one, placed}
 use Rattle.std.proofs.lemmas.List.Sorted.{length_permutation}
-use Rattle.record_groups.proofs.Common.{renaming_of, slice_get-map, spelling_cmp, spelling_of, tied_itself, tlids, turned_if}
 use Rattle.canonical_form.specs.DirectedChains.{tlid_at}
 use Rattle.std.proofs.lemmas.List.{length-reverse}
 use Rattle.canonical_form.proofs.Arrangements.Carrying.{chains_arranged}

@@ -1,7 +1,7 @@
 -- The least of the texts of numbered choices, number by number.
-use Rattle.tl_number.proofs.Common.{◌≡◌, ◌≤◌, ◌+◌, ℕ, nat_lt, List, Bool, true, false, cond, Ordering, is_gt, nat_cmp, refl, sym, ap, ◌∙◌}
-use Rattle.tl_number.proofs.Common.{subst, arith, County, IsLeastBelow, IsLeastFrom, IsLesserTie, IsNotAfter, choice_list, choices_cmp}
-use Rattle.tl_number.proofs.Common.{ltb-false, ltb-true, not_greater, slice_cmp, text_of, upto}
+use Rattle.tl_number.proofs.Common.{◌≡◌, ◌≤◌, ◌+◌, ℕ, nat_lt, List, Bool, true, false, cond, Ordering, is_gt, nat_cmp, refl, sym, ap, ◌∙◌, subst}
+use Rattle.tl_number.proofs.Common.{arith, County, IsLeastBelow, IsLeastFrom, IsLesserTie, IsNotAfter, choice_list, choices_cmp, ltb-false}
+use Rattle.tl_number.proofs.Common.{ltb-true, not_greater, slice_cmp, text_of, upto}
 use Rattle.ordered_lists.proofs.ByKey.KeyOrders.{bytes_keys}
 use Rattle.canonical_form.proofs.Choices.Choosing.{one_more}
 use Rattle.canonical_form.proofs.CanonicalLists.TidyLists.{not_after_itself}

@@ -1,18 +1,19 @@
 -- The least type 1 records of choices, number by number, and the consequence for texts.
-use Rattle.tl_number.proofs.Common.{◌≡◌, ◌<◌, ◌+◌, ℕ, List, Bool, cond, true, false, Ordering, Less, Equal, Greater, is_eq, is_gt}
-use Rattle.tl_number.proofs.Common.{length, map, sym, refl, ap, ◌∙◌, subst, arith, AgreeApart, AllKeysStandIn, AreInShapeOrder, AreWhole}
-use Rattle.tl_number.proofs.Common.{AreWithin, County, DirectedChain, IsCounty, IsLesserTie, IsNotAfter, IsWithinLimits, OpenPlace, Record}
-use Rattle.tl_number.proofs.Common.{StandInOrder, arranged, choice_list, choices_cmp, directed_chain, false≢true, few_chains, is_either_way}
-use Rattle.tl_number.proofs.Common.{most_records, moved, not_greater, numbered_choice, ones_cmp, ones_of, open_places, ordering_then}
-use Rattle.tl_number.proofs.Common.{other_way, packed, points_along, points_cmp, polygon_keys, polygons_along, tied_itself, upto}
+use Rattle.tl_number.proofs.Common.{◌≡◌, ◌<◌, ◌+◌, ℕ, List, Bool, cond, true, false, Ordering, Less, Equal, Greater, is_eq, is_gt, length, map}
+use Rattle.tl_number.proofs.Common.{sym, refl, ap, ◌∙◌, subst, arith, AgreeApart, AllKeysStandIn, AreInShapeOrder, AreWhole, AreWithin, County}
+use Rattle.tl_number.proofs.Common.{DirectedChain, IsCounty, IsLesserTie, IsNotAfter, IsWithinLimits, OpenPlace, Record, StandInOrder, arranged}
+use Rattle.tl_number.proofs.Common.{choice_list, choices_cmp, directed_chain, false≢true, few_chains, is_either_way, most_records, moved}
+use Rattle.tl_number.proofs.Common.{not_greater, numbered_choice, ones_cmp, ones_of, open_places, ordering_then, other_way, packed, points_along}
+use Rattle.tl_number.proofs.Common.{points_cmp, polygon_keys, polygons_along, tied_itself, upto}
 use Rattle.std.specs.Ordering.{is_le}
 use Rattle.canonical_form.specs.MovedChains.{AgreeButOpen}
 use Rattle.record_groups.specs.TypeOneOrder.{IsLeastOne}
 use Rattle.canonical_form.proofs.Arrangements.ArrangedCounties.{arranged_county}
 use Rattle.canonical_form.proofs.Arrangements.ArrangedNumbers.{arrangement_within}
 use Rattle.canonical_form.proofs.Views.ArrangedViews.{whole_arrangement}
-use Rattle.canonical_form.proofs.Choices.ChosenArrangements.{places_in_order, places_within, arrangement_of_number, arrangement_of_number_apart, arrangement_of_number_count}
-use Rattle.canonical_form.proofs.Choices.ChosenArrangements.{arrangement_of_number_there, arrangement_of_number_once}
+use Rattle.canonical_form.proofs.Choices.ChosenArrangements.{places_in_order, places_within, arrangement_of_number, arrangement_of_number_apart}
+use Rattle.canonical_form.proofs.Choices.ChosenArrangements.{arrangement_of_number_count, arrangement_of_number_there}
+use Rattle.canonical_form.proofs.Choices.ChosenArrangements.{arrangement_of_number_once}
 use Rattle.canonical_form.proofs.Choices.Choosing.{one_more}
 use Rattle.record_groups.proofs.Texts.GroupOrders.{records_total}
 use Rattle.canonical_form.proofs.Choices.FixedPlaces.{agree_both}

@@ -1,6 +1,6 @@
 -- Lists in order: elements that tie keep the order of their numbers, and the place of an element is how many come before it.
-use Rattle.tl_number.proofs.Common.{◌≡◌, ◌∙◌, ◌⊎◌, ◌<◌, ◌+◌, ℕ, zero, suc, List, [], ◌∷◌, map, filter, length, true, false, cond, not}
-use Rattle.tl_number.proofs.Common.{Ordering, Less, Equal, Greater, is_eq, is_gt, is_lt, refl, sym, ap, subst, inl, inr, arith, nat_cmp, AllByRecursion}
+use Rattle.tl_number.proofs.Common.{◌≡◌, ◌∙◌, ◌⊎◌, ◌<◌, ◌+◌, ℕ, zero, suc, List, [], ◌∷◌, map, filter, length, true, false, cond, not, Ordering}
+use Rattle.tl_number.proofs.Common.{Less, Equal, Greater, is_eq, is_gt, is_lt, refl, sym, ap, subst, inl, inr, arith, nat_cmp, AllByRecursion}
 use Rattle.tl_number.proofs.Common.{IsInOrder, IsKeyOrder, IsPermutation, Known, MatchOrdering, Some, all-in_order, all_unmap, false≢true}
 use Rattle.tl_number.proofs.Common.{in_order, known_all, known_cases, nat_cmp_total, ordering_reverse, ordering_then, place_in, ranked}
 use Rattle.tl_number.proofs.Common.{same-itself, slice_get, tied_itself}

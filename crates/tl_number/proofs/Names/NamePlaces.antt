@@ -1,12 +1,12 @@
 -- The FEATs of names in their new order are in order by content, rank and FEAT, so a name's place is how many come before it.
-use Rattle.tl_number.proofs.Common.{◌≡◌, ◌∙◌, ◌⊎◌, ◌<◌, ℕ, zero, suc, List, [], ◌∷◌, length, false, cond, Ordering, Less}
-use Rattle.tl_number.proofs.Common.{Some, is_eq, is_lt, refl, sym, ap, ap₂, subst, inl, inr, arith, nat_cmp, AllByRecursion, AreWhole, Arrangement, Body5}
-use Rattle.tl_number.proofs.Common.{County, Use, DirectedChain, IsCounty, IsInOrder, IsKeyOrder, IsPermutation, IsPermutation-map, Known, all-in_order}
+use Rattle.tl_number.proofs.Common.{◌≡◌, ◌∙◌, ◌⊎◌, ◌<◌, ℕ, zero, suc, List, [], ◌∷◌, length, false, cond, Ordering, Less, Some, is_eq, is_lt}
+use Rattle.tl_number.proofs.Common.{refl, sym, ap, ap₂, subst, inl, inr, arith, nat_cmp, AllByRecursion, AreWhole, Arrangement, Body5, County}
+use Rattle.tl_number.proofs.Common.{Use, DirectedChain, IsCounty, IsInOrder, IsKeyOrder, IsPermutation, IsPermutation-map, Known, all-in_order}
 use Rattle.tl_number.proofs.Common.{all_both, all_uses, all_unmap, all_weaker, arrangement_of, entry_keys, exact_unsigned, feats}
-use Rattle.tl_number.proofs.Common.{feats_along_arrangement, first_seen}
-use Rattle.tl_number.proofs.Common.{in_order-in_order, in_order-map, known-permutation, known-permutation_to, length_permutation, name_key}
-use Rattle.tl_number.proofs.Common.{name_key_cmp, names_in_order, nat_cmp_total, nat_keys, on, on_total, option_cmp, ordering_then, place_in, placed}
-use Rattle.tl_number.proofs.Common.{same-itself, same_or_not, slice_cmp, slice_get, then_total, tied_itself, times, use_cmp, uses_of_name}
+use Rattle.tl_number.proofs.Common.{feats_along_arrangement, first_seen, in_order-in_order, in_order-map, known-permutation}
+use Rattle.tl_number.proofs.Common.{known-permutation_to, length_permutation, name_key, name_key_cmp, names_in_order, nat_cmp_total, nat_keys}
+use Rattle.tl_number.proofs.Common.{on, on_total, option_cmp, ordering_then, place_in, placed, same-itself, same_or_not, slice_cmp, slice_get}
+use Rattle.tl_number.proofs.Common.{then_total, tied_itself, times, use_cmp, uses_of_name}
 use Rattle.std.specs.List.Sorted.{IsStrictlySortedBy}
 use Rattle.ordered_lists.specs.Entries.{value_under}
 use Rattle.ordered_lists.proofs.ByKey.KeyOrders.{then-equal}

@@ -1,11 +1,9 @@
 -- Two arrangements of a county that have the same chains in the same order make the same county, whatever TLIDs these have.
-use Rattle.tl_number.proofs.Common.{◌≡◌, ◌∙◌, ℕ, List, map, Option, None, Some}
-use Rattle.tl_number.proofs.Common.{option_map, sym, refl, ap, nat_cmp, AreWhole, Arrangement, Arranges, Body5, Chain}
-use Rattle.tl_number.proofs.Common.{County, DirectedChain, IsCounty, Renumbering, all_uses, arranged, arranged_by, arrangement_of}
-use Rattle.tl_number.proofs.Common.{directed_chain, first_seen, image, in_order, key_cmp}
-use Rattle.tl_number.proofs.Common.{map_agree_everywhere, name_key, name_key_cmp, names_in_order, new_keys, nodes_along, nodes_in_order}
-use Rattle.tl_number.proofs.Common.{numbered, numbered_from, on, placed, polygons_along, renaming_of, renumbered}
-use Rattle.tl_number.proofs.Common.{renumbered_polygon, side_of, under_cenid}
+use Rattle.tl_number.proofs.Common.{◌≡◌, ◌∙◌, ℕ, List, map, Option, None, Some, option_map, sym, refl, ap, nat_cmp, AreWhole, Arrangement}
+use Rattle.tl_number.proofs.Common.{Arranges, Body5, Chain, County, DirectedChain, IsCounty, Renumbering, all_uses, arranged, arranged_by}
+use Rattle.tl_number.proofs.Common.{arrangement_of, directed_chain, first_seen, image, in_order, key_cmp, map_agree_everywhere, name_key}
+use Rattle.tl_number.proofs.Common.{name_key_cmp, names_in_order, new_keys, nodes_along, nodes_in_order, numbered, numbered_from, on, placed}
+use Rattle.tl_number.proofs.Common.{polygons_along, renaming_of, renumbered, renumbered_polygon, side_of, under_cenid}
 use Rattle.canonical_form.proofs.Arrangements.Carrying.{chains_arranged, names_arranged, names_renamed, nodes_renamed}
 use Rattle.tl_number.proofs.Landmarks.BodiesFirst.{same_landmarks}
 use Rattle.tl_number.proofs.Texts.SamePolygons.{LinksAgree, links_agree, new_polygons_same, same_links, same_polygons}

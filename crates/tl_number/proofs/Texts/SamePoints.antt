@@ -1,8 +1,8 @@
 -- All choices of a county have the same points, chain by chain, and so the same type 2 records.
-use Rattle.tl_number.proofs.Common.{◌≡◌, ◌∙◌, ℕ, List, [], ◌∷◌, map, length, sym, refl, ap, subst, AllKeysStandIn, AreSame, Chain}
-use Rattle.tl_number.proofs.Common.{Coordinates, County, Fields2, IsArranged, IsCounty, IsTidy, arranged, entry_points, entry_shape}
-use Rattle.tl_number.proofs.Common.{in_order-equal, in_pieces, inner_points, length-map, numbered_choice, numbered_from, packed_twos}
-use Rattle.tl_number.proofs.Common.{points_cmp, points_keys, polygon_keys, polygons_along, type_2_by_chain, up_to}
+use Rattle.tl_number.proofs.Common.{◌≡◌, ◌∙◌, ℕ, List, [], ◌∷◌, map, length, sym, refl, ap, subst, AllKeysStandIn, AreSame, Chain, Coordinates}
+use Rattle.tl_number.proofs.Common.{County, Fields2, IsArranged, IsCounty, IsTidy, arranged, entry_points, entry_shape, in_order-equal}
+use Rattle.tl_number.proofs.Common.{in_pieces, inner_points, length-map, numbered_choice, numbered_from, packed_twos, points_cmp, points_keys}
+use Rattle.tl_number.proofs.Common.{polygon_keys, polygons_along, type_2_by_chain, up_to}
 use Rattle.ordered_lists.proofs.Lists.Reordered.{SameElements, times-same}
 use Rattle.canonical_form.proofs.Arrangements.ArrangedCounties.{is_arranged}
 use Rattle.canonical_form.proofs.Choices.SameChoices.{choices_same}

@@ -1,8 +1,8 @@
 -- Two arrangements of a county that number its polygons alike have the same polygons and links.
-use Rattle.tl_number.proofs.Common.{◌≡◌, ◌∙◌, ℕ, List, map, Option, sym, ap, nat_cmp, AllByRecursion, Arrangement, Arranges, Body7, BodyP, County}
-use Rattle.tl_number.proofs.Common.{Fields8, IsCounty, PolygonKey, Renumbering, all_everywhere, arranged, image, in_order, key_cmp, landmark_key}
-use Rattle.tl_number.proofs.Common.{landmark_key_cmp, landmarks_in_order, link_cmp, link_key, map_agree_all, new_keys, numbered, on, relinked}
-use Rattle.tl_number.proofs.Common.{renaming_of}
+use Rattle.tl_number.proofs.Common.{◌≡◌, ◌∙◌, ℕ, List, map, Option, sym, ap, nat_cmp, AllByRecursion, Arrangement, Arranges, Body7, BodyP}
+use Rattle.tl_number.proofs.Common.{County, Fields8, IsCounty, PolygonKey, Renumbering, all_everywhere, arranged, image, in_order, key_cmp}
+use Rattle.tl_number.proofs.Common.{landmark_key, landmark_key_cmp, landmarks_in_order, link_cmp, link_key, map_agree_all, new_keys, numbered}
+use Rattle.tl_number.proofs.Common.{on, relinked, renaming_of}
 use Rattle.canonical_form.proofs.Arrangements.Carrying.{lands_renamed, links_arranged, polygons_arranged, polygons_renamed}
 
 module _ (county : County) (is : IsCounty county) (one other : Arrangement) (arranges_one : Arranges one county)

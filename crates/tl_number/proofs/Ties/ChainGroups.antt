@@ -1,7 +1,7 @@
 -- Records made of the chains of a county in an arrangement are in groups by place.
-use Rattle.tl_number.proofs.Common.{◌≡◌, ◌∙◌, ◌+◌, ℕ, suc, List, [], ◌∷◌, ◌++◌, length, map, map-map, Option, Some, None, refl, sym, ap, ap₂, arith}
-use Rattle.tl_number.proofs.Common.{AreWhole, Chain, County, DirectedChain, IsCounty, arranged_by, arrangement_of, directed_chain, grouped}
-use Rattle.tl_number.proofs.Common.{numbered_from, renaming_of, renumbered, slice_get}
+use Rattle.tl_number.proofs.Common.{◌≡◌, ◌∙◌, ◌+◌, ℕ, suc, List, [], ◌∷◌, ◌++◌, length, map, map-map, Option, Some, None, refl, sym, ap, ap₂}
+use Rattle.tl_number.proofs.Common.{arith, AreWhole, Chain, County, DirectedChain, IsCounty, arranged_by, arrangement_of, directed_chain}
+use Rattle.tl_number.proofs.Common.{grouped, numbered_from, renaming_of, renumbered, slice_get}
 use Rattle.canonical_form.proofs.Arrangements.Carrying.{chains_arranged}
 use Rattle.tl_number.proofs.Texts.SameChains.{the_same}
 use Rattle.record_groups.proofs.Texts.OpenPlaces.{groups_from}

@@ -1,8 +1,10 @@
 -- The numbers that open keys give to a chain of a choice are those it has in the arranged county.
-use Rattle.tl_number.proofs.Common.{◌≡◌, ◌<◌, ◌^◌, ◌∙◌, ◌+◌, ℕ, List, [], ◌∷◌, length, get_or, slice_get, slice_get-get_or, Option, Some, None, option_map, option_to_list, is_eq}
-use Rattle.tl_number.proofs.Common.{refl, sym, ap, subst, arith, AllByRecursion, AreTieTables, BodyP, Bool, true, false, cond, Chain, County, DirectedChain, IfSome}
-use Rattle.tl_number.proofs.Common.{IsCounty, IsOpenOrder, IsWithinLimits, Known, OrderOfShapes, PolygonKey, PolygonSide, arranged_by, directed_chain, ends_of, sides_of}
-use Rattle.tl_number.proofs.Common.{first_seen, grouped, key_cmp, key_keys, keys_along, known-here, known-right, most_records, nat_cmp, nat_keys, place_in, renumbered, same-true, side_of}
+use Rattle.tl_number.proofs.Common.{◌≡◌, ◌<◌, ◌^◌, ◌∙◌, ◌+◌, ℕ, List, [], ◌∷◌, length, get_or, slice_get, slice_get-get_or, Option, Some, None}
+use Rattle.tl_number.proofs.Common.{option_map, option_to_list, is_eq, refl, sym, ap, subst, arith, AllByRecursion, AreTieTables, BodyP, Bool}
+use Rattle.tl_number.proofs.Common.{true, false, cond, Chain, County, DirectedChain, IfSome, IsCounty, IsOpenOrder, IsWithinLimits, Known}
+use Rattle.tl_number.proofs.Common.{OrderOfShapes, PolygonKey, PolygonSide, arranged_by, directed_chain, ends_of, sides_of, first_seen, grouped}
+use Rattle.tl_number.proofs.Common.{key_cmp, key_keys, keys_along, known-here, known-right, most_records, nat_cmp, nat_keys, place_in}
+use Rattle.tl_number.proofs.Common.{renumbered, same-true, side_of}
 use Rattle.ordered_lists.proofs.ByKey.Keys.{known-left}
 use Rattle.ordered_lists.proofs.Lists.ByPlace.{all_at}
 use Rattle.ordered_lists.specs.Entries.{value_under}

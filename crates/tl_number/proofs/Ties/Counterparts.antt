@@ -1,15 +1,15 @@
 -- If chains move at open places, keys that first appear at open places exchange their numbers, and all other keys keep theirs.
 use Rattle.tl_number.proofs.Common.{◌≡◌, ◌⊎◌, ◌<◌, ◌≤◌, ◌+◌, ◌-◌, ℕ, zero, suc, List, [], ◌∷◌, ◌++◌, Bool, true, false, cond, Ordering, is_eq}
-use Rattle.tl_number.proofs.Common.{refl, sym, ap, ap₂, ◌∙◌, subst, inl, inr, arith, append_assoc, append-nil, length, length-append}
-use Rattle.tl_number.proofs.Common.{IsApart, IsKeyOrder, Known, first_seen, grouped, known_cases, known-here, known-right, newly_seen}
-use Rattle.tl_number.proofs.Common.{Option, Some, None, apart_tail, not, nat_lt, open_keys, place_in, same-itself, same_or_not, slice_get}
-use Rattle.tl_number.proofs.Common.{ltb-false, ltb-true, slice_get-get_or, get_or, times, times-yes}
+use Rattle.tl_number.proofs.Common.{refl, sym, ap, ap₂, ◌∙◌, subst, inl, inr, arith, append_assoc, append-nil, length, length-append, IsApart}
+use Rattle.tl_number.proofs.Common.{IsKeyOrder, Known, first_seen, grouped, known_cases, known-here, known-right, newly_seen, Option, Some, None}
+use Rattle.tl_number.proofs.Common.{apart_tail, not, nat_lt, open_keys, place_in, same-itself, same_or_not, slice_get, ltb-false, ltb-true}
+use Rattle.tl_number.proofs.Common.{slice_get-get_or, get_or, times, times-yes}
 use Rattle.std.proofs.lemmas.Grind.{flat_map-append}
 use Rattle.ordered_lists.proofs.ByKey.Keys.{known-append, known-later, known-left}
 use Rattle.canonical_form.proofs.Numbering.FoundPlaces.{first_stays, place_behind}
 use Rattle.canonical_form.proofs.Numbering.FirstSeen.{known_within, unknown_at_end}
-use Rattle.tl_number.proofs.Ties.NewlySeen.{AreAlike, alike_append, alike_itself, as_many_new, newly_alike, newly_apart, newly_append, newly_both}
-use Rattle.tl_number.proofs.Ties.NewlySeen.{newly_unseen, seen_newly}
+use Rattle.tl_number.proofs.Ties.NewlySeen.{AreAlike, alike_append, alike_itself, as_many_new, newly_alike, newly_apart, newly_append}
+use Rattle.tl_number.proofs.Ties.NewlySeen.{newly_both, newly_unseen, seen_newly}
 
 -- reading a list from its beginning, and behind it
 get_front : {X : Type 0} (xs ys : List X) (i : ℕ) → i < length xs → slice_get (xs ++ ys) i ≡ slice_get xs i

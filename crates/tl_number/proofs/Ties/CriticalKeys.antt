@@ -1,11 +1,11 @@
 -- Two choices that number the keys at critical places alike number those at all other places alike.
 use Rattle.tl_number.proofs.Common.{◌≡◌, ◌<◌, ◌∙◌, ◌⊎◌, ◌&&◌, ◌||◌, ◌+◌, ℕ, zero, suc, List, [], ◌∷◌, ◌++◌, map, filter, flat_map, slice_get}
-use Rattle.tl_number.proofs.Common.{Bool, true, false, cond, not, Ordering, Option, Some, None, option_map, option_to_list, unwrap_or}
-use Rattle.tl_number.proofs.Common.{refl, sym, ap, ap₂, subst, inl, inr, arith, AllByRecursion, AreOpenKeys, Chain, County, DirectedChain}
-use Rattle.tl_number.proofs.Common.{IsCounty, IsKeyOrder, IsWithinLimits, Known, OrderOfShapes, Renumbering, all_known}
-use Rattle.tl_number.proofs.Common.{arrangement_of, directed_chain, first_open, first_seen, group_at, grouped, is_eq, is_open, keys_along}
-use Rattle.tl_number.proofs.Common.{known-right, known_all, known_cases, list_any, lt-ltb, ltb-true, most_records, place_in, range_with_len}
-use Rattle.tl_number.proofs.Common.{OpenPlace, renaming_of, renumbered, slice_get-map, stands_in, times}
+use Rattle.tl_number.proofs.Common.{Bool, true, false, cond, not, Ordering, Option, Some, None, option_map, option_to_list, unwrap_or, refl, sym}
+use Rattle.tl_number.proofs.Common.{ap, ap₂, subst, inl, inr, arith, AllByRecursion, AreOpenKeys, Chain, County, DirectedChain, IsCounty}
+use Rattle.tl_number.proofs.Common.{IsKeyOrder, IsWithinLimits, Known, OrderOfShapes, Renumbering, all_known, arrangement_of, directed_chain}
+use Rattle.tl_number.proofs.Common.{first_open, first_seen, group_at, grouped, is_eq, is_open, keys_along, known-right, known_all, known_cases}
+use Rattle.tl_number.proofs.Common.{list_any, lt-ltb, ltb-true, most_records, place_in, range_with_len, OpenPlace, renaming_of, renumbered}
+use Rattle.tl_number.proofs.Common.{slice_get-map, stands_in, times}
 use Rattle.ordered_lists.proofs.ByKey.Keys.{known-append, known-left}
 use Rattle.tl_shape.specs.Turned.{turned}
 use Rattle.tl_number.specs.ChoiceSearch.{LeavesChoices}

@@ -1,8 +1,8 @@
 -- Finding critical places and critical numbers, one by one.
-use Rattle.tl_number.proofs.Common.{◌≡◌, ◌+◌, ◌&&◌, ◌||◌, ◌⊎◌, ◌∙◌, ℕ, zero, suc, List, [], ◌∷◌, ◌++◌, filter, slice_get, take, Bool, true, false, cond, not}
-use Rattle.tl_number.proofs.Common.{Ordering, Option, Some, is_eq, is_some, option_to_list, unwrap_or, refl, sym, ap, ap₂, subst, inl, inr, arith, append_assoc, AllByRecursion, County}
-use Rattle.tl_number.proofs.Common.{IsKeyOrder, Known, OpenPlace, PolygonKey, first_seen, first_seen_after, group_at, is_open, key_cmp, known-here, known_cases, list_any}
-use Rattle.tl_number.proofs.Common.{stands_in}
+use Rattle.tl_number.proofs.Common.{◌≡◌, ◌+◌, ◌&&◌, ◌||◌, ◌⊎◌, ◌∙◌, ℕ, zero, suc, List, [], ◌∷◌, ◌++◌, filter, slice_get, take, Bool, true}
+use Rattle.tl_number.proofs.Common.{false, cond, not, Ordering, Option, Some, is_eq, is_some, option_to_list, unwrap_or, refl, sym, ap, ap₂}
+use Rattle.tl_number.proofs.Common.{subst, inl, inr, arith, append_assoc, AllByRecursion, County, IsKeyOrder, Known, OpenPlace, PolygonKey}
+use Rattle.tl_number.proofs.Common.{first_seen, first_seen_after, group_at, is_open, key_cmp, known-here, known_cases, list_any, stands_in}
 use Rattle.std.proofs.lemmas.List.Elements.{filter-append}
 use Rattle.std.specs.Option.{option_and_then}
 use Rattle.ordered_lists.proofs.ByKey.Keys.{known-later}

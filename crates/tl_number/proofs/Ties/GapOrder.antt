@@ -1,7 +1,7 @@
 -- Records under numbers, in two lists that differ at open numbers alone, are in the order of those under critical numbers.
-use Rattle.tl_number.proofs.Common.{◌≡◌, ◌≢◌, ◌≤◌, ◌+◌, ◌&&◌, ℕ, zero, suc, List, [], ◌∷◌, filter_map, Bool, true, false, cond}
-use Rattle.tl_number.proofs.Common.{Ordering, Less, Equal, Greater, Option, Some, None, refl, sym, ap, ap₂, ◌∙◌, arith, cons_option}
-use Rattle.tl_number.proofs.Common.{critical_numbers, is_some, ordering_then, range_with_len, slice_cmp}
+use Rattle.tl_number.proofs.Common.{◌≡◌, ◌≢◌, ◌≤◌, ◌+◌, ◌&&◌, ℕ, zero, suc, List, [], ◌∷◌, filter_map, Bool, true, false, cond, Ordering, Less}
+use Rattle.tl_number.proofs.Common.{Equal, Greater, Option, Some, None, refl, sym, ap, ap₂, ◌∙◌, arith, cons_option, critical_numbers, is_some}
+use Rattle.tl_number.proofs.Common.{ordering_then, range_with_len, slice_cmp}
 use Rattle.std.proofs.lemmas.Bool.{and_parts}
 
 -- the first element

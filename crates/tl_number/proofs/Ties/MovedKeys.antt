@@ -1,8 +1,8 @@
 -- Moves at open places exchange keys that first appear there.
-use Rattle.tl_number.proofs.Common.{◌≡◌, ◌<◌, ◌≤◌, ◌+◌, ◌/◌, ◌%◌, ℕ, zero, suc, List, [], ◌∷◌, ◌++◌, ◌⊎◌, map, take, drop, length, Bool, true, cond}
-use Rattle.tl_number.proofs.Common.{Ordering, refl, sym, ap, ◌∙◌, subst, arith, AllByRecursion, AreWithin, IsKeyOrder, Known}
-use Rattle.tl_number.proofs.Common.{OpenPlace, first_seen, first_stood, grouped, insert, length-map, length-take, map-append, moved, open_keys}
-use Rattle.tl_number.proofs.Common.{append-nil, inl, inr, known-right, length-append, turned_by}
+use Rattle.tl_number.proofs.Common.{◌≡◌, ◌<◌, ◌≤◌, ◌+◌, ◌/◌, ◌%◌, ℕ, zero, suc, List, [], ◌∷◌, ◌++◌, ◌⊎◌, map, take, drop, length, Bool, true}
+use Rattle.tl_number.proofs.Common.{cond, Ordering, refl, sym, ap, ◌∙◌, subst, arith, AllByRecursion, AreWithin, IsKeyOrder, Known, OpenPlace}
+use Rattle.tl_number.proofs.Common.{first_seen, first_stood, grouped, insert, length-map, length-take, map-append, moved, open_keys, append-nil}
+use Rattle.tl_number.proofs.Common.{inl, inr, known-right, length-append, turned_by}
 use Rattle.std.proofs.lemmas.Grind.{flat_map-append}
 use Rattle.std.proofs.lemmas.List.{take-append-drop}
 use Rattle.ordered_lists.proofs.ByKey.Keys.{known-append, known-left}

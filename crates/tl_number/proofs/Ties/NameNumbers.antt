@@ -1,11 +1,12 @@
 -- The numbers of names in the choices of a county, from what is read at open places.
-use Rattle.tl_number.proofs.Common.{◌≡◌, ◌≤◌, ◌+◌, ◌∙◌, ℕ, zero, suc, List, [], ◌∷◌, filter, length, map, slice_get, filter_map}
-use Rattle.tl_number.proofs.Common.{Bool, true, false, Option, Some, None, refl, sym, ap, ap₂, subst, arith, AllByRecursion, AreReadAt, Body5, AreWhole, Chain, County}
-use Rattle.tl_number.proofs.Common.{DirectedChain, Four, IsApart, IsCounty, IsPermutation, IsPermutation-map, IsPermutation-trans, IsWithinLimits, Known}
-use Rattle.tl_number.proofs.Common.{NamesEachOnce, OrderOfShapes, all_append, all_known, apart_from_sorted, apart-permutation, arranged_by, arranged_tlids, ascending}
-use Rattle.tl_number.proofs.Common.{directed_chain, feats, feats_along_arrangement, feats_of, few_chains, first_seen, grouped, groups_cmp, image, is_open}
-use Rattle.tl_number.proofs.Common.{known_all, keys_along, length-map, length_permutation, lt-ltb, ltb-true, map_agree_all, most_records, nat_cmp, nat_keys}
-use Rattle.tl_number.proofs.Common.{place_in, stands_in, times, times-permutation, tlids, type_4_by_chain}
+use Rattle.tl_number.proofs.Common.{◌≡◌, ◌≤◌, ◌+◌, ◌∙◌, ℕ, zero, suc, List, [], ◌∷◌, filter, length, map, slice_get, filter_map, Bool, true}
+use Rattle.tl_number.proofs.Common.{false, Option, Some, None, refl, sym, ap, ap₂, subst, arith, AllByRecursion, AreReadAt, Body5, AreWhole}
+use Rattle.tl_number.proofs.Common.{Chain, County, DirectedChain, Four, IsApart, IsCounty, IsPermutation, IsPermutation-map, IsPermutation-trans}
+use Rattle.tl_number.proofs.Common.{IsWithinLimits, Known, NamesEachOnce, OrderOfShapes, all_append, all_known, apart_from_sorted}
+use Rattle.tl_number.proofs.Common.{apart-permutation, arranged_by, arranged_tlids, ascending, directed_chain, feats, feats_along_arrangement}
+use Rattle.tl_number.proofs.Common.{feats_of, few_chains, first_seen, grouped, groups_cmp, image, is_open, known_all, keys_along, length-map}
+use Rattle.tl_number.proofs.Common.{length_permutation, lt-ltb, ltb-true, map_agree_all, most_records, nat_cmp, nat_keys, place_in, stands_in}
+use Rattle.tl_number.proofs.Common.{times, times-permutation, tlids, type_4_by_chain}
 use Rattle.ordered_lists.proofs.ByKey.Keys.{apart-filter, known-permutation_to}
 use Rattle.ordered_lists.proofs.Lists.Permutations.{apart-permutation_of}
 use Rattle.ordered_lists.proofs.Lists.Reordered.{stands_alike}

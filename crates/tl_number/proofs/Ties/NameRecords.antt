@@ -1,11 +1,11 @@
 -- The records of type 4 of two choices are in the order of those at named places.
-use Rattle.tl_number.proofs.Common.{◌≡◌, ◌≢◌, ◌∙◌, ◌<◌, ◌+◌, ◌^◌, ℕ, zero, suc, List, [], ◌∷◌, ◌++◌, flat_map, length, map, length-map, Option, Some, None}
-use Rattle.tl_number.proofs.Common.{option_map, Bool, false, true, Less, Equal, Greater, Ordering, AllByRecursion, AreSame, Chain, County, DirectedChain}
-use Rattle.tl_number.proofs.Common.{Fields4, Four, IsCounty, IsWithinLimits, OrderOfShapes, all_everywhere, all_left, all_map, all_right, arith, ap, ap₂}
-use Rattle.tl_number.proofs.Common.{arranged, arranged_by, codes, directed_chain, drop, feats_of, grouped, groups_cmp, image, in_pieces, is_open, joined}
-use Rattle.tl_number.proofs.Common.{keys_along, map_agree_all, most_records, nat_cmp, nat_keys, nat_list_cmp_total, numbered_choice, numbered_from, on}
-use Rattle.tl_number.proofs.Common.{on_total, ordering_then, packed_fours, refl, rights-numbered_from, slice_cmp, slice_get, spelling_cmp, subst, sym}
-use Rattle.tl_number.proofs.Common.{tied_itself, type_4_by_chain}
+use Rattle.tl_number.proofs.Common.{◌≡◌, ◌≢◌, ◌∙◌, ◌<◌, ◌+◌, ◌^◌, ℕ, zero, suc, List, [], ◌∷◌, ◌++◌, flat_map, length, map, length-map, Option}
+use Rattle.tl_number.proofs.Common.{Some, None, option_map, Bool, false, true, Less, Equal, Greater, Ordering, AllByRecursion, AreSame, Chain}
+use Rattle.tl_number.proofs.Common.{County, DirectedChain, Fields4, Four, IsCounty, IsWithinLimits, OrderOfShapes, all_everywhere, all_left}
+use Rattle.tl_number.proofs.Common.{all_map, all_right, arith, ap, ap₂, arranged, arranged_by, codes, directed_chain, drop, feats_of, grouped}
+use Rattle.tl_number.proofs.Common.{groups_cmp, image, in_pieces, is_open, joined, keys_along, map_agree_all, most_records, nat_cmp, nat_keys}
+use Rattle.tl_number.proofs.Common.{nat_list_cmp_total, numbered_choice, numbered_from, on, on_total, ordering_then, packed_fours, refl}
+use Rattle.tl_number.proofs.Common.{rights-numbered_from, slice_cmp, slice_get, spelling_cmp, subst, sym, tied_itself, type_4_by_chain}
 use Rattle.std.proofs.lemmas.Bool.{or_parts, or_right}
 use Rattle.std.proofs.lemmas.Cmp.{lists_total}
 use Rattle.canonical_form.proofs.Limits.CarriedLimits.{carried_many}

@@ -5,9 +5,9 @@ use Rattle.tl_number.proofs.Common.{append-nil, AreWhole, arith, arrangement_of,
 use Rattle.tl_number.proofs.Common.{each_from, entry_values, false, feats, feats_along_arrangement, feats_of, filter, filter_map, first_seen}
 use Rattle.tl_number.proofs.Common.{flat_map, get_or, grouped, image, in_order-map, in_order-permutation, is_open, IsApart, IsCounty, IsInOrder}
 use Rattle.tl_number.proofs.Common.{IsPermutation, IsPermutation-map, IsPermutation-sym, IsPermutation-trans, IsTrue, keys_along, Known}
-use Rattle.tl_number.proofs.Common.{known-permutation, known_is_among, List, lt-ltb, ltb-true, map, map-map, map_agree_all, nat_cmp, nat_keys, None}
-use Rattle.tl_number.proofs.Common.{on, OpenPlace, Option, option_cmp, option_map, option_to_list, ordering_then, place_in, refl, renaming_of}
-use Rattle.tl_number.proofs.Common.{slice_get, Some, stands_in, subst, suc, sym, times, true, turned_if, zero, ℕ}
+use Rattle.tl_number.proofs.Common.{known-permutation, known_is_among, List, lt-ltb, ltb-true, map, map-map, map_agree_all, nat_cmp, nat_keys}
+use Rattle.tl_number.proofs.Common.{None, on, OpenPlace, Option, option_cmp, option_map, option_to_list, ordering_then, place_in, refl}
+use Rattle.tl_number.proofs.Common.{renaming_of, slice_get, Some, stands_in, subst, suc, sym, times, true, turned_if, zero, ℕ}
 use Rattle.std.proofs.lemmas.Option.{get_or_from_slice_get}
 use Rattle.ordered_lists.proofs.ByKey.Keys.{apart-filter}
 use Rattle.ordered_lists.proofs.Lists.Elements.{flat_map_agree}

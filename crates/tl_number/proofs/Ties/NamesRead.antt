@@ -1,8 +1,9 @@
 -- Names and their records of type 4, read one by one.
-use Rattle.tl_number.proofs.Common.{◌≡◌, ◌∙◌, ◌≤◌, ◌<◌, ◌+◌, ◌*◌, ◌/◌, ◌%◌, ℕ, List, [], ◌∷◌, length, length-map, map, min, nat_lt, Bool, true, false, Option, Some, None, option_map}
-use Rattle.tl_number.proofs.Common.{cons_option, drop, slice_get, slice_get-map, slice_get_past, take, refl, sym, ap, ap₂, subst, arith, AllByRecursion, AreReadAt, IsNumber, Known, all_map}
-use Rattle.tl_number.proofs.Common.{chain_at, Chain, County, DirectedChain, Fields4, IsCounty, IsWithinLimits, directed_chain, feats_of, group_at, in_pieces, ltb-false, ltb-true, most_records}
-use Rattle.tl_number.proofs.Common.{nat_cmp, nat_keys, place_in, turned_if}
+use Rattle.tl_number.proofs.Common.{◌≡◌, ◌∙◌, ◌≤◌, ◌<◌, ◌+◌, ◌*◌, ◌/◌, ◌%◌, ℕ, List, [], ◌∷◌, length, length-map, map, min, nat_lt, Bool, true}
+use Rattle.tl_number.proofs.Common.{false, Option, Some, None, option_map, cons_option, drop, slice_get, slice_get-map, slice_get_past, take}
+use Rattle.tl_number.proofs.Common.{refl, sym, ap, ap₂, subst, arith, AllByRecursion, AreReadAt, IsNumber, Known, all_map, chain_at, Chain}
+use Rattle.tl_number.proofs.Common.{County, DirectedChain, Fields4, IsCounty, IsWithinLimits, directed_chain, feats_of, group_at, in_pieces}
+use Rattle.tl_number.proofs.Common.{ltb-false, ltb-true, most_records, nat_cmp, nat_keys, place_in, turned_if}
 use Rattle.ordered_lists.specs.Places.{at_places}
 use Rattle.tl_number.specs.OpenNames.{AreFewFeats, fours_at, fours_of, numbered_feat}
 use Rattle.record_groups.specs.OpenRanges.{open_chain}

@@ -1,8 +1,8 @@
 -- Keys that weren't seen before: which these are depends only on the members of the list of seen keys.
-use Rattle.tl_number.proofs.Common.{◌≡◌, ◌⊎◌, List, [], ◌∷◌, ◌++◌, Bool, true, false, cond, Ordering, is_eq, refl, sym, ap, ◌∙◌}
-use Rattle.tl_number.proofs.Common.{subst, inl, inr, arith, append_assoc, append-nil, length, IsApart, IsKeyOrder, Known, known_cases}
-use Rattle.tl_number.proofs.Common.{known-right, first_seen, first_seen_after, length_permutation, newly_seen, stands_in, times}
-use Rattle.tl_number.proofs.Common.{apart-permutation_of, ltb-false, times-append}
+use Rattle.tl_number.proofs.Common.{◌≡◌, ◌⊎◌, List, [], ◌∷◌, ◌++◌, Bool, true, false, cond, Ordering, is_eq, refl, sym, ap, ◌∙◌, subst, inl, inr}
+use Rattle.tl_number.proofs.Common.{arith, append_assoc, append-nil, length, IsApart, IsKeyOrder, Known, known_cases, known-right, first_seen}
+use Rattle.tl_number.proofs.Common.{first_seen_after, length_permutation, newly_seen, stands_in, times, apart-permutation_of, ltb-false}
+use Rattle.tl_number.proofs.Common.{times-append}
 use Rattle.ordered_lists.proofs.ByKey.Keys.{known-append, known-left}
 use Rattle.ordered_lists.proofs.Lists.Reordered.{stands_alike}
 use Rattle.canonical_form.proofs.Numbering.FirstSeen.{all_after, first_seen-apart, known_after}

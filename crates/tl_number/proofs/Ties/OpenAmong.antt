@@ -1,10 +1,10 @@
 -- The open ones of all keys: their order, the places that they exchange in two orders, and the place of each key by the order of them.
-use Rattle.tl_number.proofs.Common.{◌≡◌, ◌⊎◌, ◌<◌, ◌+◌, ℕ, zero, suc, List, [], ◌∷◌, ◌++◌, map, filter, length, slice_get, get_or}
-use Rattle.tl_number.proofs.Common.{Bool, true, false, cond, not, Ordering, Less, Equal, Greater, MatchOrdering, Some, option_map}
-use Rattle.tl_number.proofs.Common.{is_eq, refl, sym, ap, ap₂, ◌∙◌, inl, inr, arith, AllByRecursion, IsApart, IsKeyOrder, Known}
-use Rattle.tl_number.proofs.Common.{all_known, apart-permutation_of, first_seen, grouped, known-right, known_cases, length-map}
-use Rattle.tl_number.proofs.Common.{length_permutation, lt-ltb, ltb-true, nat_cmp, newly_seen, open_keys, place_in, ranked, same-itself}
-use Rattle.tl_number.proofs.Common.{false≢true, same_or_not, slice_get-get_or, slice_get-map, stands_in, times, true≢false}
+use Rattle.tl_number.proofs.Common.{◌≡◌, ◌⊎◌, ◌<◌, ◌+◌, ℕ, zero, suc, List, [], ◌∷◌, ◌++◌, map, filter, length, slice_get, get_or, Bool, true}
+use Rattle.tl_number.proofs.Common.{false, cond, not, Ordering, Less, Equal, Greater, MatchOrdering, Some, option_map, is_eq, refl, sym, ap, ap₂}
+use Rattle.tl_number.proofs.Common.{◌∙◌, inl, inr, arith, AllByRecursion, IsApart, IsKeyOrder, Known, all_known, apart-permutation_of}
+use Rattle.tl_number.proofs.Common.{first_seen, grouped, known-right, known_cases, length-map, length_permutation, lt-ltb, ltb-true, nat_cmp}
+use Rattle.tl_number.proofs.Common.{newly_seen, open_keys, place_in, ranked, same-itself, false≢true, same_or_not, slice_get-get_or}
+use Rattle.tl_number.proofs.Common.{slice_get-map, stands_in, times, true≢false}
 use Rattle.std.proofs.lemmas.List.Elements.{filter-append}
 use Rattle.ordered_lists.proofs.ByKey.Keys.{filter_all, known-left, times-filter}
 use Rattle.tl_number.specs.OpenKeys.{place_by_order}

@@ -1,7 +1,6 @@
 -- The places that open places cover.
-use Rattle.tl_number.proofs.Common.{◌≡◌, ◌<◌, ◌≤◌, ◌+◌, ◌&&◌, ◌||◌, ℕ, nat_le, nat_lt, List, [], ◌∷◌}
-use Rattle.tl_number.proofs.Common.{Bool, true, false, sym, refl, ap, ◌∙◌, AllByRecursion}
-use Rattle.tl_number.proofs.Common.{OpenPlace, false≢true, is_open, lt-ltb, ltb-false}
+use Rattle.tl_number.proofs.Common.{◌≡◌, ◌<◌, ◌≤◌, ◌+◌, ◌&&◌, ◌||◌, ℕ, nat_le, nat_lt, List, [], ◌∷◌, Bool, true, false, sym, refl, ap, ◌∙◌}
+use Rattle.tl_number.proofs.Common.{AllByRecursion, OpenPlace, false≢true, is_open, lt-ltb, ltb-false}
 use Rattle.std.proofs.lemmas.Bool.{and_from, le-leb}
 use Rattle.canonical_form.specs.MovedChains.{IsApart}
 

@@ -1,6 +1,6 @@
 -- Finding links of open polygons, one by one.
-use Rattle.tl_number.proofs.Common.{◌==◌, ◌≡◌, ◌||◌, ℕ, zero, suc, List, [], ◌∷◌, filter, slice_get, Bool, true, false, cond, Option, Some, None, option_to_list, refl, ap₂}
-use Rattle.tl_number.proofs.Common.{AllByRecursion, County, Fields8, lands, links_at, links_with, list_any}
+use Rattle.tl_number.proofs.Common.{◌==◌, ◌≡◌, ◌||◌, ℕ, zero, suc, List, [], ◌∷◌, filter, slice_get, Bool, true, false, cond, Option, Some, None}
+use Rattle.tl_number.proofs.Common.{option_to_list, refl, ap₂, AllByRecursion, County, Fields8, lands, links_at, links_with, list_any}
 use Rattle.std.proofs.lemmas.Bool.{or_right}
 
 module _ {X : Type 0} (test : X → Bool) where

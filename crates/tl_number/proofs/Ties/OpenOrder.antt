@@ -1,8 +1,8 @@
 -- The keys that first appear at open places, in their order, are found by reading the open places alone.
-use Rattle.tl_number.proofs.Common.{◌≡◌, ◌⊎◌, ◌+◌, ℕ, zero, suc, List, [], ◌∷◌, ◌++◌, map, filter, Bool, true, false, cond, not}
-use Rattle.tl_number.proofs.Common.{Ordering, refl, sym, ap, ◌∙◌, subst, inl, inr, arith, append_assoc, append-nil, is_eq}
-use Rattle.tl_number.proofs.Common.{IsKeyOrder, Known, first_seen, first_seen_after, grouped, known-here, known-right, known_cases, lt-ltb}
-use Rattle.tl_number.proofs.Common.{false≢true, ltb-true, newly_seen, open_keys, range_with_len, stands_in, times}
+use Rattle.tl_number.proofs.Common.{◌≡◌, ◌⊎◌, ◌+◌, ℕ, zero, suc, List, [], ◌∷◌, ◌++◌, map, filter, Bool, true, false, cond, not, Ordering, refl}
+use Rattle.tl_number.proofs.Common.{sym, ap, ◌∙◌, subst, inl, inr, arith, append_assoc, append-nil, is_eq, IsKeyOrder, Known, first_seen}
+use Rattle.tl_number.proofs.Common.{first_seen_after, grouped, known-here, known-right, known_cases, lt-ltb, false≢true, ltb-true, newly_seen}
+use Rattle.tl_number.proofs.Common.{open_keys, range_with_len, stands_in, times}
 use Rattle.std.proofs.lemmas.List.Elements.{filter-append}
 use Rattle.ordered_lists.proofs.ByKey.Keys.{known-append, known-later, known-left}
 use Rattle.ordered_lists.proofs.Lists.Reordered.{stands_alike}

@@ -1,10 +1,12 @@
 -- The records of type P of two choices are in the order of those under critical numbers.
 use Rattle.tl_number.proofs.Common.{◌≡◌, ◌<◌, ◌≤◌, ◌∙◌, ◌||◌, ◌+◌, ℕ, zero, suc, List, [], ◌∷◌, ◌++◌, map, filter_map, length, slice_get, get_or}
-use Rattle.tl_number.proofs.Common.{Bool, true, false, cond, Option, Some, None, option_map, option_to_list, is_some, refl, sym, ap, ap₂, subst, arith}
-use Rattle.tl_number.proofs.Common.{AllByRecursion, AreTieTables, BodyP, County, FieldsP, IsApart, IsCounty, IsWithinLimits, OrderOfShapes, P}
-use Rattle.tl_number.proofs.Common.{PolygonKey, apart-permutation_of, arranged_by, arrangement_of, cons_option, first_open, first_seen, grouped, groups_cmp, key_cmp}
-use Rattle.tl_number.proofs.Common.{key_keys, keys_along, list_any, place_in, length-map, length_permutation, most_records, nat_list_cmp_total, nat_lt, ltb-true, ltb-false, numbered, numbered_from, on, packed_p, polygons_by_number}
-use Rattle.tl_number.proofs.Common.{range_with_len, records_cmp, slice_cmp, slice_get-get_or, slice_get-map, slice_get_past, spelling_cmp, spelling_of, stands_in, tied_itself, type_p_by_number, under_number}
+use Rattle.tl_number.proofs.Common.{Bool, true, false, cond, Option, Some, None, option_map, option_to_list, is_some, refl, sym, ap, ap₂, subst}
+use Rattle.tl_number.proofs.Common.{arith, AllByRecursion, AreTieTables, BodyP, County, FieldsP, IsApart, IsCounty, IsWithinLimits}
+use Rattle.tl_number.proofs.Common.{OrderOfShapes, P, PolygonKey, apart-permutation_of, arranged_by, arrangement_of, cons_option, first_open}
+use Rattle.tl_number.proofs.Common.{first_seen, grouped, groups_cmp, key_cmp, key_keys, keys_along, list_any, place_in, length-map}
+use Rattle.tl_number.proofs.Common.{length_permutation, most_records, nat_list_cmp_total, nat_lt, ltb-true, ltb-false, numbered, numbered_from}
+use Rattle.tl_number.proofs.Common.{on, packed_p, polygons_by_number, range_with_len, records_cmp, slice_cmp, slice_get-get_or, slice_get-map}
+use Rattle.tl_number.proofs.Common.{slice_get_past, spelling_cmp, spelling_of, stands_in, tied_itself, type_p_by_number, under_number}
 use Rattle.std.proofs.lemmas.Bool.{or_parts}
 use Rattle.std.specs.Option.{option_and_then}
 use Rattle.county_chart.specs.ChartWords.{polygon_under}

@@ -1,9 +1,9 @@
 -- The records of type 6 of two choices are in the order of those at open places.
 use Rattle.tl_number.proofs.Common.{◌≡◌, ◌≢◌, ◌∙◌, ◌<◌, ◌+◌, ◌^◌, ℕ, suc, List, [], ◌∷◌, ◌++◌, length, map, Option, Some, None, option_map}
 use Rattle.tl_number.proofs.Common.{false, Equal, Ordering, AllByRecursion, AreSame, AreWhole, County, DirectedChain, Fields6, IsCounty}
-use Rattle.tl_number.proofs.Common.{OpenPlace, Ranges, Six, arith, ap, ap₂, arranged_by, codes, directed_chain, drop, grouped, groups_cmp, joined}
-use Rattle.tl_number.proofs.Common.{nat_cmp, nat_list_cmp_total, numbered_from, on, on_total, packed_sixes, ranges_of, refl, slice_cmp, slice_get}
-use Rattle.tl_number.proofs.Common.{spelling_cmp, sym, tied_itself, type_6_by_chain}
+use Rattle.tl_number.proofs.Common.{OpenPlace, Ranges, Six, arith, ap, ap₂, arranged_by, codes, directed_chain, drop, grouped, groups_cmp}
+use Rattle.tl_number.proofs.Common.{joined, nat_cmp, nat_list_cmp_total, numbered_from, on, on_total, packed_sixes, ranges_of, refl, slice_cmp}
+use Rattle.tl_number.proofs.Common.{slice_get, spelling_cmp, sym, tied_itself, type_6_by_chain}
 use Rattle.std.proofs.lemmas.Cmp.{lists_total}
 use Rattle.canonical_form.proofs.Limits.CarriedLimits.{carried_many}
 use Rattle.tl_layout.specs.FieldTexts.{number_text, rows_texts}

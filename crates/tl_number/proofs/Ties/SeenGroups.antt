@@ -1,6 +1,7 @@
 -- Keys that are seen chain by chain, and key by key.
-use Rattle.tl_number.proofs.Common.{◌≡◌, ◌<◌, ◌+◌, ◌∙◌, ℕ, zero, suc, List, [], ◌∷◌, ◌++◌, drop, filter, length, get_or, slice_get, Bool, true, false, cond, Ordering, Some}
-use Rattle.tl_number.proofs.Common.{IsKeyOrder, open_keys, refl, sym, ap, ap₂, arith, first_seen_after, group_at, newly_seen, slice_get-get_or, append_assoc, unwrap_or}
+use Rattle.tl_number.proofs.Common.{◌≡◌, ◌<◌, ◌+◌, ◌∙◌, ℕ, zero, suc, List, [], ◌∷◌, ◌++◌, drop, filter, length, get_or, slice_get, Bool, true}
+use Rattle.tl_number.proofs.Common.{false, cond, Ordering, Some, IsKeyOrder, open_keys, refl, sym, ap, ap₂, arith, first_seen_after, group_at}
+use Rattle.tl_number.proofs.Common.{newly_seen, slice_get-get_or, append_assoc, unwrap_or}
 use Rattle.std.proofs.lemmas.List.Elements.{filter-append}
 use Rattle.arranged_county.proofs.Numbering.SeenLists.{seen_append}
 use Rattle.tl_number.proofs.Ties.NewlySeen.{newly_append, seen_newly}

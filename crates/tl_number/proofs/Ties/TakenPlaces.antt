@@ -1,6 +1,7 @@
 -- What is read at the first places of a list of places, one place more.
-use Rattle.tl_number.proofs.Common.{◌≡◌, ◌<◌, ◌≤◌, ◌+◌, ◌∙◌, ℕ, zero, suc, List, [], ◌∷◌, ◌++◌, filter, filter_map, take, length, slice_get, get_or, Bool, true, false, cond}
-use Rattle.tl_number.proofs.Common.{Option, Some, None, option_to_list, refl, sym, ap, subst, arith, AllByRecursion, cons_option, range_with_len, slice_get-get_or}
+use Rattle.tl_number.proofs.Common.{◌≡◌, ◌<◌, ◌≤◌, ◌+◌, ◌∙◌, ℕ, zero, suc, List, [], ◌∷◌, ◌++◌, filter, filter_map, take, length, slice_get}
+use Rattle.tl_number.proofs.Common.{get_or, Bool, true, false, cond, Option, Some, None, option_to_list, refl, sym, ap, subst, arith}
+use Rattle.tl_number.proofs.Common.{AllByRecursion, cons_option, range_with_len, slice_get-get_or}
 
 module _ {X : Type 0} (f : ℕ → Option X) where
   joined : (o : Option X) (xs ys : List X) → cons_option o (xs ++ ys) ≡ cons_option o xs ++ ys

@@ -1,10 +1,10 @@
 -- The numbers of nodes and polygons in the choices of a county, from what is read at open places.
-use Rattle.tl_number.proofs.Common.{◌≡◌, ◌<◌, ◌^◌, ◌∙◌, ◌⊎◌, ℕ, List, [], ◌∷◌, ◌++◌, map, filter, flat_map, length, get_or, slice_get}
-use Rattle.tl_number.proofs.Common.{Bool, true, false, cond, not, Ordering, Option, Some, None, option_map, option_to_list, unwrap_or, refl, sym}
-use Rattle.tl_number.proofs.Common.{ap, subst, inl, inr, arith, AreOpenKeys, AreWhole, Chain, County, DirectedChain, HasChainsOf, IsApart, IsCounty}
+use Rattle.tl_number.proofs.Common.{◌≡◌, ◌<◌, ◌^◌, ◌∙◌, ◌⊎◌, ℕ, List, [], ◌∷◌, ◌++◌, map, filter, flat_map, length, get_or, slice_get, Bool}
+use Rattle.tl_number.proofs.Common.{true, false, cond, not, Ordering, Option, Some, None, option_map, option_to_list, unwrap_or, refl, sym, ap}
+use Rattle.tl_number.proofs.Common.{subst, inl, inr, arith, AreOpenKeys, AreWhole, Chain, County, DirectedChain, HasChainsOf, IsApart, IsCounty}
 use Rattle.tl_number.proofs.Common.{IsKeyOrder, IsWithinLimits, Known, OrderOfShapes, arrangement_of, chain_at, cons_option, directed_chain}
-use Rattle.tl_number.proofs.Common.{first_open, first_seen, group_at, grouped, is_open, keys_along, known-right, length-map, lt-ltb}
-use Rattle.tl_number.proofs.Common.{ltb-true, map-map, most_records, numbered_arrangement, numbered_choice, open_keys, other_way, place_in, range_with_len}
+use Rattle.tl_number.proofs.Common.{first_open, first_seen, group_at, grouped, is_open, keys_along, known-right, length-map, lt-ltb, ltb-true}
+use Rattle.tl_number.proofs.Common.{map-map, most_records, numbered_arrangement, numbered_choice, open_keys, other_way, place_in, range_with_len}
 use Rattle.tl_number.proofs.Common.{slice_get-get_or, stands_in, times, turned_if}
 use Rattle.ordered_lists.specs.Places.{at_places}
 use Rattle.ordered_lists.proofs.Lists.AtPlaces.{map-at_places}

@@ -1,11 +1,10 @@
 -- Choices that tie in type 1 are in the order of the records that can differ.
-use Rattle.tl_number.proofs.Common.{◌≡◌, ◌∙◌, ℕ, List, map, Equal, Greater, Less, Ordering, refl, sym, ap, ap₂}
-use Rattle.tl_number.proofs.Common.{AreSame, AreTieTables, AreWhole, Body7, County, DirectedChain, Eight, Five, Four, I, IsCounty, IsWithinLimits}
-use Rattle.tl_number.proofs.Common.{One, OrderOfShapes, P, Seven, Six, arranged, arranged_by, arrangement_of, choice_list}
-use Rattle.tl_number.proofs.Common.{groups_cmp, most_records, nat_cmp}
-use Rattle.tl_number.proofs.Common.{numbered_arrangement, ones_cmp, ordering_then, packed, packed_sevens, records_cmp}
-use Rattle.tl_number.proofs.Common.{slice_cmp, text_of, type_1_by_chain, type_2_by_chain, type_4_by_chain, type_5_by_name, type_6_by_chain}
-use Rattle.tl_number.proofs.Common.{type_7_by_landmark, type_8_together}
+use Rattle.tl_number.proofs.Common.{◌≡◌, ◌∙◌, ℕ, List, map, Equal, Greater, Less, Ordering, refl, sym, ap, ap₂, AreSame, AreTieTables, AreWhole}
+use Rattle.tl_number.proofs.Common.{Body7, County, DirectedChain, Eight, Five, Four, I, IsCounty, IsWithinLimits, One, OrderOfShapes, P, Seven}
+use Rattle.tl_number.proofs.Common.{Six, arranged, arranged_by, arrangement_of, choice_list, groups_cmp, most_records, nat_cmp}
+use Rattle.tl_number.proofs.Common.{numbered_arrangement, ones_cmp, ordering_then, packed, packed_sevens, records_cmp, slice_cmp, text_of}
+use Rattle.tl_number.proofs.Common.{type_1_by_chain, type_2_by_chain, type_4_by_chain, type_5_by_name, type_6_by_chain, type_7_by_landmark}
+use Rattle.tl_number.proofs.Common.{type_8_together}
 use Rattle.tl_number.specs.ChoiceSearch.{LeavesChoices}
 use Rattle.tl_number.specs.OpenKeys.{open_among}
 use Rattle.record_groups.specs.OpenRanges.{sixes_at}

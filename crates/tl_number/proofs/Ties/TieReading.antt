@@ -1,7 +1,9 @@
 -- What is read for the comparison of ties.
-use Rattle.tl_number.proofs.Common.{◌≡◌, ◌<◌, ◌≤◌, ◌+◌, ◌&&◌, ◌∙◌, ℕ, zero, suc, List, [], ◌∷◌, ◌++◌, filter, flat_map, get_or, map, slice_get, Bool, true, false, cond}
-use Rattle.tl_number.proofs.Common.{Ordering, Option, Some, None, option_map, option_to_list, refl, sym, ap, ap₂, subst, arith, append-nil, AllByRecursion, Chain, County, DirectedChain, IsApart, IsKeyOrder}
-use Rattle.tl_number.proofs.Common.{cons_option, critical_numbers, directed_chain, grouped, keys_along, newly_seen, open_keys, range_with_len, times, times-append}
+use Rattle.tl_number.proofs.Common.{◌≡◌, ◌<◌, ◌≤◌, ◌+◌, ◌&&◌, ◌∙◌, ℕ, zero, suc, List, [], ◌∷◌, ◌++◌, filter, flat_map, get_or, map, slice_get}
+use Rattle.tl_number.proofs.Common.{Bool, true, false, cond, Ordering, Option, Some, None, option_map, option_to_list, refl, sym, ap, ap₂, subst}
+use Rattle.tl_number.proofs.Common.{arith, append-nil, AllByRecursion, Chain, County, DirectedChain, IsApart, IsKeyOrder, cons_option}
+use Rattle.tl_number.proofs.Common.{critical_numbers, directed_chain, grouped, keys_along, newly_seen, open_keys, range_with_len, times}
+use Rattle.tl_number.proofs.Common.{times-append}
 use Rattle.ordered_lists.specs.Places.{at_places}
 use Rattle.canonical_form.proofs.Numbering.FirstSeen.{first_seen-apart}
 use Rattle.tl_number.proofs.Ties.NewlySeen.{newly_append, seen_newly}

@@ -1,11 +1,13 @@
 -- The records of type I of two choices are in the order of those at critical places.
-use Rattle.tl_number.proofs.Common.{◌≡◌, ◌<◌, ◌∙◌, ◌||◌, ◌⊎◌, ◌≤◌, ◌+◌, ℕ, List, [], ◌∷◌, ◌++◌, map, filter, flat_map, length, slice_get, append-nil, length-map, map-map}
-use Rattle.tl_number.proofs.Common.{Bool, false, true, Equal, Option, Some, None, option_cmp, option_map, option_to_list, refl, sym, ap, ap₂, subst, arith, inl, inr, get_or, nat_lt, ltb-true, ltb-false, slice_get-get_or}
-use Rattle.tl_number.proofs.Common.{AllByRecursion, AreTieTables, AreWhole, Chain, County, DirectedChain, FieldsI, I, IfSome, IsCounty, IsWithinLimits, Known}
-use Rattle.tl_number.proofs.Common.{OrderOfShapes, Renumbering, all_left, all_right, arranged_by, arrangement_of, directed_chain, first_seen}
-use Rattle.tl_number.proofs.Common.{grouped, groups_cmp, image, is_open, key_cmp, key_keys, keys_along, map-append, most_records, nat_cmp, nat_keys, nodes_in_order}
-use Rattle.tl_number.proofs.Common.{numbered_from, packed_i, place_in, placed, polygons_in_order, range_with_len, renumbered}
-use Rattle.tl_number.proofs.Common.{rights-numbered_from, slice_cmp, spelling_cmp, topologies_of, type_i_by_chain, side_of}
+use Rattle.tl_number.proofs.Common.{◌≡◌, ◌<◌, ◌∙◌, ◌||◌, ◌⊎◌, ◌≤◌, ◌+◌, ℕ, List, [], ◌∷◌, ◌++◌, map, filter, flat_map, length, slice_get}
+use Rattle.tl_number.proofs.Common.{append-nil, length-map, map-map, Bool, false, true, Equal, Option, Some, None, option_cmp, option_map}
+use Rattle.tl_number.proofs.Common.{option_to_list, refl, sym, ap, ap₂, subst, arith, inl, inr, get_or, nat_lt, ltb-true, ltb-false}
+use Rattle.tl_number.proofs.Common.{slice_get-get_or, AllByRecursion, AreTieTables, AreWhole, Chain, County, DirectedChain, FieldsI, I, IfSome}
+use Rattle.tl_number.proofs.Common.{IsCounty, IsWithinLimits, Known, OrderOfShapes, Renumbering, all_left, all_right, arranged_by}
+use Rattle.tl_number.proofs.Common.{arrangement_of, directed_chain, first_seen, grouped, groups_cmp, image, is_open, key_cmp, key_keys}
+use Rattle.tl_number.proofs.Common.{keys_along, map-append, most_records, nat_cmp, nat_keys, nodes_in_order, numbered_from, packed_i, place_in}
+use Rattle.tl_number.proofs.Common.{placed, polygons_in_order, range_with_len, renumbered, rights-numbered_from, slice_cmp, spelling_cmp}
+use Rattle.tl_number.proofs.Common.{topologies_of, type_i_by_chain, side_of}
 use Rattle.std.proofs.lemmas.Bool.{or_parts}
 use Rattle.ordered_lists.proofs.Lists.ByPlace.{all_at}
 use Rattle.ordered_lists.specs.Places.{at_places}

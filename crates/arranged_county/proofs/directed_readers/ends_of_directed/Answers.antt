@@ -1,6 +1,5 @@
 -- A county's nodes have numbers from 1 on.
-use Rattle.canonical_form.proofs.Views.ChainPlaces.{chain_there}
-use Rattle.canonical_form.proofs.Views.ChainPlaces.{node_from_one}
+use Rattle.canonical_form.proofs.Views.ChainPlaces.{chain_there, node_from_one}
 use Rattle.arranged_county.proofs.directed_readers.ends_of_directed.Goals as goal
 
 pub new-start-requires : goal.new-start-requires

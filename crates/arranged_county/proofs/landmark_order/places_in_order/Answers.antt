@@ -1,6 +1,6 @@
 use Rattle.arranged_county.proofs.Common.{◌≡◌, ◌+◌, ◌-◌, ℕ, List, length, nat_cmp, false, sym, ap, ◌∙◌, subst, arith, County, Fields8}
-use Rattle.arranged_county.proofs.Common.{IfOk-weaker, IsInOrder, IsPermutation, PolygonKey, eight_land, has_repeat, landmark_place_cmp, lands, lands_at}
-use Rattle.arranged_county.proofs.Common.{length-range_with_len, link_bounds, links_up_to, numbered_links, on, range_with_len}
+use Rattle.arranged_county.proofs.Common.{IfOk-weaker, IsInOrder, IsPermutation, PolygonKey, eight_land, has_repeat, landmark_place_cmp, lands}
+use Rattle.arranged_county.proofs.Common.{lands_at, length-range_with_len, link_bounds, links_up_to, numbered_links, on, range_with_len}
 use Rattle.std.proofs.lemmas.List.Sorted.{IsPermutation-refl}
 use Rattle.std.proofs.lemmas.List.FromFn.{length-map-range_with_len}
 use Rattle.arranged_county.specs.LandmarkItems.{place_cmp_under}

@@ -1,7 +1,6 @@
 use Rattle.canonical_form.proofs.Common.{county_of, plain, same-reflexive}
-use Rattle.canonical_form.proofs.CanonicalLists.Ascending.{canonical_exists}
+use Rattle.canonical_form.proofs.CanonicalLists.Ascending.{canonical_exists, choice_is_canonical, ascends_where_apart}
 use Rattle.canonical_form.proofs.CanonicalLists.Accepted.{plain_sight, same_canonical_text}
-use Rattle.canonical_form.proofs.CanonicalLists.Ascending.{choice_is_canonical, ascends_where_apart}
 use Rattle.canonical_form.proofs.laws.each_accepted_list_has_one_canonical_text.Goals as goal
 
 pub returns-clause-exists : goal.returns-clause-exists

@@ -1,6 +1,6 @@
-use Rattle.record_groups.proofs.Common.{AreTiedAt, List, ◌≡◌, ◌<◌, length, get_or, slice_get, sym, ap₂, ◌∙◌, arith, false, DirectedChain, arranged_by, ones_of}
+use Rattle.record_groups.proofs.Common.{AreTiedAt, List, ◌≡◌, ◌<◌, length, get_or, slice_get, sym, ap₂, ◌∙◌, arith, false, DirectedChain}
+use Rattle.record_groups.proofs.Common.{arranged_by, ones_of, option_cmp, slice_get-get_or, spelling_cmp}
 use Rattle.canonical_form.proofs.Common.{below_more}
-use Rattle.record_groups.proofs.Common.{option_cmp, slice_get-get_or, spelling_cmp}
 use Rattle.record_groups.proofs.Texts.TiedOnes.{first_untied}
 use Rattle.record_groups.proofs.Texts.TypeOnes.{length_whole, ones_arranged_by}
 use Rattle.record_groups.proofs.type_1_order.compare_at_open.Given.{Over}

@@ -1,5 +1,5 @@
-use Rattle.tl_number.proofs.Common.{◌≡◌, ◌∙◌, Result, Ok, Err, IfOk, ap, sym, subst, Carries, County, IfOk-weaker, IsCanonCounty}
-use Rattle.tl_number.proofs.Common.{IsLeastChoice, arranged, arranged_county, renaming_of}
+use Rattle.tl_number.proofs.Common.{◌≡◌, ◌∙◌, Result, Ok, Err, IfOk, ap, sym, subst, Carries, County, IfOk-weaker, IsCanonCounty, IsLeastChoice}
+use Rattle.tl_number.proofs.Common.{arranged, arranged_county, renaming_of}
 use Rattle.std.specs.Prelude.{MatchResult}
 use Rattle.arranged_county.specs.Views.{arrangement_in, source_of}
 use Rattle.tl_number.proofs.canonising.canonise.Goals as goal

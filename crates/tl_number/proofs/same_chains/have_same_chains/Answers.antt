@@ -1,5 +1,5 @@
-use Rattle.tl_number.proofs.Common.{◌∙◌, map, option_map, refl, sym, ap, subst, AllByRecursion}
-use Rattle.tl_number.proofs.Common.{DirectedChain, StandInOrder, directed_chain, slice_get-map}
+use Rattle.tl_number.proofs.Common.{◌∙◌, map, option_map, refl, sym, ap, subst, AllByRecursion, DirectedChain, StandInOrder, directed_chain}
+use Rattle.tl_number.proofs.Common.{slice_get-map}
 use Rattle.tl_number.proofs.Lemmas.{nothing_left}
 use Rattle.canonical_form.specs.MovedChains.{IsApart}
 use Rattle.canonical_form.proofs.Choices.FixedPlaces.{before_apart, same_everywhere}

@@ -1,6 +1,7 @@
-use Rattle.tl_number.proofs.Common.{◌≡◌, ◌<◌, ◌+◌, ◌∙◌, ap, arith, sym, subst, I, IsNumberOrNone, IsOpenOrder, Option, Some, Chain, DirectedChain, FieldsI}
-use Rattle.tl_number.proofs.Common.{directed_chain, ends_of, option_map, renumbered, sides_of, slice_get, length, numbered_arrangement}
-use Rattle.tl_number.proofs.Common.{ℕ, Bool, None, PolygonSide, arranged_by, chain_at, County, refl, topologies_of, true, false, turned_if}
+use Rattle.tl_number.proofs.Common.{◌≡◌, ◌<◌, ◌+◌, ◌∙◌, ap, arith, sym, subst, I, IsNumberOrNone, IsOpenOrder, Option, Some, Chain}
+use Rattle.tl_number.proofs.Common.{DirectedChain, FieldsI, directed_chain, ends_of, option_map, renumbered, sides_of, slice_get, length}
+use Rattle.tl_number.proofs.Common.{numbered_arrangement, ℕ, Bool, None, PolygonSide, arranged_by, chain_at, County, refl, topologies_of, true}
+use Rattle.tl_number.proofs.Common.{false, turned_if}
 use Rattle.tl_layout.specs.declared.type_i.BodyI.{BodyI}
 use Rattle.county_chart.specs.Limits.{FitsNumbers}
 use Rattle.tl_number.specs.TieRecords.{numbered_node, numbered_side}

@@ -1,5 +1,6 @@
-use Rattle.tl_number.proofs.Common.{◌≡◌, ◌<◌, ◌∙◌, ap, ap₂, sym, subst, AllByRecursion, DirectedChain, IsOpenOrder, ends_of, filter, first_seen, grouped, key_cmp, key_keys, keys_along, length, map}
-use Rattle.tl_number.proofs.Common.{nat_cmp, nat_keys, nodes_at, numbered_arrangement, sides_of, stands_in}
+use Rattle.tl_number.proofs.Common.{◌≡◌, ◌<◌, ◌∙◌, ap, ap₂, sym, subst, AllByRecursion, DirectedChain, IsOpenOrder, ends_of, filter, first_seen}
+use Rattle.tl_number.proofs.Common.{grouped, key_cmp, key_keys, keys_along, length, map, nat_cmp, nat_keys, nodes_at, numbered_arrangement}
+use Rattle.tl_number.proofs.Common.{sides_of, stands_in}
 use Rattle.ordered_lists.specs.Places.{at_places}
 use Rattle.county_chart.specs.CountyRules.{chain_nodes, chain_polygons}
 use Rattle.canonical_form.specs.EndsAndSides.{polygons_at}

@@ -1,5 +1,4 @@
-use Rattle.arranged_county.proofs.Common.{◌≡◌, ◌∙◌, List, ℕ, Option, Some, option_map, take, refl, ap, is_some, false, Chain}
-use Rattle.arranged_county.proofs.Common.{arranged_by}
+use Rattle.arranged_county.proofs.Common.{◌≡◌, ◌∙◌, List, ℕ, Option, Some, option_map, take, refl, ap, is_some, false, Chain, arranged_by}
 use Rattle.tl_layout.specs.Columns.{joined}
 use Rattle.canonical_form.proofs.Views.ChainPlaces.{chain_there}
 use Rattle.tl_layout.specs.Turned.{body_towards}

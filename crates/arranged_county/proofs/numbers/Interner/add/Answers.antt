@@ -1,5 +1,5 @@
-use Rattle.arranged_county.proofs.Common.{◌≡◌, ◌<◌, ◌^◌, ◌+◌, ◌∷◌, [], ◌++◌, Some, ◌%◌, get_or, length, length-append, ap, sym, subst, ◌∙◌, arith}
-use Rattle.arranged_county.proofs.Common.{IsKeyOrder, stands_in}
+use Rattle.arranged_county.proofs.Common.{◌≡◌, ◌<◌, ◌^◌, ◌+◌, ◌∷◌, [], ◌++◌, Some, ◌%◌, get_or, length, length-append, ap, sym, subst, ◌∙◌}
+use Rattle.arranged_county.proofs.Common.{arith, IsKeyOrder, stands_in}
 use Rattle.indexmap.specs.IndexMap.{get as found_by_hash}
 use Rattle.std.specs.BTreeMap.{get as found_in_order}
 use Rattle.arranged_county.specs.PlacedKeys.{AreApart, ArePlaced, found_by_either}

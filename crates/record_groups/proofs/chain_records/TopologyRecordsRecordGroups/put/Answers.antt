@@ -1,8 +1,7 @@
 -- The written bytes are the spelling of the chain's record.
 use Rattle.record_groups.proofs.Common.{◌∙◌, ◌∷◌, [], Some, option_map, sym, ap, packed_i}
-use Rattle.record_groups.proofs.Records.RecordPlaces.{chain_of_group, lone_of}
+use Rattle.record_groups.proofs.Records.RecordPlaces.{chain_of_group, lone_of, topology_of}
 use Rattle.tl_layout.specs.TypeI.{type_i_spelling}
-use Rattle.record_groups.proofs.Records.RecordPlaces.{topology_of}
 use Rattle.record_groups.proofs.chain_records.TopologyRecordsRecordGroups.put.Goals as goal
 
 pub returns : goal.returns

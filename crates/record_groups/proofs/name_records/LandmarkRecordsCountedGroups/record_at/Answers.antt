@@ -1,6 +1,6 @@
-use Rattle.record_groups.proofs.Common.{Option, List, [], unwrap_or, ◌≡◌, ◌<◌, ◌∙◌, Some, length, slice_get, option_map, sym, ap, subst, Body7, IsNumber}
+use Rattle.record_groups.proofs.Common.{Option, List, [], unwrap_or, ◌≡◌, ◌<◌, ◌∙◌, Some, length, slice_get, option_map, sym, ap, subst, Body7}
+use Rattle.record_groups.proofs.Common.{IsNumber, length-map, packed_sevens, slice_get-map}
 use Rattle.canonical_form.proofs.Common.{Fields7, lands}
-use Rattle.record_groups.proofs.Common.{length-map, packed_sevens, slice_get-map}
 use Rattle.record_groups.proofs.Records.Grouped.{group_of}
 use Rattle.canonical_form.proofs.Lists.ListPlaces.{some-same}
 use Rattle.record_groups.proofs.Records.EntryPlaces.{landmark_of_group}
