@@ -6,11 +6,11 @@ ghost use Rattle.tl_county.specs.Packing.{type_after_type};
 
 use super::super::Host;
 use super::super::comparing::same;
-use super::linking::{chains_by_shape, is_of_set};
-use super::reading::tables_of;
-use super::{Run, answered, has_refused, refuse};
+use super::answered;
+use super::linking::{chains_by_shape, is_of_set, tables_of};
 use bumpalo::Bump;
 use std::alloc::Global;
+use test_support::growths::{Run, has_refused, refuse};
 use test_support::sets::Set;
 use tigercanon::Fault;
 use tl_county::{Chart, CountyOver, DirectedChain, LinkedRecords, link_in_order};
@@ -49,8 +49,8 @@ pub(super) fn admit_linked(rt: &impl Host, set: &Set<'_>, asked: usize) -> Run {
     let arena = Bump::new(rt.alloc());
     let linked = link_in_order(rt.alloc(), tables_of(rt, set)).expect(rt, set.row);
     let county = linked.county(rt.alloc(), &arena).expect(rt, set.row);
-    refuse(rt, asked);
+    refuse(rt.alloc(), asked);
     let outcome = admit_over(rt.alloc(), county, &linked);
-    let refused = has_refused(rt);
+    let refused = has_refused(rt.alloc());
     answered(rt, refused, order_of(rt, set, outcome))
 }

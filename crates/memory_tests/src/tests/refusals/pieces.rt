@@ -7,10 +7,11 @@ ghost use Rattle.tl_profile.specs.Profile.{IsInProfile};
 
 use super::super::Host;
 use super::super::comparing::same;
-use super::linking::{admitted_of, carries_onto};
-use super::{Run, answered, ended, has_refused, refuse};
+use super::linking::carries_onto;
+use super::{answered, ended};
 use std::alloc::{AllocError, Global};
-use test_support::sets::Set;
+use test_support::growths::{Run, has_refused, refuse};
+use test_support::sets::{Set, admitted_of};
 use tigercanon::Fault;
 use tl_cert::Renaming;
 use tl_county::{Chart, DirectedChain};
@@ -36,9 +37,24 @@ fn text_of_admitted<C: Chart + Drop>(
 
 /// The canonical county, and its text in memory.
 pub(super) fn write_admitted(rt: &impl Host, set: &Set<'_>, asked: usize) -> Run {
-    let admitted = admitted_of(rt, set);
-    refuse(rt, asked);
+    let admitted = admitted_of(rt.alloc(), set.bytes).expect(rt, set.row);
+    refuse(rt.alloc(), asked);
     ended(rt, text_of_admitted(rt.alloc(), admitted))
+}
+
+/// The canonical county. The answer is the renaming onto it.
+pub(crate) fn canonise(rt: &impl Host, set: &Set<'_>, asked: usize) -> Run {
+    let admitted = admitted_of(rt.alloc(), set.bytes).expect(rt, set.row);
+    refuse(rt.alloc(), asked);
+    let outcome = tl_number::canonise(rt.alloc(), admitted);
+    let refused = has_refused(rt.alloc());
+    match outcome {
+        Ok((county, renaming)) => {
+            drop(county);
+            answered(rt, refused, Ok(renaming))
+        }
+        Err(_) => Run::out_of_memory(refused),
+    }
 }
 
 /// A county in the profile, in its ascending arrangement.
@@ -64,17 +80,18 @@ fn renaming_onto<C: Chart>(rt: &impl Host, set: &Set<'_>, view: &Arranged<C>) ->
 
 /// The arranged county. The answer is the renaming onto it.
 pub(super) fn arrange_chains(rt: &impl Host, set: &Set<'_>, asked: usize) -> Run {
-    let chart = admitted_of(rt, set).into_chart();
+    let admitted = admitted_of(rt.alloc(), set.bytes).expect(rt, set.row);
+    let chart = admitted.into_chart();
     let arrangement = ascending_arrangement(rt.alloc(), &chart).expect(rt, set.row);
-    refuse(rt, asked);
+    refuse(rt.alloc(), asked);
     let outcome = arrange_ascending(rt.alloc(), chart, arrangement);
-    let refused = has_refused(rt);
+    let refused = has_refused(rt.alloc());
     match outcome {
         Ok(view) => {
             let renaming = renaming_onto(rt, set, &view);
             drop(view);
             answered(rt, refused, Ok(renaming))
         }
-        Err(_) => answered::<()>(rt, refused, Err(Fault::Memory)),
+        Err(_) => Run::out_of_memory(refused),
     }
 }

@@ -2,8 +2,9 @@
 
 use super::super::comparing::{same, same_items};
 use super::super::{Host, lines_of};
-use super::{Run, answered, ended, has_refused, is_memory, refuse};
+use super::{answered, ended, is_memory};
 use std::fmt::Debug;
+use test_support::growths::{Run, has_refused, refuse};
 use test_support::sets::Set;
 use test_support::worked_sets::street;
 use tigercanon::{CompareFault, Fault};
@@ -11,20 +12,20 @@ use tl_load::SlowSource;
 use tl_write::SlowSink;
 
 pub(crate) fn respell(rt: &impl Host, set: &Set<'_>, asked: usize) -> Run {
-    refuse(rt, asked);
+    refuse(rt.alloc(), asked);
     ended(rt, tigercanon::respell(rt.alloc(), &[set.bytes]))
 }
 
 pub(crate) fn normalise(rt: &impl Host, set: &Set<'_>, asked: usize) -> Run {
-    refuse(rt, asked);
+    refuse(rt.alloc(), asked);
     ended(rt, tigercanon::normalise(rt.alloc(), &[set.bytes]))
 }
 
 /// The result is the renaming.
 pub(crate) fn normalise_with_renaming(rt: &impl Host, set: &Set<'_>, asked: usize) -> Run {
-    refuse(rt, asked);
+    refuse(rt.alloc(), asked);
     let outcome = tigercanon::normalise_with_renaming(rt.alloc(), &[set.bytes]);
-    let refused = has_refused(rt);
+    let refused = has_refused(rt.alloc());
     match outcome {
         Ok((text, renaming)) => {
             same_items(rt, set.row, &text, set.text);
@@ -41,7 +42,7 @@ fn written_by(
     sink: &SlowSink<'_>,
     outcome: Result<u64, Fault>,
 ) -> Run {
-    let refused = has_refused(rt);
+    let refused = has_refused(rt.alloc());
     let held = Vec::from_slice(rt.alloc(), sink.held()).expect(rt, "there is memory");
     let outcome = match outcome {
         Ok(count) => Ok((count, held)),
@@ -57,18 +58,18 @@ pub(crate) fn normalise_to(rt: &impl Host, set: &Set<'_>, asked: usize) -> Run {
     let mut buffer = vec![in rt.alloc(); 0u8; set.text.len()].expect(rt, "there is memory");
     let mut sink = SlowSink::new(&mut buffer, 100);
     let mut sources = [SlowSource::new(set.bytes, 100, None)];
-    refuse(rt, asked);
+    refuse(rt.alloc(), asked);
     let outcome = tigercanon::normalise_to(rt.alloc(), &mut sources, &mut sink);
     written_by(rt, set, &sink, outcome)
 }
 
 pub(crate) fn fingerprint(rt: &impl Host, set: &Set<'_>, asked: usize) -> Run {
-    refuse(rt, asked);
+    refuse(rt.alloc(), asked);
     ended(rt, tigercanon::fingerprint(rt.alloc(), &[set.bytes]))
 }
 
 pub(crate) fn check(rt: &impl Host, set: &Set<'_>, asked: usize) -> Run {
-    refuse(rt, asked);
+    refuse(rt.alloc(), asked);
     ended(rt, tigercanon::check(rt.alloc(), &[set.bytes]))
 }
 
@@ -95,39 +96,39 @@ fn compared<V: Debug + Drop>(rt: &impl Host, outcome: Comparison<V>) -> Run {
 }
 
 pub(crate) fn compare_with_itself(rt: &impl Host, set: &Set<'_>, asked: usize) -> Run {
-    refuse(rt, asked);
+    refuse(rt.alloc(), asked);
     let outcome = tigercanon::compare(rt.alloc(), &[set.bytes], &[set.bytes]);
     compared(rt, outcome)
 }
 
 pub(crate) fn compare_with_street(rt: &impl Host, set: &Set<'_>, asked: usize) -> Run {
     let other = lines_of(rt, street());
-    refuse(rt, asked);
+    refuse(rt.alloc(), asked);
     let outcome = tigercanon::compare(rt.alloc(), &[set.bytes], &[&other]);
     compared(rt, outcome)
 }
 
 pub(crate) fn compare_street_with(rt: &impl Host, set: &Set<'_>, asked: usize) -> Run {
     let other = lines_of(rt, street());
-    refuse(rt, asked);
+    refuse(rt.alloc(), asked);
     let outcome = tigercanon::compare(rt.alloc(), &[&other], &[set.bytes]);
     compared(rt, outcome)
 }
 
 pub(crate) fn are_one_map(rt: &impl Host, set: &Set<'_>, asked: usize) -> Run {
-    refuse(rt, asked);
+    refuse(rt.alloc(), asked);
     let outcome = tigercanon::are_one_map(rt.alloc(), &[set.bytes], &[set.bytes]);
     compared(rt, outcome)
 }
 
 pub(crate) fn normalise_masked(rt: &impl Host, set: &Set<'_>, asked: usize) -> Run {
-    refuse(rt, asked);
+    refuse(rt.alloc(), asked);
     let outcome = tigercanon::normalise_masked(rt.alloc(), &[set.bytes], set.mask);
     ended(rt, outcome)
 }
 
 pub(crate) fn normalise_with_renaming_masked(rt: &impl Host, set: &Set<'_>, asked: usize) -> Run {
-    refuse(rt, asked);
+    refuse(rt.alloc(), asked);
     let outcome = tigercanon::normalise_with_renaming_masked(rt.alloc(), &[set.bytes], set.mask);
     ended(rt, outcome)
 }
@@ -137,25 +138,25 @@ pub(crate) fn normalise_to_masked(rt: &impl Host, set: &Set<'_>, asked: usize) -
     let mut buffer = vec![in rt.alloc(); 0u8; set.text.len()].expect(rt, "there is memory");
     let mut sink = SlowSink::new(&mut buffer, 100);
     let mut sources = [SlowSource::new(set.bytes, 100, None)];
-    refuse(rt, asked);
+    refuse(rt.alloc(), asked);
     let outcome = tigercanon::normalise_to_masked(rt.alloc(), &mut sources, &mut sink, set.mask);
     written_by(rt, set, &sink, outcome)
 }
 
 pub(crate) fn fingerprint_masked(rt: &impl Host, set: &Set<'_>, asked: usize) -> Run {
-    refuse(rt, asked);
+    refuse(rt.alloc(), asked);
     let outcome = tigercanon::fingerprint_masked(rt.alloc(), &[set.bytes], set.mask);
     ended(rt, outcome)
 }
 
 pub(crate) fn compare_masked(rt: &impl Host, set: &Set<'_>, asked: usize) -> Run {
-    refuse(rt, asked);
+    refuse(rt.alloc(), asked);
     let outcome = tigercanon::compare_masked(rt.alloc(), &[set.bytes], &[set.bytes], set.mask);
     compared(rt, outcome)
 }
 
 pub(crate) fn are_one_map_masked(rt: &impl Host, set: &Set<'_>, asked: usize) -> Run {
-    refuse(rt, asked);
+    refuse(rt.alloc(), asked);
     let outcome = tigercanon::are_one_map_masked(rt.alloc(), &[set.bytes], &[set.bytes], set.mask);
     compared(rt, outcome)
 }

@@ -2,8 +2,8 @@
 
 use super::super::Host;
 use super::super::comparing::{same, same_items};
-use super::super::devices::{failing_writer, kinds};
 use std::io::ErrorKind;
+use test_support::devices::{failing_writer, kinds};
 use tigercanon::{PlanFault, exit_status, report};
 use tl_write::{CountedOut, Sink};
 

@@ -3,10 +3,9 @@
 use std::alloc::Global;
 use std::cell::Cell;
 use std::io::{self, Error, ErrorKind, Read, Write};
-use tigercanon::Opened;
 
 /// All kinds of failures.
-pub(super) fn kinds() -> &'static [ErrorKind] {
+pub fn kinds() -> &'static [ErrorKind] {
     &[
         ErrorKind::NotFound,
         ErrorKind::PermissionDenied,
@@ -55,7 +54,7 @@ pub(super) fn kinds() -> &'static [ErrorKind] {
 
 /// Returns its bytes at most `step` at a time, and counts its reads. Only the read after `reads` of them fails.
 #[derive(Drop)]
-pub(super) struct SlowReader<'a> {
+pub struct SlowReader<'a> {
     bytes: Vec<u8>,
     place: usize,
     step: usize,
@@ -85,9 +84,11 @@ impl Read for SlowReader<'_> {
 
 /// Takes at most `step` bytes at a time, and counts its writes. Only the write after it holds `capacity` bytes fails.
 #[derive(Drop)]
-pub(super) struct SlowWriter {
-    pub(super) held: Vec<u8>,
-    pub(super) writes: usize,
+pub struct SlowWriter {
+    /// What was written.
+    pub held: Vec<u8>,
+    /// How often it was asked to write.
+    pub writes: usize,
     step: usize,
     capacity: Option<usize>,
     kind: ErrorKind,
@@ -114,31 +115,26 @@ impl Write for SlowWriter {
     }
 }
 
-/// An open file with these bytes. A read returns at most `step` of them, and the read after `reads` fails.
-pub(super) fn reader(
+/// A reader of these bytes. A read returns at most `step` of them, and the read after `reads` fails.
+pub fn reader(
     bytes: Vec<u8>,
     step: usize,
     reads: Option<usize>,
     kind: ErrorKind,
     count: &Cell<usize>,
-) -> Opened<SlowReader<'_>> {
-    Opened::Found(SlowReader {
+) -> SlowReader<'_> {
+    SlowReader {
         bytes,
         place: 0,
         step,
         reads,
         kind,
         count,
-    })
+    }
 }
 
 /// A writer that holds nothing yet, and fails with this kind of error.
-pub(super) fn failing_writer(
-    alloc: Global,
-    step: usize,
-    capacity: usize,
-    kind: ErrorKind,
-) -> SlowWriter {
+pub fn failing_writer(alloc: Global, step: usize, capacity: usize, kind: ErrorKind) -> SlowWriter {
     SlowWriter {
         held: Vec::new(alloc),
         writes: 0,
@@ -149,6 +145,6 @@ pub(super) fn failing_writer(
 }
 
 /// A writer that holds nothing yet, and is interrupted.
-pub(super) fn writer(alloc: Global, step: usize, capacity: usize) -> SlowWriter {
+pub fn writer(alloc: Global, step: usize, capacity: usize) -> SlowWriter {
     failing_writer(alloc, step, capacity, ErrorKind::Interrupted)
 }

@@ -1,29 +1,15 @@
 //! Renamings as values: inverses, compositions, and whether one carries a county onto another.
 
-use super::comparing::{same, same_items};
-use super::{Host, county_of, lines_of};
+use super::comparing::same;
+use super::{Host, lines_of};
+use test_support::renamings::{Lists, NOTHING, TURN};
+use test_support::sets::carries;
 use test_support::worked_sets::{MAIN, MAIN_TURNED, NAMED, NAMED_BACKWARDS, SIDED};
-use tl_cert::{PolygonKey, Renaming, check};
-
-/// The lists of a renaming.
-#[derive(Clone, Copy)]
-pub(super) struct Lists<'a> {
-    pub(super) chains: &'a [(u64, u64)],
-    pub(super) names: &'a [(u32, u32)],
-    pub(super) polygons: &'a [(PolygonKey, PolygonKey)],
-    pub(super) lands: &'a [(u64, u64)],
-    pub(super) nodes: &'a [(u64, u64)],
-    pub(super) turned: &'a [u64],
-}
+use tl_cert::{PolygonKey, Renaming};
 
 /// The renaming has these lists.
-pub(super) fn has_lists(rt: &impl Host, row: &str, renaming: &Renaming, lists: &Lists<'_>) {
-    same_items(rt, row, renaming.chains(), lists.chains);
-    same_items(rt, row, renaming.names(), lists.names);
-    same_items(rt, row, renaming.polygons(), lists.polygons);
-    same_items(rt, row, renaming.lands(), lists.lands);
-    same_items(rt, row, renaming.nodes(), lists.nodes);
-    same_items(rt, row, renaming.turned(), lists.turned);
+fn has_lists(rt: &impl Host, row: &str, renaming: &Renaming, lists: &Lists<'_>) {
+    same(rt, row, &Lists::of(renaming), lists);
 }
 
 /// The renaming of these lists.
@@ -37,16 +23,6 @@ fn renaming(rt: &impl Host, lists: &Lists<'_>) -> Renaming {
         Vec::from_slice(rt.alloc(), lists.turned).expect(rt, "there is memory"),
     )
 }
-
-/// The renaming of no numbers.
-const NOTHING: Lists<'static> = Lists {
-    chains: &[],
-    names: &[],
-    polygons: &[],
-    lands: &[],
-    nodes: &[],
-    turned: &[],
-};
 
 /// The renaming of a county with one chain onto the same county seen from its other end, with other numbers.
 const THERE: Lists<'static> = Lists {
@@ -166,22 +142,6 @@ fn renamings_go_on(rt: HostRuntime) {
     }
 }
 
-/// From Main St to Main St from its other end.
-const TURN: Lists<'static> = Lists {
-    chains: &[(500, 77)],
-    nodes: &[(11, 5), (12, 6)],
-    turned: &[500],
-    ..NOTHING
-};
-
-/// From Main St from its other end to the canonical text.
-const ONTO_THE_TEXT: Lists<'static> = Lists {
-    chains: &[(77, 1)],
-    nodes: &[(5, 1), (6, 2)],
-    turned: &[77],
-    ..NOTHING
-};
-
 /// From Main St to Main St.
 const SAME: Lists<'static> = Lists {
     chains: &[(500, 500)],
@@ -258,39 +218,13 @@ fn of_polygons() -> [Carried; 3] {
     ]
 }
 
-/// From Main St to Main St from its other end.
-pub(super) fn turn_of_the_street() -> Lists<'static> {
-    TURN
-}
-
-/// From Main St from its other end to the canonical text.
-pub(super) fn onto_the_text() -> Lists<'static> {
-    ONTO_THE_TEXT
-}
-
-/// Whether the renaming carries the county of one set onto that of another.
-pub(super) fn carries(
-    rt: &impl Host,
-    row: &str,
-    here: &[u8],
-    there: &[u8],
-    renaming: &Renaming,
-) -> bool {
-    let here = county_of(rt, row, here);
-    let there = county_of(rt, row, there);
-    let carried = check(rt.alloc(), &here, &there, renaming).expect(rt, row);
-    drop(here);
-    drop(there);
-    carried
-}
-
 /// Each renaming carries the first set onto the second, or doesn't, as in its row.
 fn are_carried(rt: &impl Host, here: &[&str], there: &[&str], rows: &[Carried]) {
     let here = lines_of(rt, here);
     let there = lines_of(rt, there);
     for (row, lists, wanted) in rows {
-        let found = carries(rt, row, &here, &there, &renaming(rt, lists));
-        same(rt, row, &found, wanted);
+        let found = carries(rt.alloc(), &here, &there, &renaming(rt, lists));
+        same(rt, row, &found, &Some(*wanted));
     }
 }
 

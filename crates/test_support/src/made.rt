@@ -4,7 +4,8 @@
 
 ghost use Rattle.std.specs.Prelude.{◌<◌};
 
-use super::{Host, lines_of};
+use crate::sets::lines_of;
+use std::alloc::{AllocError, Global};
 
 /// How many chains there are.
 const CHAINS: u64 = 2000;
@@ -112,42 +113,59 @@ fn put(line: &mut [u8], last: usize, number: u64) {
 
 /// The lines of a map that is being made, in one spelling or the other.
 #[derive(Drop)]
-pub(super) struct Spelling<'a, R> {
-    rt: &'a R,
+pub struct Spelling {
+    alloc: Global,
     other: bool,
     text: Vec<u8>,
+    /// Whether no allocation has failed so far.
+    is_whole: bool,
 }
 
 /// A line, terminated by LF, into which numbers are put.
-fn line_of(rt: &impl Host, pattern: &str, fields: &[(usize, u64)]) -> Vec<u8> {
-    let mut line = lines_of(rt, &[pattern]);
+fn line_of(alloc: Global, pattern: &str, fields: &[(usize, u64)]) -> Result<Vec<u8>, AllocError> {
+    let mut line = lines_of(alloc, &[pattern])?;
     for (last, number) in fields {
         put(&mut line, *last, *number);
     }
-    line
+    Ok(line)
 }
 
-impl<'a, R: Host> Spelling<'a, R> {
+impl Spelling {
     /// No lines so far.
-    pub(super) fn new(rt: &'a R, other: bool) -> Self {
-        let text = Vec::new(rt.alloc());
-        Spelling { rt, other, text }
+    pub fn new(alloc: Global, other: bool) -> Spelling {
+        Spelling {
+            alloc,
+            other,
+            text: Vec::new(alloc),
+            is_whole: true,
+        }
     }
 
     /// The lines as they are.
-    pub(super) fn into_text(self) -> Vec<u8> {
-        self.text
+    ///
+    /// # Errors
+    ///
+    /// `AllocError` if an allocation has failed.
+    pub fn into_text(self) -> Result<Vec<u8>, AllocError> {
+        if self.is_whole {
+            Ok(self.text)
+        } else {
+            Err(AllocError)
+        }
     }
 
     /// Appends the line of this pattern, with numbers in the columns that end with these.
-    pub(super) fn add(&mut self, pattern: &str, fields: &[(usize, u64)]) {
-        let line = line_of(self.rt, pattern, fields);
-        self.put_line(&line);
+    pub fn add(&mut self, pattern: &str, fields: &[(usize, u64)]) {
+        let line = line_of(self.alloc, pattern, fields);
+        self.put_line(line);
     }
 
-    fn put_line(&mut self, line: &[u8]) {
-        let answer = self.text.extend_from_slice(line);
-        answer.expect(self.rt, "there is memory");
+    fn put_line(&mut self, line: Result<Vec<u8>, AllocError>) {
+        let is_put = match line {
+            Ok(line) => self.text.extend_from_slice(&line).is_ok(),
+            Err(_) => false,
+        };
+        self.is_whole = self.is_whole && is_put;
     }
 }
 
@@ -160,10 +178,42 @@ const TURNED: &str = "12006{125}0201{56}+000000000+00000000+000000000+00000000";
 const SHAPE: &str =
     "22006{13}+000000000+00000000+000000000+00000000+000000000+00000000+000000000+00000000+000000000+00000000+000000000+00000000+000000000+00000000+000000000+00000000+000000000+00000000+000000000+00000000";
 
+/// Puts points of a chain after the first `first`, at most ten, into a line, in the direction of this spelling.
+fn put_points(line: &mut [u8], other: bool, chain: u64, first: u64)
+    requires { (chain < 5000) × (first < 30) }
+{
+    let inner = inner(chain);
+    for place in 0..10u64 {
+        let seen = first + place + 1;
+        if seen <= inner {
+            let point = if is_turned(other, chain) {
+                point(chain, inner + 1 - seen)
+            } else {
+                point(chain, seen)
+            };
+            put(line, 28 + 19 * place as usize, point.0);
+            put(line, 37 + 19 * place as usize, point.1);
+        }
+    }
+}
+
+/// Puts names of a chain after the first `first`, at most five, into a line.
+fn put_names(line: &mut [u8], other: bool, chain: u64, first: u64)
+    requires { (chain < 5000) × (first < 30) }
+{
+    for place in 0..5u64 {
+        if first + place < names(chain) {
+            let name = 1 + chance(13 * chain + first + place, 450);
+            let feat = number(other, name, 99_999_999);
+            put(line, 26 + 8 * place as usize, feat);
+        }
+    }
+}
+
 /// A line of record type I.
 const LINK: &str = "I200601001{30}00000{10}00000{67}";
 
-impl<R: Host> Spelling<'_, R> {
+impl Spelling {
     /// Appends the ends of a chain.
     fn add_ends(&mut self, chain: u64)
         requires { chain < 5000 }
@@ -191,21 +241,11 @@ impl<R: Host> Spelling<'_, R> {
         requires { (chain < 5000) × (first < 30) }
     {
         let fields = [(15, tlid(self.other, chain)), (18, first + 3)];
-        let mut line = line_of(self.rt, SHAPE, &fields);
-        let inner = inner(chain);
-        for place in 0..10u64 {
-            let seen = first + place + 1;
-            if seen <= inner {
-                let point = if is_turned(self.other, chain) {
-                    point(chain, inner + 1 - seen)
-                } else {
-                    point(chain, seen)
-                };
-                put(&mut line, 28 + 19 * place as usize, point.0);
-                put(&mut line, 37 + 19 * place as usize, point.1);
-            }
+        let mut line = line_of(self.alloc, SHAPE, &fields);
+        if let Ok(line) = &mut line {
+            put_points(line, self.other, chain, first);
         }
-        self.put_line(&line);
+        self.put_line(line);
     }
 
     /// Appends names of a chain after the first `first`, at most five.
@@ -213,15 +253,11 @@ impl<R: Host> Spelling<'_, R> {
         requires { (chain < 5000) × (first < 30) }
     {
         let fields = [(15, tlid(self.other, chain)), (18, first + 1)];
-        let mut line = line_of(self.rt, "42006{53}", &fields);
-        for place in 0..5u64 {
-            if first + place < names(chain) {
-                let name = 1 + chance(13 * chain + first + place, 450);
-                let feat = number(self.other, name, 99_999_999);
-                put(&mut line, 26 + 8 * place as usize, feat);
-            }
+        let mut line = line_of(self.alloc, "42006{53}", &fields);
+        if let Ok(line) = &mut line {
+            put_names(line, self.other, chain, first);
         }
-        self.put_line(&line);
+        self.put_line(line);
     }
 
     /// Appends the nodes and the polygons of a chain.
@@ -313,8 +349,12 @@ impl<R: Host> Spelling<'_, R> {
 }
 
 /// The map in one spelling or the other.
-pub(super) fn made(rt: &impl Host, other: bool) -> Vec<u8> {
-    let mut map = Spelling::new(rt, other);
+///
+/// # Errors
+///
+/// `AllocError` if an allocation failed.
+pub fn made(alloc: Global, other: bool) -> Result<Vec<u8>, AllocError> {
+    let mut map = Spelling::new(alloc, other);
     for n in 0..CHAINS {
         map.add_chain(if other { CHAINS - n } else { n + 1 });
     }

@@ -3,10 +3,10 @@
 ghost use Rattle.std.specs.Prelude.{◌<◌};
 
 use super::comparing::{same, same_items};
-use super::devices::{kinds, reader};
 use super::{Host, lines_of};
 use std::cell::Cell;
 use std::io::ErrorKind;
+use test_support::devices::{kinds, reader};
 use test_support::sets::spelled;
 use test_support::worked_sets::{street, street_respelt};
 use tl_load::{Counted, LoadFault, Loader, SlowSource, Source};

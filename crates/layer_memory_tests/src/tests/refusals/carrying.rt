@@ -1,17 +1,20 @@
 //! Renamings and shapes, with growths refused as requested.
 
 use super::super::{Host, county_of};
-use super::{Run, ended, refuse};
-use test_support::sets::Set;
-use tigercanon::normalise_with_renaming;
+use super::ended;
+use test_support::growths::{Run, refuse};
+use test_support::sets::{Set, admitted_of};
 use tl_cert::Renaming;
 use tl_layout::Point;
+use tl_number::canonise;
 use tl_shape::Shape;
 
 /// The renaming of the set onto its text.
 fn renaming_of(rt: &impl Host, set: &Set<'_>) -> Renaming {
-    let reported = normalise_with_renaming(rt.alloc(), &[set.bytes]).expect(rt, set.row);
-    reported.1
+    let admitted = admitted_of(rt.alloc(), set.bytes).expect(rt, set.row);
+    let (county, renaming) = canonise(rt.alloc(), admitted).expect(rt, set.row);
+    drop(county);
+    renaming
 }
 
 /// The run that checks the renaming that carries the set onto its text.
@@ -19,7 +22,7 @@ pub(super) fn check_renaming(rt: &impl Host, set: &Set<'_>, asked: usize) -> Run
     let here = county_of(rt, set.row, set.bytes);
     let there = county_of(rt, set.row, set.text);
     let renaming = renaming_of(rt, set);
-    refuse(rt, asked);
+    refuse(rt.alloc(), asked);
     let run = ended(rt, tl_cert::check(rt.alloc(), &here, &there, &renaming));
     drop(here);
     drop(there);
@@ -31,7 +34,7 @@ pub(super) fn check_masked(rt: &impl Host, set: &Set<'_>, asked: usize) -> Run {
     let here = county_of(rt, set.row, set.bytes);
     let there = county_of(rt, set.row, set.text);
     let renaming = renaming_of(rt, set);
-    refuse(rt, asked);
+    refuse(rt.alloc(), asked);
     let outcome = tl_cert::check_masked(rt.alloc(), &here, &there, &renaming, set.mask);
     let run = ended(rt, outcome);
     drop(here);
@@ -41,20 +44,20 @@ pub(super) fn check_masked(rt: &impl Host, set: &Set<'_>, asked: usize) -> Run {
 
 pub(super) fn inverse(rt: &impl Host, set: &Set<'_>, asked: usize) -> Run {
     let renaming = renaming_of(rt, set);
-    refuse(rt, asked);
+    refuse(rt.alloc(), asked);
     ended(rt, renaming.inverse())
 }
 
 pub(super) fn then(rt: &impl Host, set: &Set<'_>, asked: usize) -> Run {
     let renaming = renaming_of(rt, set);
     let back = renaming.inverse().expect(rt, set.row);
-    refuse(rt, asked);
+    refuse(rt.alloc(), asked);
     ended(rt, renaming.then(&back))
 }
 
 /// A shape with thirty inner points, whatever the set is.
 pub(super) fn new_shape(rt: &impl Host, _set: &Set<'_>, asked: usize) -> Run {
     let point = Point::new(-86468669, 32424914);
-    refuse(rt, asked);
+    refuse(rt.alloc(), asked);
     ended(rt, Shape::new(rt.alloc(), point, &[point; 30], point))
 }

@@ -1,24 +1,11 @@
 //! A text to sinks that take a few bytes at a time, and fail.
 
 use super::comparing::{same, same_items};
-use super::devices::{failing_writer, kinds, writer};
 use super::{Host, lines_of};
-use std::fmt::Debug;
 use std::io::ErrorKind;
+use test_support::devices::{failing_writer, kinds, writer};
 use test_support::worked_sets::street_text;
 use tl_write::{CountedOut, Sink, SlowSink, WriteFault, write_bytes};
-
-/// The sink took the whole text.
-pub(super) fn took_all<E: PartialEq + Debug + Drop>(
-    rt: &impl Host,
-    row: &str,
-    sink: &SlowSink<'_>,
-    answer: &Result<u64, E>,
-    text: &[u8],
-) {
-    same(rt, row, answer, &Ok(text.len() as u64));
-    same_items(rt, row, sink.held(), text);
-}
 
 /// Writes the text to a sink of this capacity, which takes at most `most` bytes a write. The result and the content of the sink are
 /// right.

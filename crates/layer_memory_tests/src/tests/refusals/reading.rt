@@ -1,13 +1,10 @@
 //! Loaders with growths refused as requested.
 
-ghost use Rattle.tl_county.specs.Limits.{HoldsWithinLimits};
-
 use super::super::Host;
 use super::super::comparing::same;
-use super::{Run, answered, ended, has_refused, refuse};
-use test_support::sets::{Set, records_of};
-use tigercanon::Fault;
-use tl_layout::Tables;
+use super::{answered, ended};
+use test_support::growths::{Run, has_refused, refuse};
+use test_support::sets::Set;
 use tl_load::{LoadFault, Loader, SlowSource, Source};
 
 /// After a fault, a loader returns it when asked to read a source, and reads nothing.
@@ -43,10 +40,10 @@ fn finished(rt: &impl Host, loader: Loader, so_far: Result<(), LoadFault>) -> Ru
     match so_far {
         Ok(()) => ended(rt, loader.finish()),
         Err(fault) => {
-            let refused = has_refused(rt);
+            let refused = has_refused(rt.alloc());
             stands(rt, &mut loader, fault);
             same(rt, "finish", &loader.finish().err(), &Some(fault));
-            answered::<()>(rt, refused, Err(Fault::Load(fault)))
+            answered::<(), LoadFault>(rt, refused, Err(fault))
         }
     }
 }
@@ -55,7 +52,7 @@ fn finished(rt: &impl Host, loader: Loader, so_far: Result<(), LoadFault>) -> Ru
 pub(super) fn feed(rt: &impl Host, set: &Set<'_>, asked: usize) -> Run {
     let piece = set.bytes.strip_suffix(b"\n").unwrap_or(set.bytes);
     let mut loader = Loader::new(rt.alloc());
-    refuse(rt, asked);
+    refuse(rt.alloc(), asked);
     let so_far = loader.feed(piece);
     finished(rt, loader, so_far)
 }
@@ -64,7 +61,7 @@ pub(super) fn feed(rt: &impl Host, set: &Set<'_>, asked: usize) -> Run {
 pub(super) fn end_part(rt: &impl Host, set: &Set<'_>, asked: usize) -> Run {
     let piece = set.bytes.strip_suffix(b"\n").unwrap_or(set.bytes);
     let mut loader = Loader::new(rt.alloc());
-    refuse(rt, asked);
+    refuse(rt.alloc(), asked);
     let so_far = match loader.feed(piece) {
         Ok(()) => loader.end_part(),
         Err(fault) => Err(fault),
@@ -75,21 +72,7 @@ pub(super) fn end_part(rt: &impl Host, set: &Set<'_>, asked: usize) -> Run {
 pub(super) fn read_part(rt: &impl Host, set: &Set<'_>, asked: usize) -> Run {
     let mut source = SlowSource::new(set.bytes, 100, None);
     let mut loader = Loader::new(rt.alloc());
-    refuse(rt, asked);
+    refuse(rt.alloc(), asked);
     let so_far = loader.read_part(&mut source);
     finished(rt, loader, so_far)
-}
-
-pub(super) fn tables(rt: &impl Host, set: &Set<'_>, asked: usize) -> Run {
-    let records = records_of(rt.alloc(), set.bytes).expect(rt, set.row);
-    refuse(rt, asked);
-    ended(rt, Tables::of(rt.alloc(), records))
-}
-
-/// The records of a set in tables.
-pub(super) fn tables_of(rt: &impl Host, set: &Set<'_>) -> Tables
-    ensures { HoldsWithinLimits result }
-{
-    let records = records_of(rt.alloc(), set.bytes).expect(rt, set.row);
-    Tables::of(rt.alloc(), records).expect(rt, set.row)
 }
