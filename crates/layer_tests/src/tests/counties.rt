@@ -16,15 +16,30 @@ fn has_the_numbers(rt: &impl Host, county: &County) {
     same_items(rt, "polygons", county.polygons(), &polygons);
 }
 
+/// The type of the name with this FEAT, if there is one.
+fn type_of_name(county: &County, feat: u32) -> Option<[u8; 4]> {
+    match county.name(feat) {
+        Some(body) => Some(body.fetype()),
+        None => None,
+    }
+}
+
+/// The WATER of this polygon, if it has a record of type P.
+fn water_of(county: &County, polygon: PolygonKey) -> Option<[u8; 1]> {
+    match county.polygon_body(polygon) {
+        Some(body) => Some(body.water()),
+        None => None,
+    }
+}
+
 /// The county has the names and polygons of its lines, and no others.
 fn has_the_names_and_polygons(rt: &impl Host, county: &County) {
-    let name = county.name(9).expect(rt, "FEAT 9");
-    let found = (name.fetype(), county.name(7).is_some());
-    same(rt, "FEAT 9, FEAT 7", &found, &(*b"Rd  ", false));
-    let body = county.polygon_body((*b"00002", 12));
-    let other = county.polygon_body((*b"00001", 12));
-    let found = (body.expect(rt, "the first").water(), other.is_some());
-    same(rt, "polygons 00002 12, 00001 12", &found, &(*b"1", false));
+    let names = [type_of_name(county, 9), type_of_name(county, 7)];
+    same(rt, "FEAT 9, FEAT 7", &names, &[Some(*b"Rd  "), None]);
+    let first = water_of(county, (*b"00002", 12));
+    let polygons = [first, water_of(county, (*b"00001", 12))];
+    let row = "polygons 00002 12, 00001 12";
+    same(rt, row, &polygons, &[Some(*b"1"), None]);
 }
 
 /// The county has the chain of its lines.

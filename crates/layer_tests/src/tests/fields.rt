@@ -7,64 +7,95 @@ use tl_layout::{
     Body1, Body5, Body7, Point, Ranges, Rec1, Rec2, Rec4, Rec6, Rec8, RecI, RecP, Record,
 };
 
+/// The fields one after another, each followed by a bar.
+fn joined(rt: &impl Host, fields: &[&[u8]]) -> Vec<u8> {
+    let mut text = Vec::new(rt.alloc());
+    for field in fields {
+        text.extend_from_slice(field).expect(rt, "there is memory");
+        text.push(b'|').expect(rt, "there is memory");
+    }
+    text
+}
+
+/// The fields, one after another, are those of this line.
+fn are(rt: &impl Host, row: &str, fields: &[&[u8]], wanted: &[u8]) {
+    let found = joined(rt, fields);
+    same_items(rt, row, &found, wanted);
+}
+
 /// Checks the kind of a chain, and the name of its feature.
 fn reports_feature(rt: &impl Host, body: &Body1) {
-    let found = (
-        (body.side1(), body.source(), body.cfcc()),
-        (body.fedirp(), body.fename(), body.fetype(), body.fedirs()),
-    );
-    let wanted = (
-        (*b"1", *b"A", *b"A41"),
-        (*b"N ", *b"Main                          ", *b"St  ", *b"SW"),
-    );
-    let row = "SIDE1, SOURCE, CFCC; FEDIRP, FENAME, FETYPE, FEDIRS";
-    same(rt, row, &found, &wanted);
-    let again = Body1::of(&body.fields());
-    same(rt, "the content of its fields", &again, body);
+    let fields = [
+        &body.side1()[..],
+        &body.source()[..],
+        &body.fedirp()[..],
+        &body.fename()[..],
+        &body.fetype()[..],
+        &body.fedirs()[..],
+        &body.cfcc()[..],
+    ];
+    let wanted = b"1|A|N |Main                          |St  |SW|A41|";
+    are(rt, "SIDE1 to CFCC", &fields, wanted);
 }
 
 /// Checks the native areas beside a chain, the reserved fields, and the states and counties with their parts.
 fn reports_entities(rt: &impl Host, body: &Body1) {
-    let found = [body.aianhhfpl(), body.aianhhfpr()];
-    same(rt, "AIANHHFPL, ..R", &found, &[*b"70001", *b"70002"]);
-    let found = [body.aihhtlil(), body.aihhtlir()];
-    same(rt, "AIHHTLIL, ..R", &found, &[*b"L", *b"R"]);
-    let found = [body.census1(), body.census2()];
-    same(rt, "CENSUS1, 2", &found, &[*b"4", *b"5"]);
-    let found = [body.statel(), body.stater()];
-    same(rt, "STATEL, ..R", &found, &[*b"01", *b"28"]);
-    let found = [body.countyl(), body.countyr()];
-    same(rt, "COUNTYL, ..R", &found, &[*b"001", *b"051"]);
+    let fields = [
+        &body.aianhhfpl()[..],
+        &body.aianhhfpr()[..],
+        &body.aihhtlil()[..],
+        &body.aihhtlir()[..],
+        &body.census1()[..],
+        &body.census2()[..],
+        &body.statel()[..],
+        &body.stater()[..],
+        &body.countyl()[..],
+        &body.countyr()[..],
+    ];
+    let wanted = b"70001|70002|L|R|4|5|01|28|001|051|";
+    are(rt, "AIANHHFPL to COUNTYR", &fields, wanted);
 }
 
 /// Checks the subdivisions, places, census tracts and census blocks beside a chain.
 fn reports_blocks(rt: &impl Host, body: &Body1) {
-    let found = [body.cousubl(), body.cousubr()];
-    same(rt, "COUSUBL, ..R", &found, &[*b"90001", *b"90002"]);
-    let found = [body.submcdl(), body.submcdr()];
-    same(rt, "SUBMCDL, ..R", &found, &[*b"80001", *b"80002"]);
-    let found = [body.placel(), body.placer()];
-    same(rt, "PLACEL, ..R", &found, &[*b"60001", *b"60002"]);
-    let found = [body.tractl(), body.tractr()];
-    same(rt, "TRACTL, ..R", &found, &[*b"020200", *b"020300"]);
-    let found = [body.blockl(), body.blockr()];
-    same(rt, "BLOCKL, ..R", &found, &[*b"1001", *b"2002"]);
+    let fields = [
+        &body.cousubl()[..],
+        &body.cousubr()[..],
+        &body.submcdl()[..],
+        &body.submcdr()[..],
+        &body.placel()[..],
+        &body.placer()[..],
+        &body.tractl()[..],
+        &body.tractr()[..],
+        &body.blockl()[..],
+        &body.blockr()[..],
+    ];
+    let wanted = b"90001|90002|80001|80002|60001|60002|020200|020300|1001|2002|";
+    are(rt, "COUSUBL to BLOCKR", &fields, wanted);
 }
 
 /// Checks address ranges and ZIP codes.
 fn reports_ranges(rt: &impl Host, ranges: &Ranges) {
-    let found = [ranges.fraddl(), ranges.toaddl()];
-    let wanted = [*b"        101", *b"        199"];
-    same(rt, "FRADDL, TOADDL", &found, &wanted);
-    let found = [ranges.fraddr(), ranges.toaddr()];
-    let wanted = [*b"        100", *b"        198"];
-    same(rt, "FRADDR, TOADDR", &found, &wanted);
-    let found = [ranges.friaddl(), ranges.toiaddl()];
-    same(rt, "FRIADDL, TOIADDL", &found, &[*b"6", *b"7"]);
-    let found = [ranges.friaddr(), ranges.toiaddr()];
-    same(rt, "FRIADDR, TOIADDR", &found, &[*b"8", *b"9"]);
-    let found = [ranges.zipl(), ranges.zipr()];
-    same(rt, "ZIPL, ZIPR", &found, &[*b"36003", *b"36006"]);
+    let fields = [
+        &ranges.fraddl()[..],
+        &ranges.toaddl()[..],
+        &ranges.fraddr()[..],
+        &ranges.toaddr()[..],
+        &ranges.friaddl()[..],
+        &ranges.toiaddl()[..],
+        &ranges.friaddr()[..],
+        &ranges.toiaddr()[..],
+        &ranges.zipl()[..],
+        &ranges.zipr()[..],
+    ];
+    let wanted = b"        101|        199|        100|        198|6|7|8|9|36003|36006|";
+    are(rt, "FRADDL to ZIPR", &fields, wanted);
+}
+
+/// Checks that the content of a chain is that of its fields.
+fn is_of_its_fields(rt: &impl Host, body: &Body1) {
+    let again = Body1::of(&body.fields());
+    same(rt, "the content of its fields", &again, body);
 }
 
 /// Checks the number, the ends and the content of a chain.
@@ -73,6 +104,7 @@ fn reports_1(rt: &impl Host, record: &Rec1) {
     let start = Point::new(-86468669, 32424914);
     let end = Point::new(-86468545, 32424948);
     same(rt, "TLID, start, end", &found, &(500, start, end));
+    is_of_its_fields(rt, record.body());
     reports_feature(rt, record.body());
     reports_entities(rt, record.body());
     reports_blocks(rt, record.body());
@@ -94,16 +126,15 @@ fn reports_4(rt: &impl Host, record: &Rec4) {
 
 /// Checks a name.
 fn reports_5(rt: &impl Host, body: &Body5) {
-    let found = (
-        body.file(),
-        (body.fedirp(), body.fename(), body.fetype(), body.fedirs()),
-    );
-    let wanted = (
-        *b"01001",
-        (*b"N ", *b"Old Mill                      ", *b"Rd  ", *b"SW"),
-    );
-    let row = "FILE, FEDIRP, FENAME, FETYPE, FEDIRS";
-    same(rt, row, &found, &wanted);
+    let fields = [
+        &body.file()[..],
+        &body.fedirp()[..],
+        &body.fename()[..],
+        &body.fetype()[..],
+        &body.fedirs()[..],
+    ];
+    let wanted = b"01001|N |Old Mill                      |Rd  |SW|";
+    are(rt, "FILE to FEDIRS", &fields, wanted);
 }
 
 /// Checks further address ranges of a chain.
@@ -114,54 +145,68 @@ fn reports_6(rt: &impl Host, record: &Rec6) {
 
 /// Checks the content of a landmark.
 fn reports_7(rt: &impl Host, body: &Body7) {
-    let found = (body.file(), body.source(), body.cfcc());
-    let wanted = (*b"01001", *b"A", *b"D43");
-    same(rt, "FILE, SOURCE, CFCC", &found, &wanted);
-    let found = (body.laname(), body.point());
     let point = Point::new(-86468669, 32424914);
-    let wanted = (*b"Barn                          ", Some(point));
-    same(rt, "LANAME, point", &found, &wanted);
+    same(rt, "point", &body.point(), &Some(point));
+    let fields = [
+        &body.file()[..],
+        &body.source()[..],
+        &body.cfcc()[..],
+        &body.laname()[..],
+    ];
+    let wanted = b"01001|A|D43|Barn                          |";
+    are(rt, "FILE to LANAME", &fields, wanted);
 }
 
 /// Checks the polygon of a landmark.
 fn reports_8(rt: &impl Host, record: &Rec8) {
-    let found = (record.file(), record.cenid());
-    same(rt, "FILE, CENID", &found, &(*b"01001", *b"00001"));
-    let found = (record.polyid(), record.land());
-    same(rt, "POLYID, LAND", &found, &(12, 30));
+    let found = (
+        (record.file(), record.cenid()),
+        (record.polyid(), record.land()),
+    );
+    let wanted = ((*b"01001", *b"00001"), (12, 30));
+    same(rt, "FILE, CENID; POLYID, LAND", &found, &wanted);
 }
 
 /// Checks the nodes and the polygons of a chain.
 fn reports_between(rt: &impl Host, record: &RecI) {
-    let found = [record.start_node(), record.end_node()];
-    same(rt, "TZIDS, TZIDE", &found, &[Some(11), Some(12)]);
-    let found = (record.left().cenid(), record.left().polyid());
-    same(rt, "CENIDL, POLYIDL", &found, &(*b"00001", Some(13)));
-    let found = (record.right().cenid(), record.right().polyid());
-    same(rt, "CENIDR, POLYIDR", &found, &(*b"00002", Some(14)));
+    let found = [
+        record.start_node(),
+        record.end_node(),
+        record.left().polyid(),
+        record.right().polyid(),
+    ];
+    let wanted = [Some(11), Some(12), Some(13), Some(14)];
+    same(rt, "TZIDS, TZIDE, POLYIDL, POLYIDR", &found, &wanted);
+    let found = [record.left().cenid(), record.right().cenid()];
+    same(rt, "CENIDL, CENIDR", &found, &[*b"00001", *b"00002"]);
 }
 
 /// Checks the other fields of a type I record.
 fn reports_i(rt: &impl Host, record: &RecI) {
     reports_between(rt, record);
     let body = record.body();
-    let found = (body.file(), body.source(), body.ftseg());
-    let wanted = (*b"01001", *b"Bureau    ", *b"                9");
-    same(rt, "FILE, SOURCE, FTSEG", &found, &wanted);
-    let found = [body.rs_i1(), body.rs_i2(), body.rs_i3()];
-    let wanted = [*b"         6", *b"         7", *b"         8"];
-    same(rt, "RS_I1 to 3", &found, &wanted);
+    let fields = [
+        &body.file()[..],
+        &body.source()[..],
+        &body.ftseg()[..],
+        &body.rs_i1()[..],
+        &body.rs_i2()[..],
+        &body.rs_i3()[..],
+    ];
+    let wanted = b"01001|Bureau    |                9|         6|         7|         8|";
+    are(rt, "FILE to RS_I3", &fields, wanted);
 }
 
 /// Checks a polygon.
 fn reports_p(rt: &impl Host, record: &RecP) {
     let body = record.body();
-    let found = (record.cenid(), record.polyid());
-    same(rt, "CENID, POLYID", &found, &(*b"00001", 12));
-    let found = (body.file(), body.water(), body.point());
     let point = Point::new(-86468669, 32424914);
-    let wanted = (*b"01001", *b"1", Some(point));
-    same(rt, "FILE, WATER, point", &found, &wanted);
+    let found = (
+        (record.cenid(), record.polyid()),
+        (body.file(), body.water(), body.point()),
+    );
+    let wanted = ((*b"00001", 12), (*b"01001", *b"1", Some(point)));
+    same(rt, "CENID, POLYID; FILE, WATER, point", &found, &wanted);
 }
 
 /// Checks the fields of one record.

@@ -21,18 +21,21 @@ const BYTES: [(u8, bool); 9] = [
 /// The longest text.
 const MOST: usize = 100;
 
+/// Puts a byte into a text.
+fn put_byte(text: &mut [u8; MOST], place: usize, byte: u8) {
+    if let Some(there) = text.get_mut(place) {
+        *there = byte;
+    }
+}
+
 /// In a text of `len` letters with `byte` at `place`, the first bad byte is at `place` if `byte` is forbidden, and otherwise at
 /// `other`.
 fn is_found(rt: &impl Host, len: usize, place: usize, byte: (u8, bool), other: Option<usize>) {
     let mut text = [b'A'; MOST];
-    assert!(rt; len <= MOST && place < len, "the place is in the text");
-    if let Some(later) = other {
-        assert!(rt; place < later && later < len, "it is behind the other");
-        text[later] = 0x7f;
-    }
-    text[place] = byte.0;
+    put_byte(&mut text, other.unwrap_or(MOST), 0x7f);
+    put_byte(&mut text, place, byte.0);
     let wanted = if byte.1 { Some(place) } else { other };
-    let found = first_bad(&text[..len]);
+    let found = first_bad(text.get(..len).unwrap_or_default());
     let row = "the first bad byte";
     same(rt, row, &(byte, place, found), &(byte, place, wanted));
 }

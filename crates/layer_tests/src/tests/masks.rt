@@ -22,12 +22,10 @@ const NO_RESERVED: &[&str] = &[
 fn become_these(rt: &impl Host, row: &str, mask: Mask, wanted: &[&str]) {
     let plain = records_of(rt.alloc(), &lines_of(rt, plain())).expect(rt, row);
     let masked = records_of(rt.alloc(), &lines_of(rt, wanted)).expect(rt, row);
-    let found = (masked.len(), are_masked(&plain, &masked, mask));
-    drop(plain);
-    drop(masked);
-    same(rt, row, &found, &(3, true));
-    let is_none = mask.is_none();
-    same(rt, row, &is_none, &(!mask.sources && !mask.reserved));
+    let are_masked = are_masked(&plain, &masked, mask);
+    let found = (masked.len(), are_masked, mask.is_none());
+    let is_none = !mask.sources && !mask.reserved;
+    same(rt, row, &found, &(3, true, is_none));
 }
 
 #[test]

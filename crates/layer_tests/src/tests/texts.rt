@@ -1,6 +1,6 @@
 //! What `Display` shows of each fault of a layer, and `Debug` where it isn't derived.
 
-use super::comparing::same_items;
+use super::comparing::{same, same_items};
 use super::{Host, lines_of};
 use std::fmt::{Debug, Display};
 use test_support::sets::records_of;
@@ -10,7 +10,7 @@ use tl_county::LinkFault::{
     PolygonTwice, PolygonUnknown, SequenceBroken,
 };
 use tl_county::{LinkedType, SequencedType};
-use tl_layout::{DeviceFault, FieldFault, FieldKind, NumberOrNone, Record};
+use tl_layout::{Body1, DeviceFault, FieldFault, FieldKind, NumberOrNone, Record};
 use tl_load::LineFault;
 use tl_load::LoadFault::{
     self, BadByte, BadNumber, BadPoint, GapInRecord, LineTooLong, TooManyRecords, UnknownType,
@@ -187,20 +187,23 @@ fn values_are_shown_as_a_derive_would_show_them(rt: HostRuntime) {
 }
 
 /// The content of a type 1 record is kept as its columns, and is shown as its fields are.
+fn is_shown_by_its_fields(rt: &impl Host, body: &Body1) {
+    let fields = body.fields();
+    let text = format!(in rt.alloc(); "{fields:?}").expect(rt, "the fields");
+    let begins = text.as_bytes().starts_with(b"Body1Fields { side1: ");
+    let shown = format!(in rt.alloc(); "{body:?}").expect(rt, "the content");
+    let found = (begins, shown.as_str());
+    same(rt, "a content", &found, &(true, text.as_str()));
+}
+
 #[test]
 fn a_content_of_type_1_is_shown_by_its_fields(rt: HostRuntime) {
     let set = lines_of(&rt, street());
     let records = records_of(rt.alloc(), &set).expect(&rt, "the street");
-    let Some(Record::One(record)) = records.first() else {
-        assert!(&rt; false, "the first record is of type 1");
-        return;
-    };
-    let fields = record.body().fields();
-    let text = format!(in rt.alloc(); "{fields:?}").expect(&rt, "the fields");
-    let beginning = b"Body1Fields { side1: ";
-    let found = text.as_bytes().get(..beginning.len()).unwrap_or_default();
-    same_items(&rt, "the first field", found, beginning);
-    shows(&rt, record.body(), &text);
+    match records.first() {
+        Some(Record::One(record)) => is_shown_by_its_fields(&rt, record.body()),
+        _ => assert!(&rt; false, "the first record is of type 1"),
+    }
 }
 
 #[test]
