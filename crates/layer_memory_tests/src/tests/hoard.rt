@@ -69,15 +69,40 @@ fn is_record_turned_back(record: &Record) -> bool {
     }
 }
 
+/// The records of these lines.
+fn records_in(rt: &impl Host, lines: &[&str]) -> Vec<Record> {
+    let set = lines_of(rt, lines);
+    records_of(rt.alloc(), &set).expect(rt, "the lines are records")
+}
+
+/// Whether each record is read again as it was written.
+fn are_read_again(records: &[Record]) -> bool {
+    for record in records {
+        if !is_record_read_again(record) {
+            return false;
+        }
+    }
+    true
+}
+
+/// Whether what can be turned of each record is turned back.
+fn are_turned_back(records: &[Record]) -> bool {
+    for record in records {
+        if !is_record_turned_back(record) {
+            return false;
+        }
+    }
+    true
+}
+
 /// Records of each type are read, written and turned.
 #[test]
 fn records_are_read_and_written(rt: HostRuntime) {
-    let set = lines_of(&rt, record_of_each_type());
-    let records = records_of(rt.alloc(), &set).expect(&rt, "a record of each type");
+    let records = records_in(&rt, record_of_each_type());
     let pieces = all_memory(rt.alloc()).expect(&rt, "there is memory");
     let is_taken = is_all_taken(rt.alloc());
-    let are_read = records.iter().all(is_record_read_again);
-    let are_turned = records.iter().all(is_record_turned_back);
+    let are_read = are_read_again(&records);
+    let are_turned = are_turned_back(&records);
     let bad = first_bad(b"I200601001\x7f");
     drop(pieces);
     let found = (records.len(), is_taken, are_read, are_turned, bad);
@@ -87,10 +112,8 @@ fn records_are_read_and_written(rt: HostRuntime) {
 /// Contents are blanked.
 #[test]
 fn contents_are_blanked(rt: HostRuntime) {
-    let set = lines_of(&rt, plain());
-    let records = records_of(rt.alloc(), &set).expect(&rt, "plain");
-    let set = lines_of(&rt, without_either());
-    let others = records_of(rt.alloc(), &set).expect(&rt, "without either");
+    let records = records_in(&rt, plain());
+    let others = records_in(&rt, without_either());
     let pieces = all_memory(rt.alloc()).expect(&rt, "there is memory");
     let is_taken = is_all_taken(rt.alloc());
     let are_masked = are_masked(&records, &others, BOTH);

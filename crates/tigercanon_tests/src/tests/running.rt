@@ -76,13 +76,13 @@ fn ends_by(rt: &impl Host, row: &Row, kind: ErrorKind) {
     let mut err = failing_writer(rt.alloc(), 7, row.capacity[1], kind);
     let mask = Mask::NONE;
     let status = run(rt.alloc(), job, first, second, &mut out, &mut err, mask);
-    same_items(rt, name, &err.held, row.reported.as_bytes());
-    same(rt, name, &status, &row.status);
     let lines = lines_of(rt, row.lines);
     let written = lines.get(..row.written).unwrap_or(&lines);
-    same_items(rt, name, &out.held, written);
     let reads = row.reads.unwrap_or(count.get());
-    same(rt, name, &count.get(), &reads);
+    let found = (status, count.get(), err.held.as_slice());
+    let wanted = (row.status, reads, row.reported.as_bytes());
+    same(rt, name, &found, &wanted);
+    same_items(rt, name, &out.held, written);
 }
 
 /// The job ends as in its row, whatever the kind of failure.
