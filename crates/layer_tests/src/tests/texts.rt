@@ -11,11 +11,8 @@ use tl_county::LinkFault::{
 };
 use tl_county::{LinkedType, SequencedType};
 use tl_layout::{Body1, DeviceFault, FieldFault, FieldKind, NumberOrNone, Record};
-use tl_load::LineFault;
-use tl_load::LoadFault::{
-    self, BadByte, BadNumber, BadPoint, GapInRecord, LineTooLong, TooManyRecords, UnknownType,
-};
-use tl_profile::ProfileFault::{self, PolygonWithoutChain, TooSymmetric};
+use tl_load::{LineFault, LoadFault};
+use tl_profile::ProfileFault;
 use tl_write::WriteFault;
 
 /// The message of the fault is exactly this.
@@ -62,20 +59,6 @@ fn faults_of_a_line_say_what_is_wrong(rt: HostRuntime) {
     for (fault, text) in of_a_line() {
         says(&rt, &fault, text);
     }
-}
-
-/// Faulty lines, and a set of too many lines.
-fn of_loading() -> [(LoadFault, &'static str); 7] {
-    let (part, line, column) = (2, 34, 156);
-    [
-        (UnknownType { part, line }, "1 UnknownType 2 34"),
-        (LineTooLong { part, line }, "2 LineTooLong 2 34"),
-        (BadByte { part, line, column }, "3 BadByte 2 34 156"),
-        (BadNumber { part, line, column }, "4 BadNumber 2 34 156"),
-        (BadPoint { part, line, column }, "5 BadPoint 2 34 156"),
-        (GapInRecord { part, line, column }, "6 GapInRecord 2 34 156"),
-        (TooManyRecords { rtype: b'8' }, "7 TooManyRecords 8"),
-    ]
 }
 
 /// Broken rules, and how `Debug` prints them, like a derived `Debug`.
@@ -137,23 +120,6 @@ fn of_linking() -> [(LinkFault, &'static str, &'static str); 10] {
     ]
 }
 
-/// Broken clauses of the profile.
-fn of_the_profile() -> [(ProfileFault, &'static str); 2] {
-    let (cenid, polyid) = (*b"00012", 9);
-    let without_chain = PolygonWithoutChain { cenid, polyid };
-    [
-        (without_chain, "23 PolygonWithoutChain 3030303132 9"),
-        (TooSymmetric, "24 TooSymmetric"),
-    ]
-}
-
-#[test]
-fn faulty_lines_are_reported(rt: HostRuntime) {
-    for (fault, text) in of_loading() {
-        is_refused(&rt, &fault, text);
-    }
-}
-
 #[test]
 fn broken_rules_are_reported(rt: HostRuntime) {
     for (fault, text, shown) in of_linking() {
@@ -162,15 +128,11 @@ fn broken_rules_are_reported(rt: HostRuntime) {
     }
 }
 
-#[test]
-fn broken_clauses_are_reported(rt: HostRuntime) {
-    for (fault, text) in of_the_profile() {
-        is_refused(&rt, &fault, text);
-    }
-}
-
+/// The faults that no small set has. `layer_memory_tests` compares the lines of the others.
 #[test]
 fn failed_devices_and_want_of_memory_are_reported(rt: HostRuntime) {
+    let many = LoadFault::TooManyRecords { rtype: b'8' };
+    is_refused(&rt, &many, "7 TooManyRecords 8");
     is_refused(&rt, &LoadFault::Device, "8 Device");
     is_refused(&rt, &WriteFault { written: 229 }, "10 WriteFault 229");
     is_refused(&rt, &LoadFault::Memory, "9 Memory");
