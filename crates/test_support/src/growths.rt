@@ -35,9 +35,6 @@ pub fn has_refused(alloc: Global) -> bool {
 
 /// A run of a call: its whole result as a text, or nothing if it was out of memory; the place where a report of out of memory is
 /// counted; and whether a growth was refused. The place is 3 unless a test counts reports by the sets or the layers that they name.
-///
-/// A function that makes one takes a set and the size that is requested to refuse growths. It makes the call's input before growths
-/// are refused, and turns the result into text after refusals end. Where one call alone has no visible result, it makes two.
 #[derive(Drop)]
 pub struct Run {
     answer: Option<String>,
@@ -81,6 +78,15 @@ impl Run {
     }
 }
 
+/// A call, run on a set.
+///
+/// It makes its input before growths are refused, and turns the result into text after refusals end. Where one call alone has no
+/// visible result, it makes two.
+pub trait Call<R> {
+    /// Runs the call, before which a request of this size refuses growths.
+    fn run(&self, rt: &R, set: &Set<'_>, asked: usize) -> Run;
+}
+
 /// What is wrong with the runs of a call on a set.
 #[derive(Debug, Drop)]
 pub enum Wrong {
@@ -96,14 +102,8 @@ pub enum Wrong {
 }
 
 /// The result of a call on a set with ample memory.
-fn ample_answer<R, F: Fn(&R, &Set<'_>, usize) -> Run>(
-    rt: &R,
-    set: &Set<'_>,
-    call: &F,
-) -> Result<String, Wrong>
-    requires { F.IsAlwaysCallable call.now }
-{
-    match call(rt, set, NONE).answer {
+fn ample_answer<R, C: Call<R>>(rt: &R, set: &Set<'_>, call: &C) -> Result<String, Wrong> {
+    match call.run(rt, set, NONE).answer {
         Some(answer) => Ok(answer),
         None => Err(Wrong::Answer(0, None)),
     }
@@ -159,18 +159,16 @@ fn judge_run(
 }
 
 /// Refuses each growth of a call on a set in turn, until a run meets no refusal.
-fn count_growths<R, F: Fn(&R, &Set<'_>, usize) -> Run>(
+fn count_growths<R, C: Call<R>>(
     rt: &R,
     set: &Set<'_>,
     ample: &str,
     first: usize,
-    call: &F,
-) -> Result<Growths, Wrong>
-    requires { F.IsAlwaysCallable call.now }
-{
+    call: &C,
+) -> Result<Growths, Wrong> {
     let mut reported = [0; 4];
     for growth in 1..MANY {
-        let run = call(rt, set, first.saturating_add(growth));
+        let run = call.run(rt, set, first.saturating_add(growth));
         if !judge_run(run, growth, ample, &mut reported)? {
             let count = growth - 1;
             return Ok(Growths { count, reported });
@@ -184,13 +182,7 @@ fn count_growths<R, F: Fn(&R, &Set<'_>, usize) -> Run>(
 /// # Errors
 ///
 /// What is wrong with a run.
-pub fn growths_on<R, F: Fn(&R, &Set<'_>, usize) -> Run>(
-    rt: &R,
-    set: &Set<'_>,
-    call: &F,
-) -> Result<Growths, Wrong>
-    requires { F.IsAlwaysCallable call.now }
-{
+pub fn growths_on<R, C: Call<R>>(rt: &R, set: &Set<'_>, call: &C) -> Result<Growths, Wrong> {
     let ample = ample_answer(rt, set, call)?;
     let found = count_growths(rt, set, &ample, ALONE, call)?;
     let again = count_growths(rt, set, &ample, WITH_LATER_ONES, call)?;
@@ -223,13 +215,11 @@ pub fn on_sets<'a>(what: &'a str, sets: &'a [SetLines]) -> Swept<'a> {
 /// # Errors
 ///
 /// The first set with a wrong run, and what is wrong with it.
-pub fn count_on_sets<R, F: Fn(&R, &Set<'_>, usize) -> Run>(
+pub fn count_on_sets<R, C: Call<R>>(
     rt: &R,
     of: Swept<'_>,
-    call: &F,
-) -> Result<usize, (&'static str, Wrong)>
-    requires { F.IsAlwaysCallable call.now }
-{
+    call: &C,
+) -> Result<usize, (&'static str, Wrong)> {
     let mut count = 0usize;
     for lines in of.sets {
         match growths_on(rt, &lines.under(of.mask), call) {
@@ -245,15 +235,12 @@ pub fn count_on_sets<R, F: Fn(&R, &Set<'_>, usize) -> Run>(
 /// # Errors
 ///
 /// The other result, or out of memory.
-pub fn answer_alike<R, C: Fn(&R, &Set<'_>, usize) -> Run, D: Fn(&R, &Set<'_>, usize) -> Run>(
+pub fn answer_alike<R, C: Call<R>, D: Call<R>>(
     rt: &R,
     set: &Set<'_>,
     one: &C,
     other: &D,
-) -> Result<(), Wrong>
-    requires one { C.IsAlwaysCallable one.now }
-    requires other { D.IsAlwaysCallable other.now }
-{
+) -> Result<(), Wrong> {
     let wanted = ample_answer(rt, set, one)?;
     let found = ample_answer(rt, set, other)?;
     if found.as_str() == wanted.as_str() {

@@ -10,8 +10,8 @@
 //!   that leaves out something. All others are swept under the mask that leaves out everything
 //! - a made map of 2,000 chains (`many.rt`), by all calls
 //!
-//! Each call has a function that runs that call alone. A function that named all calls would take long to prove, and so would each
-//! function above it.
+//! Each call is a type, whose function runs that call alone. A function that named all calls would take long to prove, and so would
+//! each function above it. A function that is passed on by its name is proved three times more, as `Fn`, `FnMut` and `FnOnce`.
 
 mod canonising;
 mod carrying;
@@ -22,12 +22,10 @@ mod under_masks;
 
 use super::Host;
 pub(super) use canonising::text_of_admitted;
-use canonising::{
-    canonise, canonise_in, canonise_in_masked, canonise_masked, records_of, records_of_in,
-};
+use canonising::{Canonise, CanoniseIn, CanoniseInMasked, CanoniseMasked, RecordsOf, RecordsOfIn};
 use std::alloc::AllocError;
 use std::fmt::Debug;
-use test_support::growths::{Run, Swept, answer_alike, count_on_sets, has_refused, on_sets};
+use test_support::growths::{Call, Run, Swept, answer_alike, count_on_sets, has_refused, on_sets};
 use test_support::sets::{Set, SetLines};
 use test_support::worked_sets::worked;
 use tl_county::LinkFault;
@@ -84,25 +82,23 @@ fn answered<T: Debug + Drop, E: Reported>(
 
 /// Refuses each growth of a call on each set, and prints how many there are: if a test fails, the call at fault is the one after the
 /// last printed.
-fn sweep<R: Host, F: Fn(&R, &Set<'_>, usize) -> Run>(rt: &R, name: &str, of: Swept<'_>, call: F)
-    requires { F.IsAlwaysCallable call }
-{
+fn sweep<R: Host, C: Call<R>>(rt: &R, name: &str, of: Swept<'_>, call: &C) {
     let what = of.what;
-    let count = count_on_sets(rt, of, &call).expect(rt, name);
+    let count = count_on_sets(rt, of, call).expect(rt, name);
     println!(rt; "{name}{what}: {count} growths refused").expect(rt, "a line goes out");
 }
 
 /// The renaming onto the text and the records are the same, whether the county is in an arena or not.
 pub(super) fn answer_for_arenas(rt: &impl Host, set: &Set<'_>) {
-    let renaming = answer_alike(rt, set, &canonise, &canonise_in);
+    let renaming = answer_alike(rt, set, &Canonise, &CanoniseIn);
     renaming.expect(rt, set.row);
-    let records = answer_alike(rt, set, &records_of, &records_of_in);
+    let records = answer_alike(rt, set, &RecordsOf, &RecordsOfIn);
     records.expect(rt, set.row);
 }
 
 /// The renaming is the same under a mask too.
 fn answer_alike_under_masks(rt: &impl Host, set: &Set<'_>) {
-    let renaming = answer_alike(rt, set, &canonise_masked, &canonise_in_masked);
+    let renaming = answer_alike(rt, set, &CanoniseMasked, &CanoniseInMasked);
     renaming.expect(rt, set.row);
 }
 
@@ -116,36 +112,36 @@ fn answer_one_renaming(rt: &impl Host, sets: &[SetLines]) {
 
 /// Sweeps the calls of a loader.
 pub(super) fn sweep_reading(rt: &impl Host, of: Swept<'_>) {
-    sweep(rt, "Feed", of, reading::feed);
-    sweep(rt, "EndPart", of, reading::end_part);
-    sweep(rt, "ReadPart", of, reading::read_part);
+    sweep(rt, "Feed", of, &reading::Feed);
+    sweep(rt, "EndPart", of, &reading::EndPart);
+    sweep(rt, "ReadPart", of, &reading::ReadPart);
 }
 
 /// Sweeps the calls that link records.
 pub(super) fn sweep_linking(rt: &impl Host, of: Swept<'_>) {
-    sweep(rt, "Link", of, linking::link);
-    sweep(rt, "LinkIn", of, linking::link_in);
+    sweep(rt, "Link", of, &linking::Link);
+    sweep(rt, "LinkIn", of, &linking::LinkIn);
 }
 
 /// Sweeps the calls that admit a county.
 pub(super) fn sweep_admitting(rt: &impl Host, of: Swept<'_>) {
-    sweep(rt, "Admit", of, linking::admit);
-    sweep(rt, "AdmitIn", of, linking::admit_in);
+    sweep(rt, "Admit", of, &linking::Admit);
+    sweep(rt, "AdmitIn", of, &linking::AdmitIn);
 }
 
 /// Sweeps the calls that reject nothing.
 pub(super) fn sweep_others(rt: &impl Host, of: Swept<'_>) {
-    sweep(rt, "NewShape", of, carrying::new_shape);
-    sweep(rt, "Canonise", of, canonise);
-    sweep(rt, "CanoniseIn", of, canonise_in);
-    sweep(rt, "CanoniseMasked", of, canonise_masked);
-    sweep(rt, "CanoniseInMasked", of, canonise_in_masked);
-    sweep(rt, "RecordsOf", of, records_of);
-    sweep(rt, "RecordsOfIn", of, records_of_in);
-    sweep(rt, "CheckRenaming", of, carrying::check_renaming);
-    sweep(rt, "CheckMasked", of, carrying::check_masked);
-    sweep(rt, "Inverse", of, carrying::inverse);
-    sweep(rt, "Then", of, carrying::then);
+    sweep(rt, "NewShape", of, &carrying::NewShape);
+    sweep(rt, "Canonise", of, &Canonise);
+    sweep(rt, "CanoniseIn", of, &CanoniseIn);
+    sweep(rt, "CanoniseMasked", of, &CanoniseMasked);
+    sweep(rt, "CanoniseInMasked", of, &CanoniseInMasked);
+    sweep(rt, "RecordsOf", of, &RecordsOf);
+    sweep(rt, "RecordsOfIn", of, &RecordsOfIn);
+    sweep(rt, "CheckRenaming", of, &carrying::CheckRenaming);
+    sweep(rt, "CheckMasked", of, &carrying::CheckMasked);
+    sweep(rt, "Inverse", of, &carrying::Inverse);
+    sweep(rt, "Then", of, &carrying::Then);
     answer_one_renaming(rt, of.sets);
 }
 

@@ -5,7 +5,7 @@
 use super::Host;
 use super::comparing::same;
 use super::refusals::{is_memory, whole};
-use test_support::growths::NONE;
+use test_support::growths::{Call, NONE};
 use test_support::hoard::all_memory;
 use test_support::sets::{Set, SetLines};
 use test_support::worked_sets::{street, street_text};
@@ -26,12 +26,16 @@ fn writes_nothing(rt: &impl Host, set: &[u8]) -> bool {
 fn whole_calls_report(rt: &impl Host, set: &Set<'_>) -> [bool; 7] {
     [
         writes_nothing(rt, set.bytes),
-        whole::respell(rt, set, NONE).is_out_of_memory(),
-        whole::normalise(rt, set, NONE).is_out_of_memory(),
-        whole::normalise_with_renaming(rt, set, NONE).is_out_of_memory(),
-        whole::fingerprint(rt, set, NONE).is_out_of_memory(),
-        whole::check(rt, set, NONE).is_out_of_memory(),
-        whole::compare_with_itself(rt, set, NONE).is_out_of_memory(),
+        whole::Respell.run(rt, set, NONE).is_out_of_memory(),
+        whole::Normalise.run(rt, set, NONE).is_out_of_memory(),
+        whole::NormaliseWithRenaming
+            .run(rt, set, NONE)
+            .is_out_of_memory(),
+        whole::Fingerprint.run(rt, set, NONE).is_out_of_memory(),
+        whole::Check.run(rt, set, NONE).is_out_of_memory(),
+        whole::CompareWithItself
+            .run(rt, set, NONE)
+            .is_out_of_memory(),
     ]
 }
 

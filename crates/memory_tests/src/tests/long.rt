@@ -2,7 +2,7 @@
 
 use super::Host;
 use super::comparing::{same, same_items};
-use super::refusals::{canonise, normalise_with_renaming};
+use super::refusals::{Canonise, NormaliseWithRenaming};
 use test_support::growths::answer_alike;
 use test_support::long::{CHAINS, long_street, long_street_text};
 use test_support::sets::{Set, county_of};
@@ -63,6 +63,6 @@ fn a_street_of_very_many_chains_goes_through_the_calls(rt: HostRuntime) {
         text: &text,
         mask: Mask::NONE,
     };
-    let found = answer_alike(&rt, &set, &normalise_with_renaming, &canonise);
+    let found = answer_alike(&rt, &set, &NormaliseWithRenaming, &Canonise);
     found.expect(&rt, "one renaming");
 }

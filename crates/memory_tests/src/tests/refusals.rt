@@ -10,8 +10,8 @@
 //!   that leaves out something. All others are swept under the mask that leaves out everything
 //! - a made map of 2,000 chains (`many.rt`), by all calls
 //!
-//! Each call has a function that runs that call alone. A function that named all calls would take long to prove, and so would each
-//! function above it.
+//! Each call is a type, whose function runs that call alone. A function that named all calls would take long to prove, and so would
+//! each function above it. A function that is passed on by its name is proved three times more, as `Fn`, `FnMut` and `FnOnce`.
 
 mod layers;
 mod linking;
@@ -23,10 +23,10 @@ pub(super) mod whole;
 
 use super::Host;
 use super::comparing::same;
-pub(super) use pieces::canonise;
+pub(super) use pieces::Canonise;
 use std::fmt::Debug;
 use test_support::growths::{
-    Run, Swept, answer_alike, count_on_sets, growths_on, has_refused, on_sets,
+    Call, Run, Swept, answer_alike, count_on_sets, growths_on, has_refused, on_sets,
 };
 use test_support::sets::{Set, SetLines};
 use test_support::worked_sets::worked;
@@ -34,7 +34,7 @@ use tigercanon::{Fault, check};
 use tl_county::LinkFault;
 use tl_load::LoadFault;
 use tl_profile::ProfileFault;
-pub(super) use whole::normalise_with_renaming;
+pub(super) use whole::NormaliseWithRenaming;
 
 /// Whether the fault is out of memory.
 pub(super) fn is_memory(fault: Fault) -> bool {
@@ -67,26 +67,17 @@ fn print_growths(rt: &impl Host, call: &str, what: &str, count: usize) {
 }
 
 /// Refuses each growth of a call on each set, and prints how many there are.
-fn sweep<R: Host, F: Fn(&R, &Set<'_>, usize) -> Run>(rt: &R, name: &str, of: Swept<'_>, call: F)
-    requires { F.IsAlwaysCallable call }
-{
-    let count = count_on_sets(rt, of, &call).expect(rt, name);
+fn sweep<R: Host, C: Call<R>>(rt: &R, name: &str, of: Swept<'_>, call: &C) {
+    let count = count_on_sets(rt, of, call).expect(rt, name);
     print_growths(rt, name, of.what, count);
 }
 
 /// The same for a call that compares a set with itself. If the set is accepted, as many faults are reported for set 2 as for set 1;
 /// if it is rejected, set 2 is never reached.
-fn sweep_twice<R: Host, F: Fn(&R, &Set<'_>, usize) -> Run>(
-    rt: &R,
-    name: &str,
-    of: Swept<'_>,
-    call: F,
-)
-    requires { F.IsAlwaysCallable call }
-{
+fn sweep_twice<R: Host, C: Call<R>>(rt: &R, name: &str, of: Swept<'_>, call: &C) {
     let mut count = 0usize;
     for lines in of.sets {
-        let found = growths_on(rt, &lines.under(of.mask), &call).expect(rt, lines.row);
+        let found = growths_on(rt, &lines.under(of.mask), call).expect(rt, lines.row);
         let accepted = usize::from(check(rt.alloc(), &[&lines.bytes]).is_ok());
         let wanted = found.reported[0].saturating_mul(accepted);
         same(rt, lines.row, &found.reported[1], &wanted);
@@ -98,55 +89,55 @@ fn sweep_twice<R: Host, F: Fn(&R, &Set<'_>, usize) -> Run>(
 /// The renaming onto the text is the same, whether a call returns it with the text or with the county.
 fn answer_one_renaming(rt: &impl Host, sets: &[SetLines]) {
     for lines in sets {
-        let found = answer_alike(rt, &lines.set(), &normalise_with_renaming, &canonise);
+        let found = answer_alike(rt, &lines.set(), &NormaliseWithRenaming, &Canonise);
         found.expect(rt, lines.row);
     }
 }
 
 /// Sweeps the whole calls.
 pub(super) fn sweep_whole_calls(rt: &impl Host, of: Swept<'_>) {
-    sweep(rt, "Respell", of, whole::respell);
-    sweep(rt, "Normalise", of, whole::normalise);
-    sweep(rt, "NormaliseWithRenaming", of, normalise_with_renaming);
-    sweep(rt, "NormaliseTo", of, whole::normalise_to);
-    sweep(rt, "Fingerprint", of, whole::fingerprint);
-    sweep(rt, "Check", of, whole::check);
-    sweep_twice(rt, "CompareWithItself", of, whole::compare_with_itself);
-    sweep(rt, "CompareWithStreet", of, whole::compare_with_street);
-    sweep(rt, "CompareStreetWith", of, whole::compare_street_with);
-    sweep_twice(rt, "AreOneMap", of, whole::are_one_map);
+    sweep(rt, "Respell", of, &whole::Respell);
+    sweep(rt, "Normalise", of, &whole::Normalise);
+    sweep(rt, "NormaliseWithRenaming", of, &NormaliseWithRenaming);
+    sweep(rt, "NormaliseTo", of, &whole::NormaliseTo);
+    sweep(rt, "Fingerprint", of, &whole::Fingerprint);
+    sweep(rt, "Check", of, &whole::Check);
+    sweep_twice(rt, "CompareWithItself", of, &whole::CompareWithItself);
+    sweep(rt, "CompareWithStreet", of, &whole::CompareWithStreet);
+    sweep(rt, "CompareStreetWith", of, &whole::CompareStreetWith);
+    sweep_twice(rt, "AreOneMap", of, &whole::AreOneMap);
     sweep_masked_calls(rt, of);
 }
 
 /// Sweeps the whole calls that take a mask.
 fn sweep_masked_calls(rt: &impl Host, of: Swept<'_>) {
-    sweep(rt, "NormaliseMasked", of, whole::normalise_masked);
-    let with_renaming = whole::normalise_with_renaming_masked;
+    sweep(rt, "NormaliseMasked", of, &whole::NormaliseMasked);
+    let with_renaming = &whole::NormaliseWithRenamingMasked;
     sweep(rt, "NormaliseWithRenamingMasked", of, with_renaming);
-    sweep(rt, "NormaliseToMasked", of, whole::normalise_to_masked);
-    sweep(rt, "FingerprintMasked", of, whole::fingerprint_masked);
-    sweep_twice(rt, "CompareMasked", of, whole::compare_masked);
-    sweep_twice(rt, "AreOneMapMasked", of, whole::are_one_map_masked);
+    sweep(rt, "NormaliseToMasked", of, &whole::NormaliseToMasked);
+    sweep(rt, "FingerprintMasked", of, &whole::FingerprintMasked);
+    sweep_twice(rt, "CompareMasked", of, &whole::CompareMasked);
+    sweep_twice(rt, "AreOneMapMasked", of, &whole::AreOneMapMasked);
 }
 
 /// Sweeps linking.
 fn sweep_linking(rt: &impl Host, of: Swept<'_>) {
-    sweep(rt, "LinkInOrder", of, linking::link_in_order);
+    sweep(rt, "LinkInOrder", of, &linking::LinkInOrder);
 }
 
 /// Sweeps admission.
 fn sweep_admitting(rt: &impl Host, of: Swept<'_>) {
-    sweep(rt, "AdmitLinked", of, over_linked::admit_linked);
+    sweep(rt, "AdmitLinked", of, &over_linked::AdmitLinked);
 }
 
 /// Sweeps all steps.
 pub(super) fn sweep_steps(rt: &impl Host, of: Swept<'_>) {
     sweep_linking(rt, of);
     sweep_admitting(rt, of);
-    sweep(rt, "TablesOf", of, linking::tables);
-    sweep(rt, "OrderByShape", of, linking::order_by_shape);
-    sweep(rt, "Arrange", of, pieces::arrange_chains);
-    sweep(rt, "WriteAdmitted", of, pieces::write_admitted);
+    sweep(rt, "TablesOf", of, &linking::TablesOf);
+    sweep(rt, "OrderByShape", of, &linking::OrderByShape);
+    sweep(rt, "Arrange", of, &pieces::ArrangeChains);
+    sweep(rt, "WriteAdmitted", of, &pieces::WriteAdmitted);
     answer_one_renaming(rt, of.sets);
 }
 

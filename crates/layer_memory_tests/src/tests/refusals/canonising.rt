@@ -5,7 +5,7 @@ use super::super::comparing::{same, same_items};
 use super::{answered, ended};
 use bumpalo::Bump;
 use std::alloc::AllocError;
-use test_support::growths::{Run, has_refused, refuse};
+use test_support::growths::{Call, Run, has_refused, refuse};
 use test_support::sets::{Set, admitted_in_of, admitted_of, spelled};
 use test_support::writing::are_written;
 use tl_cert::Renaming;
@@ -53,19 +53,27 @@ fn canonised<C: Chart + Drop>(
     }
 }
 
-pub(crate) fn canonise(rt: &impl Host, set: &Set<'_>, asked: usize) -> Run {
-    let admitted = admitted_of(rt.alloc(), set.bytes).expect(rt, set.row);
-    refuse(rt.alloc(), asked);
-    let outcome = tl_number::canonise(rt.alloc(), admitted);
-    canonised(rt, set.row, set.text, outcome)
+pub(crate) struct Canonise;
+
+impl<R: Host> Call<R> for Canonise {
+    fn run(&self, rt: &R, set: &Set<'_>, asked: usize) -> Run {
+        let admitted = admitted_of(rt.alloc(), set.bytes).expect(rt, set.row);
+        refuse(rt.alloc(), asked);
+        let outcome = tl_number::canonise(rt.alloc(), admitted);
+        canonised(rt, set.row, set.text, outcome)
+    }
 }
 
-pub(crate) fn canonise_in(rt: &impl Host, set: &Set<'_>, asked: usize) -> Run {
-    let arena = Bump::new(rt.alloc());
-    let admitted = admitted_in_of(rt.alloc(), &arena, set.bytes).expect(rt, set.row);
-    refuse(rt.alloc(), asked);
-    let outcome = tl_number::canonise_in(rt.alloc(), admitted);
-    canonised(rt, set.row, set.text, outcome)
+pub(crate) struct CanoniseIn;
+
+impl<R: Host> Call<R> for CanoniseIn {
+    fn run(&self, rt: &R, set: &Set<'_>, asked: usize) -> Run {
+        let arena = Bump::new(rt.alloc());
+        let admitted = admitted_in_of(rt.alloc(), &arena, set.bytes).expect(rt, set.row);
+        refuse(rt.alloc(), asked);
+        let outcome = tl_number::canonise_in(rt.alloc(), admitted);
+        canonised(rt, set.row, set.text, outcome)
+    }
 }
 
 /// The text of the set under its mask.
@@ -75,21 +83,29 @@ fn text_of(rt: &impl Host, set: &Set<'_>) -> Vec<u8> {
     text_of_admitted(rt, shown)
 }
 
-pub(crate) fn canonise_masked(rt: &impl Host, set: &Set<'_>, asked: usize) -> Run {
-    let text = text_of(rt, set);
-    let admitted = admitted_of(rt.alloc(), set.bytes).expect(rt, set.row);
-    refuse(rt.alloc(), asked);
-    let outcome = tl_number::canonise_masked(rt.alloc(), admitted, set.mask);
-    canonised(rt, set.row, &text, outcome)
+pub(crate) struct CanoniseMasked;
+
+impl<R: Host> Call<R> for CanoniseMasked {
+    fn run(&self, rt: &R, set: &Set<'_>, asked: usize) -> Run {
+        let text = text_of(rt, set);
+        let admitted = admitted_of(rt.alloc(), set.bytes).expect(rt, set.row);
+        refuse(rt.alloc(), asked);
+        let outcome = tl_number::canonise_masked(rt.alloc(), admitted, set.mask);
+        canonised(rt, set.row, &text, outcome)
+    }
 }
 
-pub(crate) fn canonise_in_masked(rt: &impl Host, set: &Set<'_>, asked: usize) -> Run {
-    let text = text_of(rt, set);
-    let arena = Bump::new(rt.alloc());
-    let admitted = admitted_in_of(rt.alloc(), &arena, set.bytes).expect(rt, set.row);
-    refuse(rt.alloc(), asked);
-    let outcome = tl_number::canonise_in_masked(rt.alloc(), admitted, set.mask);
-    canonised(rt, set.row, &text, outcome)
+pub(crate) struct CanoniseInMasked;
+
+impl<R: Host> Call<R> for CanoniseInMasked {
+    fn run(&self, rt: &R, set: &Set<'_>, asked: usize) -> Run {
+        let text = text_of(rt, set);
+        let arena = Bump::new(rt.alloc());
+        let admitted = admitted_in_of(rt.alloc(), &arena, set.bytes).expect(rt, set.row);
+        refuse(rt.alloc(), asked);
+        let outcome = tl_number::canonise_in_masked(rt.alloc(), admitted, set.mask);
+        canonised(rt, set.row, &text, outcome)
+    }
 }
 
 /// The run that ended with the records of a canonical county, or with nothing. Their lines are the set's text.
@@ -102,21 +118,29 @@ fn listed(rt: &impl Host, set: &Set<'_>, outcome: Result<Vec<Record>, AllocError
     answered(rt, refused, outcome.map(|_| ()))
 }
 
-pub(crate) fn records_of(rt: &impl Host, set: &Set<'_>, asked: usize) -> Run {
-    let admitted = admitted_of(rt.alloc(), set.bytes).expect(rt, set.row);
-    let county = canonise_alone(rt.alloc(), admitted).expect(rt, set.row);
-    refuse(rt.alloc(), asked);
-    let run = listed(rt, set, tl_write::records_of(rt.alloc(), &county));
-    drop(county);
-    run
+pub(crate) struct RecordsOf;
+
+impl<R: Host> Call<R> for RecordsOf {
+    fn run(&self, rt: &R, set: &Set<'_>, asked: usize) -> Run {
+        let admitted = admitted_of(rt.alloc(), set.bytes).expect(rt, set.row);
+        let county = canonise_alone(rt.alloc(), admitted).expect(rt, set.row);
+        refuse(rt.alloc(), asked);
+        let run = listed(rt, set, tl_write::records_of(rt.alloc(), &county));
+        drop(county);
+        run
+    }
 }
 
-pub(crate) fn records_of_in(rt: &impl Host, set: &Set<'_>, asked: usize) -> Run {
-    let arena = Bump::new(rt.alloc());
-    let admitted = admitted_in_of(rt.alloc(), &arena, set.bytes).expect(rt, set.row);
-    let county = canonise_alone(rt.alloc(), admitted).expect(rt, set.row);
-    refuse(rt.alloc(), asked);
-    let run = listed(rt, set, tl_write::records_of_in(rt.alloc(), &county));
-    drop(county);
-    run
+pub(crate) struct RecordsOfIn;
+
+impl<R: Host> Call<R> for RecordsOfIn {
+    fn run(&self, rt: &R, set: &Set<'_>, asked: usize) -> Run {
+        let arena = Bump::new(rt.alloc());
+        let admitted = admitted_in_of(rt.alloc(), &arena, set.bytes).expect(rt, set.row);
+        let county = canonise_alone(rt.alloc(), admitted).expect(rt, set.row);
+        refuse(rt.alloc(), asked);
+        let run = listed(rt, set, tl_write::records_of_in(rt.alloc(), &county));
+        drop(county);
+        run
+    }
 }

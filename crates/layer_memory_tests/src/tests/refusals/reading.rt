@@ -3,7 +3,7 @@
 use super::super::Host;
 use super::super::comparing::same;
 use super::{answered, ended};
-use test_support::growths::{Run, has_refused, refuse};
+use test_support::growths::{Call, Run, has_refused, refuse};
 use test_support::sets::Set;
 use tl_load::{LoadFault, Loader, SlowSource, Source};
 
@@ -49,30 +49,42 @@ fn finished(rt: &impl Host, loader: Loader, so_far: Result<(), LoadFault>) -> Ru
 }
 
 /// The loader's end completes the last line.
-pub(super) fn feed(rt: &impl Host, set: &Set<'_>, asked: usize) -> Run {
-    let piece = set.bytes.strip_suffix(b"\n").unwrap_or(set.bytes);
-    let mut loader = Loader::new(rt.alloc());
-    refuse(rt.alloc(), asked);
-    let so_far = loader.feed(piece);
-    finished(rt, loader, so_far)
+pub(super) struct Feed;
+
+impl<R: Host> Call<R> for Feed {
+    fn run(&self, rt: &R, set: &Set<'_>, asked: usize) -> Run {
+        let piece = set.bytes.strip_suffix(b"\n").unwrap_or(set.bytes);
+        let mut loader = Loader::new(rt.alloc());
+        refuse(rt.alloc(), asked);
+        let so_far = loader.feed(piece);
+        finished(rt, loader, so_far)
+    }
 }
 
 /// The part's end completes the last line.
-pub(super) fn end_part(rt: &impl Host, set: &Set<'_>, asked: usize) -> Run {
-    let piece = set.bytes.strip_suffix(b"\n").unwrap_or(set.bytes);
-    let mut loader = Loader::new(rt.alloc());
-    refuse(rt.alloc(), asked);
-    let so_far = match loader.feed(piece) {
-        Ok(()) => loader.end_part(),
-        Err(fault) => Err(fault),
-    };
-    finished(rt, loader, so_far)
+pub(super) struct EndPart;
+
+impl<R: Host> Call<R> for EndPart {
+    fn run(&self, rt: &R, set: &Set<'_>, asked: usize) -> Run {
+        let piece = set.bytes.strip_suffix(b"\n").unwrap_or(set.bytes);
+        let mut loader = Loader::new(rt.alloc());
+        refuse(rt.alloc(), asked);
+        let so_far = match loader.feed(piece) {
+            Ok(()) => loader.end_part(),
+            Err(fault) => Err(fault),
+        };
+        finished(rt, loader, so_far)
+    }
 }
 
-pub(super) fn read_part(rt: &impl Host, set: &Set<'_>, asked: usize) -> Run {
-    let mut source = SlowSource::new(set.bytes, 100, None);
-    let mut loader = Loader::new(rt.alloc());
-    refuse(rt.alloc(), asked);
-    let so_far = loader.read_part(&mut source);
-    finished(rt, loader, so_far)
+pub(super) struct ReadPart;
+
+impl<R: Host> Call<R> for ReadPart {
+    fn run(&self, rt: &R, set: &Set<'_>, asked: usize) -> Run {
+        let mut source = SlowSource::new(set.bytes, 100, None);
+        let mut loader = Loader::new(rt.alloc());
+        refuse(rt.alloc(), asked);
+        let so_far = loader.read_part(&mut source);
+        finished(rt, loader, so_far)
+    }
 }

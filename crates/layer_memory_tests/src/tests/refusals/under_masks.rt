@@ -1,16 +1,16 @@
 //! The calls of layers that take a mask, with growths refused, under each mask that leaves out something.
 
 use super::super::Host;
-use super::carrying::check_masked;
-use super::{canonise_in_masked, canonise_masked, sweep};
+use super::carrying::CheckMasked;
+use super::{CanoniseInMasked, CanoniseMasked, sweep};
 use test_support::growths::Swept;
 use test_support::masks::{masks, sets_for_masks};
 
 /// Sweeps all calls that take a mask.
 fn sweep_under(rt: &impl Host, of: Swept<'_>) {
-    sweep(rt, "CanoniseMasked", of, canonise_masked);
-    sweep(rt, "CanoniseInMasked", of, canonise_in_masked);
-    sweep(rt, "CheckMasked", of, check_masked);
+    sweep(rt, "CanoniseMasked", of, &CanoniseMasked);
+    sweep(rt, "CanoniseInMasked", of, &CanoniseInMasked);
+    sweep(rt, "CheckMasked", of, &CheckMasked);
 }
 
 #[test]

@@ -6,7 +6,7 @@ use super::super::Host;
 use super::{answered, ended};
 use bumpalo::Bump;
 use std::alloc::AllocError;
-use test_support::growths::{Run, has_refused, refuse};
+use test_support::growths::{Call, Run, has_refused, refuse};
 use test_support::sets::{Set, county_of, records_of};
 use tigercanon::{Fault, normalise_with_renaming};
 use tl_cert::Renaming;
@@ -14,10 +14,14 @@ use tl_county::{Chart, DirectedChain, LinkedRecords};
 use tl_layout::Tables;
 use tl_profile::ShapeOrder;
 
-pub(super) fn tables(rt: &impl Host, set: &Set<'_>, asked: usize) -> Run {
-    let records = records_of(rt.alloc(), set.bytes).expect(rt, set.row);
-    refuse(rt.alloc(), asked);
-    ended(rt, Tables::of(rt.alloc(), records))
+pub(super) struct TablesOf;
+
+impl<R: Host> Call<R> for TablesOf {
+    fn run(&self, rt: &R, set: &Set<'_>, asked: usize) -> Run {
+        let records = records_of(rt.alloc(), set.bytes).expect(rt, set.row);
+        refuse(rt.alloc(), asked);
+        ended(rt, Tables::of(rt.alloc(), records))
+    }
 }
 
 /// The records of a set in tables.
@@ -70,16 +74,20 @@ fn built_over(rt: &impl Host, set: &Set<'_>, linked: &LinkedRecords) -> Run {
 }
 
 /// Linking, and then the county over the linked records.
-pub(super) fn link_in_order(rt: &impl Host, set: &Set<'_>, asked: usize) -> Run {
-    let tables = tables_of(rt, set);
-    refuse(rt.alloc(), asked);
-    match tl_county::link_in_order(rt.alloc(), tables) {
-        Ok(linked) => {
-            let run = built_over(rt, set, &linked);
-            drop(linked);
-            run
+pub(super) struct LinkInOrder;
+
+impl<R: Host> Call<R> for LinkInOrder {
+    fn run(&self, rt: &R, set: &Set<'_>, asked: usize) -> Run {
+        let tables = tables_of(rt, set);
+        refuse(rt.alloc(), asked);
+        match tl_county::link_in_order(rt.alloc(), tables) {
+            Ok(linked) => {
+                let run = built_over(rt, set, &linked);
+                drop(linked);
+                run
+            }
+            Err(fault) => ended::<(), _>(rt, Err(fault)),
         }
-        Err(fault) => ended::<(), _>(rt, Err(fault)),
     }
 }
 
@@ -88,15 +96,19 @@ pub(super) fn chains_by_shape(rt: &impl Host, order: &ShapeOrder) -> Vec<Directe
     Vec::from_slice(rt.alloc(), order.by_shape()).expect(rt, "there is memory")
 }
 
-pub(super) fn order_by_shape(rt: &impl Host, set: &Set<'_>, asked: usize) -> Run {
-    let county = county_of(rt.alloc(), set.bytes).expect(rt, set.row);
-    refuse(rt.alloc(), asked);
-    let outcome = tl_profile::order_by_shape(rt.alloc(), &county);
-    let refused = has_refused(rt.alloc());
-    drop(county);
-    let outcome = match outcome {
-        Ok(order) => Ok(chains_by_shape(rt, &order)),
-        Err(_) => Err(Fault::Memory),
-    };
-    answered(rt, refused, outcome)
+pub(super) struct OrderByShape;
+
+impl<R: Host> Call<R> for OrderByShape {
+    fn run(&self, rt: &R, set: &Set<'_>, asked: usize) -> Run {
+        let county = county_of(rt.alloc(), set.bytes).expect(rt, set.row);
+        refuse(rt.alloc(), asked);
+        let outcome = tl_profile::order_by_shape(rt.alloc(), &county);
+        let refused = has_refused(rt.alloc());
+        drop(county);
+        let outcome = match outcome {
+            Ok(order) => Ok(chains_by_shape(rt, &order)),
+            Err(_) => Err(Fault::Memory),
+        };
+        answered(rt, refused, outcome)
+    }
 }
