@@ -1,4 +1,4 @@
-//! Tests of what calls do if memory is refused, or if a county takes much of it.
+//! Tests of what the whole calls do if memory is refused, or if a county takes much of it.
 //!
 //! They are a crate of their own, so that the prover can work on them beside `tigercanon_tests`.
 #![tactic(auto)]

@@ -1,6 +1,9 @@
 //! Masks, records with fields that masks leave out, and sets in which such a field decides an order.
 
-use crate::worked_sets::{CHAIN, CHAIN_1, LINK, LINK_1};
+use crate::sets::{Row, SetLines, sets_of};
+use crate::twin_sets::{OF_TWO_SOURCES, OF_TWO_SOURCES_TEXT, twins};
+use crate::worked_sets::{CHAIN, CHAIN_1, LINK, LINK_1, types};
+use std::alloc::{AllocError, Global};
 use tl_layout::{Blank, Mask, Record};
 
 /// The mask that leaves out the sources.
@@ -81,3 +84,29 @@ pub const BARN_FIRST: &[&str] = &[
     "7200601001{9}1BD43Annex{45}",
     LINK_1,
 ];
+
+/// Sets in which the fields that a mask leaves out decide the order of a landmark's contents and of two chains.
+fn decided() -> [Row; 2] {
+    [
+        ("contents of two sources", ANNEX_AND_BARN, BARN_FIRST),
+        ("chains of two sources", OF_TWO_SOURCES, OF_TWO_SOURCES_TEXT),
+    ]
+}
+
+/// The name of a mask in the printed lines, and the mask.
+pub fn masks() -> [(&'static str, Mask); 3] {
+    [
+        (" without sources", SOURCES),
+        (" without reserved fields", RESERVED),
+        (" without either", BOTH),
+    ]
+}
+
+/// Sets with records of each type and with all fields that masks leave out, twins, and sets in which such a field decides an order.
+///
+/// # Errors
+///
+/// `AllocError` if an allocation failed.
+pub fn sets_for_masks(alloc: Global) -> Result<Vec<SetLines>, AllocError> {
+    sets_of(alloc, &[&types(), &twins(), &decided()])
+}

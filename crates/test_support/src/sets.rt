@@ -8,9 +8,13 @@ ghost use Rattle.tl_layout.specs.Limits.{IsWithinLimit};
 ghost use Rattle.tl_layout.specs.RecordText.{FitsRecord};
 
 use crate::masks::BOTH;
+use bumpalo::Bump;
 use std::alloc::{AllocError, Global};
+use tl_cert::{Renaming, check};
+use tl_county::{County, CountyIn, link, link_in};
 use tl_layout::{Mask, Record};
 use tl_load::{LoadFault, Loader};
+use tl_profile::{Admitted, AdmittedIn, admit, admit_in};
 
 /// Appends a piece of a pattern: as many blanks as the number before a `}`, if it has one, and the text.
 fn put_piece(bytes: &mut Vec<u8>, piece: &str) -> Result<(), AllocError> {
@@ -116,6 +120,47 @@ pub fn records_of(alloc: Global, set: &[u8]) -> Result<Vec<Record>, LoadFault>
     let mut loader = Loader::new(alloc);
     loader.feed(set)?;
     loader.finish()
+}
+
+/// The county of this set. Nothing if the set has a fault, or an allocation failed.
+pub fn county_of(alloc: Global, set: &[u8]) -> Option<County> {
+    match records_of(alloc, set) {
+        Ok(records) => link(alloc, records).ok(),
+        Err(_) => None,
+    }
+}
+
+/// The same in an arena.
+pub fn county_in_of<'a>(alloc: Global, arena: &'a Bump, set: &[u8]) -> Option<CountyIn<'a>> {
+    match records_of(alloc, set) {
+        Ok(records) => link_in(alloc, arena, records).ok(),
+        Err(_) => None,
+    }
+}
+
+/// The admitted county of this set. Nothing if the set is rejected, or an allocation failed.
+pub fn admitted_of(alloc: Global, set: &[u8]) -> Option<Admitted> {
+    match county_of(alloc, set) {
+        Some(county) => admit(alloc, county).ok(),
+        None => None,
+    }
+}
+
+/// The same in an arena.
+pub fn admitted_in_of<'a>(alloc: Global, arena: &'a Bump, set: &[u8]) -> Option<AdmittedIn<'a>> {
+    match county_in_of(alloc, arena, set) {
+        Some(county) => admit_in(alloc, county).ok(),
+        None => None,
+    }
+}
+
+/// Whether the renaming carries the county of one set onto that of another. Nothing if a set has a fault, or an allocation failed.
+pub fn carries(alloc: Global, here: &[u8], there: &[u8], renaming: &Renaming) -> Option<bool> {
+    let (here, there) = (county_of(alloc, here), county_of(alloc, there));
+    match (&here, &there) {
+        (Some(here), Some(there)) => check(alloc, here, there, renaming).ok(),
+        _ => None,
+    }
 }
 
 /// The lines of records in canonical spelling, each terminated by LF.

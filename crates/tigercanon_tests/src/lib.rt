@@ -1,4 +1,4 @@
-//! Tests of the libraries together: whole calls on worked sets, jobs over files and devices that fail, and command lines.
+//! Tests of whole calls: worked sets and their texts, comparisons, masks, and jobs over files and devices that fail.
 //!
 //! They are a crate of their own, so that editing a test doesn't require proving `tigercanon` again.
 #![tactic(auto)]

@@ -1,74 +1,14 @@
 //! A street of more chains than 16 bits can count, through the library calls that the program doesn't make, or makes differently.
 
-ghost use Rattle.std.specs.Prelude.{◌<◌};
-
+use super::Host;
 use super::comparing::{same, same_items};
-use super::made::Spelling;
-use super::refusals::{
-    answer_alike, canonise, canonise_in, normalise_with_renaming, records_of, records_of_in,
-};
-use super::{Host, county_of};
-use test_support::sets::Set;
+use super::refusals::{Canonise, NormaliseWithRenaming};
+use test_support::growths::answer_alike;
+use test_support::long::{CHAINS, long_street, long_street_text};
+use test_support::sets::{Set, county_of};
 use tigercanon::{Verdict, check, compare, fingerprint, normalise, respell};
 use tl_cert::Renaming;
 use tl_layout::Mask;
-
-/// How many chains there are.
-const CHAINS: u64 = 70_000;
-
-/// A chain with nothing except its ends.
-const CHAIN: &str = "12006{185}+000000000+00000000+000000000+00000000";
-
-/// Appends the line of record type 1 of a chain, which runs from its left end or, if turned, from its right one.
-fn add_chain(lines: &mut Spelling<'_, impl Host>, tlid: u64, chain: u64, turned: bool)
-    requires { chain < 100_000 }
-{
-    let left = 10 * chain + 1;
-    let right = 10 * chain + 5;
-    let (start, end) = if turned { (right, left) } else { (left, right) };
-    let fields = [
-        (15, tlid),
-        (200, start),
-        (209, chain),
-        (219, end),
-        (228, chain),
-    ];
-    lines.add(CHAIN, &fields);
-}
-
-/// Appends the line of record type I of a chain.
-fn add_link(lines: &mut Spelling<'_, impl Host>, tlid: u64, chain: u64, turned: bool)
-    requires { chain < 100_000 }
-{
-    let (left, right) = (chain, chain + 1);
-    let (start, end) = if turned { (right, left) } else { (left, right) };
-    let fields = [(20, tlid), (30, start), (40, end)];
-    lines.add("I200601001{117}", &fields);
-}
-
-/// The street, its last chain first, with other TLIDs, and every third chain turned.
-fn street(rt: &impl Host) -> Vec<u8> {
-    let mut lines = Spelling::new(rt, true);
-    for n in 0..CHAINS {
-        let chain = CHAINS - n;
-        let tlid = 9_000_000_000 + chain % 7 * 100_000 + chain;
-        add_link(&mut lines, tlid, chain, chain % 3 == 0);
-        add_chain(&mut lines, tlid, chain, chain % 3 == 0);
-    }
-    lines.into_text()
-}
-
-/// Its canonical text: the chains from left to right, each running to the right.
-fn canonical(rt: &impl Host) -> Vec<u8> {
-    let mut lines = Spelling::new(rt, false);
-    for n in 0..CHAINS {
-        add_chain(&mut lines, n + 1, n + 1, false);
-    }
-    for n in 0..CHAINS {
-        add_link(&mut lines, n + 1, n + 1, false);
-    }
-    lines.into_text()
-}
 
 /// The calls return the text, the fingerprint and the verdict, and the text is its own in each way.
 fn has_its_text(rt: &impl Host, set: &[u8], text: &[u8]) {
@@ -83,8 +23,8 @@ fn has_its_text(rt: &impl Host, set: &[u8], text: &[u8]) {
 
 /// The renaming carries the street onto its text, its inverse carries back, and both in turn leave each number as it is.
 fn goes_there_and_back(rt: &impl Host, set: &[u8], text: &[u8], renaming: &Renaming) {
-    let here = county_of(rt, "here", set);
-    let there = county_of(rt, "there", text);
+    let here = county_of(rt.alloc(), set).expect(rt, "here");
+    let there = county_of(rt.alloc(), text).expect(rt, "there");
     let inverse = renaming.inverse().expect(rt, "inverse");
     let through = renaming.then(&inverse).expect(rt, "then");
     let found = [
@@ -113,8 +53,8 @@ fn are_one_map(rt: &impl Host, set: &[u8], text: &[u8]) {
 
 #[test]
 fn a_street_of_very_many_chains_goes_through_the_calls(rt: HostRuntime) {
-    let bytes = street(&rt);
-    let text = canonical(&rt);
+    let bytes = long_street(rt.alloc()).expect(&rt, "the street");
+    let text = long_street_text(rt.alloc()).expect(&rt, "its text");
     has_its_text(&rt, &bytes, &text);
     are_one_map(&rt, &bytes, &text);
     let set = Set {
@@ -123,7 +63,6 @@ fn a_street_of_very_many_chains_goes_through_the_calls(rt: HostRuntime) {
         text: &text,
         mask: Mask::NONE,
     };
-    answer_alike(&rt, &set, normalise_with_renaming, canonise);
-    answer_alike(&rt, &set, canonise, canonise_in);
-    answer_alike(&rt, &set, records_of, records_of_in);
+    let found = answer_alike(&rt, &set, &NormaliseWithRenaming, &Canonise);
+    found.expect(&rt, "one renaming");
 }

@@ -3,13 +3,12 @@
 ghost use Rattle.std.specs.Prelude.{◌<◌};
 
 use super::comparing::{same, same_items};
-use super::renamings::{has_lists, turn_of_the_street};
-use super::sinks::took_all;
-use super::{Host, county_of, lines_of};
+use super::{Host, lines_of};
 use bumpalo::Bump;
 use std::alloc::{AllocError, Global};
 use test_support::masks::{ANNEX_AND_BARN, BARN_FIRST, BOTH, RESERVED, SOURCES};
-use test_support::sets::{Set, SetLines, records_of};
+use test_support::renamings::{Lists, TURN};
+use test_support::sets::{Set, SetLines, county_in_of, county_of};
 use test_support::twin_sets::{OF_TWO_SOURCES, OF_TWO_SOURCES_TEXT};
 use test_support::worked_sets::{CHAIN_1, LINK, LINK_1, MAIN_TEXT, street, street_turned};
 use test_support::writing::are_written;
@@ -18,7 +17,7 @@ use tigercanon::{
     normalise_to_masked, normalise_with_renaming_masked,
 };
 use tl_cert::{Renaming, check_masked};
-use tl_county::{Chart, link_in};
+use tl_county::Chart;
 use tl_layout::Mask;
 use tl_load::SlowSource;
 use tl_number::{CanonCounty, canonise_in_masked, canonise_masked};
@@ -69,7 +68,7 @@ fn canonised<C: Chart + Drop>(
 
 /// The renaming of the set's county onto its canonical county under the set's mask.
 fn renaming_of(rt: &impl Host, set: &Set<'_>) -> String {
-    let county = county_of(rt, set.row, set.bytes);
+    let county = county_of(rt.alloc(), set.bytes).expect(rt, set.row);
     let admitted = admit(rt.alloc(), county).expect(rt, set.row);
     canonised(rt, set, canonise_masked(rt.alloc(), admitted, set.mask))
 }
@@ -77,8 +76,7 @@ fn renaming_of(rt: &impl Host, set: &Set<'_>) -> String {
 /// The same for the county in an arena.
 fn renaming_in_of(rt: &impl Host, set: &Set<'_>) -> String {
     let arena = Bump::new(rt.alloc());
-    let records = records_of(rt.alloc(), set.bytes).expect(rt, set.row);
-    let county = link_in(rt.alloc(), &arena, records).expect(rt, set.row);
+    let county = county_in_of(rt.alloc(), &arena, set.bytes).expect(rt, set.row);
     let admitted = admit_in(rt.alloc(), county).expect(rt, set.row);
     canonised(rt, set, canonise_in_masked(rt.alloc(), admitted, set.mask))
 }
@@ -159,7 +157,8 @@ fn is_written(rt: &impl Host, set: &Set<'_>) {
     let mut buffer = vec![in rt.alloc(); 0u8; 400].expect(rt, set.row);
     let mut sink = SlowSink::new(&mut buffer, 7);
     let answer = write_masked(rt.alloc(), set.bytes, &mut sink, set.mask);
-    took_all(rt, set.row, &sink, &answer, set.text);
+    same(rt, set.row, &answer, &Ok(set.text.len() as u64));
+    same_items(rt, set.row, sink.held(), set.text);
 }
 
 /// The set has its text and this fingerprint under its mask: in memory, beside a renaming, at a sink, and as a county.
@@ -194,9 +193,9 @@ fn a_street_has_a_text_under_each_mask(rt: HostRuntime) {
 
 /// The renaming turns Main St, and carries the first set onto the second under the mask.
 fn is_turned_under(rt: &impl Host, mask: Mask, sets: [&[u8]; 2], by: &Renaming) {
-    has_lists(rt, "the street", by, &turn_of_the_street());
-    let here = county_of(rt, "here", sets[0]);
-    let there = county_of(rt, "there", sets[1]);
+    same(rt, "the street", &Lists::of(by), &TURN);
+    let here = county_of(rt.alloc(), sets[0]).expect(rt, "here");
+    let there = county_of(rt.alloc(), sets[1]).expect(rt, "there");
     let carried = check_masked(rt.alloc(), &here, &there, by, mask);
     drop(here);
     drop(there);

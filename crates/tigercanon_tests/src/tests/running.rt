@@ -5,10 +5,10 @@ mod messages;
 mod rows;
 
 use super::comparing::{same, same_items};
-use super::devices::{SlowReader, failing_writer, kinds, reader};
 use super::{Host, lines_of};
 use std::cell::Cell;
 use std::io::{ErrorKind, Read};
+use test_support::devices::{SlowReader, failing_writer, kinds, reader};
 use tigercanon::{Job, Opened, run};
 use tl_layout::Mask;
 
@@ -52,9 +52,11 @@ fn opened<'a>(
     let mut all = Vec::new(rt.alloc());
     for file in files {
         let one = match file {
-            File::Whole(lines) => reader(lines_of(rt, lines), step, None, kind, count),
+            File::Whole(lines) => {
+                Opened::Found(reader(lines_of(rt, lines), step, None, kind, count))
+            }
             File::Failing(lines, reads) => {
-                reader(lines_of(rt, lines), step, Some(*reads), kind, count)
+                Opened::Found(reader(lines_of(rt, lines), step, Some(*reads), kind, count))
             }
             File::Absent => Opened::Absent,
             File::Failed => Opened::Failed,
@@ -74,13 +76,13 @@ fn ends_by(rt: &impl Host, row: &Row, kind: ErrorKind) {
     let mut err = failing_writer(rt.alloc(), 7, row.capacity[1], kind);
     let mask = Mask::NONE;
     let status = run(rt.alloc(), job, first, second, &mut out, &mut err, mask);
-    same_items(rt, name, &err.held, row.reported.as_bytes());
-    same(rt, name, &status, &row.status);
     let lines = lines_of(rt, row.lines);
     let written = lines.get(..row.written).unwrap_or(&lines);
-    same_items(rt, name, &out.held, written);
     let reads = row.reads.unwrap_or(count.get());
-    same(rt, name, &count.get(), &reads);
+    let found = (status, count.get(), err.held.as_slice());
+    let wanted = (row.status, reads, row.reported.as_bytes());
+    same(rt, name, &found, &wanted);
+    same_items(rt, name, &out.held, written);
 }
 
 /// The job ends as in its row, whatever the kind of failure.
@@ -103,7 +105,7 @@ fn a_file_is_read_as_it_was_opened(rt: HostRuntime) {
     let count = Cell::new(0);
     let lines = lines_of(&rt, &["8"]);
     let open = reader(lines, 100, None, ErrorKind::Other, &count);
-    gives(&rt, "one that is open", open, Some(2));
+    gives(&rt, "one that is open", Opened::Found(open), Some(2));
     gives(&rt, "one that isn't there", Opened::Absent, Some(0));
     gives(&rt, "one that couldn't be opened", Opened::Failed, None);
 }

@@ -1,22 +1,13 @@
-//! What `Display` shows of each fault: the line that the program prints; and the exit status of a refusal.
+//! What `Display` shows of each fault of a whole call: the line that the program prints; and the exit status of a refusal. The faults of
+//! a layer are in `layer_tests`.
 
+use super::Host;
 use super::comparing::{same, same_items};
-use super::{Host, lines_of};
-use std::fmt::{Debug, Display};
-use test_support::sets::records_of;
-use test_support::worked_sets::street;
+use std::fmt::Display;
 use tigercanon::{CompareFault, Fault, PlanFault, Refusal};
-use tl_county::LinkFault::{
-    self, ChainTwice, LandUnknown, LinkMissing, LinkTwice, NameTwice, NameUnknown, NoChain,
-    PolygonTwice, PolygonUnknown, SequenceBroken,
-};
-use tl_county::{LinkedType, SequencedType};
-use tl_layout::{DeviceFault, FieldFault, FieldKind, NumberOrNone, Record};
-use tl_load::LineFault;
-use tl_load::LoadFault::{
-    self, BadByte, BadNumber, BadPoint, GapInRecord, LineTooLong, TooManyRecords, UnknownType,
-};
-use tl_profile::ProfileFault::{self, PolygonWithoutChain, TooSymmetric};
+use tl_county::LinkFault::{self, LinkMissing};
+use tl_load::LoadFault;
+use tl_profile::ProfileFault::{self, TooSymmetric};
 use tl_write::WriteFault;
 
 /// The message of the fault is exactly this.
@@ -33,146 +24,21 @@ fn is_refused(rt: &impl Host, fault: Fault, text: &str, status: u8) {
     same(rt, text, &Refusal(fault).status(), &status);
 }
 
-/// The message about a number that isn't valid.
-const NO_NUMBER: &str = "column 16: this is not a number of the field";
-
-const NUMBER: FieldFault = FieldFault {
-    kind: FieldKind::BadNumber,
-    column: 16,
-};
-
-/// Faults of one line.
-fn of_a_line() -> [(LineFault, &'static str); 4] {
-    let no_type = "the first byte is no known record type";
-    let too_long = "the line is longer than its record type allows";
-    let no_byte = "column 7: this byte is not allowed";
-    [
-        (LineFault::UnknownType, no_type),
-        (LineFault::LineTooLong, too_long),
-        (LineFault::BadByte(7), no_byte),
-        (LineFault::Field(NUMBER), NO_NUMBER),
-    ]
-}
-
-#[test]
-fn faults_of_a_line_say_what_is_wrong(rt: HostRuntime) {
-    for (fault, text) in of_a_line() {
-        says(&rt, &fault, text);
-    }
-}
-
-/// Faulty lines, and a set of too many lines.
-fn of_loading() -> [(LoadFault, &'static str); 7] {
+/// Faulty lines, broken rules and clauses, devices that fail, and want of memory in each layer.
+fn of_each_layer() -> [(Fault, &'static str, u8); 9] {
     let (part, line, column) = (2, 34, 156);
+    let (tlid, written) = (9_000_000_001, 229);
+    let point = LoadFault::BadPoint { part, line, column };
     [
-        (UnknownType { part, line }, "1 UnknownType 2 34"),
-        (LineTooLong { part, line }, "2 LineTooLong 2 34"),
-        (BadByte { part, line, column }, "3 BadByte 2 34 156"),
-        (BadNumber { part, line, column }, "4 BadNumber 2 34 156"),
-        (BadPoint { part, line, column }, "5 BadPoint 2 34 156"),
-        (GapInRecord { part, line, column }, "6 GapInRecord 2 34 156"),
-        (TooManyRecords { rtype: b'8' }, "7 TooManyRecords 8"),
-    ]
-}
-
-/// Broken rules, and how `Debug` prints them, like a derived `Debug`.
-fn of_linking() -> [(LinkFault, &'static str, &'static str); 10] {
-    let (tlid, feat, land) = (9_000_000_001, 8, 30);
-    let (cenid, polyid) = (*b"00012", 9);
-    let (link, names) = (LinkedType::I, SequencedType::Four);
-    [
+        (Fault::Load(point), "5 BadPoint 2 34 156", 3),
         (
-            ChainTwice { tlid },
-            "11 ChainTwice 9000000001",
-            "ChainTwice { tlid: 9000000001 }",
-        ),
-        (
-            NoChain { rtype: link, tlid },
-            "12 NoChain I 9000000001",
-            "NoChain { rtype: I, tlid: 9000000001 }",
-        ),
-        (
-            SequenceBroken { rtype: names, tlid },
-            "13 SequenceBroken 4 9000000001",
-            "SequenceBroken { rtype: Four, tlid: 9000000001 }",
-        ),
-        (
-            LinkMissing { tlid },
+            Fault::Link(LinkMissing { tlid }),
             "14 LinkMissing 9000000001",
-            "LinkMissing { tlid: 9000000001 }",
+            3,
         ),
-        (
-            LinkTwice { tlid },
-            "15 LinkTwice 9000000001",
-            "LinkTwice { tlid: 9000000001 }",
-        ),
-        (
-            NameTwice { feat },
-            "16 NameTwice 8",
-            "NameTwice { feat: 8 }",
-        ),
-        (
-            NameUnknown { tlid, feat },
-            "17 NameUnknown 9000000001 8",
-            "NameUnknown { tlid: 9000000001, feat: 8 }",
-        ),
-        (
-            PolygonTwice { cenid, polyid },
-            "18 PolygonTwice 3030303132 9",
-            "PolygonTwice { cenid: [48, 48, 48, 49, 50], polyid: 9 }",
-        ),
-        (
-            LandUnknown { land },
-            "19 LandUnknown 30",
-            "LandUnknown { land: 30 }",
-        ),
-        (
-            PolygonUnknown { cenid, polyid },
-            "20 PolygonUnknown 3030303132 9",
-            "PolygonUnknown { cenid: [48, 48, 48, 49, 50], polyid: 9 }",
-        ),
-    ]
-}
-
-/// Broken clauses of the profile.
-fn of_the_profile() -> [(ProfileFault, &'static str); 2] {
-    let (cenid, polyid) = (*b"00012", 9);
-    let without_chain = PolygonWithoutChain { cenid, polyid };
-    [
-        (without_chain, "23 PolygonWithoutChain 3030303132 9"),
-        (TooSymmetric, "24 TooSymmetric"),
-    ]
-}
-
-#[test]
-fn faulty_lines_are_reported(rt: HostRuntime) {
-    for (fault, text) in of_loading() {
-        is_refused(&rt, Fault::Load(fault), text, 3);
-    }
-}
-
-#[test]
-fn broken_rules_are_reported(rt: HostRuntime) {
-    for (fault, text, shown) in of_linking() {
-        is_refused(&rt, Fault::Link(fault), text, 3);
-        shows(&rt, &fault, shown);
-    }
-}
-
-#[test]
-fn broken_clauses_are_reported(rt: HostRuntime) {
-    for (fault, text) in of_the_profile() {
-        is_refused(&rt, Fault::Profile(fault), text, 3);
-    }
-}
-
-/// Devices that fail, and want of memory in each layer.
-fn of_the_machine() -> [(Fault, &'static str, u8); 6] {
-    let written = 229;
-    let write = WriteFault { written };
-    [
+        (Fault::Profile(TooSymmetric), "24 TooSymmetric", 3),
         (Fault::Load(LoadFault::Device), "8 Device", 4),
-        (Fault::Write(write), "10 WriteFault 229", 4),
+        (Fault::Write(WriteFault { written }), "10 WriteFault 229", 4),
         (Fault::Load(LoadFault::Memory), "9 Memory", 5),
         (Fault::Link(LinkFault::Memory), "9 Memory", 5),
         (Fault::Profile(ProfileFault::Memory), "9 Memory", 5),
@@ -181,56 +47,14 @@ fn of_the_machine() -> [(Fault, &'static str, u8); 6] {
 }
 
 #[test]
-fn failed_devices_and_want_of_memory_are_reported(rt: HostRuntime) {
-    for (fault, text, status) in of_the_machine() {
+fn faults_of_each_layer_are_reported(rt: HostRuntime) {
+    for (fault, text, status) in of_each_layer() {
         is_refused(&rt, fault, text, status);
     }
 }
 
-/// `Debug` prints the value exactly like this.
-fn shows<T: Debug>(rt: &impl Host, value: &T, text: &str) {
-    let found = format!(in rt.alloc(); "{value:?}").expect(rt, text);
-    same_items(rt, text, found.as_bytes(), text.as_bytes());
-}
-
-/// Hand-written `Debug` prints like a derived one, and a number that can be none prints like an `Option`.
 #[test]
-fn values_are_shown_as_a_derive_would_show_them(rt: HostRuntime) {
-    shows(&rt, &LinkFault::Memory, "Memory");
-    shows(&rt, &NumberOrNone::new(Some(9)), "Some(9)");
-    shows(&rt, &NumberOrNone::new(None), "None");
-    let fault = Fault::Link(LinkMissing { tlid: 7 });
-    let in_set = "In { set: 2, fault: Link(LinkMissing { tlid: 7 }) }";
-    shows(&rt, &CompareFault::In { set: 2, fault }, in_set);
-}
-
-/// The content of a type 1 record is kept as its columns, and is shown as its fields are.
-#[test]
-fn a_content_of_type_1_is_shown_by_its_fields(rt: HostRuntime) {
-    let set = lines_of(&rt, street());
-    let records = records_of(rt.alloc(), &set).expect(&rt, "the street");
-    let Some(Record::One(record)) = records.first() else {
-        assert!(&rt; false, "the first record is of type 1");
-        return;
-    };
-    let fields = record.body().fields();
-    let text = format!(in rt.alloc(); "{fields:?}").expect(&rt, "the fields");
-    let beginning = b"Body1Fields { side1: ";
-    let found = text.as_bytes().get(..beginning.len()).unwrap_or_default();
-    same_items(&rt, "the first field", found, beginning);
-    shows(&rt, record.body(), &text);
-}
-
-#[test]
-fn faults_beside_those_of_sets_say_what_they_are(rt: HostRuntime) {
-    says(&rt, &FieldKind::BadPoint, "this is not a point");
-    says(
-        &rt,
-        &FieldKind::GapInRecord,
-        "a used place follows an unused one",
-    );
-    says(&rt, &NUMBER, NO_NUMBER);
-    says(&rt, &DeviceFault, "the device failed");
+fn faults_of_two_sets_and_of_words_are_reported(rt: HostRuntime) {
     let fault = Fault::Memory;
     let second = CompareFault::In { set: 2, fault };
     says(&rt, &second, "refused 9 Memory in set 2");
@@ -243,4 +67,14 @@ fn faults_beside_those_of_sets_say_what_they_are(rt: HostRuntime) {
     let text = "error: no such word\n\nUsage: tigercanon\n";
     let usage = String::from_str(rt.alloc(), text).expect(&rt, text);
     says(&rt, &PlanFault::Usage(usage), text);
+}
+
+/// A comparison's fault is shown as a derived `Debug` would show it.
+#[test]
+fn a_fault_of_a_comparison_is_shown_whole(rt: HostRuntime) {
+    let fault = Fault::Link(LinkMissing { tlid: 7 });
+    let in_set = CompareFault::In { set: 2, fault };
+    let shown = format!(in rt.alloc(); "{in_set:?}").expect(&rt, "there is memory");
+    let wanted = "In { set: 2, fault: Link(LinkMissing { tlid: 7 }) }";
+    same(&rt, "a fault in a set", &shown.as_str(), &wanted);
 }

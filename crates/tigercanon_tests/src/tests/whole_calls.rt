@@ -2,9 +2,9 @@
 
 use super::comparing::{same, same_items};
 use super::masked::PRINT;
-use super::renamings::{carries, has_lists, turn_of_the_street};
 use super::{Host, lines_of};
-use test_support::sets::Set;
+use test_support::renamings::{Lists, TURN};
+use test_support::sets::{Set, carries};
 use test_support::worked_sets::{street, street_respelt, street_text, street_turned, worked};
 use tigercanon::{Fault, Verdict, are_one_map, compare, fingerprint, normalise_to, respell};
 use tl_load::{LoadFault, SlowSource, Source};
@@ -24,7 +24,7 @@ fn a_street_is_respelt_and_has_a_fingerprint(rt: HostRuntime) {
 fn are_compared(rt: &impl Host, set: &Set<'_>, other: &Set<'_>) {
     let verdict = compare(rt.alloc(), &[set.bytes], &[other.bytes]).expect(rt, set.row);
     let found = match &verdict {
-        Verdict::Same(by) => Some(carries(rt, set.row, set.bytes, other.bytes, by)),
+        Verdict::Same(by) => carries(rt.alloc(), set.bytes, other.bytes, by),
         Verdict::Different => None,
     };
     drop(verdict);
@@ -51,7 +51,7 @@ fn a_street_is_renamed_onto_the_street_from_its_other_end(rt: HostRuntime) {
     let other = lines_of(&rt, street_turned());
     let verdict = compare(rt.alloc(), &[&set], &[&other]).expect(&rt, "both are accepted");
     match &verdict {
-        Verdict::Same(renaming) => has_lists(&rt, "the street", renaming, &turn_of_the_street()),
+        Verdict::Same(renaming) => same(&rt, "the street", &Lists::of(renaming), &TURN),
         Verdict::Different => assert!(&rt; false, "they are one map"),
     }
     drop(verdict);

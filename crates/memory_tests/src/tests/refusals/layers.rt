@@ -2,47 +2,43 @@
 
 use super::super::Host;
 use super::super::comparing::same;
-use super::{
-    ALONE, Run, ample_answer, count_growths, ended, linking, pieces, print_growths, reading, refuse,
-};
+use super::{ended, linking, pieces, print_growths};
+use test_support::growths::{Call, Run, growths_on, refuse};
 use test_support::sets::{Set, SetLines};
 use test_support::worked_sets::worked;
 use tigercanon::Fault;
 
 /// The run of a whole call, counted by the layer that reports out of memory: loading, linking, the profile, or the steps after them.
-fn normalise_by_layer(rt: &impl Host, set: &Set<'_>, asked: usize) -> Run {
-    refuse(rt, asked);
-    let outcome = tigercanon::normalise(rt.alloc(), &[set.bytes]);
-    let place = match &outcome {
-        Err(Fault::Load(_)) => 0usize,
-        Err(Fault::Link(_)) => 1,
-        Err(Fault::Profile(_)) => 2,
-        _ => 3,
-    };
-    ended(rt, outcome).counted_at(place)
+struct NormaliseByLayer;
+
+impl<R: Host> Call<R> for NormaliseByLayer {
+    fn run(&self, rt: &R, set: &Set<'_>, asked: usize) -> Run {
+        refuse(rt.alloc(), asked);
+        let outcome = tigercanon::normalise(rt.alloc(), &[set.bytes]);
+        let place = match &outcome {
+            Err(Fault::Load(_)) => 0usize,
+            Err(Fault::Link(_)) => 1,
+            Err(Fault::Profile(_)) => 2,
+            _ => 3,
+        };
+        ended(rt, outcome).counted_at(place)
+    }
 }
 
 /// How often a call reports out of memory while each of its growths is refused in turn, by the place where it is counted.
-fn memory_reports<R: Host, F: Fn(&R, &Set<'_>, usize) -> Run>(
-    rt: &R,
-    set: &Set<'_>,
-    call: F,
-) -> [usize; 4]
-    requires { F.IsAlwaysCallable call }
-{
-    let ample = ample_answer(rt, set, &call);
-    count_growths(rt, set, &ample, ALONE, &call).reported
+fn memory_reports<R: Host, C: Call<R>>(rt: &R, set: &Set<'_>, call: &C) -> [usize; 4] {
+    growths_on(rt, set, call).expect(rt, set.row).reported
 }
 
 /// Each layer reports as many refusals within a whole call as it does alone. Returns how many linking reports.
 fn layers_report_their_refusals(rt: &impl Host, lines: &SetLines) -> usize {
     let set = lines.set();
-    let found = memory_reports(rt, &set, normalise_by_layer);
+    let found = memory_reports(rt, &set, &NormaliseByLayer);
     let wanted = [
-        memory_reports(rt, &set, reading::tables)[3],
-        memory_reports(rt, &set, linking::link_in_order)[3],
-        memory_reports(rt, &set, linking::order_by_shape)[3],
-        memory_reports(rt, &set, pieces::write_admitted)[3],
+        memory_reports(rt, &set, &linking::TablesOf)[3],
+        memory_reports(rt, &set, &linking::LinkInOrder)[3],
+        memory_reports(rt, &set, &linking::OrderByShape)[3],
+        memory_reports(rt, &set, &pieces::WriteAdmitted)[3],
     ];
     same(rt, lines.row, &found, &wanted);
     found[1]

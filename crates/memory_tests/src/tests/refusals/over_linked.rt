@@ -6,11 +6,11 @@ ghost use Rattle.county_chart.specs.Packing.{type_after_type};
 
 use super::super::Host;
 use super::super::comparing::same;
-use super::linking::{chains_by_shape, is_of_set};
-use super::reading::tables_of;
-use super::{Run, answered, has_refused, refuse};
+use super::answered;
+use super::linking::{chains_by_shape, is_of_set, tables_of};
 use bumpalo::Bump;
 use std::alloc::Global;
+use test_support::growths::{Call, Run, has_refused, refuse};
 use test_support::sets::Set;
 use tigercanon::Fault;
 use tl_county::{Chart, CountyOver, DirectedChain, LinkedRecords, link_in_order};
@@ -45,12 +45,16 @@ fn order_of<C: Chart + Drop>(
     }
 }
 
-pub(super) fn admit_linked(rt: &impl Host, set: &Set<'_>, asked: usize) -> Run {
-    let arena = Bump::new(rt.alloc());
-    let linked = link_in_order(rt.alloc(), tables_of(rt, set)).expect(rt, set.row);
-    let county = linked.county(rt.alloc(), &arena).expect(rt, set.row);
-    refuse(rt, asked);
-    let outcome = admit_over(rt.alloc(), county, &linked);
-    let refused = has_refused(rt);
-    answered(rt, refused, order_of(rt, set, outcome))
+pub(super) struct AdmitLinked;
+
+impl<R: Host> Call<R> for AdmitLinked {
+    fn run(&self, rt: &R, set: &Set<'_>, asked: usize) -> Run {
+        let arena = Bump::new(rt.alloc());
+        let linked = link_in_order(rt.alloc(), tables_of(rt, set)).expect(rt, set.row);
+        let county = linked.county(rt.alloc(), &arena).expect(rt, set.row);
+        refuse(rt.alloc(), asked);
+        let outcome = admit_over(rt.alloc(), county, &linked);
+        let refused = has_refused(rt.alloc());
+        answered(rt, refused, order_of(rt, set, outcome))
+    }
 }

@@ -7,10 +7,11 @@ ghost use Rattle.tl_profile.specs.Profile.{IsInProfile};
 
 use super::super::Host;
 use super::super::comparing::same;
-use super::linking::{admitted_of, carries_onto};
-use super::{Run, answered, ended, has_refused, refuse};
+use super::linking::carries_onto;
+use super::{answered, ended};
 use std::alloc::{AllocError, Global};
-use test_support::sets::Set;
+use test_support::growths::{Call, Run, has_refused, refuse};
+use test_support::sets::{Set, admitted_of};
 use tigercanon::Fault;
 use tl_cert::Renaming;
 use tl_county::{Chart, DirectedChain};
@@ -35,10 +36,33 @@ fn text_of_admitted<C: Chart + Drop>(
 }
 
 /// The canonical county, and its text in memory.
-pub(super) fn write_admitted(rt: &impl Host, set: &Set<'_>, asked: usize) -> Run {
-    let admitted = admitted_of(rt, set);
-    refuse(rt, asked);
-    ended(rt, text_of_admitted(rt.alloc(), admitted))
+pub(super) struct WriteAdmitted;
+
+impl<R: Host> Call<R> for WriteAdmitted {
+    fn run(&self, rt: &R, set: &Set<'_>, asked: usize) -> Run {
+        let admitted = admitted_of(rt.alloc(), set.bytes).expect(rt, set.row);
+        refuse(rt.alloc(), asked);
+        ended(rt, text_of_admitted(rt.alloc(), admitted))
+    }
+}
+
+/// The canonical county. The answer is the renaming onto it.
+pub(crate) struct Canonise;
+
+impl<R: Host> Call<R> for Canonise {
+    fn run(&self, rt: &R, set: &Set<'_>, asked: usize) -> Run {
+        let admitted = admitted_of(rt.alloc(), set.bytes).expect(rt, set.row);
+        refuse(rt.alloc(), asked);
+        let outcome = tl_number::canonise(rt.alloc(), admitted);
+        let refused = has_refused(rt.alloc());
+        match outcome {
+            Ok((county, renaming)) => {
+                drop(county);
+                answered(rt, refused, Ok(renaming))
+            }
+            Err(_) => Run::out_of_memory(refused),
+        }
+    }
 }
 
 /// A county in the profile, in its ascending arrangement.
@@ -63,18 +87,23 @@ fn renaming_onto<C: Chart>(rt: &impl Host, set: &Set<'_>, view: &Arranged<C>) ->
 }
 
 /// The arranged county. The answer is the renaming onto it.
-pub(super) fn arrange_chains(rt: &impl Host, set: &Set<'_>, asked: usize) -> Run {
-    let chart = admitted_of(rt, set).into_chart();
-    let arrangement = ascending_arrangement(rt.alloc(), &chart).expect(rt, set.row);
-    refuse(rt, asked);
-    let outcome = arrange_ascending(rt.alloc(), chart, arrangement);
-    let refused = has_refused(rt);
-    match outcome {
-        Ok(view) => {
-            let renaming = renaming_onto(rt, set, &view);
-            drop(view);
-            answered(rt, refused, Ok(renaming))
+pub(super) struct ArrangeChains;
+
+impl<R: Host> Call<R> for ArrangeChains {
+    fn run(&self, rt: &R, set: &Set<'_>, asked: usize) -> Run {
+        let admitted = admitted_of(rt.alloc(), set.bytes).expect(rt, set.row);
+        let chart = admitted.into_chart();
+        let arrangement = ascending_arrangement(rt.alloc(), &chart).expect(rt, set.row);
+        refuse(rt.alloc(), asked);
+        let outcome = arrange_ascending(rt.alloc(), chart, arrangement);
+        let refused = has_refused(rt.alloc());
+        match outcome {
+            Ok(view) => {
+                let renaming = renaming_onto(rt, set, &view);
+                drop(view);
+                answered(rt, refused, Ok(renaming))
+            }
+            Err(_) => Run::out_of_memory(refused),
         }
-        Err(_) => answered::<()>(rt, refused, Err(Fault::Memory)),
     }
 }
