@@ -158,7 +158,11 @@ impl<K: Collector> LoaderFor<K> {
         ensures no_device { IfErr result IsNotDevice }
     {
         if self.line.is_empty() {
-            return self.judge_next(without_carriage_return(bytes), is_clean);
+            // Only a fault is copied: to copy every result, each line would wait until the bytes of the one before are in memory.
+            return match self.judge_next(without_carriage_return(bytes), is_clean) {
+                Ok(()) => Ok(()),
+                Err(fault) => Err(fault),
+            };
         }
         self.buffer_bytes(bytes)?;
         self.end_held_line()

@@ -1,8 +1,10 @@
-use Rattle.std.proofs.Common.{rules, ◌≡◌, ◌≤◌, ◌+◌, ◌*◌, ℕ, Result, Ok, Err, [], ◌∷◌, arith}
+use Rattle.std.proofs.Common.{rules, ◌≡◌, ◌≤◌, ◌+◌, ◌*◌, ◌++◌, ℕ, Result, Ok, Err, [], ◌∷◌, arith, subst}
 use Rattle.tl_load.proofs.Common.{LONGEST_LINE, LoadFault, OnOk, err_from_is_err_and, seen}
 use Rattle.tl_load.proofs.LineLemmas.{clean_without_return, without_return_length}
 use Rattle.tl_load.proofs.Steps.{ends_line, takes_then, fault_then}
 use Rattle.tl_load.proofs.Views.{empty_is}
+use Rattle.tl_load.specs.Keeping.{Lifts}
+use Rattle.tl_load.specs.Steps.{Takes}
 use Rattle.tl_load.proofs.loader_for.LoaderFor.end_line.Goals as goal
 
 -- a judged line has at most 230 bytes with its line ending, so that 230 for each of them is enough
@@ -14,11 +16,18 @@ line_used (Err f) line bytes was now open_was short one dropped none open_now = 
 pub judge_next-requires-clause-clean : goal.judge_next-requires-clause-clean
 judge_next-requires-clause-clean g c = search (rules, clean_without_return)
 
-pub returns-then-is_empty-clause-takes : goal.returns-then-is_empty-clause-takes
-returns-then-is_empty-clause-takes g c = search (rules, empty_is, ends_line)
+pub returns-in-Ok-clause-takes : goal.returns-in-Ok-clause-takes
+returns-in-Ok-clause-takes g c =
+    subst (λ result. Lifts g.K.Collector.holds (Takes (c.args.bytes.now ++ 10 ∷ [])) c.args.self.now result c.judge_next.new.self)
+    c.in-Ok.is (search (rules, empty_is, ends_line))
 
-pub returns-then-is_empty-clause-used : goal.returns-then-is_empty-clause-used
-returns-then-is_empty-clause-used g c = search (rules, empty_is, without_return_length, line_used)
+pub returns-in-Ok-clause-used : goal.returns-in-Ok-clause-used
+returns-in-Ok-clause-used g c = search (rules, empty_is, without_return_length, line_used)
+
+pub returns-in-Err-clause-takes : goal.returns-in-Err-clause-takes
+returns-in-Err-clause-takes g c =
+    subst (λ result. Lifts g.K.Collector.holds (Takes (c.args.bytes.now ++ 10 ∷ [])) c.args.self.now result c.judge_next.new.self)
+    c.in-Err.is (search (rules, empty_is, ends_line))
 
 pub returns-in_err-buffer_bytes-clause-takes : goal.returns-in_err-buffer_bytes-clause-takes
 returns-in_err-buffer_bytes-clause-takes g c =
