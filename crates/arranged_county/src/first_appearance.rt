@@ -4,7 +4,7 @@
 //! chain doesn't wait until another's number is found. They are stored with their new numbers, and no number is looked up
 //! again.
 
-ghost use Rattle.std.specs.Prelude.{◌≡◌, ◌++◌, [], Some, IfOk, OnOk, flat_map, length, map, option_map};
+ghost use Rattle.std.specs.Prelude.{◌≡◌, [], Some, IfOk, OnOk, flat_map, length, map, option_map};
 ghost use Rattle.ordered_lists.specs.Entries.{entry_values};
 ghost use Rattle.canonical_form.specs.Arrangement.{polygons_in_order};
 ghost use Rattle.canonical_form.specs.EndsAndSides.{changed_both, ends_of, keys_at, sides_of};
@@ -24,42 +24,8 @@ use std::alloc::{AllocError, Global};
 use std::hash::Hash;
 use tl_layout::{NumberOrNone, Side};
 
-/// How many chains are read together: first the ends of all of them, then their sides.
-const CHAINS_TOGETHER: usize = 64;
-
-/// Appends the ends of these directed chains.
-fn push_ends<C: Chart>(
-    ends: &mut Vec<Ends>,
-    chart: &C,
-    arrangement: &[DirectedChain],
-) -> Result<(), AllocError>
-    requires { HasChainsOf (C.county chart.now) arrangement.now }
-    ensures { OnOk result (map Some ends.new.items ≡ map Some ends.old.items ++ map (λ directed. option_map ends_of (directed_chain (C.county chart.now) directed)) arrangement.now) }
-{
-    for directed in arrangement {
-        ends.push(ends_of_directed(chart, *directed))?;
-    }
-    Ok(())
-}
-
-/// Appends the sides of these directed chains.
-fn push_sides<C: Chart>(
-    sides: &mut Vec<Sides>,
-    chart: &C,
-    arrangement: &[DirectedChain],
-) -> Result<(), AllocError>
-    requires { HasChainsOf (C.county chart.now) arrangement.now }
-    ensures { OnOk result (map Some sides.new.items ≡ map Some sides.old.items ++ map (λ directed. option_map sides_of (directed_chain (C.county chart.now) directed)) arrangement.now) }
-{
-    for directed in arrangement {
-        sides.push(sides_of_directed(chart, *directed))?;
-    }
-    Ok(())
-}
-
-/// The ends and the sides of these directed chains. They are read before any node or polygon is numbered, so that reading one chain
-/// need not wait for another. A chain may lie anywhere in memory: reading the ends of some chains brings them into the cache, and their
-/// sides are read from there.
+/// The ends and the sides of these directed chains, each one after the other. They are read before any node or polygon is numbered, so
+/// that reading one chain need not wait for another, and in one walk, since a chain may lie anywhere in memory.
 ///
 /// # Errors
 ///
@@ -75,9 +41,9 @@ pub fn links_along<C: Chart>(
 {
     let mut ends = Vec::with_capacity(alloc, arrangement.len())?;
     let mut sides = Vec::with_capacity(alloc, arrangement.len())?;
-    for some in arrangement.chunks(CHAINS_TOGETHER) {
-        push_ends(&mut ends, chart, some)?;
-        push_sides(&mut sides, chart, some)?;
+    for directed in arrangement {
+        ends.push(ends_of_directed(chart, *directed))?;
+        sides.push(sides_of_directed(chart, *directed))?;
     }
     Ok((ends, sides))
 }
