@@ -241,8 +241,7 @@ pub trait Chart {
         self.topology_at(place).unwrap()
     }
 
-    /// The node where the chain at a place starts (record type I, TZIDS), or none. The place must be less than the number of
-    /// chains.
+    /// The node where the chain at a place starts (record type I, TZIDS), or none. The place must be below the number of chains.
     final fn start_node_there(&self, place: usize) -> Option<u64>
         requires { place < length (county self.now).chains }
         ensures { Some result ≡ option_map (λ c. c.start_node) (chain_at (county self.now) place) }

@@ -85,7 +85,7 @@ fn are_read_again(records: &[Record]) -> bool {
     true
 }
 
-/// Whether what can be turned of each record is turned back.
+/// Whether a second turn restores the parts of each record that can be turned.
 fn are_turned_back(records: &[Record]) -> bool {
     for record in records {
         if !is_record_turned_back(record) {

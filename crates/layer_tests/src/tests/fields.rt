@@ -7,7 +7,7 @@ use tl_layout::{
     Body1, Body5, Body7, Point, Ranges, Rec1, Rec2, Rec4, Rec6, Rec8, RecI, RecP, Record,
 };
 
-/// The fields one after another, each followed by a bar.
+/// The fields as one text, each followed by a bar.
 fn joined(rt: &impl Host, fields: &[&[u8]]) -> Vec<u8> {
     let mut text = Vec::new(rt.alloc());
     for field in fields {
@@ -17,7 +17,7 @@ fn joined(rt: &impl Host, fields: &[&[u8]]) -> Vec<u8> {
     text
 }
 
-/// The fields, one after another, are those of this line.
+/// Checks that the fields, each followed by a bar, make up this text.
 fn are(rt: &impl Host, row: &str, fields: &[&[u8]], wanted: &[u8]) {
     let found = joined(rt, fields);
     same_items(rt, row, &found, wanted);
@@ -92,7 +92,7 @@ fn reports_ranges(rt: &impl Host, ranges: &Ranges) {
     are(rt, "FRADDL to ZIPR", &fields, wanted);
 }
 
-/// Checks that the content of a chain is that of its fields.
+/// Checks all fields of a chain's content.
 fn is_of_its_fields(rt: &impl Host, body: &Body1) {
     let again = Body1::of(&body.fields());
     same(rt, "the content of its fields", &again, body);

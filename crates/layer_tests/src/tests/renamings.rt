@@ -62,7 +62,7 @@ const ODD: Lists<'static> = Lists {
     turned: &[1, 9, 1, 4],
 };
 
-/// The inverse of that, by the first pair of a TLID.
+/// The inverse of `ODD`, by the first pair of each TLID.
 const ODD_BACK: Lists<'static> = Lists {
     chains: &[(2, 1), (3, 1), (2, 4)],
     names: &[(6, 5), (6, 5)],
@@ -81,7 +81,7 @@ const NEXT: Lists<'static> = Lists {
     turned: &[2, 3],
 };
 
-/// The odd one and then the next one, which leaves out the numbers that it doesn't name.
+/// `ODD` followed by `NEXT`. Numbers that `NEXT` doesn't name are left out.
 const ODD_AND_NEXT: Lists<'static> = Lists {
     chains: &[(1, 7), (1, 8), (4, 7)],
     lands: &[(1, 8)],
