@@ -139,11 +139,11 @@ pub trait Chart {
     fn topology_at(&self, place: usize) -> Option<BodyI>
         ensures { result ≡ option_map (λ c. c.topology) (chain_at (county self.now) place) };
 
-    /// The node where the chain at a place starts (record type I, TZIDS), or none.
+    /// The start node of the chain at a place (record type I, TZIDS), or none.
     fn start_node_at(&self, place: usize) -> Option<Option<u64>>
         ensures { result ≡ option_map (λ c. c.start_node) (chain_at (county self.now) place) };
 
-    /// The node where the chain at a place ends (record type I, TZIDE), or none.
+    /// The end node of the chain at a place (record type I, TZIDE), or none.
     fn end_node_at(&self, place: usize) -> Option<Option<u64>>
         ensures { result ≡ option_map (λ c. c.end_node) (chain_at (county self.now) place) };
 
@@ -241,7 +241,7 @@ pub trait Chart {
         self.topology_at(place).unwrap()
     }
 
-    /// The node where the chain at a place starts (record type I, TZIDS), or none. The place must be below the number of chains.
+    /// The start node of the chain at a place (record type I, TZIDS), or none. The place must be less than the number of chains.
     final fn start_node_there(&self, place: usize) -> Option<u64>
         requires { place < length (county self.now).chains }
         ensures { Some result ≡ option_map (λ c. c.start_node) (chain_at (county self.now) place) }
@@ -249,7 +249,7 @@ pub trait Chart {
         self.start_node_at(place).unwrap()
     }
 
-    /// The node where the chain at a place ends (record type I, TZIDE), or none. The place must be less than the number of chains.
+    /// The end node of the chain at a place (record type I, TZIDE), or none. The place must be less than the number of chains.
     final fn end_node_there(&self, place: usize) -> Option<u64>
         requires { place < length (county self.now).chains }
         ensures { Some result ≡ option_map (λ c. c.end_node) (chain_at (county self.now) place) }

@@ -92,7 +92,7 @@ fn reports_ranges(rt: &impl Host, ranges: &Ranges) {
     are(rt, "FRADDL to ZIPR", &fields, wanted);
 }
 
-/// Checks all fields of a chain's content.
+/// Makes a chain's content again from its fields, and checks that it is the same.
 fn is_of_its_fields(rt: &impl Host, body: &Body1) {
     let again = Body1::of(&body.fields());
     same(rt, "the content of its fields", &again, body);

@@ -34,7 +34,7 @@ fn stands(rt: &impl Host, loader: &mut Loader, fault: LoadFault) {
     same(rt, "parts", &loader.parts(), &parts);
 }
 
-/// The run of a loader with this result so far. If it is a fault, every later call returns it too; otherwise the loader is finished.
+/// The run of a loader with this result so far. If it is a fault, every later call must return it too; otherwise the loader is finished.
 fn finished(rt: &impl Host, loader: Loader, so_far: Result<(), LoadFault>) -> Run {
     let mut loader = loader;
     match so_far {
