@@ -13,8 +13,8 @@ ghost use Rattle.arranged_county.specs.Views.{arranged_county, arrangement_in, s
 use crate::arranged::{Arranged, Evidence};
 use crate::landmark_order::lands_there;
 use county_chart::{Chart, DirectedChain, PolygonKey};
+use renamings::Renaming;
 use std::alloc::{AllocError, Global};
-use tl_cert::Renaming;
 
 /// Numbers, each with its place, counted from 1.
 fn number_all(alloc: Global, olds: &[u64]) -> Result<Vec<(u64, u64)>, AllocError>

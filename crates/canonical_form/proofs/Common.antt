@@ -96,12 +96,12 @@ pub use Rattle.tl_layout.specs.declared.record_type.Record.TheVariants.{Eight, F
 pub use Rattle.tl_layout.specs.declared.type5.Body5.{Body5}
 pub use Rattle.tl_layout.specs.declared.type7.Body7.{Body7}
 pub use Rattle.tl_layout.specs.declared.type_p.BodyP.{BodyP}
-pub use Rattle.tl_profile.proofs.SameChoices.{choices_of_shapes}
-pub use Rattle.tl_profile.specs.Choices.{choices, is_either_way, most_choices, open_places, running, shapes}
-pub use Rattle.tl_profile.specs.Profile.{IsInProfile}
-pub use Rattle.tl_profile.specs.ShapeOrder.{AreInShapeOrder, OrderOfShapes, points_along}
-pub use Rattle.tl_profile.specs.Shapes.{least_points, points_from}
-pub use Rattle.tl_profile.specs.declared.fault.ProfileFault.TheVariants.{TooSymmetric}
+pub use Rattle.county_chart.proofs.Profile.SameChoices.{choices_of_shapes}
+pub use Rattle.county_chart.specs.Choices.{choices, is_either_way, most_choices, open_places, running, shapes}
+pub use Rattle.county_chart.specs.Profile.{IsInProfile}
+pub use Rattle.county_chart.specs.ShapeOrder.{AreInShapeOrder, OrderOfShapes, points_along}
+pub use Rattle.county_chart.specs.Shapes.{least_points, points_from}
+pub use Rattle.county_chart.specs.declared.profile_fault.ProfileFault.TheVariants.{TooSymmetric}
 pub use Rattle.tl_shape.specs.Chain.{Chain}
 pub use Rattle.tl_shape.specs.PointOrder.{points_cmp}
 pub use Rattle.tl_shape.specs.Turned.{turned_if}

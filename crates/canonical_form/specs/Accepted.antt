@@ -5,8 +5,8 @@ use Rattle.county_chart.specs.County.{County, county_of}
 use Rattle.county_chart.specs.LinkRules.{IsLinked, IsFirstBrokenRule}
 use Rattle.county_chart.specs.Renumbering.{AreSame}
 use Rattle.county_chart.specs.declared.fault.LinkFault.{LinkFault}
-use Rattle.tl_profile.specs.Profile.{IsInProfile, IsFirstBrokenClause}
-use Rattle.tl_profile.specs.declared.fault.ProfileFault.{ProfileFault}
+use Rattle.county_chart.specs.Profile.{IsInProfile, IsFirstBrokenClause}
+use Rattle.county_chart.specs.declared.profile_fault.ProfileFault.{ProfileFault}
 use Rattle.canonical_form.specs.Canonical.{IsCanonical}
 use Rattle.canonical_form.specs.Sights.{plain}
 

@@ -17,7 +17,7 @@ use Rattle.county_chart.specs.Packing.{numbered_from}
 use Rattle.county_chart.specs.PolygonKeys.{PolygonKey, key_cmp}
 use Rattle.county_chart.specs.Renumbering.{Renumbering, carried_chain, carried_name, carried_polygon, carried_landmark, carried_link}
 use Rattle.ordered_lists.specs.Pairs.{image}
-use Rattle.tl_profile.specs.Shapes.{least_points}
+use Rattle.county_chart.specs.Shapes.{least_points}
 use Rattle.canonical_form.specs.Growth.{first_seen, numbered}
 use Rattle.canonical_form.specs.Uses.{all_uses, name_key, name_key_cmp, landmark_key, landmark_key_cmp}
 

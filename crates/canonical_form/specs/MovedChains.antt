@@ -4,7 +4,7 @@ use Rattle.std.specs.List.{AllByRecursion}
 use Rattle.county_chart.specs.County.{County}
 use Rattle.county_chart.specs.DirectedChains.{directed_chain}
 use Rattle.county_chart.specs.declared.directed_chain.DirectedChain.{DirectedChain}
-use Rattle.tl_profile.specs.declared.open_places.OpenPlace.{OpenPlace}
+use Rattle.county_chart.specs.declared.open_place.OpenPlace.{OpenPlace}
 use Rattle.canonical_form.specs.WholeArrangements.{AreWhole}
 
 -- the chain in the other direction

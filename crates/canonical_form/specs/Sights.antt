@@ -4,7 +4,7 @@ use Rattle.county_chart.specs.County.{County}
 use Rattle.county_chart.specs.CountyRules.{IsCounty}
 use Rattle.county_chart.specs.Limits.{IsWithinLimits}
 use Rattle.county_chart.specs.Renumbering.{Renumbering, Carries}
-use Rattle.tl_profile.specs.Profile.{IsInProfile}
+use Rattle.county_chart.specs.Profile.{IsInProfile}
 
 -- the county itself
 abbrev pub plain : County → County

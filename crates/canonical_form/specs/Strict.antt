@@ -10,7 +10,7 @@ use Rattle.tl_shape.specs.PointOrder.{points_cmp}
 use Rattle.county_chart.specs.County.{County, county_of}
 use Rattle.county_chart.specs.LinkRules.{IsLinked}
 use Rattle.county_chart.specs.Renumbering.{AreSame}
-use Rattle.tl_profile.specs.Profile.{AreAllOnSides}
+use Rattle.county_chart.specs.Profile.{AreAllOnSides}
 use Rattle.canonical_form.specs.ArrangedCounty.{entry_points}
 use Rattle.canonical_form.specs.Canonical.{IsArrangedList}
 use Rattle.canonical_form.specs.Sights.{plain}

@@ -7,7 +7,7 @@ use Rattle.tl_shape.specs.PointOrder.{points_cmp}
 use Rattle.county_chart.specs.County.{County}
 use Rattle.ordered_lists.specs.Orders.{has_repeat}
 use Rattle.county_chart.specs.Packing.{packed}
-use Rattle.tl_profile.specs.Choices.{is_either_way, shapes}
+use Rattle.county_chart.specs.Choices.{is_either_way, shapes}
 use Rattle.canonical_form.specs.ArrangedCounty.{IsTidy}
 use Rattle.canonical_form.specs.Arrangement.{Arrangement, Arranges, entries_of, entry_shape, arranged, ascending}
 use Rattle.canonical_form.specs.Canonical.{IsNotAfter}

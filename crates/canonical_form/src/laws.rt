@@ -22,7 +22,7 @@ ghost use Rattle.canonical_form.specs.SeenRecords.{ShowsNoMore};
 ghost use Rattle.canonical_form.specs.Sights.{IsSight, plain};
 ghost use Rattle.canonical_form.specs.Strict.{IsStrictlyAccepted, IsStrictOf, IsStrictThrough};
 ghost use Rattle.canonical_form.specs.Tidy.{HasShapesApart, IsChoice, IsLeastChoice, arranged_list, numbered_choice};
-ghost use Rattle.tl_profile.specs.Choices.{choices};
+ghost use Rattle.county_chart.specs.Choices.{choices};
 
 /// A list in the canonical order, packing and numbering is the packing of its county, for any choice of TLIDs and directions.
 pub fn arranged_lists_are_the_packing_of_their_county()

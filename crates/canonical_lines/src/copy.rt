@@ -2,9 +2,10 @@
 
 ghost use Rattle.canonical_lines.specs.SpeltLine.{with_version};
 ghost use Rattle.std.specs.Prelude.{◌≡◌, ◌≤◌, ◌⊎◌, [], ◌∷◌, ◌++◌, length, OnOk, OnErr};
+ghost use Rattle.tl_layout.specs.Bytes.{longest_line};
 
 use std::alloc::AllocError;
-use tl_layout::{LONGEST_LINE, reserve_ahead};
+use tl_layout::reserve_ahead;
 
 /// Writes the version 2006 into columns 2 to 5 of a line.
 #[inline(always)]
@@ -23,7 +24,7 @@ fn put_version(line: &mut [u8])
 #[inline(always)]
 pub fn copy_line(text: &mut Vec<u8>, line: &[u8]) -> Result<(), AllocError>
     requires some { 5 ≤ length line.now }
-    requires most { length line.now ≤ LONGEST_LINE }
+    requires most { length line.now ≤ longest_line }
     ensures ok { OnOk result (text.new.items ≡ text.old.items ++ (with_version line.now ++ 10 ∷ [])) }
     // The text is as before, or lacks only the LF.
     ensures err { OnErr result ((text.new.items ≡ text.old.items) ⊎ (text.new.items ≡ text.old.items ++ with_version line.now)) }

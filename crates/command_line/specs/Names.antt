@@ -121,7 +121,8 @@ AreUsualWordsPlanned = (plan : Plan) (is_stem : Bool) (first second : Text) → 
     → AreUnderstood (usual_words plan.job is_stem plan.mask first second)
     × IsPlanned (usual_words plan.job is_stem plan.mask first second) plan
 
--- a job whose arguments can't include these flags: with one of them they aren't a valid command line
+-- a job that takes no flag for fields to leave out: its name, perhaps --stem, one or both of these flags and a plain name aren't a
+-- valid command line
 abbrev pub TakesNoMask : Job → Type 0
 TakesNoMask job = (is_stem : Bool) (mask : Mask) (first : Text) → IsPlain first
     → AreUnderstood (word_of job ∷ (stem_words is_stem ++ (source_words mask.sources ++ (reserved_words mask.reserved ++ first ∷ []))))

@@ -10,7 +10,8 @@ pub fn usual_words_are_planned()
     ensures { AreUsualWordsPlanned }
 {}
 
-/// Respelling and checking have no flags that leave fields out: arguments with one of these flags aren't a valid command line.
+/// Respelling and checking have no flags that leave fields out. Arguments of one form aren't a valid command line: the job, perhaps
+/// `--stem`, one or both of these flags, and a name. Nothing is said about other orders.
 pub fn masks_are_for_jobs_on_maps()
     ensures respell { TakesNoMask Job.Respell }
     ensures check { TakesNoMask Job.Check }

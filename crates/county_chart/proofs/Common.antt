@@ -80,3 +80,14 @@ pub use Rattle.tl_layout.specs.declared.type7.Body7.{Body7}
 pub use Rattle.tl_layout.specs.declared.type_p.BodyP.{BodyP}
 pub use Rattle.tl_shape.specs.Chain.{Chain}
 pub use Rattle.tl_shape.specs.Turned.{turned_if}
+pub use Rattle.county_chart.specs.ChartWords.{points_of}
+pub use Rattle.county_chart.specs.Choices.{is_either_way, running, shapes}
+pub use Rattle.county_chart.specs.CountyRules.{has_body}
+pub use Rattle.county_chart.specs.Laws.KeyOrders.{points_keys}
+pub use Rattle.county_chart.specs.Profile.{IsInProfile}
+pub use Rattle.county_chart.specs.Renumbering.{AreSame}
+pub use Rattle.county_chart.specs.ShapeOrder.{along_shapes, points_along}
+pub use Rattle.county_chart.specs.Shapes.{least_points, points_from}
+pub use Rattle.county_chart.specs.declared.directed_chain.DirectedChain.{DirectedChain}
+pub use Rattle.std.proofs.lemmas.Option.{slice_get-map}
+pub use Rattle.tl_shape.specs.PointOrder.{points_cmp}

@@ -6,5 +6,6 @@ pub mod Samples
 pub mod Packing
 pub mod Limits
 pub mod Masks
+pub mod Profile
 pub mod DirectedChains
 pub mod Common

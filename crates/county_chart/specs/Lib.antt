@@ -17,6 +17,12 @@ pub mod Packing
 pub mod Limits
 pub mod LimitsProps
 pub mod Reports
+pub mod Shapes
+pub mod Choices
+pub mod ShapeOrder
+pub mod Profile
+pub mod ProfileReports
+pub mod SameParts
 pub mod JoinedLists
 pub mod MaskedCounty
 pub mod MaskedProps

@@ -1,9 +1,9 @@
 //! One county: what the map is that a list of records describes, and how a county is read, however it is stored.
 //!
-//! The definitions of counties, of the rules for records that fit together and of renamings are in `specs/`; `tl_county` links
-//! records to a county. A county is read by the calls of `Chart`: by place (`tlid_at`), by number (`chain_body_of`), and at a place
-//! that is known to exist (`tlid_there`). To store a county another way, implement `Chart`, or a `StoredChain` for a county in
-//! tables. `County` and `CountyIn` are such counties, `Masked` is a county under a mask, `Lent` one behind a reference, and a
+//! The definitions of counties, of the rules for records that fit together, of renamings and of the profile are in `specs/`;
+//! `tl_county` links records to a county, and `tl_profile` checks the profile. A county is read by the calls of `Chart`: by place
+//! (`tlid_at`), by number (`chain_body_of`), and at a place that is known to exist (`tlid_there`). To store a county another way, implement `Chart`, or a `StoredChain` for a county in
+//! tables. `County` and `CountyIn` are such counties, `Masked` is a county under a mask, and a
 //! `DirectedChain` reads a chain from either end.
 #![tactic(auto)]
 
@@ -14,10 +14,11 @@ mod directed_chain;
 mod fault;
 mod joined_lists;
 mod keys;
-mod lent;
 mod listed;
 mod masked;
 mod masked_bodies;
+mod open_place;
+mod profile_fault;
 mod stored;
 
 pub use body_order::cmp_landmark_bodies;
@@ -29,9 +30,10 @@ pub use keys::key_set::KeySet;
 pub use keys::keyed::{Keyed, are_in_order, least_unknown, put_in_order, split_group};
 pub use keys::polygon_set::{OnPolygons, cenids_of, distinct_polygons};
 pub use keys::record_keys::{LandmarkKey, LinkKey, PolygonKey, polygon_number};
-pub use lent::Lent;
 pub use listed::{Listed, Same, Tested, all_hold, are_same, compare, push_all};
 pub use masked::Masked;
+pub use open_place::OpenPlace;
+pub use profile_fault::ProfileFault;
 pub use stored::landmark::Landmark;
 pub use stored::lent::{LandmarkIn, NameIn};
 pub use stored::storage::{StoredChain, StoredLandmark, StoredName};

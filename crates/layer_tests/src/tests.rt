@@ -1,12 +1,12 @@
 //! Tests that need a running call of a layer.
 
+mod carrying;
 mod comparing;
 mod counties;
 mod fields;
 mod lanes;
 mod loading;
 mod masks;
-mod renamings;
 mod sinks;
 mod texts;
 

@@ -14,10 +14,9 @@ ghost use Rattle.record_groups.specs.TypeOneOrder.{one_at, ones_of};
 ghost use Rattle.canonical_form.specs.WholeArrangements.{AreWhole, arranged_by};
 
 use crate::group_order::compare_records;
-use county_chart::{Chart, DirectedChain, Listed, Same};
+use county_chart::{Chart, DirectedChain, Listed, OpenPlace, Same};
 use std::cmp::Ordering;
 use tl_layout::Rec1;
-use tl_profile::OpenPlace;
 
 /// The record of type 1 of a directed chain, if there is one at a place.
 fn record_of_directed<C: Chart>(chart: &C, directed: DirectedChain, place: usize) -> Rec1

@@ -10,7 +10,7 @@ pub mod long;
 pub mod made;
 pub mod masks;
 pub mod refused_sets;
-pub mod renamings;
+pub mod renaming_lists;
 pub mod sets;
 pub mod twin_sets;
 pub mod worked_sets;

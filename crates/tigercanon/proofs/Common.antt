@@ -54,5 +54,5 @@ pub use Rattle.tl_load.specs.declared.fault.LoadFault.TheVariants.{Device}
 pub use Rattle.canonical_form.proofs.CanonicalLists.Accepted.{one_canonical_same, plain_sight}
 pub use Rattle.canonical_form.proofs.Masks.MaskedSights.{masked_sight}
 pub use Rattle.canonical_form.specs.Sights.{IsSight, plain}
-pub use Rattle.tl_profile.specs.Profile.{IsFirstBrokenClause}
+pub use Rattle.county_chart.specs.Profile.{IsFirstBrokenClause}
 pub use Rattle.tl_write.specs.declared.fault.WriteFault.{WriteFault}

@@ -6,8 +6,9 @@ use Rattle.tigercanon.proofs.Common.{ReportsSet, fault_line, IsOfMissing, Does, 
 use Rattle.std.proofs.Common.{Contains, IfErr, lit<}
 use Rattle.county_chart.specs.declared.fault.LinkFault.TheVariants.{Memory as LinkMemory}
 use Rattle.tl_load.specs.declared.fault.LoadFault.TheVariants.{Memory as LoadMemory}
-use Rattle.tl_profile.specs.declared.fault.ProfileFault.TheVariants.{Memory as ProfileMemory}
+use Rattle.county_chart.specs.declared.profile_fault.ProfileFault.TheVariants.{Memory as ProfileMemory}
 use Rattle.tigercanon.specs.declared.program.ending.Ending.TheVariants.{Different}
+use Rattle.tigercanon.specs.Devices.{DeviceFailed}
 use Rattle.tigercanon.specs.Running.{ReportsMissing}
 use Rattle.tigercanon.specs.Statuses.{status_of, status_of_outcome}
 use Rattle.tigercanon.specs.TwoSets.{IsDifferent, IsDone, IsPartOnly, IsReportedWhy, RefusesOne}
@@ -57,6 +58,13 @@ module _ (first second : GivenSet) where
       go (inr none) = absurd (not_refusal fault none s)
   reported_refused job fault set reported s = (fault, reported.1.1, set_refused first fault reported.1.0 s)
 
+-- a device that is reported failed
+reported_device : (first second : GivenSet) (out : GivenOutput) (job : Job) (set : Option ℕ) → ReportsFor job first second (Load Device) set
+    → DeviceFailed first second out
+reported_device first second out Compare set (inl reported) = inl (reported.1.1 refl)
+reported_device first second out Compare set (inr reported) = inr (inl (reported.3.1 refl))
+reported_device first second out job set reported = inl (reported.1.0.1 refl)
+
 -- what a job's status says about its sets and its output
 module _ (mask : Mask) (job : Job) (first second : GivenSet) (out : GivenOutput) where
   left_refused : (fault : Fault) (set : Option ℕ) → LeavesStopped mask job first second out fault set → status_of fault ≡ 3
@@ -71,6 +79,18 @@ module _ (mask : Mask) (job : Job) (first second : GivenSet) (out : GivenOutput)
   left_some : (fault : Fault) (set : Option ℕ) → LeavesStopped mask job first second out fault set → IsPartOnly mask job first second out
   left_some (Write f) set left = inr (f.written, left.2)
   left_some fault set left = inl left.0
+
+  left_device : (fault : Fault) (set : Option ℕ) → LeavesStopped mask job first second out fault set → status_of fault ≡ 4
+      → DeviceFailed first second out
+  left_device (Write f) set left s = inr (inr left.1)
+  left_device (Load Device) set left s = reported_device first second out job set left.1
+  left_device (Load LoadMemory) set left s = absurd (omega (arith, s))
+  left_device (Load f) set left s = absurd (omega (arith, s))
+  left_device (Link LinkMemory) set left s = absurd (omega (arith, s))
+  left_device (Link f) set left s = absurd (omega (arith, s))
+  left_device (Profile ProfileMemory) set left s = absurd (omega (arith, s))
+  left_device (Profile f) set left s = absurd (omega (arith, s))
+  left_device Memory set left s = absurd (omega (arith, s))
 
   pub done : (r : Result Ending Stopped) → Does mask job first second out r → status_of_outcome r ≡ 0 → IsDone mask job first second out
   done (Ok Done) did s = did
@@ -98,6 +118,9 @@ module _ (mask : Mask) (job : Job) (first second : GivenSet) (out : GivenOutput)
 
     pub kept : status ≢ 4 → out.kept
     kept other = left_kept stopped.fault stopped.set stopped.left (λ four. other (stopped.status_is ∙ four))
+
+    pub device : status ≡ 4 → DeviceFailed first second out
+    device four = left_device stopped.fault stopped.set stopped.left (sym stopped.status_is ∙ four)
 
     pub some : IsPartOnly mask job first second out
     some = left_some stopped.fault stopped.set stopped.left

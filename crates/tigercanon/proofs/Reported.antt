@@ -5,7 +5,7 @@ use Rattle.tigercanon.proofs.Common.{Fault, Load, Link, Profile, Write, Memory, 
 use Rattle.std.proofs.Common.{IfErr}
 use Rattle.tl_load.specs.declared.fault.LoadFault.TheVariants as faults
 use Rattle.county_chart.specs.declared.fault.LinkFault.TheVariants.{Memory as LinkMemory}
-use Rattle.tl_profile.specs.declared.fault.ProfileFault.TheVariants.{Memory as ProfileMemory}
+use Rattle.county_chart.specs.declared.profile_fault.ProfileFault.TheVariants.{Memory as ProfileMemory}
 use Rattle.tigercanon.specs.Comparing.{ReportsMemoryOfAccepted, ReportsRefusalOfOne}
 use Rattle.tigercanon.specs.declared.library.comparing.CompareFault.TheVariants.{Memory as NoMemory}
 use Rattle.tigercanon.proofs.CanonicalTexts.{err_holds, if_err_by}

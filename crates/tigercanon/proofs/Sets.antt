@@ -19,7 +19,7 @@ use Rattle.tigercanon.specs.Normalising.{IsOnlyText}
 use Rattle.tigercanon.specs.Sets.{IsCanonicalText}
 use Rattle.county_chart.specs.LinkRules.{IsLinked, IsFirstBrokenRule}
 use Rattle.county_chart.proofs.Rules.LinkFaults.{linked_has_none, one_first_rule}
-use Rattle.tl_profile.proofs.ProfileFaults.{profile_has_none, one_first_clause}
+use Rattle.county_chart.proofs.Profile.ProfileFaults.{profile_has_none, one_first_clause}
 use Rattle.canonical_form.proofs.CanonicalLists.Accepted.{accepted_or_refused, same_canonical_text}
 use Rattle.canonical_form.proofs.CanonicalLists.Accepted.{canonical_accepted, canonical_as_it_is, canonical_of_itself}
 use Rattle.canonical_form.proofs.CanonicalLists.Ascending.{canonical_exists}

@@ -4,14 +4,17 @@ use Rattle.command_line.specs.declared.plans.Job.{Job}
 use Rattle.command_line.specs.declared.plans.Job.TheVariants.{Normalise}
 use Rattle.tigercanon.specs.declared.program.ending.Ending.{Ending}
 use Rattle.tigercanon.specs.declared.program.ending.Stopped.{Stopped}
+use Rattle.tigercanon.specs.declared.program.files.Opened.{Opened}
 use Rattle.tl_load.specs.declared.fault.LoadFault.{LoadFault}
 use Rattle.tl_load.specs.declared.fault.LoadFault.TheVariants.{Device}
+use Rattle.tl_load.specs.declared.source.Counted.{Counted}
 use Rattle.tl_write.specs.declared.fault.WriteFault.{WriteFault}
 use Rattle.tigercanon.specs.declared.fault.Fault.{Fault}
 use Rattle.tigercanon.specs.declared.fault.Fault.TheVariants.{Load, Write, Memory}
+use Rattle.tigercanon.specs.Files.{bytes_of}
 use Rattle.tigercanon.specs.Normalising.{AreRefusedParts, StopsShort, Took}
 use Rattle.tigercanon.specs.Outcomes.{GivenOutput, GivenSet}
-use Rattle.tigercanon.specs.Reading.{AreRead, IsFaultOfRead, SomeUnread}
+use Rattle.tigercanon.specs.Reading.{AreRead, IsFaultOfRead, NoneFailed, SomeUnread}
 
 -- the sources were read to their ends, and the parts that they gave are refused for this fault; or it is a fault in the lines of
 -- every set that begins with what was read, and the read that brought it was the last
@@ -32,6 +35,19 @@ set_of_sources job remaining given failed reads before after = record {
   refused = IsRefusalBy job remaining given reads before after;
   unread = SomeUnread failed reads before after;
 }
+
+-- a set of files that count their failures, as a job's reading left it
+abbrev pub set_of_counted : {R : Type 0} → Job → (R → Option (List ℕ)) → List (Counted (Opened R)) → List (Counted (Opened R)) → GivenSet
+set_of_counted job remaining before after =
+    set_of_sources job (λ file. bytes_of remaining file.inner) (λ file. file.given) (λ file. file.failures) (λ file. file.reads) before after
+
+-- no file has failed
+abbrev pub NoFileFailed : {R : Type 0} → List (Counted (Opened R)) → List (Counted (Opened R)) → Type 0
+NoFileFailed before after = NoneFailed (λ file. file.failures) before after
+
+-- a device failed: a set couldn't be read, or the output failed
+abbrev pub DeviceFailed : GivenSet → GivenSet → GivenOutput → Type 0
+DeviceFailed first second out = first.unread ⊎ (second.unread ⊎ out.failed)
 
 -- a sink, as printing left it
 abbrev pub to_sink : {W : Type 0} → (W → ℕ) → (W → List ℕ → Type 0) → W → W → GivenOutput

@@ -6,8 +6,8 @@ use Rattle.tl_load.specs.declared.fault.LoadFault.TheVariants.{Device, Memory as
 use Rattle.county_chart.specs.County.{county_of}
 use Rattle.county_chart.specs.LinkRules.{IsLinked, IsFirstBrokenRule}
 use Rattle.county_chart.specs.declared.fault.LinkFault.TheVariants.{Memory as LinkMemory}
-use Rattle.tl_profile.specs.Profile.{IsFirstBrokenClause}
-use Rattle.tl_profile.specs.declared.fault.ProfileFault.TheVariants.{Memory as ProfileMemory}
+use Rattle.county_chart.specs.Profile.{IsFirstBrokenClause}
+use Rattle.county_chart.specs.declared.profile_fault.ProfileFault.TheVariants.{Memory as ProfileMemory}
 use Rattle.tigercanon.specs.Respelling.{IsFirstFault}
 use Rattle.tigercanon.specs.Sets.{IsSetRefusal}
 use Rattle.tigercanon.specs.declared.fault.Fault.{Fault}

@@ -1,7 +1,23 @@
 -- What the files of a set hold.
-use Rattle.std.specs.Prelude.{◌≡◌, ℕ, List, [], ◌∷◌, Option, Some, None, IfSome, slice_get, map, All, Contains, ◌⊎◌}
+use Rattle.std.below.core.specs.declared.int.u64.TheConstants.{MAX}
+use Rattle.std.specs.Prelude.{◌≡◌, ◌<◌, ℕ, Bool, true, false, List, [], ◌∷◌, Option, Some, None, IfSome, slice_get, map, All, Contains, ◌⊎◌}
 use Rattle.tigercanon.specs.declared.program.files.Opened.{Opened}
 use Rattle.tigercanon.specs.declared.program.files.Opened.TheVariants.{Found, Absent, Failed}
+use Rattle.tl_load.specs.declared.source.Counted.{Counted}
+
+-- whether a file couldn't be opened
+abbrev pub is_failed : {R : Type 0} → Opened R → Bool
+is_failed Failed = true
+is_failed (Found reader) = false
+is_failed Absent = false
+
+-- how each of these files was opened
+abbrev pub opened_of : {R : Type 0} → List (Counted (Opened R)) → List (Opened R)
+opened_of files = map (λ file. file.inner) files
+
+-- files that count their failures can be read once more
+pub record AreReadable {R : Type 0} (files : List (Counted (Opened R))) : Type 0 where
+  pub below : All (λ file. file.failures < MAX) files
 
 -- a set lacks a file that it needs: the first is absent, or one couldn't be opened
 abbrev pub IsMissing : {R : Type 0} → List (Opened R) → Type 0

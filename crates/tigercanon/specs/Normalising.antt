@@ -8,7 +8,7 @@ use Rattle.county_chart.specs.Renumbering.{AreSame}
 use Rattle.county_chart.specs.declared.fault.LinkFault.TheVariants.{Memory as LinkMemory}
 use Rattle.canonical_form.specs.Canonical.{IsCanonical}
 use Rattle.canonical_form.specs.Sights.{plain}
-use Rattle.tl_profile.specs.declared.fault.ProfileFault.TheVariants.{Memory as ProfileMemory}
+use Rattle.county_chart.specs.declared.profile_fault.ProfileFault.TheVariants.{Memory as ProfileMemory}
 use Rattle.tigercanon.specs.Reading.{AreRead, IsFaultOfRead}
 use Rattle.tigercanon.specs.Sets.{IsAcceptedSet, IsCanonicalTextThrough, IsSetRefusal}
 use Rattle.tl_write.specs.declared.fault.WriteFault.{WriteFault}

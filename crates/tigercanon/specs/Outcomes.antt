@@ -6,7 +6,7 @@ use Rattle.tl_layout.specs.declared.record_type.Record.{Record}
 use Rattle.tl_load.specs.Loaded.{IsOfLines}
 use Rattle.tl_load.specs.declared.fault.LoadFault.TheVariants.{Device}
 use Rattle.county_chart.specs.declared.fault.LinkFault.TheVariants.{Memory as LinkMemory}
-use Rattle.tl_profile.specs.declared.fault.ProfileFault.TheVariants.{Memory as ProfileMemory}
+use Rattle.county_chart.specs.declared.profile_fault.ProfileFault.TheVariants.{Memory as ProfileMemory}
 use Rattle.county_chart.specs.MaskedCounty.{masked}
 use Rattle.tl_layout.specs.declared.mask.Mask.{Mask}
 use Rattle.command_line.specs.declared.plans.Job.{Job}

@@ -6,7 +6,7 @@ use Rattle.fault_report.specs.declared.kind.FaultKind.TheVariants as kind
 use Rattle.fault_report.specs.declared.report.FaultReport.{FaultReport}
 use Rattle.tl_load.specs.Reports.{load_report}
 use Rattle.county_chart.specs.Reports.{link_report}
-use Rattle.tl_profile.specs.Reports.{profile_report}
+use Rattle.county_chart.specs.ProfileReports.{profile_report}
 use Rattle.tl_write.specs.Reports.{write_report}
 use Rattle.command_line.specs.declared.plans.PlanFault.{PlanFault}
 use Rattle.command_line.specs.declared.plans.PlanFault.TheVariants.{Usage, Memory as PlanMemory}

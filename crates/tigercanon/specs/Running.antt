@@ -61,20 +61,31 @@ abbrev pub ReportsWhy : {R : Type 0} → Mask → Job → (R → Option (List �
 ReportsWhy mask job remaining first second old new reported status =
     IsReportedWhy mask job (set_of_files remaining first) (set_of_files remaining second) (to_writer old new) reported status
 
+-- this holds for a set that the job reads
+abbrev pub HoldsForOne : Job → Type 0 → Type 0 → Type 0
+HoldsForOne Compare first second = first ⊎ second
+HoldsForOne job first second = first
+
+-- it holds for the named set; if it does for both sets, the first is named, and a job that reads one set names none
+abbrev pub NamesOne : Job → Type 0 → Type 0 → Option ℕ → Type 0
+NamesOne Compare first second set = ((set ≡ Some 1) × first) ⊎ ((set ≡ Some 2) × ¬ first × second)
+NamesOne job first second set = (set ≡ None) × first
+
 -- a set that the job reads lacks a file that it needs
 abbrev pub IsMissingOne : {R : Type 0} → Job → List (Opened R) → List (Opened R) → Type 0
-IsMissingOne Compare first second = IsMissing first ⊎ IsMissing second
-IsMissingOne job first second = IsMissing first
+IsMissingOne job first second = HoldsForOne job (IsMissing first) (IsMissing second)
 
--- the named set lacks a file that it needs; if both sets do, the first is named, and a job that reads one set names none
+-- the named set lacks a file that it needs
 abbrev pub NamesMissing : {R : Type 0} → Job → List (Opened R) → List (Opened R) → Option ℕ → Type 0
-NamesMissing Compare first second set =
-    ((set ≡ Some 1) × IsMissing first) ⊎ ((set ≡ Some 2) × ¬ IsMissing first × IsMissing second)
-NamesMissing job first second set = (set ≡ None) × IsMissing first
+NamesMissing job first second set = NamesOne job (IsMissing first) (IsMissing second) set
+
+-- a job stopped because one of its sets, which it names, lacks a file that it needs, by what is known of each set
+abbrev pub IsOfLacking : Job → Type 0 → Type 0 → Stopped → Type 0
+IsOfLacking job first second stopped = (stopped.fault ≡ Load Device) × NamesOne job first second stopped.set
 
 -- a job stopped because a file is missing, and names the set that lacks it
 abbrev pub IsOfMissing : {R : Type 0} → Job → List (Opened R) → List (Opened R) → Stopped → Type 0
-IsOfMissing job first second stopped = (stopped.fault ≡ Load Device) × NamesMissing job first second stopped.set
+IsOfMissing job first second = IsOfLacking job (IsMissing first) (IsMissing second)
 
 -- the reported line says that a file is missing, and which of two sets lacks it
 abbrev pub ReportsMissing : {R : Type 0} → Job → List (Opened R) → List (Opened R) → (List ℕ → Type 0) → Type 0

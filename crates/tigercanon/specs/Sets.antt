@@ -9,7 +9,7 @@ use Rattle.county_chart.specs.County.{County, county_of}
 use Rattle.county_chart.specs.Packing.{packed}
 use Rattle.county_chart.specs.Renumbering.{Renumbering, Carries}
 use Rattle.county_chart.specs.LinkRules.{IsLinked, IsFirstBrokenRule}
-use Rattle.tl_profile.specs.Profile.{IsFirstBrokenClause}
+use Rattle.county_chart.specs.Profile.{IsFirstBrokenClause}
 use Rattle.canonical_form.specs.Accepted.{IsAccepted, IsCanonicalThrough}
 use Rattle.canonical_form.specs.Sights.{plain}
 use Rattle.tigercanon.specs.Respelling.{record_limit, IsFirstFault}

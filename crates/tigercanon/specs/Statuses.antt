@@ -9,7 +9,7 @@ use Rattle.tigercanon.specs.declared.program.ending.Ending.TheVariants.{Done, Di
 use Rattle.tigercanon.specs.declared.program.ending.Stopped.{Stopped}
 use Rattle.county_chart.specs.declared.fault.LinkFault.TheVariants.{Memory as LinkMemory}
 use Rattle.tl_load.specs.declared.fault.LoadFault.TheVariants.{Device, Memory as LoadMemory}
-use Rattle.tl_profile.specs.declared.fault.ProfileFault.TheVariants.{Memory as ProfileMemory}
+use Rattle.county_chart.specs.declared.profile_fault.ProfileFault.TheVariants.{Memory as ProfileMemory}
 
 -- the status for the fault of a job: 4 for a device, 5 for a failed allocation, and 3 for any other fault
 abbrev pub status_of : Fault → ℕ

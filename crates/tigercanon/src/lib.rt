@@ -5,7 +5,7 @@
 //! sets are one map. Each of them has a form for maps under a mask, without the fields that name the sources of the data, or
 //! without the reserved ones: [`normalise_masked`] and the like. [`respell`] returns records in canonical spelling, and [`check`]
 //! returns whether a set is accepted. [`plan`] reads a command line, and [`run`] does the planned job, over files that its caller
-//! opened; the crate `tigercanon_main` is the program around the two. `alike.rt` and `citing.rt` of the crate `uses` are proved
+//! opened, as does [`run_counted`], over files that count their failures; the crate `tigercanon_main` is the program around these. `alike.rt` and `citing.rt` of the crate `uses` are proved
 //! callers.
 #![tactic(auto)]
 
@@ -15,7 +15,7 @@ mod library;
 mod program;
 
 pub use command_line::{
-    Job, Plan, PlanFault, masks_are_for_jobs_on_maps, plan, usual_words_are_planned,
+    Job, Plan, PlanFault, masks_are_for_jobs_on_maps, plan, usual_words_are_planned, words_of,
 };
 pub use fault::Fault;
 pub use laws::{
@@ -34,7 +34,8 @@ pub use library::normalising::{
     normalise_with_renaming_masked,
 };
 pub use library::respelling::respell;
-pub use program::files::Opened;
+pub use program::counted::run_counted;
+pub use program::files::{CountedFile, Opened, open_files};
 pub use program::refusal::Refusal;
 pub use program::reporting::{args_error, exit_status, report};
 pub use program::running::run;

@@ -5,13 +5,15 @@ use std::alloc::AllocError;
 use std::env;
 use std::fs::{self, File};
 use std::process::ExitCode;
-use tigercanon::{Opened, Plan, PlanFault, args_error, exit_status, plan, run};
+use tigercanon::{
+    Opened, Plan, PlanFault, args_error, exit_status, open_files, plan, run_counted, words_of,
+};
 use tl_write::CountedOut;
 
 /// The command-line arguments, without the program's own name.
 fn words(rt: &HostRuntime) -> Result<Vec<String>, PlanFault> {
     match env::args(rt) {
-        Ok(args) => Ok(args.skip(1).collect(rt.alloc())?),
+        Ok(args) => Ok(words_of(rt.alloc(), args)?),
         Err(error) => Err(args_error(rt.alloc(), &error)),
     }
 }
@@ -26,15 +28,17 @@ fn open_all(rt: &HostRuntime, names: &[String]) -> Result<Vec<Opened<File>>, All
 
 /// Carries out the plan, and returns the exit status.
 fn done(rt: &HostRuntime, planned: &Plan) -> Result<u8, AllocError> {
-    let first = open_all(rt, &planned.first)?;
-    let second = open_all(rt, &planned.second)?;
-    Ok(run(
+    let mut first = open_files(rt.alloc(), open_all(rt, &planned.first)?)?;
+    let mut second = open_files(rt.alloc(), open_all(rt, &planned.second)?)?;
+    let mut out = CountedOut::new(rt.stdout());
+    let mut err = CountedOut::new(rt.stderr());
+    Ok(run_counted(
         rt.alloc(),
         planned.job,
-        first,
-        second,
-        &mut rt.stdout(),
-        &mut rt.stderr(),
+        &mut first,
+        &mut second,
+        &mut out,
+        &mut err,
         planned.mask,
     ))
 }

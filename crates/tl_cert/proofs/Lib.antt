@@ -1,5 +1,4 @@
 pub mod Common
-pub mod Tables
 pub mod Places
 pub mod LinksCarried
 pub mod PartsCarried

@@ -7,7 +7,7 @@ use Rattle.tl_layout.specs.declared.type7.Body7.{Body7}
 use Rattle.tl_layout.specs.declared.type_p.BodyP.{BodyP}
 use Rattle.tl_shape.specs.Chain.{Chain}
 use Rattle.tl_shape.specs.Turned.{turned_if}
-use Rattle.county_chart.specs.ChartWords.{points_of, feats_of, ranges_of, chain_under, name_under, polygon_under, bodies_under}
+use Rattle.county_chart.specs.ChartWords.{chain_under, name_under, polygon_under, bodies_under}
 use Rattle.county_chart.specs.County.{County}
 use Rattle.county_chart.specs.DirectedChains.{directed_chain}
 use Rattle.county_chart.specs.declared.directed_chain.DirectedChain.{DirectedChain}
@@ -39,21 +39,3 @@ IsLandmarkThere r b entry = bodies_under b (image nat_cmp r.lands entry.0) ≡ e
 abbrev pub ArePartsThere : Renumbering → County → County → Type 0
 ArePartsThere r a b = AllByRecursion (IsChainThere r b) a.chains × AllByRecursion (IsNameThere r b) a.names
     × AllByRecursion (IsPolygonThere r b) a.polygons × AllByRecursion (IsLandmarkThere r b) a.landmarks
-
--- two chains, or none, have the same content in their records of types 1 and I
-pub record HaveSameContent (o p : Option Chain) : Type 0 where
-  pub body : option_map (λ c. c.body) o ≡ option_map (λ c. c.body) p
-  pub topology : option_map (λ c. c.topology) o ≡ option_map (λ c. c.topology) p
-
--- they have the same nodes and the same sides
-pub record HaveSameEnds (o p : Option Chain) : Type 0 where
-  pub start_node : option_map (λ c. c.start_node) o ≡ option_map (λ c. c.start_node) p
-  pub end_node : option_map (λ c. c.end_node) o ≡ option_map (λ c. c.end_node) p
-  pub left : option_map (λ c. c.left) o ≡ option_map (λ c. c.left) p
-  pub right : option_map (λ c. c.right) o ≡ option_map (λ c. c.right) p
-
--- they have the same points, names and address ranges
-pub record HaveSameLists (o p : Option Chain) : Type 0 where
-  pub points : points_of o ≡ points_of p
-  pub feats : feats_of o ≡ feats_of p
-  pub ranges : ranges_of o ≡ ranges_of p

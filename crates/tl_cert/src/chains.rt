@@ -3,9 +3,10 @@
 ghost use Rattle.std.specs.Bool.{Decides};
 ghost use Rattle.std.specs.Ordering.{nat_cmp};
 ghost use Rattle.std.specs.Prelude.{◌≡◌, map, option_map};
-ghost use Rattle.tl_cert.specs.PartsThere.{HaveSameContent, HaveSameEnds, HaveSameLists, chain_carried};
+ghost use Rattle.tl_cert.specs.PartsThere.{chain_carried};
 ghost use Rattle.county_chart.specs.ChartWords.{chain_at, feats_of};
 ghost use Rattle.county_chart.specs.DirectedChains.{directed_chain};
+ghost use Rattle.county_chart.specs.SameParts.{HaveSameContent, HaveSameEnds, HaveSameLists};
 ghost use Rattle.ordered_lists.specs.Pairs.{image};
 ghost use Rattle.county_chart.specs.Renumbering.{renumbered_side};
 

@@ -1,26 +1,21 @@
-//! Renamings: which old number became which new one, and which chains were turned.
+//! Checking renamings.
 //!
-//! `Renaming::of_parts` makes a renaming from its six lists, and its getters return them. `inverse` is the renaming back, `then` is one
-//! renaming after another, and `check` decides whether a renaming carries one county onto another. `check` accepts any counties and any
-//! renaming: it returns `false` if the renaming doesn't pair their numbers. `check_masked` decides the same for two counties under a
-//! mask. Numbers are sorted and looked up in tables, never searched along a list. `citing.rt` of the crate `uses` has a proved caller.
+//! `check` decides whether a renaming carries one county onto another. It accepts any counties and any renaming: it returns `false` if
+//! the renaming doesn't pair their numbers. `check_masked` decides the same for two counties under a mask, which it reads through
+//! references (`Lent`). Numbers are sorted and looked up in tables, never searched along a list. A `Renaming` is made in `renamings`,
+//! whose public items are public here too.
 #![tactic(auto)]
 
 mod carrying;
 mod chains;
-mod composing;
 mod county_numbers;
-mod images;
+mod lent;
 mod links;
 mod numbers_paired;
 mod pairing;
-mod pairs;
 mod parts;
-mod renaming;
 mod renaming_tables;
-mod sorted_numbers;
-mod turning;
 
 pub use carrying::{check, check_masked};
-pub use county_chart::PolygonKey;
-pub use renaming::{Renaming, RenamingParts};
+pub use lent::Lent;
+pub use renamings::{Images, PolygonKey, Renaming, RenamingParts, SortedNumbers};

@@ -11,10 +11,9 @@ ghost use Rattle.county_chart.specs.Renumbering.{NumbersArePaired};
 
 use crate::county_numbers::{Feats, Lands, Nodes, NumberKind, PolygonKeys, Tlids, numbers_of};
 use crate::pairing::{are_known, new_numbers, old_numbers};
-use crate::renaming::Renaming;
-use crate::sorted_numbers::SortedNumbers;
 use county_chart::{Chart, PolygonKey, Tested, all_hold};
 use ordered_lists::Key;
+use renamings::{Renaming, SortedNumbers};
 use std::alloc::{AllocError, Global};
 
 /// Whether the numbers are a permutation of those of one kind of a county.

@@ -6,10 +6,8 @@ ghost use Rattle.county_chart.specs.PolygonKeys.{key_cmp};
 ghost use Rattle.ordered_lists.specs.Pairs.{image};
 ghost use Rattle.county_chart.specs.Renumbering.{turns};
 
-use crate::images::Images;
-use crate::renaming::Renaming;
-use crate::sorted_numbers::SortedNumbers;
 use county_chart::PolygonKey;
+use renamings::{Images, Renaming, SortedNumbers};
 use std::alloc::{AllocError, Global};
 use std::marker::Model;
 

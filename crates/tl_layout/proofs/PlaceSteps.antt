@@ -13,7 +13,7 @@ use Rattle.std.proofs.Math.Nat.{suc-mul}
 use Rattle.tl_layout.specs.Laws.FieldLaws.{reads_on}
 use Rattle.tl_layout.specs.FieldFaults.{gap}
 use Rattle.tl_layout.specs.declared.fault.FieldFault.{FieldFault}
-use Rattle.tl_layout.specs.declared.coordinate.TheConstants.{MOST_LONGITUDE, MOST_LATITUDE}
+use Rattle.tl_layout.specs.Coordinates.{most_longitude, most_latitude}
 
 -- the items so far, followed by those that are read
 abbrev pub with_front : {A : Type 0} → List A → Result (List A) FieldFault → Result (List A) FieldFault
@@ -86,7 +86,7 @@ same_bytes (x ∷ xs) (y ∷ ys) h =
 
 -- a pair of zeros isn't a point
 zeros_read : (long lat : List ℕ) → long ≡ take 10 ZEROS → lat ≡ drop 10 ZEROS → (column : ℕ)
-    → pair_of column (coordinate_of MOST_LONGITUDE long) (coordinate_of MOST_LATITUDE lat) ≡ Ok None
+    → pair_of column (coordinate_of most_longitude long) (coordinate_of most_latitude lat) ≡ Ok None
 unfolding coordinate_of signed_of magnitude_of number_after point_or_none
 zeros_read long lat e f column = rw (e, f) refl
 

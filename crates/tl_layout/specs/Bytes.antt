@@ -26,6 +26,10 @@ blanks_if is_hidden width text = cond is_hidden (blanks width) text
 abbrev pub columns : ℕ → ℕ → List ℕ → List ℕ
 columns first last line = slice_range line (first - 1) last
 
+-- the length of the longest full line, one of type 1
+abbrev pub longest_line : ℕ
+longest_line = 228
+
 -- a full line of a record type: its first byte is the type, and it has exactly len allowed bytes
 pub record IsLine (rtype len : ℕ) (line : List ℕ) : Type 0 where
   pub begins : columns 1 1 line ≡ rtype ∷ []

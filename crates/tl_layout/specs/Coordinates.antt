@@ -1,15 +1,21 @@
 -- Points of the map, in millionths of a degree.
-use Rattle.std.specs.Prelude.{◌+◌, ◌≤◌, ◌<◌, ℤ, unsigned_abs}
-use Rattle.tl_layout.specs.declared.coordinate.TheConstants.{MOST_LONGITUDE, MOST_LATITUDE}
+use Rattle.std.specs.Prelude.{ℕ, ◌+◌, ◌≤◌, ◌<◌, ℤ, unsigned_abs}
+
+-- the greatest magnitude of a longitude, nine digits of millionths of a degree
+abbrev pub most_longitude : ℕ
+most_longitude = 999999999
+
+-- the greatest magnitude of a latitude, eight digits of millionths of a degree
+abbrev pub most_latitude : ℕ
+most_latitude = 99999999
 
 -- a longitude and a latitude, in millionths of a degree
 pub record Coordinates : Type 0 where
   pub long : ℤ
   pub lat : ℤ
 
--- a point of the map: the values have at most nine and eight digits, and they aren't both 0, which means
--- none
+-- a point of the map: the values are within their limits, and they aren't both 0, which means none
 pub record IsOnMap (point : Coordinates) : Type 0 where
-  pub long : unsigned_abs point.long ≤ MOST_LONGITUDE
-  pub lat : unsigned_abs point.lat ≤ MOST_LATITUDE
+  pub long : unsigned_abs point.long ≤ most_longitude
+  pub lat : unsigned_abs point.lat ≤ most_latitude
   pub somewhere : 0 < unsigned_abs point.long + unsigned_abs point.lat

@@ -10,7 +10,7 @@ use Rattle.tl_layout.specs.ColumnTable.{Kind, Number, NumberOrNone, Pair, PairOr
 use Rattle.tl_layout.specs.ColumnTable.{ValueOf, Row, SpellsField}
 use Rattle.tl_layout.specs.declared.fault.FieldKind.TheVariants.{BadPoint, BadNumber, GapInRecord}
 use Rattle.tl_layout.specs.declared.fault.FieldFault.{FieldFault}
-use Rattle.tl_layout.specs.declared.coordinate.TheConstants.{MOST_LONGITUDE, MOST_LATITUDE}
+use Rattle.tl_layout.specs.Coordinates.{most_longitude, most_latitude}
 
 -- a bad number, reported at this column
 abbrev pub bad_number : ℕ → FieldFault
@@ -30,10 +30,10 @@ pub record IsMalformed (limit : ℕ) (field : List ℕ) : Type 0 where
   pub no_value : (value : ℤ) → IsCoordinateField limit field value → ⊥
 
 abbrev pub HasMalformedLongitude : List ℕ → ℕ → Type 0
-HasMalformedLongitude line first = IsMalformed MOST_LONGITUDE (columns first (first + 9) line)
+HasMalformedLongitude line first = IsMalformed most_longitude (columns first (first + 9) line)
 
 abbrev pub HasMalformedLatitude : List ℕ → ℕ → Type 0
-HasMalformedLatitude line first = IsMalformed MOST_LATITUDE (columns (first + 10) (first + 18) line)
+HasMalformedLatitude line first = IsMalformed most_latitude (columns (first + 10) (first + 18) line)
 
 -- The fault reported for a pair that begins at this column: at the latitude's column if only the latitude is malformed, and at
 -- the first column otherwise.

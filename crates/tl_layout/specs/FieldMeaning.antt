@@ -1,10 +1,9 @@
 -- What the fields of a line spell: numbers, points, and places side by side.
 use Rattle.std.specs.Prelude.{ℕ, zero, suc, ◌+◌, ◌<◌, ◌⊎◌, List, Option, Some, None, pos, unsigned_abs, [], ◌∷◌}
 use Rattle.tl_layout.specs.Bytes.{columns}
-use Rattle.tl_layout.specs.Coordinates.{Coordinates}
+use Rattle.tl_layout.specs.Coordinates.{Coordinates, most_longitude, most_latitude}
 use Rattle.tl_layout.specs.NumberField.{IsNumberField}
 use Rattle.tl_layout.specs.CoordinateField.{IsCoordinateField, IsBlankField}
-use Rattle.tl_layout.specs.declared.coordinate.TheConstants.{MOST_LONGITUDE, MOST_LATITUDE}
 
 -- the field spells a number
 abbrev pub SpellsNumber : List ℕ → ℕ → Type 0
@@ -17,14 +16,14 @@ SpellsNumberOrNone field (Some n) = SpellsNumber field n
 
 -- The pair spells the point: two coordinates that aren't both 0.
 pub record SpellsPoint (long lat : List ℕ) (point : Coordinates) : Type 0 where
-  pub long_spelled : IsCoordinateField MOST_LONGITUDE long point.long
-  pub lat_spelled : IsCoordinateField MOST_LATITUDE lat point.lat
+  pub long_spelled : IsCoordinateField most_longitude long point.long
+  pub lat_spelled : IsCoordinateField most_latitude lat point.lat
   pub somewhere : 0 < unsigned_abs point.long + unsigned_abs point.lat
 
 -- The pair spells the point, or none: both fields are blank, or both are 0.
 abbrev pub SpellsPointOrNone : List ℕ → List ℕ → Option Coordinates → Type 0
 SpellsPointOrNone long lat None =
-    (IsBlankField long × IsBlankField lat) ⊎ (IsCoordinateField MOST_LONGITUDE long (pos 0) × IsCoordinateField MOST_LATITUDE lat (pos 0))
+    (IsBlankField long × IsBlankField lat) ⊎ (IsCoordinateField most_longitude long (pos 0) × IsCoordinateField most_latitude lat (pos 0))
 SpellsPointOrNone long lat (Some point) = SpellsPoint long lat point
 
 -- the place for a point that begins at this column of a line

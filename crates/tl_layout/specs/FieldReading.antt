@@ -2,14 +2,13 @@
 use Rattle.std.specs.Prelude.{◌≡◌, ℕ, zero, suc, ◌+◌, ◌==◌, List, Option, Some, None, Result, Ok, Err, if◌then◌else◌, ℤ}
 use Rattle.std.specs.Prelude.{unsigned_abs, [], ◌∷◌, Bool, true, false}
 use Rattle.tl_layout.specs.Bytes.{columns}
-use Rattle.tl_layout.specs.Coordinates.{Coordinates}
+use Rattle.tl_layout.specs.Coordinates.{Coordinates, most_longitude, most_latitude}
 use Rattle.tl_layout.specs.NumberReading.{number_of}
 use Rattle.tl_layout.specs.CoordinateReading.{coordinate_of}
 use Rattle.tl_layout.specs.declared.coordinate.Coordinate.{Coordinate}
 use Rattle.tl_layout.specs.declared.coordinate.Coordinate.TheVariants.{Malformed, Blank, Value}
 use Rattle.tl_layout.specs.declared.fault.FieldFault.{FieldFault}
 use Rattle.tl_layout.specs.FieldFaults.{bad_number, bad_point, gap}
-use Rattle.tl_layout.specs.declared.coordinate.TheConstants.{MOST_LONGITUDE, MOST_LATITUDE}
 
 -- reading continues after a value, and stops at the first fault
 unfoldable pub and_then : {A B : Type 0} → Result A FieldFault → (A → Result B FieldFault) → Result B FieldFault
@@ -57,8 +56,8 @@ pair_of column (Value long) (Value lat) = Ok (point_or_none long lat)
 -- how the pair that begins at this column is read if it may be no point
 unfoldable pub point_or_none_at : ℕ → List ℕ → Result (Option Coordinates) FieldFault
 point_or_none_at column line =
-    pair_of column (coordinate_of MOST_LONGITUDE (columns column (column + 9) line))
-    (coordinate_of MOST_LATITUDE (columns (column + 10) (column + 18) line))
+    pair_of column (coordinate_of most_longitude (columns column (column + 9) line))
+    (coordinate_of most_latitude (columns (column + 10) (column + 18) line))
 
 -- how the pair that begins at this column is read if it must be a point
 unfoldable pub point_at : ℕ → List ℕ → Result Coordinates FieldFault

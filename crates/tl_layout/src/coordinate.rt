@@ -3,8 +3,8 @@
 ghost use Rattle.std.specs.Prelude.{◌≡◌, ◌≤◌, ◌<◌, ◌-◌, ◌⊎◌, length, Some, IfSome};
 ghost use Rattle.tl_layout.specs.CoordinateReading.{plus_of, minus_of, magnitude_of, signed_of, coordinate_of};
 ghost use Rattle.tl_layout.specs.declared.coordinate.Coordinate.TheVariants.{Value};
-ghost use Rattle.tl_layout.specs.declared.coordinate.TheConstants.{MOST_LONGITUDE, MOST_LATITUDE};
 ghost use Rattle.tl_layout.specs.FieldTexts.{sign_of, coordinate_text, digits_text};
+ghost use Rattle.tl_layout.specs.Coordinates.{most_longitude, most_latitude};
 
 use crate::digits::{put_behind, put_eight_digits};
 use crate::number::{digits, eight_digits, nine_digits, trim_start};
@@ -56,7 +56,7 @@ fn magnitude(text: &[u8], limit: u32) -> Option<u32>
 
 /// The coordinate with a plus sign and this magnitude, or `Malformed` if there is none.
 fn plus(magnitude: Option<u32>) -> Coordinate
-    requires { IfSome magnitude (λ magnitude. magnitude ≤ MOST_LONGITUDE) }
+    requires { IfSome magnitude (λ magnitude. magnitude ≤ most_longitude) }
     ensures { result ≡ plus_of magnitude }
 {
     match magnitude {
@@ -67,7 +67,7 @@ fn plus(magnitude: Option<u32>) -> Coordinate
 
 /// The coordinate with a minus sign and this magnitude, or `Malformed` if there is none.
 fn minus(magnitude: Option<u32>) -> Coordinate
-    requires { IfSome magnitude (λ magnitude. magnitude ≤ MOST_LONGITUDE) }
+    requires { IfSome magnitude (λ magnitude. magnitude ≤ most_longitude) }
     ensures { result ≡ minus_of magnitude }
 {
     match magnitude {
@@ -81,7 +81,7 @@ fn minus(magnitude: Option<u32>) -> Coordinate
 #[tactic(auto, unfolding(crate::specs::CoordinateReading::coordinate_of, crate::specs::CoordinateReading::signed_of))]
 fn read_coordinate(field: &[u8], limit: u32) -> Coordinate
     requires len { length field.now ≤ 19 }
-    requires within { limit ≤ MOST_LONGITUDE }
+    requires within { limit ≤ most_longitude }
     ensures { result ≡ coordinate_of limit field.now }
 {
     match trim_start(field) {
@@ -111,7 +111,7 @@ fn signed(sign: u8, magnitude: u64) -> Option<i32>
 #[inline(always)]
 fn usual_longitude(field: &[u8]) -> Option<i32>
     requires { length field.now ≡ 10 }
-    ensures { IfSome result (λ value. coordinate_of MOST_LONGITUDE field.now ≡ Value value) }
+    ensures { IfSome result (λ value. coordinate_of most_longitude field.now ≡ Value value) }
 {
     signed(
         field[0],
@@ -123,7 +123,7 @@ fn usual_longitude(field: &[u8]) -> Option<i32>
 #[inline(always)]
 fn usual_latitude(field: &[u8]) -> Option<i32>
     requires { length field.now ≡ 9 }
-    ensures { IfSome result (λ value. coordinate_of MOST_LATITUDE field.now ≡ Value value) }
+    ensures { IfSome result (λ value. coordinate_of most_latitude field.now ≡ Value value) }
 {
     signed(field[0], eight_digits(u8x8::from_slice(&field[1..]))?)
 }
@@ -132,7 +132,7 @@ fn usual_latitude(field: &[u8]) -> Option<i32>
 #[inline(always)]
 pub fn read_longitude(field: &[u8]) -> Coordinate
     requires { length field.now ≡ 10 }
-    ensures { result ≡ coordinate_of MOST_LONGITUDE field.now }
+    ensures { result ≡ coordinate_of most_longitude field.now }
 {
     match usual_longitude(field) {
         Some(value) => Coordinate::Value(value),
@@ -144,7 +144,7 @@ pub fn read_longitude(field: &[u8]) -> Coordinate
 #[inline(always)]
 pub fn read_latitude(field: &[u8]) -> Coordinate
     requires { length field.now ≡ 9 }
-    ensures { result ≡ coordinate_of MOST_LATITUDE field.now }
+    ensures { result ≡ coordinate_of most_latitude field.now }
 {
     match usual_latitude(field) {
         Some(value) => Coordinate::Value(value),

@@ -1,14 +1,13 @@
 //! Reading fields by their columns, which are counted from 1 as in the column tables.
 
 ghost use Rattle.std.specs.Prelude.{◌≡◌, ◌+◌, ◌-◌, ◌≤◌, ◌<◌, length, IfOk};
-ghost use Rattle.tl_layout.specs.Bytes.{AreAllowed, columns};
+ghost use Rattle.tl_layout.specs.Bytes.{AreAllowed, columns, longest_line};
 ghost use Rattle.tl_layout.specs.FieldFaults.{gap, bad_point};
 ghost use Rattle.tl_layout.specs.FieldReading.{number_at, number_or_none_at, point_at, point_or_none_at};
 ghost use Rattle.tl_layout.specs.Numbers.{IsNumber, IsNumberOrNone};
 
 use crate::coordinate::{Coordinate, read_latitude, read_longitude};
 use crate::fault::{FieldFault, FieldKind};
-use crate::layout::LONGEST_LINE;
 use crate::number::{number, put_number};
 use crate::point::Point;
 use crate::text::Text;
@@ -18,7 +17,7 @@ use crate::text::Text;
 pub fn text_at<const N: usize>(line: &[u8], first: usize, last: usize) -> Text<N>
     requires allowed { AreAllowed line.now }
     requires from_one { 1 ≤ first }
-    requires within { (last ≤ length line.now) × (last ≤ LONGEST_LINE) }
+    requires within { (last ≤ length line.now) × (last ≤ longest_line) }
     requires width { last + 1 ≡ first + N }
     ensures { result ≡ columns first last line.now }
 {
@@ -35,7 +34,7 @@ pub fn text_at<const N: usize>(line: &[u8], first: usize, last: usize) -> Text<N
 pub fn read_number(line: &[u8], first: usize, last: usize) -> Result<u64, FieldFault>
     requires from_one { 1 ≤ first }
     requires ordered { first ≤ last }
-    requires within { (last ≤ length line.now) × (last ≤ LONGEST_LINE) }
+    requires within { (last ≤ length line.now) × (last ≤ longest_line) }
     requires short { last < first + 19 }
     ensures value { result ≡ number_at first last line.now }
     ensures in_range { IfOk result (IsNumber (last + 1 - first)) }
@@ -63,7 +62,7 @@ pub fn read_number_or_none(
 ) -> Result<Option<u64>, FieldFault>
     requires from_one { 1 ≤ first }
     requires ordered { first ≤ last }
-    requires within { (last ≤ length line.now) × (last ≤ LONGEST_LINE) }
+    requires within { (last ≤ length line.now) × (last ≤ longest_line) }
     requires short { last < first + 19 }
     ensures value { result ≡ number_or_none_at first last line.now }
     ensures in_range { IfOk result (IsNumberOrNone (last + 1 - first)) }
@@ -80,7 +79,7 @@ pub fn read_number_or_none(
 
 /// The fault of a bad point, reported at this column.
 fn bad_point(column: usize) -> FieldFault
-    requires { column ≤ LONGEST_LINE }
+    requires { column ≤ longest_line }
     ensures { result ≡ bad_point column }
 {
     FieldFault {
@@ -91,7 +90,7 @@ fn bad_point(column: usize) -> FieldFault
 
 /// The fault of a used place after an unused one, reported at this column.
 pub fn gap(column: usize) -> FieldFault
-    requires { column ≤ LONGEST_LINE }
+    requires { column ≤ longest_line }
     ensures { result ≡ gap column }
 {
     FieldFault {
@@ -105,7 +104,7 @@ pub fn gap(column: usize) -> FieldFault
 #[tactic(auto, using(crate::specs::Laws::CoordinateLaws::coordinate_read_within), unfolding(crate::specs::FieldReading::point_or_none_at, crate::specs::FieldReading::point_or_none))]
 pub fn read_point_or_none(line: &[u8], column: usize) -> Result<Option<Point>, FieldFault>
     requires from_one { 1 ≤ column }
-    requires within { (column + 18 ≤ length line.now) × (column + 18 ≤ LONGEST_LINE) }
+    requires within { (column + 18 ≤ length line.now) × (column + 18 ≤ longest_line) }
     ensures { result ≡ point_or_none_at column line.now }
 {
     let long = read_longitude(&line[column - 1..column + 9]);
@@ -125,7 +124,7 @@ pub fn read_point_or_none(line: &[u8], column: usize) -> Result<Option<Point>, F
 #[tactic(auto, unfolding(crate::specs::FieldReading::point_at, crate::specs::FieldReading::and_then))]
 pub fn read_point(line: &[u8], column: usize) -> Result<Point, FieldFault>
     requires from_one { 1 ≤ column }
-    requires within { (column + 18 ≤ length line.now) × (column + 18 ≤ LONGEST_LINE) }
+    requires within { (column + 18 ≤ length line.now) × (column + 18 ≤ longest_line) }
     ensures { result ≡ point_at column line.now }
 {
     match read_point_or_none(line, column)? {

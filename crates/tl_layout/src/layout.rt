@@ -1,9 +1,8 @@
 //! What every record type provides.
 
 ghost use Rattle.std.specs.Prelude.{◌≡◌, ◌↔◌, ◌≤◌, ◌<◌, ℕ, List, Result, Ok, Err, length, IfOk};
-ghost use Rattle.tl_layout.specs.Bytes.{IsLine};
+ghost use Rattle.tl_layout.specs.Bytes.{IsLine, longest_line};
 ghost use Rattle.tl_layout.specs.declared.fault.FieldFault.{FieldFault};
-ghost use Rattle.tl_layout.specs.declared.layout.TheConstants.{LONGEST_LINE};
 
 use crate::fault::FieldFault;
 
@@ -68,7 +67,7 @@ pub trait Layout: Sized {
         ensures fits { Fits self.now };
 
     /// No line is empty or longer than the longest one.
-    ghost bounded: { (1 ≤ LEN) × (LEN ≤ LONGEST_LINE) };
+    ghost bounded: { (1 ≤ LEN) × (LEN ≤ longest_line) };
 
     /// The canonical spelling is a full line.
     ghost spelling_is_line: { (r : Self) → Fits r → IsLine RTYPE LEN (spelling r) };

@@ -1,12 +1,11 @@
 //! The name of a feature, as in record types 1 and 5.
 
 ghost use Rattle.std.specs.Prelude.{◌≡◌, ◌+◌, ◌-◌, ◌≤◌, length, take};
-ghost use Rattle.tl_layout.specs.Bytes.{AreAllowed};
+ghost use Rattle.tl_layout.specs.Bytes.{AreAllowed, longest_line};
 ghost use Rattle.tl_layout.specs.Columns.{joined};
 ghost use Rattle.tl_layout.specs.Names.{FitsName, feature_name_at, name_texts};
 
 use crate::field::text_at;
-use crate::layout::LONGEST_LINE;
 use crate::text::Text;
 use crate::writing::write_text;
 
@@ -49,7 +48,7 @@ impl FeatureName {
     pub(crate) fn at(line: &[u8], first: usize) -> FeatureName
         requires allowed { AreAllowed line.now }
         requires from_one { 1 ≤ first }
-        requires within { (first + 37 ≤ length line.now) × (first + 37 ≤ LONGEST_LINE) }
+        requires within { (first + 37 ≤ length line.now) × (first + 37 ≤ longest_line) }
         ensures { result ≡ feature_name_at first line.now }
     {
         FeatureName {
@@ -63,7 +62,7 @@ impl FeatureName {
     /// Writes the name from this column on.
     pub(crate) fn put(&self, out: &mut [u8], first: usize)
         requires from_one { 1 ≤ first }
-        requires within { (first + 37 ≤ length out.old) × (first + 37 ≤ LONGEST_LINE) }
+        requires within { (first + 37 ≤ length out.old) × (first + 37 ≤ longest_line) }
         ensures { take (first + 37) out.new ≡ joined (take (first - 1) out.old) (name_texts self.now) }
     {
         write_text(out, first, first + 1, &self.fedirp);

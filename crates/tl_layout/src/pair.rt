@@ -1,12 +1,11 @@
 //! A field that a record has twice: for the left and for the right side of a chain.
 
 ghost use Rattle.std.specs.Prelude.{◌≡◌, ◌+◌, ◌-◌, ◌*◌, ◌≤◌, length, take};
-ghost use Rattle.tl_layout.specs.Bytes.{AreAllowed};
+ghost use Rattle.tl_layout.specs.Bytes.{AreAllowed, longest_line};
 ghost use Rattle.tl_layout.specs.Columns.{joined};
 ghost use Rattle.tl_layout.specs.Pairs.{FitsPair, pair_at, pair_texts};
 
 use crate::field::text_at;
-use crate::layout::LONGEST_LINE;
 use crate::text::Text;
 use crate::writing::write_text;
 
@@ -36,7 +35,7 @@ impl<const N: usize> LeftRight<N> {
     pub(crate) fn at(line: &[u8], first: usize) -> LeftRight<N>
         requires allowed { AreAllowed line.now }
         requires from_one { 1 ≤ first }
-        requires within { (first + 2 * N ≤ length line.now + 1) × (first + 2 * N ≤ LONGEST_LINE + 1) }
+        requires within { (first + 2 * N ≤ length line.now + 1) × (first + 2 * N ≤ longest_line + 1) }
         ensures { result ≡ pair_at N first line.now }
     {
         LeftRight {
@@ -48,7 +47,7 @@ impl<const N: usize> LeftRight<N> {
     /// Writes the pair from this column on.
     pub(crate) fn put(&self, out: &mut [u8], first: usize)
         requires from_one { 1 ≤ first }
-        requires within { (first + 2 * N ≤ length out.old + 1) × (first + 2 * N ≤ LONGEST_LINE + 1) }
+        requires within { (first + 2 * N ≤ length out.old + 1) × (first + 2 * N ≤ longest_line + 1) }
         ensures { take (first + 2 * N - 1) out.new ≡ joined (take (first - 1) out.old) (pair_texts N self.now) }
     {
         write_text(out, first, first + N - 1, &self.left);

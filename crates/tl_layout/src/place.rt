@@ -5,10 +5,10 @@ ghost use Rattle.std.specs.Prelude.{◌≡◌, ◌+◌, ◌-◌, ◌*◌, ◌≤
 ghost use Rattle.tl_layout.specs.Coordinates.{IsOnMap};
 ghost use Rattle.tl_layout.specs.FieldReading.{Gives, places_reading};
 ghost use Rattle.tl_layout.specs.FieldTexts.{point_place_text, number_place_text, places_text};
+ghost use Rattle.tl_layout.specs.Bytes.{longest_line};
 
 use crate::fault::FieldFault;
 use crate::field::{gap, read_number_or_none, read_point_or_none};
-use crate::layout::LONGEST_LINE;
 use crate::point::Point;
 use crate::writing::{ZEROS, write_number, write_point, write_zeros};
 use arrayvec::ArrayVec;
@@ -46,7 +46,7 @@ pub trait Places: Sized {
     /// Reads the place that begins at this column. An unused place yields `None`.
     fn read(line: &[u8], column: usize) -> Result<Option<Self::Item>, FieldFault>
         requires from_one { 1 ≤ column }
-        requires within { (column + WIDTH ≤ length line.now + 1) × (column + WIDTH ≤ LONGEST_LINE + 1) }
+        requires within { (column + WIDTH ≤ length line.now + 1) × (column + WIDTH ≤ longest_line + 1) }
         ensures { result ≡ reading line.now column };
 
     /// Appends an item.
@@ -154,7 +154,7 @@ impl Places for ArrayVec<u32, 5> {
 /// Reads the places of a full line. The used places must come first.
 pub fn read_places<P: Places + Drop>(line: &[u8]) -> Result<P, FieldFault>
     requires wide { 1 ≤ P.WIDTH }
-    requires within { (18 + P.COUNT * P.WIDTH ≤ length line.now) × (18 + P.COUNT * P.WIDTH ≤ LONGEST_LINE) }
+    requires within { (18 + P.COUNT * P.WIDTH ≤ length line.now) × (18 + P.COUNT * P.WIDTH ≤ longest_line) }
     ensures { Gives P.items result (places_reading (P.reading line.now) P.WIDTH false P.COUNT 19) }
 {
     let count = P::COUNT;

@@ -2,11 +2,10 @@
 
 ghost use Rattle.std.specs.Prelude.{◌≡◌, ◌+◌, ◌-◌, ◌≤◌, length, take};
 ghost use Rattle.tl_layout.specs.AddressRanges.{FitsRanges, ranges_at, ranges_texts};
-ghost use Rattle.tl_layout.specs.Bytes.{AreAllowed, IsText};
+ghost use Rattle.tl_layout.specs.Bytes.{AreAllowed, IsText, longest_line};
 ghost use Rattle.tl_layout.specs.Columns.{joined};
 
 use crate::field::text_at;
-use crate::layout::LONGEST_LINE;
 use crate::pair::LeftRight;
 use crate::text::Text;
 use crate::writing::write_text;
@@ -168,7 +167,7 @@ impl Ranges {
     pub(crate) fn at(line: &[u8], first: usize) -> Ranges
         requires allowed { AreAllowed line.now }
         requires from_one { 1 ≤ first }
-        requires within { (first + 57 ≤ length line.now) × (first + 57 ≤ LONGEST_LINE) }
+        requires within { (first + 57 ≤ length line.now) × (first + 57 ≤ longest_line) }
         ensures { result ≡ ranges_at first line.now }
     {
         Ranges {
@@ -187,7 +186,7 @@ impl Ranges {
     /// Writes the ranges from this column on.
     pub(crate) fn put(&self, out: &mut [u8], first: usize)
         requires from_one { 1 ≤ first }
-        requires within { (first + 57 ≤ length out.old) × (first + 57 ≤ LONGEST_LINE) }
+        requires within { (first + 57 ≤ length out.old) × (first + 57 ≤ longest_line) }
         ensures { take (first + 57) out.new ≡ joined (take (first - 1) out.old) (ranges_texts self.now) }
     {
         write_text(out, first, first + 10, &self.fraddl);

@@ -2,8 +2,9 @@
 
 ghost use Rattle.std.specs.Prelude.{◌≡◌, ◌≤◌, ◌<◌, length};
 ghost use Rattle.tl_layout.specs.RecordText.{type_of, len_of, spelling_of, FitsRecord};
+ghost use Rattle.tl_layout.specs.Bytes.{longest_line};
 
-use crate::layout::{LONGEST_LINE, Layout};
+use crate::layout::Layout;
 use crate::type_i::RecI;
 use crate::type_p::RecP;
 use crate::type1::Rec1;
@@ -64,7 +65,7 @@ impl Record {
     #[tactic(auto, unfolding(crate::specs::RecordText::len_of))]
     pub fn line_len(&self) -> usize
         ensures value { result ≡ len_of self.now }
-        ensures bound { result ≤ LONGEST_LINE }
+        ensures bound { result ≤ longest_line }
     {
         match self {
             Record::One(_) => Rec1::LEN,

@@ -6,8 +6,8 @@ ghost use Rattle.tl_layout.specs.Columns.{joined};
 ghost use Rattle.tl_layout.specs.Pairs.{pair_texts};
 ghost use Rattle.tl_layout.specs.Turned.{exchanged, turned_ranges, turned_entities, turned_body, body_towards};
 ghost use Rattle.tl_layout.specs.Type1Groups.{entities_texts, body_1_texts};
+ghost use Rattle.tl_layout.specs.Bytes.{longest_line};
 
-use crate::layout::LONGEST_LINE;
 use crate::pair::LeftRight;
 use crate::ranges::Ranges;
 use crate::type1::body::Body1;
@@ -60,7 +60,7 @@ impl<const N: usize> LeftRight<N> {
     /// Writes the pair from this column on, with left and right exchanged.
     fn put_exchanged(&self, out: &mut [u8], first: usize)
         requires from_one { 1 ≤ first }
-        requires within { (first + 2 * N ≤ length out.old + 1) × (first + 2 * N ≤ LONGEST_LINE + 1) }
+        requires within { (first + 2 * N ≤ length out.old + 1) × (first + 2 * N ≤ longest_line + 1) }
         ensures { take (first + 2 * N - 1) out.new ≡ joined (take (first - 1) out.old) (pair_texts N (exchanged self.now)) }
     {
         write_text(out, first, first + N - 1, &self.right);

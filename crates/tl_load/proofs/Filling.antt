@@ -1,5 +1,5 @@
 -- A line padded with blanks.
-use Rattle.std.proofs.Common.{rules, ◌≡◌, ℕ, ◌-◌, ◌≤◌, false, cond, List, [], ◌∷◌, length, take, Option, Some, None, append-nil, ltb}
+use Rattle.std.proofs.Common.{rules, ◌≡◌, ℕ, ◌≤◌, false, cond, List, [], ◌∷◌, length, take, Option, Some, None, append-nil, ltb}
 use Rattle.tl_load.proofs.Common.{IsLine, fails_before_first, filled, is_allowed, length-append, length-replicate, ltb-false, not}
 use Rattle.tl_load.proofs.Common.{not-false}
 use Rattle.std.specs.Prelude.{position}

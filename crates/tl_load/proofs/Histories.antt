@@ -1,7 +1,7 @@
 -- What a loader was fed after each call.
 use Rattle.std.proofs.Common.{rules, ◌≡◌, ℕ, ◌+◌, ◌≤◌, List, [], ◌∷◌, ◌++◌, length, map, replicate, Option, Some, None, Result, Ok, Err}
 use Rattle.std.proofs.Common.{refl, sym, ap, subst, ◌∙◌, append_assoc, append-nil, arith, inl, inr, ◌⊎◌}
-use Rattle.tl_load.proofs.Common.{All, AreCounted, Closes, Ends, FaultAt, IsOfLines, IsSamePart, IsWellAfter, IsWithoutLineFeed, LINE_BYTES}
+use Rattle.tl_load.proofs.Common.{All, AreCounted, Closes, Ends, FaultAt, IsOfLines, IsSamePart, IsWellAfter, IsWithoutLineFeed, most_unfinished}
 use Rattle.tl_load.proofs.Common.{Lifts, LoadFault, Loaded, LoadedInto, MatchOption, MatchResult, OnOk, PlacedLine, ReadsPart, Record}
 use Rattle.tl_load.proofs.Common.{SpellsWithin, Takes, TakesLines, WasFedInto, all_parts, common_steps, flat_map-append, length-append}
 use Rattle.tl_load.proofs.Common.{length-map, lines, outcome, placed_lines, seen, tiger, to_end, with_line_feeds, without_return}
@@ -154,7 +154,7 @@ loaded_closed limit before after closed open_part same h c = record {
     empty_last parts part = search (rules, parts-append, no_lines, append-nil)
 
 pub well_of : (limit : ℕ) (l : Loaded) (closed : List (List ℕ)) (open_part : List ℕ) → HasLoaded limit l closed open_part
-    → length l.unfinished ≤ LINE_BYTES → IsWellSoFar limit closed open_part
+    → length l.unfinished ≤ most_unfinished → IsWellSoFar limit closed open_part
 well_of limit l closed open_part h short =
     record { ended = h.ended; unfinished = l.unfinished; lines_are = h.lines_are; records = l.records; accepts = h.accepts; short = short }
 
@@ -265,7 +265,7 @@ fed_standing holds limit l piece f closed open_part e w = search (rules, from_so
 
 pub well_after : {K T : Type 0} (holds : K → List Record → Type 0) (x : T) (limit : ℕ) (before after : LoadedInto K) (piece : List ℕ)
     (closed : List (List ℕ)) (open_part : List ℕ) → before.fault ≡ None → Lifts holds (Takes piece) before (Ok x) after
-    → length after.unfinished ≤ LINE_BYTES
+    → length after.unfinished ≤ most_unfinished
     → WasFedInto holds limit before closed open_part → IsWellSoFar limit closed (open_part ++ piece)
 well_after holds x limit before after piece closed open_part none takes short w =
     let h = has_of holds limit before closed open_part none w in
@@ -276,7 +276,7 @@ well_after holds x limit before after piece closed open_part none takes short w 
 -- what a step guarantees if it was `Ok`
 pub well_of_step : {K T : Type 0} (holds : K → List Record → Type 0) (before after : LoadedInto K) (piece : List ℕ)
     (result : Result T LoadFault) → before.fault ≡ None → Lifts holds (Takes piece) before result after
-    → OnOk result (length after.unfinished ≤ LINE_BYTES)
+    → OnOk result (length after.unfinished ≤ most_unfinished)
     → OnOk result (IsWellAfter (WasFedInto holds) before piece)
 well_of_step holds before after piece (Ok x) none takes short =
     λ limit closed open_part w. well_after holds x limit before after piece closed open_part none takes short w

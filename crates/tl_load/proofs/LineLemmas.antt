@@ -2,6 +2,7 @@
 use Rattle.std.proofs.Common.{rules, ◌≡◌, ℕ, suc, ◌+◌, ◌-◌, ◌<◌, ◌≤◌, Bool, true, false, cond, List, [], ◌∷◌, ◌++◌, length, take, get_or}
 use Rattle.std.proofs.Common.{refl, sym, ap, ◌∙◌, append_assoc, append-nil, arith, eqb}
 use Rattle.tl_load.proofs.Common.{IsWithoutLineFeed, common_steps, eqb-true, is_line_feed, length-append, length-take}
+use Rattle.std.proofs.Math.Seq.{get_or-append_seam, take-append_seam}
 use Rattle.std.specs.List.{slice_split}
 use Rattle.std.proofs.lemmas.List.Splits.{slice_split_at, slice_split_none, length-slice_split}
 use Rattle.tl_layout.specs.Bytes.{AreAllowed}
@@ -60,12 +61,19 @@ pub without_return_length : (a : List ℕ) → length a ≤ length (without_retu
 unfolding without_return
 without_return_length a = search (rules, length-take)
 
+-- a CR at the end is dropped
+pub without_return_drops : (a : List ℕ) → without_return (a ++ 13 ∷ []) ≡ a
+unfolding without_return
+without_return_drops a =
+    let len : length (a ++ 13 ∷ []) - 1 ≡ length a = omega (arith, length-append a (13 ∷ [])) in
+    rw (len, get_or-append_seam a 13 [] 0) (take-append_seam a (13 ∷ []))
+
 -- clean bytes stay clean
 pub clean_without_return : (a : List ℕ) → AreAllowed a → AreAllowed (without_return a)
 unfolding without_return AreAllowed
 clean_without_return a clean = search rules
 
-without_feed_cons : (a : List ℕ) (c : ℕ) → IsWithoutLineFeed a → is_line_feed c ≡ false → IsWithoutLineFeed (a ++ c ∷ [])
+pub without_feed_cons : (a : List ℕ) (c : ℕ) → IsWithoutLineFeed a → is_line_feed c ≡ false → IsWithoutLineFeed (a ++ c ∷ [])
 without_feed_cons a c h n = grind (arith, common_steps)
 
 -- whatever follows, the first line begins with these bytes

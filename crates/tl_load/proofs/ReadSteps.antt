@@ -1,7 +1,7 @@
 -- The bytes that a source returns, and its counts.
 use Rattle.std.proofs.Common.{rules, ℕ, ◌+◌, ◌%◌, ◌^◌, ◌≤◌, Ok, List, [], ◌++◌, length, Option, Some, None, refl, sym, ap, subst, ◌∙◌}
 use Rattle.std.proofs.Common.{append_assoc, append-nil, arith}
-use Rattle.tl_load.proofs.Common.{Consumes, Gave, LINE_BYTES, Lifts, LoadedInto, Record, RoseBy, Takes, length-append}
+use Rattle.tl_load.proofs.Common.{Consumes, Gave, most_unfinished, Lifts, LoadedInto, Record, RoseBy, Takes, length-append}
 use Rattle.std.proofs.Math.Nat.{mod-add-mod}
 use Rattle.tl_load.specs.Sources.{StopsThere}
 use Rattle.tl_load.specs.Steps.{TakesWell}
@@ -34,6 +34,6 @@ module _ {R : Type 0} (remaining : R → Option (List ℕ)) (given : R → ℕ) 
 -- reading stops as it should if the loader took all bytes before the last read without a fault
 pub stopped : {R K : Type 0} (remaining : R → Option (List ℕ)) (given reads : R → ℕ) (holds : K → List Record → Type 0)
     (start now : LoadedInto K) (before last after : R) (taken : List ℕ) → Gave remaining given before last taken
-    → Lifts {T = Unit {0}} holds (Takes taken) start (Ok tt) now → length now.unfinished ≤ LINE_BYTES → RoseBy 1 (reads last) (reads after)
+    → Lifts {T = Unit {0}} holds (Takes taken) start (Ok tt) now → length now.unfinished ≤ most_unfinished → RoseBy 1 (reads last) (reads after)
     → StopsThere remaining given reads before after (TakesWell holds start)
 stopped remaining given reads holds start now before last after taken gave takes short one_read = search rules

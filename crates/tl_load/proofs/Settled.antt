@@ -1,12 +1,12 @@
 -- A line of more than 228 bytes is rejected, whatever follows these bytes.
 use Rattle.std.proofs.Common.{rules, ◌≡◌, ℕ, ◌<◌, ◌≤◌, Bool, true, false, cond, List, [], ◌∷◌, ◌++◌, length, Result, Err, refl, arith, eqb}
-use Rattle.tl_load.proofs.Common.{FieldFault, IsErr, LONGEST_LINE, LineFault, Record, as_record, length-append, lt-ltb}
+use Rattle.tl_load.proofs.Common.{FieldFault, IsErr, longest_line, LineFault, Record, as_record, length-append, lt-ltb}
 use Rattle.tl_load.specs.LineOf.{judged_as}
 use Rattle.tl_load.specs.Choice.{judged_by, judged}
 use Rattle.tl_load.specs.declared.fault.LineFault.TheVariants as line_faults
 
-too_long : {R : Type 0} (len : ℕ) (reading : List ℕ → Result R FieldFault) (wrap : R → Record) (line : List ℕ) → len ≤ LONGEST_LINE
-    → LONGEST_LINE < length line → as_record wrap (judged_as len reading line) ≡ Err line_faults.LineTooLong
+too_long : {R : Type 0} (len : ℕ) (reading : List ℕ → Result R FieldFault) (wrap : R → Record) (line : List ℕ) → len ≤ longest_line
+    → longest_line < length line → as_record wrap (judged_as len reading line) ≡ Err line_faults.LineTooLong
 unfolding judged_as
 too_long len reading wrap line low long = search (rules, lt-ltb)
 
@@ -22,7 +22,7 @@ types = 49 ∷ 50 ∷ 52 ∷ 53 ∷ 54 ∷ 55 ∷ 56 ∷ 73 ∷ 80 ∷ []
 long_fault : ℕ → Result Record LineFault
 long_fault rtype = long_among types rtype
 
-long_by : (rtype : ℕ) (line : List ℕ) → LONGEST_LINE < length line → judged_by rtype line ≡ long_fault rtype
+long_by : (rtype : ℕ) (line : List ℕ) → longest_line < length line → judged_by rtype line ≡ long_fault rtype
 unfolding judged_by long_fault
 long_by rtype line long = search (rules, too_long)
 
@@ -41,12 +41,12 @@ err_long rtype = err_among types rtype
 is_err_along : (x y : Result Record LineFault) → x ≡ y → IsErr y → IsErr x
 is_err_along x y e h = rw e h
 
-pub judged_long : (line : List ℕ) → LONGEST_LINE < length line → IsErr (judged line)
+pub judged_long : (line : List ℕ) → longest_line < length line → IsErr (judged line)
 unfolding judged
 judged_long [] long = absurd (omega arith)
 judged_long (b ∷ line) long = is_err_along _ _ (long_by b (b ∷ line) long) (err_long b)
 
-pub judged_settles : (line more : List ℕ) → LONGEST_LINE < length line → judged (line ++ more) ≡ judged line
+pub judged_settles : (line more : List ℕ) → longest_line < length line → judged (line ++ more) ≡ judged line
 unfolding judged
 judged_settles [] more long = absurd (omega arith)
 judged_settles (b ∷ line) more long = search (rules, long_by, length-append)

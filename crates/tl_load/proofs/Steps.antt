@@ -1,7 +1,7 @@
 -- The loader's steps, for a loader of a list of records.
 use Rattle.std.proofs.Common.{rules, ◌≡◌, ℕ, ◌+◌, ◌<◌, ◌≤◌, List, [], ◌∷◌, ◌++◌, length, map, Result, Ok, Err, refl, sym, ap, subst, ◌∙◌}
 use Rattle.std.proofs.Common.{append_assoc, append-nil, arith, inl, inr}
-use Rattle.tl_load.proofs.Common.{Closes, Ends, FieldKind, IsErr, IsWithoutLineFeed, LONGEST_LINE, LineFault, LoadFault, Loaded, OnOk}
+use Rattle.tl_load.proofs.Common.{Closes, Ends, FieldKind, IsErr, IsWithoutLineFeed, longest_line, LineFault, LoadFault, Loaded, OnOk}
 use Rattle.tl_load.proofs.Common.{PlacedLine, ReadsPart, Record, Takes, TakesLines, after_verdict, common_steps, field_fault_at}
 use Rattle.tl_load.proofs.Common.{flat_map-append, judged, length-append, length-map, lines, map-append, to_end, with_line_feeds}
 use Rattle.tl_load.proofs.Common.{without_return, ◌then_with◌}
@@ -189,7 +189,7 @@ err_of (Err f) h = (f, refl)
 
 -- the final result is the fault of the first line, if the line's beginning determines it
 long_line : (before : Loaded) (bytes line : List ℕ) (c : ℕ) (z : List ℕ) (fault : LineFault) → before.unfinished ++ bytes ≡ line ++ c ∷ z
-    → LONGEST_LINE < length line → IsWithoutLineFeed (before.unfinished ++ bytes)
+    → longest_line < length line → IsWithoutLineFeed (before.unfinished ++ bytes)
     → judged line ≡ Err fault → (more : List ℕ) (later : List (List ℕ))
     → to_come before (bytes ++ more) later ≡ Err (fault_at (before.parts + 1) (before.judged + 1) fault)
 unfolding to_come
@@ -209,8 +209,8 @@ long_line before bytes line c z fault split long none e more later =
     (numbered_lines (before.parts + 1) (before.judged + 1 + 1) begins.rest ++ lines_from_part (before.parts + 1 + 1) later)) settled
 
 pub refuses : {T : Type 0} (before mid after : Loaded) (bytes line rest : List ℕ) (result : Result T LoadFault) → IsBefore mid before
-    → before.unfinished ++ bytes ≡ line ++ rest → 0 < length rest → LONGEST_LINE < length line
-    → IsWithoutLineFeed (before.unfinished ++ bytes) → OnOk result (length line ≤ LONGEST_LINE) → Judges line mid result after
+    → before.unfinished ++ bytes ≡ line ++ rest → 0 < length rest → longest_line < length line
+    → IsWithoutLineFeed (before.unfinished ++ bytes) → OnOk result (length line ≤ longest_line) → Judges line mid result after
     → Takes bytes before result after
 refuses before mid after bytes line [] result same split some long none short judges = absurd (omega arith)
 refuses before mid after bytes line (c ∷ z) (Ok x) same split some long none short judges = absurd (omega arith)

@@ -1,5 +1,5 @@
 -- The canonical text of records is loaded as these records.
-use Rattle.std.proofs.Common.{rules, ◌≡◌, ℕ, suc, ◌+◌, ◌-◌, ◌<◌, ◌≤◌, true, false, List, [], ◌∷◌, ◌++◌, length, get_or, take, map, Result}
+use Rattle.std.proofs.Common.{rules, ◌≡◌, ℕ, suc, ◌+◌, ◌<◌, ◌≤◌, true, false, List, [], ◌∷◌, ◌++◌, length, get_or, take, map, Result}
 use Rattle.std.proofs.Common.{Ok, refl, ap, ◌∙◌, append_assoc, append-nil, arith, eqb}
 use Rattle.tl_load.proofs.Common.{All, Eight, FieldFault, Five, Four, I, IsLine, IsWithoutLineFeed, One, P, Record, Seven, Six, Spells, Two}
 use Rattle.tl_load.proofs.Common.{as_record, eqb-true, false_from_ne_true, flat_map-append, is_allowed, judged, le-ltb, length-drop, lines}
@@ -12,7 +12,6 @@ use Rattle.tl_load.specs.Lines.{without_return}
 use Rattle.tl_load.specs.Places.{numbered_lines, lines_from_part}
 use Rattle.tl_layout.specs.RecordTypes.{Type1, Type2, Type4, Type5, Type6, Type7, Type8, TypeI, TypeP, reading_of}
 use Rattle.tl_layout.specs.Laws.TypeLaws.{layout_laws}
-use Rattle.tl_load.specs.declared.fault.LineFault.TheVariants as line_faults
 use Rattle.tl_load.proofs.RecordLines.{by_first, tiger_is_sound}
 use Rattle.tl_load.specs.LineOf.{judged_full, judged_as}
 use Rattle.tl_load.specs.Choice.{judged_by, tiger}

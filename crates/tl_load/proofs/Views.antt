@@ -1,13 +1,14 @@
 -- Small facts for proofs about the loader.
-use Rattle.std.proofs.Common.{rules, ◌≡◌, ℕ, ◌+◌, ◌-◌, ◌<◌, ◌≤◌, true, false, List, [], ◌∷◌, ◌++◌, length, get_or, take, drop, Result, Ok}
-use Rattle.std.proofs.Common.{Err, refl, subst, arith, eqb}
+use Rattle.std.proofs.Common.{rules, ◌≡◌, ℕ, ◌-◌, ◌<◌, ◌≤◌, true, false, List, [], ◌∷◌, ◌++◌, length, get_or, take, drop, Result, Ok}
+use Rattle.std.proofs.Common.{Err, inl, inr, refl, sym, ap, ◌∙◌, ◌+◌, subst, arith, eqb}
 use Rattle.tl_load.proofs.Common.{IsWithoutLineFeed, Loaded, OnOk, Record, eqb-true, false_from_ne_true, get_or_default, is_allowed}
 use Rattle.tl_load.proofs.Common.{is_line_feed, length-take, take-append-drop}
 use Rattle.std.specs.Prelude.{IsOk, IsTrue}
-use Rattle.std.proofs.lemmas.List.{get_or-take, drop_more, take_all, take_rest}
+use Rattle.std.proofs.lemmas.List.{get_or-take, drop_more, take_all, take_more, take_rest}
 use Rattle.memchr.specs.Find.{Nowhere, Passes, is_byte}
 use Rattle.tl_layout.specs.Bytes.{AreAllowed}
-use Rattle.tl_load.specs.Lines.{IsLineEnd}
+use Rattle.tl_load.proofs.LineLemmas.{clean_without_return, without_feed_cons, without_return_drops}
+use Rattle.tl_load.specs.Lines.{IsFeedAfter, IsLineEnd, without_return}
 use Rattle.tl_load.specs.declared.loader_for.LoaderFor.TheInside.{Inside}
 
 pub empty_is : (l : List ℕ) → eqb (length l) 0 ≡ true → l ≡ []
@@ -53,9 +54,36 @@ unfolding AreAllowed
 clean_no_feed bytes allowed k d lt = not_feed (get_or bytes k d) (allowed k d lt)
 
 -- an LF after clean bytes ends the first line
-pub ends_clean : (bytes : List ℕ) (n : ℕ) → n < length bytes → get_or bytes n 0 ≡ 10 → AreAllowed (take n bytes)
+ends_with_feed : (bytes : List ℕ) (n : ℕ) → n < length bytes → get_or bytes n 0 ≡ 10 → AreAllowed (take n bytes)
     → IsLineEnd bytes n true
-ends_clean bytes n lt feed allowed = search (rules, cut_at, clean_no_feed)
+ends_with_feed bytes n lt feed allowed = record {
+  within = lt;
+  cut = cut_at bytes n lt (ap (λ (b : ℕ). eqb b 10) feed);
+  first = clean_no_feed (take n bytes) allowed;
+  clean = λ _. clean_without_return (take n bytes) allowed;
+}
+
+-- so do a CR and an LF after them
+ends_with_return : (bytes : List ℕ) (n : ℕ) → n + 1 < length bytes → get_or bytes n 0 ≡ 13 → get_or bytes (n + 1) 0 ≡ 10
+    → AreAllowed (take n bytes) → IsLineEnd bytes (n + 1) true
+ends_with_return bytes n lt return feed allowed =
+    let line : take (n + 1) bytes ≡ take n bytes ++ 13 ∷ [] =
+    take_more bytes n 0 (omega (arith, lt)) ∙ ap (λ (b : ℕ). take n bytes ++ b ∷ []) return in
+    record {
+      within = lt;
+      cut = cut_at bytes (n + 1) lt (ap (λ (b : ℕ). eqb b 10) feed);
+      first = subst IsWithoutLineFeed (sym line) (without_feed_cons (take n bytes) 13 (clean_no_feed (take n bytes) allowed) refl);
+      clean = λ _. subst (λ l. AreAllowed (without_return l)) (sym line)
+          (subst AreAllowed (sym (without_return_drops (take n bytes))) allowed);
+    }
+
+pub ends_clean : (bytes : List ℕ) (len place : ℕ) → IsFeedAfter bytes len place → AreAllowed (take len bytes)
+    → IsLineEnd bytes place true
+ends_clean bytes len place (within, feed, inl same) allowed =
+    ends_with_feed bytes place within feed (subst (λ n. AreAllowed (take n bytes)) (sym same) allowed)
+ends_clean bytes len place (within, feed, inr (next, return)) allowed =
+    subst (λ n. IsLineEnd bytes n true) (sym next)
+    (ends_with_return bytes len (omega (arith, within, next)) return (ap (λ n. get_or bytes n 0) (sym next) ∙ feed) allowed)
 
 -- the slice `&bytes[1..]`
 pub rest_of : (bytes : List ℕ) → take (length bytes - 1) (drop 1 bytes) ≡ drop 1 bytes

@@ -3,11 +3,10 @@ use Rattle.std.specs.Prelude.{◌≡◌, ℕ, ◌+◌, ◌*◌, ◌^◌, ◌-◌
 use Rattle.tl_layout.specs.declared.fault.FieldFault.{FieldFault}
 use Rattle.tl_layout.specs.declared.record_type.Record.{Record}
 use Rattle.tl_load.specs.declared.fault.LoadFault.{LoadFault}
-use Rattle.tl_load.specs.Lines.{IsWithoutLineFeed}
+use Rattle.tl_load.specs.Lines.{IsWithoutLineFeed, most_unfinished}
 use Rattle.tl_load.specs.Outcome.{count_of, most_records}
 use Rattle.tl_load.specs.Choice.{tiger}
 use Rattle.tl_load.specs.Loaded.{Loaded, IsOfLines, HasLoaded, IsFaultHowever}
-use Rattle.tl_load.specs.declared.loader_for.TheConstants.{LINE_BYTES}
 use Rattle.tl_layout.specs.RecordTables.{rtype_1, rtype_2, rtype_4, rtype_5, rtype_6, rtype_7, rtype_8, rtype_i, rtype_p}
 
 -- what was kept so far, how many records of each type (by the byte in column 1), the number of closed parts, the number of
@@ -72,7 +71,7 @@ pub record IsLoader (counts : List ℕ) (unfinished : List ℕ) (parts judged li
   pub judged_low : judged ≤ total counts
   pub limit_low : limit ≤ most_records
   pub no_feed : IsWithoutLineFeed unfinished
-  pub short : length unfinished ≤ LINE_BYTES
+  pub short : length unfinished ≤ most_unfinished
   pub begun : 0 < length unfinished → parts < 2 ^ 64 - 1
 
 -- fields that change only when a part ends or a fault is recorded

@@ -5,10 +5,9 @@ use Rattle.std.specs.List.{flat_map}
 use Rattle.tl_layout.specs.declared.record_type.Record.{Record}
 use Rattle.tl_load.specs.declared.fault.LoadFault.{LoadFault}
 use Rattle.tl_load.specs.declared.fault.LoadFault.TheVariants as faults
-use Rattle.tl_load.specs.Lines.{IsWithoutLineFeed}
+use Rattle.tl_load.specs.Lines.{IsWithoutLineFeed, most_unfinished}
 use Rattle.tl_load.specs.Outcome.{SpellsWithin, FaultAt}
 use Rattle.tl_load.specs.Choice.{tiger}
-use Rattle.tl_load.specs.declared.loader_for.TheConstants.{LINE_BYTES}
 
 -- the records so far, the number of closed parts, the number of judged lines in the open part, the bytes of its unfinished
 -- line, the limit of records of one type, and the recorded fault, if any
@@ -63,7 +62,7 @@ pub record IsWellSoFar (limit : ℕ) (closed : List (List ℕ)) (open_part : Lis
   pub lines_are : AreLines open_part ended unfinished
   pub records : List Record
   pub accepts : SpellsWithin tiger limit (closed ++ with_line_feeds ended ∷ []) records
-  pub short : length unfinished ≤ LINE_BYTES
+  pub short : length unfinished ≤ most_unfinished
 
 -- after these bytes too, no line that has ended is faulty, and the unfinished one is short
 abbrev pub IsWellAfter : {L : Type 0} → (ℕ → L → List (List ℕ) → List ℕ → Type 0) → L → List ℕ → Type 0

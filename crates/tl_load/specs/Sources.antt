@@ -2,6 +2,15 @@
 use Rattle.std.specs.Prelude.{◌≡◌, ℕ, ◌+◌, ◌-◌, ◌%◌, ◌^◌, nat_lt, List, length, Option, Some, None, if◌then◌else◌}
 use Rattle.std.specs.Io.KnownBytes.{Consumes}
 
+-- the most bytes of one read
+abbrev pub most_read : ℕ
+most_read = 4096
+
+-- the most bytes that are taken without a fault: 10,000,000 lines of each of nine types, all of 228 bytes with CR and LF, and
+-- the 229 bytes of an unfinished line after them
+abbrev pub most_taken : ℕ
+most_taken = 20700000229
+
 -- a count modulo 2 ^ 64 increased by n
 abbrev pub RoseBy : ℕ → ℕ → ℕ → Type 0
 RoseBy n before after = after % 2 ^ 64 ≡ (before + n) % 2 ^ 64

@@ -3,14 +3,13 @@ use Rattle.std.specs.Prelude.{◌≤◌, ◌≡◌, ℕ, ◌+◌, List, [], ◌+
 use Rattle.tl_layout.specs.declared.record_type.Record.{Record}
 use Rattle.tl_load.specs.declared.fault.LineFault.{LineFault}
 use Rattle.tl_load.specs.declared.fault.LoadFault.{LoadFault}
-use Rattle.tl_load.specs.Lines.{without_return, lines}
+use Rattle.tl_load.specs.Lines.{without_return, lines, most_unfinished}
 use Rattle.tl_load.specs.Places.{PlacedLine, numbered_lines, lines_from_part}
 use Rattle.tl_load.specs.Outcome.{with_record, after_verdict, outcome_after}
 use Rattle.tl_load.specs.Choice.{tiger, judged}
 use Rattle.tl_load.specs.Loaded.{Loaded, IsOfLines, AreLines}
 use Rattle.tl_load.specs.Keeping.{LoadedInto, Lifts, total}
-use Rattle.tl_layout.specs.declared.layout.TheConstants.{LONGEST_LINE}
-use Rattle.tl_load.specs.declared.loader_for.TheConstants.{LINE_BYTES}
+use Rattle.tl_layout.specs.Bytes.{longest_line}
 
 -- the final result for the loader's value if these bytes follow in its open part, and then these parts
 unfoldable pub to_come : Loaded → List ℕ → List (List ℕ) → Result (List Record) LoadFault
@@ -64,7 +63,7 @@ pub record KeepsUnread {K : Type 0} (holds : K → List Record → Type 0) (line
   pub judges : Lifts {T = Unit {0}} holds (JudgesAs line verdict) before (Ok tt) after
   pub judged : after.judged ≡ before.judged + 1
   pub one_more : total after.counts ≡ total before.counts + 1
-  pub short : length line ≤ LONGEST_LINE
+  pub short : length line ≤ longest_line
 
 -- a step added the record: it is now the last one, or there are too many
 abbrev pub Adds : {T : Type 0} → Record → Loaded → Result T LoadFault → Loaded → Type 0
@@ -108,7 +107,7 @@ ReadsPart taken at_end before result after = MatchResult result
 pub record TakesWell {K : Type 0} (holds : K → List Record → Type 0) (before : LoadedInto K) (taken : List ℕ) : Type 0 where
   pub after : LoadedInto K
   pub takes : Lifts {T = Unit {0}} holds (Takes taken) before (Ok tt) after
-  pub short : length after.unfinished ≤ LINE_BYTES
+  pub short : length after.unfinished ≤ most_unfinished
 
 -- the loader, with the fault of a step, if any, recorded from then on
 abbrev pub with_fault : {K T : Type 0} → Result T LoadFault → LoadedInto K → LoadedInto K

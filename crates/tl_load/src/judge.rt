@@ -1,7 +1,7 @@
 //! Judging a line: its record, or its fault.
 
 ghost use Rattle.std.specs.Prelude.{◌≡◌, ◌≤◌, ◌<◌, [], ◌∷◌, take, length, replicate, not, position, IsTrue};
-ghost use Rattle.tl_layout.specs.Bytes.{AreAllowed, IsLine, is_allowed};
+ghost use Rattle.tl_layout.specs.Bytes.{AreAllowed, IsLine, is_allowed, longest_line};
 ghost use Rattle.tl_load.specs.LineOf.{filled, judged_as, judged_full};
 
 use crate::bytes::first_bad;
@@ -51,15 +51,15 @@ pub(crate) fn is_full_line<L: Layout>(line: &[u8], is_clean: bool) -> bool
 
 /// A line of blanks.
 fn blanks() -> [u8; LONGEST_LINE]
-    ensures { result ≡ replicate LONGEST_LINE 32 }
+    ensures { result ≡ replicate longest_line 32 }
 {
     [b' '; LONGEST_LINE]
 }
 
 /// The line, padded with blanks to the length of the longest line.
 fn fill(line: &[u8]) -> [u8; LONGEST_LINE]
-    requires { length line.now ≤ LONGEST_LINE }
-    ensures { result ≡ filled LONGEST_LINE line.now }
+    requires { length line.now ≤ longest_line }
+    ensures { result ≡ filled longest_line line.now }
 {
     let mut filled = blanks();
     let front = &mut filled[..line.len()];

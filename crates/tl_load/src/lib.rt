@@ -26,5 +26,5 @@ pub use laws::{
     text_spells_its_records,
 };
 pub use loader::Loader;
-pub use loader_for::{LoaderFor, MOST_BYTES, READ_BYTES};
+pub use loader_for::LoaderFor;
 pub use source::{Counted, SlowSource, Source};

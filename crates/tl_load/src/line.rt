@@ -1,7 +1,7 @@
 //! Finding the end of a line, and removing its line ending.
 
 ghost use Rattle.std.specs.Prelude.{◌≡◌, true, IfSome, MatchOption};
-ghost use Rattle.tl_load.specs.Lines.{without_return, IsLineEnd, IsWithoutLineFeed};
+ghost use Rattle.tl_load.specs.Lines.{without_return, IsFeedAfter, IsLineEnd, IsWithoutLineFeed};
 
 use crate::bytes::is_ascii;
 use memchr::memchr;
@@ -12,12 +12,12 @@ use tl_layout::{Layout, Rec1, Rec2, Rec4, Rec5, Rec6, Rec7, Rec8, RecI, RecP};
 pub(crate) struct LineEnd {
     /// The position of its LF, counted from 0.
     pub(crate) place: usize,
-    /// If true, each byte before the LF is allowed in a line. If false, they weren't tested.
+    /// If true, each byte before the LF is allowed in a line, except for one CR right before it. If false, they weren't tested.
     pub(crate) is_clean: bool,
 }
 
-/// Finds the end of the first line. A full line of printable ASCII, as nearly all are, has its LF at the length of its type, so
-/// that no search is needed.
+/// Finds the end of the first line. A full line of printable ASCII, as nearly all are, has its LF, or its CR and LF, at the
+/// length of its type, so that no search is needed.
 #[inline(always)]
 pub(crate) fn line_end(bytes: &[u8]) -> Option<LineEnd>
     ensures { MatchOption result (IsWithoutLineFeed bytes.now) (λ end. IsLineEnd bytes.now end.place end.is_clean) }
@@ -65,17 +65,37 @@ fn full_line_end(bytes: &[u8]) -> Option<usize>
     }
 }
 
-/// Returns the length of this record type if there is an LF at that position and each byte before it is printable ASCII.
+/// Returns the position of the LF if an LF, or a CR and an LF, come after as many bytes as this record type has, and these bytes
+/// are printable ASCII.
 #[inline(always)]
 fn end_at_length<L: Layout>(bytes: &[u8]) -> Option<usize>
     ensures { IfSome result (λ place. IsLineEnd bytes.now place true) }
 {
     let len = L::LEN;
-    if bytes.len() > len && bytes[len] == b'\n' && is_ascii(&bytes[..len]) {
-        Some(len)
+    let place = feed_after(bytes, len)?;
+    if is_ascii(&bytes[..len]) {
+        Some(place)
     } else {
         None
     }
+}
+
+/// Returns the position of the LF if an LF, or a CR and an LF, come after the first `len` bytes.
+#[inline(always)]
+fn feed_after(bytes: &[u8], len: usize) -> Option<usize>
+    ensures { IfSome result (λ place. IsFeedAfter bytes.now len place) }
+{
+    if bytes.len() <= len {
+        return None;
+    }
+    let byte = bytes[len];
+    if byte == b'\n' {
+        return Some(len);
+    }
+    if byte == b'\r' && len + 1 < bytes.len() && bytes[len + 1] == b'\n' {
+        return Some(len + 1);
+    }
+    None
 }
 
 /// The line without one CR at its end, if there is one.

@@ -7,10 +7,10 @@ ghost use Rattle.tl_layout.specs.RecordText.{FitsRecord};
 ghost use Rattle.tl_load.specs.Choice.{tiger};
 ghost use Rattle.tl_load.specs.Loaded.{FedPart, IsNotDevice, is_device, IsOfLines, IsFaultHowever, IsWellAfter, WasFed, all_parts};
 ghost use Rattle.tl_load.specs.Outcome.{SpellsWithin, FaultAt, most_records};
-ghost use Rattle.tl_load.specs.Sources.{Gave, StopsThere};
+ghost use Rattle.tl_load.specs.Sources.{Gave, StopsThere, most_taken, most_read};
 
 use crate::fault::LoadFault;
-use crate::loader_for::{LoaderFor, MOST_BYTES, READ_BYTES};
+use crate::loader_for::LoaderFor;
 use crate::source::Source;
 use std::alloc::Global;
 use std::marker::Model;
@@ -123,7 +123,7 @@ impl Loader {
         requires failures { R.failed source.old < u64.MAX }
         // The source's bytes were fed into the open part. There is a bound on them, so even an endless source can't keep the
         // call from returning.
-        ensures fed { (taken : List ℕ) × Gave R.remaining R.given source.old source.new taken × (length taken ≤ MOST_BYTES + READ_BYTES)
+        ensures fed { (taken : List ℕ) × Gave R.remaining R.given source.old source.new taken × (length taken ≤ most_taken + most_read)
             × FedPart WasFed self.old taken (IsAtEnd (R.remaining source.new)) result self.new }
         // Nothing is read after the read that causes a fault.
         ensures stops { self.old.fault ≡ None

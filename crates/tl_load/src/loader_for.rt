@@ -7,10 +7,10 @@ ghost use Rattle.tl_layout.specs.Bytes.{AreAllowed};
 ghost use Rattle.tl_layout.specs.declared.record_type.Record.{Record};
 ghost use Rattle.tl_load.specs.Choice.{tiger, judged};
 ghost use Rattle.tl_load.specs.Keeping.{WasFedInto, HasSome, IsSamePart, Lifts, bytes_used};
-ghost use Rattle.tl_load.specs.Lines.{IsWithoutLineFeed};
+ghost use Rattle.tl_load.specs.Lines.{IsWithoutLineFeed, most_unfinished, without_return};
 ghost use Rattle.tl_load.specs.Loaded.{FedPart, IsNotDevice, is_device, IsOfLines, IsFaultHowever, IsWellAfter, all_parts};
 ghost use Rattle.tl_load.specs.Outcome.{SpellsWithin, FaultAt, most_records};
-ghost use Rattle.tl_load.specs.Sources.{Gave, StopsThere};
+ghost use Rattle.tl_load.specs.Sources.{Gave, StopsThere, most_taken, most_read};
 ghost use Rattle.tl_load.specs.Steps.{Takes, Ends, Closes, ReadsPart, TakesWell, with_fault};
 
 mod judging;
@@ -28,11 +28,7 @@ use tl_layout::MOST_RECORDS;
 const LINE_BYTES: usize = 229;
 
 /// The most bytes of one read.
-pub const READ_BYTES: usize = 4096;
-
-/// The most bytes that are taken without a fault: 10,000,000 lines of each of nine types, all of 228 bytes with CR and LF, and
-/// the kept bytes of the line after them.
-pub const MOST_BYTES: u64 = 20_700_000_229;
+const READ_BYTES: usize = 4096;
 
 /// Takes the bytes of a set of parts, one part after another and each in any pieces, and judges each line when it ends. It
 /// passes the record to a [`Collector`] and itself stores only the unfinished line. After a fault every call returns that fault.
@@ -104,7 +100,7 @@ impl<K: Collector> LoaderFor<K> {
     /// Judges a line at its 230th byte, by its first 229 bytes: it is too long or has no known type.
     fn refuse_long(&mut self, bytes: &[u8]) -> Result<(), LoadFault>
         requires parts { self.old.parts < u64.MAX }
-        requires too_long { LINE_BYTES < length self.old.unfinished + length bytes.now }
+        requires too_long { most_unfinished < length self.old.unfinished + length bytes.now }
         requires no_feed { IsWithoutLineFeed bytes.now }
         ensures takes { Lifts K.holds (Takes bytes.now) self.old result self.new }
         ensures same_part { IsSamePart self.old self.new }
@@ -124,8 +120,8 @@ impl<K: Collector> LoaderFor<K> {
         ensures takes { Lifts K.holds (Takes bytes.now) self.old result self.new }
         ensures same_part { IsSamePart self.old self.new }
         ensures used { OnOk result (bytes_used self.new ≡ bytes_used self.old + length bytes.now) }
-        ensures most { OnOk result (bytes_used self.new ≤ MOST_BYTES) }
-        ensures short { OnOk result (length self.new.unfinished ≤ LINE_BYTES) }
+        ensures most { OnOk result (bytes_used self.new ≤ most_taken) }
+        ensures short { OnOk result (length self.new.unfinished ≤ most_unfinished) }
         ensures no_device { IfErr result IsNotDevice }
     {
         match self.line.try_extend_from_slice(bytes) {
@@ -147,11 +143,11 @@ impl<K: Collector> LoaderFor<K> {
     }
 
     /// Takes the bytes before an LF, and the LF. If no line was begun, it judges the bytes in place, without copying them. If
-    /// `is_clean`, they are known to be allowed in a line.
+    /// `is_clean`, they are known to be allowed in a line, except for one CR at their end.
     fn end_line(&mut self, bytes: &[u8], is_clean: bool) -> Result<(), LoadFault>
         requires parts { self.old.parts < u64.MAX }
         requires no_feed { IsWithoutLineFeed bytes.now }
-        requires clean { IsTrue is_clean → AreAllowed bytes.now }
+        requires clean { IsTrue is_clean → AreAllowed (without_return bytes.now) }
         ensures takes { Lifts K.holds (Takes (bytes.now ++ 10 ∷ [])) self.old result self.new }
         ensures same_part { IsSamePart self.old self.new }
         ensures used { OnOk result (bytes_used self.old + length bytes.now + 1 ≤ bytes_used self.new) }
@@ -174,8 +170,8 @@ impl<K: Collector> LoaderFor<K> {
         ensures takes { Lifts K.holds (Takes piece.now) self.old result self.new }
         ensures same_part { IsSamePart self.old self.new }
         ensures used { OnOk result (bytes_used self.old + length piece.now ≤ bytes_used self.new) }
-        ensures most { OnOk result (bytes_used self.new ≤ MOST_BYTES) }
-        ensures short { OnOk result (length self.new.unfinished ≤ LINE_BYTES) }
+        ensures most { OnOk result (bytes_used self.new ≤ most_taken) }
+        ensures short { OnOk result (length self.new.unfinished ≤ most_unfinished) }
         ensures no_device { IfErr result IsNotDevice }
     {
         // This makes the loader's invariant known from here on: the unfinished line has no LF.
@@ -223,7 +219,7 @@ impl<K: Collector> LoaderFor<K> {
         requires parts { self.old.parts < u64.MAX }
         requires buffer { 0 < length buffer.old }
         requires failures { R.failed source.old < u64.MAX }
-        ensures reads { (taken : List ℕ) × Gave R.remaining R.given source.old source.new taken × (length taken ≤ MOST_BYTES + length buffer.old)
+        ensures reads { (taken : List ℕ) × Gave R.remaining R.given source.old source.new taken × (length taken ≤ most_taken + length buffer.old)
             × Lifts K.holds (ReadsPart taken (IsAtEnd (R.remaining source.new))) self.old result self.new }
         ensures stops { StopsThere R.remaining R.given R.reads source.old source.new (TakesWell K.holds self.old) }
         ensures limit { self.new.limit ≡ self.old.limit }
@@ -327,7 +323,7 @@ impl<K: Collector> LoaderFor<K> {
         requires failures { R.failed source.old < u64.MAX }
         // The source's bytes were fed into the open part. There is a bound on them, so even an endless source can't keep the
         // call from returning.
-        ensures fed { (taken : List ℕ) × Gave R.remaining R.given source.old source.new taken × (length taken ≤ MOST_BYTES + READ_BYTES)
+        ensures fed { (taken : List ℕ) × Gave R.remaining R.given source.old source.new taken × (length taken ≤ most_taken + most_read)
             × FedPart (WasFedInto K.holds) self.old taken (IsAtEnd (R.remaining source.new)) result self.new }
         // Nothing is read after the read that causes a fault.
         ensures stops { self.old.fault ≡ None
@@ -361,7 +357,7 @@ impl<K: Collector> LoaderFor<K> {
         requires failures { R.failed source.old < u64.MAX }
         // The source's bytes were fed into the open part. There is a bound on them, so even an endless source can't keep the
         // call from returning.
-        ensures fed { (taken : List ℕ) × Gave R.remaining R.given source.old source.new taken × (length taken ≤ MOST_BYTES + length buffer.old)
+        ensures fed { (taken : List ℕ) × Gave R.remaining R.given source.old source.new taken × (length taken ≤ most_taken + length buffer.old)
             × FedPart (WasFedInto K.holds) self.old taken (IsAtEnd (R.remaining source.new)) result self.new }
         // Nothing is read after the read that causes a fault.
         ensures stops { self.old.fault ≡ None

@@ -68,6 +68,15 @@ impl<T: Read> Counted<T> {
     }
 }
 
+impl<T> Counted<T> {
+    /// Returns the reader.
+    pub fn get_ref(&self) -> &T
+        ensures { result.now ≡ self.now.inner }
+    {
+        &self.inner
+    }
+}
+
 impl<T: Read> Source for Counted<T> {
     ghost failed = { λ s. s.failures };
 

@@ -36,7 +36,7 @@ pub use Rattle.std.proofs.lemmas.Iterator.Consumers.{YieldsList-from_filter_map}
 pub use Rattle.std.proofs.lemmas.List.Sorted.{length_permutation}
 pub use Rattle.std.proofs.lemmas.Map.Lookups.{exact_unsigned}
 pub use Rattle.std.proofs.lemmas.Option.{slice_get-get_or, slice_get-map, slice_get_past}
-pub use Rattle.std.proofs.lemmas.Result.{IfOk-weaker, err_from_is_err_and}
+pub use Rattle.std.proofs.lemmas.Result.{IfOk-weaker}
 pub use Rattle.std.specs.Cmp.Lexicographic.{slice_cmp}
 pub use Rattle.std.specs.Option.{option_cmp}
 pub use Rattle.county_chart.proofs.Limits.FewChains.{few_chains}
@@ -50,8 +50,7 @@ pub use Rattle.canonical_form.specs.ByNumber.{polygons_by_number, under_number}
 pub use Rattle.canonical_form.specs.CanonCounties.{IsCanonCounty}
 pub use Rattle.tl_number.specs.ChoiceSearch.{IsChosen, IsLesserTie, numbered_arrangement}
 pub use Rattle.record_groups.specs.CountyGroups.{type_1_by_chain, type_2_by_chain, type_4_by_chain, type_5_by_name, type_6_by_chain}
-pub use Rattle.record_groups.specs.CountyGroups.{type_7_by_landmark, type_8_together, type_i_by_chain, type_p_by_number, types_1_to_4, types_5_to_7}
-pub use Rattle.record_groups.specs.CountyGroups.{types_8_to_p}
+pub use Rattle.record_groups.specs.CountyGroups.{type_7_by_landmark, type_8_together, type_i_by_chain, type_p_by_number}
 pub use Rattle.tl_number.specs.CriticalPlaces.{AreTieTables, IsOpenOrder, critical_numbers}
 pub use Rattle.tl_number.specs.OpenKeys.{AreOpenKeys, first_open, is_open, keys_along, newly_seen, open_keys, place_in}
 pub use Rattle.canonical_form.specs.DirectedChains.{HasChainsOf, arrangement_of}
@@ -65,4 +64,4 @@ pub use Rattle.record_groups.specs.RecordOrder.{groups_cmp, topologies_of, recor
 pub use Rattle.record_groups.specs.TypeOneOrder.{IsLeastFrom, ones_cmp, ones_of}
 pub use Rattle.canonical_form.specs.WholeArrangements.{AreReadAt, AreWhole, NamesEachOnce, arranged_by}
 pub use Rattle.arranged_county.specs.Views.{arranged_county}
-pub use Rattle.tl_profile.specs.declared.open_places.OpenPlace.{OpenPlace}
+pub use Rattle.county_chart.specs.declared.open_place.OpenPlace.{OpenPlace}

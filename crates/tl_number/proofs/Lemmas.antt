@@ -3,4 +3,3 @@ pub use Rattle.canonical_form.proofs.Arrangements.Carrying.{arrangement_carries}
 pub use Rattle.canonical_form.proofs.Choices.ChosenArrangements.{arrangement_of_number, places_within}
 pub use Rattle.canonical_form.proofs.Choices.FixedPlaces.{nothing_left}
 pub use Rattle.tl_number.proofs.Choices.LeastOnes.{agree_of_numbers}
-pub use Rattle.record_groups.proofs.Records.OneAfterAnother.{second_stops}

@@ -10,8 +10,8 @@ use Rattle.canonical_form.specs.MovedChains.{AreWithin, other_way}
 use Rattle.canonical_form.specs.NumberedChoices.{moved}
 use Rattle.record_groups.specs.TypeOneOrder.{ones_cmp}
 use Rattle.tl_number.specs.declared.numbered_arrangement.NumberedArrangement.{NumberedArrangement}
-use Rattle.tl_profile.specs.Choices.{choices, most_choices}
-use Rattle.tl_profile.specs.ShapeOrder.{IsShapeOrder, OrderOfShapes}
+use Rattle.county_chart.specs.Choices.{choices, most_choices}
+use Rattle.county_chart.specs.ShapeOrder.{IsShapeOrder, OrderOfShapes}
 
 -- this is the order of its chains by their shapes, which leaves few enough choices, its open places are within it, and the county has
 -- all polygons on its sides

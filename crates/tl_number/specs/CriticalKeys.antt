@@ -3,7 +3,7 @@ use Rattle.std.specs.Prelude.{ℕ, ◌&&◌, List, Bool, filter, map, not}
 use Rattle.std.specs.List.{list_any, range_with_len}
 use Rattle.std.specs.declared.cmp.Ordering.{Ordering}
 use Rattle.ordered_lists.specs.Orders.{stands_in}
-use Rattle.tl_profile.specs.declared.open_places.OpenPlace.{OpenPlace}
+use Rattle.county_chart.specs.declared.open_place.OpenPlace.{OpenPlace}
 use Rattle.record_groups.specs.Groups.{group_at, grouped}
 use Rattle.tl_number.specs.OpenKeys.{is_open}
 

@@ -9,8 +9,8 @@ use Rattle.county_chart.specs.County.{County, link_key}
 use Rattle.county_chart.specs.CountyRules.{chain_nodes, chain_polygons}
 use Rattle.county_chart.specs.PolygonKeys.{PolygonKey, key_cmp}
 use Rattle.county_chart.specs.declared.directed_chain.DirectedChain.{DirectedChain}
-use Rattle.tl_profile.specs.ShapeOrder.{OrderOfShapes}
-use Rattle.tl_profile.specs.declared.open_places.OpenPlace.{OpenPlace}
+use Rattle.county_chart.specs.ShapeOrder.{OrderOfShapes}
+use Rattle.county_chart.specs.declared.open_place.OpenPlace.{OpenPlace}
 use Rattle.tl_number.specs.CriticalKeys.{brings}
 use Rattle.arranged_county.specs.LandmarkItems.{HaveSameBodies}
 use Rattle.tl_number.specs.OpenNames.{AreOpenNames}

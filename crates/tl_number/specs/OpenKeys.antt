@@ -7,7 +7,7 @@ use Rattle.ordered_lists.specs.Orders.{stands_in}
 use Rattle.tl_shape.specs.Chain.{Chain}
 use Rattle.county_chart.specs.County.{County}
 use Rattle.county_chart.specs.declared.directed_chain.DirectedChain.{DirectedChain}
-use Rattle.tl_profile.specs.declared.open_places.OpenPlace.{OpenPlace}
+use Rattle.county_chart.specs.declared.open_place.OpenPlace.{OpenPlace}
 use Rattle.canonical_form.specs.DirectedChains.{parts_along}
 use Rattle.record_groups.specs.Groups.{grouped}
 use Rattle.canonical_form.specs.Growth.{first_seen}

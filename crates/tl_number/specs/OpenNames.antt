@@ -13,8 +13,8 @@ use Rattle.county_chart.specs.DirectedChains.{directed_chain}
 use Rattle.county_chart.specs.Limits.{most_records}
 use Rattle.county_chart.specs.Packing.{in_pieces, numbered_from}
 use Rattle.county_chart.specs.declared.directed_chain.DirectedChain.{DirectedChain}
-use Rattle.tl_profile.specs.ShapeOrder.{OrderOfShapes}
-use Rattle.tl_profile.specs.declared.open_places.OpenPlace.{OpenPlace}
+use Rattle.county_chart.specs.ShapeOrder.{OrderOfShapes}
+use Rattle.county_chart.specs.declared.open_place.OpenPlace.{OpenPlace}
 use Rattle.canonical_form.specs.Arrangement.{names_in_order}
 use Rattle.tl_number.specs.CriticalKeys.{brings}
 use Rattle.canonical_form.specs.DirectedChains.{arrangement_of}

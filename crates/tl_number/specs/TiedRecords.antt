@@ -6,7 +6,7 @@ use Rattle.county_chart.specs.CountyRules.{chain_polygons}
 use Rattle.county_chart.specs.PolygonKeys.{key_cmp}
 use Rattle.county_chart.specs.declared.directed_chain.DirectedChain.{DirectedChain}
 use Rattle.tl_layout.specs.declared.record_type.Record.TheVariants.{I}
-use Rattle.tl_profile.specs.ShapeOrder.{OrderOfShapes}
+use Rattle.county_chart.specs.ShapeOrder.{OrderOfShapes}
 use Rattle.tl_number.specs.OpenKeys.{first_open, keys_along}
 use Rattle.record_groups.specs.RecordOrder.{topologies_of}
 use Rattle.tl_number.specs.TieRecords.{polygon_in_choice}

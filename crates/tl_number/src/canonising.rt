@@ -1,31 +1,20 @@
 //! Making the canonical county.
 
 ghost use Rattle.std.specs.Prelude.{◌≡◌, Err, IfOk, MatchResult, Ok};
-ghost use Rattle.county_chart.specs.Renumbering.{AreSame, Carries};
+ghost use Rattle.county_chart.specs.Renumbering.{Carries};
 ghost use Rattle.canonical_form.specs.Arrangement.{arranged, renaming_of};
 ghost use Rattle.canonical_form.specs.CanonCounties.{IsCanonCounty};
 ghost use Rattle.canonical_form.specs.Tidy.{IsLeastChoice};
-ghost use Rattle.arranged_county.specs.Views.{arranged_county, arrangement_in, source_of, directed_chains_of};
-ghost use Rattle.tl_profile.specs.Profile.{IsInProfile};
-ghost use Rattle.tl_profile.specs.ShapeOrder.{IsShapeOrder};
+ghost use Rattle.arranged_county.specs.Views.{arranged_county, arrangement_in, source_of};
+ghost use Rattle.county_chart.specs.Profile.{IsInProfile};
+ghost use Rattle.county_chart.specs.ShapeOrder.{IsShapeOrder};
 
-use crate::canon_county::{CanonCounty, CanonCountyIn};
 use crate::least_choice::least_arrangement;
-use arranged_county::{Arranged, arrange, with_evidence};
+use arranged_county::{CanonCounty, CanonCountyIn, arrange, with_evidence};
 use county_chart::{Chart, CountyIn};
+use renamings::Renaming;
 use std::alloc::{AllocError, Global};
-use tl_cert::Renaming;
 use tl_profile::{Admitted, AdmittedIn, ShapeOrder};
-
-/// Marks an arranged county as canonical. It must be canonical and the same map as its source county.
-fn known_as_canonical<C: Chart + Drop>(view: Arranged<C>) -> CanonCounty<C>
-    requires canonical { IsCanonCounty (arranged_county view) }
-    requires same { AreSame (C.county (source_of view)) (arranged_county view) }
-    ensures source { source_of result ≡ source_of view }
-    ensures order { directed_chains_of result ≡ directed_chains_of view }
-{
-    with_evidence(view)
-}
 
 /// The canonical county of a county in the profile, from the order of its chains by their shapes.
 fn canonise_in_order<C: Chart + Drop>(
@@ -46,7 +35,7 @@ fn canonise_in_order<C: Chart + Drop>(
 {
     let arrangement = least_arrangement(alloc, &chart, order)?;
     let view = arrange(alloc, chart, arrangement)?;
-    Ok(known_as_canonical(view))
+    Ok(with_evidence(view))
 }
 
 /// The canonical county of an admitted county, without the renaming onto it. Its chains have the order and the directions that their

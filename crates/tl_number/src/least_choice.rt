@@ -17,8 +17,8 @@ ghost use Rattle.canonical_form.specs.DirectedChains.{HasChainsOf, arrangement_o
 ghost use Rattle.canonical_form.specs.Tidy.{IsLeastChoice};
 ghost use Rattle.record_groups.specs.TypeOneOrder.{IsLeastFrom, IsLeastOne, ones_cmp};
 ghost use Rattle.canonical_form.specs.WholeArrangements.{NamesEachOnce};
-ghost use Rattle.tl_profile.specs.Choices.{choices, most_choices};
-ghost use Rattle.tl_profile.specs.ShapeOrder.{IsShapeOrder};
+ghost use Rattle.county_chart.specs.Choices.{choices, most_choices};
+ghost use Rattle.county_chart.specs.ShapeOrder.{IsShapeOrder};
 
 use crate::numbered_arrangement::NumberedArrangement;
 use crate::same_chains::have_same_chains;

@@ -8,11 +8,11 @@ ghost use Rattle.canonical_form.specs.CanonCounties.{IsCanonCounty};
 ghost use Rattle.canonical_form.specs.Tidy.{IsLeastChoice};
 ghost use Rattle.arranged_county.specs.Views.{arranged_county, arrangement_in, source_of};
 
-use crate::canon_county::CanonCounty;
 use crate::canonising::canonise;
+use arranged_county::CanonCounty;
 use county_chart::{Chart, CountyIn, Masked};
+use renamings::Renaming;
 use std::alloc::{AllocError, Global};
-use tl_cert::Renaming;
 use tl_layout::Mask;
 use tl_profile::{Admitted, AdmittedIn};
 

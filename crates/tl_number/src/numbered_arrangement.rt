@@ -7,7 +7,7 @@ ghost use Rattle.tl_number.specs.ChoiceSearch.{IsChosen};
 ghost use Rattle.canonical_form.specs.MovedChains.{AgreeApart, AreWithin, IsWithin, other_way};
 ghost use Rattle.canonical_form.specs.NumberedChoices.{moved, moved_at};
 
-use arranged_county::arrangement_in_order;
+use crate::ascending_order::arrangement_in_order;
 use county_chart::DirectedChain;
 use std::alloc::{AllocError, Global};
 use tl_profile::{OpenPlace, ShapeOrder};

@@ -3,7 +3,7 @@
 
 ghost use Rattle.std.specs.Bool.{Decides};
 ghost use Rattle.std.specs.Prelude.{◌≡◌, ◌+◌, ◌<◌, length, map};
-ghost use Rattle.tl_cert.specs.PartsThere.{HaveSameContent, HaveSameEnds, HaveSameLists};
+ghost use Rattle.county_chart.specs.SameParts.{HaveSameContent, HaveSameEnds, HaveSameLists};
 ghost use Rattle.county_chart.specs.ChartWords.{feats_of, points_of, ranges_of};
 ghost use Rattle.canonical_form.specs.MovedChains.{AgreeButOpen, HaveSameChainAt, HaveSameChainsBelow, IsWithin};
 ghost use Rattle.county_chart.specs.DirectedChains.{directed_chain};

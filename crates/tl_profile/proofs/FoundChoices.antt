@@ -11,9 +11,9 @@ use Rattle.std.proofs.lemmas.List.{take_all}
 use Rattle.std.proofs.lemmas.List.FromFn.{length-map-range_with_len}
 use Rattle.std.proofs.lemmas.List.Sorted.{length_permutation}
 use Rattle.county_chart.specs.Limits.{IsWithinLimits, most_records}
-use Rattle.tl_profile.specs.Choices.{counted_choices}
-use Rattle.tl_profile.proofs.CountedChoices.{IsCounted, counted_next, more_choices-append}
-use Rattle.tl_profile.proofs.SameChoices.{choices_stated}
+use Rattle.county_chart.specs.Choices.{counted_choices}
+use Rattle.county_chart.proofs.Profile.CountedChoices.{IsCounted, counted_next, more_choices-append}
+use Rattle.county_chart.proofs.Profile.SameChoices.{choices_stated}
 
 first_not_greater : (a b : Ordering) → is_gt (ordering_then a b) ≡ false → is_gt a ≡ false
 first_not_greater Less b e = refl

@@ -1,14 +1,6 @@
 pub mod Common
-pub mod ProfileFaults
-pub mod SameProfile
 pub mod OnSamples
 pub mod PointRanks
 pub mod PlacedOrder
-pub mod Places
-pub mod ShapesOfCounty
 pub mod SideKeys
-pub mod Factorials
-pub mod CountedChoices
-pub mod ShapePoints
-pub mod SameChoices
 pub mod FoundChoices

@@ -17,7 +17,7 @@ use Rattle.county_chart.proofs.Samples.Counties.{
   link,
   no_side,
 }
-use Rattle.tl_profile.proofs.ProfileFaults.{profile_computed, first_clause_computed}
+use Rattle.county_chart.proofs.Profile.ProfileFaults.{profile_computed, first_clause_computed}
 
 pub there_in_profile : IsInProfile (county_of there)
 there_in_profile = profile_computed (county_of there) refl

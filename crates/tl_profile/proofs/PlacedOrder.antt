@@ -1,22 +1,14 @@
 -- The order of placed shapes is the order of their chains.
 use Rattle.tl_profile.proofs.Common.{◌≡◌, ◌∷◌, [], List, map, false, Ordering, Less, Equal, Greater, is_gt, refl, sym, ap, ap₂, ◌∙◌}
-use Rattle.tl_profile.proofs.Common.{subst, IsPermutation, AllByRecursion, ordering_then, IsPermutation-sym, point_cmp, points_cmp}
-use Rattle.tl_profile.proofs.Common.{County, IsInOrder, points_keys, among-permutation, Among, all_among, AreInShapeOrder}
+use Rattle.tl_profile.proofs.Common.{subst, IsPermutation, AllByRecursion, ordering_then, point_cmp, points_cmp}
+use Rattle.tl_profile.proofs.Common.{County, IsInOrder, points_keys, AreInShapeOrder}
 use Rattle.tl_profile.proofs.Common.{along_shapes, directed_cmp, HasHead, placed_key_cmp, placed_directed, whole_shape, PlacedShape}
 use Rattle.std.proofs.Common.{nat_cmp}
 use Rattle.std.specs.Cmp.{IsTotalOrder}
 use Rattle.std.proofs.lemmas.Cmp.{int_cmp_total, nat_cmp_total, then_total, on_total}
 use Rattle.std.proofs.lemmas.List.Sorted.{IsPermutation-map}
-use Rattle.ordered_lists.proofs.ByKey.Numbers.{all_themselves}
-use Rattle.ordered_lists.proofs.Lists.Elements.{all_weaker}
 use Rattle.tl_profile.proofs.PointRanks.{as_points}
 use Rattle.tl_profile.specs.PlacedShapes.{placed_cmp}
-
--- a property of all elements of a list is one of all elements of a permutation
-pub all_permuted : {X : Type 0} (P : X → Type 0) (xs ys : List X) → IsPermutation xs ys → AllByRecursion P xs → AllByRecursion P ys
-all_permuted P xs ys p a =
-    all_weaker (λ y. Among y ys) P (λ y m. all_among P y xs a (among-permutation y ys xs (IsPermutation-sym xs ys p) m)) ys
-    (all_themselves ys)
 
 pub placed_key_total : (county : County) → IsTotalOrder (placed_key_cmp county)
 placed_key_total county =

@@ -15,7 +15,7 @@ use Rattle.ordered_lists.proofs.Lists.InOrder.{strict-map, in_order-map}
 use Rattle.ordered_lists.proofs.ByKey.KeyedLists.{in_order-filter}
 use Rattle.county_chart.proofs.ByKey.KeySets.{stands_in-distinct}
 use Rattle.tl_profile.specs.Sides.{keys_with_body}
-use Rattle.tl_profile.proofs.Places.{ChainStands, chain_stands}
+use Rattle.county_chart.proofs.Profile.Places.{ChainStands, chain_stands}
 
 -- the sides of one more chain
 pub sides_next : (county : County) (place : ℕ) → place < length county.chains → (before left_too both : List PolygonKey)

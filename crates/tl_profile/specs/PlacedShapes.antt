@@ -5,9 +5,9 @@ use Rattle.std.specs.Ordering.{int_cmp, nat_cmp, ordering_then}
 use Rattle.tl_layout.specs.Coordinates.{Coordinates}
 use Rattle.tl_shape.specs.PointOrder.{points_cmp}
 use Rattle.county_chart.specs.County.{County}
-use Rattle.tl_profile.specs.Choices.{is_either_way}
+use Rattle.county_chart.specs.Choices.{is_either_way}
 use Rattle.tl_profile.specs.PointRanks.{IsRankOf}
-use Rattle.tl_profile.specs.ShapeOrder.{points_along}
+use Rattle.county_chart.specs.ShapeOrder.{points_along}
 use Rattle.county_chart.specs.declared.directed_chain.DirectedChain.{DirectedChain}
 use Rattle.tl_profile.specs.declared.shapes.PlacedShape.{PlacedShape}
 

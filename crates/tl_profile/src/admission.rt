@@ -4,15 +4,14 @@ ghost use Rattle.std.specs.Prelude.{◌≡◌, ◌≢◌, IfOk, IfErr};
 ghost use Rattle.county_chart.specs.CountyRules.{is_without_chain};
 ghost use Rattle.ordered_lists.specs.Keyed.{IsLeastPassing};
 ghost use Rattle.county_chart.specs.PolygonKeys.{key_cmp};
-ghost use Rattle.tl_profile.specs.declared.fault.ProfileFault.TheVariants.{Memory};
-ghost use Rattle.tl_profile.specs.Profile.{AreAllOnSides, IsFirstBrokenClause, IsInProfile};
-ghost use Rattle.tl_profile.specs.ShapeOrder.{IsShapeOrder};
+ghost use Rattle.county_chart.specs.declared.profile_fault.ProfileFault.TheVariants.{Memory};
+ghost use Rattle.county_chart.specs.Profile.{AreAllOnSides, IsFirstBrokenClause, IsInProfile};
+ghost use Rattle.county_chart.specs.ShapeOrder.{IsShapeOrder};
 
-use crate::fault::ProfileFault;
 use crate::open_places::MOST_CHOICES;
 use crate::shape_order::{ShapeOrder, order_by_shape};
 use crate::sides::{check_polygons, refuse_without_chain};
-use county_chart::{Chart, County, CountyIn, PolygonKey};
+use county_chart::{Chart, County, CountyIn, PolygonKey, ProfileFault};
 use std::alloc::Global;
 use std::marker::Model;
 
@@ -26,8 +25,8 @@ pub struct Admitted<C: Chart = County> {
 }
 
 impl<C: Chart> Model for Admitted<C> {
-    ghost use Rattle.tl_profile.specs.Profile.{IsInProfile};
-    ghost use Rattle.tl_profile.specs.ShapeOrder.{IsShapeOrder};
+    ghost use Rattle.county_chart.specs.Profile.{IsInProfile};
+    ghost use Rattle.county_chart.specs.ShapeOrder.{IsShapeOrder};
 
     ghost Value = { C };
 

@@ -4,12 +4,12 @@ ghost use Rattle.std.specs.Prelude.{◌≡◌, ◌⊎◌};
 ghost use Rattle.county_chart.specs.County.{County};
 ghost use Rattle.county_chart.specs.CountyRules.{IsCounty};
 ghost use Rattle.county_chart.specs.Renumbering.{AreSame};
-ghost use Rattle.tl_profile.specs.Choices.{choices};
-ghost use Rattle.tl_profile.specs.declared.fault.ProfileFault.{ProfileFault};
-ghost use Rattle.tl_profile.specs.Profile.{IsFirstBrokenClause, IsInProfile};
+ghost use Rattle.county_chart.specs.Choices.{choices};
+ghost use Rattle.county_chart.specs.declared.profile_fault.ProfileFault.{ProfileFault};
+ghost use Rattle.county_chart.specs.Profile.{IsFirstBrokenClause, IsInProfile};
 
 /// A county is in the profile, or exactly one clause is the first that it breaks, never both.
-#[tactic(auto, using(crate::proofs::ProfileFaults::profile_has_none, crate::proofs::ProfileFaults::one_first_clause))]
+#[tactic(auto, using(county_chart::proofs::Profile::ProfileFaults::profile_has_none, county_chart::proofs::Profile::ProfileFaults::one_first_clause))]
 pub fn in_profile_or_one_first_broken_clause()
     ensures either { (county : County) →
         IsInProfile county ⊎ ((fault : ProfileFault) × IsFirstBrokenClause county fault) }
@@ -26,7 +26,7 @@ pub fn same_counties_agree_on_the_profile()
 {}
 
 /// Counties that are the same leave equally many choices open.
-#[tactic(auto, using(crate::proofs::SameChoices::same_choices))]
+#[tactic(auto, using(county_chart::proofs::Profile::SameChoices::same_choices))]
 pub fn same_counties_have_equal_choices()
     ensures { (a b : County) → AreSame a b → choices a ≡ choices b }
 {}

@@ -11,7 +11,6 @@
 #![tactic(auto)]
 
 mod admission;
-mod fault;
 mod laws;
 mod open_places;
 mod point_rank;
@@ -20,10 +19,9 @@ mod shapes;
 mod sides;
 
 pub use admission::{Admitted, AdmittedIn, admit, admit_in, admit_linked};
-pub use fault::ProfileFault;
+pub use county_chart::{OpenPlace, ProfileFault};
 pub use laws::{
     in_profile_or_one_first_broken_clause, same_counties_agree_on_the_profile,
     same_counties_have_equal_choices,
 };
-pub use open_places::OpenPlace;
 pub use shape_order::{ShapeOrder, order_by_shape};

@@ -6,44 +6,17 @@
 ghost use Rattle.std.specs.List.{AllByRecursion};
 ghost use Rattle.std.specs.Prelude.{◌≡◌, ◌<◌, ◌≤◌, ◌+◌, ◌*◌, ◌^◌, [], ◌∷◌, ◌++◌, cond, length, map, min, reverse, suc, IfOk, OnOk};
 ghost use Rattle.ordered_lists.specs.Orders.{IsInOrder};
-ghost use Rattle.tl_profile.specs.Choices.{alike_first, choices, counted_choices, is_either_way, is_first, is_settled, most_choices, open_places, open_place_at, ways_at};
+ghost use Rattle.county_chart.specs.Choices.{alike_first, choices, counted_choices, is_either_way, is_first, is_settled, most_choices, open_places, open_place_at, ways_at};
 ghost use Rattle.tl_profile.specs.PlacedShapes.{HasHead, placed_directed, whole_shape};
-ghost use Rattle.tl_profile.specs.ShapeOrder.{AreInShapeOrder};
+ghost use Rattle.county_chart.specs.ShapeOrder.{AreInShapeOrder};
 ghost use Rattle.tl_shape.specs.PointOrder.{points_cmp};
 
 use crate::shapes::{PlacedShape, compare_shapes};
-use county_chart::Chart;
+use county_chart::{Chart, OpenPlace};
 use std::alloc::{AllocError, Global};
 
 /// The greatest number of choices that are tried.
 pub(crate) const MOST_CHOICES: u64 = 5040;
-
-/// An open place in the order of shapes: several chains have its shape, or the shape is the same from both ends.
-#[derive(Clone, Copy, Debug, PartialEq, Eq)]
-pub struct OpenPlace {
-    /// The place in the order of shapes, counted from 0.
-    pub place: u32,
-    /// How many chains from this place on have its shape, including the one at the place.
-    pub alike: u32,
-    /// Whether the shape is the same from both ends, so that each of these chains can have either direction.
-    pub either_way: bool,
-}
-
-impl OpenPlace {
-    /// The number of directions of a chain at the place: 1 or 2.
-    pub fn ways(&self) -> u64
-        ensures { result ≡ ways_at self.now }
-    {
-        if self.either_way { 2 } else { 1 }
-    }
-
-    /// Whether the place leaves no choice.
-    fn is_settled(&self) -> bool
-        ensures { result ≡ is_settled self.now }
-    {
-        self.alike == 1 && !self.either_way
-    }
-}
 
 /// The choices that ordered shapes leave open from some place on.
 #[derive(Drop)]

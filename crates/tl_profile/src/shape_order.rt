@@ -3,11 +3,11 @@
 ghost use Rattle.std.specs.List.{AllByRecursion};
 ghost use Rattle.std.specs.Prelude.{◌≡◌, map, IfOk};
 ghost use Rattle.tl_profile.specs.PlacedShapes.{HasHead, placed_directed};
-ghost use Rattle.tl_profile.specs.ShapeOrder.{AreInShapeOrder, IsShapeOrder};
+ghost use Rattle.county_chart.specs.ShapeOrder.{AreInShapeOrder, IsShapeOrder};
 
-use crate::open_places::{OpenPlace, find_choices};
+use crate::open_places::find_choices;
 use crate::shapes::{PlacedShape, ordered_shapes};
-use county_chart::{Chart, DirectedChain};
+use county_chart::{Chart, DirectedChain, OpenPlace};
 use std::alloc::{AllocError, Global};
 use std::marker::Model;
 
@@ -22,7 +22,7 @@ pub struct ShapeOrder {
 }
 
 impl Model for ShapeOrder {
-    ghost use Rattle.tl_profile.specs.ShapeOrder.{OrderOfShapes};
+    ghost use Rattle.county_chart.specs.ShapeOrder.{OrderOfShapes};
 
     ghost Value = { OrderOfShapes };
 

@@ -7,8 +7,8 @@ ghost use Rattle.std.specs.List.{AllByRecursion};
 ghost use Rattle.std.specs.Prelude.{◌≡◌, ◌<◌, length, map, reverse, IfOk, IsPermutation};
 ghost use Rattle.ordered_lists.specs.Orders.{IsInOrder};
 ghost use Rattle.tl_profile.specs.PlacedShapes.{HasHead, beyond_first_cmp, placed_cmp, placed_key_cmp, placed_directed};
-ghost use Rattle.tl_profile.specs.ShapeOrder.{AreInShapeOrder, along_shape, along_shapes, points_along};
-ghost use Rattle.tl_profile.specs.Shapes.{points_at};
+ghost use Rattle.county_chart.specs.ShapeOrder.{AreInShapeOrder, along_shape, along_shapes, points_along};
+ghost use Rattle.county_chart.specs.Shapes.{points_at};
 ghost use Rattle.tl_shape.specs.PointOrder.{points_cmp};
 
 use crate::point_rank::PointRank;

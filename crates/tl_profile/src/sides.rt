@@ -6,12 +6,11 @@ ghost use Rattle.county_chart.specs.CountyRules.{is_without_chain, polygons_alon
 ghost use Rattle.ordered_lists.specs.Keyed.{IsLeastPassing};
 ghost use Rattle.ordered_lists.specs.Orders.{distinct};
 ghost use Rattle.county_chart.specs.PolygonKeys.{key_cmp};
-ghost use Rattle.tl_profile.specs.declared.fault.ProfileFault.TheVariants.{Memory};
-ghost use Rattle.tl_profile.specs.Profile.{AreAllOnSides, IsFirstBrokenClause};
+ghost use Rattle.county_chart.specs.declared.profile_fault.ProfileFault.TheVariants.{Memory};
+ghost use Rattle.county_chart.specs.Profile.{AreAllOnSides, IsFirstBrokenClause};
 ghost use Rattle.tl_profile.specs.Sides.{key_if_bodied, keys_on, keys_with_body};
 
-use crate::fault::ProfileFault;
-use county_chart::{Chart, KeySet, PolygonKey, least_unknown};
+use county_chart::{Chart, KeySet, PolygonKey, ProfileFault, least_unknown};
 use std::alloc::{AllocError, Global};
 use tl_layout::Side;
 

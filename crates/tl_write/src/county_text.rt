@@ -10,10 +10,11 @@ use crate::fault::WriteFault;
 use crate::sink::Sink;
 use crate::text_buffer::TextBuffer;
 use crate::visitor::NoDevice;
+use arranged_county::CanonCounty;
+use canonical_records::visit_records;
 use county_chart::Chart;
 use std::alloc::{AllocError, Global};
 use tl_layout::Record;
-use tl_number::{CanonCounty, visit_records};
 
 /// Returns the records of a canonical county: a canonical list, and the packing of the county.
 ///

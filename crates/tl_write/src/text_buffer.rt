@@ -7,9 +7,9 @@ ghost use Rattle.tl_write.specs.GoingOut.{HasCounted, HoldsBeginning, IsGoingOut
 use crate::bytes_out::write_bytes;
 use crate::fault::WriteFault;
 use crate::sink::Sink;
+use record_groups::RecordGroups;
 use std::marker::Model;
 use tl_layout::{Layout, put_line};
-use tl_number::RecordGroups;
 
 /// The size of the buffer in bytes: some hundred lines.
 const BUFFER_BYTES: usize = 65_536;

@@ -6,9 +6,9 @@ ghost use Rattle.tl_layout.specs.RecordText.{text_of};
 use crate::fault::WriteFault;
 use crate::sink::Sink;
 use crate::text_buffer::TextBuffer;
+use record_groups::{RecordGroups, RecordVisitor};
 use std::alloc::AllocError;
 use tl_layout::{Record, Tabled};
-use tl_number::{RecordGroups, RecordVisitor};
 
 /// Writes the text of the records to a sink, after the text before.
 impl<W: Sink> RecordVisitor<W> for TextBuffer {

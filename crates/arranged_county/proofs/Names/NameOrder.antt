@@ -1,6 +1,6 @@
 -- Names sorted by their bytes, the ranks of their first uses and their places are in their new order.
 use Rattle.arranged_county.proofs.Common.{◌≡◌, ℕ, suc, List, [], ◌∷◌, ◌++◌, map, flat_map, filter_map, length, Bool, true, false, cond}
-use Rattle.arranged_county.proofs.Common.{Ordering, Less, Equal, Greater, Option, Some, option_map, slice_get, sym, refl, ap, ap₂, ◌∙◌, subst}
+use Rattle.arranged_county.proofs.Common.{Ordering, Option, Some, option_map, slice_get, sym, refl, ap, ap₂, ◌∙◌, subst}
 use Rattle.arranged_county.proofs.Common.{arith, nat_cmp, IsPermutation, append-nil, append_assoc, AreReadAt, AreWhole, Arrangement, Body5, Chain}
 use Rattle.arranged_county.proofs.Common.{County, DirectedChain, IsApart, IsCounty, IsInOrder, IsKeyOrder, IsPermutation-map}
 use Rattle.canonical_form.proofs.Common.{IsStrictlySortedBy}

@@ -15,7 +15,7 @@ use Rattle.county_chart.specs.ChartWords.{polygon_under}
 use Rattle.ordered_lists.proofs.Lists.InOrder.{strict-permutation}
 use Rattle.ordered_lists.proofs.Lists.EntryLists.{in_order-strict, value-at_place}
 use Rattle.ordered_lists.proofs.Lists.ByPlace.{all_at}
-use Rattle.tl_profile.proofs.PlacedOrder.{all_permuted}
+use Rattle.ordered_lists.proofs.Lists.Reordered.{all_permuted}
 use Rattle.canonical_form.proofs.Arrangements.Carrying.{polygon_lefts, polygons_permutation, polygons_renamed, polygons_arranged}
 use Rattle.canonical_form.proofs.Lists.Counting.{map-equal_all, up_to-strict}
 use Rattle.canonical_form.proofs.Numbering.FirstSeen.{first_seen-apart}

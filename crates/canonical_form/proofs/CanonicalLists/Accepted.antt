@@ -6,10 +6,10 @@ use Rattle.canonical_form.proofs.Common.{same-symmetric, same-transitive, text_o
 use Rattle.county_chart.specs.LinkRules.{IsFirstBrokenRule}
 use Rattle.county_chart.specs.declared.fault.LinkFault.{LinkFault}
 use Rattle.county_chart.proofs.Rules.LinkFaults.{linked_or_first, linked_has_none, one_first_rule}
-use Rattle.tl_profile.specs.Profile.{IsFirstBrokenClause}
-use Rattle.tl_profile.specs.declared.fault.ProfileFault.{ProfileFault}
-use Rattle.tl_profile.proofs.ProfileFaults.{profile_or_first, profile_has_none, one_first_clause}
-use Rattle.tl_profile.proofs.SameProfile.{same_in_profile}
+use Rattle.county_chart.specs.Profile.{IsFirstBrokenClause}
+use Rattle.county_chart.specs.declared.profile_fault.ProfileFault.{ProfileFault}
+use Rattle.county_chart.proofs.Profile.ProfileFaults.{profile_or_first, profile_has_none, one_first_clause}
+use Rattle.county_chart.proofs.Profile.SameProfile.{same_in_profile}
 use Rattle.canonical_form.specs.Accepted.{RecordsRefusal, Unlinked, OutOfProfile, IsRefusal, IsCanonicalOf}
 use Rattle.canonical_form.proofs.CanonicalLists.TidyLists.{canonical_texts_equal}
 

@@ -6,7 +6,7 @@ use Rattle.canonical_form.proofs.Common.{IsInProfile, IsLeastChoice, IsSight, Po
 use Rattle.canonical_form.proofs.Common.{arranged_list, ascending, choices, county-is_county, county_of, each_from, key_cmp, lt-ltb, ltb-false}
 use Rattle.canonical_form.proofs.Common.{most_choices, numbered_choice, polygon_keys, polygons_along, renaming_of, stands_in, times}
 use Rattle.std.proofs.lemmas.Bool.{or_cases}
-use Rattle.tl_profile.proofs.SameProfile.{body_on_side}
+use Rattle.county_chart.proofs.Profile.SameProfile.{body_on_side}
 use Rattle.canonical_form.proofs.Arrangements.Carrying.{arrangement_carries}
 use Rattle.canonical_form.proofs.CanonicalLists.OneChoice.{only_choice}
 use Rattle.canonical_form.proofs.CanonicalLists.TidyLists.{choice_is_same, least_choice, least_choice_is_canonical, canonical_is_choice, read_back}

@@ -5,7 +5,7 @@ use Rattle.canonical_form.proofs.Common.{carried_chain, entry_points, entry_shap
 use Rattle.canonical_form.proofs.Common.{map_agree_everywhere, on, ordering_reverse, points_cmp, points_from, points_keys, turned_if, turns}
 use Rattle.std.specs.Ordering.{is_lt}
 use Rattle.ordered_lists.proofs.Lists.Reordered.{SameElements, from_permutation, same-map}
-use Rattle.tl_profile.proofs.ShapePoints.{least_reverse}
+use Rattle.county_chart.proofs.Profile.ShapePoints.{least_reverse}
 
 -- points that don't come after their reverse are their shape
 own_shape : (points : List Coordinates) → is_gt (points_cmp points (reverse points)) ≡ false → points ≡ least_points points

@@ -7,8 +7,8 @@ use Rattle.canonical_form.proofs.Common.{has_repeat-apart, is_either_way, least_
 use Rattle.canonical_form.proofs.Common.{points_keys, same-symmetric, same-transitive, shapes, strict-map, strict_from_order}
 use Rattle.county_chart.specs.MaskedCounty.{masked_chain}
 use Rattle.ordered_lists.proofs.Lists.Reordered.{SameElements, apart-same}
-use Rattle.tl_profile.specs.Profile.{AreAllOnSides}
-use Rattle.tl_profile.specs.declared.fault.ProfileFault.TheVariants.{PolygonWithoutChain, Memory}
+use Rattle.county_chart.specs.Profile.{AreAllOnSides}
+use Rattle.county_chart.specs.declared.profile_fault.ProfileFault.TheVariants.{PolygonWithoutChain, Memory}
 use Rattle.canonical_form.specs.Strict.{IsStrict, IsStrictlyAccepted, IsStrictThrough}
 use Rattle.canonical_form.proofs.CanonicalLists.Accepted.{plain_sight}
 use Rattle.canonical_form.proofs.CanonicalLists.Ascending.{canonical_exists}

@@ -8,8 +8,8 @@ use Rattle.canonical_form.proofs.Common.{entry_shape, in_order, least_points, on
 use Rattle.std.specs.Option.{option_cmp}
 use Rattle.canonical_form.proofs.Common.{points_along, points_cmp, points_keys, tlids}
 use Rattle.std.proofs.lemmas.Option.{slice_get-map, get_or_from_slice_get}
-use Rattle.tl_profile.proofs.Places.{along_from}
-use Rattle.tl_profile.specs.ShapeOrder.{along_shape, directed_cmp}
+use Rattle.county_chart.proofs.Profile.Places.{along_from}
+use Rattle.county_chart.specs.ShapeOrder.{along_shape, directed_cmp}
 use Rattle.canonical_form.specs.Arrangement.{comes_turned}
 use Rattle.canonical_form.proofs.Lists.SortedPlaces.{sorted_items, each_item, item_places}
 use Rattle.ordered_lists.proofs.Lists.Ranges.{places_below}

@@ -7,11 +7,11 @@ use Rattle.canonical_form.proofs.Common.{times-permutation, tlids, turned_by}
 use Rattle.canonical_form.specs.MovedChains.{AgreeApart, AreWithin, StandInOrder, other_way}
 use Rattle.canonical_form.specs.DirectedChains.{HasChainsOf, arrangement_of, tlid_at}
 use Rattle.canonical_form.specs.WholeArrangements.{NamesEachOnce}
-use Rattle.tl_profile.specs.declared.open_places.OpenPlace.{OpenPlace}
+use Rattle.county_chart.specs.declared.open_place.OpenPlace.{OpenPlace}
 use Rattle.canonical_form.specs.NumberedChoices.{moved}
 use Rattle.std.proofs.lemmas.List.{drop-map, take-map}
-use Rattle.tl_profile.specs.Choices.{is_settled, open_place_at}
-use Rattle.tl_profile.proofs.CountedChoices.{alike_few}
+use Rattle.county_chart.specs.Choices.{is_settled, open_place_at}
+use Rattle.county_chart.proofs.Profile.CountedChoices.{alike_few}
 use Rattle.canonical_form.specs.Tidy.{directed_shape, turned_directed}
 use Rattle.canonical_form.proofs.Choices.AscendingArrangement.{arrangement_ascend, arrangement_there, shapes_of_order}
 use Rattle.canonical_form.proofs.Choices.Choosing.{all_insert}

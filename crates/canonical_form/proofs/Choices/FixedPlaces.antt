@@ -3,11 +3,11 @@ use Rattle.canonical_form.proofs.Common.{◌≡◌, ◌<◌, ◌≤◌, ◌+◌,
 use Rattle.canonical_form.proofs.Common.{false, cond, Ordering, Some, None, slice_get, sym, refl, ap, ◌∙◌, arith, AllByRecursion}
 use Rattle.canonical_form.proofs.Common.{IsPermutation-insert, all_weaker, insert, Decides, ltb-false, ltb-true, open_places, turned_by}
 use Rattle.canonical_form.specs.MovedChains.{AgreeApart, AreWithin, StandInOrder, IsApart}
-use Rattle.tl_profile.specs.declared.open_places.OpenPlace.{OpenPlace}
+use Rattle.county_chart.specs.declared.open_place.OpenPlace.{OpenPlace}
 use Rattle.canonical_form.specs.NumberedChoices.{first_stood, moved}
 use Rattle.std.proofs.lemmas.List.Sorted.{length_permutation}
 use Rattle.std.proofs.lemmas.Option.{slice_get_past}
-use Rattle.tl_profile.specs.Choices.{is_settled, open_place_at}
+use Rattle.county_chart.specs.Choices.{is_settled, open_place_at}
 
 pub nothing_left : {X : Type 0} (xs : List X) → length xs ≡ 0 → xs ≡ []
 nothing_left [] e = refl

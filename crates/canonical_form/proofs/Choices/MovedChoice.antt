@@ -2,7 +2,7 @@
 use Rattle.canonical_form.proofs.Common.{◌≡◌, ◌+◌, ◌*◌, ◌==◌, ℕ, suc, List, [], ◌∷◌, ◌++◌, map, take, drop, length, Bool, true, false, cond, not}
 use Rattle.canonical_form.proofs.Common.{◌&&◌, Ordering, sym, refl, ap, ◌∙◌, arith, chosen, eqb-true, open_places, stood, take-append_seam}
 use Rattle.canonical_form.proofs.Common.{times}
-use Rattle.tl_profile.specs.declared.open_places.OpenPlace.{OpenPlace}
+use Rattle.county_chart.specs.declared.open_place.OpenPlace.{OpenPlace}
 use Rattle.canonical_form.specs.NumberedChoices.{first_stood, moved, moved_at}
 use Rattle.std.proofs.lemmas.Bool.{and_parts, not-true}
 use Rattle.std.proofs.lemmas.List.{append_assoc, length-append}

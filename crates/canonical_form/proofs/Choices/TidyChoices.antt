@@ -12,7 +12,7 @@ use Rattle.canonical_form.proofs.Common.{turned_if}
 use Rattle.std.proofs.lemmas.List.{append-nil, reverse-reverse}
 use Rattle.ordered_lists.proofs.ByKey.Numbers.{from_in_order}
 use Rattle.ordered_lists.proofs.Lists.Reordered.{from_permutation}
-use Rattle.tl_profile.proofs.Factorials.{running-same}
+use Rattle.county_chart.proofs.Profile.Factorials.{running-same}
 use Rattle.canonical_form.specs.Arrangement.{comes_turned}
 use Rattle.canonical_form.specs.Tidy.{directed_shape, turned_directed, numbered_choice}
 use Rattle.canonical_form.proofs.Choices.LesserDirections.{shape_turned, turned_same}

@@ -10,12 +10,12 @@ use Rattle.county_chart.specs.CountyRules.{has_body}
 use Rattle.county_chart.specs.MaskedCounty.{masked_chain}
 use Rattle.county_chart.specs.Laws.MaskedCounties.{sides_masked}
 use Rattle.county_chart.proofs.Masks.MaskedReads.{chain_count_masked, points_masked}
-use Rattle.tl_profile.specs.Profile.{is_clause_broken}
-use Rattle.tl_profile.proofs.Places.{along_from}
-use Rattle.tl_profile.specs.ShapeOrder.{along_shape, along_shapes, directed_cmp, IsShapeOrder}
-use Rattle.tl_profile.specs.Shapes.{points_at}
-use Rattle.tl_profile.specs.declared.fault.ProfileFault.{ProfileFault}
-use Rattle.tl_profile.specs.declared.fault.ProfileFault.TheVariants.{PolygonWithoutChain, Memory}
+use Rattle.county_chart.specs.Profile.{is_clause_broken}
+use Rattle.county_chart.proofs.Profile.Places.{along_from}
+use Rattle.county_chart.specs.ShapeOrder.{along_shape, along_shapes, directed_cmp, IsShapeOrder}
+use Rattle.county_chart.specs.Shapes.{points_at}
+use Rattle.county_chart.specs.declared.profile_fault.ProfileFault.{ProfileFault}
+use Rattle.county_chart.specs.declared.profile_fault.ProfileFault.TheVariants.{PolygonWithoutChain, Memory}
 
 module _ (mask : Mask) (county : County) where
   abbrev mask_entry : ℕ × Chain → ℕ × Chain

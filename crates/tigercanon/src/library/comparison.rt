@@ -8,10 +8,11 @@ ghost use Rattle.county_chart.specs.Renumbering.{Carries};
 ghost use Rattle.arranged_county.specs.Views.{arranged_county, source_of};
 
 use crate::library::comparing::Verdict;
+use canonical_records::same_records;
+use renamings::Renaming;
 use std::alloc::{AllocError, Global};
-use tl_cert::Renaming;
 use tl_county::Chart;
-use tl_number::{CanonCounty, same_records};
+use tl_number::CanonCounty;
 
 /// What a comparison of two canonical counties returns.
 pub(crate) trait Comparison: Drop + Sized {

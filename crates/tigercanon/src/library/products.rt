@@ -12,8 +12,8 @@ ghost use Rattle.arranged_county.specs.Views.{arranged_county};
 
 use crate::library::hashing::Hashing;
 use crate::library::making::Product;
+use renamings::Renaming;
 use std::alloc::{AllocError, Global};
-use tl_cert::Renaming;
 use tl_county::Chart;
 use tl_layout::Mask;
 use tl_number::CanonCounty;

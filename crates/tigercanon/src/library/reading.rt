@@ -1,7 +1,8 @@
 //! Reading the parts of a set, from memory or from sources.
 //!
-//! Sources are read in two ways. Calls that stream a set stop at the read that brings a fault ([`load_sources`]). The program reads
-//! each file to its end ([`read_to_ends`]), because it reports a file that can't be read before a fault in the lines.
+//! Sources are read in two ways. Calls that stream a set, as the program's `normalise` does, stop at the read that brings a fault
+//! ([`load_sources`]). The program's other jobs read each file to its end ([`read_to_ends`]), because they report a file that can't be
+//! read before a fault in the lines.
 
 ghost use Rattle.std.specs.Io.KnownBytes.{IsAtEnd};
 ghost use Rattle.std.specs.Prelude.{◌≡◌, ◌≢◌, ◌<◌, ◌≤◌, ◌+◌, Err, ℕ, List, [], length, vec_len, All, OnOk, IfOk, IfErr, IfSome};

@@ -1,10 +1,10 @@
 //! How jobs end, and how the program reports it.
 
-ghost use Rattle.std.specs.Prelude.{◌≡◌, ◌<◌, None};
+ghost use Rattle.std.specs.Prelude.{◌≡◌, ◌<◌, IfErr, None, OnOk};
 ghost use Rattle.tigercanon.specs.Devices.{PrintsTo};
 ghost use Rattle.tigercanon.specs.Outcomes.{ReportsLineTo};
 ghost use Rattle.tigercanon.specs.Refusals.{fault_line};
-ghost use Rattle.tigercanon.specs.Statuses.{status_of};
+ghost use Rattle.tigercanon.specs.Statuses.{status_of, status_of_outcome};
 ghost use Rattle.tigercanon.specs.Stopping.{stopped_by};
 
 use crate::fault::Fault;
@@ -82,6 +82,20 @@ pub(crate) fn report_stopped<E: Sink>(stopped: Stopped, err: &mut E) -> u8
     let line = refusal_line_of(stopped);
     write_line(line.as_slice(), err);
     Refusal(stopped.fault).status()
+}
+
+/// Writes to a sink, in one line, why a job stopped, if it did, and returns the exit status.
+pub(crate) fn report_outcome<E: Sink>(outcome: Result<Ending, Stopped>, err: &mut E) -> u8
+    requires { E.failed err.old < u64.MAX }
+    ensures status { result ≡ status_of_outcome outcome }
+    ensures reported { IfErr outcome (λ stopped. ReportsLineTo E.failed E.holds err.old err.new (fault_line stopped.fault stopped.set)) }
+    ensures unreported { OnOk outcome (err.new ≡ err.old) }
+{
+    match outcome {
+        Ok(Ending::Done) => 0,
+        Ok(Ending::Different) => 1,
+        Err(stopped) => report_stopped(stopped, err),
+    }
 }
 
 /// Prints the text of a job that ends in this way.

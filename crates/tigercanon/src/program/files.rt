@@ -3,8 +3,8 @@
 ghost use Rattle.std.specs.Io.{ReadsAtMost};
 ghost use Rattle.std.specs.Io.KnownBytes.{ReadConsumes};
 ghost use Rattle.std.specs.IoError.{error_kind};
-ghost use Rattle.std.specs.Prelude.{◌≡◌, ◌≢◌, ◌↔◌, IfErr, IfOk, IsErr, IsTrue, Ok};
-ghost use Rattle.tigercanon.specs.Files.{AreOpened, IsMissing, bytes_of};
+ghost use Rattle.std.specs.Prelude.{◌≡◌, ◌≢◌, ◌↔◌, Contains, IfErr, IfOk, IsErr, IsTrue, Ok, Some, slice_get};
+ghost use Rattle.tigercanon.specs.Files.{AreReadable, AreOpened, IsMissing, bytes_of, is_failed, opened_of};
 
 use std::alloc::{AllocError, Global};
 use std::io::{self, Error, ErrorKind, Read};
@@ -63,15 +63,51 @@ pub(crate) fn is_missing_a_file<R>(files: &[Opened<R>]) -> bool
         || files.iter().any(|file| matches!(file, Opened::Failed))
 }
 
-/// A file as a source that counts its failures.
-pub(crate) type OpenFile<R> = Counted<Opened<R>>;
+/// A file as a source that counts its failures. Each read of one that couldn't be opened fails.
+pub type CountedFile<R> = Counted<Opened<R>>;
+
+/// Whether the first of these files is absent.
+fn is_first_absent<R>(files: &[CountedFile<R>]) -> bool
+    ensures { IsTrue result ↔ (slice_get (opened_of files.now) 0 ≡ Some Opened.Absent) }
+{
+    match files.first() {
+        Some(file) => matches!(file.get_ref(), Opened::Absent),
+        None => false,
+    }
+}
+
+/// Whether the file couldn't be opened.
+fn has_failed<R>(file: &CountedFile<R>) -> bool
+    ensures { result ≡ is_failed file.now.inner }
+{
+    matches!(file.get_ref(), Opened::Failed)
+}
+
+/// Whether one of these files couldn't be opened.
+fn has_failed_one<R>(files: &[CountedFile<R>]) -> bool
+    ensures { IsTrue result ↔ Contains (opened_of files.now) Opened.Failed }
+{
+    files.iter().any(|file| has_failed(file))
+}
+
+/// The same for files that count their failures.
+pub(crate) fn is_missing_a_counted_file<R>(files: &[CountedFile<R>]) -> bool
+    ensures { IsTrue result ↔ IsMissing (opened_of files.now) }
+{
+    is_first_absent(files) || has_failed_one(files)
+}
 
 /// The files of a set as sources, one each, that haven't failed.
-pub(crate) fn open_files<R: Read + Drop>(
+///
+/// # Errors
+///
+/// `AllocError` if an allocation failed.
+pub fn open_files<R: Read + Drop>(
     alloc: Global,
     files: Vec<Opened<R>>,
-) -> Result<Vec<OpenFile<R>>, AllocError>
-    ensures { IfOk result (λ sources. AreOpened ⟦<OpenFile<R> as Source>⟧.remaining ⟦<OpenFile<R> as Source>⟧.failed sources.items
+) -> Result<Vec<CountedFile<R>>, AllocError>
+    ensures readable { IfOk result (λ sources. AreReadable sources.items) }
+    ensures opened { IfOk result (λ sources. AreOpened ⟦<CountedFile<R> as Source>⟧.remaining ⟦<CountedFile<R> as Source>⟧.failed sources.items
         R.remaining files.items) }
 {
     files

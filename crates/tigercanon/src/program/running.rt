@@ -13,47 +13,16 @@ ghost use Rattle.tigercanon.specs.TwoSets.{Does, ReportsFor};
 
 use crate::fault::Fault;
 use crate::library::comparing::{FIRST, SECOND};
-use crate::program::ending::{Ending, Stopped, report_stopped};
-use crate::program::files::{OpenFile, Opened, is_missing_a_file, open_files};
+use crate::program::ending::{Ending, Stopped, report_outcome};
+use crate::program::files::{CountedFile, Opened, is_missing_a_file, open_files};
 use crate::program::jobs::do_job;
+use crate::program::missing::{refuse_missing, stopped_in};
 use crate::program::writing::LentOut;
 use command_line::Job;
 use std::alloc::{AllocError, Global};
 use std::io::{Read, Write};
 use tl_layout::Mask;
-use tl_load::{LoadFault, Source};
-
-/// The report of a fault of one of a job's sets. A job that reads only one set names none.
-fn stopped_in(job: Job, set: u8, fault: Fault) -> Stopped
-    ensures { result ≡ record { fault = fault; set = set_of_job job set } }
-{
-    match job {
-        Job::Compare => Stopped {
-            fault,
-            set: Some(set),
-        },
-        Job::Respell | Job::Normalise | Job::Check | Job::Fingerprint => {
-            Stopped { fault, set: None }
-        }
-    }
-}
-
-/// Refuses the sets if one that the job reads lacks a file that it needs. A file of the first set is reported before one of the
-/// second.
-fn refuse_missing<R>(job: Job, first: &[Opened<R>], second: &[Opened<R>]) -> Result<(), Stopped>
-    ensures found { OnOk result (¬ IsMissingOne job first.now second.now) }
-    ensures missing { IfErr result (IsOfMissing job first.now second.now) }
-{
-    let fault = Fault::Load(LoadFault::Device);
-    if is_missing_a_file(first) {
-        return Err(stopped_in(job, FIRST, fault));
-    }
-    match job {
-        Job::Compare if is_missing_a_file(second) => Err(stopped_in(job, SECOND, fault)),
-        Job::Compare => Ok(()),
-        Job::Respell | Job::Normalise | Job::Check | Job::Fingerprint => Ok(()),
-    }
-}
+use tl_load::Source;
 
 /// The sources of both sets, if there was memory for them. Otherwise the report names the first set, or the second if the first has
 /// its sources.
@@ -85,17 +54,17 @@ fn open_sets<R: Read + Drop>(
     job: Job,
     first: Vec<Opened<R>>,
     second: Vec<Opened<R>>,
-) -> Result<(Vec<OpenFile<R>>, Vec<OpenFile<R>>), Stopped>
+) -> Result<(Vec<CountedFile<R>>, Vec<CountedFile<R>>), Stopped>
     ensures found { OnOk result (¬ IsMissingOne job first.items second.items) }
     ensures missing { IsMissingOne job first.items second.items → IfErr result (IsOfMissing job first.items second.items) }
-    ensures first { IfOk result (λ sets. AreOpened ⟦<OpenFile<R> as Source>⟧.remaining ⟦<OpenFile<R> as Source>⟧.failed sets.0.items
+    ensures first { IfOk result (λ sets. AreOpened ⟦<CountedFile<R> as Source>⟧.remaining ⟦<CountedFile<R> as Source>⟧.failed sets.0.items
         R.remaining first.items) }
-    ensures second { IfOk result (λ sets. AreOpened ⟦<OpenFile<R> as Source>⟧.remaining ⟦<OpenFile<R> as Source>⟧.failed sets.1.items
+    ensures second { IfOk result (λ sets. AreOpened ⟦<CountedFile<R> as Source>⟧.remaining ⟦<CountedFile<R> as Source>⟧.failed sets.1.items
         R.remaining second.items) }
     ensures stopped { IfErr result (λ stopped. ReportsFor job (set_of_files R.remaining first.items) (set_of_files R.remaining second.items)
         stopped.fault stopped.set) }
 {
-    refuse_missing(job, &first, &second)?;
+    refuse_missing(job, is_missing_a_file(&first), is_missing_a_file(&second))?;
     both_opened(job, open_files(alloc, first), open_files(alloc, second))
 }
 
@@ -121,21 +90,15 @@ fn run_files<R: Read + Drop, W: Write>(
 }
 
 /// Writes in one line why a job stopped, if it did, and returns the exit status.
-fn report_outcome<E: Write>(outcome: Result<Ending, Stopped>, err: &mut E) -> u8
+fn report_to_writer<E: Write>(outcome: Result<Ending, Stopped>, err: &mut E) -> u8
     ensures status { result ≡ status_of_outcome outcome }
     ensures reported { IfErr outcome (λ stopped. ReportsLine (E.contents err.old) (E.contents err.new) (fault_line stopped.fault stopped.set)) }
     ensures unreported { OnOk outcome (Keeps (E.contents err.old) (E.contents err.new)) }
 {
-    match outcome {
-        Ok(Ending::Done) => 0,
-        Ok(Ending::Different) => 1,
-        Err(stopped) => {
-            let mut lines = LentOut::new(err);
-            let status = report_stopped(stopped, &mut lines);
-            lines.give_back();
-            status
-        }
-    }
+    let mut lines = LentOut::new(err);
+    let status = report_outcome(outcome, &mut lines);
+    lines.give_back();
+    status
 }
 
 /// Does a job over the files of its sets, and returns the exit status: 0 if it is done, 1 if two sets are different maps, 3 if a
@@ -177,5 +140,5 @@ pub fn run<R: Read + Drop, W: Write, E: Write>(
     ensures unreported { result ≤ 1 → Keeps (E.contents err.old) (E.contents err.new) }
 {
     let outcome = run_files(alloc, job, first, second, out, mask);
-    report_outcome(outcome, err)
+    report_to_writer(outcome, err)
 }

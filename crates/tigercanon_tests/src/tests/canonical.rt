@@ -2,7 +2,7 @@
 
 use super::comparing::{same, same_items};
 use super::{Host, lines_of};
-use test_support::renamings::{Lists, NOTHING};
+use test_support::renaming_lists::{Lists, NOTHING};
 use test_support::sets::{Set, carries, county_of};
 use test_support::worked_sets::{street_turned, two_chains, worked};
 use tigercanon::{check, normalise, normalise_with_renaming};

@@ -7,7 +7,7 @@ use super::{Host, lines_of};
 use bumpalo::Bump;
 use std::alloc::{AllocError, Global};
 use test_support::masks::{ANNEX_AND_BARN, BARN_FIRST, BOTH, RESERVED, SOURCES};
-use test_support::renamings::{Lists, TURN};
+use test_support::renaming_lists::{Lists, TURN};
 use test_support::sets::{Set, SetLines, county_in_of, county_of};
 use test_support::twin_sets::{OF_TWO_SOURCES, OF_TWO_SOURCES_TEXT};
 use test_support::worked_sets::{CHAIN_1, LINK, LINK_1, MAIN_TEXT, street, street_turned};

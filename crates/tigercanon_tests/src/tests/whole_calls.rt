@@ -3,7 +3,7 @@
 use super::comparing::{same, same_items};
 use super::masked::PRINT;
 use super::{Host, lines_of};
-use test_support::renamings::{Lists, TURN};
+use test_support::renaming_lists::{Lists, TURN};
 use test_support::sets::{Set, carries};
 use test_support::worked_sets::{street, street_respelt, street_text, street_turned, worked};
 use tigercanon::{Fault, Verdict, are_one_map, compare, fingerprint, normalise_to, respell};

@@ -10,7 +10,7 @@ use Rattle.tl_layout.specs.Bytes.{columns, IsText}
 use Rattle.std.specs.List.{list_all}
 use Rattle.tl_layout.specs.Laws.ByteLaws.{blanks_are_text}
 use Rattle.tl_layout.specs.Numbers.{IsNumber, IsNumberOrNone}
-use Rattle.tl_layout.specs.Coordinates.{Coordinates, IsOnMap}
+use Rattle.tl_layout.specs.Coordinates.{Coordinates, IsOnMap, most_longitude, most_latitude}
 use Rattle.tl_layout.specs.NumberField.{is_blank}
 use Rattle.tl_layout.specs.NumberReading.{number_of}
 use Rattle.tl_layout.specs.FieldTexts.{number_text, coordinate_text, long_text, lat_text}
@@ -27,7 +27,6 @@ use Rattle.tl_layout.specs.FieldMeaning.{SpellsNumber, SpellsNumberOrNone, Spell
 use Rattle.tl_layout.specs.declared.coordinate.Coordinate.{Coordinate}
 use Rattle.tl_layout.specs.declared.coordinate.Coordinate.TheVariants.{Malformed, Blank, Value}
 use Rattle.tl_layout.specs.declared.fault.FieldFault.{FieldFault}
-use Rattle.tl_layout.specs.declared.coordinate.TheConstants.{MOST_LONGITUDE, MOST_LATITUDE}
 
 -- the value that was read first, before reading continued
 pub record Reads {A B : Type 0} (first : Result A FieldFault) (more : A → Result B FieldFault) (answer : B) : Type 0 where
@@ -118,14 +117,14 @@ both_zero (pos n) h = ap pos h
 both_zero (negsuc n) h = (cc)
 
 point_found : (long_field lat_field : List ℕ) (long lat : ℤ) (point : Option Coordinates) (b : Bool)
-    → nat_eq (unsigned_abs long + unsigned_abs lat) 0 ≡ b → IsCoordinateField MOST_LONGITUDE long_field long
-    → IsCoordinateField MOST_LATITUDE lat_field lat → cond b None (Some (record { long = long; lat = lat })) ≡ point
+    → nat_eq (unsigned_abs long + unsigned_abs lat) 0 ≡ b → IsCoordinateField most_longitude long_field long
+    → IsCoordinateField most_latitude lat_field lat → cond b None (Some (record { long = long; lat = lat })) ≡ point
     → SpellsPointOrNone long_field lat_field point
 point_found long_field lat_field long lat point true e x y h =
     let none : unsigned_abs long + unsigned_abs lat ≡ 0 = eqb-true _ 0 e in
     let P : Option Coordinates → Type 0 = SpellsPointOrNone long_field lat_field in
-    let L : ℤ → Type 0 = IsCoordinateField MOST_LONGITUDE long_field in
-    let M : ℤ → Type 0 = IsCoordinateField MOST_LATITUDE lat_field in
+    let L : ℤ → Type 0 = IsCoordinateField most_longitude long_field in
+    let M : ℤ → Type 0 = IsCoordinateField most_latitude lat_field in
     subst P h (inr (subst L (both_zero long (omega arith)) x, subst M (both_zero lat (omega arith)) y))
 point_found long_field lat_field long lat point false e x y h =
     let some : unsigned_abs long + unsigned_abs lat ≡ 0 → ⊥ = eqb-false _ 0 e in
@@ -137,7 +136,7 @@ pub ok_value : {A : Type 0} (x y : A) → ◌≡◌ {A = Result A FieldFault} (O
 ok_value x y h = (cc)
 
 pair_found : (column : ℕ) (long_field lat_field : List ℕ) (point : Option Coordinates) (long lat : Coordinate)
-    → coordinate_of MOST_LONGITUDE long_field ≡ long → coordinate_of MOST_LATITUDE lat_field ≡ lat → pair_of column long lat ≡ Ok point
+    → coordinate_of most_longitude long_field ≡ long → coordinate_of most_latitude lat_field ≡ lat → pair_of column long lat ≡ Ok point
     → SpellsPointOrNone long_field lat_field point
 unfolding point_or_none
 pair_found column long_field lat_field point Malformed lat x y h = (cc)
@@ -145,12 +144,12 @@ pair_found column long_field lat_field point Blank Malformed x y h = (cc)
 pair_found column long_field lat_field point (Value long) Malformed x y h = (cc)
 pair_found column long_field lat_field point Blank Blank x y h =
     let P : Option Coordinates → Type 0 = SpellsPointOrNone long_field lat_field in
-    subst P (ok_value None point h) (inl (blank_found MOST_LONGITUDE long_field x, blank_found MOST_LATITUDE lat_field y))
+    subst P (ok_value None point h) (inl (blank_found most_longitude long_field x, blank_found most_latitude lat_field y))
 pair_found column long_field lat_field point Blank (Value lat) x y h = (cc)
 pair_found column long_field lat_field point (Value long) Blank x y h = (cc)
 pair_found column long_field lat_field point (Value long) (Value lat) x y h =
     point_found long_field lat_field long lat point (nat_eq (unsigned_abs long + unsigned_abs lat) 0) refl
-    (coordinate_found MOST_LONGITUDE long_field long x) (coordinate_found MOST_LATITUDE lat_field lat y) (ok_value _ point h)
+    (coordinate_found most_longitude long_field long x) (coordinate_found most_latitude lat_field lat y) (ok_value _ point h)
 
 pub point_or_none_at_found : (column : ℕ) (line : List ℕ) (point : Option Coordinates) → point_or_none_at column line ≡ Ok point
     → SpellsPointOrNone (columns column (column + 9) line) (columns (column + 10) (column + 18) line) point
@@ -162,15 +161,15 @@ unfolding point_or_none
 point_only long lat h = rw (ne_eqb (unsigned_abs long + unsigned_abs lat) 0 (λ e. omega arith)) refl
 
 pair_only : (column : ℕ) (long_field lat_field : List ℕ) (point : Option Coordinates) → SpellsPointOrNone long_field lat_field point
-    → pair_of column (coordinate_of MOST_LONGITUDE long_field) (coordinate_of MOST_LATITUDE lat_field) ≡ Ok point
+    → pair_of column (coordinate_of most_longitude long_field) (coordinate_of most_latitude lat_field) ≡ Ok point
 unfolding point_or_none
-pair_only column long_field lat_field None (inl h) = rw (blank_only MOST_LONGITUDE long_field h.0, blank_only MOST_LATITUDE lat_field h.1) refl
+pair_only column long_field lat_field None (inl h) = rw (blank_only most_longitude long_field h.0, blank_only most_latitude lat_field h.1) refl
 pair_only column long_field lat_field None (inr h) =
-    rw (coordinate_only MOST_LONGITUDE long_field (pos 0) h.0, coordinate_only MOST_LATITUDE lat_field (pos 0) h.1) refl
+    rw (coordinate_only most_longitude long_field (pos 0) h.0, coordinate_only most_latitude lat_field (pos 0) h.1) refl
 pair_only column long_field lat_field (Some point) h =
     rw (
-      coordinate_only MOST_LONGITUDE long_field point.long h.long_spelled,
-      coordinate_only MOST_LATITUDE lat_field point.lat h.lat_spelled,
+      coordinate_only most_longitude long_field point.long h.long_spelled,
+      coordinate_only most_latitude lat_field point.lat h.lat_spelled,
     )
     (ap Ok (point_only point.long point.lat h.somewhere))
 
@@ -199,11 +198,11 @@ point_on_map long lat point h = search (rules, coordinate_within)
 pub point_again : (point : Coordinates) (long lat : List ℕ) → long ≡ coordinate_text 9 point.long → lat ≡ coordinate_text 8 point.lat
     → IsOnMap point → SpellsPoint long lat point
 point_again point long lat e e' h =
-    let P : List ℕ → Type 0 = λ f. IsCoordinateField MOST_LONGITUDE f point.long in
-    let Q : List ℕ → Type 0 = λ f. IsCoordinateField MOST_LATITUDE f point.lat in
+    let P : List ℕ → Type 0 = λ f. IsCoordinateField most_longitude f point.long in
+    let Q : List ℕ → Type 0 = λ f. IsCoordinateField most_latitude f point.lat in
     record {
-      long_spelled = subst P (sym e) (coordinate_text_spells 9 MOST_LONGITUDE point.long (lit< tt) (lit< tt) h.long);
-      lat_spelled = subst Q (sym e') (coordinate_text_spells 8 MOST_LATITUDE point.lat (lit< tt) (lit< tt) h.lat);
+      long_spelled = subst P (sym e) (coordinate_text_spells 9 most_longitude point.long (lit< tt) (lit< tt) h.long);
+      lat_spelled = subst Q (sym e') (coordinate_text_spells 8 most_latitude point.lat (lit< tt) (lit< tt) h.lat);
       somewhere = h.somewhere;
     }
 

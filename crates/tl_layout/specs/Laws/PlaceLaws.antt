@@ -8,7 +8,7 @@ use Rattle.std.proofs.lemmas.List.Elements.{All-append, All-nil}
 use Rattle.std.proofs.Math.Nat.{pow-le-pow_right}
 use Rattle.tl_layout.specs.Bytes.{IsText, AreAllowed, is_allowed, columns}
 use Rattle.tl_layout.specs.Numbers.{IsNumber, IsNumberOrNone}
-use Rattle.tl_layout.specs.Coordinates.{Coordinates, IsOnMap}
+use Rattle.tl_layout.specs.Coordinates.{Coordinates, IsOnMap, most_longitude, most_latitude}
 use Rattle.tl_layout.specs.Laws.NumberTextLaws.{number_text_is_text, number_below}
 use Rattle.tl_layout.specs.CoordinateField.{IsCoordinateField}
 use Rattle.tl_layout.specs.FieldTexts.{coordinate_text, point_place_text, number_place_text, places_text}
@@ -18,7 +18,6 @@ use Rattle.tl_layout.specs.FieldMeaning.{SpellsPointPlace, SpellsNumberPlace, Sp
 use Rattle.tl_layout.specs.Laws.FieldLaws.{reads, reads_on, ok_value, point_again, number_or_none_again}
 use Rattle.tl_layout.specs.FieldFaults.{gap}
 use Rattle.tl_layout.specs.declared.fault.FieldFault.{FieldFault}
-use Rattle.tl_layout.specs.declared.coordinate.TheConstants.{MOST_LONGITUDE, MOST_LATITUDE}
 
 -- two texts side by side
 pub pair_of_texts : (m n : ℕ) (a b : List ℕ) → IsText m a → IsText n b → IsText (m + n) (a ++ b)
@@ -193,11 +192,11 @@ point_place_again before None after g =
     let long = coordinate_text 9 (pos 0) in
     let lat = coordinate_text 8 (pos 0) in
     let long_is = two_parts before long lat after (coordinate_text_is_text 9 (pos 0)).len (coordinate_text_is_text 8 (pos 0)).len in
-    let P : List ℕ → Type 0 = λ f. IsCoordinateField MOST_LONGITUDE f (pos 0) in
-    let Q : List ℕ → Type 0 = λ f. IsCoordinateField MOST_LATITUDE f (pos 0) in
+    let P : List ℕ → Type 0 = λ f. IsCoordinateField most_longitude f (pos 0) in
+    let Q : List ℕ → Type 0 = λ f. IsCoordinateField most_latitude f (pos 0) in
     inr (
-      subst P (sym long_is.0) (coordinate_text_spells 9 MOST_LONGITUDE (pos 0) (lit< tt) (lit< tt) (lit≤ tt)),
-      subst Q (sym long_is.1) (coordinate_text_spells 8 MOST_LATITUDE (pos 0) (lit< tt) (lit< tt) (lit≤ tt)),
+      subst P (sym long_is.0) (coordinate_text_spells 9 most_longitude (pos 0) (lit< tt) (lit< tt) (lit≤ tt)),
+      subst Q (sym long_is.1) (coordinate_text_spells 8 most_latitude (pos 0) (lit< tt) (lit< tt) (lit≤ tt)),
     )
 point_place_again before (Some point) after g =
     let parts = two_parts before (coordinate_text 9 point.long) (coordinate_text 8 point.lat) after

@@ -5,7 +5,7 @@ use Rattle.tl_layout.specs.Bytes.{columns}
 use Rattle.tl_layout.specs.NumberReading.{number_of}
 use Rattle.tl_layout.specs.CoordinateReading.{coordinate_of}
 use Rattle.tl_layout.specs.Laws.CoordinateLaws.{coordinate_found, coordinate_only, blank_found, blank_only}
-use Rattle.tl_layout.specs.Coordinates.{Coordinates}
+use Rattle.tl_layout.specs.Coordinates.{Coordinates, most_longitude, most_latitude}
 use Rattle.tl_layout.specs.FieldReading.{and_then, demanded, possible_number, number_at, number_or_none_at, pair_of}
 use Rattle.tl_layout.specs.FieldReading.{point_or_none_at, point_at}
 use Rattle.tl_layout.specs.FieldMeaning.{SpellsPointOrNone, SpellsNumberPlace, SpellsPointPlace}
@@ -19,7 +19,6 @@ use Rattle.tl_layout.specs.TableReading.{value_reading}
 use Rattle.tl_layout.specs.declared.coordinate.Coordinate.{Coordinate}
 use Rattle.tl_layout.specs.declared.coordinate.Coordinate.TheVariants.{Malformed, Blank, Value}
 use Rattle.tl_layout.specs.declared.fault.FieldFault.{FieldFault}
-use Rattle.tl_layout.specs.declared.coordinate.TheConstants.{MOST_LONGITUDE, MOST_LATITUDE}
 
 -- ---- reading
 
@@ -145,8 +144,8 @@ pub err_value : {A : Type 0} (x y : FieldFault) → ◌≡◌ {A = Result A Fiel
 err_value x y h = (cc)
 
 pair_reported : (line : List ℕ) (first : ℕ) (fault : FieldFault) (long lat : Coordinate)
-    → coordinate_of MOST_LONGITUDE (columns first (first + 9) line) ≡ long
-    → coordinate_of MOST_LATITUDE (columns (first + 10) (first + 18) line) ≡ lat → pair_of first long lat ≡ Err fault
+    → coordinate_of most_longitude (columns first (first + 9) line) ≡ long
+    → coordinate_of most_latitude (columns (first + 10) (first + 18) line) ≡ lat → pair_of first long lat ≡ Err fault
     → IsReportedOfPair line first fault
 pair_reported line first fault Malformed lat x y h =
     subst (IsReportedOfPair line first) (err_value _ fault h) (long_reported line first (malformed_found _ _ x))
@@ -168,7 +167,7 @@ point_or_none_reported line first fault h = pair_reported line first fault _ _ r
 
 -- a pair that spells a point or none has no malformed half
 halves_well_formed : (long lat : List ℕ) (point : Option Coordinates) → SpellsPointOrNone long lat point
-    → (¬ IsMalformed MOST_LONGITUDE long) × (¬ IsMalformed MOST_LATITUDE lat)
+    → (¬ IsMalformed most_longitude long) × (¬ IsMalformed most_latitude lat)
 halves_well_formed long lat None (inl h) = ((λ m. m.not_blank h.0), (λ m. m.not_blank h.1))
 halves_well_formed long lat None (inr h) = ((λ m. m.no_value (pos 0) h.0), (λ m. m.no_value (pos 0) h.1))
 halves_well_formed long lat (Some point) h = ((λ m. m.no_value point.long h.long_spelled), (λ m. m.no_value point.lat h.lat_spelled))

@@ -2,7 +2,7 @@
 
 ghost use Rattle.std.specs.Prelude.{◌≡◌, ◌≤◌, ◌<◌, ◌+◌, [], ◌∷◌, length, take, Err, IfOk, IfErr, OnOk, IsTrue, false};
 ghost use Rattle.std.specs.Result.{IsErr};
-ghost use Rattle.tl_layout.specs.Bytes.{AreAllowed};
+ghost use Rattle.tl_layout.specs.Bytes.{AreAllowed, longest_line};
 ghost use Rattle.tl_load.specs.Choice.{judged, as_record};
 ghost use Rattle.tl_load.specs.declared.fault.LineFault.TheVariants.{UnknownType};
 ghost use Rattle.tl_load.specs.declared.fault.LoadFault.TheVariants.{Memory};
@@ -16,7 +16,7 @@ use crate::fault::{LineFault, LoadFault};
 use crate::judge::{is_full_line, judge_line};
 use crate::loader_for::LoaderFor;
 use canonical_lines::Canonical;
-use tl_layout::{LONGEST_LINE, Rec1, Rec2, Rec4, Rec5, Rec6, Rec7, Rec8, RecI, RecP, Tabled};
+use tl_layout::{Rec1, Rec2, Rec4, Rec5, Rec6, Rec7, Rec8, RecI, RecP, Tabled};
 
 impl<K: Collector> LoaderFor<K> {
     /// Keeps and counts the record of a line, unless there already are `limit` of its type.
@@ -81,7 +81,7 @@ impl<K: Collector> LoaderFor<K> {
         requires begins { take 1 line.now ≡ L.RTYPE ∷ [] }
         requires clean { IsTrue is_clean → AreAllowed line.now }
         ensures judges { Lifts K.holds (JudgesAs line.now (as_record L.as_record (judged_as L.LEN L.reading line.now))) self.old result self.new }
-        ensures short { OnOk result (length line.now ≤ LONGEST_LINE) }
+        ensures short { OnOk result (length line.now ≤ longest_line) }
         ensures same_part { IsSamePart self.old self.new }
         ensures unfinished { self.new.unfinished ≡ self.old.unfinished }
         ensures judged { OnOk result (self.new.judged ≡ self.old.judged + 1) }
@@ -100,7 +100,7 @@ impl<K: Collector> LoaderFor<K> {
         requires begins { take 1 line.now ≡ L.RTYPE ∷ [] }
         requires clean { IsTrue is_clean → AreAllowed line.now }
         ensures judges { Lifts K.holds (JudgesAs line.now (as_record L.as_record (judged_as L.LEN L.reading line.now))) self.old result self.new }
-        ensures short { OnOk result (length line.now ≤ LONGEST_LINE) }
+        ensures short { OnOk result (length line.now ≤ longest_line) }
         ensures same_part { IsSamePart self.old self.new }
         ensures unfinished { self.new.unfinished ≡ self.old.unfinished }
         ensures judged { OnOk result (self.new.judged ≡ self.old.judged + 1) }
@@ -133,7 +133,7 @@ impl<K: Collector> LoaderFor<K> {
         requires parts { self.old.parts < u64.MAX }
         requires clean { IsTrue is_clean → AreAllowed line.now }
         ensures judges { Lifts K.holds (Judges line.now) self.old result self.new }
-        ensures short { OnOk result (length line.now ≤ LONGEST_LINE) }
+        ensures short { OnOk result (length line.now ≤ longest_line) }
         ensures same_part { IsSamePart self.old self.new }
         ensures unfinished { self.new.unfinished ≡ self.old.unfinished }
         ensures judged { OnOk result (self.new.judged ≡ self.old.judged + 1) }

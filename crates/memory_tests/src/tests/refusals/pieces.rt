@@ -3,7 +3,7 @@
 ghost use Rattle.std.specs.Prelude.{◌≡◌};
 ghost use Rattle.canonical_form.specs.Arrangement.{ascending};
 ghost use Rattle.canonical_form.specs.DirectedChains.{HasChainsOf, arrangement_of};
-ghost use Rattle.tl_profile.specs.Profile.{IsInProfile};
+ghost use Rattle.county_chart.specs.Profile.{IsInProfile};
 
 use super::super::Host;
 use super::super::comparing::same;

@@ -1,12 +1,12 @@
 use Rattle.tl_layout.proofs.Common.{arith, chunk, get_or}
 use Rattle.tl_layout.proofs.CoordinateSteps.{found_is, first_and_eight}
 use Rattle.tl_layout.proofs.coordinate.usual_latitude.Goals as goal
-use Rattle.tl_layout.specs.declared.coordinate.TheConstants.{MOST_LATITUDE}
+use Rattle.tl_layout.specs.Coordinates.{most_latitude}
 
 pub returns : goal.returns
 returns c =
     let field = c.args.field.now in
     let eight = c.in_ok-eight_digits.ensures in
-    found_is MOST_LATITUDE c.in_ok-eight_digits.field-0 (get_or field 0 0) (chunk 1 8 field) field c.signed.result
+    found_is most_latitude c.in_ok-eight_digits.field-0 (get_or field 0 0) (chunk 1 8 field) field c.signed.result
     (first_and_eight field c.requires)
     eight.begins eight.value (let below = eight.below in omega arith) c.signed.ensures.plus c.signed.ensures.minus c.signed.ensures.reported

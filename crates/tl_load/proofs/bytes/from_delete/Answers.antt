@@ -1,4 +1,4 @@
-use Rattle.std.proofs.Common.{rules, ◌-◌}
+use Rattle.std.proofs.Common.{rules}
 use Rattle.tl_load.proofs.Common.{length-chunk, length-zip2, zip2_splat}
 use Rattle.tl_load.proofs.Lanes.{ascii_at}
 use Rattle.tl_load.proofs.bytes.from_delete.Goals as goal

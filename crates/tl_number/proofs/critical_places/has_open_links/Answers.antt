@@ -1,6 +1,6 @@
 use Rattle.tl_number.proofs.Common.{◌≡◌, ◌∙◌, ℕ, arith, AllByRecursion, Fields8, all_append, false, flat_map, key_cmp, length, link_key, links_at, map, map-id, range_with_len, stands_in, subst, sym}
 use Rattle.std.proofs.lemmas.List.Sorted.{IsPermutation-refl}
-use Rattle.tl_profile.proofs.PlacedOrder.{all_permuted}
+use Rattle.ordered_lists.proofs.Lists.Reordered.{all_permuted}
 use Rattle.arranged_county.proofs.Landmarks.LandmarkLinks.{permuted, pieces_next}
 use Rattle.tl_number.proofs.Ties.OpenLinks.{all_fail, landmark_passes, none_passes}
 use Rattle.tl_number.proofs.critical_places.has_open_links.Goals as goal

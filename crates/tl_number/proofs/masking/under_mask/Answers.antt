@@ -1,5 +1,5 @@
 use Rattle.tl_number.proofs.Common.{sym, subst, County, IsInProfile}
-use Rattle.tl_profile.specs.ShapeOrder.{IsShapeOrder}
+use Rattle.county_chart.specs.ShapeOrder.{IsShapeOrder}
 use Rattle.canonical_form.proofs.Masks.MaskedProfile.{masked_in_profile, masked_shape_order}
 use Rattle.tl_number.proofs.masking.under_mask.Goals as goal
 

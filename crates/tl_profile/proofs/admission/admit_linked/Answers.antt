@@ -1,4 +1,4 @@
-use Rattle.tl_profile.proofs.ProfileFaults.{profile_has_none}
+use Rattle.county_chart.proofs.Profile.ProfileFaults.{profile_has_none}
 use Rattle.tl_profile.proofs.admission.admit_linked.Goals as goal
 
 pub returns-in_err-refuse_without_chain-clause-succeeds : goal.returns-in_err-refuse_without_chain-clause-succeeds

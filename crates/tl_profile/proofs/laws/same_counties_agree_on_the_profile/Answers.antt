@@ -1,4 +1,4 @@
-use Rattle.tl_profile.proofs.SameProfile.{same_in_profile, same_in_profile_back}
+use Rattle.county_chart.proofs.Profile.SameProfile.{same_in_profile, same_in_profile_back}
 use Rattle.tl_profile.proofs.laws.same_counties_agree_on_the_profile.Goals as goal
 
 pub returns-clause-forth : goal.returns-clause-forth

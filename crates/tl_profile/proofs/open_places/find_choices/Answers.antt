@@ -2,7 +2,7 @@ use Rattle.tl_profile.proofs.Common.{◌++◌, ◌∷◌, [], map, length, sym, 
 use Rattle.tl_profile.proofs.Common.{IsInOrder, is_either_way, whole_shape}
 use Rattle.ordered_lists.proofs.ByKey.KeyedLists.{empty_list}
 use Rattle.tl_profile.specs.declared.open_places.OpenChoices.{OpenChoices}
-use Rattle.tl_profile.proofs.CountedChoices.{IsCounted}
+use Rattle.county_chart.proofs.Profile.CountedChoices.{IsCounted}
 use Rattle.tl_profile.proofs.FoundChoices.{IsFound, behind, counted_place, few_shapes, found_all, found_many, rest_in_order}
 use Rattle.tl_profile.proofs.open_places.find_choices.Goals as goal
 use Rattle.tl_profile.proofs.open_places.find_choices.Goals.{in-Some+in_ok-put_in_front+then-found-gt-MOST_CHOICES, in_default}

@@ -1,7 +1,7 @@
 -- The remaining shapes, and the shapes after them, which are counted.
 use Rattle.tl_profile.proofs.Common.{◌≡◌, ◌≤◌, ◌++◌, List, length, map, points_cmp, is_either_way, most_choices, whole_shape}
 use Rattle.tl_profile.proofs.Common.{PlacedShape}
-use Rattle.tl_profile.proofs.CountedChoices.{IsCounted}
+use Rattle.county_chart.proofs.Profile.CountedChoices.{IsCounted}
 use Rattle.tl_profile.proofs.open_places.find_choices.Given as goal
 
 abbrev pub invariant-loop-shape : goal.invariant-loop-shape

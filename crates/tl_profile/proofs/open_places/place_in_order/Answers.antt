@@ -1,5 +1,5 @@
 use Rattle.tl_profile.proofs.Common.{◌≡◌, ◌+◌, cond, map, sym, ap, ◌∙◌, arith, length-map, points_keys, whole_shape}
-use Rattle.tl_profile.proofs.CountedChoices.{alike-next, alike_few}
+use Rattle.county_chart.proofs.Profile.CountedChoices.{alike-next, alike_few}
 use Rattle.tl_profile.proofs.open_places.place_in_order.Goals as goal
 use Rattle.tl_profile.proofs.open_places.place_in_order.Goals.{then-is_twin, else-is_twin}
 

@@ -1,5 +1,6 @@
 use Rattle.tl_profile.specs.PlacedShapes.{HasHead}
-use Rattle.tl_profile.proofs.PlacedOrder.{all_permuted, sorted_by_shape}
+use Rattle.ordered_lists.proofs.Lists.Reordered.{all_permuted}
+use Rattle.tl_profile.proofs.PlacedOrder.{sorted_by_shape}
 use Rattle.tl_profile.proofs.shapes.ordered_shapes.Goals as goal
 
 pub returns-clause-heads : goal.returns-clause-heads

@@ -1,6 +1,6 @@
 use Rattle.tl_profile.proofs.Common.{◌∷◌, slice_get, is_eq, length, sym, ap, ◌∙◌, arith, is_either_way, points_at}
-use Rattle.tl_profile.proofs.Places.{along_from, some-same, two_along}
-use Rattle.tl_profile.proofs.ShapePoints.{either_way-from}
+use Rattle.county_chart.proofs.Profile.Places.{along_from, some-same, two_along}
+use Rattle.county_chart.proofs.Profile.ShapePoints.{either_way-from}
 use Rattle.tl_profile.proofs.shapes.placed_shape.Goals as goal
 
 pub item-requires : goal.item-requires

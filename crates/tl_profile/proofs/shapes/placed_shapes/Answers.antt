@@ -1,7 +1,7 @@
 use Rattle.tl_profile.proofs.Common.{◌∷◌, ◌++◌, [], map, sym, ap, ap₂, ◌∙◌, subst, arith, AllByRecursion, map-append, along_shape}
 use Rattle.tl_profile.proofs.Common.{HasHead, placed_directed, few_chains}
 use Rattle.std.proofs.lemmas.List.FromFn.{map-range_with_len_more}
-use Rattle.tl_profile.proofs.Places.{all_next}
+use Rattle.county_chart.proofs.Profile.Places.{all_next}
 use Rattle.tl_profile.proofs.shapes.placed_shapes.Goals as goal
 
 pub loop-place-preserved : goal.loop-place-preserved

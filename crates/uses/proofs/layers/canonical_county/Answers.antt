@@ -1,7 +1,7 @@
 use Rattle.std.proofs.Common.{◌≡◌, subst, sym}
 use Rattle.county_chart.specs.County.{county_of}
 use Rattle.county_chart.specs.Packing.{packed}
-use Rattle.tl_profile.specs.Profile.{IsInProfile}
+use Rattle.county_chart.specs.Profile.{IsInProfile}
 use Rattle.canonical_form.specs.Accepted.{IsAccepted, IsCanonicalOf}
 use Rattle.canonical_form.specs.Arrangement.{arranged}
 use Rattle.arranged_county.specs.Views.{arranged_county, arrangement_in}

@@ -1,6 +1,6 @@
 use Rattle.std.proofs.Common.{rules, ◌≡◌, ◌≤◌, ◌+◌, ◌*◌, ◌++◌, ℕ, Result, Ok, Err, [], ◌∷◌, arith, subst}
-use Rattle.tl_load.proofs.Common.{LONGEST_LINE, LoadFault, OnOk, err_from_is_err_and, seen}
-use Rattle.tl_load.proofs.LineLemmas.{clean_without_return, without_return_length}
+use Rattle.tl_load.proofs.Common.{longest_line, LoadFault, OnOk, err_from_is_err_and, seen}
+use Rattle.tl_load.proofs.LineLemmas.{without_return_length}
 use Rattle.tl_load.proofs.Steps.{ends_line, takes_then, fault_then}
 use Rattle.tl_load.proofs.Views.{empty_is}
 use Rattle.tl_load.specs.Keeping.{Lifts}
@@ -8,13 +8,10 @@ use Rattle.tl_load.specs.Steps.{Takes}
 use Rattle.tl_load.proofs.loader_for.LoaderFor.end_line.Goals as goal
 
 -- a judged line has at most 230 bytes with its line ending, so that 230 for each of them is enough
-line_used : {T : Type 0} (r : Result T LoadFault) (line bytes was now open_was : ℕ) → OnOk r (line ≤ LONGEST_LINE) → OnOk r (now ≡ was + 1)
+line_used : {T : Type 0} (r : Result T LoadFault) (line bytes was now open_was : ℕ) → OnOk r (line ≤ longest_line) → OnOk r (now ≡ was + 1)
     → bytes ≤ line + 1 → open_was ≡ 0 → (open_now : ℕ) → OnOk r (230 * was + open_was + bytes + 1 ≤ 230 * now + open_now)
 line_used (Ok x) line bytes was now open_was short one dropped none open_now = omega arith
 line_used (Err f) line bytes was now open_was short one dropped none open_now = tt
-
-pub judge_next-requires-clause-clean : goal.judge_next-requires-clause-clean
-judge_next-requires-clause-clean g c = search (rules, clean_without_return)
 
 pub returns-in-Ok-clause-takes : goal.returns-in-Ok-clause-takes
 returns-in-Ok-clause-takes g c =

@@ -1,5 +1,5 @@
 use Rattle.std.proofs.Common.{◌≡◌, ℕ, ◌≤◌, ◌<◌, [], ◌++◌, length, take, refl, sym, ap, subst, ◌∙◌, arith}
-use Rattle.tl_load.proofs.Common.{Consumes, IsWithoutLineFeed, LINE_BYTES, MOST_BYTES, RoseBy, bytes_used, err_from_is_err_and}
+use Rattle.tl_load.proofs.Common.{Consumes, IsWithoutLineFeed, most_unfinished, most_taken, RoseBy, bytes_used, err_from_is_err_and}
 use Rattle.tl_load.proofs.Common.{length-append, length-take, seen}
 use Rattle.tl_load.proofs.Counts.{few_records}
 use Rattle.tl_load.proofs.ReadSteps.{gave_none, gave_more, gave_same}
@@ -9,11 +9,11 @@ use Rattle.tl_load.proofs.loader_for.LoaderFor.read_to_end.Goals as goal
 pub loop-count-init : goal.loop-count-init
 loop-count-init g c =
     let s = c.self.inside in
-    let most : bytes_used c.args.self.now ≤ MOST_BYTES =
+    let most : bytes_used c.args.self.now ≤ most_taken =
     rw (← c.self.view_is)
     (omega (arith, few_records s.counts s.line.items s.parts s.judged s.limit c.self.invariant, c.self.invariant.short)) in
     let none : IsWithoutLineFeed c.args.self.now.unfinished = rw (← c.self.view_is) c.self.invariant.no_feed in
-    let short : length c.args.self.now.unfinished ≤ LINE_BYTES = rw (← c.self.view_is) (omega (arith, c.self.invariant.short)) in
+    let short : length c.args.self.now.unfinished ≤ most_unfinished = rw (← c.self.view_is) (omega (arith, c.self.invariant.short)) in
     record {
       reads = ([], gave_none _ _ _, omega arith, λ records kept. (records, kept, takes_none (seen c.args.self.now records) none));
       same_part = record { parts = refl; limit = refl; fault = refl };

@@ -1,5 +1,5 @@
 use Rattle.std.proofs.Common.{◌≡◌, ℕ, ◌+◌, ◌-◌, ◌≤◌, List, length, Ok}
-use Rattle.tl_load.proofs.Common.{Gave, IsSamePart, LINE_BYTES, Lifts, MOST_BYTES, Takes, bytes_used}
+use Rattle.tl_load.proofs.Common.{Gave, IsSamePart, most_unfinished, Lifts, most_taken, Takes, bytes_used}
 use Rattle.tl_load.proofs.loader_for.LoaderFor.read_to_end.Given as goal
 
 abbrev pub invariant-loop-count : goal.invariant-loop-count
@@ -8,10 +8,10 @@ invariant-loop-count g l = record {
       × (length taken + bytes_used l.initial.self ≤ bytes_used l.self)
       × Lifts {T = Unit {0}} g.K.Collector.holds (Takes taken) l.initial.self (Ok tt) l.self;
   same_part : IsSamePart l.initial.self l.self;
-  most : bytes_used l.self ≤ MOST_BYTES;
-  short : length l.self.unfinished ≤ LINE_BYTES;
+  most : bytes_used l.self ≤ most_taken;
+  short : length l.self.unfinished ≤ most_unfinished;
   failures : g.R.Source.failed l.source ≡ g.R.Source.failed l.initial.source;
 }
 
 abbrev pub decreases-loop-count : goal.decreases-loop-count
-decreases-loop-count g l = MOST_BYTES - bytes_used l.self
+decreases-loop-count g l = most_taken - bytes_used l.self

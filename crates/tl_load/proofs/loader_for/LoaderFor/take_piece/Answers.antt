@@ -1,4 +1,4 @@
-use Rattle.std.proofs.Common.{rules, ◌≡◌, ℕ, ◌+◌, ◌-◌, List, ◌∷◌, ◌++◌, drop, refl, sym, ap, ◌∙◌}
+use Rattle.std.proofs.Common.{rules, ◌≡◌, ℕ, List, ◌∷◌, ◌++◌, drop, refl, sym, ap, ◌∙◌}
 use Rattle.tl_load.proofs.Common.{MatchOption, None, Some, err_from_is_err_and, length-append, seen}
 use Rattle.std.specs.Prelude.{Option}
 use Rattle.tl_load.proofs.Steps.{leaves_all, leaves_after, leaves_fault, leaves_taken}

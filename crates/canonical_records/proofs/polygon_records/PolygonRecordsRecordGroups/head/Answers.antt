@@ -1,0 +1,9 @@
+use Rattle.canonical_form.proofs.Common.{option_to_list, packed_p, subst, ◌<◌}
+use Rattle.canonical_form.specs.WholeArrangements.{arranged_by}
+use Rattle.record_groups.proofs.Records.EntryPlaces.{polygons_counted}
+use Rattle.canonical_records.proofs.polygon_records.PolygonRecordsRecordGroups.head.Goals as goal
+
+pub polygon_by_number-requires : goal.polygon_by_number-requires
+polygon_by_number-requires g c =
+    let county = arranged_by (g.C.Chart.county c.args.self.now.county.now.chart) c.args.self.now.county.now.arrangement.items in
+    subst (λ n. c.args.group < n) (polygons_counted (λ entry. option_to_list (packed_p entry)) county) c.requires

@@ -1,0 +1,35 @@
+use Rattle.canonical_form.proofs.Common.{subst, ◌++◌}
+use Rattle.canonical_form.specs.WholeArrangements.{arranged_by}
+use Rattle.record_groups.specs.CountyGroups.{types_1_to_4, types_5_to_7, types_8_to_p}
+use Rattle.std.proofs.lemmas.Result.{err_from_is_err_and}
+use Rattle.record_groups.proofs.Records.OneAfterAnother.{second_stops}
+use Rattle.record_groups.proofs.Records.OneAfterAnother.{third_ends}
+use Rattle.record_groups.proofs.Records.PackedGroups.{all_groups}
+use Rattle.canonical_records.proofs.visiting.visit_records.Goals as goal
+
+pub returns-in_err-visit_chains-clause-given : goal.returns-in_err-visit_chains-clause-given
+returns-in_err-visit_chains-clause-given g c =
+    let county = arranged_by (g.C.Chart.county c.args.county.now.chart) c.args.county.now.arrangement.items in
+    let p = err_from_is_err_and c.from_residual.result c.from_residual.ensures.1 in
+    subst (λ rs. g.T.RecordVisitor.Takes rs c.args.visitor.now c.args.device.now c.from_residual.result c.visit_chains.new.visitor
+    c.visit_chains.new.device) (all_groups county)
+    (rw (p.1, p.2) (g.met.T.RecordVisitor.stops (types_1_to_4 county) (types_5_to_7 county ++ types_8_to_p county)
+    c.args.visitor.now c.visit_chains.new.visitor c.args.device.now c.visit_chains.new.device
+    c.in_err-visit_chains.field-0.0 c.in_err-visit_chains.ensures.given))
+
+pub returns-in_err-visit_names_and_landmarks-clause-given : goal.returns-in_err-visit_names_and_landmarks-clause-given
+returns-in_err-visit_names_and_landmarks-clause-given g c =
+    let county = arranged_by (g.C.Chart.county c.args.county.now.chart) c.args.county.now.arrangement.items in
+    let p = err_from_is_err_and c.from_residual-in_err-visit_names_and_landmarks.result c.from_residual-in_err-visit_names_and_landmarks.ensures.1 in
+    subst (λ rs. g.T.RecordVisitor.Takes rs c.args.visitor.now c.args.device.now c.from_residual-in_err-visit_names_and_landmarks.result
+    c.visit_names_and_landmarks.new.visitor c.visit_names_and_landmarks.new.device) (all_groups county)
+    (rw (p.1, p.2) (second_stops g.T.RecordVisitor.Takes g.met.T.RecordVisitor.then g.met.T.RecordVisitor.stops (types_1_to_4 county)
+    (types_5_to_7 county) (types_8_to_p county) c.in_ok-visit_chains.ensures.given c.in_err-visit_names_and_landmarks.ensures.given))
+
+pub returns-clause-given : goal.returns-clause-given
+returns-clause-given g c =
+    let county = arranged_by (g.C.Chart.county c.args.county.now.chart) c.args.county.now.arrangement.items in
+    subst (λ rs. g.T.RecordVisitor.Takes rs c.args.visitor.now c.args.device.now c.visit_links_and_polygons.result c.visit_links_and_polygons.new.visitor
+    c.visit_links_and_polygons.new.device) (all_groups county)
+    (third_ends g.T.RecordVisitor.Takes g.met.T.RecordVisitor.then g.met.T.RecordVisitor.stops (types_1_to_4 county) (types_5_to_7 county)
+    (types_8_to_p county) c.in_ok-visit_chains.ensures.given c.in_ok-visit_names_and_landmarks.ensures.given c.visit_links_and_polygons.ensures.given)

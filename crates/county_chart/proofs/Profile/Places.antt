@@ -1,0 +1,108 @@
+-- The chain at a place of a county.
+use Rattle.std.proofs.Common.{Bool, List, Option, Ordering, Some, [], ap, arith, drop, false, inl, inr, length, option_map, refl, reverse}
+use Rattle.std.proofs.Common.{slice_get, subst, suc, sym, take, true, zero, ℕ, ◌++◌, ◌<◌, ◌∙◌, ◌∷◌, ◌≡◌, ◌≤◌}
+use Rattle.county_chart.proofs.Common.{AllByRecursion, Among, Chain, Coordinates, County, DirectedChain, IsCounty, all_among, least_points}
+use Rattle.county_chart.proofs.Common.{points_along, points_cmp, points_from, points_of, slice_get-map}
+use Rattle.county_chart.specs.ChartWords.{chain_at}
+use Rattle.county_chart.specs.Shapes.{points_at}
+use Rattle.std.proofs.Common.{IsSome}
+use Rattle.std.specs.Ordering.{is_lt}
+use Rattle.std.proofs.lemmas.List.{length-reverse}
+use Rattle.county_chart.proofs.DirectedChains.{points_turned}
+
+-- an item, and the lists before and after it
+pub record StandsAt {X : Type 0} (xs : List X) (place : ℕ) : Type 0 where
+  pub item : X
+  pub get : slice_get xs place ≡ Some item
+  pub upto : take (suc place) xs ≡ take place xs ++ (item ∷ [])
+  pub whole : xs ≡ take place xs ++ (item ∷ drop (suc place) xs)
+
+pub stands_at : {X : Type 0} (xs : List X) (place : ℕ) → place < length xs → StandsAt xs place
+stands_at [] place h = absurd (omega arith)
+stands_at (x ∷ xs) zero h = record { item = x; get = refl; upto = refl; whole = refl }
+stands_at (x ∷ xs) (suc place) h =
+    let s = stands_at xs place (omega arith) in
+    record {
+      item = s.item;
+      get = s.get;
+      upto = ap (λ l. x ∷ l) s.upto;
+      whole = ap (λ l. x ∷ l) s.whole;
+    }
+
+pub all_next : {X : Type 0} (P : X → Type 0) (xs : List X) (x : X) → AllByRecursion P xs → P x → AllByRecursion P (xs ++ (x ∷ []))
+all_next P [] x a p = (p, tt)
+all_next P (y ∷ ys) x a p = (a.0, all_next P ys x a.1 p)
+
+-- the chain at a place
+pub record ChainStands (county : County) (place : ℕ) : Type 0 where
+  pub stands : StandsAt county.chains place
+  pub chain : chain_at county place ≡ Some stands.item.1
+  pub points : points_at county place ≡ stands.item.1.points
+
+pub chain_stands : (county : County) (place : ℕ) → place < length county.chains → ChainStands county place
+chain_stands county place h =
+    let s : StandsAt county.chains place = stands_at county.chains place h in
+    let chain : chain_at county place ≡ Some s.item.1 =
+    slice_get-map (λ entry. entry.1) county.chains place ∙ ap (option_map (λ entry. entry.1)) s.get in
+    record {
+      stands = s;
+      chain = chain;
+      points = ap points_of chain;
+    }
+
+-- a shape has a start and an end
+pub record HasTwo (points : List Coordinates) : Type 0 where
+  pub one : Coordinates
+  pub two : Coordinates
+  pub rest : List Coordinates
+  pub is : points ≡ one ∷ two ∷ rest
+
+pub two_of : (points : List Coordinates) → 2 ≤ length points → HasTwo points
+two_of [] h = absurd (omega arith)
+two_of (p ∷ []) h = absurd (omega arith)
+two_of (p ∷ q ∷ ps) h = record { one = p; two = q; rest = ps; is = refl }
+
+pub length_from : (turned : Bool) (points : List Coordinates) → length (points_from turned points) ≡ length points
+length_from true points = length-reverse points
+length_from false points = refl
+
+pub shape_two : (county : County) → IsCounty county → (place : ℕ) → place < length county.chains
+    → HasTwo (least_points (points_at county place))
+shape_two county is place h =
+    let s = chain_stands county place h in
+    let item : Among s.stands.item county.chains =
+    subst (Among s.stands.item) (sym s.stands.whole) (behind (take place county.chains) s.stands.item (drop (suc place) county.chains)) in
+    let two : 2 ≤ length s.stands.item.1.points =
+    all_among (λ entry. 2 ≤ length entry.1.points) s.stands.item county.chains is.whole.points item in
+    let points : List Coordinates = points_at county place in
+    let same : length points ≡ length s.stands.item.1.points = ap length s.points in
+    let from = length_from (is_lt (points_cmp (reverse points) points)) points in
+    two_of (least_points points) (omega arith)
+  where
+    behind : (xs : List (ℕ × Chain)) (y : ℕ × Chain) (zs : List (ℕ × Chain)) → Among y (xs ++ (y ∷ zs))
+    behind [] y zs = inl refl
+    behind (x ∷ xs) y zs = inr (behind xs y zs)
+
+-- the points of a directed chain are those of its chain, or their reverse
+pub along_from : (county : County) (directed : DirectedChain) → points_along county directed ≡ points_from directed.turned (points_at county directed.place)
+along_from county directed = points_turned directed.turned (chain_at county directed.place)
+
+-- so a directed chain along a chain's shape has a start and an end
+pub two_along : (county : County) → IsCounty county → (place : ℕ) → place < length county.chains → (turned : Bool) (reversed : Ordering)
+    → turned ≡ is_lt reversed → reversed ≡ points_cmp (reverse (points_at county place)) (points_at county place)
+    → HasTwo (points_along county (record { place = place; turned = turned }))
+two_along county is place h turned reversed turns compared =
+    let two = shape_two county is place h in
+    record {
+      one = two.one;
+      two = two.two;
+      rest = two.rest;
+      is = along_from county (record { place = place; turned = turned })
+          ∙ ap (λ b. points_from b (points_at county place)) (turns ∙ ap is_lt compared) ∙ two.is;
+    }
+
+pub some-same : {X : Type 0} (o : Option X) (x y : X) → o ≡ Some x → o ≡ Some y → x ≡ y
+some-same o x y e f = cc
+
+pub is_some_from : {X : Type 0} (o : Option X) (x : X) → o ≡ Some x → IsSome o
+is_some_from o x e = subst IsSome (sym e) refl

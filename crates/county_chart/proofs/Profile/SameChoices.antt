@@ -1,0 +1,51 @@
+-- Counties that are the same leave equally many choices, and the shapes of a county in order determine how many.
+use Rattle.std.proofs.Common.{Bool, IsPermutation, List, false, map, refl, subst, sym, true, ℕ, ◌∙◌, ◌≡◌}
+use Rattle.county_chart.proofs.Common.{AreSame, Carries, Chain, Coordinates, County, DirectedChain, IsPermutation-sym, Renumbering}
+use Rattle.county_chart.proofs.Common.{SameElements, along_shapes, carried_chain, is_either_way, least_points, map-map, points_along}
+use Rattle.county_chart.proofs.Common.{points_cmp, points_keys, running, shapes, turned_if, turns}
+use Rattle.county_chart.specs.Choices.{choices}
+use Rattle.county_chart.specs.ShapeOrder.{AreInShapeOrder}
+use Rattle.ordered_lists.proofs.Lists.Elements.{map_agree_everywhere}
+use Rattle.ordered_lists.proofs.Lists.Reordered.{from_permutation, same-map}
+use Rattle.county_chart.proofs.Profile.Factorials.{running_is, running-same}
+use Rattle.county_chart.proofs.Profile.ShapePoints.{least_reverse}
+use Rattle.county_chart.proofs.Profile.ShapesOfCounty.{shapes_along}
+
+-- the number of choices depends only on the shapes
+pub choices_of_shapes : (county : County) → running points_cmp is_either_way (shapes county) ≡ choices county
+choices_of_shapes county = running_is points_keys is_either_way (shapes county)
+
+shape_carried : (r : Renumbering) (entry : ℕ × Chain) → least_points (carried_chain r entry).1.points ≡ least_points entry.1.points
+shape_carried r entry = go (turns r entry.0)
+  where
+    go : (b : Bool) → least_points (turned_if b entry.1).points ≡ least_points entry.1.points
+    go true = least_reverse entry.1.points
+    go false = refl
+
+shapes_carried : (r : Renumbering) (a b : County) → Carries r a b → SameElements (shapes a) (shapes b)
+shapes_carried r a b k =
+    let shape : ℕ × Chain → List Coordinates = λ entry. least_points entry.1.points in
+    subst (λ ks. SameElements ks (shapes b))
+    (map-map shape (carried_chain r) a.chains ∙ map_agree_everywhere (λ entry. shape (carried_chain r entry)) shape (shape_carried r) a.chains)
+    (same-map shape (map (carried_chain r) a.chains) b.chains (from_permutation (map (carried_chain r) a.chains) b.chains k.chains))
+
+pub same_choices : (a b : County) → AreSame a b → choices a ≡ choices b
+same_choices a b s =
+    sym (choices_of_shapes a)
+    ∙ running-same points_keys is_either_way (shapes a) (shapes b) (shapes_carried s.by a b s.carries)
+    ∙ choices_of_shapes b
+
+-- the points of the directed chains, in any order of these, are the shapes
+pub shapes_by_shape : (county : County) (by_shape : List DirectedChain) → IsPermutation (along_shapes county) by_shape
+    → SameElements (map (points_along county) by_shape) (shapes county)
+shapes_by_shape county by_shape p =
+    let along : SameElements (map (points_along county) by_shape) (map (points_along county) (along_shapes county)) =
+    same-map (points_along county) by_shape (along_shapes county)
+    (from_permutation by_shape (along_shapes county) (IsPermutation-sym (along_shapes county) by_shape p)) in
+    subst (SameElements (map (points_along county) by_shape)) (shapes_along county) along
+
+pub choices_stated : (county : County) (by_shape : List DirectedChain) → AreInShapeOrder county by_shape
+    → running points_cmp is_either_way (map (points_along county) by_shape) ≡ choices county
+choices_stated county by_shape order =
+    running-same points_keys is_either_way (map (points_along county) by_shape) (shapes county) (shapes_by_shape county by_shape order.all)
+    ∙ choices_of_shapes county

@@ -1,8 +1,0 @@
-use Rattle.tl_cert.proofs.Common.{◌∙◌, sym, ap, filter_map, pair_on}
-use Rattle.tl_cert.proofs.Tables.{joined-pairs}
-use Rattle.tl_cert.proofs.pairs.join_pairs.Goals as goal
-
-pub returns : goal.returns
-returns g c =
-    c.in_ok-pairs.ensures ∙ ap (λ nexts. filter_map (pair_on g.K.Ord.cmp nexts) c.args.firsts.now) c.in_ok-images.ensures
-    ∙ sym (joined-pairs g.K.Ord.cmp c.args.firsts.now c.args.nexts.now)

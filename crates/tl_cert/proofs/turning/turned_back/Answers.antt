@@ -1,8 +1,0 @@
-use Rattle.tl_cert.proofs.Common.{◌∙◌, sym, ap, nat_cmp, named_images}
-use Rattle.tl_cert.proofs.Tables.{named_images-filtered}
-use Rattle.tl_cert.proofs.turning.turned_back.Goals as goal
-
-pub returns : goal.returns
-returns c =
-    c.in_ok-back.ensures ∙ ap (λ pairs. named_images nat_cmp pairs c.args.turned.now) c.in_ok-images.ensures
-    ∙ sym (named_images-filtered nat_cmp c.args.chains.now c.args.turned.now)

@@ -1,0 +1,170 @@
+//! A reference to a chart, as a chart.
+
+ghost use Rattle.std.specs.Prelude.{◌≡◌};
+
+use county_chart::{Chart, PolygonKey};
+use tl_layout::{Body1, Body5, Body7, BodyI, BodyP, Point, Ranges, Rec8, Side};
+
+/// A reference to a chart, which is a chart of the same county.
+#[derive(Drop)]
+pub struct Lent<'a, C: Chart> {
+    chart: &'a C,
+}
+
+impl<'a, C: Chart> Lent<'a, C> {
+    /// The reference as a chart.
+    pub fn new(chart: &'a C) -> Lent<'a, C>
+        ensures { ⟦<Lent<'a, C> as Chart>⟧.county result ≡ C.county chart.now }
+    {
+        Lent { chart }
+    }
+}
+
+/// The county of the chart that is referred to.
+impl<'a, C: Chart> Chart for Lent<'a, C> {
+    ghost county = { λ lent. C.county lent.chart.now };
+
+    fn chain_count(&self) -> usize {
+        self.chart.chain_count()
+    }
+
+    fn tlid_at(&self, place: usize) -> Option<u64> {
+        self.chart.tlid_at(place)
+    }
+
+    fn chain_place(&self, tlid: u64) -> Option<usize> {
+        self.chart.chain_place(tlid)
+    }
+
+    fn name_count(&self) -> usize {
+        self.chart.name_count()
+    }
+
+    fn feat_at(&self, place: usize) -> Option<u32> {
+        self.chart.feat_at(place)
+    }
+
+    fn name_place(&self, feat: u32) -> Option<usize> {
+        self.chart.name_place(feat)
+    }
+
+    fn polygon_count(&self) -> usize {
+        self.chart.polygon_count()
+    }
+
+    fn polygon_key_at(&self, place: usize) -> Option<PolygonKey> {
+        self.chart.polygon_key_at(place)
+    }
+
+    fn polygon_place(&self, key: PolygonKey) -> Option<usize> {
+        self.chart.polygon_place(key)
+    }
+
+    fn landmark_count(&self) -> usize {
+        self.chart.landmark_count()
+    }
+
+    fn land_at(&self, place: usize) -> Option<u64> {
+        self.chart.land_at(place)
+    }
+
+    fn landmark_place(&self, land: u64) -> Option<usize> {
+        self.chart.landmark_place(land)
+    }
+
+    fn node_count(&self) -> usize {
+        self.chart.node_count()
+    }
+
+    fn node_at(&self, place: usize) -> Option<u64> {
+        self.chart.node_at(place)
+    }
+
+    fn node_place(&self, node: u64) -> Option<usize> {
+        self.chart.node_place(node)
+    }
+
+    fn chain_body_at(&self, place: usize) -> Option<Body1> {
+        self.chart.chain_body_at(place)
+    }
+
+    fn put_chain_body(&self, place: usize, turned: bool, out: &mut [u8]) {
+        self.chart.put_chain_body(place, turned, out);
+    }
+
+    fn chain_byte(&self, place: usize) -> u8 {
+        self.chart.chain_byte(place)
+    }
+
+    fn point_count_at(&self, place: usize) -> usize {
+        self.chart.point_count_at(place)
+    }
+
+    fn point_at(&self, place: usize, point: usize) -> Option<Point> {
+        self.chart.point_at(place, point)
+    }
+
+    fn feat_count_at(&self, place: usize) -> usize {
+        self.chart.feat_count_at(place)
+    }
+
+    fn chain_feat_at(&self, place: usize, name: usize) -> Option<u32> {
+        self.chart.chain_feat_at(place, name)
+    }
+
+    fn range_count_at(&self, place: usize) -> usize {
+        self.chart.range_count_at(place)
+    }
+
+    fn range_at(&self, place: usize, range: usize) -> Option<Ranges> {
+        self.chart.range_at(place, range)
+    }
+
+    fn topology_at(&self, place: usize) -> Option<BodyI> {
+        self.chart.topology_at(place)
+    }
+
+    fn start_node_at(&self, place: usize) -> Option<Option<u64>> {
+        self.chart.start_node_at(place)
+    }
+
+    fn end_node_at(&self, place: usize) -> Option<Option<u64>> {
+        self.chart.end_node_at(place)
+    }
+
+    fn left_at(&self, place: usize) -> Option<Side> {
+        self.chart.left_at(place)
+    }
+
+    fn right_at(&self, place: usize) -> Option<Side> {
+        self.chart.right_at(place)
+    }
+
+    fn name_body_at(&self, place: usize) -> Option<Body5> {
+        self.chart.name_body_at(place)
+    }
+
+    fn polygon_body_at(&self, place: usize) -> Option<Option<BodyP>> {
+        self.chart.polygon_body_at(place)
+    }
+
+    fn body_count_at(&self, place: usize) -> usize {
+        self.chart.body_count_at(place)
+    }
+
+    fn landmark_body_at(&self, place: usize, body: usize) -> Option<Body7> {
+        self.chart.landmark_body_at(place, body)
+    }
+
+    fn link_count_at(&self, place: usize) -> usize {
+        self.chart.link_count_at(place)
+    }
+
+    fn landmark_link_at(&self, place: usize, link: usize) -> Option<Rec8> {
+        self.chart.landmark_link_at(place, link)
+    }
+
+    ghost is_county = { λ lent. C.is_county lent.chart.now };
+
+    ghost within_limits = { λ lent. C.within_limits lent.chart.now };
+}

@@ -1,8 +1,0 @@
-use Rattle.tl_number.proofs.Common.{◌∙◌, option_to_list, sym, arranged_by, packed_p}
-use Rattle.record_groups.proofs.Records.EntryPlaces.{polygons_counted}
-use Rattle.tl_number.proofs.polygon_records.PolygonRecordsRecordGroups.count.Goals as goal
-
-pub returns : goal.returns
-returns g c =
-    let county = arranged_by (g.C.Chart.county c.args.self.now.county.now.chart) c.args.self.now.county.now.arrangement.items in
-    c.polygon_count.ensures ∙ sym (polygons_counted (λ entry. option_to_list (packed_p entry)) county)

@@ -1,8 +1,0 @@
-use Rattle.tl_number.proofs.Common.{◌<◌, option_to_list, subst, arranged_by, packed_p}
-use Rattle.record_groups.proofs.Records.EntryPlaces.{polygons_counted}
-use Rattle.tl_number.proofs.polygon_records.PolygonRecordsRecordGroups.head.Goals as goal
-
-pub polygon_by_number-requires : goal.polygon_by_number-requires
-polygon_by_number-requires g c =
-    let county = arranged_by (g.C.Chart.county c.args.self.now.county.now.chart) c.args.self.now.county.now.arrangement.items in
-    subst (λ n. c.args.group < n) (polygons_counted (λ entry. option_to_list (packed_p entry)) county) c.requires
