@@ -27,7 +27,7 @@ PROGRAM = os.path.abspath(os.environ.get("TIGERCANON") or BUILT)
 
 NAME = "tigercanon-tools: "
 HEAD = "# tigercanon form 1\n"
-PROGRESS = re.compile(r"tigercanon-tools: (normalising|reading|comparing|finding|writing) .*\n")
+PROGRESS = re.compile(r"tigercanon-tools: ((normalising|reading|comparing|finding|writing) |[\d,]+ of [\d,]+ counties, ).*\n")
 PR_SET_PDEATHSIG = 1
 
 Process = subprocess.Popen[bytes]
@@ -100,8 +100,8 @@ def begin(*words: object, program: Sequence[str] = TOOLS, env: Mapping[str, str]
 
 
 def end(run: Process, seconds: float = 300.0) -> Ended:
-    """Waits for a call that was started. If it takes too long it is killed with all that it started. The lines of progress of diff are
-    left out: a machine at work prints more of them."""
+    """Waits for a call that was started. If it takes too long it is killed with all that it started. Lines of progress are left out: a
+    machine at work prints more of them."""
     try:
         out, err = run.communicate(timeout=seconds)
     finally:
@@ -118,6 +118,12 @@ def kill_group(run: Process) -> None:
 def count_of_lines(name: str) -> int:
     """The whole lines of a file, which may not be there yet."""
     return Path(name).read_bytes().count(b"\n") if os.path.exists(name) else 0
+
+
+def listed(name: str) -> str:
+    """A manifest without the comments, which have the sizes and times of files. It may not be there yet."""
+    lines = Path(name).read_text().splitlines(keepends=True) if os.path.exists(name) else []
+    return "".join(line for number, line in enumerate(lines) if number == 0 or not line.startswith("# "))
 
 
 def put(name: str | Path, text: bytes = b"") -> Path:

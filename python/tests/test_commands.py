@@ -4,6 +4,7 @@ the runner of the cases in vectors/ does without a program."""
 from __future__ import annotations
 
 import os
+import shlex
 import shutil
 import sys
 from pathlib import Path
@@ -17,7 +18,7 @@ from tigercanon.hints import hint
 from tigercanon.progress import Tally, amount, duration
 from tigercanon.version import VERSION
 
-COMMANDS = ["fingerprint", "verify", "duplicates", "changes", "diff", "explain"]
+COMMANDS = ["fingerprint", "verify", "check", "duplicates", "changes", "diff", "table", "explain"]
 PAGES = script("release/tool-pages")
 RUN = ROOT / "vectors/run"
 CONTROL_Z = "the file ends with a Control-Z, the end mark of an old system: remove it"
@@ -49,7 +50,11 @@ def test_pages_have_all_commands() -> None:
             for flag in command.flags:
                 spelled = f"-l {flag[2:]} " if place.endswith(".fish") and flag.startswith("--") else flag
                 assert spelled in plain or len(flag) == 2, (place, name, flag)
-    for wanted in ('.SS "fingerprint SOURCE.."', '.SS "verify MANIFEST [SOURCE ..]"', "\\fINEW\\fR\nthe later manifest"):
+    for wanted in (
+        '.SS "fingerprint SOURCE.."',
+        '.SS "verify MANIFEST [SOURCE ..]"',
+        "\\fICOUNTY\\fR\na county, or a SOURCE of several",
+    ):
         assert f"{wanted}\n" in PAGES.pages()["man/tigercanon-tools.1"]
 
 
@@ -94,18 +99,28 @@ class TestProgram:
         assert (status, (out if place else err).decode()) == wanted
 
     def test_a_clone(self, room: Path, stand_in: Path, monkeypatch: pytest.MonkeyPatch) -> None:
-        """In a clone ./tigercanon is asked once, so that a stale program is built again; then the built one is called."""
+        """In a clone the launcher says which program it is, and builds it first if it must. An executable of the current folder isn't
+        taken for it, and neither is one of a relative folder on the PATH."""
         monkeypatch.delenv("TIGERCANON")
         complete("in/a", b"x\n")
         shutil.copytree(PACKAGE / "tigercanon", room / "clone/python/tigercanon")
         shutil.copy(ROOT / "tigercanon-tools", room / "clone")
-        put("clone/scripts/launch")
-        put("clone/tigercanon", b"#!/bin/sh\necho launched >>$ROOM/calls\n").chmod(0o755)
-        os.renames(stand_in, "clone/crates/tigercanon_main/out/tigercanon_main")
+        launch = put("clone/scripts/launch", b'#!/bin/sh\necho "$1" >>$ROOM/calls\necho "$2/there/program"\n')
+        launch.chmod(0o755)
+        os.renames(stand_in, "clone/there/program")
+        for wrong in ("tigercanon", "bin/tigercanon"):
+            put(wrong, b"#!/bin/sh\necho wrong >>$ROOM/calls\n").chmod(0o755)
         os.symlink("clone/tigercanon-tools", "tools")
-        ended = run(["./tools", "fingerprint", "in"], env={**os.environ, "PYTHON": sys.executable})
+        env = {**os.environ, "PYTHON": sys.executable, "PATH": f".:bin:{os.environ['PATH']}"}
+        ended = run(["./tools", "fingerprint", "in"], env=env)
         assert (ended.status, ended.out.count(b"\n")) == (0, 2), ended.err
-        assert Path("calls").read_text() == f"launched\n{room}/in/a\n"
+        assert Path("calls").read_text() == f"--program\n{room}/in/a\n"
+        launch.write_text("#!/bin/sh\nexit 70\n")
+        assert run(["./tools", "fingerprint", "in"], env=env).status == 2
+        os.unlink(launch)
+        ended = run(["./tools", "fingerprint", "in"], env=env)
+        assert (ended.status, b"there is no program tigercanon here" in ended.err) == (2, True)
+        assert "wrong" not in Path("calls").read_text()
 
     @pytest.mark.parametrize("name", ["tigercanon/__init__.py", "tigercanon.py", "argparse.py"])
     def test_a_module_in_the_current_folder(self, room: Path, name: str) -> None:
@@ -117,7 +132,7 @@ class TestProgram:
         monkeypatch.chdir(ROOT)
         digits = "1d52be5838ff73bc2575fb45a3df3475437eff9b6347ef11d750d52787afbf1a"
         wanted = HEAD + "".join(f"{digits}  examples/{name}/TGR01001\n" for name in ("autauga-renumbered", "autauga"))
-        assert run(["./tigercanon-tools", "fingerprint", "examples"])[:2] == (0, wanted.encode())
+        assert run(["./tigercanon-tools", "fingerprint", "examples/autauga*/*.RT1"])[:2] == (0, wanted.encode())
 
 
 def test_installing(room: Path) -> None:
@@ -211,7 +226,7 @@ def test_hints_in_a_run(room: Path, program: str) -> None:
 
 def test_a_list_that_is_read_in_part() -> None:
     """It ends silently, as any filter does."""
-    ended = run(["bash", "-c", f"set -o pipefail; {RUN} --list | head -n 1"])
+    ended = run(["bash", "-c", f"set -o pipefail; {shlex.quote(str(RUN))} --list | head -n 1"])
     assert (ended.out.count(b"\n"), ended.err, ended.status in (0, 128 + 13)) == (1, b"", True)
 
 

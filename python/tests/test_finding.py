@@ -58,7 +58,7 @@ def test_sources(sources: str, wanted: list[str]) -> None:
 
 
 def test_known_counties_are_left_out() -> None:
-    counties, known = Finder().counties(["in", "in/b.RT1"], "in/a in/b in/z".split().__contains__)
+    counties, known = Finder().counties(["in", "in/b.RT1"], lambda county: county.stem in ("in/a", "in/b", "in/z"))
     assert sorted(county.stem for county in counties) == [stem for stem in ALL if stem not in ("in/a", "in/b")]
     assert known == 2
 
@@ -110,7 +110,8 @@ def test_skipped_files() -> None:
         put(name)
     finder = Finder()
     finder.counties(["in", "in", "in/*.gz"])
-    assert finder.skipped == {".RTA": 1, ".me": 1, ".tar.gz": 2, ".gz": 4, "without an ending": 1}
+    assert finder.skipped == {".RTA": 1, ".me": 1, ".tar.gz": 1, ".gz": 2, "without an ending": 1}
+    assert finder.without_records == ["in/a.tar.gz", "in/c.RT1.gz", "in/d.RT2.gz", "in/read.me", "in/deep/README"]
 
 
 @pytest.mark.parametrize("folder, name", [("", "a"), ("a", "b"), ("/", "a"), ("s3://a", "b"), ("s3://", "a"), ("file:///", "a")])

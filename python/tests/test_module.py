@@ -94,7 +94,7 @@ def test_parts(tmp_path: Path) -> None:
 
 
 def test_nothing() -> None:
-    for nothing in (b"", bytearray(), memoryview(b""), memoryview(b"").cast("B"), [], [b""], array.array("H"), io.BytesIO()):
+    for nothing in (b"", bytearray(), memoryview(b""), memoryview(b"").cast("B"), [b""], array.array("H"), io.BytesIO()):
         assert echoed(nothing) == b""
     assert echoed([b""] * 3) == b"||"
 
@@ -106,6 +106,36 @@ def test_a_file_from_its_position(tmp_path: Path) -> None:
         assert echoed(file) == b""
 
 
+def test_many_parts() -> None:
+    """A set may have more parts than a county has files, and each counts."""
+    for count in (8, 9, 10, 11, 300):
+        parts = [b"%d" % number for number in range(count)]
+        assert echoed(parts) == b"|".join(parts)
+        assert tigercanon.compare(parts, iter(parts)) is True
+        assert tigercanon.compare(parts, parts[:-1]) is False
+
+
+def test_large_parts(tmp_path: Path) -> None:
+    """Each byte of a file counts, and lengths have 64 bits. What isn't written of these files takes no space."""
+    for size in (70 << 20, (4 << 30) + 5):
+        path = tmp_path / f"{size}"
+        with path.open("wb") as made:
+            made.seek(size - 1)
+            made.write(b"z")
+        told = b"%d to z" % size
+        with path.open("rb") as file, mmap.mmap(file.fileno(), 0, prot=mmap.PROT_READ) as text:
+            assert echoed(text) == told
+            assert echoed([b"", memoryview(text), b"x"]) == b"|" + told + b"|x"
+            if size < 1 << 30:
+                assert echoed(file) == echoed(path) == echoed([path]) == told
+                assert echoed(io.BytesIO(text)) == echoed(path.open("rb", buffering=0)) == told
+        if size < 1 << 30:
+            put(tmp_path / "part.gz", gzip.compress(path.read_bytes(), 1))
+            put(tmp_path / "a.zip", packed({"a.RT1": path.read_bytes(), "part": path.read_bytes()}))
+            assert echoed(gzip.open(tmp_path / "part.gz")) == echoed(zipfile.ZipFile(tmp_path / "a.zip").open("part")) == told
+            assert echoed(tmp_path / "a.zip") == told + b"|" * 8
+
+
 def assert_raises(error: type[Exception], *sets: Any, match: str = "") -> None:
     for parts in sets:
         with pytest.raises(error, match=match):
@@ -115,6 +145,8 @@ def assert_raises(error: type[Exception], *sets: Any, match: str = "") -> None:
 def test_what_is_no_part(tmp_path: Path) -> None:
     with put(tmp_path / "text", b"x").open() as in_text_mode:
         assert_raises(TypeError, 1, None, [1, 2], [None], in_text_mode, [[b"x"]])
+    assert_raises(TypeError, None, match="a set is a path, bytes, .*, not NoneType")
+    assert_raises(ValueError, [], iter(()), match="a set has at least one part")
     assert_raises(BufferError, memoryview(TEXT)[::2], memoryview(TEXT)[::-1], memoryview(TEXT).cast("H")[::2])
     with pytest.raises(TypeError):
         tigercanon.check(TEXT, no_sources=True)  # type: ignore[call-arg]
@@ -142,6 +174,11 @@ def test_stems(tmp_path: Path) -> None:
     put(tmp_path / "TGR01001.rt1", b"one again")
     assert_raises(ValueError, tmp_path / "TGR01001", match="TGR01001.rt1")
     assert_raises(IsADirectoryError, tmp_path)
+    for name in ("tgr01005.rt1", "TGR01005.RT2", "TGR01007.RT1", "tgr01007.RT1"):
+        put(tmp_path / name, name.encode())
+    assert echoed(tmp_path / "TGR01005") == b"tgr01005.rt1|TGR01005.RT2|||||||"
+    assert echoed(tmp_path / "TGR01005.RT2") == echoed(tmp_path / "TGR01005")
+    assert_raises(ValueError, tmp_path / "TGR01007", match="TGR01007.RT1, tgr01007.RT1")
 
 
 def test_zips(tmp_path: Path) -> None:
@@ -155,6 +192,52 @@ def test_zips(tmp_path: Path) -> None:
     assert_raises(ValueError, path, match="TGR01001.ZIP: .*2 counties")
     assert_raises(ValueError, put(path, path.read_bytes()[:99]), match="TGR01001.ZIP: the zip is cut off")
     assert_raises(ValueError, put(path), match="TGR01001.ZIP: it isn't a zip")
+
+
+@pytest.mark.parametrize(
+    "name", ["TGR01001.zip", "TGR01001.ZiP", "TGR01001", "TGR01001.RT1", "TGR01001.dat", "TGR01001.ZIP.part", "a b"]
+)
+def test_zips_by_other_names(tmp_path: Path, name: str) -> None:
+    """A zip is one by what is in it."""
+    files = {f"TGR01001.RT{kind}": kind.encode() for kind in TYPES}
+    assert echoed(put(tmp_path / name, packed(files))) == "|".join(TYPES).encode()
+
+
+SETS: dict[str, Callable[[Path, bytes], Any]] = {
+    "bytes": lambda _, text: text,
+    "list": lambda _, text: [text, b""],
+    "iterator": lambda _, text: iter([text]),
+    "file": lambda folder, text: put(folder / "file", text).open("rb"),
+    "path": lambda folder, text: put(folder / "path", text),
+    "paths": lambda folder, text: [put(folder / "part", text), str(put(folder / "empty"))],
+    "stem": lambda folder, text: put(folder / "stem.RT1", text).with_suffix(""),
+    "zip": lambda folder, text: put(folder / "zip.ZIP", packed({"TGR01001.RT1": text})),
+}
+"""Sets with this text, which may be files in this folder."""
+
+
+@pytest.mark.parametrize("one, other", product(SETS, SETS))
+def test_which_set_is_refused(tmp_path: Path, one: str, other: str) -> None:
+    """compare judges the first set before the second, in whichever form they are."""
+    for first, second, which in ((b"fault", b"", 1), (b"", b"fault", 2), (b"fault", b"fault", 1)):
+        fault = b" 4 3 1 0000000000 1 2 3\n"
+        with pytest.raises(tigercanon.Refusal) as raised:
+            tigercanon.compare(
+                *(SETS[form](tmp_path / form / word.decode(), word + fault) for form, word in ((one, first), (other, second)))
+            )
+        assert raised.value.set == which
+
+
+def test_packed_files_with_all_records(tmp_path: Path, monkeypatch: pytest.MonkeyPatch) -> None:
+    """A file by gzip, and in a zip. One that unpacks to more than a county may have is rejected before it takes the memory."""
+    county = (ROOT / "examples/autauga/canonical.txt").read_bytes()
+    named = put(tmp_path / "TGR01001.txt.gz", gzip.compress(county))
+    zipped = put(tmp_path / "TGR01003.ZIP", packed({"a/readme.txt": b"1. About", "a/all": county}))
+    for path in (named, tmp_path / "TGR01001", zipped):
+        assert echoed(path) == county
+    monkeypatch.setattr("tigercanon.contents.LARGEST", len(county) - 1)
+    assert_raises(ValueError, named, match="TGR01001.txt.gz: it unpacks to more than 4370 bytes")
+    assert_raises(ValueError, zipped, match="TGR01003.ZIP: the zip unpacks to 4371 bytes, more than 4370")
 
 
 @pytest.mark.parametrize("number, name, words", REFUSALS)
@@ -204,7 +287,7 @@ def test_other_threads_run() -> None:
     while time.monotonic() < end:
         rounds += 1
         time.sleep(0.01)
-    assert call.is_alive() and rounds > 5
+    assert call.is_alive() and rounds > 1
     call.join()
 
 
@@ -223,20 +306,41 @@ def respelled(package: Path, **more: object) -> Answer:
     return run([sys.executable, "-c", words], cwd="/", env=env)
 
 
-def test_where_the_library_is(library: Path, tmp_path: Path, package: Path) -> None:
-    """The variable wins over a library beside the package, and that one over one of the system."""
-    found, beside = Answer(0, b"tigercanon form 1\nb'x'\n", b""), tmp_path / "lib" / _library.NAME
-    call = partial(respelled, package)
-    assert call(LD_LIBRARY_PATH=library.parent) == found
-    put(beside, b"no library")
-    assert b"ImportError" in call(LD_LIBRARY_PATH=library.parent).err
-    assert call(TIGERCANON_LIBRARY=library) == found
-    beside.unlink()
-    beside.symlink_to(library)
-    assert call() == found
-    assert b"ImportError" in call(TIGERCANON_LIBRARY=tmp_path / "none").err
-    beside.rename(package / "tigercanon" / _library.NAME)
-    assert call() == found
+PLACES = ("variable", "python/tigercanon", "lib", "out/library/lib", "system")
+"""Where the library is looked for, in this order: in the package, in a release around it, in a clone, and where the system looks."""
+
+
+@pytest.mark.parametrize("first", PLACES)
+def test_where_the_library_is(library: Path, tmp_path: Path, package: Path, first: str) -> None:
+    """The first place that has one counts, even if it can't be loaded. A variable that is empty names none."""
+    system = {"LD_LIBRARY_PATH": tmp_path / "system"}
+    for place in PLACES[PLACES.index(first) + 1 :]:
+        put(tmp_path / place / _library.NAME, b"no library")
+    (tmp_path / first).mkdir(parents=True, exist_ok=True)
+    shutil.copy(library, tmp_path / first / _library.NAME)
+    variable = str(tmp_path / first / _library.NAME) if first == "variable" else ""
+    assert respelled(package, TIGERCANON_LIBRARY=variable, **system) == Answer(0, b"tigercanon form 1\nb'x'\n", b"")
+    put(tmp_path / first / _library.NAME, b"no library")
+    for place in PLACES[PLACES.index(first) + 1 :]:
+        shutil.copy(library, tmp_path / place / _library.NAME)
+    assert b"ImportError" in respelled(package, TIGERCANON_LIBRARY=variable, **system).err
+
+
+def test_where_the_library_of_a_clone_is(library: Path, tmp_path: Path, package: Path) -> None:
+    """In a clone the launcher says where the library is that was made from the sources as they are, or why there is none. Then neither
+    another one of the clone nor that of the system is loaded."""
+    launch = tmp_path / "scripts/launch"
+    put(launch, b'#!/bin/sh\necho "$0 $*" >"${0%/*}/called"\necho "${0%/*}/found"\n')
+    launch.chmod(0o755)
+    shutil.copy(library, tmp_path / "scripts/found")
+    assert respelled(package) == Answer(0, b"tigercanon form 1\nb'x'\n", b"")
+    assert (tmp_path / "scripts/called").read_text() == f"{launch} --shared-library {tmp_path}\n"
+    put(launch, b"#!/bin/sh\necho 'none of these sources is here' >&2\nexit 70\n")
+    for place in ("out/library/lib", "system"):
+        (tmp_path / place).mkdir(parents=True)
+        shutil.copy(library, tmp_path / place / _library.NAME)
+    err = respelled(package, LD_LIBRARY_PATH=tmp_path / "system").err
+    assert err.decode().splitlines()[-1].startswith("ImportError: none of these sources is here: scripts/build-library builds it")
 
 
 def test_without_a_library(package: Path) -> None:
@@ -257,4 +361,5 @@ def test_documentation() -> None:
     profile = " ".join(str(tigercanon.check.__doc__).split())
     assert "each polygon with a record of type P lies on a side of a chain" in profile and "few enough choices open" in profile
     assert (ROOT / "python/tigercanon/py.typed").exists()
-    assert f'TIGERCANON_FORM "{tigercanon.FORM}"' in (ROOT / "include/tigercanon.h").read_text()
+    header = (ROOT / "include/tigercanon.h").read_text()
+    assert f'TIGERCANON_FORM "{tigercanon.FORM}"' in header and f'TIGERCANON_VERSION "{tigercanon.__version__}"' in header

@@ -24,7 +24,13 @@ a call. No reference to a part is kept.
 The module needs CPython on x86-64 Linux and the library libtigercanon.so.1. It loads the one that TIGERCANON_LIBRARY
 names, else the one beside this package, else the one that the system finds. In a clone, scripts/build-library builds
 it. Without it, the first call raises ImportError; the command tigercanon-tools works without the library.
+
+Four calls are for archives, and run the program instead of the library: manifest yields the fingerprint of each county of an
+archive, changes compares the manifests of editions, differences yields where two counties differ, and chains yields the chains of
+one. They raise tigercanon.errors.Failure if they can't go on.
 """
+
+from typing import TYPE_CHECKING, Any
 
 from . import _library
 from ._library import OutOfMemory, Part, Refusal, Set
@@ -37,14 +43,30 @@ __all__ = [
     "Refusal",
     "Set",
     "__version__",
+    "chains",
+    "changes",
     "check",
     "compare",
+    "differences",
     "fingerprint",
+    "manifest",
     "normalise",
     "respell",
 ]
 
 FORM = "tigercanon form 1"  # the name of the form of the canonical texts. Cite it with a fingerprint.
+
+if TYPE_CHECKING:
+    from .archive import chains, changes, differences, manifest
+
+
+def __getattr__(name: str) -> Any:
+    """The calls for archives, whose modules are loaded only if one of them is used."""
+    if name not in ("chains", "changes", "differences", "manifest"):
+        raise AttributeError(f"module {__name__!r} has no attribute {name!r}")
+    from . import archive
+
+    return getattr(archive, name)
 
 
 def check(parts: Set) -> None:

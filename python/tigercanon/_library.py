@@ -5,21 +5,21 @@ from __future__ import annotations
 import ctypes
 import functools
 import os
-import zipfile
+import stat
+import subprocess
 from contextlib import ExitStack, contextmanager
 from ctypes import c_bool, c_size_t, c_ssize_t, c_uint8, c_uint64, c_void_p
 from pathlib import Path
 from typing import TYPE_CHECKING, Any, BinaryIO, Iterable, Iterator, Union
 
 from .errors import Unreadable
-from .layout import TYPES, kind_of, stem_of
-from .storage import members_of, opened_zip, pieces_of
 
 if TYPE_CHECKING:
     import mmap
     from array import array
 
 NAME = "libtigercanon.so.1"
+LAUNCHER = "scripts/launch"
 VARIABLE = "TIGERCANON_LIBRARY"
 ADVICE = f"scripts/build-library builds it, a release has it, and {VARIABLE} names it elsewhere"
 
@@ -114,13 +114,30 @@ EMPTY = ctypes.create_string_buffer(1)
 ADDRESS_OF_EMPTY = ctypes.addressof(EMPTY)  # the address of a part without bytes: the library wants one that isn't null
 
 
+def place_of_library() -> tuple[str, str]:
+    """The file that the variable names, else the one beside this package, else that of the release or the clone around it, else the
+    name by which the system finds one. If a clone has none that was made from its sources, there is no file, and the reason."""
+    package = Path(__file__).resolve().parent
+    root = package.parent.parent
+    places = [package, root / "lib"]
+    if not (root / LAUNCHER).is_file():
+        places.append(root / "out/library/lib")
+    found = os.environ.get(VARIABLE, "") or next((str(place / NAME) for place in places if (place / NAME).exists()), "")
+    if not found and (root / LAUNCHER).is_file():
+        # In a clone it is the library that was built from the sources as they are, or is prebuilt from them.
+        asks = [str(root / LAUNCHER), "--shared-library", str(root)]
+        ended = subprocess.run(asks, stdin=subprocess.DEVNULL, stdout=subprocess.PIPE, stderr=subprocess.PIPE)
+        found, why = (os.fsdecode(text).rstrip("\n") for text in (ended.stdout, ended.stderr))
+        return found, why
+    return found or NAME, ""
+
+
 @functools.lru_cache(maxsize=None)
 def library() -> ctypes.CDLL:
-    """The library, which is loaded at the first call: the file that the variable names, else the one beside this package, else the
-    one that the system finds. Raises ImportError if it can't be loaded."""
-    package = Path(__file__).resolve().parent
-    places = (folder / NAME for folder in (package, package.parent.parent / "lib", package.parent.parent / "out/library/lib"))
-    place = os.environ.get(VARIABLE, "") or next((str(place) for place in places if place.exists()), NAME)
+    """The library, which is loaded at the first call. Raises ImportError if it can't be loaded."""
+    place, why = place_of_library()
+    if not place:
+        raise ImportError(f"{why}: {ADVICE}")
     text, fault = ctypes.POINTER(Text), ctypes.POINTER(Fault)
     parts: list[Any] = [text, c_size_t]
     flags: list[Any] = [c_bool, c_bool]
@@ -169,6 +186,8 @@ def lent(parts: Set) -> Iterator[tuple[Any, int]]:
     """Lends the parts of a set to the library: an array of pieces and how many they are. Afterwards the owners can change them."""
     with ExitStack() as stack:
         views = [stack.enter_context(view_of(part)) for part in parts_of(parts)]
+        if not views:
+            raise ValueError('a set has at least one part: that without records is b""')
         pieces = (Text * max(len(views), 1))()
         for piece, view in zip(pieces, views):
             buffer = Buffer()
@@ -182,16 +201,20 @@ def lent(parts: Set) -> Iterator[tuple[Any, int]]:
 def parts_of(parts: Set) -> Iterable[Any]:
     """The parts of a set. A path leads to a file or a zip, or is the stem of a county's nine files. An absent one of these is empty."""
     if not isinstance(parts, (str, os.PathLike)):
-        return [parts] if lends_bytes(parts) or hasattr(parts, "read") else parts
+        if lends_bytes(parts) or hasattr(parts, "read"):
+            return [parts]
+        if not isinstance(parts, Iterable):
+            raise TypeError(
+                f"a set is a path, bytes, a file opened in binary mode or an iterable of these, not {type(parts).__name__}"
+            )
+        return parts
     path = os.fspath(parts)
-    if not os.path.lexists(path):
-        return files_behind(path)
-    if kind_of(path) != "ZIP" and not zipfile.is_zipfile(path):
-        return [Path(path).read_bytes()]
+    if os.path.exists(path) and not stat.S_ISREG(os.stat(path).st_mode):
+        return [Path(path).read_bytes()]  # what can be read only once, such as a pipe; and not a folder
+    from .contents import contents  # which a program that has its counties in memory doesn't need
+
     try:
-        with opened_zip(path) as archive:
-            members = members_of(archive)
-            return [b"".join(pieces_of(archive, members[kind])) if kind in members else b"" for kind in TYPES]
+        return contents(path)
     except Unreadable as fault:
         raise ValueError(f"{path}: {fault}") from None
 
@@ -216,16 +239,3 @@ def lends_bytes(part: object) -> bool:
             return True
     except TypeError:
         return False
-
-
-def files_behind(stem: str) -> list[bytes]:
-    """The nine files whose names begin with the stem, in either case of their endings."""
-    folder, base = os.path.split(stem)
-    found: dict[str, str] = {}
-    for name in os.listdir(folder or ".") if os.path.isdir(folder or ".") else []:
-        kind = kind_of(name)
-        if stem_of(name) == base and kind in [*TYPES] and found.setdefault(kind, name) != name:
-            raise ValueError(f"{found[kind]} and {name} in {folder or '.'} are both the same file of a county")
-    if not found:
-        raise FileNotFoundError(f"there is no file {stem}, and no county's files begin with this name")
-    return [Path(folder, found[kind]).read_bytes() if kind in found else b"" for kind in TYPES]

@@ -6,16 +6,15 @@ import re
 import signal
 import threading
 import traceback
-from collections import Counter
 from concurrent.futures import ThreadPoolExecutor
 from typing import Any, Callable, Sequence
 
-from . import explain, runs
-from .differences import command as differences
+from . import explain, listing, runs, tables
+from .diff import command as differences
 from .errors import Failure, reason
-from .manifest import changes, duplicates, loaded
+from .inputs import Inputs
 from .own import PATIENCE, PROCESS
-from .progress import Tally, print_json, print_lines, report
+from .progress import Tally, report
 from .version import VERSION
 
 NAME = "tigercanon-tools"
@@ -54,7 +53,13 @@ def count_of(word: str) -> int:
 
 
 class Parser(argparse.ArgumentParser):
-    """A parser whose errors take one line."""
+    """A parser whose errors take one line, with the name of the command."""
+
+    def parse_known_args(self, args: Any = None, namespace: Any = None) -> Any:
+        found, others = super().parse_known_args(args, namespace)
+        if others:
+            self.error(f"unrecognized arguments: {' '.join(others)}")
+        return found, others
 
     def error(self, message: str) -> Any:
         self.exit(2, f"{self.prog}: {message}; see {self.prog} --help\n")
@@ -66,6 +71,7 @@ def parser() -> Parser:
     made.add_argument("--version", action="version", version=f"{NAME} {VERSION}")
     commands = made.add_subparsers(metavar="COMMAND", required=True, dest="command")
     add_judging_commands(commands)
+    add_check(commands)
     add_other_commands(commands)
     return made
 
@@ -83,8 +89,8 @@ SHARED: dict[str, dict[str, Any]] = {
     "--program": {"metavar": "FILE", "help": f"run this program tigercanon ({WHERE})"},
     "--no-sources": {"action": "store_true", "help": "leave out the fields that record where data came from"},
     "--no-reserved": {"action": "store_true", "help": "leave out the reserved fields"},
-    "--json": {"action": "store_true", "help": "print a list in JSON"},
-    "manifest": {"metavar": "MANIFEST", "help": "a manifest that the command fingerprint has written"},
+    "--json": {"action": "store_true", "help": "print JSON, one value on each line"},
+    "manifest": {"metavar": "MANIFEST", "help": "a manifest that the command fingerprint has written; - is standard input"},
 }
 
 
@@ -93,7 +99,7 @@ def add_shared(made: argparse.ArgumentParser, *names: str) -> None:
         made.add_argument(name, **SHARED[name])
 
 
-def add_judging_options(made: argparse.ArgumentParser) -> None:
+def add_judging_options(made: argparse.ArgumentParser, with_flags: bool = True) -> None:
     add_shared(made, "--program")
     engine = made.add_mutually_exclusive_group()
     engine.add_argument("--jobs", metavar="N", type=count_of, help="process N counties at a time (default: one per processor)")
@@ -103,14 +109,17 @@ def add_judging_options(made: argparse.ArgumentParser) -> None:
     made.add_argument("--memory", metavar="SIZE", type=size_of, help=about)
     about = f"skip zips that unpack to more than SIZE (default: {LARGEST})"
     made.add_argument("--largest", metavar="SIZE", type=size_of, default=size_of(LARGEST), help=about)
-    add_shared(made, "--no-sources", "--no-reserved", "--json")
+    add_shared(made, *(["--no-sources", "--no-reserved"] if with_flags else []), "--json")
 
 
 def add_judging_commands(commands: Any) -> None:
     about = "print or write a manifest: the fingerprint and the name of each county"
     made = add_command(commands, "fingerprint", about, lambda options: runs.Fingerprints(options)())
-    about = "write the manifest to this file; counties that it already lists are skipped"
+    about = "write the manifest to this file; counties that it already lists are skipped, and so are those that it lists as refused"
     made.add_argument("-o", "--output", metavar="MANIFEST", help=about)
+    about = "with -o: judge again the counties whose files have another size or time than the manifest has"
+    made.add_argument("--update", action="store_true", help=about)
+    made.add_argument("--again", action="store_true", help="with -o: judge again all counties that were refused")
     about = "reject a county if one of its files is missing, or if the one of type 1, 2 or I is empty"
     made.add_argument("--strict", action="store_true", help=about)
     add_judging_options(made)
@@ -122,48 +131,61 @@ def add_judging_commands(commands: Any) -> None:
     made.add_argument("--root", metavar="FOLDER", help="look for the names in the manifest below this folder")
     add_judging_options(made)
     add_shared(made, "manifest")
-    made.add_argument("sources", metavar="SOURCE", nargs="*", help="print NEW for each county here that isn't in the manifest")
+    made.add_argument(
+        "sources", metavar="SOURCE", nargs="*", default=[], help="print NEW for each county here that isn't in the manifest"
+    )
+
+
+def add_check(commands: Any) -> None:
+    about = "check whether counties are accepted, and show the faulty line and field of each that isn't"
+    made = add_command(commands, "check", about, lambda options: runs.Checks(options)())
+    made.add_argument("--quiet", action="store_true", help="don't print counties that are accepted")
+    add_judging_options(made, with_flags=False)
+    made.add_argument("counties", metavar="COUNTY", nargs="+", help="a county, or a SOURCE of several")
 
 
 def add_other_commands(commands: Any) -> None:
-    made = add_command(commands, "duplicates", "list the counties of a manifest that are one map, in groups", list_duplicates)
+    made = add_command(
+        commands, "duplicates", "list the counties of a manifest that are one map, in groups", listing.list_duplicates
+    )
+    made.add_argument("--different", action="store_true", help="list only groups in which counties have different names")
     add_shared(made, "--json", "manifest")
 
-    about = "list how two manifests differ: counties that are the same, changed, added or removed"
-    made = add_command(commands, "changes", about, list_changes)
+    about = "list how the editions of an archive differ: counties that are the same, changed, added, removed or renamed"
+    made = add_command(commands, "changes", about, listing.list_changes)
     made.description = f"{made.description} Counties are matched by their names without folder, case and ending."
     made.add_argument("--quiet", action="store_true", help="don't print counties that are the same")
+    about = "take the counties below this folder of the one manifest for an edition; give it for each edition, in their order"
+    made.add_argument("--edition", metavar="FOLDER", action="append", default=[], help=about)
     add_shared(made, "--json")
-    made.add_argument("old", metavar="OLD", help="the earlier manifest")
-    made.add_argument("new", metavar="NEW", help="the later manifest")
+    about = "write a page with a map for each county that changed, and an index; pages that are there already stay"
+    made.add_argument("--pages", metavar="FOLDER", help=about)
+    made.add_argument("--root", metavar="FOLDER", help="with --pages: look for the names in the manifests below this folder")
+    made.add_argument("--leaflet", metavar="FOLDER", help="with --pages: the folder that has leaflet.js and leaflet.css")
+    made.add_argument(
+        "--jobs", metavar="N", type=count_of, help="with --pages: write N pages at a time (default: one per processor)"
+    )
+    add_shared(made, "--program")
+    made.add_argument(
+        "manifests", metavar="MANIFEST", nargs="+", help="a manifest for each edition in their order, or one with all editions"
+    )
 
     made = add_command(commands, "diff", "show where two maps differ, as text, a page or GeoJSON", differences.run)
     add_shared(made, "--program", "--no-sources", "--no-reserved")
     differences.add_arguments(made)
 
-    made = add_command(commands, "explain", "explain a refusal: what it means, an example, and what to do", explain.run)
-    made.add_argument("line", metavar="LINE", nargs="+", help="the line that the program printed, or the refusal's number or name")
+    made = add_command(commands, "table", "write the chains of a county as a table, in CSV or GeoJSON", tables.run)
+    made.description = f"{made.description} CSV has the points as WKT. DuckDB, pandas and GDAL read both."
+    add_shared(made, "--program")
+    made.add_argument("--geojson", action="store_true", help="write GeoJSON")
+    made.add_argument("-o", "--output", metavar="FILE", help="write to this file and not to standard output")
+    made.add_argument("county", metavar="COUNTY", help="a zip, a file with all records, or the stem or a file of the nine")
 
-
-def list_duplicates(options: argparse.Namespace) -> int:
-    groups = duplicates(loaded(options.manifest)[1])
-    if options.json:
-        print_json([{"fingerprint": group[0].fingerprint, "counties": [line.stem for line in group]} for group in groups])
-    else:
-        print_lines("\n".join(map(str, group)) + ("" if group is groups[-1] else "\n") for group in groups)
-    return 0
-
-
-def list_changes(options: argparse.Namespace) -> int:
-    found = changes(options.old, options.new)
-    shown = [each for each in found if each["change"] != "same" or not options.quiet]
-    if options.json:
-        print_json(shown)
-    else:
-        print_lines(f"{each['change']}  {each['new'] or each['old']}" for each in shown)
-    counts = Counter(each["change"] for each in found)
-    report(", ".join(f"{counts[kind]:,} {kind}" for kind in ("same", "changed", "added", "removed")))
-    return int(counts["same"] < len(found))
+    about = "explain a refusal: what it means, an example, and what to do; of a county it shows the place too"
+    made = add_command(commands, "explain", about, explain.run)
+    add_shared(made, "--program")
+    about = "the line that the program printed, or the refusal's number or name; a COUNTY may follow, or stand alone"
+    made.add_argument("line", metavar="LINE", nargs="+", help=about)
 
 
 def end_by(number: int) -> None:
@@ -187,9 +209,19 @@ def stop(number: int, _: object) -> None:
     end_by(number)
 
 
+def open_streams() -> None:
+    """Opens the standard streams that are closed on nothing, so that no file takes the place of one."""
+    for number in range(3):
+        try:
+            os.fstat(number)
+        except OSError:
+            os.open(os.devnull, os.O_RDWR)
+
+
 def run(arguments: Sequence[str]) -> int:
     """Runs a command line and returns the exit status. The command runs in a thread of its own, and this one waits for signals, so
     none comes at a bad moment. A command that can't go on ends this process, in which other threads may still be at work."""
+    open_streams()
     options = parser().parse_args(list(arguments))
     for number in SIGNALS:
         if signal.getsignal(number) is not signal.SIG_IGN:

@@ -1,17 +1,19 @@
 """Finds the counties of an archive: in folders, by globs, by names and behind URLs."""
 
+from __future__ import annotations
+
 import os
 import re
 from collections import Counter
 from contextlib import suppress
 from fnmatch import fnmatchcase
 from functools import lru_cache
-from typing import Callable, Iterable, Iterator
+from typing import Callable, Collection, Iterable, Iterator
 
 from .errors import Failure, reason
 from .judge import County, File
-from .layout import TYPES, kind_of, stem_of
-from .storage import Entry, entries, is_folder, is_url, joined, parted, real, system_of, tidy
+from .layout import TYPES, folded, is_record, key_of, kind_of, stem_of
+from .storage import Entry, entries, entry_of, first_line, is_folder, is_url, joined, parted, real, tidy
 
 MAGIC = re.compile(r"[*?[]")
 KINDS = (*TYPES, "ZIP")
@@ -19,35 +21,45 @@ Names = dict[str, list[Entry]]  # the files of one stem in a folder, by their ki
 
 
 class Finder:
-    """Finds counties, and counts the files that it skips."""
+    """Finds counties, and notes the files that it skips. Files of the run itself aren't looked at."""
 
-    def __init__(self) -> None:
+    def __init__(self, own_files: Collection[str] = ()) -> None:
         listed = self.entries = lru_cache(maxsize=None)(entries)
-        self.names = lru_cache(maxsize=None)(lambda folder: names_among(listed(folder)))
+        self.by_key = lru_cache(maxsize=None)(lambda folder: keyed(listed(folder)))
+        self.own_files = {real(name) for name in own_files}
         self.skipped: Counter[str] = Counter()
+        self.without_records: list[str] = []
         self.same: list[tuple[str, str]] = []
         self.counted: set[str] = set()
 
-    def counties(self, sources: Iterable[str], is_known: Callable[[str], bool] = lambda _: False) -> tuple[list[County], int]:
-        """The counties of all sources that aren't known, each once; and how many are known."""
+    def all(self, sources: Iterable[str]) -> list[County]:
+        """The counties of all sources. One may be there several times."""
+        return [county for source in sources for county in self.of_source(source)]
+
+    def once(self, counties: Iterable[County], is_known: Callable[[County], bool] = lambda _: False) -> tuple[list[County], int]:
+        """Of these counties those that aren't known, each once; and how many are known."""
         found: dict[str, County] = {}
         places: dict[str, str] = {}
         known: set[str] = set()
-        for source in sources:
-            for county in self.of_source(source):
-                if is_known(county.stem):
-                    known.add(county.stem)
-                    continue
-                # A name that its files have whichever links lead to them.
-                first = places.setdefault(real(county.places[0].place), county.stem) if county.places else county.stem
-                if first != county.stem and county.stem not in found:
-                    self.same.append((county.stem, first))
-                else:
-                    found.setdefault(county.stem, county)
+        for county in counties:
+            if is_known(county):
+                known.add(county.stem)
+                continue
+            # A name that its files have whichever links lead to them.
+            first = places.setdefault(real(county.places[0].place), county.stem) if county.places else county.stem
+            if first != county.stem and county.stem not in found:
+                self.same.append((county.stem, first))
+            else:
+                found.setdefault(county.stem, county)
         return list(found.values()), len(known)
 
+    def counties(self, sources: Iterable[str], is_known: Callable[[County], bool] = lambda _: False) -> tuple[list[County], int]:
+        """The counties of all sources that aren't known, each once; and how many are known."""
+        return self.once(self.all(sources), is_known)
+
     def of_source(self, source: str) -> Iterator[County]:
-        """The counties of a source: a folder, a glob, or the name of a county or of one of its files."""
+        """The counties of a source: a folder, the name of a county or of one of its files, or a glob. What has a glob as its name is
+        found by it."""
         path = tidy(source) or ("/" if source.startswith("/") else "")
         try:
             if not kind_of(path) and is_folder(path or "."):
@@ -72,89 +84,121 @@ class Finder:
         except Exception as error:
             yield County(folder, trouble=f"can't be listed: {reason(error)}")
             return
-        if folder not in self.counted:
-            self.counted.add(folder)
-            self.skipped.update(ending_of(each.name) for each in found if not each.is_folder and kind_of(each.name) not in KINDS)
-        for name, names in self.names(folder).items():
-            yield county_of(joined(folder, name), names)
+        for names in names_among(found).values():
+            yield county_of(folder, names)
+        for entry in found:
+            if not entry.is_folder and kind_of(entry.name) not in KINDS:
+                yield from self.whole(folder, entry)
+        self.counted.add(folder)
         for entry in found:
             if entry.is_folder:
                 yield from self.below(joined(folder, entry.name), seen)
 
+    def whole(self, folder: str, entry: Entry) -> Iterator[County]:
+        """The county of a file with all records, if its first line is one. Other files are noted as skipped, once."""
+        path = joined(folder, entry.name)
+        if has_records(path, entry):
+            yield whole_county(folder, entry)
+        elif folder not in self.counted and real(path) not in self.own_files:
+            self.skipped[ending_of(entry.name)] += 1
+            if not kind_of(entry.name):
+                self.without_records.append(path)
+
     def of_glob(self, pattern: str) -> Iterator[County]:
-        """The counties that a glob matches: folders with all that is in them, zips and single files."""
+        """The counties that a glob matches: folders with all that is in them, zips and files."""
         root, words = pattern, list[str]()
         while MAGIC.search(root):
             root, word = parted(root)
             words.insert(0, word)
         count = 0
-        for path, is_a_folder in self.matches(root, words):
-            if is_a_folder:
-                yield from self.below(path, set())
-            elif kind_of(path):
-                yield self.of_name(path)
+        for folder, entry in self.matches(root, words):
+            path = joined(folder, entry.name)
+            if entry.is_folder:
+                found = self.below(path, set())
             else:
-                self.skipped[ending_of(path)] += 1
-                continue
-            count += 1
+                found = iter([self.of_name(path)]) if kind_of(path) else self.whole(folder, entry)
+            for county in found:
+                count += 1
+                yield county
         if count == 0:
-            yield County(pattern, trouble="nothing matches this pattern", is_absent=True)
+            yield County(pattern, trouble="no county matches this pattern", is_absent=True)
 
-    def matches(self, folder: str, words: list[str]) -> Iterator[tuple[str, bool]]:
-        """What a glob matches below a folder, and whether it is a folder. Two stars match any folders, and none."""
+    def matches(self, folder: str, words: list[str]) -> Iterator[tuple[str, Entry]]:
+        """What a glob matches below a folder: the folder and the name in it. Two stars match any folders, and none."""
         word, rest = words[0], words[1:]
         if word == "**" and rest:
             yield from self.matches(folder, rest)
         for entry in self.entries(folder):
-            path = joined(folder, entry.name)
             if word == "**" and rest:
                 if entry.is_folder:
-                    yield from self.matches(path, words)
-            elif fnmatchcase(entry.name, word) and (word.startswith(".") or not entry.name.startswith(".")):
+                    yield from self.matches(joined(folder, entry.name), words)
+            elif entry.name == word or fnmatchcase(entry.name, word) and (word.startswith(".") or not entry.name.startswith(".")):
                 if not rest:
-                    yield path, entry.is_folder
+                    yield folder, entry
                 elif entry.is_folder:
-                    yield from self.matches(path, rest)
+                    yield from self.matches(joined(folder, entry.name), rest)
 
     def is_named(self, path: str) -> bool:
         """Whether a path with the letters of a glob is the name of something that is there."""
         folder, name = parted(path)
-        if MAGIC.search(folder):
-            return False
         try:
-            return parted(stem_of(path))[1] in self.names(folder)
+            return os.path.lexists(path) or folded(stem_of(name)) in names_among(self.by_key(folder).get(folded(stem_of(name)), []))
         except Exception:
             return False
 
-    def of_name(self, path: str) -> County:
-        """The county of this name, or the one that a file of this name belongs to."""
-        stem = stem_of(path)
-        folder, name = parted(stem)
-        names: Names = {}
+    def of_name(self, path: str, is_exact: bool = False) -> County:
+        """The county of this name, or the one that a file of this name belongs to. A county that isn't there may have been packed into
+        a zip, or written as one file with all records. An exact name of a zip isn't one of the single files beside it."""
+        folder, name = parted(path)
+        listed: list[Entry] = []
         try:
-            names = self.names(folder).get(name, {})
+            listed = self.entries(folder)
         except Exception as error:
             if not is_url(path) and not isinstance(error, FileNotFoundError):
                 return County(path, trouble=f"can't be read: {reason(error)}")
-        if is_url(path) and not names:  # a plain server of files can't list a folder
-            names = names_among(probed(stem)).get(name, {})
-        if names:
-            return county_of(stem, names)
-        if is_url(path) or not os.path.lexists(path):
-            absent = "no such file" if kind_of(path) and not is_url(path) else "no such file, folder or county"
-            return County(path, trouble=absent, is_absent=True)
-        if not os.path.isfile(path) or kind_of(path):
-            why = "one of a county's nine files" if os.path.isfile(path) else "a regular file"
-            return County(path, trouble=f"isn't {why}")
-        return County(path, whole=File(os.path.abspath(path), os.path.getsize(path)))  # one file with all records
+        if is_url(path) and not listed:  # a plain server of files can't list a folder
+            listed = list(probed(path))
+        by_key = self.by_key(folder) if listed and not is_url(path) else keyed(listed)
+        alike = [entry for key in dict.fromkeys((folded(stem_of(name)), key_of(name))) for entry in by_key.get(key, [])]
+        itself = [entry for entry in alike if entry.name == name]
+        names = names_among(itself if is_exact and kind_of(name) == "ZIP" and itself else alike)
+        if folded(stem_of(name)) in names:
+            return county_of(folder, names[folded(stem_of(name))])
+        if kind_of(name) and itself:
+            return County(path, trouble="isn't one of a county's nine files")
+        if itself and not itself[0].is_folder:
+            return whole_county(folder, itself[0])
+        if not kind_of(name):
+            if key_of(name) in names:
+                return county_of(folder, names[key_of(name)])
+            wholes = [
+                entry for entry in listed if key_of(entry.name) == key_of(name) and has_records(joined(folder, entry.name), entry)
+            ]
+            if len(wholes) > 1:
+                listing = ", ".join(entry.name for entry in wholes)
+                return County(path, trouble=f"there are {len(wholes)} files with all records: {listing}")
+            if wholes:
+                return whole_county(folder, wholes[0])
+        if os.path.lexists(path):
+            return County(path, trouble="isn't a regular file")
+        absent = "no such file" if kind_of(path) and not is_url(path) else "no such file, folder or county"
+        return County(path, trouble=absent, is_absent=True)
+
+
+def keyed(found: Iterable[Entry]) -> dict[str, list[Entry]]:
+    """The entries of a folder by their names without case and ending."""
+    groups: dict[str, list[Entry]] = {}
+    for entry in found:
+        groups.setdefault(key_of(entry.name), []).append(entry)
+    return groups
 
 
 def names_among(found: Iterable[Entry]) -> dict[str, Names]:
-    """The stems in a folder with these entries."""
+    """The counties in a folder with these entries, by their stems without case."""
     grouped: dict[str, Names] = {}
     for entry in found:
         if kind_of(entry.name) in KINDS and not entry.is_folder:
-            grouped.setdefault(stem_of(entry.name), {}).setdefault(kind_of(entry.name), []).append(entry)
+            grouped.setdefault(folded(stem_of(entry.name)), {}).setdefault(kind_of(entry.name), []).append(entry)
     return grouped
 
 
@@ -163,31 +207,55 @@ def ending_of(name: str) -> str:
     return ".tar.gz" if name.lower().endswith(".tar.gz") else os.path.splitext(name)[1] or "without an ending"
 
 
-def county_of(stem: str, names: Names) -> County:
-    """The county of what lies under a stem: its single files if there are any, else its zip."""
+def has_records(path: str, entry: Entry) -> bool:
+    """Whether a file that isn't one of a county's nine, nor a packed one of them, begins with a record."""
+    if entry.is_folder or entry.trouble or kind_of(entry.name) or kind_of(re.sub(r"(?i)\.gz$", "", entry.name)):
+        return False
+    try:
+        return is_record(first_line(path))
+    except Exception:
+        return False
+
+
+def placed(folder: str, entry: Entry) -> File:
+    path = joined(folder, entry.name)
+    return File(path if is_url(path) else os.path.abspath(path), entry.size)
+
+
+def whole_county(folder: str, entry: Entry) -> County:
+    """The county of one file with all records."""
+    path = joined(folder, entry.name)
+    trouble = entry.trouble or ("its name has a line break in it" if "\n" in path else "")
+    # The program would take /dev/stdin for another file.
+    return County(path, trouble=trouble) if trouble else County(path, whole=File(real(path), entry.size))
+
+
+def county_of(folder: str, names: Names) -> County:
+    """The county of files whose names differ only in their endings: the single files if there are any, else the zip."""
+    kinds = [kind for kind in TYPES if kind in names]
+    base = stem_of(names[kinds[0] if kinds else "ZIP"][0].name)
+    stem = joined(folder, base)
     if "\n" in stem:
         return County(stem, trouble="its name has a line break in it")
-    place, length = stem if is_url(stem) else os.path.abspath(stem), len(parted(stem)[1])
-    files, is_readable = {}, not is_url(stem)
-    listed = {kind: ", ".join(entry.name for entry in names[kind]) for kind in names}
-    for kind in [kind for kind in TYPES if kind in names] or ["ZIP"]:
+    files, listed = {}, {kind: ", ".join(entry.name for entry in names[kind]) for kind in names}
+    for kind in kinds or ["ZIP"]:
         entry, *others = names[kind]
         if others:
             what = "zips" if kind == "ZIP" else f"files of type {kind}"
             return County(stem, trouble=f"there are {1 + len(others)} {what}: {listed[kind]}")
         if entry.trouble:
             return County(stem, trouble=f"{entry.name} {entry.trouble}")
-        files[kind] = File(place + entry.name[length:], entry.size)
-        is_readable &= entry.name[length:] == f".RT{kind}"
+        files[kind] = placed(folder, entry)
     if "ZIP" in files:
         return County(stem, zip=files["ZIP"])
     notes = (f"its single files are read, and not {listed['ZIP']}",) if "ZIP" in names else ()
-    return County(stem, files, notes=notes, readable_stem=place if is_readable else None)
+    is_readable = not is_url(stem) and all(names[kind][0].name == f"{base}.RT{kind}" for kind in kinds)
+    return County(stem, files, notes=notes, readable_stem=os.path.abspath(stem) if is_readable else None)
 
 
-def probed(stem: str) -> Iterator[Entry]:
-    """The files of a stem that are there, each asked for by its name."""
-    for ending in (".ZIP", ".zip", *(f".RT{kind}" for kind in TYPES)):
-        system, path = system_of(stem + ending)
+def probed(path: str) -> Iterator[Entry]:
+    """The files of a county at a URL that are there, each asked for by its name."""
+    stem = stem_of(path)
+    for name in dict.fromkeys((path, *(stem + ending for ending in (".ZIP", ".zip", *(f".RT{kind}" for kind in TYPES))))):
         with suppress(Exception):
-            yield Entry(parted(stem + ending)[1], False, system.info(path).get("size"))
+            yield entry_of(name)

@@ -15,6 +15,7 @@ from typing import Any, Iterator, Optional, Sequence
 import tigercanon.judge
 
 from .errors import Failure, reason
+from .faults import Fault
 from .judge import Answer, County, Order, judge, judge_on_a_worker
 
 TICK = 0.5
@@ -90,7 +91,8 @@ class DaskEngine(Engine):
         """The result of a task. A county isn't blamed for a worker that ended unless this also happens to the county alone."""
         self.served_at = time.monotonic()
         try:
-            answer = Answer(*future.result())
+            kind, text, notes, faults = future.result()
+            answer = Answer(kind, text, notes, tuple(Fault(*each) for each in faults))
         except BaseException as error:
             name = type(error).__name__
             if name in SCHEDULER_ENDED:

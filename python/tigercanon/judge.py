@@ -6,22 +6,26 @@ are dataclasses, since a NamedTuple can't be sent like this.
 
 from __future__ import annotations
 
+import mmap
 import os
 import re
 import shutil
 import subprocess
 from contextlib import ExitStack
-from dataclasses import dataclass, field, replace
+from dataclasses import astuple, dataclass, field, replace
 from typing import Any, Iterable, Iterator, Mapping, Sequence
 
 from .errors import Unreadable, printable, reason
+from .faults import Fault, faults_of
 from .hints import hint
 from .layout import TYPES, file_name
 from .own import PROCESS, remove_stale_folders
-from .storage import fetch, is_url, members_of, opened_zip, pieces_of
+from .storage import fetch, is_packed, is_url, members_of, opened_zip, pieces_of, stamp, unpacked
 
-DIGITS = re.compile(rb"[0-9a-f]{64}\n")
+ANSWERS = {"fingerprint": re.compile(rb"[0-9a-f]{64}\n"), "check": re.compile(b"accepted\n")}
+"""What the program prints for a county that it accepts."""
 NEEDED_IN_STRICT_MODE = "12I"  # types whose file may not be empty in strict mode
+LARGEST = 2 * 10**9  # the bytes that a county may have after it is unpacked, if nothing else is asked for
 
 
 @dataclass(frozen=True)
@@ -52,6 +56,11 @@ class County:
         return [file for file in (self.zip, self.whole, *self.files.values()) if file]
 
     @property
+    def sources(self) -> str:
+        """The size and the time of each of its files, as they are now."""
+        return ", ".join(stamp(file.place) for file in self.places)
+
+    @property
     def size(self) -> int:
         """The bytes that its files take in the archive."""
         return sum(file.size or 0 for file in self.places)
@@ -62,18 +71,20 @@ class Order:
     program: str
     flags: tuple[str, ...] = ()
     is_strict: bool = False
-    largest: int = 2 * 10**9
+    largest: int = LARGEST
     memory: int | None = None
+    job: str = "fingerprint"
 
 
 @dataclass(frozen=True)
 class Answer:
-    """The result for a county. kind is "made" (text is the fingerprint), "refused" (text is the program's line, or says what strict
+    """The result for a county. kind is "made" (text is the fingerprint, or `accepted`), "refused" (text is the program's line, or says what strict
     mode rejects), "failed" (text says what is wrong with its files) or "memory" (it may not have fitted into memory)."""
 
     kind: str
     text: str
     notes: tuple[str, ...] = ()
+    faults: tuple[Fault, ...] = ()
 
 
 class Rejected(Exception):
@@ -92,6 +103,11 @@ class Source:
     def files(self) -> list[str]:
         """The files that are its parts, in their order."""
         return [file_name(self.place, kind) for kind in TYPES] if self.is_stem else [self.place]
+
+    @property
+    def names(self) -> list[str]:
+        """The user's names of these files."""
+        return [file_name(self.name, kind) for kind in TYPES] if self.is_stem else [self.name]
 
     def run(self, program: str, job: str, flags: Sequence[str], memory: int | None = None) -> subprocess.CompletedProcess[bytes]:
         return PROCESS.run([program, job, *["--stem"] * self.is_stem, *flags, "--", self.place], memory)
@@ -116,10 +132,11 @@ def judge(county: County, order: Order) -> Answer:
     try:
         with ExitStack() as stack:
             source = prepared(county, order, notes, stack)
-            ended = source.run(order.program, "fingerprint", order.flags, order.memory)
-            if ended.returncode == 0 and DIGITS.fullmatch(ended.stdout):
-                return Answer("made", ended.stdout[:64].decode(), tuple(notes))
+            ended = source.run(order.program, order.job, order.flags, order.memory)
+            if ended.returncode == 0 and ANSWERS[order.job].fullmatch(ended.stdout):
+                return Answer("made", ended.stdout[:-1].decode(), tuple(notes))
             line, *hints = source.complaint(ended)
+            faults = faults_of(line, source.files, source.names) if order.job == "check" else []
     except Rejected as rejected:
         return Answer("refused", str(rejected), tuple(notes))
     except Unreadable as failure:
@@ -131,37 +148,71 @@ def judge(county: County, order: Order) -> Answer:
     # Signals end a program that finds no memory in one way or another; a shell between reports them as a status over 128.
     lacks_memory = line.startswith("refused 9 ") or not 0 <= ended.returncode <= 128
     kind = "memory" if lacks_memory else "refused" if line.startswith("refused ") else "failed"
-    return Answer(kind, line, (*notes, *hints))
+    return Answer(kind, line, (*notes, *hints), tuple(faults))
 
 
 def prepared(county: County, order: Order, notes: list[str], stack: ExitStack) -> Source:
     """The set as the program reads it: the county's own files, links to them, copies, or what was in its zip. Notes which of the nine
-    files are missing or empty."""
+    files, or the records of which types, are missing."""
     if county.whole:
-        return Source(county.stem, local(county.whole, stack), is_stem=False)
-    unpacked: dict[str, Iterator[bytes]] = {}
+        return prepared_whole(county.stem, local(county.whole, stack), order, notes, stack)
+    pieces: dict[str, Iterator[bytes]] = {}
     sizes = {kind: file.size for kind, file in county.files.items()}
     if county.zip:
         archive = stack.enter_context(opened_zip(local(county.zip, stack)))
         members = members_of(archive)
-        unpacked = {kind: pieces_of(archive, member) for kind, member in members.items()}
+        pieces = {kind: pieces_of(archive, member) for kind, member in members.items()}
         sizes = {kind: member.file_size for kind, member in members.items()}
-    note_files(sizes, order, notes)
-    if county.readable_stem is not None:
-        return Source(county.stem, county.readable_stem, is_stem=True)
     size = sum(size or 0 for size in sizes.values())
     if county.zip and size > order.largest:
         raise Unreadable(f"the zip unpacks to {size} bytes, more than --largest {order.largest}")
+    if "" in pieces:
+        return prepared_whole(county.stem, copied(pieces[""], size, stack, order), order, notes, stack)
+    note_files(sizes, order, notes)
+    if county.readable_stem is not None and is_plain(county.readable_stem):
+        return Source(county.stem, county.readable_stem, is_stem=True)
     stem = stack.enter_context(PROCESS.place(size))
-    for kind, pieces in unpacked.items():
+    for kind, each in pieces.items():
         with open(file_name(stem, kind), "wb") as target:
-            target.writelines(pieces)
+            target.writelines(each)
     for kind, file in county.files.items():
         if is_url(file.place):
             fetch(file.place, file.size, file_name(stem, kind))
         else:
             os.symlink(file.place, file_name(stem, kind))
     return Source(county.stem, stem, is_stem=True)
+
+
+def prepared_whole(name: str, path: str, order: Order, notes: list[str], stack: ExitStack) -> Source:
+    """A file with all records as the program reads it: itself, a link, or a copy if gzip packed it."""
+    if is_packed(path):
+        path = copied(unpacked(path), os.path.getsize(path), stack, order)
+    note_records(path, order, notes)
+    if not is_plain(path):
+        link = stack.enter_context(PROCESS.place(0))
+        os.symlink(path, link)
+        path = link
+    return Source(name, path, is_stem=False)
+
+
+def copied(pieces: Iterator[bytes], size: int, stack: ExitStack, order: Order) -> str:
+    """A temporary file with these bytes, which may be more than the size at which they are announced. Raises Unreadable if they are more
+    than the order allows."""
+    place, left = stack.enter_context(PROCESS.place(size)), order.largest
+    with open(place, "wb") as target:
+        for piece in pieces:
+            left -= target.write(piece)
+            if left < 0:
+                raise Unreadable(f"it unpacks to more than --largest {order.largest} bytes")
+    return place
+
+
+def is_plain(path: str) -> bool:
+    """Whether the program takes this name: it is UTF-8."""
+    try:
+        return bool(path.encode())
+    except UnicodeEncodeError:
+        return False
 
 
 def local(file: File, stack: ExitStack) -> str:
@@ -188,11 +239,31 @@ def note_files(sizes: Mapping[str, int | None], order: Order, notes: list[str]) 
         notes.append(f"empty {endings(reported)}")
 
 
+def note_records(path: str, order: Order, notes: list[str]) -> None:
+    """Notes that a file with all records is empty. In strict mode it notes of which types there is no record, and raises Rejected if one
+    of them is needed."""
+    missing = types_missing(path) if order.is_strict else []
+    if any(kind in NEEDED_IN_STRICT_MODE for kind in missing):
+        raise Rejected(f"rejected by --strict: no records of type {' '.join(missing)}")
+    if missing:
+        notes.append(f"no records of type {' '.join(missing)}")
+    elif os.path.getsize(path) == 0:
+        notes.append("the file is empty")
+
+
+def types_missing(path: str) -> list[str]:
+    """The record types of which a file has no line."""
+    if os.path.getsize(path) == 0:
+        return [*TYPES]
+    with open(path, "rb") as file, mmap.mmap(file.fileno(), 0, access=mmap.ACCESS_READ) as text:
+        return [kind for kind in TYPES if text[:1] != kind.encode() and text.find(f"\n{kind}".encode()) < 0]
+
+
 def endings(kinds: Iterable[str]) -> str:
     return " ".join(f".RT{kind}" for kind in kinds)
 
 
-def judge_on_a_worker(county: tuple[Any, ...], order: tuple[Any, ...]) -> tuple[str, str, tuple[str, ...]]:
+def judge_on_a_worker(county: tuple[Any, ...], order: tuple[Any, ...]) -> tuple[Any, ...]:
     """Judges a county on a worker, by the program at the client's path or the one on the worker's PATH. Both come as the plain
     tuples that `astuple` makes: the client's classes aren't known to workers."""
     remove_stale_folders()
@@ -200,9 +271,9 @@ def judge_on_a_worker(county: tuple[Any, ...], order: tuple[Any, ...]) -> tuple[
     program = shutil.which(named.program) or shutil.which("tigercanon")
     if program is None:
         why = f"there is no {named.program}, and no tigercanon on its PATH"
-        return "lost", f"a worker has no program: {why}", ()
+        return "lost", f"a worker has no program: {why}", (), ()
     stem, files, whole, packed, *rest = county
     singles = {kind: File(*file) for kind, file in files.items()}
     there = County(stem, singles, whole and File(*whole), packed and File(*packed), *rest)
     answer = judge(there, replace(named, program=program))
-    return answer.kind, answer.text, answer.notes
+    return answer.kind, answer.text, answer.notes, tuple(map(astuple, answer.faults))

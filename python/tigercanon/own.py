@@ -14,12 +14,15 @@ import time
 from contextlib import ExitStack, contextmanager, suppress
 from functools import partial
 from pathlib import Path
-from typing import Callable, Iterable, Iterator, Sequence, TypeVar
+from typing import Callable, Iterable, Iterator, Protocol, Sequence, TypeVar
 
 from .errors import Failure, reported
+from .inputs import Inputs
+from .layout import TYPES, file_name
 from .program import TUNABLES
 
-PREFIX = "tigercanon-"
+PREFIX, SUFFIX = "tigercanon-", ".tmp"
+COUNTY = "county"  # the name of a file in a folder of a run, or the stem of nine
 VARIABLE = "TIGERCANON_SHM"
 IN_MEMORY = "/dev/shm"  # the folder in memory, if the variable doesn't name another one; an empty variable means none
 SPARE = 64 << 20  # folders are made in memory only if this many bytes stay free there
@@ -73,9 +76,9 @@ class Own:
         room, fits = os.environ.get(VARIABLE, IN_MEMORY), False
         with suppress(OSError):
             fits = bool(room) and shutil.disk_usage(room).free >= size + SPARE
-        make = partial(tempfile.mkdtemp, prefix=PREFIX, dir=room if fits else None)
+        make = partial(tempfile.mkdtemp, SUFFIX, PREFIX, room if fits else None)
         with self.kept(make, remove) as folder, locked(folder, fcntl.LOCK_EX):
-            yield f"{folder}/county"
+            yield f"{folder}/{COUNTY}"
 
     def end(self) -> None:
         """Ends the processes and removes the folders. Nothing can be started or made afterwards."""
@@ -115,21 +118,43 @@ def remove(path: str) -> None:
 
 
 def remove_stale_folders() -> None:
-    """Removes the folders of runs that were killed."""
+    """Removes the folders of runs that were killed. A folder in which anything else lies is the user's."""
+    ours = {COUNTY, *(file_name(COUNTY, kind) for kind in TYPES)}
     for room in filter(None, {os.environ.get(VARIABLE, IN_MEMORY), tempfile.gettempdir()}):
-        for path in Path(room).glob(f"{PREFIX}*"):
+        for path in Path(room).glob(f"{PREFIX}*{SUFFIX}"):
             with suppress(OSError):  # a run may hold it
                 status = path.lstat()
-                if status.st_uid == os.geteuid() and time.time() - status.st_mtime >= STALE:
+                if status.st_uid == os.geteuid() and time.time() - status.st_mtime >= STALE and ours.issuperset(os.listdir(path)):
                     with locked(str(path), fcntl.LOCK_EX | fcntl.LOCK_NB):
                         remove(str(path))
+
+
+class Writable(Protocol):
+    """What a page, GeoJSON or a table is written to."""
+
+    def write(self, text: bytes) -> None:
+        ...
+
+
+class Kept:
+    """A text that is kept until all is well, and then goes to standard output."""
+
+    def __init__(self) -> None:
+        self.pieces: list[bytes] = []
+
+    def write(self, text: bytes) -> None:
+        self.pieces.append(text)
+
+
+STANDARD_OUTPUT = ("-", "/dev/stdout", "/dev/fd/1", "/proc/self/fd/1")
 
 
 class NewFile:
     """A file beside the one whose place it takes when it is whole."""
 
-    def __init__(self, name: str) -> None:
-        self.name, self.place = name, os.path.realpath(name)
+    def __init__(self, name: str, inputs: Inputs) -> None:
+        inputs.spare_all([name])
+        self.name, self.place, self.inputs = name, os.path.realpath(name), inputs
         folder, base = os.path.split(self.place)
         self.path = os.path.join(folder, f".{base[:200]}.{os.getpid()}.part")
         self.mode: int | None = None
@@ -145,6 +170,21 @@ class NewFile:
         with reported(self.name):
             self.file.write(text)
 
+    def finish(self) -> None:
+        """All of the text is on the disk from now on."""
+        with reported(self.name):
+            self.file.flush()
+            if self.mode is not None:
+                os.fchmod(self.file.fileno(), stat.S_IMODE(self.mode))
+            os.fsync(self.file.fileno())
+            self.file.close()
+
+    def take_place(self) -> None:
+        """The place may lead to another file than in the beginning."""
+        self.inputs.spare(self.name, self.place)
+        with reported(self.name):
+            os.replace(self.path, self.place)
+
     def discard(self) -> None:
         """Leaves nothing behind. A file that has taken its place stays."""
         with suppress(OSError):
@@ -154,19 +194,14 @@ class NewFile:
 
 
 @contextmanager
-def new_files(names: Iterable[str]) -> Iterator[dict[str, NewFile]]:
+def new_files(names: Iterable[str], inputs: Inputs) -> Iterator[dict[str, NewFile]]:
     """Files to be written, by their names, which take the places of these names when all are whole, and have the modes of the files
-    before them. If anything goes wrong, a signal for example, there are none of them, and what had these names is as it was."""
+    before them. If anything goes wrong, a signal for example, there are none of them, and what had these names is as it was. Raises
+    Failure if one of them is an input."""
     with ExitStack() as stack:
-        files = {name: stack.enter_context(PROCESS.kept(partial(NewFile, name), NewFile.discard)) for name in names}
+        files = {name: stack.enter_context(PROCESS.kept(partial(NewFile, name, inputs), NewFile.discard)) for name in names}
         yield files
         for file in files.values():
-            with reported(file.name):
-                file.file.flush()
-                if file.mode is not None:
-                    os.fchmod(file.file.fileno(), stat.S_IMODE(file.mode))
-                os.fsync(file.file.fileno())
-                file.file.close()
+            file.finish()
         for file in files.values():
-            with reported(file.name):
-                os.replace(file.path, file.place)
+            file.take_place()

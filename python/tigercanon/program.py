@@ -2,6 +2,7 @@
 
 from __future__ import annotations
 
+import functools
 import os
 import shutil
 import subprocess
@@ -13,31 +14,53 @@ from .errors import Failure, reason
 
 VARIABLE = "TIGERCANON"
 PACKAGE = Path(__file__).resolve().parent
-BUILT = "crates/tigercanon_main/out/tigercanon_main"
 ADVICE = "run ./tigercanon once, which builds it, or name one with --program"
 # Settings that make the program faster, unless the user has others: its memory lies in large pages, and what it frees is used again.
 TUNABLES = "glibc.malloc.hugetlb=1:glibc.malloc.mmap_threshold=8589934592:glibc.malloc.trim_threshold=17179869184"
 
 
 def find_program(named: str | None = None) -> str:
-    """The program that the option or the variable names, else the built one of the clone or release, else that on the PATH. In a clone
-    where sources were edited since it was built, ./tigercanon builds it again first. Raises Failure if there is none."""
+    """The program that the option or the variable names, else that of the clone or release, else the one beside this package or on the
+    PATH. In a clone it is the one that ./tigercanon runs, which builds it first if it must. The current folder isn't searched. Raises
+    Failure if there is none."""
     given, root = named or os.environ.get(VARIABLE), PACKAGE.parent.parent
     if given:
         return checked(given)
-    if (root / "scripts/launch").is_file() and (root / BUILT).is_file():
-        run_once(str(root / "tigercanon"))
-        return str(root / BUILT)
-    beside = (PACKAGE / "bin", root / "bin", Path(sysconfig.get_path("scripts")), Path(sys.argv[0]).resolve().parent)
-    found = next(filter(None, (shutil.which("tigercanon", path=str(folder)) for folder in beside)), shutil.which("tigercanon"))
+    if (root / "scripts/launch").is_file():
+        program = launched(root)
+        if not program:
+            raise Failure(f"there is no program tigercanon here: {ADVICE}")
+        return checked(program)
+    command = Path(sys.argv[0])
+    beside = [
+        PACKAGE / "bin",
+        root / "bin",
+        Path(sysconfig.get_path("scripts")),
+        *([command.resolve().parent] if command.is_file() else []),
+    ]
+    found = next(filter(None, (shutil.which("tigercanon", path=str(folder)) for folder in beside)), on_path("tigercanon"))
     if not found:
         raise Failure(f"there is no program tigercanon here: {ADVICE}")
     return checked(found)
 
 
+@functools.lru_cache(maxsize=None)
+def launched(root: Path) -> str:
+    """The program of a clone, or nothing, and then the reason was reported. If it has to be built first, that is reported too."""
+    words = [str(root / "scripts/launch"), "--program", str(root)]
+    ended = subprocess.run(words, stdin=subprocess.DEVNULL, stdout=subprocess.PIPE)
+    return os.fsdecode(ended.stdout).rstrip("\n") if ended.returncode == 0 else ""
+
+
+def on_path(name: str) -> str | None:
+    """A program in the folders of the PATH, or at a path. The current folder and those below it are left out of the PATH."""
+    folders = os.pathsep.join(filter(os.path.isabs, os.environ.get("PATH", os.defpath).split(os.pathsep)))
+    return shutil.which(name, path=folders) if "/" in name or folders else None
+
+
 def checked(name: str) -> str:
     """The program's path, if it runs."""
-    path = shutil.which(name)
+    path = on_path(name)
     if path is None:
         why = "it isn't executable" if os.path.exists(name) else "no such file"
         raise Failure(f"the program {name} can't be run: {why}")
@@ -54,3 +77,12 @@ def run_once(path: str) -> None:
         raise Failure(f"the program {path} can't be run: {reason(error)}") from None
     if ended.returncode != 0:
         raise Failure(f"the program {path} can't be run: it ended with status {ended.returncode}")
+
+
+def is_unproved(path: str) -> bool:
+    """Whether the program was compiled without a proof: its version ends with that word."""
+    try:
+        ended = subprocess.run([path, "--version"], stdin=subprocess.DEVNULL, stdout=subprocess.DEVNULL, stderr=subprocess.PIPE)
+    except OSError:
+        return False
+    return (ended.stderr.splitlines() or [b""])[0].endswith(b"-unproved")

@@ -19,20 +19,26 @@ LOCK = threading.Lock()  # keeps lines whole: it is held while one is printed
 
 def print_lines(lines: Iterable[str]) -> None:
     """Prints lines on standard output. Raises BrokenPipeError if the reader is gone, and Failure if it can't be written."""
-    text = os.fsencode("".join(f"{line}\n" for line in lines))
+    print_bytes(os.fsencode("".join(f"{line}\n" for line in lines)))
+
+
+def print_bytes(text: bytes) -> None:
+    """Prints a text on standard output, with the same errors."""
+    if text and sys.stdout is None:
+        raise Failure("standard output: can't be written: it is closed")
     try:
         if text:
             sys.stdout.buffer.write(text)
             sys.stdout.buffer.flush()
     except BrokenPipeError:
         raise
-    except (OSError, AttributeError) as error:
+    except OSError as error:
         raise Failure(f"standard output: can't be written: {reason(error)}") from None
 
 
-def print_json(rows: Any) -> None:
-    """Prints a list as JSON on standard output, with the same errors."""
-    print_lines([json.dumps(rows, indent=1)])
+def as_json(row: Any) -> str:
+    """A value as JSON, on one line."""
+    return json.dumps(row, ensure_ascii=True)
 
 
 def report(text: str) -> None:
@@ -98,7 +104,11 @@ class Tally:
 
     def progress(self, took: float) -> str:
         """How far the run has come, at what rate, and how long the rest will take at this rate."""
-        words = [f"{self.ended:,} of {self.counties:,} counties", f"{amount(self.bytes)} of {amount(self.bytes_in_all)}"]
+        words = [f"{self.ended:,} of {self.counties:,} counties"]
+        if not self.bytes_in_all:
+            rest = took * (self.counties - self.ended) / self.ended if self.ended else 0
+            return ", ".join([*words, *([f"{duration(rest)} left"] if rest else [])])
+        words.append(f"{amount(self.bytes)} of {amount(self.bytes_in_all)}")
         rate = self.bytes / took if took > 0 else 0
         if rate > 0:
             words += [f"{amount(int(rate))} a second", f"{duration((self.bytes_in_all - self.bytes) / rate)} left"]

@@ -3,22 +3,31 @@
 from __future__ import annotations
 
 import errno
+import gzip
+import io
 import os
 import time
 import zipfile
-from typing import Any, Iterator, NamedTuple
+import zlib
+from contextlib import suppress
+from dataclasses import dataclass
+from datetime import datetime, timezone
+from typing import Any, Iterator
 
 from .errors import Failure, Unreadable, reason
-from .layout import TYPES, kind_of, stem_of
+from .layout import TYPES, is_record, kind_of, stem_of
 
 PAUSES = (0.5, 2.0)  # seconds between the three attempts to read a file at a URL
 NO_ROOM = (errno.ENOSPC, errno.EDQUOT, errno.EFBIG)
 END_OF_DIRECTORY = b"PK\5\6"
 LONGEST_END = 65557
 PIECE = 1 << 20
+GZIP = b"\x1f\x8b"
+LONGEST_LINE = 240
 
 
-class Entry(NamedTuple):
+@dataclass(frozen=True)
+class Entry:
     """A name in a folder, and the size of a file if the store reports it. trouble says why it can't be read as a file."""
 
     name: str
@@ -60,6 +69,46 @@ def entries(folder: str) -> list[Entry]:
     else:
         found = [local_entry(item) for item in os.scandir(folder or ".")]
     return sorted(found, key=lambda entry: os.fsencode(entry.name))
+
+
+def entry_of(url: str) -> Entry:
+    """The file at a URL. Raises what fsspec raises, or OSError if it isn't a file."""
+    system, path = system_of(url)
+    found = system.info(path)
+    if found.get("type") == "directory":
+        raise IsADirectoryError(url)
+    return Entry(parted(url)[1], False, found.get("size"))
+
+
+def stamp(path: str) -> str:
+    """The size of a file and the time of its last change, with nanoseconds. A question mark or a hyphen stands for what isn't known."""
+    size, time_of_change = "?", "-"
+    with suppress(Exception):
+        if is_url(path):
+            system, inner = system_of(path)
+            found = system.info(path=inner)
+            known = (found.get(key) for key in ("mtime", "LastModified", "last_modified", "created"))
+            size, time_of_change = str(found.get("size", "?")), str(next(filter(None, known), "-")).replace(" ", "T")
+        else:
+            status = os.stat(path)
+            seconds, rest = divmod(status.st_mtime_ns, 10**9)
+            moment = datetime.fromtimestamp(seconds, timezone.utc).strftime("%Y-%m-%dT%H:%M:%S")
+            size, time_of_change = str(status.st_size), f"{moment}.{rest:09}Z"
+    return f"{size} {time_of_change}"
+
+
+def first_line(path: str) -> bytes:
+    """The first line of a file, which may be packed by gzip: at most 240 bytes of it. Raises OSError, or what fsspec raises."""
+    if is_url(path):
+        system, inner = system_of(path)
+        head = bytes(system.cat_file(inner, 0, PIECE >> 4))
+    else:
+        with open(path, "rb") as file:
+            head = file.read(PIECE >> 4)
+    if head.startswith(GZIP):
+        with suppress(EOFError), gzip.open(io.BytesIO(head)) as packed:
+            head = packed.read(LONGEST_LINE)
+    return head[:LONGEST_LINE].partition(b"\n")[0].rstrip(b"\r")
 
 
 def local_entry(item: os.DirEntry[str]) -> Entry:
@@ -126,12 +175,15 @@ def opened_zip(path: str) -> zipfile.ZipFile:
 
 
 def members_of(archive: zipfile.ZipFile) -> dict[str, zipfile.ZipInfo]:
-    """The files of the one county in a zip by their types, in either case of their names. Raises Unreadable."""
+    """The files of the one county in a zip by their types, in either case of their names; or the one file with all records, by no type.
+    Raises Unreadable."""
     counties: dict[str, dict[str, list[zipfile.ZipInfo]]] = {}
     for member in archive.infolist():
         kind = kind_of(member.filename)
         if kind in [*TYPES]:
             counties.setdefault(stem_of(member.filename).upper(), {}).setdefault(kind, []).append(member)
+    if not counties:
+        counties = {member.filename: {"": [member]} for member in archive.infolist() if begins_with_a_record(archive, member)}
     if not counties:
         raise Unreadable("the zip has no county in it")
     if len(counties) > 1:
@@ -143,7 +195,15 @@ def members_of(archive: zipfile.ZipFile) -> dict[str, zipfile.ZipInfo]:
             raise Unreadable(f"the zip has {len(found)} files .RT{kind}")
         if found[0].flag_bits & 1:
             raise Unreadable("the zip is locked with a password")
-    return {kind: members[kind][0] for kind in TYPES if kind in members}
+    return {kind: members[kind][0] for kind in ["", *TYPES] if kind in members}
+
+
+def begins_with_a_record(archive: zipfile.ZipFile, member: zipfile.ZipInfo) -> bool:
+    if member.is_dir() or kind_of(member.filename) or member.flag_bits & 1:
+        return False
+    with suppress(Unreadable):
+        return is_record(next(pieces_of(archive, member), b"")[:LONGEST_LINE].partition(b"\n")[0].rstrip(b"\r"))
+    return False
 
 
 def pieces_of(archive: zipfile.ZipFile, member: zipfile.ZipInfo) -> Iterator[bytes]:
@@ -164,3 +224,20 @@ def pieces_of(archive: zipfile.ZipFile, member: zipfile.ZipInfo) -> Iterator[byt
         raise Unreadable(f"the zip is broken at {name}") from None
     if left != 0:
         raise Unreadable(f"the zip is broken at {name}")
+
+
+def unpacked(path: str) -> Iterator[bytes]:
+    """The bytes of a file that gzip packed. Raises Unreadable if they can't be unpacked."""
+    try:
+        with gzip.open(path) as source:
+            while piece := source.read(PIECE):
+                yield piece
+    except (MemoryError, GeneratorExit):
+        raise
+    except (EOFError, OSError, zlib.error) as error:
+        raise Unreadable(f"can't be unpacked: {reason(error)}") from None
+
+
+def is_packed(path: str) -> bool:
+    with open(path, "rb") as file:
+        return file.read(2) == GZIP

@@ -12,7 +12,7 @@ from maps import FILE, Chain, County, Landmark, Point, Polygon, written
 from support import put
 from testing import script
 
-from tigercanon.differences.columns import CHAIN
+from tigercanon.diff.columns import CHAIN
 
 SUBJECTS = ("chain", "landmark", "polygon")
 MAKER = script("tools/make-county")
@@ -65,7 +65,7 @@ class Changing:
         told = Counter((difference.what, difference.kind) for difference in self.differences)
         for what in SUBJECTS:
             things: Sequence[object] = getattr(self.before, f"{what}s")
-            told[what, "alike"] = len(things) - told[what, "in the first alone"] - told[what, "changed"]
+            told[what, "alike"] = len(things) - told[what, "only in the first"] - told[what, "changed"]
         return told
 
     def some(self, things: list[T], count: int) -> list[T]:
@@ -98,7 +98,7 @@ class Changing:
     def add_name(self, name: str) -> int:
         """A name that only the second map has."""
         self.county.names.append({"FILE": FILE, "FENAME": name})
-        self.names.append(("in the second alone", name))
+        self.names.append(("only in the second", name))
         return len(self.county.names) - 1
 
 
@@ -140,13 +140,13 @@ def change_chains(changing: Changing) -> None:
         chain.left = changing.chance.choice(sorted(others))
         changing.tell("changed", chain, "right polygon" if is_turned(chain) else "left polygon")
     for chain in changing.chains(15):
-        changing.tell("in the first alone", chain)
+        changing.tell("only in the first", chain)
         changing.county.chains.remove(chain)
     for chain in changing.chains(20):
-        changing.tell("in the first alone", chain)
+        changing.tell("only in the first", chain)
         longitude, latitude = chain.points[-1]
         chain.points[-1] = (longitude + 131, latitude - 57)
-        changing.tell("in the second alone", chain)
+        changing.tell("only in the second", chain)
     for count, name, value in ((25, "FENAME", "Changed"), (6, "ZIPL", "36111"), (4, "BLOCKR", "9876")):
         changing.change_field(count, name, value)
     further = changing.add_name("Chang\xe9d Name")
@@ -170,7 +170,7 @@ def add_courts(changing: Changing) -> None:
         court = Chain(fields, points, chain.start, end, chain.left, chain.left, link=dict(chain.link))
         changing.county.chains.append(court)
         changing.touched.add(id(court))
-        changing.tell("in the second alone", court)
+        changing.tell("only in the second", court)
 
 
 def change_polygons(changing: Changing) -> None:
@@ -188,10 +188,10 @@ def change_landmarks(changing: Changing) -> None:
         landmark.fields["LANAME"] = landmark.fields["LANAME"][:24] + " Annex"
         changing.tell("changed", landmark, "LANAME")
     for landmark in changing.landmarks(2):
-        changing.tell("in the first alone", landmark)
+        changing.tell("only in the first", landmark)
         changing.county.landmarks.remove(landmark)
     for number in range(3):
         fields = {"FILE": FILE, "SOURCE": "L", "CFCC": "D57", "LANAME": f"Air Field {number}"}
         landmark = Landmark(fields, (-86_470_001 - 977 * number, 32_461_003 + 613 * number))
         changing.county.landmarks.append(landmark)
-        changing.tell("in the second alone", landmark)
+        changing.tell("only in the second", landmark)

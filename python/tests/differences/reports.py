@@ -14,7 +14,7 @@ from .changes import SUBJECTS, Difference, Place
 
 EXAMPLE = ROOT / "examples/two-maps"
 LEAFLET = Path("/usr/share/javascript/leaflet")
-KINDS = ("in the first alone", "in the second alone", "changed")
+KINDS = ("only in the first", "only in the second", "changed")
 
 Feature = dict[str, Any]
 

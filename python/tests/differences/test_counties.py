@@ -13,7 +13,7 @@ from maps import FILE, Landmark, Point, written
 from support import packed, put
 from testing import run
 
-from tigercanon.differences.words import TIED
+from tigercanon.diff.words import TIED
 
 from .changes import SUBJECTS, Changing, made_county, much_changed, split_maps
 from .reports import EXAMPLE, KINDS, LEAFLET, Feature, diff, differing, example_differences, features_in, in_words
@@ -142,7 +142,9 @@ def test_numbers(files: Files, all_features: Path, room: Path) -> None:
     differing("--geojson", "geojson", "--no-sources", "--no-reserved", *files)
     assert seen(room / "geojson", files) < wanted
     put("first.zip", packed({"TGR01001.RT1": files[0].read_bytes()}))
-    differing("--geojson", "geojson", "--all", "first.zip", files[1])
+    assert diff("--geojson", "geojson", "--all", "first.zip", files[1]).lines == [
+        "first.zip: no .RT2 .RT4 .RT5 .RT6 .RT7 .RT8 .RTI .RTP"
+    ]
     assert seen(room / "geojson", files) == wanted
 
 

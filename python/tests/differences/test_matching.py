@@ -2,21 +2,25 @@
 agree with docs/format.md."""
 
 import copy
+import io
+import json
 import re
+from html.parser import HTMLParser
 from typing import Any, Callable, Optional
 
 import pytest
 from maps import Chain, County, Landmark, Polygon, turned, written
 from testing import ROOT
 
-from tigercanon.differences import page
-from tigercanon.differences.columns import CHAIN, LANDMARK, LENGTHS, LINK, NAME, POLYGON, RANGE
-from tigercanon.differences.fields import decimal, degrees
-from tigercanon.differences.matching import Comparison, compare
-from tigercanon.differences.reading import NotCanonical, read_county
-from tigercanon.differences.sets import Canonical, Sets
-from tigercanon.differences.words import Thing, things
-from tigercanon.differences.words import ONE_MAP, TIED, told
+from tigercanon.diff import page
+from tigercanon.diff.columns import CHAIN, LANDMARK, LENGTHS, LINK, NAME, POLYGON, RANGE
+from tigercanon.diff.fields import Pair, decimal, degrees
+from tigercanon.diff.geojson import features
+from tigercanon.diff.matching import Comparison, compare
+from tigercanon.diff.reading import NotCanonical, read_county
+from tigercanon.diff.sets import Canonical, Sets
+from tigercanon.diff.words import Thing, things
+from tigercanon.diff.words import ONE_MAP, TIED, told
 
 from .changes import made_county
 
@@ -142,6 +146,60 @@ def test_own_reverse() -> None:
     assert differing_fields(thing) == [("FENAME", "Main", "Maple")]
 
 
+@pytest.mark.parametrize(
+    "change, wanted",
+    [
+        (lambda chain: setattr(chain, "start", None), {"start_node": (True, False)}),
+        (lambda chain: setattr(chain, "right", None), {"right_polygon": (f"at {EAST}", None)}),
+        (lambda chain: chain.ranges.append({"ZIPL": "36067"}), {"range_1": (False, True), "ZIPL_of_range_1": (None, "36067")}),
+        (lambda chain: chain.fields.update(FENAME=""), {"FENAME": ("Main", None)}),
+    ],
+)
+def test_values_in_geojson(change: Callable[[Chain], object], wanted: dict[str, Pair[object]]) -> None:
+    """Whether something is there is true or false, and a field that is blank or isn't there is null."""
+    first = two_sided(chain_between([(1, 1), (2, 5), (9, 9)]))
+    ((_, found),) = features(compared(first, after(first, lambda county: change(county.chains[0]))), ({}, {}))
+    for name, (one, other) in wanted.items():
+        assert (repr(found.get(f"first_{name}")), repr(found[f"second_{name}"])) == (repr(one), repr(other))
+
+
+class PageReader(HTMLParser):
+    """The tags of a page, and the texts in some of them."""
+
+    def __init__(self, text: str) -> None:
+        super().__init__()
+        self.tags: list[str] = []
+        self.texts: dict[str, str] = {}
+        self.inside = ""
+        self.feed(text)
+
+    def handle_starttag(self, tag: str, attributes: list[tuple[str, Optional[str]]]) -> None:
+        self.tags.append(tag)
+        given = dict(attributes)
+        self.inside = given.get("class") or given.get("id") or tag if tag != "span" else self.inside
+
+    def handle_data(self, data: str) -> None:
+        self.texts[self.inside] = self.texts.get(self.inside, "") + data
+
+
+def test_names_in_a_page() -> None:
+    """Names of files and of features are shown as they are, whatever letters are in them."""
+    pages = []
+    for name, other in (("one", "other"), ("</title><b>&amp;'\"/<!--", "a<script>/@@data@@&lt;")):
+        first = two_sided(chain_between([(1, 1), (2, 5), (9, 9)]))
+        second = after(first, lambda county: county.chains[0].fields.update(FENAME=f"</script>{other}"[:30]))
+        sets = Sets(Canonical(name, written(first)), Canonical(other, written(second)))
+        made = io.BytesIO()
+        page.write_page(made, compared(first, second), sets, page.Leaflet("", "", ("", "")))
+        read = PageReader(made.getvalue().decode())
+        assert read.texts["title"].strip() == f"Differences between {name} and {other}"
+        assert read.texts["name"] == name + other
+        assert json.loads(read.texts["data"])["entries"][0]["title"] == "Main (A41)"
+        assert f"</script>{other}"[:30] in json.dumps(json.loads(read.texts["data"]), ensure_ascii=False)
+        pages.append([tag for tag in read.tags if tag != "span"])
+    assert pages[0] == pages[1]
+
+
 def test_names() -> None:
     county = made_county(40, 1)
     other = after(county, lambda county: county.names.append({"FENAME": "Unused"}))
@@ -210,7 +268,7 @@ def test_too_many_fields(monkeypatch: pytest.MonkeyPatch) -> None:
         ("chains", "start", 7, "one node in the one, 2 in the other:", "start of Main (A41), 0.000001° N, 0.000001° E"),
         ("chains", "right", 2, "one polygon in the one, 2 in the other:", "right side of Main (A41)"),
         ("chains", "names", [0], "one feature name in the other, 2 in the one:", "further name 1 of Main (A41)"),
-        ("landmarks", "polygons", [1], TIED, ""),
+        ("landmarks", "polygons", [1], "one polygon in the one, 2 in the other:", "polygon 1 of Park"),
     ],
 )
 def test_ties(what: str, name: str, value: Any, told: str, place: str) -> None:

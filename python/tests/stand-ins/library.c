@@ -1,22 +1,29 @@
 /* A stand-in for the library, for what the module does by itself: it echoes what it was lent.
  *
  * The parts of a set are joined by '|'. A set that begins with "fault" is refused: it goes on with the fault's number, set, record
- * type, CENID in hexadecimal and three numbers. One that is "sleep" takes half a second, and one that is "large" is answered by 70 MB.
+ * type, CENID in hexadecimal and three numbers. With the set 3, compare reports the one that has the fault. A set that is "sleep" takes
+ * half a second, and one that is "large" is answered by 70 MB. Of a part of 1 MiB and more its length and its last byte are echoed.
  */
 #include <tigercanon.h>
 
 #include <string.h>
 #include <unistd.h>
 
+static bool is_large(const struct tigercanon_part *part) { return part->length >> 20 > 0; }
+
 static char *joined(const struct tigercanon_part *parts, size_t count, size_t *length)
 {
     size_t i, size = 0;
     char *text, *end;
-    for (i = 0; i < count; i++) size += parts[i].length + 1;
+    for (i = 0; i < count; i++) size += is_large(&parts[i]) ? 40 : parts[i].length + 1;
     end = text = malloc(size + 1);
     for (i = 0; i < count; i++) {
-        memcpy(end, parts[i].bytes, parts[i].length);
-        end += parts[i].length;
+        if (is_large(&parts[i])) {
+            end += sprintf(end, "%zu to %c", parts[i].length, parts[i].bytes[parts[i].length - 1]);
+        } else {
+            memcpy(end, parts[i].bytes, parts[i].length);
+            end += parts[i].length;
+        }
         *end++ = '|';
     }
     if (count > 0) end--;
@@ -114,9 +121,12 @@ uint8_t tigercanon_compare(const struct tigercanon_part *first, size_t first_cou
 {
     size_t one_length, other_length;
     char *one, *other;
-    uint8_t status = judged(first, first_count, fault);
-    if (status == TIGERCANON_DONE) status = judged(second, second_count, fault);
-    if (status != TIGERCANON_DONE) return status;
+    uint8_t set = 1, status = judged(first, first_count, fault);
+    if (status == TIGERCANON_DONE) status = judged(second, second_count, fault), set = 2;
+    if (status != TIGERCANON_DONE) {
+        if (fault->set == 3) fault->set = set;
+        return status;
+    }
     one = joined(first, first_count, &one_length);
     other = joined(second, second_count, &other_length);
     /* With both flags everything is the same, and with one nothing is. */

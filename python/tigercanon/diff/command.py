@@ -6,17 +6,20 @@ import gc
 import json
 import os
 import threading
+from typing import Callable, NamedTuple, Sequence
 
 from ..errors import Failure, printable
-from ..manifest import flags_of
-from ..own import new_files
+from ..inputs import Inputs
+from ..manifests import flags_of
+from ..judge import County
+from ..own import STANDARD_OUTPUT, Kept, new_files
 from ..program import find_program
-from ..progress import print_lines, report
+from ..progress import print_bytes, print_lines, report
 from .geojson import BothOwn, features, head, write_geojson
 from .matching import Comparison, compare, own_numbers
-from .page import find_leaflet, write_page
+from .page import ASSETS, find_leaflet, write_page
 from .reading import read_county
-from .sets import Canonical, Sets, is_of_a_set, opened, printed
+from .sets import Canonical, Sets, found, opened, printed
 from .words import KINDS, SUBJECTS, told
 
 ABOUT = """\
@@ -57,8 +60,9 @@ def add_arguments(parser: argparse.ArgumentParser) -> None:
     printed = parser.add_mutually_exclusive_group()
     printed.add_argument("--summary", action="store_true", help="print only how many of each kind differ")
     printed.add_argument("--json", action="store_true", help="print the differences as JSON")
-    add("--page", metavar="FILE", help="write a page with a map of the differences, which needs no network")
-    add("--geojson", metavar="FILE", help="write the differences as GeoJSON, for any GIS")
+    about = "write a page with a map of the differences, which needs no network; - is standard output, without the report"
+    add("--page", metavar="FILE", help=about)
+    add("--geojson", metavar="FILE", help="write the differences as GeoJSON, for any GIS; - is standard output, without the report")
     add("--all", action="store_true", help="with --geojson: also write what is the same in both maps")
     add("--leaflet", metavar="FOLDER", help="with --page: the folder that has leaflet.js and leaflet.css")
 
@@ -66,7 +70,7 @@ def add_arguments(parser: argparse.ArgumentParser) -> None:
 def run(options: argparse.Namespace) -> int:
     outputs = outputs_of(options)
     gc.disable()  # the counties are kept until the end, and looking for garbage in them takes a third of the time
-    return compared(options, outputs)
+    return reported_difference(options, outputs)
 
 
 def outputs_of(options: argparse.Namespace) -> list[str]:
@@ -76,42 +80,78 @@ def outputs_of(options: argparse.Namespace) -> list[str]:
         raise Failure("--all needs --geojson")
     if options.leaflet is not None and options.page is None:
         raise Failure("--leaflet needs --page")
-    if len({os.path.realpath(name) for name in outputs}) < len(outputs):
+    if len({"-" if name in STANDARD_OUTPUT else os.path.realpath(name) for name in outputs}) < len(outputs):
         raise Failure("--page and --geojson name the same file")
-    for name in outputs:
-        if is_of_a_set(name, (options.first, options.second)):
-            raise Failure(f"{name}: can't be written: it belongs to one of the sets")
-    return outputs
+    if options.json and any(name in STANDARD_OUTPUT for name in outputs):
+        raise Failure("--json prints the differences, so no other output can go to standard output")
+    return [name for name in outputs if name not in STANDARD_OUTPUT]
 
 
-def compared(options: argparse.Namespace, outputs: list[str]) -> int:
+class Differing(NamedTuple):
+    """Two sets, where they differ, and notes about their files."""
+
+    sets: Sets
+    comparison: Comparison
+    notes: list[str]
+
+
+Step = Callable[[str], None]
+
+
+def found_between(
+    counties: Sequence[County],
+    names: Sequence[str],
+    program: str,
+    masks: tuple[str, ...],
+    stack: contextlib.ExitStack,
+    at: Step = lambda _: None,
+    with_numbers: bool = True,
+) -> Differing:
+    """Where these two counties differ. Their files are used up to the end of the stack."""
+    opened_sets = [opened(name, county, stack) for name, county in zip(names, counties)]
+    sources, shown = [source for source, _ in opened_sets], list(map(printable, names))
+    notes = [f"{name}: {'; '.join(notes)}" for name, (_, notes) in zip(shown, opened_sets) if notes]
+    at("normalising both sets")
+    one, other = printed(program, "normalise", masks, sources)
+    sets = Sets(Canonical(shown[0], one), Canonical(shown[1], other), masks)
+    at("reading the canonical texts")
+    first, second = read_county(sets.first.text), read_county(sets.second.text)
+    at(f"comparing {len(first.chains):,} chains with {len(second.chains):,}")
+    comparison = compare(first, second)
+    if with_numbers:
+        at("finding the sets' own numbers")
+        texts = zip(printed(program, "respell", (), sources), (first, second))
+        comparison.own = [own_numbers(read_county(text), county, masks) for text, county in texts]
+    return Differing(sets, comparison, notes)
+
+
+def reported_difference(options: argparse.Namespace, outputs: list[str]) -> int:
     leaflet = find_leaflet(options.leaflet) if options.page is not None else None
     program, masks = find_program(options.program), flags_of(options)
     with contextlib.ExitStack() as stack:
         progress = Progress()
         stack.callback(progress.cancel)
-        files = stack.enter_context(new_files(outputs))
-        page, geojson = files.get(options.page), files.get(options.geojson)
-        sources = [opened(name, options.stem, stack) for name in (options.first, options.second)]
-        progress.at("normalising both sets")
-        one, other = printed(program, "normalise", masks, sources)
-        sets = Sets(Canonical(printable(options.first), one), Canonical(printable(options.second), other), masks)
-        progress.at("reading the canonical texts")
-        first, second = read_county(sets.first.text), read_county(sets.second.text)
-        progress.at(f"comparing {len(first.chains):,} chains with {len(second.chains):,}")
-        comparison = compare(first, second)
-        numbers: BothOwn = ()
-        if geojson or options.json:
-            progress.at("finding the sets' own numbers")
-            texts = zip(printed(program, "respell", (), sources), (first, second))
-            numbers = [own_numbers(read_county(text), county, masks) for text, county in texts]
+        names = (options.first, options.second)
+        counties = [found(name, options.stem) for name in names]
+        read = [file.place for county in counties for file in county.places]
+        files = stack.enter_context(new_files(outputs, Inputs([*read, program, *(leaflet.files if leaflet else ()), *ASSETS])))
+        kept = Kept()
+        page, geojson = (files.get(name, kept) if name else None for name in (options.page, options.geojson))
+        with_numbers = bool(page or geojson or options.json or not options.summary)
+        differing = found_between(counties, names, program, masks, stack, progress.at, with_numbers)
+        sets, comparison, notes = differing
+        for note in notes:
+            report(note)
         if page and leaflet:
             progress.at("writing the page")
             write_page(page, comparison, sets, leaflet)
-        if geojson and numbers:
+        if geojson:
             progress.at("writing GeoJSON")
-            write_geojson(geojson, comparison, sets, numbers, options.all)
-    print_lines(as_json(comparison, sets, numbers) if options.json else told(comparison, sets, options.summary))
+            write_geojson(geojson, comparison, sets, comparison.own, options.all)
+    if kept in (page, geojson):
+        print_bytes(b"".join(kept.pieces))
+    else:
+        print_lines(as_json(comparison, sets, comparison.own) if options.json else told(comparison, sets, options.summary))
     return int(not sets.are_one_map)
 
 

@@ -1,7 +1,8 @@
 """The manifest: a line with the fingerprint, two blanks and the stem for each county, in the order of the stems.
 
-The first line names the form of the canonical texts and the flags that leave fields out. In manifests of earlier tools it has
-the flags alone, or isn't there. One run at a time has the manifest's lock.
+The first line names the form of the canonical texts and the flags that leave fields out, and marks the fingerprints of an unproved
+program. In manifests of earlier tools it has the flags alone, or isn't there. Comments have the size and the time of each file of a
+county, and counties that were refused. One run at a time has the manifest's lock.
 """
 
 from __future__ import annotations
@@ -12,6 +13,7 @@ import os
 import re
 import socket
 import stat
+import sys
 import time
 from contextlib import ExitStack, contextmanager, suppress
 from functools import partial
@@ -19,15 +21,20 @@ from pathlib import Path
 from typing import Iterator, NamedTuple, Sequence
 
 from .errors import Failure, reason, reported
-from .layout import kind_of
+from .inputs import Inputs
+from .counties import has_records
+from .layout import folded, kind_of
 from .own import PROCESS, new_files
+from .storage import Entry
 
 Flags = tuple[str, ...]
 FORM = "# tigercanon form 1"
 FLAGS = ("--no-sources", "--no-reserved")
 FLAG_SETS = ((), FLAGS[:1], FLAGS[1:], FLAGS)
-LINE = re.compile(rb"[0-9a-f]{64}  [^\n]+")
-STARTED_LINE = re.compile(rb"[0-9a-f]{0,64}|[0-9a-f]{64} ( [^\n]*)?")
+UNPROVED = "unproved"  # stands before the flags if the program isn't proved
+LINE = re.compile(rb"([0-9a-fA-F]{64})  ([^\n]+)")
+COMMENT = re.compile(rb"# ((?:[0-9?]+ [^ \n]+)(?:, [0-9?]+ [^ \n]+)*)  (?:(refused [0-9A-Za-z ]+)  )?([^\n]+)")
+STARTED_LINE = re.compile(rb"[0-9a-f]{0,64}|[0-9a-f]{64} ( [^\n]*)?|#[^\n]*")
 LOCK_LINE = re.compile(rb"process [0-9]* on ")
 PATIENCE_FOR_LOCK = 0.2
 
@@ -41,42 +48,87 @@ def heading(flags: Sequence[str]) -> str:
     return " ".join([FORM, *flags])
 
 
-HEADINGS: dict[bytes, Flags] = {heading(flags).encode(): flags for flags in FLAG_SETS}
+def without_mark(flags: Flags | None) -> Flags:
+    """The flags that leave fields out, without the mark of an unproved program."""
+    return tuple(flag for flag in flags or () if flag != UNPROVED)
+
+
+MARKED_SETS = [*FLAG_SETS, *((UNPROVED, *flags) for flags in FLAG_SETS)]
+HEADINGS: dict[bytes, Flags] = {heading(flags).encode(): flags for flags in MARKED_SETS}
 HEADINGS.update({f"# {' '.join(flags)}".encode(): flags for flags in FLAG_SETS if flags})
 
 
 class Line(NamedTuple):
-    """A county of a manifest."""
+    """A county of a manifest. One that was refused has a refusal and no fingerprint. Its sources are the size and the time of each of its
+    files, if the manifest has them."""
 
     fingerprint: str
     stem: str
+    sources: str = ""
+    refusal: str = ""
 
     def __str__(self) -> str:
         return f"{self.fingerprint}  {self.stem}"
 
+    @property
+    def entry(self) -> str:
+        """The lines of a county in a manifest. sha256sum takes those for comments that begin with #."""
+        if self.refusal:
+            return f"# {self.sources}  {self.refusal}  {self.stem}\n"
+        return f"# {self.sources}  {self.stem}\n{self}\n" if self.sources else f"{self}\n"
 
-def parsed(name: str) -> tuple[Flags | None, list[Line], bytes]:
-    """The flags of a manifest, or None if it has no whole line, its counties, and the part of a line that an interrupted run has left
-    at its end. Raises Failure if it is another file."""
+
+def text_of(name: str, is_written: bool = False) -> bytes:
+    """The text of a manifest: a file, a pipe, or what is behind - on standard input. One that is written to is a file. Raises Failure."""
+    if name == "-" and not is_written:
+        return sys.stdin.buffer.read()
     try:
-        if not stat.S_ISREG(os.stat(name).st_mode):
-            raise Failure(f"{name}: not a manifest: it isn't a regular file")
-        *whole, rest = Path(name).read_bytes().split(b"\n")
+        mode = os.stat(name).st_mode
+        if not stat.S_ISREG(mode) and (is_written or not (stat.S_ISFIFO(mode) or stat.S_ISSOCK(mode))):
+            raise Failure(f"{name}: not a manifest: it isn't a regular file{'' if is_written else ' or a pipe'}")
+        return Path(name).read_bytes()
     except OSError as error:
         raise Failure(f"{name}: {reason(error)}") from None
+
+
+def parsed(name: str, is_written: bool = False) -> tuple[Flags | None, list[Line], bytes]:
+    """The flags of a manifest, or None if it has no whole line, its counties, and the part of a line that an interrupted run has left
+    at its end. Of several lines for a county the last one counts. Raises Failure if it is another file."""
+    *whole, rest = text_of(name, is_written).split(b"\n")
+    if whole and all(line.endswith(b"\r") for line in whole):
+        whole = [line[:-1] for line in whole]
     flags = HEADINGS.get(whole[0]) if whole else None
-    lines = whole if flags is None else whole[1:]
-    for number, line in enumerate(lines, 1 + len(whole) - len(lines)):
-        if not LINE.fullmatch(line):
+    counties: dict[str, Line] = {}
+    sources: dict[bytes, bytes] = {}
+    for number, line in enumerate(whole[flags is not None :], 1 + (flags is not None)):
+        found, comment = LINE.fullmatch(line), COMMENT.fullmatch(line)
+        if not found and not comment:
             raise Failure(f"{name}: not a manifest: line {number} isn't a fingerprint and a name")
+        stem = os.fsdecode(found[2] if found else comment[3] if comment else b"")
+        if found and flags is None and is_other_file(stem):
+            raise Failure(f"{name}: not a manifest but a list of other hashes: line {number} is of the file {stem}")
+        if found:
+            counties.pop(stem, None)
+            counties[stem] = Line(found[1].decode().lower(), stem, sources.get(found[2], b"").decode())
+        elif comment and comment[2]:
+            counties.pop(stem, None)
+            counties[stem] = Line("", stem, comment[1].decode(), comment[2].decode())
+        elif comment:
+            sources[comment[3]] = comment[1]
     if not STARTED_LINE.fullmatch(rest) and not any(each.startswith(rest) for each in HEADINGS):
         raise Failure(f"{name}: not a manifest: its last line isn't a fingerprint and a name")
-    counties = [Line(line[:64].decode(), os.fsdecode(line[66:])) for line in lines]
-    return (flags or ()) if whole else None, counties, rest
+    return (flags or ()) if whole else None, [*counties.values()], rest
+
+
+def is_other_file(stem: str) -> bool:
+    """Whether a name is that of a file whose hash isn't a fingerprint: one of a county's nine, a zip, or one without records."""
+    if kind_of(stem):
+        return True
+    return os.path.isfile(stem) and not has_records(stem, Entry(os.path.basename(stem), False, None))
 
 
 def loaded(name: str) -> tuple[Flags | None, list[Line]]:
-    """The flags and the counties of a whole manifest, with at least one county. Raises Failure."""
+    """The flags and the counties of a whole manifest, with at least one county. Those that were refused are among them. Raises Failure."""
     flags, lines, rest = parsed(name)
     if rest:
         raise Failure(f"{name}: its last line is cut off; let the run that writes it finish first")
@@ -86,7 +138,8 @@ def loaded(name: str) -> tuple[Flags | None, list[Line]]:
 
 
 def named(flags: Flags | None) -> str:
-    return " ".join(flags or ["no flags"])
+    words = " ".join(without_mark(flags) or ["no flags"])
+    return f"an unproved program and {words}" if UNPROVED in (flags or ()) else words
 
 
 def agreed(name: str, made: Flags | None, asked: Flags) -> None:
@@ -95,59 +148,26 @@ def agreed(name: str, made: Flags | None, asked: Flags) -> None:
         raise Failure(f"{name}: made with {named(made)}, but this run has {named(asked)}")
 
 
-def by_key(name: str, lines: list[Line]) -> dict[str, Line]:
-    """The counties of a manifest by their names without folder, case and ending. Raises Failure if two have one name."""
-    found: dict[str, Line] = {}
-    for line in lines:
-        first = found.setdefault(os.path.splitext(line.stem.rpartition("/")[2])[0].upper(), line)
-        if first is not line:
-            raise Failure(f"{name}: {first.stem} and {line.stem} have the same name, so counties can't be matched by it")
-    return found
-
-
-def changes(old_name: str, new_name: str) -> list[dict[str, str | None]]:
-    """How the counties of two manifests compare, in the order of their names, and the stem of each in both."""
-    (old_flags, old), (new_flags, new) = loaded(old_name), loaded(new_name)
-    if old_flags != new_flags:
-        made = f"{old_name} was made with {named(old_flags)} and {new_name} with {named(new_flags)}"
-        raise Failure(f"{made}: their fingerprints can't be compared")
-    before, after = by_key(old_name, old), by_key(new_name, new)
-    found = []
-    for name in sorted({*before, *after}):
-        first, second = before.get(name), after.get(name)
-        is_same = first and second and first.fingerprint == second.fingerprint
-        kind = "added" if first is None else "removed" if second is None else "same" if is_same else "changed"
-        found.append({"county": name, "change": kind, "old": first and first.stem, "new": second and second.stem})
-    return found
-
-
-def duplicates(lines: Sequence[Line]) -> list[list[Line]]:
-    """The counties that are one map with another one, in groups."""
-    groups: dict[str, list[Line]] = {}
-    for line in lines:
-        groups.setdefault(line.fingerprint, []).append(line)
-    return [group for group in groups.values() if len(group) > 1]
-
-
 class Manifest:
     """A manifest that is written to, under its lock. One that is there already is read, and put in order. Raises Failure."""
 
-    def __init__(self, name: str, flags: Flags) -> None:
-        self.name, self.flags = name, flags
+    def __init__(self, name: str, flags: Flags, inputs: Inputs) -> None:
+        self.name, self.flags, self.inputs = name, flags, inputs
         self.place = os.path.realpath(name)
         self.lines: list[Line] = []
         if os.path.lexists(self.place):
-            made, self.lines, _ = parsed(name)
+            made, self.lines, _ = parsed(name, is_written=True)
             agreed(name, made, flags)
             with reported(name):
                 open(self.place, "ab").close()
             self.put_in_order()
 
     def add(self, line: Line) -> None:
-        """Adds a county, whose line is written at once: the whole of it or nothing."""
+        """Adds a county, or puts it in the place of the line that it had. It is written at once: the whole of it or nothing."""
         with PROCESS.lock, reported(self.name), open(self.place, "ab", buffering=0) as file:
+            self.inputs.spare(self.name, file.fileno())  # another file may have taken its name
             before = file.tell()
-            text = os.fsencode(f"{line}\n" if before else f"{heading(self.flags)}\n{line}\n")
+            text = os.fsencode(line.entry if before else f"{heading(self.flags)}\n{line.entry}")
             try:
                 while text:
                     text = text[file.write(text) :]
@@ -157,23 +177,25 @@ class Manifest:
             self.lines.append(line)
 
     def put_in_order(self) -> None:
-        """Puts the counties in order by a copy, which takes the manifest's place once it is whole."""
+        """Puts the counties in order by a copy, which takes the manifest's place once it is whole. Of a county the last line stays."""
         if self.lines:
+            self.lines = [*{folded(line.stem): line for line in self.lines}.values()]
             self.lines.sort(key=lambda line: (os.fsencode(line.stem), line.fingerprint))
-            with new_files([self.name]) as files:
-                files[self.name].write(os.fsencode("".join(f"{line}\n" for line in [heading(self.flags), *self.lines])))
+            with new_files([self.name], self.inputs) as files:
+                files[self.name].write(os.fsencode("".join([f"{heading(self.flags)}\n", *(line.entry for line in self.lines)])))
 
 
 @contextmanager
-def written(name: str, flags: Flags) -> Iterator[Manifest]:
-    """A manifest to write to. No other run writes to it meanwhile. It can't have a county's name, as when its own was forgotten."""
-    if kind_of(name):
-        raise Failure(f"{name}: has the name of a county's file, and isn't overwritten by a manifest")
+def written(name: str, flags: Flags, inputs: Inputs) -> Iterator[Manifest]:
+    """A manifest to write to. No other run writes to it meanwhile. Raises Failure if it or its lock is an input."""
+    inputs.spare_all([name, f"{name}.lock"])
+    inputs.spare(f"{name}.lock", lock_of(name))
+    Inputs([name])  # it is read too, so nothing is printed to it
     folder = os.path.dirname(os.path.realpath(name))
     if not os.path.isdir(folder):
         raise Failure(f"{name}: can't be written: there is no folder {folder}")
     with PROCESS.kept(partial(take_lock, name), partial(give_back, name)):
-        manifest = Manifest(name, flags)
+        manifest = Manifest(name, flags, inputs)
         yield manifest
         manifest.put_in_order()
 
@@ -189,7 +211,7 @@ def take_lock(name: str) -> int:
     """Takes the lock, and returns its handle. It waits a little, since a verification has it for a moment."""
     while True:
         with reported(f"{name}.lock"):
-            handle = os.open(lock_of(name), os.O_RDWR | os.O_CREAT | os.O_NONBLOCK, 0o666)
+            handle = os.open(lock_of(name), os.O_RDWR | os.O_CREAT | os.O_NONBLOCK | os.O_NOFOLLOW, 0o666)
         with ExitStack() as stack:
             stack.callback(os.close, handle)
             status = os.fstat(handle)

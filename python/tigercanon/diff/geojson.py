@@ -7,10 +7,10 @@ import re
 from functools import lru_cache
 from typing import Any, Iterator, Sequence
 
-from ..own import NewFile
+from ..own import Writable
 from .fields import BLANK, NONE, YES, FieldName, decimal
 from .matching import Comparison, OwnNumbers, Tie
-from .reading import number_of
+from .reading import Chain, Landmark, number_of
 from .sets import Sets
 from .words import KINDS, Thing, things, tie_line, tied_place, verdict
 
@@ -20,7 +20,7 @@ ABOUT = "Where two maps differ, found by tigercanon-tools diff: an aid, and not 
 SIDES = ("first", "second")
 
 
-def write_geojson(file: NewFile, comparison: Comparison, sets: Sets, own: BothOwn, with_alike: bool) -> None:
+def write_geojson(file: Writable, comparison: Comparison, sets: Sets, own: BothOwn, with_alike: bool) -> None:
     file.write(f'{{"type":"FeatureCollection",{as_json(head(comparison, sets))[1:-1]},"features":['.encode())
     for number, (shape, told) in enumerate(features(comparison, own, with_alike)):
         file.write(f'{"," if number else ""}\n{{"type":"Feature","geometry":{shape},"properties":{as_json(told)}}}'.encode())
@@ -66,12 +66,16 @@ def properties(thing: Thing, own: BothOwn) -> Properties:
 
 
 def tie_properties(tie: Tie, own: OwnNumbers) -> Properties:
-    """What is one in one map and several in the other, at the places where chains have it. These have the first set's numbers."""
+    """What is one in one map and several in the other, at the places where chains or landmarks have it. These have the first set's
+    numbers."""
     counts = (1, len(tie.groups)) if tie.is_one_in_first else (len(tie.groups), 1)
     told: Properties = {"what": "tie", "kind": KINDS[2], "title": tie_line(tie).rstrip(":"), "differs": tie.subject}
     told.update({f"{side}_count": count for side, count in zip(SIDES, counts)})
     told["places"] = " | ".join("; ".join(map(tied_place, group)) for group in tie.groups)
-    told["first_TLIDs"] = " | ".join("; ".join(str(own.get(at.chain.key, "")) for at in group) for group in tie.groups)
+    for numbers, kind in (("TLIDs", Chain), ("LANDs", Landmark)):
+        listed = [[str(own.get(at.owner.key, "")) for at in group if isinstance(at.owner, kind)] for group in tie.groups]
+        if any(listed):
+            told[f"first_{numbers}"] = " | ".join(map("; ".join, listed))
     return told
 
 

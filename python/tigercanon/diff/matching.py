@@ -12,7 +12,7 @@ from collections import defaultdict
 from dataclasses import dataclass, field, replace
 from functools import cached_property, partial
 from itertools import product
-from typing import Any, Callable, Generic, Hashable, Iterator, NamedTuple, Optional, Sequence, TypeVar
+from typing import Any, Callable, Generic, Hashable, Iterable, Iterator, NamedTuple, Optional, Sequence, TypeVar, Union
 
 from .columns import CHAIN, LANDMARK, RANGE
 from .fields import Pair, Teller, pair_by, rows
@@ -24,7 +24,7 @@ T = TypeVar("T")
 
 @dataclass
 class Matched(Generic[T]):
-    """What is in the first map alone, in the second alone, changed, and alike."""
+    """What is only in the first map, only in the second, changed, and alike."""
 
     first: list[T] = field(default_factory=list)
     second: list[T] = field(default_factory=list)
@@ -48,7 +48,7 @@ class Matched(Generic[T]):
 
 class Tie(NamedTuple):
     """A number that is one in one of the maps and several in the other, though the content that it numbers is the same in both:
-    where chains have it, in groups by the number that they have in the other map."""
+    where chains or landmarks have it, in groups by the number that they have in the other map."""
 
     subject: str
     is_one_in_first: bool
@@ -56,7 +56,7 @@ class Tie(NamedTuple):
 
     @property
     def points(self) -> list[str]:
-        return sorted({at.point for group in self.groups for at in group})
+        return sorted({at.point for group in self.groups for at in group} - {NO_POINT})
 
 
 @dataclass
@@ -70,19 +70,17 @@ class Comparison:
     landmarks: Matched[Landmark]
     polygons: Matched[Polygon]
     names: Matched[Name]
+    own: Sequence[OwnNumbers] = ()  # the numbers in the user's files, of both maps
 
     @cached_property
     def ties(self) -> list[Tie]:
-        """The nodes, polygons and names that are one in one map and several in the other."""
-        tied = [at for pair in self.certain for at in ties_of(*pair, self.first, self.second)]
-        ties: list[Tie] = []
-        for subject, is_one_in_first in product(("node", "polygon", "feature name"), (True, False)):
-            found: dict[str, dict[str, list[Tied]]] = defaultdict(lambda: defaultdict(list))
-            for at in (at for at in tied if at.subject == subject):
-                one, other = (at.first, at.second) if is_one_in_first else (at.second, at.first)
-                found[one][other].append(at)
-            ties += [Tie(subject, is_one_in_first, list(groups.values())) for groups in found.values() if len(groups) > 1]
-        return ties
+        """The nodes, polygons and names that are one in one map and several in the other. Chains and landmarks that nothing else tells
+        apart are paired at will, so they are asked only if nothing else differs."""
+        ties = ties_among(at for pair in self.certain for at in ties_of(*pair, self.first, self.second))
+        if ties or not self.is_alike:
+            return ties
+        of_chains = (at for pair in self.chains.alike for at in ties_of(*pair, self.first, self.second))
+        return ties_among([*of_chains, *(at for pair in self.landmarks.alike for at in areas_of(*pair, self.first, self.second))])
 
     @property
     def parts(self) -> Sequence[Matched[Any]]:
@@ -204,19 +202,31 @@ def match_landmarks(first: Teller, second: Teller) -> Matched[Landmark]:
 
 
 class Tied(NamedTuple):
-    """A number of the first map and one of the second that a chain of both maps has at one place."""
+    """A number of the first map and one of the second that a chain or a landmark of both maps has at one place."""
 
     subject: str
     first: str
     second: str
-    chain: Chain
+    owner: Union[Chain, Landmark]
     place: str
 
     @property
     def point(self) -> str:
-        """The place: an end of the chain, or else its middle."""
-        points = each_point(self.chain.points)
+        """The place: an end of the chain, or else its middle; or the landmark's own point, if it has one."""
+        if isinstance(self.owner, Landmark):
+            return LANDMARK.value(self.owner.bodies[0], "LALONG, LALAT")
+        points = each_point(self.owner.points)
         return points[{"start": 0, "end": -1}.get(self.place, len(points) // 2)]
+
+
+def ties_among(tied: Iterable[Tied]) -> list[Tie]:
+    found: dict[tuple[str, bool], dict[str, dict[str, list[Tied]]]] = {
+        key: defaultdict(lambda: defaultdict(list)) for key in product(("node", "polygon", "feature name"), (True, False))
+    }
+    for at in tied:
+        found[at.subject, True][at.first][at.second].append(at)
+        found[at.subject, False][at.second][at.first].append(at)
+    return [Tie(*key, list(groups.values())) for key, ones in found.items() for groups in ones.values() if len(groups) > 1]
 
 
 def ties_of(chain: Chain, twin: Chain, first: Teller, second: Teller) -> Iterator[Tied]:
@@ -231,6 +241,15 @@ def ties_of(chain: Chain, twin: Chain, first: Teller, second: Teller) -> Iterato
     if chain.feats and first.county.name_bodies(chain) == second.county.name_bodies(twin):
         for number, (one, other) in enumerate(zip(chain.feats, twin.feats), 1):
             yield Tied("feature name", one, other, chain, f"further name {number}")
+
+
+def areas_of(landmark: Landmark, twin: Landmark, first: Teller, second: Teller) -> Iterator[Tied]:
+    """The polygons that a landmark lies in, in both maps."""
+    ones = [((file, first.marks[key]), key) for file, key in landmark.places]
+    others = [((file, second.marks[key]), key) for file, key in twin.places]
+    pairs, _, _ = pair_by(ones, others, lambda area: area[0])
+    for number, ((_, one), (_, other)) in enumerate(pairs, 1):
+        yield Tied("polygon", one, other, landmark, f"polygon {number}")
 
 
 OwnNumbers = dict[str, int]  # the number in the user's files of each chain, landmark and polygon, by its key in the canonical text

@@ -3,13 +3,15 @@
 Numbers that differ from file to file (TLID, RTSQ, FEAT, LAND, POLYID and those of nodes), the version and fillers aren't among them.
 """
 
-from dataclasses import dataclass
+from dataclasses import dataclass, replace
 from functools import cached_property
 from itertools import accumulate
-from typing import NamedTuple
+
+from ..layout import LENGTHS as LENGTHS
 
 
-class Column(NamedTuple):
+@dataclass(frozen=True)
+class Column:
     """A field of a record. Its partner, for a chain, holds the same thing as seen from the chain's other end."""
 
     name: str
@@ -68,7 +70,7 @@ def on_both_sides(name: str, first: int, width: int, holds: str) -> tuple[Column
 
 def moved(columns: tuple[Column, ...], by: int) -> tuple[Column, ...]:
     """The same fields, `by` columns further to the right."""
-    return tuple(column._replace(first=column.first + by, last=column.last + by) for column in columns)
+    return tuple(replace(column, first=column.first + by, last=column.last + by) for column in columns)
 
 
 FILE = (Column("FILE", 6, 10, "state and county"),)
@@ -128,6 +130,3 @@ RANGE = Layout("6", (), moved(ADDRESSES, -40))
 LANDMARK = Layout("7", FILE, OF_LANDMARK)
 LINK = Layout("I", FILE, OF_LINK)
 POLYGON = Layout("P", FILE, (Column("POLYLONG, POLYLAT", 26, 44, "a point inside it"), Column("WATER", 45, 45, "mark of water")))
-
-LENGTHS = {"1": 228, "2": 208, "4": 58, "5": 56, "6": 76, "7": 74, "8": 36, "I": 127, "P": 45}
-"""The length of each record type's lines, without their ends."""

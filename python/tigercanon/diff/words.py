@@ -8,10 +8,10 @@ from .columns import NAME
 from .fields import BLANK, Row, chain_title, degrees, landmark_points, landmark_rows, landmark_title, name_text
 from .fields import polygon_fields, polygon_words, rows
 from .matching import Comparison, Tie, Tied
-from .reading import NO_POINT, each_point
+from .reading import NO_POINT, Landmark, each_point
 from .sets import Sets
 
-KINDS = ("in the first alone", "in the second alone", "changed", "alike")
+KINDS = ("only in the first", "only in the second", "changed", "alike")
 ONE_MAP = "No differences: the two are one map."
 TIED = (
     "All chains, landmarks, polygons and feature names are alike. What differs is how they are tied: which ends of chains are one "
@@ -32,6 +32,7 @@ class Thing(NamedTuple):
     about: str
     points: list[str]
     number_field: str = ""
+    numbers: str = ""
     rows: Callable[[], list[Row]] = list
 
     @property
@@ -40,11 +41,20 @@ class Thing(NamedTuple):
         return f"polygon {self.title}" if self.what == "polygon" else self.title
 
 
+def own_words(found: Comparison, field: str, one: Any, other: Any) -> str:
+    """The numbers of a thing in the files of both sets, if they are known: `TLID 7 and 9`."""
+    numbers = [str(own[each.key]) for own, each in zip(found.own, (one, other)) if each is not None and each.key in own]
+    return f"{field} {' and '.join(dict.fromkeys(numbers))}" if numbers else ""
+
+
 def chain(found: Comparison, kind: str, one: Any, other: Any) -> Thing:
     title, points = chain_title(one or other), each_point((one or other).points)
     about = f"{len(points)} points, from {degrees(points[0])} to {degrees(points[-1])}"
     first, second = found.first.chain, found.second.chain
-    return Thing("chain", kind, one, other, title, about, points, "TLID", lambda: rows(one and first(one), other and second(other)))
+    numbers = own_words(found, "TLID", one, other)
+    return Thing(
+        "chain", kind, one, other, title, about, points, "TLID", numbers, lambda: rows(one and first(one), other and second(other))
+    )
 
 
 def landmark(found: Comparison, kind: str, one: Any, other: Any) -> Thing:
@@ -52,14 +62,18 @@ def landmark(found: Comparison, kind: str, one: Any, other: Any) -> Thing:
     more = f" and {len(points) - 1:,} more" if len(points) > 1 else ""
     about = f"at {degrees(points[0])}{more}" if points else "without a place"
     table = partial(landmark_rows, found.first, found.second, one, other)
-    return Thing("landmark", kind, one, other, landmark_title(one or other), about, points, "LAND", table)
+    numbers = own_words(found, "LAND", one, other)
+    return Thing("landmark", kind, one, other, landmark_title(one or other), about, points, "LAND", numbers, table)
 
 
-def polygon(_: Comparison, kind: str, one: Any, other: Any) -> Thing:
+def polygon(found: Comparison, kind: str, one: Any, other: Any) -> Thing:
     either, told = one or other, polygon_fields
     place = [either.point] if either.point != NO_POINT else []
     title, about = polygon_words(either.body), f"CENID {either.cenid.strip() or BLANK}"
-    return Thing("polygon", kind, one, other, title, about, place, "POLYID", lambda: rows(one and told(one), other and told(other)))
+    numbers = own_words(found, "POLYID", one, other)
+    return Thing(
+        "polygon", kind, one, other, title, about, place, "POLYID", numbers, lambda: rows(one and told(one), other and told(other))
+    )
 
 
 def feature_name(_: Comparison, kind: str, one: Any, other: Any) -> Thing:
@@ -117,9 +131,9 @@ def told_counts(comparison: Comparison) -> Iterator[str]:
     table = [[f"{count:,}" for count in part.counts] for part in comparison.parts]
     table[3][2] = "-"
     widths = [max(len(head), *map(len, column)) for head, column in zip(heads, table)]
-    yield " " * 19 + "".join(f"  {head:>{width}}" for head, width in zip(heads, widths))
+    yield " " * 18 + "".join(f"  {head:>{width}}" for head, width in zip(heads, widths))
     for place, kind in enumerate(KINDS):
-        yield f"{kind:19}" + "".join(f"  {column[place]:>{width}}" for column, width in zip(table, widths))
+        yield f"{kind:18}" + "".join(f"  {column[place]:>{width}}" for column, width in zip(table, widths))
 
 
 def told_things(comparison: Comparison) -> Iterator[str]:
@@ -128,9 +142,13 @@ def told_things(comparison: Comparison) -> Iterator[str]:
         listed = list(found)
         yield from ["", f"{what}s {kind}: {len(listed):,}"]
         if kind != KINDS[2]:
-            yield from ["", *(f"  {thing.name}, {thing.about}" for thing in listed)]
+            yield from ["", *(f"  {headline(thing)}" for thing in listed)]
         for thing in listed if kind == KINDS[2] else []:
-            yield from ["", f"  {thing.name}, {thing.about}", *differing(thing.rows())]
+            yield from ["", f"  {headline(thing)}", *differing(thing.rows())]
+
+
+def headline(thing: Thing) -> str:
+    return ", ".join(filter(None, [thing.name, thing.about, thing.numbers]))
 
 
 def differing(rows: list[Row]) -> Iterator[str]:
@@ -147,4 +165,5 @@ def tie_line(tie: Tie) -> str:
 
 
 def tied_place(at: Tied) -> str:
-    return f"{at.place} of {chain_title(at.chain)}, {degrees(at.point)}"
+    title = landmark_title(at.owner) if isinstance(at.owner, Landmark) else chain_title(at.owner)
+    return f"{at.place} of {title}{'' if at.point == NO_POINT else f', {degrees(at.point)}'}"

@@ -8,10 +8,9 @@ import re
 from contextlib import suppress
 from dataclasses import dataclass, field
 from pathlib import Path
-from typing import Any
+from typing import Any, NamedTuple, Protocol
 
 from ..errors import Failure
-from ..own import NewFile
 from .fields import FieldName, Row, chain_title, landmark_points, landmark_title
 from .matching import Comparison, Tie
 from .reading import NO_POINT, each_point, position
@@ -24,12 +23,28 @@ ROOM_FOR_FIELDS = 5_000_000
 """The page has at most this many characters of fields. After them a difference has only its name and its place."""
 
 
-def find_leaflet(folder: str | None) -> tuple[str, str]:
-    """The script and the style of Leaflet, from a folder or from where Debian puts them."""
+class Writable(Protocol):
+    """What a page is written to."""
+
+    def write(self, text: bytes, /) -> object:
+        ...
+
+
+class Leaflet(NamedTuple):
+    """The script and the style of Leaflet, and their files."""
+
+    script: str
+    style: str
+    files: tuple[str, str]
+
+
+def find_leaflet(folder: str | None) -> Leaflet:
+    """Leaflet from a folder, or from where Debian puts it."""
     place = Path(DEBIAN_LEAFLET if folder is None else folder)
     for name in ("leaflet.min.js", "leaflet.js"):
+        script, style = place / name, place / "leaflet.css"
         with suppress(OSError, UnicodeDecodeError):
-            return (place / name).read_text("utf-8"), (place / "leaflet.css").read_text("utf-8")
+            return Leaflet(script.read_text("utf-8"), style.read_text("utf-8"), (str(script), str(style)))
     advice = "install Debian's package libjs-leaflet, or name its folder by --leaflet"
     hint = advice if folder is None else "it needs leaflet.js and leaflet.css"
     raise Failure(f"{place}: there is no Leaflet here: {hint}")
@@ -54,7 +69,8 @@ class PageData:
             title = [self.title(thing.title)] if is_chain else []
             self.bare[f"{thing.what}s"].append([kind, *title, *self.line(thing.points)])
             return None
-        entry = self.entry(thing.what, kind, thing.title, "" if is_chain else thing.about, thing.rows())
+        about = ", ".join(filter(None, ["" if is_chain else thing.about, thing.numbers]))
+        entry = self.entry(thing.what, kind, thing.title, about, thing.rows())
         if is_chain:
             entry["line"] = self.line(thing.points)
         elif thing.what != "feature name":
@@ -116,8 +132,8 @@ class PageData:
         return [self.line([point]) for point in points]
 
 
-def write_page(file: NewFile, comparison: Comparison, sets: Sets, leaflet: tuple[str, str]) -> None:
-    script, style = leaflet
+def write_page(file: Writable, comparison: Comparison, sets: Sets, leaflet: Leaflet) -> None:
+    script, style, _ = leaflet
     parts = {
         # The style without the files that it names, and the script as an element can hold it, without the file that its end names.
         "leaflet_style": re.sub(r"[^;{}]*url\([^)]*\)[^;}]*;?", "", re.sub(r"/\*#.*?\*/", "", style)),
@@ -164,3 +180,6 @@ def shift_of(comparison: Comparison) -> int:
 
 def asset(name: str) -> str:
     return Path(__file__).with_name(name).read_text("utf-8")
+
+
+ASSETS = [str(Path(__file__).with_name(f"page.{ending}")) for ending in ("html", "css", "js")]

@@ -109,7 +109,7 @@
       this.isCut = !told.rows;
       this.places = line ? placesOf(line) : null;
       this.points = points.flatMap((point) => latLngs(placesOf(point)));
-      if (this.places) this.about = this.placeOfChain();
+      if (this.places) this.about = [this.placeOfChain(), told.about].filter(Boolean).join(', ');
     }
 
     placeOfChain() {

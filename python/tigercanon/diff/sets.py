@@ -11,8 +11,8 @@ from typing import NamedTuple, Sequence
 
 from ..counties import Finder
 from ..errors import Failure, Unreadable, printable, reported
-from ..judge import Order, Source, prepared
-from ..layout import TYPES, file_name, kind_of
+from ..judge import County, File, Order, Source, prepared
+from ..layout import TYPES, kind_of
 from ..own import PROCESS
 from ..storage import tidy
 
@@ -40,30 +40,40 @@ class Sets(NamedTuple):
         return self.first.text == self.second.text
 
 
-def opened(name: str, is_stem: bool, stack: contextlib.ExitStack) -> Source:
-    """The set of this name: one file, a zip with a county, or the stem of a county's files in either case of their
-    endings. What the program can't read as it is gets a copy, which is removed in every case."""
+def found(name: str, is_stem: bool) -> County:
+    """The set of this name: one file, a zip with a county, or the stem or a file of a county's nine files in either case of their
+    endings. One that can be read only once, such as a pipe, has no place."""
     shown, mode = printable(name), 0
     if os.path.lexists(name) and not is_stem:
         with reported(shown, "can't be read"):
             mode = os.stat(name).st_mode
     if stat.S_ISDIR(mode):
         raise Failure(f"{shown}: it is a folder: name a file, a zip or the stem of a county's files")
-    if not mode or stat.S_ISREG(mode) and kind_of(name) == "ZIP":
-        county = Finder().of_name(tidy(name))
-        if county.trouble or county.whole:
-            other = "it is one file with all records, not a zip or one of a county's nine files"
-            raise Failure(f"{name}: {county.trouble or other}")
-        try:
-            return replace(prepared(county, Order(""), [], stack), name=name)
-        except Unreadable as error:
-            raise Failure(f"{name}: {error}") from None
-    if stat.S_ISREG(mode):
-        return Source(name, name, is_stem=False)
-    place = stack.enter_context(PROCESS.place(0))  # for a copy of what can be read only once, such as a pipe
-    with reported(shown, "can't be read"), open(name, "rb") as piped, open(place, "wb") as copy:
-        shutil.copyfileobj(piped, copy)
-    return Source(name, place, is_stem=False)
+    if mode and (not kind_of(name) or not stat.S_ISREG(mode)):
+        place = os.path.realpath(name)  # for the program /dev/stdin would be another file
+        return County(name, whole=File(place, None) if stat.S_ISREG(mode) and os.path.exists(place) else None)
+    county = Finder().of_name(tidy(name), is_exact=True)
+    if county.trouble:
+        raise Failure(f"{name}: {county.trouble}")
+    return county
+
+
+def opened(name: str, county: County, stack: contextlib.ExitStack) -> tuple[Source, list[str]]:
+    """The county of this name as the program reads it, and notes about its files. What the program can't read as it is gets a copy or a
+    link, which is removed in every case."""
+    notes = list(county.notes)
+    if kind_of(name) in [*TYPES] and len(county.files) > 1:
+        notes.append(f"one of the nine files of {county.stem}, which is read")
+    try:
+        with reported(printable(name), "can't be read"):
+            if not county.places:
+                place = stack.enter_context(PROCESS.place(0))
+                with open(name, "rb") as piped, open(place, "wb") as copy:
+                    shutil.copyfileobj(piped, copy)
+                county = County(name, whole=File(place, None))
+            return replace(prepared(county, Order(""), notes, stack), name=name), notes
+    except Unreadable as error:
+        raise Failure(f"{name}: {error}") from None
 
 
 def printed(program: str, job: str, flags: Sequence[str], sources: Sequence[Source]) -> list[bytes]:
@@ -77,9 +87,3 @@ def printed(program: str, job: str, flags: Sequence[str], sources: Sequence[Sour
 
     with ThreadPoolExecutor() as threads:
         return list(threads.map(printed_for, sources))
-
-
-def is_of_a_set(output: str, names: Sequence[str]) -> bool:
-    inputs = [file_name(name, kind) for name in names for kind in TYPES]
-    inputs += [name[:-4] + name[-4:].lower() for name in inputs]
-    return any(os.path.exists(name) and os.path.exists(output) and os.path.samefile(name, output) for name in [*names, *inputs])

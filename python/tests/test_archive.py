@@ -1,0 +1,67 @@
+"""The calls for archives, and the examples of docs/python.md, which are run as they are."""
+
+import os
+import re
+import shutil
+import sys
+from pathlib import Path
+
+import pytest
+from support import built_program, environment
+from testing import ROOT, run
+
+import tigercanon
+from tigercanon import _library
+from tigercanon.errors import Failure
+
+BLOCK = r"((?:    .*\n|\n)+?)"
+EXAMPLES = re.findall(
+    rf"(?m)^\*\*(\d+)\. .*\*\*\n\n{BLOCK}prints\n\n{BLOCK}(?=\n\*\*|\Z)", (ROOT / "docs/python.md").read_text("utf-8") + "\n"
+)
+
+
+@pytest.fixture(autouse=True)
+def archive(room: Path, program: str) -> Path:
+    county = (ROOT / "examples/autauga/canonical.txt").read_text()
+    for edition in ("1990", "2006"):
+        os.mkdir(edition)
+        Path(edition, "TGR01001.txt").write_text(county)
+        Path(edition, "TGR01003.txt").write_text(county.replace("Washington", "Changed   ") if edition == "2006" else county)
+    return room
+
+
+def test_there_are_ten_examples() -> None:
+    assert [int(number) for number, _, _ in EXAMPLES] == [*range(1, 11)]
+
+
+@pytest.mark.parametrize("number, code, printed", EXAMPLES)
+def test_examples(number: str, code: str, printed: str) -> None:
+    if int(number) <= 4 and not Path(os.environ.get(_library.VARIABLE, ROOT / "out/library/lib" / _library.NAME)).exists():
+        pytest.skip("the library isn't built")
+    ended = run([sys.executable, "-B", "-c", re.sub("(?m)^    ", "", code)], env=environment(TIGERCANON=built_program()))
+    assert (ended.err, ended.out.decode()) == (b"", re.sub("(?m)^    ", "", printed).rstrip("\n") + "\n")
+
+
+def test_failures() -> None:
+    """What the command line reports is raised."""
+    with pytest.raises(Failure, match="nothing: no such file, folder or county"):
+        list(tigercanon.differences("nothing", "1990/TGR01001"))
+    with pytest.raises(Failure, match="nothing: No such file or directory"):
+        tigercanon.changes("nothing", "nothing")
+    with pytest.raises(Failure, match="can't be run"):
+        list(tigercanon.manifest("1990", program="./nothing"))
+    assert list(tigercanon.differences("1990/TGR01001", "2006/TGR01001")) == []
+    with pytest.raises(AttributeError):
+        tigercanon.nothing
+
+
+def test_a_table_for_gdal() -> None:
+    """GDAL reads both forms of a table, with the chains as lines."""
+    if not shutil.which("ogrinfo"):
+        pytest.skip("gdal-bin isn't installed")
+    tools = [sys.executable, "-B", "-m", "tigercanon", "table", "1990/TGR01001.txt"]
+    for name, words in {"csv": "", "geojson": "--geojson"}.items():
+        assert run([*tools, *words.split(), "-o", f"table.{name}"], env=environment(TIGERCANON=built_program())).status == 0
+        told = run(["ogrinfo", "-q", "-al", f"table.{name}"]).out.decode()
+        assert told.count("LINESTRING (-86.477532 32.464118,-86.47748 32.460872)") == 1
+        assert told.count("OGRFeature") == 7 and "TLID" in told

@@ -1,0 +1,98 @@
+"""What is sent to the workers of a cluster, and what a command makes of their answers. A stand-in for the client of Dask does at once
+what it is given."""
+
+from concurrent.futures import CancelledError, Future
+from typing import Any, Callable
+
+import pytest
+from support import Four, complete, manifest, put, zip_up
+
+from tigercanon import commands, engines
+
+
+class Client:
+    """Answers the first counties, as many as are given here; then the scheduler is gone."""
+
+    status = "running"
+
+    def __init__(self, count: int) -> None:
+        self.count = count
+
+    def map(self, function: Callable[..., Any], *arguments: list[Any], key: str, pure: bool) -> list[Any]:
+        return [self.answer(function, *each) for each in zip(*arguments)]
+
+    def answer(self, function: Callable[..., Any], *arguments: Any) -> Any:
+        future: Any = Future()
+        future.status = "finished"
+        self.count -= 1
+        if self.count >= 0:
+            future.set_result(function(*arguments))
+        else:
+            future.set_exception(CancelledError())
+        return future
+
+    def close(self, timeout: float) -> None:
+        pass
+
+
+@pytest.fixture
+def run(monkeypatch: pytest.MonkeyPatch, capsysbinary: Any) -> Any:
+    """Runs a command by a scheduler, which is gone after some counties: the status, and what comes on both streams."""
+
+    def run(command: str, count: int = 100) -> tuple[int, str, list[str]]:
+        monkeypatch.setattr(engines, "client_of", lambda _: Client(count))
+        options = commands.parser().parse_args(command.split())
+        status, (out, err) = int(options.run(options)), capsysbinary.readouterr()
+        return status, out.decode(), [line.partition(": ")[2] for line in err.decode().splitlines()]
+
+    return run
+
+
+FLAGS = ("", "--no-sources", "--no-reserved", "--no-sources --no-reserved")
+
+
+@pytest.mark.parametrize("flags", FLAGS)
+def test_flags(four: Four, run: Any, flags: str) -> None:
+    """A manifest by a cluster is that of this machine: the workers leave out the same fields."""
+    for where in ("--scheduler there:1", "--jobs 2"):
+        assert run(f"fingerprint {where} {flags} in")[:2] == (0, manifest(four, flags)), where
+    assert run(f"fingerprint --scheduler there:1 {flags} -o m in")[0] == 0
+    for more in ("", flags):
+        assert run(f"verify --scheduler there:1 {more} m")[:2] == (0, "".join(f"{stem}: OK\n" for stem in four))
+
+
+@pytest.mark.parametrize("where", ["--scheduler there:1", "--jobs 1"])
+def test_limits(four: Four, run: Any, where: str) -> None:
+    """Strict mode, and the limits of sizes and of memory."""
+    complete("more/no-7", b"x\n")
+    put("more/no-7.RT7").unlink()
+    complete("more/limited", b"limited\n")
+    complete("more/zip", b"x" * 100)
+    zip_up("more/zip")
+    status, out, reports = run(f"fingerprint {where} --strict --largest 115 --memory 3GB more")
+    assert (status, out, sorted(reports[:3])) == (
+        1,
+        "# tigercanon form 1\n",
+        [
+            "more/limited: refused 1 Limit 2929687",
+            "more/no-7: rejected by --strict: no .RT7",
+            "more/zip: the zip unpacks to 116 bytes, more than --largest 115",
+        ],
+    )
+    status, out, reports = run(f"fingerprint {where} --largest 116 more")
+    assert (status, [line[66:] for line in out.splitlines()[1:]]) == (1, ["more/no-7", "more/zip"])
+    assert sorted(reports[:2]) == ["more/limited: refused 1 Limit unlimited", "more/no-7: no .RT7"]
+
+
+@pytest.mark.parametrize("count", range(5))
+def test_a_scheduler_that_is_gone(four: Four, run: Any, count: int) -> None:
+    """What was answered is printed, and the status isn't that of a run that has done all, even if all that was answered is right."""
+    put("m", manifest(four).encode())
+    left = f"the scheduler at there:1 is gone: {4 - count} counties are left; run the same command again to do them"
+    status, out, reports = run("verify --scheduler there:1 m", count)
+    assert (status, out) == (int(count < 4), "".join(f"{stem}: OK\n" for stem in [*four][:count]))
+    assert (left in reports) == (count < 4)
+    status, out, reports = run("fingerprint --scheduler there:1 in", count)
+    assert (status, out, left in reports) == (int(count < 4), manifest(dict([*four.items()][:count])), count < 4)
+    status, _, reports = run("fingerprint --scheduler there:1 -o new in", count)
+    assert (status, left in reports) == (int(count < 4), count < 4)

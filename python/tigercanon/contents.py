@@ -1,0 +1,48 @@
+"""The bytes of a county in memory, for the calls of the library."""
+
+from __future__ import annotations
+
+import os
+import zipfile
+from pathlib import Path
+from typing import Iterable
+
+from .counties import Finder
+from .errors import Unreadable
+from .judge import LARGEST
+from .layout import TYPES
+from .storage import is_packed, members_of, opened_zip, pieces_of, tidy, unpacked
+
+
+def contents(path: str) -> list[bytes | bytearray]:
+    """The nine parts of the county of this name, of which those of absent files are empty; or the one part of a file with all records.
+    Raises FileNotFoundError if there is no such county, Unreadable if it isn't clear which records are meant, or if they are more than
+    a county may have, and OSError."""
+    county = Finder().of_name(tidy(path), is_exact=True)
+    if county.is_absent:
+        raise FileNotFoundError(f"there is no file {path}, and no county's files begin with this name")
+    if county.trouble:
+        raise Unreadable(county.trouble)
+    packed = county.zip.place if county.zip else path if os.path.isfile(path) and zipfile.is_zipfile(path) else ""
+    if packed:
+        with opened_zip(packed) as archive:
+            members = members_of(archive)
+            sizes = sum(member.file_size for member in members.values())
+            if sizes > LARGEST:
+                raise Unreadable(f"the zip unpacks to {sizes} bytes, more than {LARGEST}")
+            kinds = [""] if "" in members else TYPES
+            return [joined(pieces_of(archive, members[kind])) if kind in members else b"" for kind in kinds]
+    if county.whole:
+        whole = county.whole.place
+        return [joined(unpacked(whole)) if is_packed(whole) else Path(whole).read_bytes()]
+    return [Path(county.files[kind].place).read_bytes() if kind in county.files else b"" for kind in TYPES]
+
+
+def joined(pieces: Iterable[bytes]) -> bytearray:
+    """All of the pieces in one. Raises Unreadable if they are more than a county may have."""
+    text = bytearray()
+    for piece in pieces:
+        text += piece
+        if len(text) > LARGEST:
+            raise Unreadable(f"it unpacks to more than {LARGEST} bytes")
+    return text

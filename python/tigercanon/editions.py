@@ -1,0 +1,150 @@
+"""The counties of several editions of an archive: which are the same, changed, added, removed or renamed, and which share a map."""
+
+from __future__ import annotations
+
+import os
+from typing import Iterable, NamedTuple, Sequence
+
+from .errors import Failure
+from .layout import key_of
+from .manifests import Line, loaded, named, without_mark
+
+KINDS = ("same", "changed", "added", "removed", "renamed", "refused")
+Lines = dict[str, Line]
+
+
+class Edition(NamedTuple):
+    """An edition: its name, and its counties by their names without folder, case and ending."""
+
+    name: str
+    counties: Lines
+
+
+class History(NamedTuple):
+    """A county through the editions: its line in each, or None where it isn't there. It may have another name in each."""
+
+    editions: tuple[str, ...]
+    lines: tuple[Line | None, ...]
+
+    @property
+    def last(self) -> Line:
+        """Its line in the last edition that has it."""
+        return next(line for line in reversed(self.lines) if line)
+
+    @property
+    def county(self) -> str:
+        return key_of(self.last.stem)
+
+    @property
+    def maps(self) -> list[int | None]:
+        """A number for its map in each edition: the same number for the same map. None where there is no map."""
+        found: dict[str, int] = {}
+        return [found.setdefault(line.fingerprint, 1 + len(found)) if line and line.fingerprint else None for line in self.lines]
+
+    def step(self, place: int) -> str:
+        """What became of it between an edition and the one before: one of KINDS, or nothing where neither has it."""
+        old, new = self.lines[place - 1 : place + 1]
+        if old is None or new is None:
+            return "added" if new else "removed" if old else ""
+        if new.refusal:
+            return "same" if old.refusal == new.refusal else "refused"
+        is_renamed = key_of(old.stem) != key_of(new.stem)
+        return "changed" if old.fingerprint != new.fingerprint else "renamed" if is_renamed else "same"
+
+    @property
+    def steps(self) -> list[str]:
+        return [self.step(place) for place in range(1, len(self.editions))]
+
+    @property
+    def is_same(self) -> bool:
+        return all(step == "same" for step in self.steps)
+
+    @property
+    def verdict(self) -> str:
+        """What became of it, in words: `same since 1990`, or `changed in 2000, back in 2006`."""
+        if self.is_same:
+            return f"same since {self.editions[0]}"
+        maps, told = self.maps, []
+        for place, step in enumerate(self.steps, 1):
+            edition, before, old = self.editions[place], maps[:place], self.lines[place - 1]
+            if maps[place] is not None and maps[place] in before and maps[place] != maps[place - 1]:
+                told.append(f"back in {edition} as in {self.editions[before.index(maps[place])]}")
+            elif step == "renamed":
+                told.append(f"renamed in {edition} from {key_of(old.stem) if old else ''}")
+            elif step not in ("same", ""):
+                told.append(f"{'added again' if step == 'added' and any(self.lines[:place]) else step} in {edition}")
+        return ", ".join(told)
+
+
+def editions_of(names: Sequence[str], folders: Sequence[str] = ()) -> list[Edition]:
+    """The editions in these manifests: one in each, or all of them in one, below a folder each. Raises Failure if there is only one, or
+    if their fingerprints can't be compared."""
+    found = [(name, *loaded(name)) for name in names]
+    for name, flags, _ in found[1:]:
+        if without_mark(flags) != without_mark(found[0][1]):
+            made = f"{names[0]} was made with {named(found[0][1])} and {name} with {named(flags)}"
+            raise Failure(f"{made}: their fingerprints can't be compared")
+    if len(found) == 1:
+        return parted(names[0], found[0][2], folders)
+    bases = [os.path.basename(name) for name in names]
+    shown = bases if len({*bases}) == len(bases) else names
+    return [Edition(label, by_key(name, lines)) for label, (name, _, lines) in zip(shown, found)]
+
+
+def parted(name: str, lines: list[Line], folders: Sequence[str]) -> list[Edition]:
+    """The editions of one manifest: the counties below each of these folders, or else below the folders in which their names begin to
+    differ."""
+    roots = [folder.rstrip("/") for folder in folders]
+    if not roots:
+        parts = [line.stem.split("/")[:-1] for line in lines]
+        depth = len(os.path.commonprefix(parts))
+        roots = sorted({"/".join(part[: depth + 1]) for part in parts})
+        if len(roots) < 2 or any(len(part) <= depth for part in parts):
+            raise Failure(f"{name}: has one edition: name another manifest, or the folder of each edition by --edition")
+    found = [Edition(root, by_key(name, [line for line in lines if line.stem.startswith(f"{root}/")])) for root in roots]
+    for edition in found:
+        if not edition.counties:
+            raise Failure(f"{name}: has no county below {edition.name}")
+    bases = [os.path.basename(root) for root in roots]
+    return [edition._replace(name=base) for edition, base in zip(found, bases)] if len({*bases}) == len(bases) else found
+
+
+def by_key(name: str, lines: Iterable[Line]) -> Lines:
+    """The counties by their names without folder, case and ending. Raises Failure if two have one name."""
+    found: Lines = {}
+    for line in lines:
+        first = found.setdefault(key_of(line.stem), line)
+        if first is not line:
+            raise Failure(f"{name}: {first.stem} and {line.stem} have the same name, so counties can't be matched by it")
+    return found
+
+
+def histories(editions: Sequence[Edition]) -> list[History]:
+    """The counties of all editions through these, in the order of their last names. A county that is gone and one that is new in the
+    same edition are one, renamed, if they have the same map."""
+    tracks: list[list[Line | None]] = []
+    for place, edition in enumerate(editions):
+        here = dict(edition.counties)
+        gone: dict[str, list[list[Line | None]]] = {}
+        for track in tracks:
+            last = next(line for line in reversed(track) if line)
+            track.append(here.pop(key_of(last.stem), None))  # under the name that it had last
+            if track[place] is None and track[place - 1] is last and last.fingerprint:
+                gone.setdefault(last.fingerprint, []).append(track)
+        for line in here.values():
+            if gone.get(line.fingerprint):
+                gone[line.fingerprint].pop(0)[place] = line
+            else:
+                tracks.append([*([None] * place), line])
+    names = tuple(edition.name for edition in editions)
+    return sorted((History(names, tuple(track)) for track in tracks), key=lambda each: os.fsencode(each.county))
+
+
+def groups_of_one_map(lines: Iterable[Line], is_different: bool = False) -> list[list[Line]]:
+    """The counties that are one map with another one, in groups; or only groups in which counties have different names, wherever they
+    are."""
+    groups: dict[str, list[Line]] = {}
+    for line in lines:
+        if line.fingerprint:
+            groups.setdefault(line.fingerprint, []).append(line)
+    return [group for group in groups.values() if len({key_of(each.stem) for each in group} if is_different else group) > 1]

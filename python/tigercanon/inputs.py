@@ -1,0 +1,72 @@
+"""The files that a command reads. No command writes over one of them."""
+
+from __future__ import annotations
+
+import os
+import stat
+from contextlib import suppress
+from typing import Iterable, Optional, Union
+
+from .errors import Failure
+from .layout import kind_of
+
+Identity = tuple[int, int]
+STREAMS = {1: "standard output", 2: "standard error"}
+ON_THIS_MACHINE = ("file://", "local://")  # how URLs of fsspec begin that lead to files here
+
+
+class Inputs:
+    """Files that a command reads, or will read. They are known by their device and number there, so under each of their names and
+    through each link."""
+
+    def __init__(self, names: Iterable[str]) -> None:
+        """Raises Failure if standard output or standard error goes to one of the files. Then nothing more is written to it."""
+        self.names: dict[Identity, str] = {}
+        for name in names:
+            found = identity(path_of(name))
+            if found:
+                self.names.setdefault(found, name)
+        for stream, shown in STREAMS.items():
+            try:
+                self.spare(shown, stream)
+            except Failure:
+                silence(stream)
+                raise
+
+    def spare(self, shown: str, output: Union[str, int]) -> None:
+        """Raises Failure if an output is one of the files. It is a path, or the number of an open file."""
+        name = self.names.get(identity(output) or (-1, -1))
+        if name is not None:
+            other = "" if os.path.abspath(name) == os.path.abspath(shown) else f" as {name}"
+            raise Failure(f"{shown}: can't be written: this command reads it{other}")
+
+    def spare_all(self, outputs: Iterable[str]) -> None:
+        """Raises Failure if a command can't write to all of these names: one leads to a file that it reads, or is that of a county's
+        file, as when the output's own name was forgotten."""
+        for name in outputs:
+            self.spare(name, name)
+            if kind_of(name) or kind_of(os.path.realpath(name)):
+                raise Failure(f"{name}: can't be written: it has the name of a county's file")
+
+
+def path_of(name: str) -> str:
+    if name == "-":
+        return "/dev/stdin"
+    beginning = next(filter(name.startswith, ON_THIS_MACHINE), "")
+    return name[len(beginning) :]
+
+
+def identity(file: Union[str, int]) -> Optional[Identity]:
+    """The device of a regular file and its number there. Nothing for what is no such file, or can't be asked."""
+    with suppress(OSError, ValueError):
+        status = os.stat(file)
+        if stat.S_ISREG(status.st_mode):
+            return status.st_dev, status.st_ino
+    return None
+
+
+def silence(stream: int) -> None:
+    """What is printed to a stream from now on is dropped."""
+    nothing = os.open(os.devnull, os.O_WRONLY)
+    os.dup2(nothing, stream)
+    os.close(nothing)

@@ -1,0 +1,149 @@
+"""Writes a page for each county that changed between two editions, and an index of them."""
+
+from __future__ import annotations
+
+import argparse
+import html
+import json
+import os
+import re
+import sys
+from concurrent.futures import ThreadPoolExecutor
+from pathlib import Path
+from typing import Iterator, NamedTuple, Sequence
+from urllib.parse import quote
+
+from .counties import Finder
+from .diff.page import ASSETS, find_leaflet
+from .diff.words import SUBJECTS
+from .editions import History
+from .errors import printable, reported
+from .inputs import Inputs
+from .manifests import Line, loaded, without_mark
+from .own import PROCESS, new_files
+from .program import find_program
+from .progress import Tally, report
+from .storage import joined
+
+START = "import sys; sys.path[0] = sys.argv.pop(1); from tigercanon.__main__ import main; sys.exit(main())"
+PACKAGES = str(Path(__file__).resolve().parent.parent)
+COUNTS = re.compile(r'"counts":(\{[^}]*\})')
+HEAD = """\
+<!DOCTYPE html>
+<html lang="en">
+<head>
+<meta charset="utf-8">
+<meta http-equiv="Content-Security-Policy" content="default-src 'none'; style-src 'unsafe-inline'">
+<meta name="viewport" content="width=device-width, initial-scale=1">
+<title>Counties that changed</title>
+<style>
+body { font: 1rem/1.5 system-ui, sans-serif; margin: 2rem auto; max-width: 70rem; padding: 0 1rem; color: #1d2733; }
+table { border-collapse: collapse; width: 100%; }
+th, td { padding: .25rem .6rem; border-bottom: 1px solid #d5dbe1; text-align: right; font-variant-numeric: tabular-nums; }
+th:first-child, td:first-child, th:nth-child(2), td:nth-child(2), .why { text-align: left; }
+thead th { position: sticky; top: 0; background: #fff; border-bottom: 2px solid #1d2733; }
+</style>
+</head>
+<body>
+<h1>Counties that changed</h1>
+"""
+ABOUT = "<p>%s. In each cell: only in the first map, only in the second, changed. The lists are an aid, and not proved.</p>\n"
+
+
+class Change(NamedTuple):
+    """A county that changed from one edition to the next, and the name of its page."""
+
+    county: str
+    editions: tuple[str, str]
+    old: Line
+    new: Line
+    page: str
+
+
+def changed(found: Sequence[History]) -> Iterator[Change]:
+    for each in found:
+        for place, step in enumerate(each.steps, 1):
+            old, new = each.lines[place - 1 : place + 1]
+            if step == "changed" and old and new and old.fingerprint:
+                names = each.editions[place - 1], each.editions[place]
+                suffix = f".{names[0]}-{names[1]}" if len(each.editions) > 2 else ""
+                yield Change(each.county, names, old, new, f"{each.county}{suffix}.html".replace("/", "_"))
+
+
+def counts_in(page: Path, change: Change) -> dict[str, list[int]] | None:
+    """How many things differ, if the page is there and shows these two maps."""
+    try:
+        text = page.read_text("utf-8")
+    except (OSError, UnicodeDecodeError):
+        return None
+    counts = COUNTS.search(text)
+    if counts and all(f'class="fingerprint">{line.fingerprint}<' in text for line in (change.old, change.new)):
+        found: dict[str, list[int]] = json.loads(counts[1])
+        return found
+    return None
+
+
+def names_of(change: Change, root: str | None) -> list[str]:
+    """The names of a county in both editions."""
+    return [joined(root, line.stem) if root else line.stem for line in (change.old, change.new)]
+
+
+def write_pages(found: Sequence[History], options: argparse.Namespace) -> None:
+    """Writes the pages that aren't there yet, several at a time, and then the index. A run that was stopped is continued by the next
+    one."""
+    folder, changes, tally = Path(options.pages), [*changed(found)], Tally()
+    leaflet, index_page = find_leaflet(options.leaflet), str(folder / "index.html")
+    program, flags = find_program(options.program), without_mark(loaded(options.manifests[0])[0])
+    finder = Finder()
+    counties = [finder.of_name(name) for change in changes for name in names_of(change, options.root)]
+    read = [file.place for county in counties for file in county.places]
+    inputs = Inputs([*options.manifests, *read, program, *leaflet.files, *ASSETS])
+    inputs.spare_all([index_page, *(str(folder / change.page) for change in changes)])
+    with reported(options.pages):
+        folder.mkdir(parents=True, exist_ok=True)
+    left = [change for change in changes if counts_in(folder / change.page, change) is None]
+    if len(left) < len(changes):
+        report(f"{len(changes) - len(left):,} of {len(changes):,} pages are there already")
+    tally.start(len(left), 0)
+
+    def write(change: Change) -> str:
+        words = ["diff", "--summary", "--page", str(folder / change.page), "--program", program, *flags]
+        words += ["--leaflet", options.leaflet] if options.leaflet else []
+        ended = PROCESS.run([sys.executable, "-B", "-c", START, PACKAGES, *words, "--", *names_of(change, options.root)])
+        told = ended.stderr.decode(errors="replace").strip().splitlines()
+        if ended.returncode not in (0, 1):
+            return printable(told[-1].partition(": ")[2]) if told else f"the command diff ended with status {ended.returncode}"
+        return "" if counts_in(folder / change.page, change) else "on disk it isn't the map of the manifest any more"
+
+    reasons: dict[str, str] = {}
+    with ThreadPoolExecutor(options.jobs or len(os.sched_getaffinity(0))) as threads:
+        for change, why in zip(left, threads.map(write, left)):
+            if why:
+                reasons[change.page] = why
+                report(f"{change.county}: no page: {why}")
+            tally.end(0)
+            tally.look()
+    tally.close()
+    with new_files([index_page], inputs) as files:
+        files[index_page].write("".join(index(folder, changes, reasons)).encode())
+    report(f"{len(changes) - len(reasons):,} pages and index.html are in {options.pages}")
+
+
+def index(folder: Path, changes: Sequence[Change], reasons: dict[str, str]) -> Iterator[str]:
+    """The page with a line for each change: the counts, and a link to the page."""
+    yield HEAD
+    yield ABOUT % f"{len(changes):,} change{'' if len(changes) == 1 else 's'}"
+    heads = "".join(f"<th>{subject}s</th>" for subject in SUBJECTS)
+    yield f"<table>\n<thead><tr><th>County</th><th>Editions</th>{heads}</tr></thead>\n<tbody>\n"
+    for change in changes:
+        counts = counts_in(folder / change.page, change)
+        cells = (
+            "".join(f"<td>{' / '.join(f'{count:,}' for count in counts[subject][:3])}</td>" for subject in SUBJECTS)
+            if counts
+            else ""
+        )
+        cells = cells or f'<td class="why" colspan="{len(SUBJECTS)}">{html.escape(reasons.get(change.page, "no page"))}</td>'
+        name = html.escape(printable(change.county))
+        link = f'<a href="{html.escape(quote(os.fsencode(change.page)))}">{name}</a>' if counts else name
+        yield f"<tr><td>{link}</td><td>{html.escape(' to '.join(change.editions))}</td>{cells}</tr>\n"
+    yield "</tbody>\n</table>\n</body>\n</html>\n"
