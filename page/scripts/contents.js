@@ -1,0 +1,48 @@
+// The content of records: the columns that say something about a map, without the numbers that differ from file to file. A record's
+// content is one string of them.
+import { CONTENTS } from "./tables.js";
+
+const FILE_WIDTH = 5;
+
+class Content {
+  constructor({ hasFile, columns }) {
+    this.hasFile = hasFile;
+    this.columns = columns.map(([name, first, last, holds, partner]) => ({ name, first, last, holds, partner }));
+    const rest = hasFile ? this.columns.slice(1) : this.columns;
+    this.begin = rest[0].first - 1;
+    this.end = rest[rest.length - 1].last;
+    let at = 0;
+    this.places = new Map();
+    for (const column of this.columns) {
+      const width = column.last - column.first + 1;
+      this.places.set(column.name, [at, at + width]);
+      at += width;
+    }
+  }
+
+  of(line) {
+    const rest = line.slice(this.begin, this.end);
+    return this.hasFile ? line.slice(FILE_WIDTH, 2 * FILE_WIDTH) + rest : rest;
+  }
+
+  value(content, name) {
+    return content.slice(...this.places.get(name));
+  }
+
+  blanked(content, name) {
+    const [first, last] = this.places.get(name);
+    return content.slice(0, first) + " ".repeat(last - first) + content.slice(last);
+  }
+
+  // The content as seen from the chain's other end.
+  turned(content) {
+    return this.columns.map((column) => this.value(content, column.partner || column.name)).join("");
+  }
+}
+
+export const CHAIN = new Content(CONTENTS.CHAIN);
+export const NAME = new Content(CONTENTS.NAME);
+export const RANGE = new Content(CONTENTS.RANGE);
+export const LANDMARK = new Content(CONTENTS.LANDMARK);
+export const LINK = new Content(CONTENTS.LINK);
+export const POLYGON = new Content(CONTENTS.POLYGON);

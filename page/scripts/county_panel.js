@@ -1,0 +1,74 @@
+// A county on the page: judged in a worker, and shown with its stages, then with its result.
+import { badge, fingerprintOf, notesOf, refusalShown, Stages, troubleOf } from "./card.js";
+import { announce, h, replace } from "./dom.js";
+import { job } from "./jobs.js";
+import { baseOf } from "./names.js";
+
+const STEPS = ["reading", "unpacking", "judging", "fingerprint", "map"];
+
+// Calls `done` with the panel when there is a result. The panel then has { result } or { trouble }.
+export class CountyPanel {
+  constructor(county, masks, done) {
+    Object.assign(this, { county, masks, done, ordinal: "" });
+    this.head = h("div", { class: "head" });
+    this.body = h("div", { class: "body" });
+    this.node = h("section", { class: "card", "aria-label": county.stem }, this.head, this.body);
+  }
+
+  async judge() {
+    const steps = this.county.zip ? STEPS : STEPS.filter((step) => step !== "unpacking");
+    const stages = new Stages(steps, () => this.assistant?.end());
+    replace(this.head, this.title(badge("busy", "Working")));
+    replace(this.body, stages.node);
+    announce(`${this.county.stem}: judging`);
+    const question = { county: this.county, masks: this.masks };
+    try {
+      this.result = await job("judge", question, (stage) => stages.at(stage), (assistant) => {
+        this.assistant = assistant;
+      });
+    } catch (error) {
+      this.trouble = error.message;
+    }
+    if (this.isGone) return;
+    this.show();
+    this.done(this);
+  }
+
+  get isAccepted() {
+    return Boolean(this.result?.isAccepted);
+  }
+
+  title(state) {
+    const name = h("h2", {}, this.ordinal && h("span", { class: `ordinal ${this.ordinal}` }, this.ordinal), baseOf(this.county.stem));
+    return h("div", { class: "title" }, name, state);
+  }
+
+  show() {
+    if (this.trouble) this.showTrouble();
+    else if (this.result.isAccepted) this.showAccepted();
+    else this.showRefused();
+  }
+
+  showTrouble() {
+    replace(this.head, this.title(badge("refused", "Not judged")));
+    replace(this.body, troubleOf(this.trouble));
+    announce(`${this.county.stem}: ${this.trouble}`);
+  }
+
+  showAccepted() {
+    replace(this.head, this.title(badge("accepted", "Accepted")));
+    replace(this.body, fingerprintOf(this.result.fingerprint, this.masks), notesOf(this.result.notes));
+    announce(`${this.county.stem}: accepted. Fingerprint ${this.result.fingerprint.slice(0, 8)}`);
+  }
+
+  showRefused() {
+    replace(this.head, this.title(badge("refused", "Refused")));
+    replace(this.body, refusalShown(this.result), notesOf(this.result.notes));
+    announce(`${this.county.stem}: ${this.result.line}`);
+  }
+
+  dispose() {
+    this.isGone = true;
+    this.assistant?.end();
+  }
+}

@@ -1,0 +1,198 @@
+// What a chain, a landmark or a polygon says, field by field and in words, and in which fields two of them differ.
+//
+// A field has a name, what it holds, and a kind: a text, a point, or a flag that something is there. Its text is what is read (plain),
+// the bytes (exact), and what is compared (mark).
+import { CHAIN, LANDMARK, LINK, NAME, POLYGON, RANGE } from "./contents.js";
+import { degrees, NO_POINT } from "./points.js";
+import { isBlank } from "./records.js";
+import { BLANK, NONE } from "./tables.js";
+
+export const YES = "yes";
+const NO = "no";
+const NOTHING = { plain: "", exact: "", mark: "" };
+const THERE = { plain: YES, exact: YES, mark: YES };
+
+const named = (label, holds, kind = "text") => ({ label, holds, kind });
+
+// The fields of something, in their order.
+class Fields {
+  constructor() {
+    this.all = new Map();
+  }
+
+  add(label, holds, text, kind) {
+    this.all.set(label, { name: named(label, holds, kind), text });
+  }
+
+  addContent(layout, content, suffix = "") {
+    for (const column of layout.columns) {
+      const kind = column.name.includes(", ") ? "point" : "text";
+      this.add(column.name + suffix, column.holds, textOf(layout.value(content, column.name), kind), kind);
+    }
+  }
+
+  text(label) {
+    return this.all.get(label)?.text ?? NOTHING;
+  }
+}
+
+function textOf(value, kind = "text") {
+  const plain = isBlank(value) ? "" : kind === "point" ? degrees(value) : value.trim();
+  return { plain, exact: value, mark: value };
+}
+
+// Tells what the parts of one map say. Polygons of two maps that are taken for one have one mark, even if they differ.
+export class Teller {
+  constructor(county, marks) {
+    this.county = county;
+    this.marks = marks;
+  }
+
+  chain(chain) {
+    const fields = new Fields();
+    fields.addContent(CHAIN, chain.body);
+    this.county.nameBodies(chain).forEach((body, place) => {
+      fields.add(`further name ${place + 1}`, "a further name of the chain", { plain: nameText(NAME, body) || BLANK, exact: body, mark: body });
+    });
+    chain.ranges.forEach((content, place) => {
+      fields.add(`range ${place + 1}`, "whether there is a further address range", THERE, "flag");
+      fields.addContent(RANGE, content, ` of range ${place + 1}`);
+    });
+    ["start", "end"].forEach((end, place) => {
+      fields.add(`${end} node`, `whether the ${end} has a node`, isBlank(chain.nodes[place]) ? NOTHING : THERE, "flag");
+    });
+    ["left", "right"].forEach((hand, place) => this.addSide(fields, hand, chain.sides[place]));
+    fields.addContent(LINK, chain.linkBody, " of type I");
+    return fields;
+  }
+
+  addSide(fields, hand, side) {
+    fields.add(`CENID${hand[0].toUpperCase()}`, `office of the polygon on the ${hand}`, textOf(side.slice(0, 5)));
+    if (!isBlank(side.slice(5))) fields.add(`${hand} polygon`, `the polygon on the ${hand}, by what its record says`, this.polygonText(side));
+  }
+
+  // A polygon, as something else names it.
+  polygonText(key) {
+    const polygon = this.county.polygons.get(key);
+    return { plain: polygonWords(polygon.body), exact: polygon.content, mark: this.marks.get(key) };
+  }
+
+  // The polygons, as a landmark's records of type 8 name them.
+  placeTexts(landmark) {
+    return (landmark?.places ?? []).map(({ file, polygon }) => {
+      const text = this.polygonText(polygon);
+      return { plain: `${text.plain} (${polygon.slice(0, 5).trim()})`, exact: file + text.exact, mark: `${file}|${text.mark}` };
+    });
+  }
+}
+
+export function polygonFields(polygon) {
+  const fields = new Fields();
+  fields.add("CENID", "the office that numbers polygons", textOf(polygon.cenid));
+  fields.add("type P", "whether the polygon has a record of type P", polygon.body ? THERE : NOTHING, "flag");
+  if (polygon.body) fields.addContent(POLYGON, polygon.body);
+  return fields;
+}
+
+// The fields of a landmark with these records of type 7, in these polygons.
+function landmarkFields(bodies, places) {
+  const fields = new Fields();
+  bodies.forEach((body, place) => {
+    const number = place + 1;
+    if (number > 1) fields.add(`record ${number}`, "whether there is a further record of type 7", THERE, "flag");
+    fields.addContent(LANDMARK, body, number > 1 ? ` of record ${number}` : "");
+  });
+  places.forEach((text, place) => fields.add(`polygon ${place + 1}`, "a polygon that the landmark lies in", text));
+  return fields;
+}
+
+// The fields of a landmark of both maps, or of one of them. What both have stands first in its repeated fields.
+export function landmarkRows(first, second, one, other) {
+  const bodies = aligned(one?.bodies ?? [], other?.bodies ?? [], (body) => body);
+  const places = aligned(first.placeTexts(one), second.placeTexts(other), (text) => text.mark);
+  return rows(one && landmarkFields(bodies[0], places[0]), other && landmarkFields(bodies[1], places[1]));
+}
+
+// Both lists with what they have in common at their beginning, in one order.
+function aligned(first, second, mark) {
+  const { pairs, ones, others } = pairBy(first, second, mark);
+  const order = (one, other) => (mark(one[0]) < mark(other[0]) ? -1 : Number(mark(one[0]) > mark(other[0])));
+  pairs.sort(order);
+  return [pairs.map((pair) => pair[0]).concat(ones), pairs.map((pair) => pair[1]).concat(others)];
+}
+
+// Pairs what has one key, as multisets, and returns the rest of both. Items without a key aren't paired.
+export function pairBy(first, second, key) {
+  const waiting = new Map();
+  second.forEach((item, place) => {
+    const its = key(item);
+    if (its === undefined) return;
+    if (!waiting.has(its)) waiting.set(its, []);
+    waiting.get(its).push(place);
+  });
+  for (const places of waiting.values()) places.reverse();
+  const taken = new Set();
+  const pairs = [];
+  const ones = first.filter((item) => {
+    const its = key(item);
+    const places = its === undefined ? undefined : waiting.get(its);
+    if (!places?.length) return true;
+    const place = places.pop();
+    taken.add(place);
+    pairs.push([item, second[place]]);
+    return false;
+  });
+  return { pairs, ones, others: second.filter((_, place) => !taken.has(place)) };
+}
+
+// The fields of what both maps have or one of them alone, in the order of the first, without those that are blank in both.
+export function rows(first, second) {
+  const labels = new Map([...(first?.all ?? []), ...(second?.all ?? [])].map(([label, field]) => [label, field.name]));
+  const table = [];
+  for (const [label, name] of labels) {
+    const [one, other] = [first?.text(label) ?? NOTHING, second?.text(label) ?? NOTHING];
+    if (!one.plain && !other.plain) continue;
+    const isOfBoth = Boolean(first && second);
+    // A field that isn't there says as little as a blank one.
+    const differs = isOfBoth && (one.plain && one.mark) !== (other.plain && other.mark);
+    const told = isOfBoth ? [shown(name, one, other), shown(name, other, one)] : [first ? one.plain : null, second ? other.plain : null];
+    table.push({ name, first: told[0], second: told[1], differs, firstExact: one.exact, secondExact: other.exact });
+  }
+  return table;
+}
+
+// A field in words. If it would read like the other map's, which is another, it is shown byte for byte.
+function shown(name, text, other) {
+  if (name.kind === "flag") return text.plain ? YES : NO;
+  if (!text.exact) return NONE;
+  return text.plain === other.plain && text.exact !== other.exact ? `"${text.exact}"` : text.plain || BLANK;
+}
+
+// A polygon by its record of type P: where it lies.
+export function polygonWords(body) {
+  if (!body) return "without a record of type P";
+  const point = POLYGON.value(body, "POLYLONG, POLYLAT");
+  return point === NO_POINT ? "without a point" : `at ${degrees(point)}`;
+}
+
+// The feature name in a record of type 1 or 5: the direction before it, the name, its type and the direction after it.
+export function nameText(layout, content) {
+  const parts = ["FEDIRP", "FENAME", "FETYPE", "FEDIRS"].map((part) => layout.value(content, part).trim());
+  return parts.filter(Boolean).join(" ");
+}
+
+const titled = (name, cfcc) => (cfcc.trim() ? `${name} (${cfcc.trim()})` : name);
+
+export const chainTitle = (chain) => titled(nameText(CHAIN, chain.body) || "unnamed", CHAIN.value(chain.body, "CFCC"));
+
+export function landmarkTitle(landmark) {
+  const body = landmark.bodies[0];
+  return titled(LANDMARK.value(body, "LANAME").trim() || "unnamed landmark", LANDMARK.value(body, "CFCC"));
+}
+
+// Where a landmark lies: its own points, or else the internal points of its polygons.
+export function landmarkPoints(landmark, county) {
+  const without = (points) => [...new Set(points)].filter((point) => point !== NO_POINT).sort();
+  const own = without(landmark.bodies.map((body) => LANDMARK.value(body, "LALONG, LALAT")));
+  return own.length ? own : without(landmark.places.map(({ polygon }) => county.polygons.get(polygon).point));
+}

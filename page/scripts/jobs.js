@@ -1,0 +1,77 @@
+// Workers: each job has one of its own, so that its memory is given back when it ends.
+
+let scriptAddress;
+let moduleReady;
+
+function element(id) {
+  return document.getElementById(id).textContent.trim();
+}
+
+async function unzippedBase64(text) {
+  const packed = Uint8Array.from(atob(text), (letter) => letter.charCodeAt(0));
+  const stream = new Blob([packed]).stream().pipeThrough(new DecompressionStream("gzip"));
+  return new Response(stream).arrayBuffer();
+}
+
+export const bytesOfBase64 = unzippedBase64;
+
+// The engine, compiled once for all workers.
+export function engineModule() {
+  moduleReady ??= unzippedBase64(element("engine")).then((bytes) => WebAssembly.compile(bytes));
+  return moduleReady;
+}
+
+// A worker that answers questions until it is ended.
+export class Assistant {
+  constructor(onstage = () => {}) {
+    scriptAddress ??= URL.createObjectURL(new Blob([element("worker")], { type: "text/javascript" }));
+    this.worker = new Worker(scriptAddress);
+    this.waiting = new Map();
+    this.tickets = 0;
+    this.worker.onmessage = ({ data }) => (data.stage ? onstage(data.stage) : this.settle(data));
+    this.worker.onerror = (event) => {
+      event.preventDefault();
+      this.fail("The browser ended the work on this, most likely since there wasn't enough memory.");
+    };
+  }
+
+  ask(job, question = {}, transfer = []) {
+    this.tickets += 1;
+    const ticket = this.tickets;
+    return new Promise((resolve, reject) => {
+      this.waiting.set(ticket, { resolve, reject });
+      this.worker.postMessage({ ...question, job, ticket }, transfer);
+    });
+  }
+
+  settle({ ticket, answer, trouble }) {
+    const { resolve, reject } = this.waiting.get(ticket) ?? {};
+    this.waiting.delete(ticket);
+    if (trouble) reject?.(new Trouble(trouble));
+    else resolve?.(answer);
+  }
+
+  fail(sentence) {
+    for (const { reject } of this.waiting.values()) reject(new Trouble(sentence));
+    this.waiting.clear();
+  }
+
+  end() {
+    this.worker.terminate();
+    this.fail("This was stopped.");
+  }
+}
+
+// Why a job has no answer, as a sentence.
+export class Trouble extends Error {}
+
+// One job in a worker of its own. `stopped` is told how to stop it.
+export async function job(name, question, onstage, begun = () => {}) {
+  const assistant = new Assistant(onstage);
+  begun(assistant);
+  try {
+    return await assistant.ask(name, { ...question, module: await engineModule() });
+  } finally {
+    assistant.end();
+  }
+}

@@ -1,0 +1,70 @@
+// Manifests in the form of tigercanon-tools: a line with the fingerprint, two blanks and the name for each county, in the order of the
+// names, behind a first line with the form of the texts and the flags that leave fields out. The tools also write comments: the sizes
+// and times of files, and counties that were refused. They are read over here.
+import { keyOf } from "./names.js";
+import { FLAGS, FORM, IS_PROVED, UNPROVED } from "./tables.js";
+import { Unreadable } from "./zips.js";
+
+const LINE = /^([0-9a-fA-F]{64}) {2}([^\n]+)$/;
+const COMMENT = /^# [0-9?]+ [^ \n]+(?:, [0-9?]+ [^ \n]+)* {2}[^\n]+$/;
+
+// The flags of two masks, as command lines have them.
+export const flagsOf = (masks) => FLAGS.filter((flag) => masks[flag.slice("--no-".length)]);
+
+const heading = (flags) => [FORM, ...flags].join(" ");
+
+const inOrder = (one, other) => {
+  const [a, b] = [one, other].map((line) => new TextEncoder().encode(line));
+  const at = a.findIndex((byte, place) => byte !== b[place]);
+  return at < 0 ? a.length - b.length : a[at] - (b[at] ?? -1);
+};
+
+// A manifest of these counties, each with its fingerprint and its stem.
+export function manifestOf(counties, masks) {
+  const lines = counties.map(({ fingerprint, stem }) => ({ stem, line: `${fingerprint}  ${stem}` }));
+  lines.sort((one, other) => inOrder(one.stem, other.stem) || inOrder(one.line, other.line));
+  const mark = IS_PROVED ? [] : [UNPROVED];
+  return [heading([...mark, ...flagsOf(masks)]), ...lines.map(({ line }) => line)].map((line) => `${line}\n`).join("");
+}
+
+// The masks and the counties of a manifest.
+export function readManifest(text) {
+  const lines = text.replace(/\r\n/g, "\n").split("\n");
+  if (lines.pop() !== "") throw new Unreadable("its last line is cut off; let the run that writes it finish first");
+  const masks = masksOf(lines[0]);
+  // Of several lines for a county the last one counts.
+  const counties = new Map();
+  lines.forEach((line, number) => {
+    const [, fingerprint, stem] = LINE.exec(line) ?? [];
+    if (stem) counties.set(stem, { fingerprint: fingerprint.toLowerCase(), stem });
+    else if (!COMMENT.test(line) && !(masks && number === 0)) {
+      throw new Unreadable(`not a manifest: line ${number + 1} isn't a fingerprint and a name`);
+    }
+  });
+  if (!counties.size) throw new Unreadable("the manifest is empty");
+  return { masks: masks ?? { sources: false, reserved: false }, counties: [...counties.values()] };
+}
+
+// The masks of a first line. Manifests of earlier tools have the flags alone there, or no such line.
+function masksOf(line) {
+  const choices = [[], [FLAGS[0]], [FLAGS[1]], FLAGS];
+  const isHeading = (each) => line === heading(each) || line === heading([UNPROVED, ...each]);
+  const flags = choices.find((each) => isHeading(each) || (each.length && line === `# ${each.join(" ")}`));
+  return flags && { sources: flags.includes(FLAGS[0]), reserved: flags.includes(FLAGS[1]) };
+}
+
+// How counties compare with a manifest: OK, FAILED, MISSING or NEW for each name. Names must be the same; if none is, counties are
+// matched by their names without folder, case and ending. A county without a fingerprint has failed.
+export function verified(manifest, counties) {
+  const isSame = counties.some(({ stem }) => manifest.counties.some((line) => line.stem === stem));
+  const key = isSame ? (stem) => stem : keyOf;
+  const there = new Map(counties.map((county) => [key(county.stem), county]));
+  const known = new Set(manifest.counties.map(({ stem }) => key(stem)));
+  const lines = manifest.counties.map(({ stem, fingerprint }) => {
+    const county = there.get(key(stem));
+    const state = !county ? "MISSING" : county.fingerprint === fingerprint ? "OK" : "FAILED";
+    return { stem: county?.stem ?? stem, state };
+  });
+  const others = counties.filter(({ stem }) => !known.has(key(stem))).map(({ stem }) => ({ stem, state: "NEW" }));
+  return { isByName: isSame, lines: [...lines, ...others] };
+}

@@ -1,0 +1,160 @@
+// The page: takes files, and shows one county, two, or many.
+import { counted } from "./numbers.js";
+import { sortedOut } from "./counties.js";
+import { announce, replace } from "./dom.js";
+import { chosenFiles, droppedFiles } from "./dropping.js";
+import { bytesOfBase64, engineModule } from "./jobs.js";
+import { ManyCounties } from "./many.js";
+import { OneCounty } from "./one.js";
+import { EXAMPLES, IS_PROVED } from "./tables.js";
+import { TwoCounties } from "./two.js";
+
+const byId = (id) => document.getElementById(id);
+const state = { counties: [], manifests: [], skipped: new Map(), view: null, adds: false };
+const NEEDED = "This page needs a browser of 2023 or later: Chrome or Edge 103, Firefox 113, Safari 16.4.";
+
+const masksNow = () => ({ sources: byId("no-sources").checked, reserved: byId("no-reserved").checked });
+
+function setMasks({ sources, reserved }) {
+  byId("no-sources").checked = sources;
+  byId("no-reserved").checked = reserved;
+}
+
+// Shows what fits the counties that there are.
+function show() {
+  state.view?.dispose();
+  const { counties, manifests } = state;
+  const isStart = !counties.length && !manifests.length;
+  document.body.classList.toggle("at-start", isStart);
+  byId("start").hidden = !isStart;
+  byId("again").hidden = isStart;
+  state.view = isStart ? null : viewOf(counties, manifests);
+  replace(byId("results"), state.view?.node);
+  state.view?.start();
+  if (!isStart) byId("results").focus();
+}
+
+function viewOf(counties, manifests) {
+  if (counties.length === 1 && !manifests.length) {
+    return new OneCounty(counties[0], masksNow(), { addSecond: () => choose(true), addFirst: () => choose(false) });
+  }
+  if (counties.length === 2 && !manifests.length) return new TwoCounties(counties, masksNow());
+  return new ManyCounties(state, masksNow(), { open: (county) => open(county), addMore: () => choose(true), setMasks });
+}
+
+// Shows one county of many. The way back is the browser's own.
+function open(county) {
+  const before = { counties: state.counties, manifests: state.manifests, skipped: state.skipped };
+  history.pushState(null, "");
+  state.before = before;
+  Object.assign(state, { counties: [county], manifests: [] });
+  show();
+}
+
+function goBack() {
+  if (!state.before) return;
+  Object.assign(state, state.before, { before: undefined });
+  show();
+}
+
+function choose(adds) {
+  state.adds = adds;
+  byId("files").click();
+}
+
+// Takes files that were dropped or chosen. A second county comes beside the first one, and more come to a table.
+async function take(promised, adds) {
+  try {
+    const files = await promised;
+    if (!files.length) return;
+    const { counties, manifests, skipped } = await sortedOut(files);
+    if (!counties.length && !manifests.length) return complain(nothingIn(files, skipped));
+    const keeps = adds || (state.counties.length === 1 && counties.length === 1 && !manifests.length) || state.view instanceof ManyCounties;
+    const names = new Set(counties.map(({ stem }) => stem));
+    // Two files of one name are two counties, so the later one gets another name, unless it goes into a table.
+    const kept = keeps ? state.counties : [];
+    if (kept.length === 1 && counties.length === 1 && names.has(kept[0].stem)) counties[0].stem = `${counties[0].stem} (2)`;
+    const first = kept.filter(({ stem }) => !counties.some((county) => county.stem === stem));
+    Object.assign(state, { counties: [...first, ...counties], manifests: [...(keeps ? state.manifests : []), ...manifests], skipped, before: undefined });
+    complain("");
+    show();
+  } catch (error) {
+    complain(error?.message ? `The files can't be read: ${error.message}` : "The files can't be read.");
+  }
+}
+
+function nothingIn(files, skipped) {
+  const kinds = [...skipped].map(([ending, count]) => `${counted(count)} ${ending}`).join(", ");
+  return `There is no county in ${files.length === 1 ? "this" : "these"}: ${kinds || "no files"}. A county is nine files .RT1 to .RTP, a zip of them, or one file with all records.`;
+}
+
+function complain(text) {
+  byId("complaint").hidden = !text;
+  byId("complaint").textContent = text;
+  if (text) announce(text);
+}
+
+async function example(name) {
+  const files = EXAMPLES[name].map(async ({ name: path, gzip }) => {
+    const file = new File([await bytesOfBase64(gzip)], path.replace("/all", "").replace(/^.*\//, ""));
+    return { path: file.name, file };
+  });
+  Object.assign(state, { counties: [], manifests: [] });
+  await take(Promise.all(files), false);
+}
+
+function startAgain() {
+  Object.assign(state, { counties: [], manifests: [], skipped: new Map(), before: undefined });
+  complain("");
+  show();
+  byId("choose-files").focus();
+}
+
+function listen() {
+  const over = (event) => {
+    event.preventDefault();
+    event.dataTransfer.dropEffect = "copy";
+    document.body.classList.add("dropping");
+  };
+  addEventListener("dragover", over);
+  addEventListener("dragleave", (event) => event.relatedTarget === null && document.body.classList.remove("dropping"));
+  addEventListener("drop", (event) => {
+    event.preventDefault();
+    document.body.classList.remove("dropping");
+    take(droppedFiles(event.dataTransfer), false);
+  });
+  addEventListener("popstate", goBack);
+  for (const id of ["files", "folder"]) {
+    byId(id).addEventListener("change", ({ target }) => {
+      const files = chosenFiles(target.files);
+      target.value = "";
+      take(files, state.adds);
+    });
+  }
+  byId("choose-files").addEventListener("click", () => choose(false));
+  byId("choose-folder").addEventListener("click", () => {
+    state.adds = false;
+    byId("folder").click();
+  });
+  byId("again").addEventListener("click", startAgain);
+  for (const id of ["no-sources", "no-reserved"]) byId(id).addEventListener("change", () => state.view && show());
+  for (const button of document.querySelectorAll("[data-example]")) button.addEventListener("click", () => example(button.dataset.example));
+}
+
+// What this page can't do without.
+const isAble = () => typeof WebAssembly === "object" && typeof DecompressionStream === "function" && typeof crypto.subtle === "object";
+
+async function begin() {
+  listen();
+  byId("unproved").hidden = IS_PROVED;
+  if (!isAble()) return complain(NEEDED);
+  byId("start").classList.add("ready");
+  try {
+    await engineModule();
+    document.body.dataset.ready = "yes";
+  } catch (error) {
+    complain(`The engine can't be started: ${error.message}. ${NEEDED}`);
+  }
+}
+
+begin();

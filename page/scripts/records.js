@@ -1,0 +1,132 @@
+// Reads the records that the engine prints: a county's chains, feature names, polygons and landmarks. The engine spells each number
+// and point in one way, so equal ones are equal strings.
+import { CHAIN, LANDMARK, LINK, NAME, POLYGON, RANGE } from "./contents.js";
+import { NO_POINT } from "./points.js";
+import { LENGTHS } from "./tables.js";
+
+const UNUSED_PLACES = /(\+000000000\+00000000)+$/;
+
+export class NotCanonical extends Error {}
+
+export const isBlank = (text) => text.trim() === "";
+
+export class Chain {
+  constructor(fields) {
+    Object.assign(this, fields);
+  }
+}
+
+// A polygon on a side of a chain or of type P. Its body is empty if no record of type P has it. Its key is the office that numbers
+// it, in 5 columns, and its number there, in 10.
+export class Polygon {
+  constructor(key, body = "") {
+    this.key = key;
+    this.body = body;
+  }
+
+  get cenid() {
+    return this.key.slice(0, 5);
+  }
+
+  get point() {
+    return this.body ? POLYGON.value(this.body, "POLYLONG, POLYLAT") : NO_POINT;
+  }
+
+  get content() {
+    return this.cenid + this.body;
+  }
+}
+
+export class County {
+  constructor(chains, names, polygons, landmarks) {
+    Object.assign(this, { chains, names, polygons, landmarks });
+  }
+
+  // The chain's further names, spelled out.
+  nameBodies(chain) {
+    return chain.feats.map((feat) => this.names.get(feat).body);
+  }
+}
+
+// The county of a canonical text, or of respelled records.
+export function readCounty(bytes) {
+  const lines = new TextDecoder("windows-1252").decode(bytes).split("\n");
+  if (lines.pop() !== "") throw new NotCanonical("the last line has no line ending");
+  const records = Object.fromEntries(Object.keys(LENGTHS).map((type) => [type, []]));
+  lines.forEach((line, number) => {
+    if (LENGTHS[line[0]] !== line.length) throw new NotCanonical(`line ${number + 1} isn't a record`);
+    records[line[0]].push(line);
+  });
+  const names = new Map(records["5"].map((line) => [line.slice(10, 18), { body: NAME.of(line), uses: 0 }]));
+  const polygons = new Map(records.P.map((line) => [line.slice(10, 25), new Polygon(line.slice(10, 25), POLYGON.of(line))]));
+  const landmarks = readLandmarks(records);
+  const chains = readChains(records);
+  for (const chain of chains) {
+    for (const feat of chain.feats) there(names, feat).uses += 1;
+    for (const side of chain.sides) {
+      if (!polygons.has(side) && !isBlank(side.slice(5))) polygons.set(side, new Polygon(side));
+    }
+  }
+  return new County(chains, names, polygons, landmarks);
+}
+
+function there(map, key) {
+  if (!map.has(key)) throw new NotCanonical(`there is no record under ${key}`);
+  return map.get(key);
+}
+
+// The chains, in the order of their records of type 1.
+function readChains(records) {
+  const [inner, names, ranges] = ["2", "4", "6"].map((type) => byChain(records[type]));
+  const links = new Map(records.I.map((line) => [line.slice(10, 20), line]));
+  return records["1"].map((line) => {
+    const tlid = line.slice(5, 15);
+    const link = there(links, tlid);
+    const shape = (inner.get(tlid) ?? []).map((each) => each.slice(18).replace(UNUSED_PLACES, ""));
+    return new Chain({
+      key: `1${tlid}`,
+      body: CHAIN.of(line),
+      points: line.slice(190, 209) + shape.join("") + line.slice(209),
+      feats: (names.get(tlid) ?? []).flatMap(featsOf),
+      ranges: (ranges.get(tlid) ?? []).map((each) => RANGE.of(each)),
+      linkBody: LINK.of(link),
+      nodes: [link.slice(20, 30), link.slice(30, 40)],
+      sides: [link.slice(40, 55), link.slice(55, 70)],
+    });
+  });
+}
+
+// The FEATs of a record of type 4.
+function featsOf(line) {
+  const places = [18, 26, 34, 42, 50].map((at) => line.slice(at, at + 8));
+  return places.filter((feat) => !isBlank(feat));
+}
+
+// The records of each chain, by its TLID, in the order of their RTSQs.
+function byChain(lines) {
+  const found = new Map();
+  for (const line of lines) {
+    const tlid = line.slice(5, 15);
+    if (!found.has(tlid)) found.set(tlid, []);
+    found.get(tlid).push(line);
+  }
+  const sequence = (line) => Number(line.slice(15, 18));
+  for (const several of found.values()) several.sort((one, other) => sequence(one) - sequence(other));
+  return found;
+}
+
+// The landmarks, in the order of their first records.
+function readLandmarks(records) {
+  const landmarks = new Map();
+  for (const line of records["7"]) {
+    const key = line.slice(10, 20);
+    if (!landmarks.has(key)) landmarks.set(key, { key, bodies: [], places: [] });
+    landmarks.get(key).bodies.push(LANDMARK.of(line));
+  }
+  for (const line of records["8"]) {
+    there(landmarks, line.slice(25, 35)).places.push({ file: line.slice(5, 10), polygon: line.slice(10, 25) });
+  }
+  return [...landmarks.values()];
+}
+
+export const numberOf = (key) => Number(key.slice(-10));

@@ -1,0 +1,77 @@
+// Reads the parts of a county: in the order of the nine files, or the one file with all records.
+import { TYPES } from "./tables.js";
+import { checkSize, entriesOf, membersOf, Unreadable, unpacked } from "./zips.js";
+
+// The parts with their names, and notes about files that are missing or empty. `report` is told how far reading has come.
+export async function partsOf(county, report) {
+  if (county.trouble) throw new Unreadable(county.trouble);
+  if (county.whole) {
+    checkSize(county.whole.size, "the file has");
+    return { parts: [await readFile(county.whole, reading(report, county.whole.size))], names: [county.whole.name], notes: [...county.notes] };
+  }
+  const { files, names } = county.zip ? await unzipped(county.zip, report) : await singles(county.files, report);
+  const parts = [...TYPES].map((type) => files.get(type) ?? new Uint8Array(0));
+  return { parts, names: [...TYPES].map((type) => names.get(type) ?? `.RT${type}`), notes: [...notesOn(files), ...county.notes] };
+}
+
+const reading = (report, total) => progress(report, "reading", total);
+
+// Counts bytes, and reports them at most ten times a second.
+function progress(report, stage, total) {
+  let [done, last] = [0, 0];
+  report({ stage, done, total });
+  return (more) => {
+    done += more;
+    const now = performance.now();
+    if (now - last > 100 || done >= total) report({ stage, done, total });
+    if (now - last > 100) last = now;
+  };
+}
+
+async function readFile(file, count) {
+  const bytes = new Uint8Array(file.size);
+  const reader = file.stream().getReader();
+  let at = 0;
+  for (;;) {
+    const { done, value } = await reader.read();
+    if (done) break;
+    if (at + value.length > bytes.length) throw new Unreadable(`${file.name} changed while it was read`);
+    bytes.set(value, at);
+    at += value.length;
+    count(value.length);
+  }
+  if (at !== bytes.length) throw new Unreadable(`${file.name} changed while it was read`);
+  return bytes;
+}
+
+async function singles(given, report) {
+  const kinds = [...TYPES].filter((type) => given[type]);
+  const total = kinds.reduce((sum, type) => sum + given[type].size, 0);
+  checkSize(total, "the files have");
+  const count = reading(report, total);
+  const [files, names] = [new Map(), new Map()];
+  for (const type of kinds) {
+    files.set(type, await readFile(given[type], count));
+    names.set(type, given[type].name);
+  }
+  return { files, names };
+}
+
+async function unzipped(zip, report) {
+  report({ stage: "reading", done: 0, total: zip.size });
+  const members = membersOf(await entriesOf(zip));
+  const count = progress(report, "unpacking", [...members.values()].reduce((sum, entry) => sum + entry.size, 0));
+  const [files, names] = [new Map(), new Map()];
+  for (const [type, entry] of members) {
+    files.set(type, await unpacked(zip, entry, count));
+    names.set(type, entry.name);
+  }
+  return { files, names };
+}
+
+// Which of the nine files are missing, and whether that of the chains is empty.
+function notesOn(files) {
+  const missing = [...TYPES].filter((type) => !files.has(type)).map((type) => `.RT${type}`);
+  const notes = missing.length ? [`no ${missing.join(" ")}`] : [];
+  return files.get("1")?.length === 0 ? [...notes, "empty .RT1"] : notes;
+}

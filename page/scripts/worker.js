@@ -1,0 +1,109 @@
+// The work of the page, in a worker of its own. It is asked by one message and answers with any number of { stage } and one { answer }
+// or { trouble }. After the differences of two maps were found it goes on to answer questions about them.
+import { flagsOf } from "./manifests.js";
+import { compareCounties, ownNumbers } from "./matching.js";
+import { geojson } from "./geojson.js";
+import { Findings } from "./findings.js";
+import { fingerprint, hexadecimal, NO_MEMORY, normalise, respell } from "./engine.js";
+import { readCounty } from "./records.js";
+import { lineOf } from "./refusals.js";
+import { partsOf } from "./sets.js";
+import { shownOf } from "./faulty.js";
+import { shapesOf } from "./shapes.js";
+import { Unreadable } from "./zips.js";
+
+const FULL = "There wasn't enough memory for this in the browser. Close other pages and try again, or use the program.";
+
+const report = (stage) => postMessage({ stage });
+
+const digestOf = async (bytes) => hexadecimal(new Uint8Array(await crypto.subtle.digest("SHA-256", bytes)));
+
+const refusedAnswer = (fault, parts, names, notes) => {
+  const shown = fault.number === 9 ? { lines: [] } : shownOf(fault, parts, names);
+  return { isAccepted: false, line: lineOf(fault), number: fault.number, notes, ...shown };
+};
+
+// Judges a county: its canonical text, the hash of that, and the map's shapes.
+async function judge({ module, county, masks }) {
+  const { parts, names, notes } = await partsOf(county, report);
+  report({ stage: "judging" });
+  const { status, text, fault } = normalise(module, parts, masks);
+  if (fault) return refusedAnswer(fault, parts, names, status === NO_MEMORY ? [...notes, FULL] : notes);
+  parts.length = 0;
+  report({ stage: "fingerprint" });
+  const digest = await digestOf(text);
+  report({ stage: "map" });
+  const shapes = shapesOf(text);
+  return { isAccepted: true, fingerprint: digest, text: new Blob([text]), size: text.length, shapes, notes };
+}
+
+// Judges a county of many: only its fingerprint, by the engine's own call.
+async function judgeOfMany({ module, county, masks }) {
+  const { parts, names, notes } = await partsOf(county, report);
+  report({ stage: "judging" });
+  const answer = fingerprint(module, parts, masks);
+  if (answer.fault) return refusedAnswer(answer.fault, parts, names, notes);
+  return { isAccepted: true, fingerprint: answer.fingerprint, notes };
+}
+
+let findings;
+
+function areEqual(one, other) {
+  if (one.length !== other.length) return false;
+  for (let at = 0; at < one.length; at += 1) if (one[at] !== other[at]) return false;
+  return true;
+}
+
+// Compares two canonical texts byte by byte, and finds what differs.
+async function compareTexts({ texts }) {
+  report({ stage: "comparing" });
+  const [first, second] = await Promise.all(texts.map(async (text) => new Uint8Array(await text.arrayBuffer())));
+  const areOneMap = areEqual(first, second);
+  const counties = [first, second].map(readCounty);
+  report({ stage: "matching" });
+  findings = new Findings(compareCounties(...counties), counties, areOneMap);
+  report({ stage: "map" });
+  return findings.summary();
+}
+
+// The differences as GeoJSON, with the numbers in the users' files.
+async function saveDifferences({ module, counties, sets, masks, withAlike }) {
+  const own = [];
+  for (const [place, county] of counties.entries()) {
+    const { parts } = await partsOf(county, () => report({ stage: "reading again" }));
+    const { text } = respell(module, parts);
+    if (!text) throw new Unreadable(`${county.stem} can't be read again as it was`);
+    own.push(ownNumbers(readCounty(text), findings.counties[place], masks));
+  }
+  report({ stage: "writing" });
+  const pieces = geojson(findings.comparison, sets, findings.areOneMap, flagsOf(masks).join(" "), own, withAlike);
+  return { text: new Blob([...pieces], { type: "application/geo+json" }) };
+}
+
+export const JOBS = {
+  judge,
+  judgeOfMany,
+  compareTexts,
+  saveDifferences,
+  list: (question) => findings.list(question),
+  rows: ({ number }) => findings.rowsOf(number),
+};
+
+// What went wrong, as a sentence.
+export function sentence(error) {
+  if (error instanceof Unreadable) return `${error.message[0].toUpperCase()}${error.message.slice(1)}.`;
+  if (error instanceof RangeError) return FULL;
+  if (error?.name === "NotReadableError" || error?.name === "NotFoundError") return "The file can't be read: it was moved, changed or is locked.";
+  if (error instanceof WebAssembly.RuntimeError) return `The engine stopped by a fault of its own (${error.message}). Please report it.`;
+  return `This page failed (${error?.message ?? error}). Please report it.`;
+}
+
+if (typeof WorkerGlobalScope !== "undefined") {
+  addEventListener("message", async ({ data }) => {
+    try {
+      postMessage({ ticket: data.ticket, answer: await JOBS[data.job](data) });
+    } catch (error) {
+      postMessage({ ticket: data.ticket, trouble: sentence(error) });
+    }
+  });
+}

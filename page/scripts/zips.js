@@ -1,0 +1,159 @@
+// Reads zips as TIGER/Line files are distributed. What is unpacked is bounded: never more than a zip's directory announces, and no
+// county of more than LARGEST bytes.
+import { kindOf, stemOf } from "./names.js";
+import { counted } from "./numbers.js";
+import { TYPES } from "./tables.js";
+
+export const LARGEST = 1_000_000_000;
+
+const END_MARK = 0x06054b50;
+const ENTRY_MARK = 0x02014b50;
+const LONGEST_END = 65557;
+const END_BYTES = 22;
+const ENTRY_BYTES = 46;
+const STORED = 0;
+const DEFLATED = 8;
+const LOCKED = 1;
+const UTF_8 = 0x800;
+const BEYOND_32_BITS = 0xffffffff;
+
+// What can't be read. The message says why, as a user can be told.
+export class Unreadable extends Error {}
+
+async function wordsOf(blob, from, to) {
+  return new DataView(await blob.slice(from, to).arrayBuffer());
+}
+
+// The entries of a zip's directory.
+export async function entriesOf(blob) {
+  const from = Math.max(0, blob.size - LONGEST_END);
+  const tail = await wordsOf(blob, from, blob.size);
+  let end = tail.byteLength - END_BYTES;
+  while (end >= 0 && tail.getUint32(end, true) !== END_MARK) end -= 1;
+  if (end < 0) {
+    const start = new Uint8Array(await blob.slice(0, 2).arrayBuffer());
+    throw new Unreadable(start[0] === 0x50 && start[1] === 0x4b ? "the zip is cut off" : "it isn't a zip");
+  }
+  const count = tail.getUint16(end + 10, true);
+  const [size, at] = [tail.getUint32(end + 12, true), tail.getUint32(end + 16, true)];
+  if (at === BEYOND_32_BITS || count === 0xffff) throw new Unreadable("the zip is too large for this page: unpack it first");
+  // What stands before a zip, such as a program that unpacks it, moves every place in it.
+  const moved = from + end - size - at;
+  if (moved < 0) throw new Unreadable("the zip is broken: its directory can't be read");
+  const directory = await wordsOf(blob, at + moved, at + moved + size);
+  return readDirectory(directory, count, moved);
+}
+
+function readDirectory(directory, count, moved) {
+  const entries = [];
+  let at = 0;
+  for (let number = 0; number < count; number += 1) {
+    if (at + ENTRY_BYTES > directory.byteLength || directory.getUint32(at, true) !== ENTRY_MARK) {
+      throw new Unreadable("the zip is broken: its directory can't be read");
+    }
+    const short = (place) => directory.getUint16(at + place, true);
+    const long = (place) => directory.getUint32(at + place, true);
+    const name = new Uint8Array(directory.buffer, at + ENTRY_BYTES, Math.min(short(28), directory.byteLength - at - ENTRY_BYTES));
+    const text = new TextDecoder(short(8) & UTF_8 ? "utf-8" : "windows-1252").decode(name);
+    const entry = { name: text, flags: short(8), method: short(10), crc: long(16), packed: long(20), size: long(24), at: long(42) + moved };
+    if ([entry.packed, entry.size].includes(BEYOND_32_BITS)) throw new Unreadable("the zip is too large for this page: unpack it first");
+    entries.push(entry);
+    at += ENTRY_BYTES + short(28) + short(30) + short(32);
+  }
+  return entries;
+}
+
+// The files of the one county in a zip by their types, in either case of their names.
+export function membersOf(entries) {
+  const counties = new Map();
+  for (const entry of entries) {
+    const kind = kindOf(entry.name);
+    if (kind === "" || !TYPES.includes(kind)) continue;
+    const stem = stemOf(entry.name).toUpperCase();
+    if (!counties.has(stem)) counties.set(stem, new Map());
+    const files = counties.get(stem);
+    files.set(kind, [...(files.get(kind) ?? []), entry]);
+  }
+  if (counties.size === 0) throw new Unreadable("the zip has no county in it");
+  if (counties.size > 1) {
+    const names = [...counties.keys()].sort().slice(0, 3).join(", ");
+    throw new Unreadable(`the zip has ${counties.size} counties in it: ${names}`);
+  }
+  const members = new Map();
+  for (const [kind, found] of [...counties.values()][0]) {
+    if (found.length > 1) throw new Unreadable(`the zip has ${found.length} files .RT${kind}`);
+    if (found[0].flags & LOCKED) throw new Unreadable("the zip is locked with a password");
+    members.set(kind, found[0]);
+  }
+  checkSize([...members.values()].reduce((sum, entry) => sum + entry.size, 0), "the zip unpacks to");
+  return members;
+}
+
+export function checkSize(size, what) {
+  if (size > LARGEST) throw new Unreadable(`${what} ${counted(size)} bytes, and this page takes at most ${counted(LARGEST)}: use the program`);
+}
+
+// The bytes of a file in a zip.
+export async function unpacked(blob, entry, progress) {
+  const broken = new Unreadable(`the zip is broken at ${entry.name}`);
+  const head = await wordsOf(blob, entry.at, entry.at + 30);
+  if (head.byteLength < 30 || head.getUint32(0, true) !== 0x04034b50) throw broken;
+  const from = entry.at + 30 + head.getUint16(26, true) + head.getUint16(28, true);
+  const packed = blob.slice(from, from + entry.packed);
+  if (packed.size !== entry.packed) throw broken;
+  if (![STORED, DEFLATED].includes(entry.method)) {
+    throw new Unreadable(`the zip can't be unpacked: ${entry.name} is compressed by an unknown method`);
+  }
+  const stream = packed.stream();
+  const pieces = entry.method === STORED ? stream : stream.pipeThrough(new DecompressionStream("deflate-raw"));
+  const bytes = new Uint8Array(entry.size);
+  const length = await filled(bytes, pieces.getReader(), broken, progress);
+  if (length !== entry.size || checksum(bytes) !== entry.crc) throw broken;
+  return bytes;
+}
+
+// Reads pieces into so many bytes, and returns how many came. More are never taken.
+async function filled(bytes, reader, broken, progress) {
+  let at = 0;
+  try {
+    for (;;) {
+      const { done, value } = await reader.read();
+      if (done) return at;
+      if (at + value.length > bytes.length) throw broken;
+      bytes.set(value, at);
+      at += value.length;
+      progress(value.length);
+    }
+  } catch (error) {
+    if (error instanceof RangeError) throw error;
+    throw broken;
+  } finally {
+    reader.cancel().catch(() => {});
+  }
+}
+
+const CHECKSUMS = Array.from({ length: 4 }, () => new Uint32Array(256));
+for (let byte = 0; byte < 256; byte += 1) {
+  let sum = byte;
+  for (let bit = 0; bit < 8; bit += 1) sum = sum & 1 ? (sum >>> 1) ^ 0xedb88320 : sum >>> 1;
+  CHECKSUMS[0][byte] = sum;
+}
+for (let table = 1; table < 4; table += 1) {
+  for (let byte = 0; byte < 256; byte += 1) {
+    const before = CHECKSUMS[table - 1][byte];
+    CHECKSUMS[table][byte] = (before >>> 8) ^ CHECKSUMS[0][before & 255];
+  }
+}
+
+// The CRC-32 of a file in a zip, four bytes at a time.
+function checksum(bytes) {
+  const [one, two, three, four] = CHECKSUMS;
+  const whole = bytes.length & ~3;
+  let sum = ~0;
+  for (let at = 0; at < whole; at += 4) {
+    sum ^= bytes[at] | (bytes[at + 1] << 8) | (bytes[at + 2] << 16) | (bytes[at + 3] << 24);
+    sum = four[sum & 255] ^ three[(sum >>> 8) & 255] ^ two[(sum >>> 16) & 255] ^ one[sum >>> 24];
+  }
+  for (let at = whole; at < bytes.length; at += 1) sum = (sum >>> 8) ^ one[(sum ^ bytes[at]) & 255];
+  return ~sum >>> 0;
+}

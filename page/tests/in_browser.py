@@ -1,0 +1,346 @@
+"""What the page shows in a browser: one county, two and many, what is refused, and what is broken."""
+
+from __future__ import annotations
+
+import gzip
+import http.server
+import json
+import os
+import re
+import struct
+import sys
+import threading
+import time
+import zipfile
+from pathlib import Path
+from typing import Any
+
+from browser import Browser
+from testing import ROOT, Tests, make_county, run
+
+EXAMPLES = ROOT / "examples"
+SECONDS = 5.0  # for 100,000 chains, if nothing else runs
+TOOLS = ROOT / "tigercanon-tools"
+RESULT = "document.querySelector('#fingerprint, .refusal')"
+VERDICT = "document.querySelector('.verdict h2, .verdict .none, .verdict .refusal')"
+TABLE = "document.querySelector('.many .actions button')"
+
+
+class Page(Tests):
+    """The page in a browser, and the program that it has to agree with."""
+
+    browser: Browser
+
+    def show(self, files: list[Path], until: str = RESULT, to: str = "files") -> bool:
+        self.browser.start_again()
+        self.browser.give(files, to)
+        return self.holds(f"{files[0].name} has a result", self.browser.wait_for(until), self.browser.text("main"))
+
+    def printed(self, *words: object) -> str:
+        done = run([self.program, *words])
+        return (done.out or done.err).decode().strip()
+
+
+def try_one(page: Page) -> None:
+    stem = EXAMPLES / "autauga/TGR01001"
+    readme = re.search(r"(?m)^    ([0-9a-f]{64})$", (ROOT / "README.md").read_text())
+    wanted = readme[1] if readme else "README has no fingerprint"
+    page.show([stem.with_suffix(f".RT{kind}") for kind in "1245678IP"])
+    page.equal("the fingerprint of nine files", wanted, page.browser.evaluate("document.getElementById('fingerprint').textContent"))
+    page.equal("no note", [], page.browser.texts(".note p"))
+    page.holds("a map", page.browser.wait_for("document.querySelector('.map')?.dataset.drawn"))
+    page.browser.click(".actions .main")
+    page.equal("the canonical text", (EXAMPLES / "autauga/canonical.txt").read_bytes(), page.browser.downloaded("TGR01001.txt"))
+    page.equal("counts", ["7", "2", "1", "3", "3", "33"], page.browser.texts(".counts dd"))
+    page.show([stem.with_suffix(f".RT{kind}") for kind in "1IP"])
+    page.holds(
+        "a note on missing files", "no .RT2 .RT4 .RT5 .RT6 .RT7 .RT8" in page.browser.text(".note"), page.browser.text("main")
+    )
+
+
+def try_masks(page: Page) -> None:
+    file = EXAMPLES / "two-maps/first.txt"
+    for flags in (["no-sources"], ["no-sources", "no-reserved"], ["no-reserved"], []):
+        for box in ("no-sources", "no-reserved"):
+            page.browser.driver.execute_script("document.getElementById(arguments[0]).checked = arguments[1]", box, box in flags)
+        page.show([file])
+        wanted = page.printed("fingerprint", *(f"--{flag}" for flag in flags), file)
+        page.equal(
+            f"the fingerprint with {flags}", wanted, page.browser.evaluate("document.getElementById('fingerprint')?.textContent")
+        )
+        page.holds(f"the page names {flags}", all(f"--{flag}" in page.browser.text(".fingerprint") for flag in flags))
+
+
+def zipped(path: Path, files: dict[str, bytes]) -> Path:
+    with zipfile.ZipFile(path, "w", zipfile.ZIP_DEFLATED) as archive:
+        for name, text in files.items():
+            archive.writestr(name, text)
+    return path
+
+
+def autauga(name: str = "autauga") -> dict[str, bytes]:
+    return {path.name: path.read_bytes() for path in sorted((EXAMPLES / name).glob("TGR01001.RT*"))}
+
+
+def try_zips(page: Page) -> None:
+    wanted = page.printed("fingerprint", EXAMPLES / "autauga/all.txt")
+    small = {name.lower(): text for name, text in autauga().items()}
+    for files in (autauga(), small, {f"in/{name}": text for name, text in autauga().items()}):
+        page.show([zipped(page.room / "TGR01001.ZIP", files)])
+        page.equal(
+            f"the fingerprint of a zip with {[*files][0]}",
+            wanted,
+            page.browser.evaluate("document.getElementById('fingerprint')?.textContent"),
+        )
+
+
+def broken_zips(page: Page) -> dict[Path, str]:
+    """Zips that can't be read, and what the page says about each."""
+    whole = zipped(page.room / "whole.zip", autauga()).read_bytes()
+    at = whole.index(b"PK\1\2")
+    entry = whole.index(b"TGR01001.RT1", at) - 46
+
+    def file(name: str, text: bytes) -> Path:
+        (page.room / name).write_bytes(text)
+        return page.room / name
+
+    def changed(place: int, format: str, value: int) -> bytes:
+        length = struct.calcsize(format)
+        return whole[: entry + place] + struct.pack(format, value) + whole[entry + place + length :]
+
+    return {
+        file("cut.zip", whole[:-500]): "The zip is cut off.",
+        file("text.zip", b"nothing"): "It isn't a zip.",
+        file("sum.zip", changed(16, "<I", 1)): "The zip is broken at TGR01001.RT1.",
+        file("small.zip", changed(24, "<I", 20)): "The zip is broken at TGR01001.RT1.",
+        file("large.zip", changed(24, "<I", 4_000_000_000)): "The zip unpacks to 4,000,002,",
+        file("method.zip", changed(10, "<H", 99)): "The zip can't be unpacked: TGR01001.RT1 is compressed by an unknown method.",
+        file("locked.zip", changed(8, "<H", 1)): "The zip is locked with a password.",
+        file("directory.zip", whole[:at] + b"XXXX" + whole[at + 4 :]): "The zip is broken: its directory can't be read.",
+        zipped(page.room / "none.zip", {"a.txt": b""}): "The zip has no county in it.",
+        zipped(page.room / "two.zip", {"A.RT1": b"", "B.RT1": b""}): "The zip has 2 counties in it: A, B.",
+        zipped(page.room / "twice.zip", {"A.RT1": b"", "a.rt1": b""}): "The zip has 2 files .RT1.",
+    }
+
+
+def try_broken_files(page: Page) -> None:
+    for path, sentence in broken_zips(page).items():
+        page.show([path])
+        page.holds(path.name, page.browser.text(".refusal .line").startswith(sentence), page.browser.text("main"))
+    packed = page.room / "packed.txt"
+    packed.write_bytes(gzip.compress(b"1"))
+    page.show([packed])
+    page.holds("a hint", "compressed by gzip" in page.browser.text(".refusal"), page.browser.text(".refusal"))
+    empty = page.room / "empty.txt"
+    empty.write_bytes(b"")
+    page.show([empty])
+    page.holds("an empty file", "no chains" in page.browser.text(".chart"), page.browser.text("main"))
+
+
+def try_refusals(page: Page) -> None:
+    broken = EXAMPLES / "broken.txt"
+    page.show([broken])
+    page.equal("the line of a refusal", page.printed("check", broken), page.browser.text(".refusal .line code"))
+    page.equal(
+        "the marked field",
+        "28450 13".rjust(10),
+        page.browser.evaluate("document.querySelector('.columns mark').textContent.replace(/\u00a0/g, ' ')"),
+    )
+    page.holds(
+        "the file and line",
+        page.browser.text("figcaption").startswith("broken.txt, line 4 — TLID, columns 6 to 15"),
+        page.browser.text("figcaption"),
+    )
+    page.equal("a right value", "500".rjust(10), page.browser.evaluate("document.querySelector('.example').textContent"))
+    section = (ROOT / "docs/guide.md").read_text().partition("### `refused 4 BadNumber PART LINE COLUMN`")[2].strip()
+    page.holds("the guide's text", page.browser.text(".guide").startswith(section[:40]), page.browser.text(".guide"))
+    for path in sorted((EXAMPLES / "refused").glob("*.txt")):
+        page.show([path])
+        page.equal(path.name, page.printed("check", path), page.browser.text(".refusal .line code"))
+        page.holds(f"{path.name} shows a line", page.browser.texts(".columns mark"), page.browser.text(".refusal"))
+
+
+def try_same(page: Page) -> None:
+    page.show([EXAMPLES / "autauga/all.txt", EXAMPLES / "autauga-renumbered/TGR01001.RT1"], VERDICT)
+    page.equal("a chain's file and a whole county", "They can't be compared: not both are accepted.", page.browser.text(".verdict"))
+    other = page.room / "other.txt"
+    other.write_bytes((EXAMPLES / "autauga-renumbered/all.txt").read_bytes())
+    page.show([EXAMPLES / "autauga/all.txt", other], VERDICT)
+    page.equal("two files of one map", "Same map", page.browser.text(".verdict h2"))
+    page.show([EXAMPLES / "autauga/all.txt", EXAMPLES / "autauga-one-address.txt"], VERDICT)
+    page.equal("two texts of one length", "Different maps", page.browser.text(".verdict h2"))
+
+
+def try_different(page: Page) -> None:
+    files = [EXAMPLES / "two-maps/first.txt", EXAMPLES / "two-maps/second.txt"]
+    page.show(files, "document.querySelector('.differences li')")
+    page.equal("two maps", "Different maps", page.browser.text(".verdict h2"))
+    summary = run([TOOLS, "diff", "--program", page.program, "--summary", *files]).out.decode()
+    wanted = [
+        number
+        for line in summary.splitlines()
+        if line.startswith(("only in", "changed", "alike"))
+        for number in re.findall(r"[\d,]+|-", line)
+    ]
+    page.equal("the counts", wanted, [text.replace("–", "-") for text in page.browser.texts(".kinds td:not(:first-child)") if text])
+    page.holds("a map", page.browser.wait_for("document.querySelector('.map')?.dataset.drawn"))
+    page.browser.click(".differences li:nth-child(9) button")
+    page.holds("the fields of a chain", page.browser.wait_for("document.querySelector('.differences .inside tr')"))
+    saved_as(page, files, [])
+    page.browser.click("#with-alike")
+    saved_as(page, files, ["--all"])
+
+
+def saved_as(page: Page, files: list[Path], flags: list[str]) -> None:
+    """The GeoJSON that the page saves is the tools', except what names the maker and the files."""
+    page.browser.click(".side .actions .main")
+    found = json.loads(page.browser.downloaded("first-second.geojson") or "{}")
+    by_tools = page.room / "tools.geojson"
+    run([TOOLS, "diff", "--program", page.program, *flags, "--geojson", by_tools, *files])
+    wanted = json.loads(by_tools.read_text())
+    for each in (found, wanted):
+        each.pop("about", None)
+        for side in ("first", "second"):
+            each.get(side, {}).pop("name", None)
+    page.equal(f"GeoJSON {flags}", json.dumps(wanted), json.dumps(found))
+
+
+def archive(page: Page) -> Path:
+    """A folder of counties: zips and single files, accepted and refused ones, and other files."""
+    folder = page.room / "tiger"
+    folder.mkdir()
+    zipped(folder / "TGR01001.ZIP", autauga())
+    zipped(folder / "TGR01002.zip", autauga("autauga-renumbered"))
+    for number in (3, 4, 5):
+        make_county("--stem", "--seed", number, 200, folder / f"TGR0100{number}")
+    (folder / "TGR01005.RT7").unlink()
+    (folder / "TGR01006.RT1").write_bytes((EXAMPLES / "broken.txt").read_bytes())
+    (folder / "readme.pdf").write_bytes(b"")
+    return folder
+
+
+def unmarked(lines: list[bytes]) -> list[bytes]:
+    """The lines of a manifest without the mark of an unproved program."""
+    return [line.replace(b" unproved", b"") if line.startswith(b"# ") else line for line in lines]
+
+
+def try_many(page: Page) -> None:
+    folder = archive(page)
+    page.show([folder], TABLE, to="folder")
+    page.browser.click(".many .actions .main")
+    saved = page.browser.downloaded("counties.manifest")
+    run([TOOLS, "fingerprint", "--program", page.program, "-o", "manifest", "tiger"], cwd=page.room)
+    lines_of_tools = [line for line in (page.room / "manifest").read_bytes().splitlines() if not re.match(rb"# [0-9?]", line)]
+    page.equal("the manifest of the page and of the tools", unmarked(lines_of_tools), unmarked(saved.splitlines()))
+    text = page.browser.text(".summary")
+    page.holds("skipped files are counted", "1 .pdf" in text and "2 refused" in text, text)
+    page.holds(
+        "counties of one map", "tiger/TGR01001, tiger/TGR01002" in page.browser.text(".many .note"), page.browser.text(".many")
+    )
+    lines = saved.decode().splitlines(keepends=True)
+    lines[2] = "0" * 64 + lines[2][64:]
+    changed = page.room / "changed"
+    comments = "# 12 2026-11-29T22:20:40.7Z, 3 ?  tiger/TGR01001\n# 5 2026-11-29T22:20:40Z  refused 4 BadNumber 1 4 6  tiger/TGR01006\n"
+    changed.write_text("".join(lines[:-1]) + f"{comments}{'1' * 64}  tiger/TGR01009\n")
+    page.browser.give([changed])
+    page.holds("a verdict", page.browser.wait_for("document.querySelector('.verified')"), page.browser.text("main"))
+    verdict = page.browser.text(".verified")
+    page.holds("what was compared", all(word in verdict for word in ("1 FAILED", "1 MISSING", "3 NEW")), verdict)
+    page.browser.click("tbody tr button")
+    page.holds("a county of the table", page.browser.wait_for(RESULT), page.browser.text("main"))
+    page.browser.driver.back()
+    page.holds("back to the table", page.browser.wait_for(TABLE), page.browser.text("main"))
+
+
+def try_large(page: Page) -> None:
+    path = page.room / "large.txt"
+    make_county(100_000, path)
+    wanted = page.printed("fingerprint", path)
+    page.browser.start_again()
+    begun = time.monotonic()
+    page.browser.give([path])
+    page.browser.wait_for(RESULT)
+    found = page.browser.evaluate("document.getElementById('fingerprint')?.textContent")
+    answered = time.monotonic() - begun
+    page.holds("a map of 100,000 chains", page.browser.wait_for("document.querySelector('.map')?.dataset.drawn"))
+    drawn, load = time.monotonic() - begun, os.getloadavg()[0]
+    page.equal("the fingerprint of 100,000 chains", wanted, found)
+    print(
+        f"page: 100,000 chains: an answer after {answered:.1f} s, the whole map after {drawn:.1f} s, at a load of {load:.1f}",
+        file=sys.stderr,
+    )
+    if load < 1.5:
+        page.holds("100,000 chains in 5 seconds", drawn < SECONDS, f"{drawn:.1f} s")
+    else:
+        page.skip(f"the time for 100,000 chains: other work is under way here (a load of {load:.1f})")
+
+
+class Counting(http.server.BaseHTTPRequestHandler):
+    """A server that counts its calls."""
+
+    calls = 0
+
+    def do_GET(self) -> None:
+        Counting.calls += 1
+        self.send_response(200)
+        self.send_header("Access-Control-Allow-Origin", "*")
+        self.end_headers()
+
+    def log_message(self, *_: Any) -> None:
+        pass
+
+
+REACH_OUT = """
+const [address, done] = arguments;
+const image = () => new Promise((resolve) => { const it = new Image(); it.onload = () => resolve("came"); it.onerror = () => resolve("refused"); it.src = address; });
+const told = (promise) => promise.then(() => "came", () => "refused");
+Promise.all([told(fetch(address)), image()]).then(done);
+"""
+
+
+def try_network(page: Page) -> None:
+    """The page has made no request, logged nothing and kept nothing; and its policy refuses requests."""
+    page.browser.collect()
+    page.equal("requests", [], page.browser.requests)
+    page.equal("the browser's log", [], page.browser.log)
+    page.equal("what is kept", [0, 0, ""], page.browser.evaluate("[localStorage.length, sessionStorage.length, document.cookie]"))
+    server = http.server.HTTPServer(("127.0.0.1", 0), Counting)
+    threading.Thread(target=server.serve_forever, daemon=True).start()
+    address = f"http://127.0.0.1:{server.server_port}/"
+    page.equal("asking the network", ["refused", "refused"], page.browser.driver.execute_async_script(REACH_OUT, address))
+    page.equal("calls of a server", 0, Counting.calls)
+    server.shutdown()
+
+
+NAMELESS = """
+Array.from(document.querySelectorAll("button, input:not([type=file]), [tabindex='0'], a, canvas:not([aria-hidden])")).filter((it) =>
+  it.offsetParent && !(it.innerText || it.ariaLabel || it.labels?.length || it.title)).map((it) => it.outerHTML.slice(0, 80))
+"""
+
+
+def try_names(page: Page) -> None:
+    """Everything that can be used has a name for screen readers, and what happens is announced."""
+    files = [EXAMPLES / "two-maps/first.txt", EXAMPLES / "two-maps/second.txt"]
+    for shown, until in (
+        (files[:1], RESULT),
+        ([EXAMPLES / "broken.txt"], RESULT),
+        (files, "document.querySelector('.differences li')"),
+    ):
+        page.show(shown, until)
+        page.equal(f"without a name, beside {shown[-1].name}", [], page.browser.evaluate(NAMELESS.strip()))
+        page.holds("an announcement", page.browser.wait_for("document.getElementById('announced').textContent"))
+
+
+CASES = (
+    try_one,
+    try_masks,
+    try_zips,
+    try_broken_files,
+    try_refusals,
+    try_same,
+    try_different,
+    try_names,
+    try_many,
+    try_large,
+    try_network,
+)

@@ -1,0 +1,47 @@
+"""Makes the picture of the page in README, docs/page.png: two maps of a town, with a difference opened.
+
+    PYTHONPATH=tools:page/tests /usr/bin/python3 -B page/tests/picture.py [PAGE]
+
+PAGE is by default out/page/tigercanon.html. Needs Debian's python3-pil besides what .ci/test-page needs.
+"""
+
+import sys
+import tempfile
+from pathlib import Path
+
+from browser import Browser
+from PIL import Image
+from testing import ROOT
+
+TOWN = ROOT / "examples/two-maps"
+NUMBER = 14  # the difference that is opened
+WIDTH, HEIGHT, COLOURS = 1280, 860, 96
+
+
+def main(page: Path) -> None:
+    with tempfile.TemporaryDirectory() as room:
+        browser = Browser(Path(room), WIDTH, HEIGHT)
+        try:
+            browser.open(page)
+            # Whether the engine is proved isn't what the picture shows.
+            browser.driver.execute_script("document.getElementById('unproved').hidden = true")
+            browser.give([TOWN / "first.txt", TOWN / "second.txt"])
+            browser.wait_for("document.querySelector('.differences li')")
+            browser.click(f".differences li:nth-child({NUMBER}) button")
+            browser.wait_for("document.querySelector('.differences .inside tr')")
+            browser.driver.execute_script(
+                "const map = document.querySelector('.tools'); for (const at of [1, 1]) map.children[at].click()"
+            )
+            browser.driver.execute_script(
+                "const list = document.querySelector('.differences'); list.scrollTop = document.querySelector('.inside').parentElement.offsetTop - list.offsetTop - 70; scrollTo(0, 0)"
+            )
+            browser.wait_for("document.querySelector('.map').dataset.drawn")
+            browser.picture(Path(room, "page.png"))
+        finally:
+            browser.close()
+        picture = Image.open(Path(room, "page.png")).convert("RGB")
+        picture.quantize(COLOURS, dither=Image.Dither.NONE).save(ROOT / "docs/page.png", optimize=True)
+
+
+if __name__ == "__main__":
+    main(Path(sys.argv[1] if len(sys.argv) > 1 else ROOT / "out/page/tigercanon.html").resolve())
