@@ -1,12 +1,13 @@
 """The crates of the repository as crates.txt has them, and what the libraries were proved from that scripts/prove left."""
 
+import contextlib
 import functools
 import hashlib
 import os
 import re
 import shutil
 from pathlib import Path
-from typing import Optional
+from typing import Callable, Optional
 
 ROOT = Path(__file__).resolve().parent.parent
 PARTS = ("src", "specs", "proofs")
@@ -32,11 +33,30 @@ def size_of(crate: str) -> int:
     return sum(file.st_size for file in sources_of(crate))
 
 
+@functools.lru_cache(maxsize=None)
+def weight_of(crate: str) -> int:
+    """How long the proof of a crate takes, in units of about one and a half processor seconds of a slow core: for reading the libraries
+    below it, for each function, and for each early return, since the prover follows each way through a function to its end. Lemmas take
+    little time."""
+    code = [re.sub(r"//.*", "", file.read_text(encoding="utf-8", errors="replace")) for file in (folder_of(crate) / "src").rglob("*.rt")]
+    return 20 + sum(len(re.findall(r"\bfn \w+", it)) + 3 * len(re.findall(r"\?[;,).\n]", it)) for it in code)
+
+
 def kit_of_rt() -> Optional[Path]:
     """The folder of the kit that rt is of, if it has all that is used of it here."""
     kit = Path(shutil.which("rt") or "/").resolve().parent.parent
     parts = ("KIT-ID", "bin/rattle", "bin/rattle-link", "c", "logic_built", "rattle/logic/antt-project.json", "rlibs/std.rlib", "toolchain")
     return kit if all((kit / part).exists() for part in parts) else None
+
+
+def free_memory() -> int:
+    """The bytes of memory that are free, of the machine's and of what this process's control group may have."""
+    free = 1024 * int(re.findall(r"MemAvailable: *(\d+)", Path("/proc/meminfo").read_text())[0])
+    group = Path("/sys/fs/cgroup")
+    with contextlib.suppress(OSError, ValueError):
+        held = re.findall(r"^anon (\d+)", (group / "memory.stat").read_text(), re.M)
+        free = min(free, int((group / "memory.max").read_text()) - sum(map(int, held)))
+    return free
 
 
 class Crates:
@@ -74,24 +94,42 @@ class Crates:
         return ""
 
     def by_urgency(self, crates: set[str]) -> list[str]:
-        """These crates, those first on which most of the others rest, by the bytes of sources: how long a proof takes goes with these."""
-        return sorted(crates, key=lambda it: -sum(size_of(other) for other in crates if it in self.below(other) | {other}))
+        """These crates, those first on which the longest chain of others waits, by the weights of their proofs."""
+
+        @functools.lru_cache(maxsize=None)
+        def chain(crate: str) -> int:
+            return weight_of(crate) + max((chain(it) for it in crates if crate in self.named[it]), default=0)
+
+        return sorted(crates, key=lambda it: (-chain(it), it))
+
+
+def words_for_rattle(crates: Crates, kit: Path, crate: str, library: Callable[[str], Path], jobs: int) -> list[str]:
+    """The arguments with which rattle reads and proves a crate, over the libraries in these places."""
+    libraries = {it: kit / "rlibs" / f"{it}.rlib" for it in ["std", *crates.of_kit[crate]]}
+    libraries.update((it, library(it)) for it in sorted(crates.named[crate]))
+    folders = [kit / "rlibs", *(library(it).parent for it in sorted(crates.below(crate)))]
+    words = ["--crate-name", crate, f"src/{'main' if is_program(crate) else 'lib'}.rt"]
+    words += [word for it, place in libraries.items() for word in ("--extern", f"{it}={place}")]
+    words += [word for folder in folders for word in ("-L", f"dependency={folder}")]
+    words += ["--antt-project", f"{kit / 'rattle/logic/antt-project.json'}", "--logic-built", f"{kit / 'logic_built'}"]
+    words += ["--links", f"{crate}=", "--jobs", str(jobs)]
+    return words + (["--crate-type", "staticlib"] if crate in crates.statics else [])
 
 
 class Notes:
     """What each library was proved from that was built without its proofs, and so isn't rt's."""
 
-    def __init__(self, crates: Crates, kit: Path) -> None:
-        self.crates, self.kit = crates, kit
+    def __init__(self, crates: Crates, kit: Path, root: Path = ROOT) -> None:
+        self.crates, self.kit, self.root = crates, kit, root
 
     def proved_from(self, crate: str) -> str:
         """One word that changes with the kit, and with each source of a crate and of those that it depends on."""
         whole = hashlib.sha256((self.kit / "KIT-ID").read_bytes())
         for it in sorted(self.crates.below(crate) | {crate}):
             whole.update(self.crates.rows[it].encode() + b"\n")
-            parts = (folder_of(it) / part for part in PARTS)
+            parts = (self.root / "crates" / it / part for part in PARTS)
             for file in sorted(file for part in parts for file in part.rglob("*") if file.is_file()):
-                whole.update(f"{file.relative_to(ROOT)} {file.stat().st_size}\n".encode() + file.read_bytes())
+                whole.update(f"{file.relative_to(self.root)} {file.stat().st_size}\n".encode() + file.read_bytes())
         return whole.hexdigest()
 
     @staticmethod

@@ -54,6 +54,10 @@ class Word:
         self.text = ""
         self.cites = None
 
+    def count_lines(self):
+        """How many lines a reader of it reads."""
+        return sum(bool(line.strip()) for line in self.text.split("\n"))
+
 
 class Item:
     """An item of the code: a function, a method, a trait, a type, or a fact that a trait or a type states of itself."""

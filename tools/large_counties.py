@@ -109,7 +109,7 @@ def chain_line() -> bytes:
     return laid_out("1", {6: b"%10d", 17: SOURCE, 20: b"Main", 56: b"A41", 129: RESERVED * 2, 191: points})
 
 
-CHAINS = 70_100
+CHAINS = 100_100
 POLYGONS = NAMES = PARKS = 2 * CHAINS
 CONTENTS = 100_000
 LONG = 35_001  # The long chain.
@@ -212,6 +212,33 @@ def tied(count: int) -> dict[str, County]:
         "addresses": ties(count, addresses),
         "sides": ties(count, lefts, [], polygons),
         "landmarks": ties(count, lefts, [], polygons[::-1], parks),
+    }
+
+
+def hostile(count: int) -> dict[str, County]:
+    """Counties made to be slow: seven chains of one shape, as above, with hundreds of names or ranges each, or with hundreds of landmarks
+    beside them. Each of the 5,040 orders is compared by these."""
+
+    def further_names(each: int) -> County:
+        """Names of their own, all with one content. Only the names of the last chain tell the orders apart."""
+        named = [{"names": list(range(first, first + each))} for first in range(0, TIED * each, each)]
+        return ties(count, named, [{"FILE": maps.FILE, "FENAME": "Ash"}] * (TIED * each))
+
+    def parks(number: int, links: int) -> County:
+        """Landmarks, each on this many of the polygons beside the seven chains."""
+        sides: list[dict[str, Any]] = [{"left": 2 * place, "right": 2 * place + 1} for place in range(TIED)]
+        polygons = [maps.Polygon({"FILE": maps.FILE, "WATER": "0"}, (WEST - place, int(LATITUDE))) for place in range(2 * TIED)]
+        linked = [sorted((first + link) % (2 * TIED) for link in range(links)) for first in range(number)]
+        return ties(count, sides, [], polygons, [maps.Landmark(landmark_fields("Park", at), polygons=on) for at, on in enumerate(linked)])
+
+    ranges = [{"FRADDL": f"{number:>11}", "FRIADDL": "1"} for number in range(1, RANGES + 1)]
+    return {
+        "100 further names": further_names(100),
+        "300 further names": further_names(300),
+        "900 ranges": ties(count, [{"ranges": ranges} for _ in range(TIED)]),
+        "1,000 landmarks": parks(1_000, 1),
+        "3,000 landmarks": parks(3_000, 1),
+        "300 landmarks of 14 links": parks(300, 2 * TIED),
     }
 
 

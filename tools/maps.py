@@ -7,11 +7,11 @@ import random
 import sys
 from dataclasses import dataclass, field, replace
 from pathlib import Path
-from typing import Any, Iterator, Sequence
+from typing import Any, Iterator, Optional, Sequence
 
 sys.path.insert(0, str(Path(__file__).resolve().parent.parent / "python"))
 
-from tigercanon.differences.columns import CHAIN, LANDMARK, LINK, NAME, POLYGON, RANGE, Layout  # noqa: E402
+from tigercanon.diff.columns import CHAIN, LANDMARK, LINK, NAME, POLYGON, RANGE, Layout  # noqa: E402
 
 FILE = "01001"
 
@@ -24,7 +24,8 @@ Values = dict[str, str]
 
 @dataclass
 class Chain:
-    """A chain: the fields of types 1 and I, all its points, its further names and ranges, and the nodes and polygons at it."""
+    """A chain: the fields of types 1 and I, all its points, its further names and ranges, and the nodes and polygons at it. A side without
+    a polygon has its CENID, if there is one here, or else that of the county."""
 
     fields: Values
     points: list[Point]
@@ -35,6 +36,7 @@ class Chain:
     names: list[int] = field(default_factory=list)
     ranges: list[Values] = field(default_factory=list)
     link: Values = field(default_factory=dict)
+    outside: tuple[Optional[str], Optional[str]] = (None, None)
 
 
 @dataclass
@@ -47,12 +49,14 @@ class Polygon:
 
 @dataclass
 class Landmark:
-    """The fields of a record of type 7, and those of more records under the same number."""
+    """The fields of a record of type 7, and those of more records under the same number. Its links to polygons have the county's FILE,
+    if there is none here."""
 
     fields: Values
     point: Point | None = None
     polygons: list[int] = field(default_factory=list)
     more: list[Values] = field(default_factory=list)
+    files: list[str] = field(default_factory=list)
 
 
 @dataclass
@@ -119,8 +123,10 @@ def lines(county: County, hand: Hand) -> Iterator[str]:
     tlids, feats, lands, polyids, at_nodes = map(hand.numbers, map(len, numbered), (10**10, 10**8, 10**10, 10**10, 10**10))
     node_numbers: dict[int | None, Any] = {None: "", **dict(zip(nodes, at_nodes))}
 
-    def key(polygon: int | None) -> str:
-        return f"{county.polygons[polygon].cenid}{polyids[polygon]:>10}" if polygon is not None else county.outside
+    def key(polygon: int | None, outside: str | None = None) -> str:
+        if polygon is None:
+            return county.outside if outside is None else f"{outside:15}"
+        return f"{county.polygons[polygon].cenid:5}{polyids[polygon]:>10}"
 
     for chain, tlid in zip(county.chains, tlids):
         chain = turned(chain) if hand.turns() else chain
@@ -133,7 +139,7 @@ def lines(county: County, hand: Hand) -> Iterator[str]:
             yield f"62006{tlid:>10}{number:>3}{content(RANGE, fields)}"
         link = content(LINK, chain.link)
         ends = f"{node_numbers[chain.start]:>10}{node_numbers[chain.end]:>10}"
-        yield f"I2006{link[:5]}{tlid:>10}{ends}{key(chain.left)}{key(chain.right)}{link[5:]}"
+        yield f"I2006{link[:5]}{tlid:>10}{ends}{key(chain.left, chain.outside[0])}{key(chain.right, chain.outside[1])}{link[5:]}"
     for name, feat in zip(county.names, feats):
         body = content(NAME, name)
         yield f"52006{body[:5]}{feat:>8}{body[5:]}"
@@ -141,8 +147,8 @@ def lines(county: County, hand: Hand) -> Iterator[str]:
         for fields in (landmark.fields, *landmark.more):
             body = content(LANDMARK, fields)[:-19]
             yield f"72006{body[:5]}{land:>10}{body[5:]}{spelt(landmark.point)} "
-        for polygon in landmark.polygons:
-            yield f"82006{FILE}{key(polygon)}{land:>10} "
+        for polygon, file in zip(landmark.polygons, [*landmark.files, *[FILE] * len(landmark.polygons)]):
+            yield f"82006{file:5}{key(polygon)}{land:>10} "
     for number, each in enumerate(county.polygons):
         if each.has_record:
             body = content(POLYGON, each.fields)
@@ -155,6 +161,6 @@ def turned(chain: Chain) -> Chain:
     def fields(layout: Layout, had: Values) -> Values:
         return {column.name: had.get(column.partner or column.name, "") for column in layout.columns}
 
-    ends = {"start": chain.end, "end": chain.start, "left": chain.right, "right": chain.left}
+    ends = {"start": chain.end, "end": chain.start, "left": chain.right, "right": chain.left, "outside": chain.outside[::-1]}
     ranges = [fields(RANGE, each) for each in chain.ranges]
     return replace(chain, fields=fields(CHAIN, chain.fields), points=chain.points[::-1], ranges=ranges, **ends)

@@ -6,6 +6,7 @@
  * In front of these may stand
  *     --rounds N     makes the call N times; standard error gets the memory that the process has after 10 rounds and after the last
  *     --threads N    makes the call in N threads at once; each has to answer the same
+ *     --parts N      cuts the file of each set into N parts between its lines, the last of which have no bytes if the lines run out
  */
 #include <pthread.h>
 #include <stdlib.h>
@@ -14,7 +15,9 @@
 
 #include "tigercanon.h"
 
-#define PARTS 9
+/* The files of a stem, and the most parts that a set is cut into. */
+#define FILES 9
+#define PARTS 1000
 #define THREADS 16
 /* How much stack is touched ahead: more than a call uses. */
 #define STACK (256 << 10)
@@ -86,18 +89,46 @@ static struct tigercanon_part part_of(const char *name, bool may_be_absent)
     return part;
 }
 
+/* Cuts a set's only part into so many parts, between its lines. */
+static void cut(struct set *set, size_t count)
+{
+    const struct tigercanon_part whole = set->parts[0];
+    size_t i, begin = 0;
+    for (i = 0; i < count; i++) {
+        size_t end = i + 1 == count ? whole.length : begin + (whole.length - begin) / (count - i);
+        struct tigercanon_part *part = &set->parts[i];
+        while (end > begin && end < whole.length && whole.bytes[end - 1] != '\n') {
+            end++;
+        }
+        part->length = end - begin;
+        part->bytes = TIGERCANON_EMPTY;
+        if (part->length > 0) {
+            uint8_t *bytes = malloc(part->length);
+            if (bytes == NULL) {
+                stop("no memory for", "a part");
+            }
+            part->bytes = memcpy(bytes, whole.bytes + begin, part->length);
+        }
+        begin = end;
+    }
+    set->count = count;
+    if (whole.length > 0) {
+        free((void *)whole.bytes);
+    }
+}
+
 static struct set set_of(const char *name, bool is_stem)
 {
     static const char letters[] = "1245678IP";
     struct set set;
     char file[4096];
     size_t i;
-    set.count = is_stem ? PARTS : 1;
+    set.count = is_stem ? FILES : 1;
     if (!is_stem) {
         set.parts[0] = part_of(name, false);
         return set;
     }
-    for (i = 0; i < PARTS; i++) {
+    for (i = 0; i < FILES; i++) {
         snprintf(file, sizeof file, "%s.RT%c", name, letters[i]);
         set.parts[i] = part_of(file, i > 0);
     }
@@ -236,6 +267,7 @@ static struct outcome outcome_of_threads(struct job *job, long count)
 struct words {
     long rounds;
     long threads;
+    long parts;
     bool is_stem;
     const char *names[2];
     int sets;
@@ -250,6 +282,8 @@ static int read_settings(struct words *asked, int count, char **words)
             asked->rounds = atol(words[i + 1]);
         } else if (strcmp(words[i], "--threads") == 0) {
             asked->threads = atol(words[i + 1]);
+        } else if (strcmp(words[i], "--parts") == 0) {
+            asked->parts = atol(words[i + 1]);
         } else {
             stop("unknown word", words[i]);
         }
@@ -266,7 +300,7 @@ static void read_words(struct words *asked, struct job *job, int at, int count, 
     }
     for (at += 1; at < count; at++) {
         const char *word = words[at];
-        if (are_names || word[0] != '-') {
+        if (are_names || word[0] != '-' || word[1] == '\0') {
             if (asked->sets == 2) {
                 stop("one set too many:", word);
             }
@@ -300,16 +334,19 @@ static int touch_stack(void)
 
 int main(int count, char **words)
 {
-    struct job job = {NULL, false, false, {{{{NULL, 0}}, 0}, {{{NULL, 0}}, 0}}};
-    struct words asked = {0, 0, false, {NULL, NULL}, 0};
+    static struct job job;
+    struct words asked = {0, 0, 0, false, {NULL, NULL}, 0};
     struct outcome outcome;
     int i, status = touch_stack();
     read_words(&asked, &job, read_settings(&asked, count, words), count, words);
-    if (asked.sets == 0 || asked.threads > THREADS) {
+    if (asked.sets == 0 || asked.threads > THREADS || asked.parts > PARTS) {
         stop("words are missing", "");
     }
     for (i = 0; i < asked.sets; i++) {
         job.sets[i] = set_of(asked.names[i], asked.is_stem);
+        if (asked.parts > 0) {
+            cut(&job.sets[i], (size_t)asked.parts);
+        }
     }
     make_rounds(&job, asked.rounds);
     outcome = asked.threads > 0 ? outcome_of_threads(&job, asked.threads) : outcome_of(&job);

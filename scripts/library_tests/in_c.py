@@ -7,7 +7,7 @@ import re
 from pathlib import Path
 
 from library_tests.support import WARNINGS, Tests, tools
-from testing import ROOT, make_county, run, script
+from testing import ROOT, Answer, make_county, run, script
 
 CALLS = ["check", "compare", "fingerprint", "normalise", "respell"]
 AUTAUGA = ROOT / "examples/autauga/all.txt"
@@ -43,6 +43,9 @@ def try_vectors(tests: Tests) -> None:
     """The cases of vectors/ about the bytes of sets: each file can be read, and the arguments are right."""
     vectors = script("vectors/run")
     cases = [case for case in vectors.cases_of("") if case.get("status") not in (2, 4) and None not in case["files"].values()]
+    for case in cases:
+        # The caller reads whole files.
+        case["also"] = [way for way in case.get("also", []) if way != "endless"]
     with concurrent.futures.ThreadPoolExecutor(2 * (os.cpu_count() or 1)) as pool:
         for case, told in zip(cases, pool.map(lambda case: vectors.judge(tests.callers["gcc"], case), cases)):
             tests.count(not told, f"C, {case['name']}: {case['shows']}" + "".join(f"\n  {line}" for line in told))
@@ -60,6 +63,52 @@ def try_rounds(tests: Tests) -> None:
         tests.count(is_so, f"1,000 rounds of {call[0]}: {done.err.decode()[:300]}")
 
 
+def place_of_last(text: bytes, count: int) -> tuple[int, int]:
+    """The part and the line of the last line of a text, cut into this many parts as the caller in C cuts it."""
+    place, begin = (0, 0), 0
+    for part in range(1, count + 1):
+        end = begin + (len(text) - begin) // (count + 1 - part)
+        end = text.find(b"\n", max(end, begin + 1) - 1) + 1 if end > begin else begin
+        place = (part, text.count(b"\n", begin, end)) if end > begin else place
+        begin = end
+    return place
+
+
+def try_parts(tests: Tests) -> None:
+    """Sets of ten parts and more are the set of the file that they are cut from, and a fault in their last line has its place."""
+    text = AUTAUGA.read_bytes() + b"1\n"
+    faulty = tests.room / "faulty-at-its-end"
+    faulty.write_bytes(text)
+    for parts in (2, 9, 10, 11, 16, 17, 255, 256, 257, 1000):
+        for call in [["check", AUTAUGA], ["respell", AUTAUGA], ["normalise", AUTAUGA], ["fingerprint", "--no-sources", AUTAUGA],
+                     ["compare", AUTAUGA, RENUMBERED]]:
+            tests.equal(f"{parts} parts, {call[0]}", tests.by_c(*call), tests.by_c("--parts", parts, *call))
+        told = Answer(3, b"", b"refused 4 BadNumber %d %d 6\n" % place_of_last(text, parts))
+        tests.equal(f"{parts} parts, a fault at the end", told, tests.by_c("--parts", parts, "check", faulty))
+
+
+def try_cpp(tests: Tests) -> None:
+    """A caller in C++, by each compiler that is installed, linked with the archive and with the shared library."""
+    source = Path(__file__).resolve().parent / "caller.cpp"
+    shared = ["-I", tests.library / "include", "-L", tests.library / "lib", "-ltigercanon", f"-Wl,-rpath,{tests.library}/lib"]
+    sets = [[AUTAUGA, RENUMBERED], [AUTAUGA, ROOT / "examples/broken.txt"], [ROOT / "examples/refused/too-symmetric.txt", AUTAUGA]]
+    compilers = tools("g++", "clang++")
+    if not compilers:
+        tests.skip("neither g++ nor clang++ is installed: nothing was tried by C++")
+    for (compiler, standard), (how, linked) in itertools.product(
+        itertools.product(compilers, ("c++11", "c++17")), (("the archive", tests.linked), ("the shared library", shared))
+    ):
+        made = tests.room / "by-cpp"
+        done = run([compiler, f"-std={standard}", "-O2", *WARNINGS, "-o", made, source, *linked])
+        if tests.count(done.status == 0, f"{compiler} in {standard} with {how}: {done.err.decode()[:1000]}"):
+            for first, second in sets:
+                calls = [["check", first], ["respell", first], ["normalise", "--no-sources", first], ["fingerprint", "--no-reserved", first],
+                         ["compare", first, second]]
+                answers = [tests.by_c(*call) for call in calls]
+                wanted = Answer(0, b"".join(answer.out + answer.err for answer in answers), b"")
+                tests.equal(f"{compiler} in {standard} with {how}, {first.name}", wanted, run([made, first, second]))
+
+
 def try_threads(tests: Tests, county: Path) -> None:
     """Calls in several threads at once return what one returns."""
     for threads in ("2", "4"):
@@ -72,7 +121,7 @@ def try_checked(tests: Tests) -> None:
     calls = [["check", AUTAUGA], ["respell", ROOT / "examples/other-spelling.txt"], ["normalise", AUTAUGA],
              ["normalise", "--no-reserved", RENUMBERED], ["fingerprint", "--stem", ROOT / "examples/autauga/TGR01001"],
              ["compare", AUTAUGA, RENUMBERED], ["compare", AUTAUGA, ROOT / "examples/broken.txt"], ["respell", os.devnull],
-             ["--threads", "2", "normalise", AUTAUGA], *(["check", path] for path in sorted((ROOT / "examples/refused").iterdir()))]
+             ["--threads", "2", "normalise", AUTAUGA], ["--parts", "12", "normalise", AUTAUGA], *(["check", path] for path in sorted((ROOT / "examples/refused").iterdir()))]
     checkers = {}
     trial = run(["gcc", "-fsanitize=address,undefined", "-x", "c", "-", "-o", tests.room / "trial"], input=b"int main(void) { return 0; }")
     if trial.status == 0:
@@ -99,7 +148,7 @@ def run_all(tests: Tests) -> None:
         tests.compile(compiler, compiler, *tests.linked)
     if "gcc" not in tests.callers:
         return
-    for test in (try_vectors, try_rounds, try_checked):
+    for test in (try_vectors, try_rounds, try_parts, try_cpp, try_checked):
         test(tests)
     county = tests.room / "county.txt"
     make_county(2000, county)

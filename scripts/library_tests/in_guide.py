@@ -42,10 +42,13 @@ def blocks(heading: str) -> list[str]:
 
 def try_c(tests: Tests, place: Path, fingerprint: str) -> None:
     """The program of the page, by each of its lines that compile and run it."""
-    source, lines = blocks("From C")
+    source, lines, _ = blocks("From C")
     (place / "one.c").write_text(source)
     exported, *calls = lines.splitlines()
     for call in calls:
+        if "libtigercanon.a" in call and not (tests.library / "lib/libtigercanon.a").exists():
+            tests.skip(f"the guide's {call}: a prebuilt library has no archive")
+            continue
         lacking = {"gcc", *re.findall("pkg-config", call)}.difference(tools("gcc", "pkg-config"))
         if lacking:
             tests.skip(f"the guide's {call}: {' and '.join(sorted(lacking))} isn't installed")
@@ -58,14 +61,15 @@ def try_c(tests: Tests, place: Path, fingerprint: str) -> None:
 
 def try_input(tests: Tests, place: Path) -> None:
     """Tries the guide's program on a refused set, on a long one, which it reads whole, and on a folder, which can't be read."""
-    refused = run([place / "one"], input=REFUSED.read_bytes())
+    env = {**os.environ, "LD_LIBRARY_PATH": str(tests.library / "lib")}
+    refused = run([place / "one"], input=REFUSED.read_bytes(), env=env)
     tests.equal("the guide's program with a refused set", Answer(1, b"", b"refused 4 BadNumber 1 4 6\n"), refused)
     record = (ROOT / "examples/autauga/canonical.txt").read_bytes().partition(b"\n")[0] + b"\n"
     lines = (65 << 20) // len(record) + 1
-    found = run([place / "one"], input=record * lines + b"1\n")
+    found = run([place / "one"], input=record * lines + b"1\n", env=env)
     tests.equal("the guide's program with 65 MiB", Answer(1, b"", b"refused 4 BadNumber 1 %d 6\n" % (lines + 1)), found)
     folder = os.open(place, os.O_RDONLY)
-    found = run([place / "one"], stdin=folder)
+    found = run([place / "one"], stdin=folder, env=env)
     os.close(folder)
     tests.equal("the guide's program with a folder", Answer(1, b"", b"standard input: Is a directory\n"), found)
 
@@ -118,6 +122,15 @@ def try_constants(tests: Tests, header: Path, shown: Answer) -> None:
     tests.equal("constants of the header that aren't shown", set(), declared - set(found))
 
 
+def try_prototypes(tests: Tests) -> None:
+    """The header declares the calls that the page shows, word for word, and no others."""
+    header = (tests.library / "include/tigercanon.h").read_text(encoding="utf-8")
+    found = re.findall(r"^(?:static inline )?\w+ tigercanon_\w+\([^)]*\)", header, re.M)
+    wanted = blocks("From C")[2].split(";")[:-1]
+    tests.equal("the header's prototypes", [" ".join(it.split()) for it in wanted], [" ".join(it.split()) for it in found])
+    tests.equal("how many calls the header declares", len(wanted), len(set(re.findall(r"\btigercanon_\w+(?=\()", header))))
+
+
 def try_header(tests: Tests) -> None:
     """The header for C alone: its constants against the guide, the lines that it makes, and how it frees a text."""
     header = tests.library / "include/tigercanon.h"
@@ -141,7 +154,9 @@ def run_all(tests: Tests) -> None:
     place = tests.room / "guide"
     (place / "out").mkdir(parents=True)
     (place / "out/library").symlink_to(tests.library)
+    (place / "python").symlink_to(tests.library / "python")
     (place / "examples").symlink_to(ROOT / "examples")
     try_c(tests, place, fingerprint)
     try_python(tests, place, fingerprint)
+    try_prototypes(tests)
     try_header(tests)

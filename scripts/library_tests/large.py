@@ -26,6 +26,13 @@ def try_c(tests: Tests, whole: Path, stem: Path) -> None:
     tests.equal("two threads on large counties", wanted, tests.by_c("--threads", 2, "fingerprint", whole))
 
 
+def cut(whole: Path, count: int) -> list[bytes]:
+    """A file as this many parts, each of about as many lines."""
+    lines = whole.read_bytes().splitlines(keepends=True)
+    bounds = [len(lines) * part // count for part in range(count + 1)]
+    return [b"".join(lines[first:last]) for first, last in zip(bounds, bounds[1:])]
+
+
 def try_python(tests: Tests, whole: Path, stem: Path) -> None:
     os.environ["TIGERCANON_LIBRARY"] = str(tests.library / "lib/libtigercanon.so.1")
     sys.path.insert(0, str(tests.library / "python"))
@@ -37,6 +44,9 @@ def try_python(tests: Tests, whole: Path, stem: Path) -> None:
             ("fingerprint of an mmap", module.fingerprint(mapped), digits.decode().strip()),
             ("fingerprint of nine parts", module.fingerprint(parts), digits.decode().strip()),
             ("fingerprint of a file", module.fingerprint(file), digits.decode().strip()),
+            ("fingerprint of ten parts", module.fingerprint(cut(whole, 10)), digits.decode().strip()),
+            ("normalise of 300 parts", module.normalise(cut(whole, 300)), text),
+            ("compare of 17 parts with nine", module.compare(cut(whole, 17), parts), True),
             ("normalise of an mmap", module.normalise(mapped), text),
             ("normalise of nine parts", module.normalise(parts), text),
             ("respell", module.respell(mapped), respelt),

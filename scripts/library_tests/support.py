@@ -25,7 +25,10 @@ class Tests(testing.Tests):
     def __init__(self, library: Path, program: Path, room: Path):
         super().__init__("library, ", program, room)
         self.library = library
-        self.linked = ["-I", library / "include", library / "lib/libtigercanon.a"]
+        archive = library / "lib/libtigercanon.a"
+        # A prebuilt library has no archive.
+        shared = ["-L", archive.parent, f"-Wl,-rpath,{archive.parent}", "-ltigercanon"]
+        self.linked = ["-I", library / "include", *([archive] if archive.exists() else shared)]
         self.callers: dict[str, list[str]] = {}
 
     def compile(self, name: str, compiler: str, *flags: object) -> list[str]:

@@ -1,0 +1,541 @@
+"""The must-fail edits of crates: each is a wrong body, which the prover has to refuse. Many edits of a crate are tried in one run."""
+
+import contextlib
+import ctypes
+import hashlib
+import json
+import os
+import re
+import shutil
+import signal
+import subprocess
+import tempfile
+import threading
+from pathlib import Path
+from typing import Iterable, Iterator, NamedTuple, Optional
+
+from crates import PARTS, Crates, Notes, words_for_rattle
+
+# Changes if results that were kept by an earlier form of these rules count no more.
+RULES = "1"
+NAME = re.compile(r"[A-Za-z0-9_-][A-Za-z0-9_.-]*\.edit")
+ITEM = re.compile(
+    r"( *)(?:pub(?:\([^)]*\))? )?(?:(?:const|unsafe|final|ghost|default|extern \"C\") )*"
+    r"(fn|impl|mod|trait|struct|enum|const|static|type|macro_rules!)\b ?(.*)"
+)
+# What rattle prints of a text that it can't read, where an edit that only makes a statement false reads well.
+UNREADABLE = re.compile(r"is not in scope|has no field|is no name|operand is missing|expected the end|cannot continue")
+# What it prints of a proof file that names what an edit took away, and of what cites that proof.
+NAMES_LOST = re.compile(r"(note: )?(\./)?proofs/.*(has no field|is not in scope|has no `|was not admitted)")
+# What it prints at a limit of its own, which it meets wherever it checks the same.
+LIMITS = re.compile(
+    r"antt ran out of (stack|the (steps|memory) that the check of one declaration may (take|use))"
+    r"|(outgrew the memory limit|stopped at the step limit) \("
+)
+LIBC = ctypes.CDLL(None)
+PR_SET_PDEATHSIG = 1
+
+
+class Function(NamedTuple):
+    """A function of a crate: the path of its module, its name with that of its type, and the rows that it has in its file."""
+
+    file: str
+    module: str
+    name: str
+    rows: range
+
+    @property
+    def path(self) -> str:
+        return "::".join(filter(None, (self.module, self.name)))
+
+    def is_named(self, printed: str) -> bool:
+        """Whether rattle means this function, or a closure in it, by a name."""
+        module, parent, last = re.escape(f"{self.module}::" if self.module else ""), *map(re.escape, ("::" + self.name).rsplit("::", 1))
+        parent = parent.lstrip(":")
+        parent = f"{parent}::" if parent else ""
+        return bool(re.fullmatch(rf"\w+::{module}({parent}{last}|(.*::)?fn::({parent})?{last}::.*|{parent}fn::{last}::.*)", printed))
+
+    def has(self, line: str) -> bool:
+        """Whether a line that rattle printed is about this function's text or its proof."""
+        place = re.match(r"(?:note: )?(?:\./)?(\S+?):(\d+):\d+:", line)
+        if place and place[1] == self.file:
+            return int(place[2]) - 1 in self.rows
+        folder = "/".join(("proofs", *filter(None, self.module.split("::"))))
+        return bool(place and re.fullmatch(rf"{re.escape(folder)}/(.*/)?{re.escape(self.name.split('::')[-1])}/[^/]*", place[1]))
+
+
+def indent(row: str) -> int:
+    return len(row) - len(row.lstrip())
+
+
+def parts_of(text: str, separator: str) -> list[str]:
+    """The parts of a type's text between separators that aren't in brackets."""
+    parts, depth = [""], 0
+    for word in re.findall(rf"->|{re.escape(separator)}|.", text):
+        depth += (word in "<([") - (word in ">)]")
+        if word == separator and not depth:
+            parts.append("")
+        else:
+            parts[-1] += word
+    return [it.strip() for it in parts if it.strip()]
+
+
+def name_of(text: str, parameters: set[str], is_argument: bool) -> str:
+    """rattle's name for a type: its own and those of its arguments, without type parameters and lifetimes."""
+    text = re.sub(r"^(&|'\w+\s*|mut |dyn )+", lambda found: "Ref" if "&" in found[0] else "", text.strip())
+    prefix, text = ("Ref", text[3:]) if text.startswith("Ref") and text[3:4] in ("[", "(") else ("", text)
+    if text[:1] in ("[", "("):
+        within = parts_of(text[1:-1].partition(";")[0], ",")
+        word = f"Tuple{len(within)}" if text[0] == "(" else "Array" if ";" in text else "Slice"
+        return prefix + word + "".join(name_of(it, parameters, True) for it in within)
+    head, _, rest = text.partition("<")
+    last = re.findall(r"\w+", head)[-1:] or [""]
+    if last[0] in parameters:
+        return "" if is_argument else "Any"
+    arguments = [it for it in parts_of(rest.rpartition(">")[0], ",") if not it.startswith("'")]
+    return prefix + last[0][:1].upper() + last[0][1:] + "".join(name_of(it, parameters, True) for it in arguments)
+
+
+def owner_of(header: str) -> str:
+    """rattle's name for an impl, from its header without the word impl: that of the type, and that of a trait."""
+    parameters: set[str] = set()
+    header = re.split(r"\{| where\b", header)[0].strip()
+    if header.startswith("<"):
+        depth = ends = 0
+        for ends, word in enumerate(header.replace("->", "  ")):
+            depth += (word == "<") - (word == ">")
+            if not depth:
+                break
+        parameters = {name for it in parts_of(header[1:ends], ",") for name in re.findall(r"^(?:const )?(\w+)", it)}
+        header = header[ends + 1 :]
+    names = parts_of(header.replace(" for ", "\0"), "\0")
+    if len(names) == 2:
+        return name_of(names[1], parameters, False) + name_of(names[0], parameters, False)
+    whole, bare = name_of(header, parameters, False), name_of(header.partition("<")[0], parameters, False)
+    return bare + (f"+{whole.removeprefix(bare)}" if whole != bare else "")
+
+
+def items_around(rows: list[str], row: int) -> Iterator[tuple[int, str, str]]:
+    """The items of a file in rt fmt's layout around a row, from the innermost outward: the item's row, its kind, and its header."""
+    width = indent(rows[row]) + 1
+    for number in range(row, -1, -1):
+        item = ITEM.match(rows[number])
+        if item and indent(rows[number]) < width:
+            width = indent(rows[number])
+            header = [item[3]]
+            for more in rows[number + 1 : row]:
+                if "{" in header[-1] or item[2] == "fn":
+                    break
+                header.append(more)
+            yield number, item[2], " ".join(header)
+
+
+def function_at(file: str, text: str, at: int) -> Optional[Function]:
+    """The function whose body has this place of the file's text. None if the place is in no body."""
+    rows, row = text.split("\n"), text.count("\n", 0, at)
+    around = list(items_around(rows, row))
+    functions = [number for number, (_, kind, _) in enumerate(around) if kind == "fn"]
+    if not functions:
+        return None
+    first, _, header = around[functions[-1]]
+    margin = " " * indent(rows[first])
+    opens = next((it for it in range(first, len(rows)) if rows[it] == f"{margin}{{" or rows[it].endswith(" {")), row)
+    if opens > row or (opens == row and rows[row].endswith(" {")):
+        return None
+    ends = (it for it in range(opens, len(rows)) if rows[it] == f"{margin}}}")
+    outside = [(kind, header) for _, kind, header in around[functions[-1] + 1 :]]
+    owner = [owner_of(header) if kind == "impl" else re.findall(r"\w+", header)[0] for kind, header in outside if kind in ("impl", "trait")]
+    modules = [re.findall(r"\w+", header)[0] for kind, header in reversed(outside) if kind == "mod"]
+    path = [it for it in Path(file).with_suffix("").parts[1:] if it not in ("lib", "main", "mod")]
+    name = "::".join([*owner[:1], re.findall(r"\w+", header)[0]])
+    return Function(file, "::".join([*path, *modules]), name, range(first, next(ends, len(rows)) + 1))
+
+
+def item_at(text: str, at: int) -> str:
+    """The name of the outermost item other than a module or an impl that has this place, which is in no body."""
+    around = items_around(text.split("\n"), text.count("\n", 0, at))
+    found = [re.findall(r"\w+", header) for _, kind, header in around if kind not in ("mod", "impl")]
+    return found[-1][0] if found and found[-1] else ""
+
+
+class Edit:
+    """An edit of a crate: what it replaces by what, and the functions that must be refused for it."""
+
+    def __init__(self, crate: str, path: Path) -> None:
+        self.crate, self.path, self.name = crate, path, path.name.removesuffix(".edit")
+        self.text = path.read_text(encoding="utf-8", errors="replace")
+
+    @property
+    def label(self) -> str:
+        return f"must-fail {self.crate}/{self.name}"
+
+    def pairs(self) -> Iterator[tuple[str, str, str]]:
+        """The file, the old text and the new text of each pair. Raises ValueError if the edit has another form."""
+        file = old = ""
+        for line in self.text.split("\n"):
+            if line.startswith("file: "):
+                file = line.removeprefix("file: ").strip()
+                if os.path.normpath(file) != file or not file.startswith(tuple(f"{it}/" for it in PARTS)):
+                    raise ValueError("a 'file:' line names no file below src/, specs/ or proofs/")
+            elif line.startswith("old: "):
+                old = line.removeprefix("old: ")
+            elif line.startswith("new:"):
+                if not file or not old:
+                    raise ValueError("a 'new:' line stands before any 'file:' or 'old:' line")
+                yield file, old, line.removeprefix("new:").removeprefix(" ")
+                old = ""
+
+    def applied(self, folder: Path, texts: dict[str, str]) -> tuple[dict[str, str], set[Function], set[str]]:
+        """The texts of the crate's files with the edit in them, over these texts in place of those in the folder; the functions whose
+        bodies it changes; and the names of what it changes outside of any body. Raises ValueError if it can't be applied."""
+        texts, functions, names, has_changed = dict(texts), set(), set(), False
+        pairs = list(self.pairs())
+        if not pairs:
+            raise ValueError("it has no 'old:' and 'new:' pair")
+        for file, old, new in pairs:
+            if file not in texts:
+                if not (folder / file).is_file():
+                    raise ValueError(f"there is no file {file}")
+                texts[file] = (folder / file).read_text(encoding="utf-8")
+            if texts[file].count(old) != 1:
+                raise ValueError(f"an 'old:' text is in {file} {texts[file].count(old)} times, and not once")
+            at = texts[file].index(old) + indent(old)
+            function = function_at(file, texts[file], at)
+            functions |= {function} if function else set()
+            names |= set() if function else {item_at(texts[file], at)}
+            has_changed = has_changed or old != new
+            texts[file] = texts[file].replace(old, new)
+        if not has_changed:
+            raise ValueError("it changes nothing (an 'old:' and a 'new:' text are one line each, and no other line is read)")
+        return texts, functions, names
+
+
+def edits_of(crate: str, folder: Path) -> tuple[list[Edit], list[str]]:
+    """The edits in a folder by their names, and the files there that are none."""
+    files = sorted(it for it in folder.rglob("*") if not it.is_dir()) if folder.is_dir() else []
+    good = [it for it in files if it.parent == folder and NAME.fullmatch(it.name) and it.is_file()]
+    return [Edit(crate, it) for it in good], [str(it.relative_to(folder)) for it in files if it not in good and it.suffix != ".md"]
+
+
+def users_of(names: set[str], folder: Path) -> set[Function]:
+    """The functions of a crate whose bodies have one of these names."""
+    found = set()
+    for path in sorted((folder / "src").rglob("*.rt")):
+        file, text = str(path.relative_to(folder)), path.read_text(encoding="utf-8")
+        for place in re.finditer(rf"\b({'|'.join(map(re.escape, sorted(names)))})\b", text):
+            function = function_at(file, text, place.start())
+            found |= {function} if function else set()
+    return found
+
+
+class Result(NamedTuple):
+    """What the try of an edit came to: it is refused or not, it can't be tried, or nothing is known; and the line about it."""
+
+    kind: str
+    text: str
+
+
+REFUSED, MISSED, BAD, UNSURE = "refused", "missed", "bad", "unsure"
+
+
+class Ran(NamedTuple):
+    """The exit status of rattle, and the lines that it printed."""
+
+    status: int
+    lines: list[str]
+
+    def states(self) -> dict[str, str]:
+        """rattle's words about each function, by its name."""
+        return dict(found.groups() for line in self.lines for found in [re.match(r"fn (\S+): (.*)", line)] if found)
+
+    @property
+    def has_ended(self) -> bool:
+        """Whether antt's run over some functions came to its end."""
+        return self.status in (0, 1) and bool(re.match(r"only=\d+ proved=\d+$", self.lines[-1]))
+
+    def unread(self, files: Iterable[str]) -> str:
+        """The first line about a text of src/, specs/ or one of these files that could not be read."""
+        for line in self.lines:
+            at = re.match(r"(?:\./)?(\S+?):\d+:\d+: error: (?:(`[^`]*`): )?(.*)", line)
+            if at and (at[1] in files or at[1].startswith(("src/", "specs/"))):
+                if not at[2] or UNREADABLE.search(re.sub(r"`[^`]*`", "", at[3])):
+                    return line
+        return ""
+
+
+def is_refused_itself(state: str) -> bool:
+    """Whether a function's own proof fails, and not only that of a function that it calls."""
+    return state.startswith(("not proved", "no proof")) and not state.startswith("no proof: it calls")
+
+
+def refused_at(functions: Iterable[Function], ran: Ran) -> str:
+    """Where the own proof of one of these functions fails, and the first line about it. Empty if none does."""
+    for name, state in ran.states().items():
+        function = next((it for it in functions if it.is_named(name)), None)
+        if function and is_refused_itself(state):
+            told = [line for line in ran.lines if function.has(line) and (": error" in line or line.startswith("note: "))]
+            first = next((line for line in told if not NAMES_LOST.match(line)), "")
+            lost = " (only because a proof file names what the edit took away, which says little of the contract)"
+            lost = lost if told and not first else ""
+            return f"{name}{lost}: {first or (told or [state])[0]}"[:300]
+    return ""
+
+
+class Place(NamedTuple):
+    """Where the crates are whose edits are tried, with their built libraries, and where the edits are."""
+
+    root: Path
+    edits: Path
+    kit: Path
+    crates: Crates
+
+    def library(self, crate: str) -> Path:
+        return self.root / "crates" / crate / "out" / "rlib" / f"{crate}.rlib"
+
+
+class Prover:
+    """Calls rattle on edited copies of crates. Everything that it started ends when this process ends."""
+
+    def __init__(self, place: Place, niceness: int = 0) -> None:
+        self.place, self.niceness = place, niceness
+        self.running: set["subprocess.Popen[str]"] = set()
+        self.alone = threading.Lock()
+        self.is_stopped = False
+
+    def run(self, crate: str, texts: dict[str, str], only: Iterable[str], jobs: int = 1) -> Ran:
+        """Checks a copy of a crate with these texts in place of its own: all of it, or only some functions and those that they call."""
+        folder = self.place.root / "crates" / crate
+        with tempfile.TemporaryDirectory(prefix=f"tigercanon-edit-{os.getpid()}-") as room:
+            for part in filter(lambda it: (folder / it).is_dir(), PARTS):
+                shutil.copytree(folder / part, Path(room, part))
+            for file, text in texts.items():
+                Path(room, file).write_text(text, encoding="utf-8")
+            words = [self.place.kit / "bin/rattle", "check"]
+            words += words_for_rattle(self.place.crates, self.place.kit, crate, self.place.library, jobs)
+            words += [word for it in only for word in ("--only", it)]
+            for _ in range(2):
+                ran = self.call([str(it) for it in words], room)
+                # A process that is killed was most likely killed for memory: it is tried again.
+                if ran.status != -signal.SIGKILL:
+                    break
+            return ran
+
+    def call(self, words: list[str], folder: str) -> Ran:
+        def prepare() -> None:
+            LIBC.prctl(PR_SET_PDEATHSIG, signal.SIGKILL)
+            os.nice(self.niceness)
+
+        how = {"stdin": subprocess.DEVNULL, "stdout": subprocess.PIPE, "stderr": subprocess.STDOUT, "text": True, "errors": "replace"}
+        with self.alone:
+            if self.is_stopped:
+                return Ran(-signal.SIGTERM, [""])
+            process = subprocess.Popen(words, cwd=folder, preexec_fn=prepare, **how)  # type: ignore[call-overload]
+            self.running.add(process)
+        told = process.communicate()[0]
+        self.running.discard(process)
+        return Ran(process.returncode, told.rstrip("\n").split("\n"))
+
+    def stop(self) -> None:
+        """Ends all runs, and begins none any more."""
+        with self.alone:
+            self.is_stopped = True
+            for process in self.running:
+                process.kill()
+
+
+class Kept:
+    """The edits that were refused earlier on this machine, by the sums of all that was read: the kit, the crate and those below it, and
+    the edit."""
+
+    def __init__(self, notes: Notes, is_anew: bool) -> None:
+        self.notes, self.is_anew = notes, is_anew
+        cache = Path(os.environ.get("XDG_CACHE_HOME") or Path.home() / ".cache")
+        self.folder = cache / "tigercanon-edits"
+
+    def file(self, edit: Edit, proved_from: str) -> Path:
+        whole = repr((RULES, proved_from, edit.crate, edit.name, edit.text))
+        return self.folder / hashlib.sha256(whole.encode()).hexdigest()
+
+    def find(self, edit: Edit, proved_from: str) -> Optional[Result]:
+        with contextlib.suppress(OSError, ValueError, KeyError, TypeError):
+            found = json.loads(self.file(edit, proved_from).read_text(encoding="utf-8"))
+            if not self.is_anew and found["edit"] == edit.label and isinstance(found["text"], str):
+                return Result(REFUSED, found["text"])
+        return None
+
+    def keep(self, edit: Edit, proved_from: str, result: Result) -> None:
+        """Keeps a refusal. A file under its whole name is a whole one."""
+        if result.kind != REFUSED:
+            return
+        with contextlib.suppress(OSError):
+            self.folder.mkdir(mode=0o700, parents=True, exist_ok=True)
+            file = self.file(edit, proved_from)
+            with tempfile.NamedTemporaryFile("w", dir=self.folder, delete=False, encoding="utf-8") as new:
+                json.dump({"edit": edit.label, "text": result.text}, new)
+            os.replace(new.name, file)
+
+
+class Try(NamedTuple):
+    """An edit that can be applied, with the functions that must be refused for it, and whether only bodies are changed."""
+
+    edit: Edit
+    functions: set[Function]
+    is_in_bodies: bool
+
+
+class Trial:
+    """Tries the edits of one crate: many in one run, and what that doesn't show alone."""
+
+    def __init__(self, prover: Prover, crate: str, edits: list[Edit]) -> None:
+        self.prover, self.crate, self.edits = prover, crate, edits
+        self.folder = prover.place.root / "crates" / crate
+        self.results: dict[Edit, Result] = {}
+        self.runs = 0
+
+    def run(self) -> dict[Edit, Result]:
+        tries = [it for it in map(self.prepared, self.edits) if it]
+        left = [it for it in tries if it.is_in_bodies]
+        alone = [it for it in tries if not it.is_in_bodies]
+        while left:
+            batch, texts, later = self.batch_of(left)
+            alone += self.try_batch(batch, texts)
+            left = later
+        for it in alone:
+            self.results[it.edit] = self.try_alone(it)
+        return self.results
+
+    def prepared(self, edit: Edit) -> Optional[Try]:
+        try:
+            _, functions, names = edit.applied(self.folder, {})
+        except (OSError, ValueError) as error:
+            self.results[edit] = Result(BAD, f"BAD EDIT: {error}")
+            return None
+        return Try(edit, functions | users_of(names, self.folder) if names else functions, not names)
+
+    def batch_of(self, tries: list[Try]) -> tuple[list[Try], dict[str, str], list[Try]]:
+        """The edits that go into one run, since no two of them change one function; the texts with all of them; and the others."""
+        batch: list[Try] = []
+        texts: dict[str, str] = {}
+        later: list[Try] = []
+        taken: set[str] = set()
+        for it in tries:
+            paths = {function.path for function in it.functions}
+            try:
+                if paths & taken:
+                    raise ValueError
+                texts, functions, _ = it.edit.applied(self.folder, texts)
+                batch.append(it._replace(functions=functions))
+                taken |= paths
+            except ValueError:
+                later.append(it)
+        return batch, texts, later
+
+    def check(self, texts: dict[str, str], functions: set[Function]) -> Ran:
+        """Checks these functions, or, if rattle has another name for one, all of its module."""
+        self.runs += 1
+        paths = {it.path: it.path for it in functions}
+        for _ in range(len(functions) + 1):
+            ran = self.prover.run(self.crate, texts, sorted({*paths.values()}))
+            unknown = [it for it in functions if ran.status == 2 and f"`{paths[it.path]}`" in " ".join(ran.lines[-1:])]
+            if not unknown:
+                break
+            paths.update((it.path, it.module) for it in unknown)
+        return ran
+
+    def try_batch(self, batch: list[Try], texts: dict[str, str]) -> list[Try]:
+        """Tries edits in one run, and returns those that it doesn't show to be refused."""
+        if len(batch) == 1:
+            return batch
+        ran = self.check(texts, {function for it in batch for function in it.functions})
+        if not ran.has_ended or ran.unread(texts):
+            return self.without_bad(batch)
+        left = []
+        for it in batch:
+            where = refused_at(it.functions, ran)
+            if where:
+                self.results[it.edit] = Result(REFUSED, f"refused at {where}")
+            else:
+                left.append(it)
+        return left
+
+    def without_bad(self, batch: list[Try]) -> list[Try]:
+        """Tries again without the edits that don't compile, if there are any."""
+        good = []
+        for it in batch:
+            ran = self.prover.run(self.crate, it.edit.applied(self.folder, {})[0], [""])
+            if ran.has_ended:
+                good.append(it)
+            else:
+                self.results[it.edit] = self.judge(it.edit, ran, {})
+        if len(good) == len(batch):
+            return batch
+        batch, texts, later = self.batch_of(good)
+        return self.try_batch(batch, texts) + later
+
+    def try_alone(self, it: Try) -> Result:
+        """Tries one edit: at the functions that it changes, and if these are proved over all of the crate."""
+        texts = it.edit.applied(self.folder, {})[0]
+        if it.functions:
+            ran = self.check(texts, it.functions)
+            where = refused_at(it.functions, ran)
+            if ran.has_ended and where and not ran.unread(texts):
+                return Result(REFUSED, f"refused at {where}")
+        self.runs += 1
+        return self.judge(it.edit, self.prover.run(self.crate, texts, [], jobs=2), texts)
+
+    def judge(self, edit: Edit, ran: Ran, texts: dict[str, str]) -> Result:
+        """What a check of the whole crate with one edit comes to."""
+        unread = ran.unread(texts)
+        if unread and ran.status == 1:
+            return Result(BAD, f"BAD EDIT: the prover can't read the edited text, so no contract was tried: {unread[:200]}")
+        if ran.status == 1 and ran.lines[-1].startswith("logic=not-proved"):
+            told = [line for line in ran.lines if re.match(r"(note: )?\S+:\d+:\d+:", line)]
+            told = [line for line in told if ": error" in line or line.startswith("note: ")]
+            first = next((line for line in told if not NAMES_LOST.match(line)), "")
+            return Result(REFUSED, f"refused, with the crate: {(first or ' '.join(told[:1]))[:200]}")
+        if ran.status == 0:
+            return Result(MISSED, "NOT REFUSED: the crate is still proved with this edit. If that means the same as before, remove it")
+        limit = next((line for line in ran.lines if LIMITS.search(line)), "")
+        if ran.status == 3 and limit:
+            return Result(REFUSED, f"refused only by a limit of the prover: choose a change that it refuses sooner: {limit[:160]}")
+        if ran.status in (1, 2) and any(re.search(r"\berror\[[\w-]+\]", line) for line in ran.lines):
+            return Result(BAD, "\n  ".join(["BAD EDIT: it doesn't compile:", *ran.lines[:6]]))
+        return Result(UNSURE, "\n  ".join([f"NOT TRIED: its check ended with status {ran.status}, so run this again", *ran.lines[-6:]]))
+
+
+class Outcome(NamedTuple):
+    """What the edits of a crate came to, the files among them that are none, and how many runs that took."""
+
+    crate: str
+    results: dict[Edit, Result]
+    others: list[str]
+    runs: int
+
+    @property
+    def passed(self) -> int:
+        return sum(it.kind == REFUSED for it in self.results.values())
+
+    @property
+    def failed(self) -> int:
+        return len(self.results) + len(self.others) - self.passed
+
+    def lines(self) -> list[str]:
+        name = "BAD EDIT: the name of an edit is of letters, digits, _, -, . and ends in .edit"
+        return [
+            *(f"{edit.label}: {result.text}" for edit, result in self.results.items()),
+            *(f"must-fail {self.crate}/{file}: {name}" for file in self.others),
+            f"edits of {self.crate}: {self.passed} refused of {len(self.results)}, {self.runs} {'run' if self.runs == 1 else 'runs'}",
+        ]
+
+
+def try_edits(prover: Prover, crate: str, kept: Kept) -> Outcome:
+    """Tries the edits of a crate that weren't refused earlier."""
+    edits, others = edits_of(crate, prover.place.edits / "crates" / crate / "must-fail")
+    proved_from = kept.notes.proved_from(crate)
+    known = {edit: found for edit in edits for found in [kept.find(edit, proved_from)] if found}
+    trial = Trial(prover, crate, [edit for edit in edits if edit not in known])
+    results = trial.run()
+    if kept.notes.proved_from(crate) == proved_from:
+        for edit, result in results.items():
+            kept.keep(edit, proved_from, result)
+    return Outcome(crate, {edit: (known | results)[edit] for edit in edits}, others, trial.runs)
