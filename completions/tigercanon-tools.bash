@@ -4,7 +4,7 @@
 
 _tigercanon_tools() {
     # help: begin commands
-    local commands="fingerprint verify duplicates changes diff explain"
+    local commands="fingerprint verify check duplicates changes diff table explain"
     # help: end
     local word="${COMP_WORDS[COMP_CWORD]}" command="" flags="" place
     for ((place = 1; place < COMP_CWORD; place++)); do
@@ -13,12 +13,14 @@ _tigercanon_tools() {
     case "$command" in
         "") flags="--help --version" ;;
         # help: begin flags
-        fingerprint) flags="--help --version --output --strict --program --jobs --scheduler --memory --largest --no-sources --no-reserved --json" ;;
+        fingerprint) flags="--help --version --output --update --again --strict --program --jobs --scheduler --memory --largest --no-sources --no-reserved --json" ;;
         verify) flags="--help --version --quiet --root --program --jobs --scheduler --memory --largest --no-sources --no-reserved --json" ;;
-        duplicates) flags="--help --version --json" ;;
-        changes) flags="--help --version --quiet --json" ;;
+        check) flags="--help --version --quiet --program --jobs --scheduler --memory --largest --json" ;;
+        duplicates) flags="--help --version --different --json" ;;
+        changes) flags="--help --version --quiet --edition --json --pages --root --leaflet --jobs --program" ;;
         diff) flags="--help --version --program --no-sources --no-reserved --stem --summary --json --page --geojson --all --leaflet" ;;
-        explain) flags="--help --version" ;;
+        table) flags="--help --version --program --geojson --output" ;;
+        explain) flags="--help --version --program" ;;
         # help: end
     esac
     if [[ "$word" == -* ]]; then

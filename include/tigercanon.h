@@ -35,6 +35,9 @@ extern "C" {
 /* The name of the form of the canonical texts. Cite it with a fingerprint. */
 #define TIGERCANON_FORM "tigercanon form 1"
 
+/* The version of this header and of the library that comes with it. */
+#define TIGERCANON_VERSION "0.1.0"
+
 /* An address for what has no bytes. */
 #define TIGERCANON_EMPTY ((const uint8_t *)"")
 
