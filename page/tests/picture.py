@@ -1,8 +1,8 @@
 """Makes the picture of the page in README, docs/page.png: two maps of a town, with a difference opened.
 
-    PYTHONPATH=tools:page/tests /usr/bin/python3 -B page/tests/picture.py [PAGE]
+    PYTHONPATH=tests:page/tests /usr/bin/python3 -B page/tests/picture.py [PAGE]
 
-PAGE is by default out/page/tigercanon.html. Needs Debian's python3-pil besides what .ci/test-page needs.
+PAGE is by default out/page/tigercanon.html. Needs Debian's python3-pil besides what tests/test-page needs.
 """
 
 import sys

@@ -1,4 +1,4 @@
-"""What the tests share: a folder of their own, the real program, and a stand-in for it with four counties."""
+"""What the tests share: a folder of their own, the real program, and a fake one with four counties."""
 
 import shutil
 import signal
@@ -6,7 +6,7 @@ import sys
 from pathlib import Path
 
 import pytest
-from support import STAND_INS, Four, built_program, complete
+from support import FAKES, Four, built_program, complete
 
 sys.dont_write_bytecode = True
 
@@ -35,9 +35,9 @@ def program(room: Path, monkeypatch: pytest.MonkeyPatch) -> str:
 
 
 @pytest.fixture
-def stand_in(room: Path, monkeypatch: pytest.MonkeyPatch) -> Path:
-    """A stand-in for the program, which notes its calls in the file `calls`."""
-    path = Path(shutil.copy(STAND_INS / "program", room))
+def fake(room: Path, monkeypatch: pytest.MonkeyPatch) -> Path:
+    """A fake program, which notes its calls in the file `calls`."""
+    path = Path(shutil.copy(FAKES / "program", room))
     (room / "calls").touch()
     monkeypatch.setenv("TIGERCANON", str(path))
     monkeypatch.setenv("ROOM", str(room))
@@ -45,8 +45,8 @@ def stand_in(room: Path, monkeypatch: pytest.MonkeyPatch) -> Path:
 
 
 @pytest.fixture
-def four(room: Path, stand_in: Path) -> Four:
-    """Four counties for the stand-in, with odd names, in the order of the manifest."""
+def four(room: Path, fake: Path) -> Four:
+    """Four counties for the fake program, with odd names, in the order of the manifest."""
     counties = {f"in/{name}": f"county {name}\n".encode() for name in ("-d", "a a", "b", "c")}
     for stem, text in counties.items():
         complete(stem, text)

@@ -21,7 +21,7 @@ from testing import PROGRAM as BUILT
 from testing import ROOT, TYPES
 
 PACKAGE = ROOT / "python"
-STAND_INS = PACKAGE / "tests/stand-ins"
+FAKES = PACKAGE / "tests/fakes"
 TOOLS = [sys.executable, "-m", "tigercanon"]
 PROGRAM = os.path.abspath(os.environ.get("TIGERCANON") or BUILT)
 
@@ -43,12 +43,12 @@ def built_program() -> str:
 
 
 def digest(text: bytes, flags: str = "") -> str:
-    """The fingerprint that the stand-in prints."""
+    """The fingerprint that the fake program prints."""
     return hashlib.sha256((f"{flags} " if flags else "").encode() + text).hexdigest()
 
 
 def manifest(counties: Mapping[str, bytes], flags: str = "") -> str:
-    """The manifest of counties with these first files that the stand-in leads to."""
+    """The manifest of counties with these first files that the fake program leads to."""
     lines = [f"{digest(text, flags)}  {stem}\n" for stem, text in counties.items()]
     return "".join([f"{HEAD.strip()} {flags}".strip(), "\n", *lines])
 
@@ -88,9 +88,9 @@ def call(*words: object, **options: Any) -> Ended:
 
 
 def shell(command: str) -> Ended:
-    """Runs a command of bash, which has `tigercanon-tools` and what else stand-ins/commands defines."""
+    """Runs a command of bash, which has `tigercanon-tools` and what else fakes/commands defines."""
     env = {"ROOT": str(ROOT), "PYTHON": sys.executable}
-    return end(begin("-c", f'. "$0"\n{command}', STAND_INS / "commands", program=["bash"], env=env))
+    return end(begin("-c", f'. "$0"\n{command}', FAKES / "commands", program=["bash"], env=env))
 
 
 def begin(*words: object, program: Sequence[str] = TOOLS, env: Mapping[str, str] = {}, **options: Any) -> Process:
@@ -135,7 +135,7 @@ def put(name: str | Path, text: bytes = b"") -> Path:
 
 
 def members(name: str, first: bytes) -> dict[str, bytes]:
-    """The nine files of a complete county. The stand-in looks at the first alone."""
+    """The nine files of a complete county. The fake program looks at the first alone."""
     return {f"{name}.RT{kind}": first if kind == "1" else b"x\n" for kind in TYPES}
 
 

@@ -15,7 +15,7 @@ from typing import Any, Iterator, NamedTuple
 import pytest
 from differences.changes import made_county
 from maps import written
-from support import STAND_INS, Process, begin, built_program, call, count_of_lines, die_with_the_test, end
+from support import FAKES, Process, begin, built_program, call, count_of_lines, die_with_the_test, end
 from support import kill_group, left_behind, listed, processes, put, zip_up
 from testing import ROOT, TYPES, await_that, by_type
 
@@ -86,7 +86,7 @@ def slow(room: Path, program: str, monkeypatch: pytest.MonkeyPatch) -> None:
     """The program, which waits a moment before it answers. For some files it ends its parent, which is the worker. Workers that start
     afterwards have it too."""
     monkeypatch.setenv("PROGRAM", program)
-    monkeypatch.setenv("TIGERCANON", shutil.copy(STAND_INS / "slow", room))
+    monkeypatch.setenv("TIGERCANON", shutil.copy(FAKES / "slow", room))
 
 
 def plain(reports: dict[str, str]) -> dict[str, str]:

@@ -86,19 +86,19 @@ class TestProgram:
     """The program is the one that is named, else the one that is built here, else the one on the PATH."""
 
     @pytest.mark.parametrize("place", ["bin", "packages/tigercanon/bin", None])
-    def test_an_installed_package(self, room: Path, stand_in: Path, place: str | None) -> None:
+    def test_an_installed_package(self, room: Path, fake: Path, place: str | None) -> None:
         """Without a clone around it: the program is on the PATH, or inside the package, as a wheel has it; or there is none."""
         shutil.copytree(PACKAGE / "tigercanon", "packages/tigercanon")
         complete("in/a", b"x\n")
         if place:
-            os.renames(stand_in, f"{place}/tigercanon")
+            os.renames(fake, f"{place}/tigercanon")
         env = {"PYTHONPATH": f"{room}/packages", "PATH": f"{room}/bin:/bin:/usr/bin", "ROOM": str(room), "TMPDIR": f"{room}/tmp"}
         status, out, err = run([*TOOLS, "fingerprint", "in"], env=env)
         why = "there is no program tigercanon here: run ./tigercanon once, which builds it, or name one with --program"
         wanted = (0, manifest({"in/a": b"x\n"})) if place else (2, f"{NAME}{why}\n")
         assert (status, (out if place else err).decode()) == wanted
 
-    def test_a_clone(self, room: Path, stand_in: Path, monkeypatch: pytest.MonkeyPatch) -> None:
+    def test_a_clone(self, room: Path, fake: Path, monkeypatch: pytest.MonkeyPatch) -> None:
         """In a clone the launcher says which program it is, and builds it first if it must. An executable of the current folder isn't
         taken for it, and neither is one of a relative folder on the PATH."""
         monkeypatch.delenv("TIGERCANON")
@@ -107,7 +107,7 @@ class TestProgram:
         shutil.copy(ROOT / "tigercanon-tools", room / "clone")
         launch = put("clone/scripts/launch", b'#!/bin/sh\necho "$1" >>$ROOM/calls\necho "$2/there/program"\n')
         launch.chmod(0o755)
-        os.renames(stand_in, "clone/there/program")
+        os.renames(fake, "clone/there/program")
         for wrong in ("tigercanon", "bin/tigercanon"):
             put(wrong, b"#!/bin/sh\necho wrong >>$ROOM/calls\n").chmod(0o755)
         os.symlink("clone/tigercanon-tools", "tools")

@@ -1,4 +1,4 @@
-"""What is sent to the workers of a cluster, and what a command makes of their answers. A stand-in for the client of Dask does at once
+"""What is sent to the workers of a cluster, and what a command makes of their answers. A fake client of Dask does at once
 what it is given."""
 
 from concurrent.futures import CancelledError, Future

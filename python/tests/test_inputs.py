@@ -1,5 +1,5 @@
 """No command writes over a file that it reads, whichever names and links lead to it. The commands run in this process where they can, with
-a stand-in for the program."""
+a fake program."""
 
 import os
 import shutil
@@ -61,7 +61,7 @@ LINKS = ("its name", "another path", "a symbolic link", "a link to a link", "a h
 
 
 @pytest.fixture(autouse=True)
-def archive(room: Path, stand_in: Path) -> Path:
+def archive(room: Path, fake: Path) -> Path:
     """The counties, which are empty files and zips, since an empty file could be taken for a manifest or a lock."""
     county = (ROOT / "examples/autauga/canonical.txt").read_bytes()
     for name in ("all.txt", *NINE, *MIXED):
@@ -77,7 +77,7 @@ def archive(room: Path, stand_in: Path) -> Path:
 
 
 def files(room: Path) -> dict[str, object]:
-    """All files and folders, without the notes of the stand-in."""
+    """All files and folders, without the notes of the fake program."""
     return {str(path): path.is_file() and path.read_bytes() for path in room.rglob("*") if path.name != "calls"}
 
 

@@ -1,4 +1,4 @@
-"""The module for Python over a stand-in for the library: what it passes to the library, and what it makes of the answers."""
+"""The module for Python over a fake library: what it passes to the library, and what it makes of the answers."""
 
 import array
 import gzip
@@ -17,7 +17,7 @@ from pathlib import Path
 from typing import Any, Callable, Iterator
 
 import pytest
-from support import STAND_INS, packed, put
+from support import FAKES, packed, put
 from testing import ROOT, TYPES, Answer, run
 
 import tigercanon
@@ -35,7 +35,7 @@ def compiled(tmp_path_factory: pytest.TempPathFactory) -> Path:
     if not shutil.which("gcc"):
         pytest.skip("no gcc")
     made = tmp_path_factory.mktemp("library") / _library.NAME
-    words = ["gcc", "-shared", "-fPIC", "-O1", "-Wall", "-Werror", f"-I{ROOT / 'include'}", "-o", made, STAND_INS / "library.c"]
+    words = ["gcc", "-shared", "-fPIC", "-O1", "-Wall", "-Werror", f"-I{ROOT / 'include'}", "-o", made, FAKES / "library.c"]
     assert run(words) == (0, b"", b"")
     return made
 
@@ -49,7 +49,7 @@ def loaded(library: Path, monkeypatch: pytest.MonkeyPatch) -> Iterator[None]:
 
 
 echoed: Callable[[Any], bytes] = tigercanon.respell
-"""What the stand-in was lent."""
+"""What the fake library was lent."""
 
 
 def kinds(folder: Path) -> dict[str, Callable[[], Any]]:

@@ -1,4 +1,4 @@
-"""Two runs with one manifest, files that take no more, and a reader that is gone. With a stand-in for the program."""
+"""Two runs with one manifest, files that take no more, and a reader that is gone. With a fake program."""
 
 import os
 import shutil
@@ -47,7 +47,7 @@ def test_no_room_for_a_zip(four: Four) -> None:
     assert (ended.status, len(ended.out.splitlines()), left_behind()) == (1, 4, [])
 
 
-def test_no_room_for_a_comparison(room: Path, stand_in: Path) -> None:
+def test_no_room_for_a_comparison(room: Path, fake: Path) -> None:
     """A file that can't be written to its end isn't left behind, and an older file of its name is unchanged."""
     shutil.copy(ROOT / "examples/autauga/canonical.txt", "one")
     put("geojson", b"older")

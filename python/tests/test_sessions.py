@@ -1,5 +1,5 @@
 """Sessions with the tools: each file in sessions/ shows commands of bash, and below each one its whole answer. The commands of
-stand-ins/commands are there too, and stand-ins/program takes the place of the program."""
+fakes/commands are there too, and fakes/program takes the place of the program."""
 
 import re
 import shutil
@@ -14,12 +14,12 @@ STEP = re.compile(r"(?m)^    \$ (.*)\n((?:(?:    (?!\$ ).*)?\n)*)")
 
 
 def files(room: Path) -> dict[Path, object]:
-    """The files and folders of the test, without the notes of the stand-in."""
+    """The files and folders of the test, without the notes of the fake program."""
     return {path: path.is_file() and path.read_bytes() for path in room.rglob("*") if path != room / "calls"}
 
 
 @pytest.mark.parametrize("session", SESSIONS, ids=[path.stem for path in SESSIONS])
-def test_session(room: Path, stand_in: Path, session: Path) -> None:
+def test_session(room: Path, fake: Path, session: Path) -> None:
     """An answer is what comes on standard output, then what comes on standard error, where each line begins with the name of the
     tools, and a status that isn't 0. Three dots stand for any text, such as a time. No command leaves a temporary folder behind, and
     one that ends with status 2 changes no file."""

@@ -19,8 +19,8 @@ WANTED = manifest(COUNTIES)
 
 
 @pytest.fixture
-def archive(room: Path, stand_in: Path) -> Path:
-    """Ten counties: a zip for which the stand-in waits as long as there is a file `waits`, and nine others."""
+def archive(room: Path, fake: Path) -> Path:
+    """Ten counties: a zip for which the fake program waits as long as there is a file `waits`, and nine others."""
     for stem, text in COUNTIES.items():
         complete(stem, text)
     zip_up("in/TGR0")
@@ -119,7 +119,7 @@ def test_a_signal_while_a_verification_prints(archive: Path) -> None:
 
 
 @pytest.mark.parametrize("number", SIGNALS[:3])
-def test_a_comparison(room: Path, stand_in: Path, number: signal.Signals) -> None:
+def test_a_comparison(room: Path, fake: Path, number: signal.Signals) -> None:
     """If it takes long it reports its progress, and if a signal ends it nothing is left behind."""
     put("one", b"waits\n")
     put("waits")

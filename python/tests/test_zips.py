@@ -55,7 +55,7 @@ def broken_zips() -> dict[str, tuple[bytes, str]]:
     }
 
 
-def test_broken_zips(room: Path, stand_in: Path) -> None:
+def test_broken_zips(room: Path, fake: Path) -> None:
     zips = broken_zips()
     for name, (text, _) in zips.items():
         put(f"in/{name}.ZIP", text)
@@ -103,7 +103,7 @@ def url(room: Path) -> Iterator[str]:
 
 
 @pytest.mark.cluster
-def test_a_server(url: str, room: Path, stand_in: Path) -> None:
+def test_a_server(url: str, room: Path, fake: Path) -> None:
     """A transfer that breaks off once is made again; one that breaks off three times is reported."""
     for module in ("aiohttp", "requests"):  # without them fsspec reads no http
         pytest.importorskip(module)

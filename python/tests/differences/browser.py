@@ -1,6 +1,6 @@
 """A page in Chromium.
 
-    cd python/tests; PYTHONPATH=..:../../tools /usr/bin/python3 -m differences.browser
+    cd python/tests; PYTHONPATH=..:../../tests /usr/bin/python3 -m differences.browser
 
 makes the picture of the two maps in examples/two-maps again, docs/differences.png. That needs Debian's python3-pil.
 """
