@@ -14,7 +14,7 @@ from typing import Any, Iterator
 ROOT = Path(__file__).resolve().parent.parent
 sys.path.insert(0, str(ROOT / "python"))
 
-from tigercanon import explain, hints, layout, manifests  # noqa: E402
+from tigercanon import explanations, hints, layout, manifests  # noqa: E402
 from tigercanon.diff import columns, fields, words  # noqa: E402
 
 SECTION = re.compile(r"(?ms)^## Record type (.): .*? \((\d+) bytes\)$(.*?)(?=^## |\Z)")
@@ -30,9 +30,9 @@ EXAMPLES = {
 def refusals() -> dict[int, dict[str, Any]]:
     """The refusals by their numbers: the name, the meanings of the places, and what the guide says."""
     found = {}
-    text = explain.page()
-    sections = explain.sections(text)
-    for number, name, places in explain.SECTION.findall(text):
+    text = explanations.page()
+    sections = explanations.sections(text)
+    for number, name, places in explanations.SECTION.findall(text):
         body = sections[int(number)].partition("\n")[2].strip()
         found[int(number)] = {"name": name, "places": places.split(), "text": body}
     return found

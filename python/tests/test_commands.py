@@ -13,9 +13,9 @@ import pytest
 from support import HEAD, NAME, PACKAGE, TOOLS, call, complete, manifest, put
 from testing import ROOT, run, script
 
-from tigercanon.explain import explained, page, sections
+from tigercanon.explanations import explained, page, sections
 from tigercanon.hints import hint
-from tigercanon.progress import Tally, amount, duration
+from tigercanon.progress import Console, Progress, amount, duration
 from tigercanon.version import VERSION
 
 COMMANDS = ["fingerprint", "verify", "check", "duplicates", "changes", "diff", "table", "explain"]
@@ -136,10 +136,9 @@ class TestProgram:
 
 
 def test_installing(room: Path) -> None:
-    """The package installs with Debian's setuptools, without a network, and has its command."""
-    if not os.path.exists("/usr/lib/python3/dist-packages/wheel"):
-        pytest.skip("python3-wheel isn't installed")
-    shutil.copytree(PACKAGE, "python", ignore=shutil.ignore_patterns("tests", "*.egg-info", "build", "__pycache__"))
+    """The package installs with Debian's hatchling, without a network, and has its command."""
+    pytest.importorskip("hatchling", reason="python3-hatchling isn't installed")
+    shutil.copytree(PACKAGE, "python", ignore=shutil.ignore_patterns("tests", "__pycache__"))
     put("docs/guide.md", (ROOT / "docs/guide.md").read_bytes())
     install = "-m pip install --no-build-isolation --no-index --no-deps --target site ./python"
     made = run([sys.executable, *install.split()])
@@ -156,12 +155,12 @@ def test_how_numbers_are_written() -> None:
     assert amounts == ["0 bytes", "999 bytes", "1.0 kB", "1.2 MB", "3.4 GB", "5,000.0 GB"]
     durations = [duration(seconds) for seconds in (0.2, 59.6, 61, 3600, 90_061)]
     assert durations == ["0 s", "1 min 0 s", "1 min 1 s", "1 h 0 min", "25 h 1 min"]
-    tally = Tally()
+    tally = Progress(Console())
     tally.counties, tally.bytes_in_all = 3200, 40_000_000_000
     tally.bytes, tally.ended, tally.failed = 10_000_000_000, 1200, 2
     tally.refused["4 BadNumber"] += 3
     progress = "1,200 of 3,200 counties, 10.0 GB of 40.0 GB, 100.0 MB a second, 5 min 0 s left, 3 refused, 2 failed"
-    assert tally.progress(100.0) == progress
+    assert tally.line(100.0) == progress
 
 
 def test_every_refusal_has_a_section() -> None:

@@ -8,6 +8,8 @@ import pytest
 from support import Four, complete, manifest, put, zip_up
 
 from tigercanon import commands, engines
+from tigercanon.progress import Console
+from tigercanon.resources import Resources
 
 
 class Client:
@@ -40,9 +42,10 @@ def run(monkeypatch: pytest.MonkeyPatch, capsysbinary: Any) -> Any:
     """Runs a command by a scheduler, which is gone after some counties: the status, and what comes on both streams."""
 
     def run(command: str, count: int = 100) -> tuple[int, str, list[str]]:
-        monkeypatch.setattr(engines, "client_of", lambda _: Client(count))
+        monkeypatch.setattr(engines, "client_of", lambda *_: Client(count))
         options = commands.parser().parse_args(command.split())
-        status, (out, err) = int(options.run(options)), capsysbinary.readouterr()
+        status = commands.perform(options, Console(), Resources(prints=True))
+        out, err = capsysbinary.readouterr()
         return status, out.decode(), [line.partition(": ")[2] for line in err.decode().splitlines()]
 
     return run

@@ -13,11 +13,12 @@ from testing import ROOT, TYPES
 from tigercanon import commands
 from tigercanon.diff.page import ASSETS
 from tigercanon.errors import Failure
-from tigercanon.explain import guide
+from tigercanon.explanations import guide
 from tigercanon.inputs import Inputs
 from tigercanon.layout import file_name
 from tigercanon.manifests import Line, written
-from tigercanon.own import new_files
+from tigercanon.progress import Console
+from tigercanon.resources import Resources, new_files
 
 NINE = [file_name("in/TGR01001", kind) for kind in TYPES]
 MIXED = [f"small/tgr01001.{'rRrRrRrRr'[place]}{'tTTt'[place % 4]}{kind.lower()}" for place, kind in enumerate(TYPES)]
@@ -103,8 +104,7 @@ def remove_outputs(folder: Path) -> None:
 
 
 def run_in_process(words: list[str]) -> int:
-    options = commands.parser().parse_args(words)
-    return int(options.run(options))
+    return commands.perform(commands.parser().parse_args(words), Console(), Resources(prints=True))
 
 
 @pytest.mark.parametrize("output, name", [*product(COMMANDS, READ), *product(("-o", "lock"), IN_FOLDERS)])
@@ -212,14 +212,14 @@ def test_a_name_of_a_county(archive: Path) -> None:
 
 def test_a_file_that_becomes_an_input(archive: Path) -> None:
     """The output's name may lead to a file that is read when the output is whole, or before a further line."""
-    inputs = Inputs(["all.txt"])
+    inputs, resources = Inputs(["all.txt"]), Resources()
     with pytest.raises(Failure, match="new: can't be written: this command reads it as all.txt"):
-        with new_files(["new"], inputs) as made:
+        with new_files(["new"], inputs, resources) as made:
             made["new"].write(b"text")
             os.link("all.txt", "new")
     assert [name for name in os.listdir(".") if name.endswith(".part")] == []
     with pytest.raises(Failure, match="m: can't be written: this command reads it as all.txt"):
-        with written("m", (), inputs) as manifest:
+        with written("m", (), inputs, resources) as manifest:
             os.link("all.txt", "m")
             manifest.add(Line("0" * 64, "in/TGR01001"))
     assert Path("all.txt").read_bytes() == b""

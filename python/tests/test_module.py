@@ -22,7 +22,7 @@ from testing import ROOT, TYPES, Answer, run
 
 import tigercanon
 from tigercanon import _library
-from tigercanon.explain import SECTION, page
+from tigercanon.explanations import SECTION, page
 
 TEXT = b"1 first line\n2 second line: \xe9\n"
 

@@ -25,9 +25,10 @@ The module needs CPython on x86-64 Linux and the library libtigercanon.so.1. It 
 names, else the one beside this package, else the one that the system finds. In a clone, scripts/build-library builds
 it. Without it, the first call raises ImportError; the command tigercanon-tools works without the library.
 
-Four calls are for archives, and run the program instead of the library: manifest yields the fingerprint of each county of an
-archive, changes compares the manifests of editions, differences yields where two counties differ, and chains yields the chains of
-one. They raise tigercanon.errors.Failure if they can't go on.
+The other calls do what the commands of tigercanon-tools do, and run the program instead of the library: manifest, verify and checks
+judge the counties of an archive, changes and duplicates read manifests, differences and chains read counties, and explain is about a
+refusal. They raise tigercanon.errors.Failure if they can't go on. A call keeps nothing outside itself: what it starts and makes ends
+with it, and a generator that isn't read to its end is ended by its close.
 """
 
 from typing import TYPE_CHECKING, Any
@@ -46,23 +47,27 @@ __all__ = [
     "chains",
     "changes",
     "check",
+    "checks",
     "compare",
     "differences",
+    "duplicates",
+    "explain",
     "fingerprint",
     "manifest",
     "normalise",
     "respell",
+    "verify",
 ]
 
 FORM = "tigercanon form 1"  # the name of the form of the canonical texts. Cite it with a fingerprint.
 
 if TYPE_CHECKING:
-    from .archive import chains, changes, differences, manifest
+    from .archive import chains, changes, checks, differences, duplicates, explain, manifest, verify
 
 
 def __getattr__(name: str) -> Any:
     """The calls for archives, whose modules are loaded only if one of them is used."""
-    if name not in ("chains", "changes", "differences", "manifest"):
+    if name not in __all__:
         raise AttributeError(f"module {__name__!r} has no attribute {name!r}")
     from . import archive
 

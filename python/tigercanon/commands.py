@@ -9,17 +9,17 @@ import traceback
 from concurrent.futures import ThreadPoolExecutor
 from typing import Any, Callable, Sequence
 
-from . import explain, listing, runs, tables
+from . import explanations, listing, runs, tables
 from .diff import command as differences
 from .errors import Failure, reason
-from .inputs import Inputs
-from .own import PATIENCE, PROCESS
-from .progress import Tally, report
+from .progress import Console
+from .resources import PATIENCE, Resources
 from .version import VERSION
 
 NAME = "tigercanon-tools"
 SIZES = {"": 1, "kB": 10**3, "MB": 10**6, "GB": 10**9}
 LARGEST = "2GB"
+Run = Callable[[argparse.Namespace, Console, Resources], int]
 SIGNALS = [signal.Signals[f"SIG{name}"] for name in "INT TERM HUP QUIT USR1 USR2 ALRM XCPU".split()]
 
 ABOUT = """\
@@ -76,7 +76,7 @@ def parser() -> Parser:
     return made
 
 
-def add_command(commands: Any, name: str, about: str, run: Callable[[argparse.Namespace], int]) -> argparse.ArgumentParser:
+def add_command(commands: Any, name: str, about: str, run: Run) -> argparse.ArgumentParser:
     description = f"{about[0].upper()}{about[1:]}."
     made: argparse.ArgumentParser = commands.add_parser(name, help=about, description=description, allow_abbrev=False)
     made.add_argument("--version", action="version", version=f"{NAME} {VERSION}")
@@ -114,7 +114,7 @@ def add_judging_options(made: argparse.ArgumentParser, with_flags: bool = True) 
 
 def add_judging_commands(commands: Any) -> None:
     about = "print or write a manifest: the fingerprint and the name of each county"
-    made = add_command(commands, "fingerprint", about, lambda options: runs.Fingerprints(options)())
+    made = add_command(commands, "fingerprint", about, runs.fingerprint)
     about = "write the manifest to this file; counties that it already lists are skipped, and so are those that it lists as refused"
     made.add_argument("-o", "--output", metavar="MANIFEST", help=about)
     about = "with -o: judge again the counties whose files have another size or time than the manifest has"
@@ -126,7 +126,7 @@ def add_judging_commands(commands: Any) -> None:
     made.add_argument("sources", metavar="SOURCE", nargs="+", help="where the counties are")
 
     about = "check counties against their fingerprints in a manifest: OK, FAILED or MISSING for each"
-    made = add_command(commands, "verify", about, lambda options: runs.Verification(options)())
+    made = add_command(commands, "verify", about, runs.verify)
     made.add_argument("--quiet", action="store_true", help="don't print counties that are OK")
     made.add_argument("--root", metavar="FOLDER", help="look for the names in the manifest below this folder")
     add_judging_options(made)
@@ -138,7 +138,7 @@ def add_judging_commands(commands: Any) -> None:
 
 def add_check(commands: Any) -> None:
     about = "check whether counties are accepted, and show the faulty line and field of each that isn't"
-    made = add_command(commands, "check", about, lambda options: runs.Checks(options)())
+    made = add_command(commands, "check", about, runs.check)
     made.add_argument("--quiet", action="store_true", help="don't print counties that are accepted")
     add_judging_options(made, with_flags=False)
     made.add_argument("counties", metavar="COUNTY", nargs="+", help="a county, or a SOURCE of several")
@@ -182,7 +182,7 @@ def add_other_commands(commands: Any) -> None:
     made.add_argument("county", metavar="COUNTY", help="a zip, a file with all records, or the stem or a file of the nine")
 
     about = "explain a refusal: what it means, an example, and what to do; of a county it shows the place too"
-    made = add_command(commands, "explain", about, explain.run)
+    made = add_command(commands, "explain", about, explanations.run)
     add_shared(made, "--program")
     about = "the line that the program printed, or the refusal's number or name; a COUNTY may follow, or stand alone"
     made.add_argument("line", metavar="LINE", nargs="+", help=about)
@@ -195,18 +195,23 @@ def end_by(number: int) -> None:
     os.kill(os.getpid(), number)
 
 
-def stop(number: int, _: object) -> None:
+class Stop:
     """Ends what the command has started, and then this process by the signal."""
-    for each in SIGNALS:
-        signal.signal(each, signal.SIG_IGN)
-    PROCESS.end()
-    Tally.bar = None
-    tally = Tally.current
-    how_far = f": {tally.ended:,} of {tally.counties:,} counties done" if tally else ""
-    last = threading.Thread(target=report, args=(f"stopped by {signal.Signals(number).name[3:]}{how_far}",), daemon=True)
-    last.start()
-    last.join(PATIENCE)  # nobody may be reading standard error
-    end_by(number)
+
+    def __init__(self, console: Console, resources: Resources) -> None:
+        self.console, self.resources = console, resources
+
+    def __call__(self, number: int, _: object) -> None:
+        for each in SIGNALS:
+            signal.signal(each, signal.SIG_IGN)
+        self.resources.end()
+        progress, self.console.progress = self.console.progress, None  # the bar stays as it is
+        how_far = f": {progress.how_far} done" if progress else ""
+        line = f"stopped by {signal.Signals(number).name[3:]}{how_far}"
+        last = threading.Thread(target=self.console.report, args=(line,), daemon=True)
+        last.start()
+        last.join(PATIENCE)  # nobody may be reading standard error
+        end_by(number)
 
 
 def open_streams() -> None:
@@ -218,27 +223,34 @@ def open_streams() -> None:
             os.open(os.devnull, os.O_RDWR)
 
 
+def perform(options: argparse.Namespace, console: Console, resources: Resources) -> int:
+    """Runs a command, and leaves nothing behind but its outputs."""
+    with resources:
+        return int(options.run(options, console, resources))
+
+
 def run(arguments: Sequence[str]) -> int:
     """Runs a command line and returns the exit status. The command runs in a thread of its own, and this one waits for signals, so
     none comes at a bad moment. A command that can't go on ends this process, in which other threads may still be at work."""
     open_streams()
     options = parser().parse_args(list(arguments))
+    console, resources = Console(), Resources(prints=True)
     for number in SIGNALS:
         if signal.getsignal(number) is not signal.SIG_IGN:
-            signal.signal(number, stop)
+            signal.signal(number, Stop(console, resources))
     try:
-        return int(ThreadPoolExecutor(1).submit(options.run, options).result())
+        return ThreadPoolExecutor(1).submit(perform, options, console, resources).result()
     except Failure as failure:
-        report(str(failure))
+        console.report(str(failure))
     except BrokenPipeError:
-        PROCESS.end()
+        resources.end()
         end_by(signal.SIGPIPE)
     except MemoryError:
-        report("out of memory")
+        console.report("out of memory")
     except OSError as error:
         name = f"{error.filename}: " if isinstance(error.filename, str) else ""
-        report(f"{name}{reason(error)}")
+        console.report(f"{name}{reason(error)}")
     except BaseException:  # a fault of this package
         traceback.print_exc()
-    PROCESS.end()
+    resources.end()
     os._exit(2)

@@ -76,6 +76,23 @@ class History(NamedTuple):
         return ", ".join(told)
 
 
+class Group(NamedTuple):
+    """Counties that are one map: its fingerprint, and their names in the manifest."""
+
+    fingerprint: str
+    counties: tuple[str, ...]
+
+    @property
+    def is_different(self) -> bool:
+        """Whether the names are different ones, and not one name in several folders."""
+        return len({key_of(county) for county in self.counties}) > 1
+
+    @property
+    def lines(self) -> list[str]:
+        """The lines of the manifest."""
+        return [str(Line(self.fingerprint, county)) for county in self.counties]
+
+
 def editions_of(names: Sequence[str], folders: Sequence[str] = ()) -> list[Edition]:
     """The editions in these manifests: one in each, or all of them in one, below a folder each. Raises Failure if there is only one, or
     if their fingerprints can't be compared."""
@@ -140,11 +157,20 @@ def histories(editions: Sequence[Edition]) -> list[History]:
     return sorted((History(names, tuple(track)) for track in tracks), key=lambda each: os.fsencode(each.county))
 
 
-def groups_of_one_map(lines: Iterable[Line], is_different: bool = False) -> list[list[Line]]:
-    """The counties that are one map with another one, in groups; or only groups in which counties have different names, wherever they
-    are."""
-    groups: dict[str, list[Line]] = {}
+def groups_of(lines: Iterable[Line]) -> list[Group]:
+    """The counties that are one map with another one, in groups."""
+    groups: dict[str, list[str]] = {}
     for line in lines:
         if line.fingerprint:
-            groups.setdefault(line.fingerprint, []).append(line)
-    return [group for group in groups.values() if len({key_of(each.stem) for each in group} if is_different else group) > 1]
+            groups.setdefault(line.fingerprint, []).append(line.stem)
+    return [Group(fingerprint, tuple(stems)) for fingerprint, stems in groups.items() if len(stems) > 1]
+
+
+def duplicates(manifest: str | os.PathLike[str]) -> list[Group]:
+    """The counties of a manifest that are one map with another one, in groups. Raises Failure."""
+    return groups_of(loaded(os.fspath(manifest))[1])
+
+
+def changes(*manifests: str | os.PathLike[str], editions: Sequence[str] = ()) -> list[History]:
+    """The counties of several manifests, one for each edition, or of one with all editions, through these editions. Raises Failure."""
+    return histories(editions_of([os.fspath(name) for name in manifests], editions))

@@ -17,6 +17,7 @@ import tigercanon.judge
 from .errors import Failure, reason
 from .faults import Fault
 from .judge import Answer, County, Order, judge, judge_on_a_worker
+from .resources import Resources
 
 TICK = 0.5
 PATIENCE_FOR_SCHEDULER = 30.0
@@ -33,7 +34,8 @@ class Gone(Exception):
 class Engine:
     """Judges counties side by side: by as many threads as there are processors, or as are asked for."""
 
-    def __init__(self, jobs: int | None) -> None:
+    def __init__(self, jobs: int | None, resources: Resources) -> None:
+        self.resources = resources
         self.pool = ThreadPoolExecutor(jobs or len(os.sched_getaffinity(0)))
 
     def answers(self, counties: Sequence[County], order: Order) -> Iterator[Result]:
@@ -64,7 +66,7 @@ class Engine:
 
     def begin(self, counties: Sequence[County], order: Order) -> Any:
         """Hands over the counties, and returns a future for each."""
-        return [self.pool.submit(judge, county, order) for county in counties]
+        return [self.pool.submit(judge, county, order, self.resources) for county in counties]
 
     def answer(self, future: Any) -> Any:
         return future.result()
@@ -79,8 +81,8 @@ class Engine:
 class DaskEngine(Engine):
     """Judges counties by the workers of a scheduler that is running."""
 
-    def __init__(self, address: str) -> None:
-        self.name, self.client = f"the scheduler at {address}", client_of(address)
+    def __init__(self, address: str, is_quiet: bool = False) -> None:
+        self.name, self.client = f"the scheduler at {address}", client_of(address, is_quiet)
 
     def begin(self, counties: Sequence[County], order: Order) -> Any:
         self.served_at = time.monotonic()  # when there was an answer, or something that could give one
@@ -119,8 +121,9 @@ class DaskEngine(Engine):
             self.client.close(timeout=2)
 
 
-def client_of(address: str) -> Any:
-    """A client of a scheduler: at an address, which has a port, or at the one in a file that the scheduler has written."""
+def client_of(address: str, is_quiet: bool = False) -> Any:
+    """A client of a scheduler: at an address, which has a port, or at the one in a file that the scheduler has written. With is_quiet
+    Dask's log and all warnings of this process are turned off."""
     try:
         import cloudpickle
         import distributed
@@ -130,9 +133,10 @@ def client_of(address: str) -> Any:
     connect: Any = distributed.Client
     for module in (tigercanon, tigercanon.judge):  # all of the package, and by its name the module of the function
         cloudpickle.register_pickle_by_value(module)
-    for name in ("asyncio", "distributed", "tornado"):
-        logging.getLogger(name).setLevel(logging.CRITICAL)
-    warnings.simplefilter("ignore")
+    if is_quiet:
+        for name in ("asyncio", "distributed", "tornado"):
+            logging.getLogger(name).setLevel(logging.CRITICAL)
+        warnings.simplefilter("ignore")
     try:
         if ":" in address:
             return connect(address, timeout=PATIENCE_FOR_SCHEDULER)

@@ -1,17 +1,17 @@
-"""The files that a command reads. No command writes over one of them."""
+"""The files that a call or a command reads. Neither writes over one of them."""
 
 from __future__ import annotations
 
 import os
 import stat
 from contextlib import suppress
-from typing import Iterable, Optional, Union
+from typing import Iterable, Mapping, Optional, Union
 
 from .errors import Failure
 from .layout import kind_of
 
 Identity = tuple[int, int]
-STREAMS = {1: "standard output", 2: "standard error"}
+STREAMS = {1: "standard output", 2: "standard error"}  # those of a command
 ON_THIS_MACHINE = ("file://", "local://")  # how URLs of fsspec begin that lead to files here
 
 
@@ -19,14 +19,14 @@ class Inputs:
     """Files that a command reads, or will read. They are known by their device and number there, so under each of their names and
     through each link."""
 
-    def __init__(self, names: Iterable[str]) -> None:
-        """Raises Failure if standard output or standard error goes to one of the files. Then nothing more is written to it."""
+    def __init__(self, names: Iterable[str], streams: Mapping[int, str] = {}) -> None:
+        """Raises Failure if one of these streams goes to one of the files. Then nothing more is written to it."""
         self.names: dict[Identity, str] = {}
         for name in names:
             found = identity(path_of(name))
             if found:
                 self.names.setdefault(found, name)
-        for stream, shown in STREAMS.items():
+        for stream, shown in streams.items():
             try:
                 self.spare(shown, stream)
             except Failure:

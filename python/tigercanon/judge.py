@@ -11,7 +11,6 @@ import os
 import re
 import shutil
 import subprocess
-from contextlib import ExitStack
 from dataclasses import astuple, dataclass, field, replace
 from typing import Any, Iterable, Iterator, Mapping, Sequence
 
@@ -19,7 +18,7 @@ from .errors import Unreadable, printable, reason
 from .faults import Fault, faults_of
 from .hints import hint
 from .layout import TYPES, file_name
-from .own import PROCESS, remove_stale_folders
+from .resources import Resources, remove_stale_folders
 from .storage import fetch, is_packed, is_url, members_of, opened_zip, pieces_of, stamp, unpacked
 
 ANSWERS = {"fingerprint": re.compile(rb"[0-9a-f]{64}\n"), "check": re.compile(b"accepted\n")}
@@ -109,8 +108,10 @@ class Source:
         """The user's names of these files."""
         return [file_name(self.name, kind) for kind in TYPES] if self.is_stem else [self.name]
 
-    def run(self, program: str, job: str, flags: Sequence[str], memory: int | None = None) -> subprocess.CompletedProcess[bytes]:
-        return PROCESS.run([program, job, *["--stem"] * self.is_stem, *flags, "--", self.place], memory)
+    def run(
+        self, program: str, job: str, flags: Sequence[str], resources: Resources, memory: int | None = None
+    ) -> subprocess.CompletedProcess[bytes]:
+        return resources.run([program, job, *["--stem"] * self.is_stem, *flags, "--", self.place], memory)
 
     def complaint(self, ended: subprocess.CompletedProcess[bytes]) -> list[str]:
         """The program's line, or what can be said about its end; and a hint, if there is one."""
@@ -126,13 +127,13 @@ class Source:
         return [line, *filter(None, [hint(line, self.files)])]
 
 
-def judge(county: County, order: Order) -> Answer:
+def judge(county: County, order: Order, resources: Resources) -> Answer:
     """Judges a county. Whatever goes wrong is part of the answer."""
     notes = list(county.notes)
     try:
-        with ExitStack() as stack:
-            source = prepared(county, order, notes, stack)
-            ended = source.run(order.program, order.job, order.flags, order.memory)
+        with resources.part() as part:
+            source = prepared(county, order, notes, part)
+            ended = source.run(order.program, order.job, order.flags, part, order.memory)
             if ended.returncode == 0 and ANSWERS[order.job].fullmatch(ended.stdout):
                 return Answer("made", ended.stdout[:-1].decode(), tuple(notes))
             line, *hints = source.complaint(ended)
@@ -151,15 +152,15 @@ def judge(county: County, order: Order) -> Answer:
     return Answer(kind, line, (*notes, *hints), tuple(faults))
 
 
-def prepared(county: County, order: Order, notes: list[str], stack: ExitStack) -> Source:
+def prepared(county: County, order: Order, notes: list[str], resources: Resources) -> Source:
     """The set as the program reads it: the county's own files, links to them, copies, or what was in its zip. Notes which of the nine
     files, or the records of which types, are missing."""
     if county.whole:
-        return prepared_whole(county.stem, local(county.whole, stack), order, notes, stack)
+        return prepared_whole(county.stem, local(county.whole, resources), order, notes, resources)
     pieces: dict[str, Iterator[bytes]] = {}
     sizes = {kind: file.size for kind, file in county.files.items()}
     if county.zip:
-        archive = stack.enter_context(opened_zip(local(county.zip, stack)))
+        archive = resources.keep(opened_zip(local(county.zip, resources)))
         members = members_of(archive)
         pieces = {kind: pieces_of(archive, member) for kind, member in members.items()}
         sizes = {kind: member.file_size for kind, member in members.items()}
@@ -167,11 +168,11 @@ def prepared(county: County, order: Order, notes: list[str], stack: ExitStack) -
     if county.zip and size > order.largest:
         raise Unreadable(f"the zip unpacks to {size} bytes, more than --largest {order.largest}")
     if "" in pieces:
-        return prepared_whole(county.stem, copied(pieces[""], size, stack, order), order, notes, stack)
+        return prepared_whole(county.stem, copied(pieces[""], size, resources, order), order, notes, resources)
     note_files(sizes, order, notes)
     if county.readable_stem is not None and is_plain(county.readable_stem):
         return Source(county.stem, county.readable_stem, is_stem=True)
-    stem = stack.enter_context(PROCESS.place(size))
+    stem = resources.place(size)
     for kind, each in pieces.items():
         with open(file_name(stem, kind), "wb") as target:
             target.writelines(each)
@@ -183,22 +184,22 @@ def prepared(county: County, order: Order, notes: list[str], stack: ExitStack) -
     return Source(county.stem, stem, is_stem=True)
 
 
-def prepared_whole(name: str, path: str, order: Order, notes: list[str], stack: ExitStack) -> Source:
+def prepared_whole(name: str, path: str, order: Order, notes: list[str], resources: Resources) -> Source:
     """A file with all records as the program reads it: itself, a link, or a copy if gzip packed it."""
     if is_packed(path):
-        path = copied(unpacked(path), os.path.getsize(path), stack, order)
+        path = copied(unpacked(path), os.path.getsize(path), resources, order)
     note_records(path, order, notes)
     if not is_plain(path):
-        link = stack.enter_context(PROCESS.place(0))
+        link = resources.place(0)
         os.symlink(path, link)
         path = link
     return Source(name, path, is_stem=False)
 
 
-def copied(pieces: Iterator[bytes], size: int, stack: ExitStack, order: Order) -> str:
+def copied(pieces: Iterator[bytes], size: int, resources: Resources, order: Order) -> str:
     """A temporary file with these bytes, which may be more than the size at which they are announced. Raises Unreadable if they are more
     than the order allows."""
-    place, left = stack.enter_context(PROCESS.place(size)), order.largest
+    place, left = resources.place(size), order.largest
     with open(place, "wb") as target:
         for piece in pieces:
             left -= target.write(piece)
@@ -215,11 +216,11 @@ def is_plain(path: str) -> bool:
         return False
 
 
-def local(file: File, stack: ExitStack) -> str:
+def local(file: File, resources: Resources) -> str:
     """A file on this machine: itself, or a copy of what a URL leads to."""
     if not is_url(file.place):
         return file.place
-    place = stack.enter_context(PROCESS.place(file.size or 0))
+    place = resources.place(file.size or 0)
     fetch(file.place, file.size, place)
     return place
 
@@ -275,5 +276,6 @@ def judge_on_a_worker(county: tuple[Any, ...], order: tuple[Any, ...]) -> tuple[
     stem, files, whole, packed, *rest = county
     singles = {kind: File(*file) for kind, file in files.items()}
     there = County(stem, singles, whole and File(*whole), packed and File(*packed), *rest)
-    answer = judge(there, replace(named, program=program))
+    with Resources() as resources:
+        answer = judge(there, replace(named, program=program), resources)
     return answer.kind, answer.text, answer.notes, tuple(map(astuple, answer.faults))

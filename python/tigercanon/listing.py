@@ -6,31 +6,32 @@ import argparse
 from collections import Counter
 from typing import Any, Iterator, Sequence
 
-from .editions import KINDS, History, editions_of, groups_of_one_map, histories
+from .editions import KINDS, History, changes, duplicates
 from .errors import Failure
-from .inputs import Inputs
-from .manifests import loaded
-from .pages import write_pages
-from .progress import as_json, print_lines, report
+from .pages import Pages
+from .progress import Console, Progress, as_json, print_lines
+from .resources import Resources
 
 
-def list_duplicates(options: argparse.Namespace) -> int:
-    Inputs([options.manifest])
-    lines = loaded(options.manifest)[1]
-    groups, different = (groups_of_one_map(lines, is_different) for is_different in (False, True))
+def list_duplicates(options: argparse.Namespace, console: Console, resources: Resources) -> int:
+    resources.inputs([options.manifest])
+    groups = duplicates(options.manifest)
+    different = [group for group in groups if group.is_different]
     of_different = f"{len(different):,} of counties with different names" if different else "none of counties with different names"
-    report(f"{len(groups):,} groups of one map with {sum(map(len, groups)):,} counties, {of_different}")
+    console.report(
+        f"{len(groups):,} groups of one map with {sum(len(group.counties) for group in groups):,} counties, {of_different}"
+    )
     shown = different if options.different else groups
     if options.json:
-        print_lines(as_json({"fingerprint": group[0].fingerprint, "counties": [line.stem for line in group]}) for group in shown)
+        print_lines(as_json({"fingerprint": group.fingerprint, "counties": list(group.counties)}) for group in shown)
     else:
-        print_lines("\n".join(map(str, group)) + ("" if group is shown[-1] else "\n") for group in shown)
+        print_lines("\n".join(group.lines) + ("" if group is shown[-1] else "\n") for group in shown)
     return 0
 
 
-def list_changes(options: argparse.Namespace) -> int:
-    Inputs(options.manifests)
-    found = histories(editions_of(options.manifests, options.edition))
+def list_changes(options: argparse.Namespace, console: Console, resources: Resources) -> int:
+    resources.inputs(options.manifests)
+    found = changes(*options.manifests, editions=options.edition)
     if any((options.root, options.leaflet, options.program, options.jobs)) and not options.pages:
         raise Failure("--root, --leaflet, --program and --jobs need --pages")
     shown = [each for each in found if not (options.quiet and each.is_same)]
@@ -38,10 +39,21 @@ def list_changes(options: argparse.Namespace) -> int:
         print_lines(map(as_json, map(row_of, shown)))
     else:
         print_lines(of_two(shown) if found and len(found[0].editions) == 2 else table(shown))
-    report_counts(found)
+    report_counts(found, console)
     if options.pages:
-        write_pages(found, options)
+        list_pages(found, options, console, resources)
     return int(any(not each.is_same for each in found))
+
+
+def list_pages(found: Sequence[History], options: argparse.Namespace, console: Console, resources: Resources) -> None:
+    """Writes the pages of the option --pages."""
+    pages = Pages(found, options.pages, options.manifests, resources, options.root, options.leaflet, options.program)
+    if pages.are_there:
+        console.report(f"{pages.are_there:,} of {len(pages.changes):,} pages are there already")
+    for change, why in pages.write(Progress(console), options.jobs):
+        if why:
+            console.report(f"{change.county}: no page: {why}")
+    console.report(f"{len(pages.changes) - len(pages.reasons):,} pages and index.html are in {options.pages}")
 
 
 def of_two(found: Sequence[History]) -> Iterator[str]:
@@ -87,10 +99,10 @@ def row_of(each: History) -> dict[str, Any]:
     }
 
 
-def report_counts(found: Sequence[History]) -> None:
+def report_counts(found: Sequence[History], console: Console) -> None:
     """How many counties there are of each kind, in each edition after the first."""
     editions = found[0].editions if found else ()
     for place, edition in enumerate(editions[1:], 1):
         counts = Counter(each.step(place) for each in found)
         told = ", ".join(f"{counts[kind]:,} {kind}" for kind in KINDS if counts[kind] or kind in KINDS[:4])
-        report(told if len(editions) == 2 else f"{edition}: {told}")
+        console.report(told if len(editions) == 2 else f"{edition}: {told}")

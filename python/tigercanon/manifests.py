@@ -16,7 +16,6 @@ import stat
 import sys
 import time
 from contextlib import ExitStack, contextmanager, suppress
-from functools import partial
 from pathlib import Path
 from typing import Iterator, NamedTuple, Sequence
 
@@ -24,7 +23,7 @@ from .errors import Failure, reason, reported
 from .inputs import Inputs
 from .counties import has_records
 from .layout import folded, kind_of
-from .own import PROCESS, new_files
+from .resources import Resources, new_files
 from .storage import Entry
 
 Flags = tuple[str, ...]
@@ -151,8 +150,8 @@ def agreed(name: str, made: Flags | None, asked: Flags) -> None:
 class Manifest:
     """A manifest that is written to, under its lock. One that is there already is read, and put in order. Raises Failure."""
 
-    def __init__(self, name: str, flags: Flags, inputs: Inputs) -> None:
-        self.name, self.flags, self.inputs = name, flags, inputs
+    def __init__(self, name: str, flags: Flags, inputs: Inputs, resources: Resources) -> None:
+        self.name, self.flags, self.inputs, self.resources = name, flags, inputs, resources
         self.place = os.path.realpath(name)
         self.lines: list[Line] = []
         if os.path.lexists(self.place):
@@ -164,7 +163,7 @@ class Manifest:
 
     def add(self, line: Line) -> None:
         """Adds a county, or puts it in the place of the line that it had. It is written at once: the whole of it or nothing."""
-        with PROCESS.lock, reported(self.name), open(self.place, "ab", buffering=0) as file:
+        with self.resources.lock, reported(self.name), open(self.place, "ab", buffering=0) as file:
             self.inputs.spare(self.name, file.fileno())  # another file may have taken its name
             before = file.tell()
             text = os.fsencode(line.entry if before else f"{heading(self.flags)}\n{line.entry}")
@@ -181,21 +180,22 @@ class Manifest:
         if self.lines:
             self.lines = [*{folded(line.stem): line for line in self.lines}.values()]
             self.lines.sort(key=lambda line: (os.fsencode(line.stem), line.fingerprint))
-            with new_files([self.name], self.inputs) as files:
+            with new_files([self.name], self.inputs, self.resources) as files:
                 files[self.name].write(os.fsencode("".join([f"{heading(self.flags)}\n", *(line.entry for line in self.lines)])))
 
 
 @contextmanager
-def written(name: str, flags: Flags, inputs: Inputs) -> Iterator[Manifest]:
+def written(name: str, flags: Flags, inputs: Inputs, resources: Resources) -> Iterator[Manifest]:
     """A manifest to write to. No other run writes to it meanwhile. Raises Failure if it or its lock is an input."""
     inputs.spare_all([name, f"{name}.lock"])
     inputs.spare(f"{name}.lock", lock_of(name))
-    Inputs([name])  # it is read too, so nothing is printed to it
+    resources.inputs([name])  # it is read too, so nothing is printed to it
     folder = os.path.dirname(os.path.realpath(name))
     if not os.path.isdir(folder):
         raise Failure(f"{name}: can't be written: there is no folder {folder}")
-    with PROCESS.kept(partial(take_lock, name), partial(give_back, name)):
-        manifest = Manifest(name, flags, inputs)
+    with resources.part() as part:
+        part.keep(lock_held(name))
+        manifest = Manifest(name, flags, inputs, part)
         yield manifest
         manifest.put_in_order()
 
@@ -205,6 +205,15 @@ def written(name: str, flags: Flags, inputs: Inputs) -> Iterator[Manifest]:
 
 def lock_of(name: str) -> str:
     return f"{os.path.realpath(name)}.lock"
+
+
+@contextmanager
+def lock_held(name: str) -> Iterator[None]:
+    handle = take_lock(name)
+    try:
+        yield
+    finally:
+        give_back(name, handle)
 
 
 def take_lock(name: str) -> int:

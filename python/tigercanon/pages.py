@@ -2,13 +2,13 @@
 
 from __future__ import annotations
 
-import argparse
 import html
 import json
 import os
 import re
 import sys
 from concurrent.futures import ThreadPoolExecutor
+from functools import partial
 from pathlib import Path
 from typing import Iterator, NamedTuple, Sequence
 from urllib.parse import quote
@@ -18,11 +18,10 @@ from .diff.page import ASSETS, find_leaflet
 from .diff.words import SUBJECTS
 from .editions import History
 from .errors import printable, reported
-from .inputs import Inputs
 from .manifests import Line, loaded, without_mark
-from .own import PROCESS, new_files
 from .program import find_program
-from .progress import Tally, report
+from .progress import Tally
+from .resources import Resources, new_files
 from .storage import joined
 
 START = "import sys; sys.path[0] = sys.argv.pop(1); from tigercanon.__main__ import main; sys.exit(main())"
@@ -83,50 +82,68 @@ def counts_in(page: Path, change: Change) -> dict[str, list[int]] | None:
     return None
 
 
-def names_of(change: Change, root: str | None) -> list[str]:
-    """The names of a county in both editions."""
-    return [joined(root, line.stem) if root else line.stem for line in (change.old, change.new)]
+class Pages:
+    """The pages of all changes in a folder, and the index of them. Pages that are there already stay, so a run that was stopped is
+    continued by the next one."""
 
+    def __init__(
+        self,
+        found: Sequence[History],
+        folder: str,
+        manifests: Sequence[str],
+        resources: Resources,
+        root: str | None = None,
+        leaflet: str | None = None,
+        program: str | None = None,
+    ) -> None:
+        """Raises Failure if a page can't be written, before one is."""
+        self.folder, self.changes, self.resources, self.root = Path(folder), [*changed(found)], resources, root
+        self.index, assets = str(self.folder / "index.html"), find_leaflet(leaflet)
+        self.words = ["--program", find_program(program), *without_mark(loaded(manifests[0])[0])]
+        self.words += ["--leaflet", leaflet] if leaflet else []
+        finder = Finder()
+        counties = [finder.of_name(name) for change in self.changes for name in self.names_of(change)]
+        read = [file.place for county in counties for file in county.places]
+        self.inputs = resources.inputs([*manifests, *read, self.words[1], *assets.files, *ASSETS])
+        self.inputs.spare_all([self.index, *(str(self.folder / change.page) for change in self.changes)])
+        with reported(folder):
+            self.folder.mkdir(parents=True, exist_ok=True)
+        self.left = [change for change in self.changes if counts_in(self.folder / change.page, change) is None]
+        self.reasons: dict[str, str] = {}
 
-def write_pages(found: Sequence[History], options: argparse.Namespace) -> None:
-    """Writes the pages that aren't there yet, several at a time, and then the index. A run that was stopped is continued by the next
-    one."""
-    folder, changes, tally = Path(options.pages), [*changed(found)], Tally()
-    leaflet, index_page = find_leaflet(options.leaflet), str(folder / "index.html")
-    program, flags = find_program(options.program), without_mark(loaded(options.manifests[0])[0])
-    finder = Finder()
-    counties = [finder.of_name(name) for change in changes for name in names_of(change, options.root)]
-    read = [file.place for county in counties for file in county.places]
-    inputs = Inputs([*options.manifests, *read, program, *leaflet.files, *ASSETS])
-    inputs.spare_all([index_page, *(str(folder / change.page) for change in changes)])
-    with reported(options.pages):
-        folder.mkdir(parents=True, exist_ok=True)
-    left = [change for change in changes if counts_in(folder / change.page, change) is None]
-    if len(left) < len(changes):
-        report(f"{len(changes) - len(left):,} of {len(changes):,} pages are there already")
-    tally.start(len(left), 0)
+    @property
+    def are_there(self) -> int:
+        """How many pages are there already."""
+        return len(self.changes) - len(self.left)
 
-    def write(change: Change) -> str:
-        words = ["diff", "--summary", "--page", str(folder / change.page), "--program", program, *flags]
-        words += ["--leaflet", options.leaflet] if options.leaflet else []
-        ended = PROCESS.run([sys.executable, "-B", "-c", START, PACKAGES, *words, "--", *names_of(change, options.root)])
+    def names_of(self, change: Change) -> list[str]:
+        """The names of a county in both editions."""
+        return [joined(self.root, line.stem) if self.root else line.stem for line in (change.old, change.new)]
+
+    def write(self, tally: Tally, jobs: int | None = None) -> Iterator[tuple[Change, str]]:
+        """Writes the pages that aren't there, several at a time, and then the index. Yields each change, and why it has no page if it
+        has none."""
+        tally.start(len(self.left), 0)
+        with ThreadPoolExecutor(jobs or len(os.sched_getaffinity(0))) as threads, self.resources.part() as part:
+            for change, why in zip(self.left, threads.map(partial(self.write_one, part), self.left)):
+                if why:
+                    self.reasons[change.page] = why
+                yield change, why
+                tally.end(0)
+                tally.look()
+        tally.close()
+        with new_files([self.index], self.inputs, self.resources) as files:
+            files[self.index].write("".join(index(self.folder, self.changes, self.reasons)).encode())
+
+    def write_one(self, resources: Resources, change: Change) -> str:
+        """Writes a page by a process of its own, and returns why there is none."""
+        page = self.folder / change.page
+        words = ["diff", "--summary", "--page", str(page), *self.words, "--", *self.names_of(change)]
+        ended = resources.run([sys.executable, "-B", "-c", START, PACKAGES, *words])
         told = ended.stderr.decode(errors="replace").strip().splitlines()
         if ended.returncode not in (0, 1):
             return printable(told[-1].partition(": ")[2]) if told else f"the command diff ended with status {ended.returncode}"
-        return "" if counts_in(folder / change.page, change) else "on disk it isn't the map of the manifest any more"
-
-    reasons: dict[str, str] = {}
-    with ThreadPoolExecutor(options.jobs or len(os.sched_getaffinity(0))) as threads:
-        for change, why in zip(left, threads.map(write, left)):
-            if why:
-                reasons[change.page] = why
-                report(f"{change.county}: no page: {why}")
-            tally.end(0)
-            tally.look()
-    tally.close()
-    with new_files([index_page], inputs) as files:
-        files[index_page].write("".join(index(folder, changes, reasons)).encode())
-    report(f"{len(changes) - len(reasons):,} pages and index.html are in {options.pages}")
+        return "" if counts_in(page, change) else "on disk it isn't the map of the manifest any more"
 
 
 def index(folder: Path, changes: Sequence[Change], reasons: dict[str, str]) -> Iterator[str]:

@@ -2,7 +2,6 @@
 
 from __future__ import annotations
 
-import functools
 import os
 import shutil
 import subprocess
@@ -44,7 +43,6 @@ def find_program(named: str | None = None) -> str:
     return checked(found)
 
 
-@functools.lru_cache(maxsize=None)
 def launched(root: Path) -> str:
     """The program of a clone, or nothing, and then the reason was reported. If it has to be built first, that is reported too."""
     words = [str(root / "scripts/launch"), "--program", str(root)]

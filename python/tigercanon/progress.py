@@ -14,7 +14,6 @@ from typing import Any, Iterable
 from .errors import Failure, printable, reason
 
 PAUSE = 10.0  # seconds between two lines of progress if standard error isn't a terminal
-LOCK = threading.Lock()  # keeps lines whole: it is held while one is printed
 
 
 def print_lines(lines: Iterable[str]) -> None:
@@ -41,17 +40,6 @@ def as_json(row: Any) -> str:
     return json.dumps(row, ensure_ascii=True)
 
 
-def report(text: str) -> None:
-    """Reports a line on standard error, above the progress bar if there is one. What can't be written is dropped."""
-    line = f"tigercanon-tools: {printable(text)}"
-    with LOCK, suppress(OSError, ValueError, AttributeError):
-        if Tally.bar is not None:
-            Tally.bar.write(line, file=sys.stderr)
-        else:
-            sys.stderr.write(f"{line}\n")
-            sys.stderr.flush()
-
-
 def amount(count: int) -> str:
     """A number of bytes in the largest unit that it fills."""
     for unit, size in (("GB", 10**9), ("MB", 10**6), ("kB", 10**3)):
@@ -69,29 +57,72 @@ def duration(seconds: float) -> str:
 
 
 class Tally:
-    """The results so far, and the progress of the run."""
-
-    current: "Tally" | None = None
-    bar: Any = None
+    """The counties that are judged, and the results so far. A call from Python shows them to nobody."""
 
     def __init__(self) -> None:
-        Tally.current = self
         self.counties = self.ended = self.bytes = self.bytes_in_all = self.failed = 0
         self.refused: Counter[str] = Counter()
-        self.started = self.reported_at = time.monotonic()
+        self.started = time.monotonic()
+
+    @property
+    def made(self) -> int:
+        """How many were neither refused nor failed."""
+        return self.ended - sum(self.refused.values()) - self.failed
 
     def start(self, counties: int, bytes_in_all: int) -> None:
-        """What there is to do is known. A bar shows how much is done, where standard error is a terminal and tqdm is installed."""
+        """What there is to do is known."""
         self.counties, self.bytes_in_all = counties, bytes_in_all
+
+    def end(self, size: int) -> None:
+        """A county is done."""
+        self.ended += 1
+        self.bytes += size
+
+    def look(self) -> None:
+        """A moment has passed."""
+
+    def close(self) -> None:
+        """There is nothing more to do."""
+
+
+class Console:
+    """What a command reports on standard error, and the counties that it judges."""
+
+    def __init__(self) -> None:
+        self.lock = threading.Lock()  # keeps lines whole: it is held while one is printed
+        self.progress: Progress | None = None
+
+    def report(self, text: str) -> None:
+        """Reports a line, above the progress bar if there is one. What can't be written is dropped."""
+        line = f"tigercanon-tools: {printable(text)}"
+        with self.lock, suppress(OSError, ValueError, AttributeError):
+            if self.progress and self.progress.bar is not None:
+                self.progress.bar.write(line, file=sys.stderr)
+            else:
+                sys.stderr.write(f"{line}\n")
+                sys.stderr.flush()
+
+
+class Progress(Tally):
+    """A tally that is shown: by a bar, where standard error is a terminal and tqdm is installed, or else by a line now and then."""
+
+    bar: Any = None
+
+    def __init__(self, console: Console) -> None:
+        super().__init__()
+        self.console, self.reported_at = console, self.started
+        console.progress = self
+
+    def start(self, counties: int, bytes_in_all: int) -> None:
+        super().start(counties, bytes_in_all)
         with suppress(ImportError, AttributeError):
             if counties and sys.stderr.isatty():
                 from tqdm import tqdm
 
-                Tally.bar = tqdm(total=counties, unit=" counties", file=sys.stderr, leave=False, dynamic_ncols=True)
+                self.bar = tqdm(total=counties, unit=" counties", file=sys.stderr, leave=False, dynamic_ncols=True)
 
     def end(self, size: int) -> None:
-        self.ended += 1
-        self.bytes += size
+        super().end(size)
         if self.bar is not None:
             self.bar.update()
 
@@ -100,11 +131,11 @@ class Tally:
             self.bar.refresh()
         elif time.monotonic() - self.reported_at >= PAUSE:
             self.reported_at = time.monotonic()
-            report(self.progress(self.reported_at - self.started))
+            self.console.report(self.line(self.reported_at - self.started))
 
-    def progress(self, took: float) -> str:
+    def line(self, took: float) -> str:
         """How far the run has come, at what rate, and how long the rest will take at this rate."""
-        words = [f"{self.ended:,} of {self.counties:,} counties"]
+        words = [self.how_far]
         if not self.bytes_in_all:
             rest = took * (self.counties - self.ended) / self.ended if self.ended else 0
             return ", ".join([*words, *([f"{duration(rest)} left"] if rest else [])])
@@ -115,9 +146,13 @@ class Tally:
         return ", ".join([*words, f"{sum(self.refused.values()):,} refused", f"{self.failed:,} failed"])
 
     def close(self) -> None:
-        if self.bar is not None:
-            self.bar.close()
-        Tally.bar = None
+        bar, self.bar = self.bar, None
+        if bar is not None:
+            bar.close()
+
+    @property
+    def how_far(self) -> str:
+        return f"{self.ended:,} of {self.counties:,} counties"
 
     @property
     def took(self) -> str:

@@ -3,12 +3,12 @@
 from __future__ import annotations
 
 import argparse
-import contextlib
 import csv
 import io
 import json
+import os
 from dataclasses import dataclass
-from typing import Any, Iterator
+from typing import Any, Iterator, NamedTuple
 
 from .diff.columns import CHAIN, NAME
 from .diff.fields import decimal, name_text
@@ -17,10 +17,10 @@ from .diff.matching import own_numbers
 from .diff.reading import Chain, each_point, number_of, read_county
 from .diff.sets import found, opened, printed
 from .errors import printable
-from .inputs import Inputs
-from .own import STANDARD_OUTPUT, Kept, Writable, new_files
+from .judge import County
 from .program import find_program
-from .progress import print_bytes, report
+from .progress import Console, print_bytes
+from .resources import STANDARD_OUTPUT, Kept, Resources, Writable, new_files
 
 FIELDS = [column.name for column in CHAIN.columns]
 HEADS = ["TLID", "canonical_TLID", *FIELDS, "further_names", "start_node", "end_node", "left_polygon", "right_polygon"]
@@ -61,18 +61,26 @@ class Text(io.TextIOBase):
         return len(text)
 
 
-def chains(county: str, *, program: str | None = None) -> Iterator[ChainRow]:
+class Table(NamedTuple):
+    """The chains of a county, and notes about its files."""
+
+    rows: Iterator[ChainRow]
+    notes: list[str]
+
+
+def table_of(name: str, county: County, program: str, resources: Resources) -> Table:
+    """The chains of a county, in the order of its file."""
+    with resources.part() as part:
+        source, notes = opened(name, county, part)
+        (own,), (canonical,) = (printed(program, job, (), [source], part) for job in ("respell", "normalise"))
+    return Table(rows_of(own, canonical), notes)
+
+
+def chains(county: str | os.PathLike[str], *, program: str | None = None) -> Iterator[ChainRow]:
     """The chains of a county, in the order of its file: a zip, a file with all records, or the stem of the nine. Raises Failure."""
-    with contextlib.ExitStack() as stack:
-        source, _ = opened(county, found(county, False), stack)
-        texts = printed_twice(find_program(program), source)
-    yield from rows_of(*texts)
-
-
-def printed_twice(program: str, source: Any) -> tuple[bytes, bytes]:
-    """The records of a set as they are, and its canonical text."""
-    (own,), (canonical,) = printed(program, "respell", (), [source]), printed(program, "normalise", (), [source])
-    return own, canonical
+    name = os.fspath(county)
+    with Resources() as resources:
+        yield from table_of(name, found(name, False), find_program(program), resources).rows
 
 
 def rows_of(own: bytes, canonical: bytes) -> Iterator[ChainRow]:
@@ -111,22 +119,17 @@ def write_geojson(target: Writable, rows: Iterator[ChainRow]) -> None:
     target.write(b"\n]}\n")
 
 
-def run(options: argparse.Namespace) -> int:
+def run(options: argparse.Namespace, console: Console, resources: Resources) -> int:
     """The command table."""
     write = write_geojson if options.geojson else write_csv
     outputs = [options.output] if options.output and options.output not in STANDARD_OUTPUT else []
     county, program = found(options.county, False), find_program(options.program)
-    with contextlib.ExitStack() as stack:
-        inputs = Inputs([*(file.place for file in county.places), program])
-        files = stack.enter_context(new_files(outputs, inputs))
-        source, notes = opened(options.county, county, stack)
-        if notes:
-            report(f"{printable(options.county)}: {'; '.join(notes)}")
-        rows = rows_of(*printed_twice(program, source))
-        kept = Kept()
-        target: Writable = kept
-        if outputs:
-            target = files[outputs[0]]
-        write(target, rows)
+    inputs, kept = resources.inputs([*(file.place for file in county.places), program]), Kept()
+    with new_files(outputs, inputs, resources) as files:
+        table = table_of(options.county, county, program, resources)
+        if table.notes:
+            console.report(f"{printable(options.county)}: {'; '.join(table.notes)}")
+        targets: list[Writable] = [*files.values(), kept]
+        write(targets[0], table.rows)
     print_bytes(b"".join(kept.pieces))
     return 0

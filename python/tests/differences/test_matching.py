@@ -158,7 +158,7 @@ def test_own_reverse() -> None:
 def test_values_in_geojson(change: Callable[[Chain], object], wanted: dict[str, Pair[object]]) -> None:
     """Whether something is there is true or false, and a field that is blank or isn't there is null."""
     first = two_sided(chain_between([(1, 1), (2, 5), (9, 9)]))
-    ((_, found),) = features(compared(first, after(first, lambda county: change(county.chains[0]))), ({}, {}))
+    ((_, found),) = features(compared(first, after(first, lambda county: change(county.chains[0]))))
     for name, (one, other) in wanted.items():
         assert (repr(found.get(f"first_{name}")), repr(found[f"second_{name}"])) == (repr(one), repr(other))
 

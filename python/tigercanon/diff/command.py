@@ -1,25 +1,23 @@
-"""The subcommand diff of tigercanon-tools: reports where two maps differ."""
+"""The command diff of tigercanon-tools: reports where two maps differ."""
+
+from __future__ import annotations
 
 import argparse
-import contextlib
 import gc
 import json
 import os
 import threading
-from typing import Callable, NamedTuple, Sequence
 
-from ..errors import Failure, printable
-from ..inputs import Inputs
+from ..errors import Failure
 from ..manifests import flags_of
-from ..judge import County
-from ..own import STANDARD_OUTPUT, Kept, new_files
 from ..program import find_program
-from ..progress import print_bytes, print_lines, report
-from .geojson import BothOwn, features, head, write_geojson
-from .matching import Comparison, compare, own_numbers
+from ..progress import Console, print_bytes, print_lines
+from ..resources import STANDARD_OUTPUT, Kept, Resources, new_files
+from .differing import found_between
+from .geojson import features, head, write_geojson
+from .matching import Comparison
 from .page import ASSETS, find_leaflet, write_page
-from .reading import read_county
-from .sets import Canonical, Sets, found, opened, printed
+from .sets import Sets, found
 from .words import KINDS, SUBJECTS, told
 
 ABOUT = """\
@@ -36,18 +34,24 @@ compared or the answer can't be written.
 PATIENCE = 2.0  # after this many seconds the progress is reported on standard error
 
 
-class Progress(threading.Timer):
-    """Reports on standard error what is being done, if the whole takes a while."""
+class Steps(threading.Timer):
+    """Reports what is being done in the block, if the whole takes a while."""
 
-    def __init__(self) -> None:
-        super().__init__(PATIENCE, lambda: report(self.step))
-        self.daemon, self.step = True, "finding the sets"
+    def __init__(self, console: Console) -> None:
+        super().__init__(PATIENCE, lambda: console.report(self.step))
+        self.daemon, self.console, self.step = True, console, "finding the sets"
+
+    def __enter__(self) -> Steps:
         self.start()
+        return self
+
+    def __exit__(self, *_: object) -> None:
+        self.cancel()
 
     def at(self, step: str) -> None:
         self.step = step
         if self.finished.is_set():
-            report(step)
+            self.console.report(step)
 
 
 def add_arguments(parser: argparse.ArgumentParser) -> None:
@@ -67,10 +71,10 @@ def add_arguments(parser: argparse.ArgumentParser) -> None:
     add("--leaflet", metavar="FOLDER", help="with --page: the folder that has leaflet.js and leaflet.css")
 
 
-def run(options: argparse.Namespace) -> int:
+def run(options: argparse.Namespace, console: Console, resources: Resources) -> int:
     outputs = outputs_of(options)
     gc.disable()  # the counties are kept until the end, and looking for garbage in them takes a third of the time
-    return reported_difference(options, outputs)
+    return reported_difference(options, outputs, console, resources)
 
 
 def outputs_of(options: argparse.Namespace) -> list[str]:
@@ -87,75 +91,35 @@ def outputs_of(options: argparse.Namespace) -> list[str]:
     return [name for name in outputs if name not in STANDARD_OUTPUT]
 
 
-class Differing(NamedTuple):
-    """Two sets, where they differ, and notes about their files."""
-
-    sets: Sets
-    comparison: Comparison
-    notes: list[str]
-
-
-Step = Callable[[str], None]
-
-
-def found_between(
-    counties: Sequence[County],
-    names: Sequence[str],
-    program: str,
-    masks: tuple[str, ...],
-    stack: contextlib.ExitStack,
-    at: Step = lambda _: None,
-    with_numbers: bool = True,
-) -> Differing:
-    """Where these two counties differ. Their files are used up to the end of the stack."""
-    opened_sets = [opened(name, county, stack) for name, county in zip(names, counties)]
-    sources, shown = [source for source, _ in opened_sets], list(map(printable, names))
-    notes = [f"{name}: {'; '.join(notes)}" for name, (_, notes) in zip(shown, opened_sets) if notes]
-    at("normalising both sets")
-    one, other = printed(program, "normalise", masks, sources)
-    sets = Sets(Canonical(shown[0], one), Canonical(shown[1], other), masks)
-    at("reading the canonical texts")
-    first, second = read_county(sets.first.text), read_county(sets.second.text)
-    at(f"comparing {len(first.chains):,} chains with {len(second.chains):,}")
-    comparison = compare(first, second)
-    if with_numbers:
-        at("finding the sets' own numbers")
-        texts = zip(printed(program, "respell", (), sources), (first, second))
-        comparison.own = [own_numbers(read_county(text), county, masks) for text, county in texts]
-    return Differing(sets, comparison, notes)
-
-
-def reported_difference(options: argparse.Namespace, outputs: list[str]) -> int:
+def reported_difference(options: argparse.Namespace, outputs: list[str], console: Console, resources: Resources) -> int:
     leaflet = find_leaflet(options.leaflet) if options.page is not None else None
-    program, masks = find_program(options.program), flags_of(options)
-    with contextlib.ExitStack() as stack:
-        progress = Progress()
-        stack.callback(progress.cancel)
+    program, kept = find_program(options.program), Kept()
+    with Steps(console) as steps:
         names = (options.first, options.second)
         counties = [found(name, options.stem) for name in names]
         read = [file.place for county in counties for file in county.places]
-        files = stack.enter_context(new_files(outputs, Inputs([*read, program, *(leaflet.files if leaflet else ()), *ASSETS])))
-        kept = Kept()
-        page, geojson = (files.get(name, kept) if name else None for name in (options.page, options.geojson))
-        with_numbers = bool(page or geojson or options.json or not options.summary)
-        differing = found_between(counties, names, program, masks, stack, progress.at, with_numbers)
-        sets, comparison, notes = differing
-        for note in notes:
-            report(note)
-        if page and leaflet:
-            progress.at("writing the page")
-            write_page(page, comparison, sets, leaflet)
-        if geojson:
-            progress.at("writing GeoJSON")
-            write_geojson(geojson, comparison, sets, comparison.own, options.all)
+        inputs = resources.inputs([*read, program, *(leaflet.files if leaflet else ()), *ASSETS])
+        with new_files(outputs, inputs, resources) as files:
+            page, geojson = (files.get(name, kept) if name else None for name in (options.page, options.geojson))
+            with_numbers = bool(page or geojson or options.json or not options.summary)
+            differing = found_between(counties, names, program, flags_of(options), resources, steps.at, with_numbers)
+            for note in differing.notes:
+                console.report(note)
+            if page and leaflet:
+                steps.at("writing the page")
+                write_page(page, differing.comparison, differing.sets, leaflet)
+            if geojson:
+                steps.at("writing GeoJSON")
+                write_geojson(geojson, differing.comparison, differing.sets, options.all)
     if kept in (page, geojson):
         print_bytes(b"".join(kept.pieces))
     else:
-        print_lines(as_json(comparison, sets, comparison.own) if options.json else told(comparison, sets, options.summary))
-    return int(not sets.are_one_map)
+        sets, comparison = differing.sets, differing.comparison
+        print_lines([as_json(comparison, sets)] if options.json else told(comparison, sets, options.summary))
+    return int(not differing.sets.are_one_map)
 
 
-def as_json(comparison: Comparison, sets: Sets, own: BothOwn) -> list[str]:
+def as_json(comparison: Comparison, sets: Sets) -> str:
     counts = {f"{subject}s": dict(zip(KINDS, part.counts)) for subject, part in zip(SUBJECTS, comparison.parts)}
-    differences = [properties for _, properties in features(comparison, own)]
-    return [json.dumps({**head(comparison, sets), "counts": counts, "differences": differences}, ensure_ascii=False, indent=1)]
+    differences = [properties for _, properties in features(comparison)]
+    return json.dumps({**head(comparison, sets), "counts": counts, "differences": differences}, ensure_ascii=False, indent=1)

@@ -7,7 +7,7 @@ import re
 from functools import lru_cache
 from typing import Any, Iterator, Sequence
 
-from ..own import Writable
+from ..resources import Writable
 from .fields import BLANK, NONE, YES, FieldName, decimal
 from .matching import Comparison, OwnNumbers, Tie
 from .reading import Chain, Landmark, number_of
@@ -20,9 +20,9 @@ ABOUT = "Where two maps differ, found by tigercanon-tools diff: an aid, and not 
 SIDES = ("first", "second")
 
 
-def write_geojson(file: Writable, comparison: Comparison, sets: Sets, own: BothOwn, with_alike: bool) -> None:
+def write_geojson(file: Writable, comparison: Comparison, sets: Sets, with_alike: bool) -> None:
     file.write(f'{{"type":"FeatureCollection",{as_json(head(comparison, sets))[1:-1]},"features":['.encode())
-    for number, (shape, told) in enumerate(features(comparison, own, with_alike)):
+    for number, (shape, told) in enumerate(features(comparison, with_alike)):
         file.write(f'{"," if number else ""}\n{{"type":"Feature","geometry":{shape},"properties":{as_json(told)}}}'.encode())
     file.write(b"\n]}\n")
 
@@ -39,8 +39,9 @@ def head(comparison: Comparison, sets: Sets) -> Properties:
     return told
 
 
-def features(comparison: Comparison, own: BothOwn, with_alike: bool = False) -> Iterator[tuple[str, Properties]]:
+def features(comparison: Comparison, with_alike: bool = False) -> Iterator[tuple[str, Properties]]:
     """A geometry in JSON and properties for each thing that isn't alike, or for each one, and for each tie."""
+    own = comparison.own
     for thing in things(comparison, with_alike):
         yield geometry(thing.points, is_line=thing.what == "chain"), properties(thing, own)
     for tie in comparison.ties:

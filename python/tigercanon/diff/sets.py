@@ -1,6 +1,5 @@
 """The two sets that are compared: their files, and what the program prints for them."""
 
-import contextlib
 import hashlib
 import os
 import shutil
@@ -13,7 +12,7 @@ from ..counties import Finder
 from ..errors import Failure, Unreadable, printable, reported
 from ..judge import County, File, Order, Source, prepared
 from ..layout import TYPES, kind_of
-from ..own import PROCESS
+from ..resources import Resources
 from ..storage import tidy
 
 
@@ -58,29 +57,29 @@ def found(name: str, is_stem: bool) -> County:
     return county
 
 
-def opened(name: str, county: County, stack: contextlib.ExitStack) -> tuple[Source, list[str]]:
+def opened(name: str, county: County, resources: Resources) -> tuple[Source, list[str]]:
     """The county of this name as the program reads it, and notes about its files. What the program can't read as it is gets a copy or a
-    link, which is removed in every case."""
+    link, which is among the resources."""
     notes = list(county.notes)
     if kind_of(name) in [*TYPES] and len(county.files) > 1:
         notes.append(f"one of the nine files of {county.stem}, which is read")
     try:
         with reported(printable(name), "can't be read"):
             if not county.places:
-                place = stack.enter_context(PROCESS.place(0))
+                place = resources.place(0)
                 with open(name, "rb") as piped, open(place, "wb") as copy:
                     shutil.copyfileobj(piped, copy)
                 county = County(name, whole=File(place, None))
-            return replace(prepared(county, Order(""), notes, stack), name=name), notes
+            return replace(prepared(county, Order(""), notes, resources), name=name), notes
     except Unreadable as error:
         raise Failure(f"{name}: {error}") from None
 
 
-def printed(program: str, job: str, flags: Sequence[str], sources: Sequence[Source]) -> list[bytes]:
+def printed(program: str, job: str, flags: Sequence[str], sources: Sequence[Source], resources: Resources) -> list[bytes]:
     """What the program prints for each set, all at once. The first set that is rejected is reported."""
 
     def printed_for(source: Source) -> bytes:
-        ended = source.run(program, job, flags)
+        ended = source.run(program, job, flags, resources)
         if ended.returncode != 0:
             raise Failure(f"{printable(source.name)}: {'; '.join(source.complaint(ended))}")
         return ended.stdout

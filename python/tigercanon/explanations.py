@@ -1,21 +1,22 @@
-"""The command explain: what a refusal means, an example line and what to do, from the user guide's own sections."""
+"""What a refusal means, an example line and what to do, from the user guide's own sections; and the command explain."""
 
 from __future__ import annotations
 
 import argparse
 import os
 import re
-from contextlib import ExitStack, suppress
+from contextlib import suppress
+from dataclasses import dataclass
 from pathlib import Path
 
 from .diff.sets import found, opened
 from .errors import Failure, printable
-from .faults import faults_of
-from .inputs import Inputs
+from .faults import Fault, faults_of
 from .judge import County
 from .layout import kind_of
 from .program import find_program
-from .progress import print_lines
+from .progress import Console, print_lines
+from .resources import Resources
 
 SECTION = re.compile(r"(?m)^### `refused (\d+) (\w+)([^`]*)`$")
 REFUSAL = re.compile(r"(?:refused )?(\d+)?\s*([A-Z]\w+)?((?: [0-9A-Za-z]+)*?)(?: in set ([12]))?")
@@ -63,27 +64,52 @@ def places(meanings: list[str], given: list[str]) -> list[str]:
     return ["", ", ".join(shown)] if shown else []
 
 
-def run(options: argparse.Namespace) -> int:
+@dataclass(frozen=True)
+class Explanation:
+    """What a refusal means. faults are its places in the files of a county, if one was named. lines are the text: the refusal, its places
+    in words, an example and what to do."""
+
+    refusal: str
+    faults: tuple[Fault, ...]
+    lines: tuple[str, ...]
+
+
+def explain(
+    refusal: str = "",
+    county: str | os.PathLike[str] | None = None,
+    *,
+    program: str | None = None,
+    resources: Resources | None = None,
+) -> Explanation | None:
+    """Explains a refusal: the program's line, its number or its name. If a county is named, its places there are looked up; without a
+    refusal it is the one that the county gets, and None if it is accepted. Raises Failure."""
+    if county is None:
+        return Explanation(bare(refusal), (), tuple(explained(refusal, page())))
+    name = os.fspath(county)
+    with resources.part() if resources else Resources() as part:
+        source, _ = opened(name, found(name, False), part)
+        if not refusal:
+            ended = source.run(find_program(program), "check", (), part)
+            if ended.returncode == 0:
+                return None
+            refusal = source.complaint(ended)[0]
+        lines, faults = explained(refusal, page()), faults_of(bare(refusal), source.files, source.names)
+        return Explanation(bare(refusal), tuple(faults), tuple(lines))
+
+
+def run(options: argparse.Namespace, console: Console, resources: Resources) -> int:
     """Explains a refusal, and shows its place if the last word is the name of a county; or the refusal that a county gets."""
-    Inputs([str(guide())])
+    resources.inputs([str(guide())])
     *line, name = options.line
     county = found_there(name)
-    if not county:
-        print_lines(explained(" ".join(options.line), page()))
+    resources.inputs(file.place for file in (county.places if county else ()))
+    words = [" ".join(line), name] if county else [" ".join(options.line)]
+    told = explain(*words, program=options.program, resources=resources)
+    if told is None:
+        print_lines([f"{printable(name)}: accepted"])
         return 0
-    Inputs(file.place for file in county.places)
-    with ExitStack() as stack:
-        source, _ = opened(name, county, stack)
-        refusal = " ".join(line)
-        if not line:
-            ended = source.run(find_program(options.program), "check", ())
-            if ended.returncode == 0:
-                print_lines([f"{printable(name)}: accepted"])
-                return 0
-            refusal = source.complaint(ended)[0]
-        told = explained(refusal, page())
-        shown = [line for fault in faults_of(bare(refusal), source.files, source.names) for line in fault.shown()]
-    print_lines([*([*shown, ""] if shown else []), *told])
+    shown = [line for fault in told.faults for line in fault.shown()]
+    print_lines([*([*shown, ""] if shown else []), *told.lines])
     return 0
 
 

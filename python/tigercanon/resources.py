@@ -1,4 +1,4 @@
-"""The processes, folders and files that a run has started or made. None of them outlives it, except files that are whole."""
+"""The processes, folders and files that a call or a command starts or makes. None of them outlives it, except files that are whole."""
 
 from __future__ import annotations
 
@@ -12,12 +12,11 @@ import tempfile
 import threading
 import time
 from contextlib import ExitStack, contextmanager, suppress
-from functools import partial
 from pathlib import Path
-from typing import Callable, Iterable, Iterator, Protocol, Sequence, TypeVar
+from typing import BinaryIO, ContextManager, Iterable, Iterator, Protocol, Sequence, TypeVar
 
 from .errors import Failure, reported
-from .inputs import Inputs
+from .inputs import STREAMS, Inputs
 from .layout import TYPES, file_name
 from .program import TUNABLES
 
@@ -31,63 +30,105 @@ PATIENCE = 0.3  # a thread that is printing or writing keeps the end of the run 
 T = TypeVar("T")
 
 
-class Own:
-    """What belongs to a run. Whatever is started or made is noted under the lock; end() takes the lock and never returns it,
-    so that nothing new is started afterwards."""
+class Closed(Exception):
+    """Something was to be started or made after the end."""
 
-    def __init__(self) -> None:
-        self.lock = threading.RLock()
-        self.ends: list[Callable[[], None]] = []
 
-    def __reduce__(self) -> tuple[type[Own], tuple[()]]:
-        """A worker of a cluster is sent a new one."""
-        return Own, ()
+class Resources:
+    """What a call or a command, or a part of one, has started and made. It ends with the block. Each call has its own, so calls in
+    several threads don't know of each other. prints: whether standard output and standard error belong to it, as they do to a command.
+    """
 
-    @contextmanager
-    def kept(self, make: Callable[[], T], undo: Callable[[T], None]) -> Iterator[T]:
-        """Makes something, which is undone at the end of the block, or before that if the run ends."""
+    def __init__(self, prints: bool = False, whole: Resources | None = None) -> None:
+        self.prints, self.whole = prints, whole
+        self.lock = threading.RLock()  # it is held while something is started or made, in any part
+        if whole:
+            self.lock = whole.lock
+        self.contexts, self.is_closed = ExitStack(), False
+        self.parts: list[Resources] = []
+
+    def part(self) -> Resources:
+        """The resources of a part of the work, which ends earlier."""
+        return Resources(self.prints, self)
+
+    def __enter__(self) -> Resources:
         with self.lock:
-            made = make()
-            end = partial(undo, made)
-            self.ends.append(end)
-        try:
-            yield made
-        finally:
-            with self.lock:
-                end()
-                self.ends.remove(end)
+            if self.whole:
+                self.whole.check()
+                self.whole.parts.append(self)
+        return self
+
+    def __exit__(self, *_: object) -> None:
+        with self.lock:
+            self.close()
+            if self.whole:
+                self.whole.parts.remove(self)
+
+    def check(self) -> None:
+        """Raises Closed if the end has come."""
+        if self.is_closed:
+            raise Closed
+
+    def keep(self, context: ContextManager[T]) -> T:
+        """Enters a context, which is left at the end of the block, or before that if a signal comes. Raises Closed."""
+        with self.lock:
+            self.check()
+            return self.contexts.enter_context(context)
+
+    def close(self) -> None:
+        """Leaves the contexts, the last one first. Nothing can be started or made afterwards."""
+        self.is_closed = True
+        for part in self.parts[::-1]:
+            part.close()
+        self.contexts.close()
+
+    def end(self) -> None:
+        """Closes all of it before the process ends, in any thread. The lock is taken and never returned, so that the other threads stop
+        where they would start, make or write something."""
+        self.lock.acquire(timeout=PATIENCE)
+        self.close()
 
     def run(self, words: Sequence[str], memory: int | None = None) -> subprocess.CompletedProcess[bytes]:
         """Runs the program in a session of its own, so that all of it can be ended. memory limits its address space."""
-        pipe, nothing, environment = subprocess.PIPE, subprocess.DEVNULL, {"GLIBC_TUNABLES": TUNABLES, **os.environ}
         if memory is not None:
             words = ["/bin/sh", "-c", f'ulimit -v {memory // 1024} && exec "$@"', "sh", *words]
-
-        def start() -> subprocess.Popen[bytes]:
-            return subprocess.Popen(words, stdin=nothing, stdout=pipe, stderr=pipe, env=environment, start_new_session=True)
-
-        with self.kept(start, kill) as child:
+        with self.part() as part:
+            child = part.keep(started(words))
             out, err = child.communicate()
         return subprocess.CompletedProcess(words, child.returncode, out, err)
 
-    @contextmanager
-    def place(self, size: int) -> Iterator[str]:
+    def place(self, size: int) -> str:
         """A name in a temporary folder, which is in memory if this many bytes fit there, else where TMPDIR says."""
         room, fits = os.environ.get(VARIABLE, IN_MEMORY), False
         with suppress(OSError):
             fits = bool(room) and shutil.disk_usage(room).free >= size + SPARE
-        make = partial(tempfile.mkdtemp, SUFFIX, PREFIX, room if fits else None)
-        with self.kept(make, remove) as folder, locked(folder, fcntl.LOCK_EX):
-            yield f"{folder}/{COUNTY}"
+        return f"{self.keep(temporary_folder(room if fits else None))}/{COUNTY}"
 
-    def end(self) -> None:
-        """Ends the processes and removes the folders. Nothing can be started or made afterwards."""
-        self.lock.acquire(timeout=PATIENCE)
-        for end in self.ends[::-1]:
-            end()
+    def inputs(self, names: Iterable[str]) -> Inputs:
+        """Files that are read. Raises Failure if a command prints to one of them."""
+        return Inputs(names, STREAMS if self.prints else {})
 
 
-PROCESS = Own()  # what belongs to this process
+@contextmanager
+def started(words: Sequence[str]) -> Iterator[subprocess.Popen[bytes]]:
+    """A process, which is ended if it hasn't ended by itself."""
+    pipe, nothing, environment = subprocess.PIPE, subprocess.DEVNULL, {"GLIBC_TUNABLES": TUNABLES, **os.environ}
+    child = subprocess.Popen(words, stdin=nothing, stdout=pipe, stderr=pipe, env=environment, start_new_session=True)
+    try:
+        yield child
+    finally:
+        kill(child)
+
+
+@contextmanager
+def temporary_folder(room: str | None) -> Iterator[str]:
+    """A folder that this run holds, and removes."""
+    folder = tempfile.mkdtemp(SUFFIX, PREFIX, room)
+    try:
+        with locked(folder, fcntl.LOCK_EX):
+            yield folder
+    finally:
+        remove(folder)
 
 
 def kill(child: subprocess.Popen[bytes]) -> None:
@@ -150,7 +191,9 @@ STANDARD_OUTPUT = ("-", "/dev/stdout", "/dev/fd/1", "/proc/self/fd/1")
 
 
 class NewFile:
-    """A file beside the one whose place it takes when it is whole."""
+    """A file beside the one whose place it takes when it is whole. If it isn't, nothing is left of it at the end of the block."""
+
+    file: BinaryIO
 
     def __init__(self, name: str, inputs: Inputs) -> None:
         inputs.spare_all([name])
@@ -163,8 +206,17 @@ class NewFile:
         if self.mode is not None and not (stat.S_ISREG(self.mode) and os.access(self.place, os.W_OK)):
             why = "Permission denied" if stat.S_ISREG(self.mode) else "it isn't a regular file"
             raise Failure(f"{name}: can't be written: {'it is a folder' if stat.S_ISDIR(self.mode) else why}")
-        with reported(name):
+
+    def __enter__(self) -> NewFile:
+        with reported(self.name):
             self.file = open(self.path, "xb")
+        return self
+
+    def __exit__(self, *_: object) -> None:
+        with suppress(OSError):
+            self.file.close()
+        with suppress(FileNotFoundError):  # it has taken its place
+            os.unlink(self.path)
 
     def write(self, text: bytes) -> None:
         with reported(self.name):
@@ -185,21 +237,14 @@ class NewFile:
         with reported(self.name):
             os.replace(self.path, self.place)
 
-    def discard(self) -> None:
-        """Leaves nothing behind. A file that has taken its place stays."""
-        with suppress(OSError):
-            self.file.close()
-        with suppress(FileNotFoundError):
-            os.unlink(self.path)
-
 
 @contextmanager
-def new_files(names: Iterable[str], inputs: Inputs) -> Iterator[dict[str, NewFile]]:
+def new_files(names: Iterable[str], inputs: Inputs, resources: Resources) -> Iterator[dict[str, NewFile]]:
     """Files to be written, by their names, which take the places of these names when all are whole, and have the modes of the files
     before them. If anything goes wrong, a signal for example, there are none of them, and what had these names is as it was. Raises
     Failure if one of them is an input."""
-    with ExitStack() as stack:
-        files = {name: stack.enter_context(PROCESS.kept(partial(NewFile, name, inputs), NewFile.discard)) for name in names}
+    with resources.part() as part:
+        files = {name: part.keep(NewFile(name, inputs)) for name in names}
         yield files
         for file in files.values():
             file.finish()

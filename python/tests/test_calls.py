@@ -1,0 +1,132 @@
+"""The calls for archives do what the commands of their names do. They have nothing in common, and end what they have started."""
+
+import os
+import threading
+from pathlib import Path
+from typing import Callable
+
+import pytest
+from support import Four, complete, digest, left_behind, listed, manifest, processes, put, zip_up
+from testing import ROOT, await_that
+
+import tigercanon
+from tigercanon.errors import Failure
+from tigercanon.resources import Closed, Resources
+
+
+def test_manifest(four: Four) -> None:
+    """Fingerprints come without a file, or with one that is the command's. What it lists isn't judged again, unless it has changed."""
+    complete("in/x", b"broken\n")
+    reason = "refused 1 UnknownType 1 1"
+    judged = {each.county: each.fingerprint or each.reason for each in tigercanon.manifest("in")}
+    assert judged == {**{stem: digest(text) for stem, text in four.items()}, "in/x": reason}
+    assert len([*tigercanon.manifest("in", output="m")]) == 5
+    assert listed("m") == manifest(four)
+    assert [*tigercanon.manifest("in", output=Path("m"))] == []
+    assert [each.reason for each in tigercanon.manifest("in", output="m", again=True)] == [reason]
+    complete("in/b", b"county x\n")
+    (changed,) = tigercanon.manifest("in", output="m", update=True)
+    assert (changed.county, changed.fingerprint, changed.is_changed) == ("in/b", digest(b"county x\n"), True)
+    assert listed("m") == manifest({**four, "in/b": b"county x\n"})
+    with pytest.raises(ValueError):
+        next(tigercanon.manifest("in", update=True))
+
+
+def test_verify(four: Four) -> None:
+    put("m", manifest(four).encode())
+    complete("in/b", b"county x\n")
+    complete("in/x", b"x\n")
+    os.unlink("in/c.RT1")
+    for kind in "245678IP":
+        os.unlink(f"in/c.RT{kind}")
+    verdicts = {each.county: each.verdict for each in tigercanon.verify("m", "in")}
+    assert verdicts == {"in/-d": "OK", "in/a a": "OK", "in/b": "FAILED", "in/c": "MISSING", "in/x": "NEW"}
+    os.rename("in", "moved")
+    assert sum(each.verdict == "OK" for each in tigercanon.verify("m")) == 0
+    put("m", manifest({"a a": four["in/a a"]}).encode())
+    assert [(each.county, each.verdict) for each in tigercanon.verify("m", root=Path("moved"))] == [("a a", "OK")]
+
+
+def test_checks_and_explain(four: Four, monkeypatch: pytest.MonkeyPatch) -> None:
+    """A county that is refused, with the place; what a refusal means; and a county that is accepted."""
+    assert [each.reason for each in tigercanon.checks("in/a a")] == [None]
+    assert tigercanon.explain(county="in/a a") is None
+    county = (ROOT / "examples/autauga/TGR01001.RT1").read_bytes()
+    complete("in/a a", county.replace(b"1", b"1         x", 1))
+    monkeypatch.setenv("REFUSAL", "refused 4 BadNumber 1 1 6")
+    (checked,) = tigercanon.checks("in/a a")
+    assert (checked.reason, [(each.file, each.line, each.first) for each in checked.faults]) == (
+        "refused 4 BadNumber 1 1 6",
+        [("in/a a.RT1", 1, 6)],
+    )
+    told = tigercanon.explain(county="in/a a")
+    assert told and (told.refusal, told.faults) == ("refused 4 BadNumber 1 1 6", checked.faults)
+    told = tigercanon.explain("BadNumber")
+    assert told and (told.lines[0], told.faults) == ("refused 4 BadNumber PART LINE COLUMN", ())
+    with pytest.raises(Failure, match="isn't a refusal"):
+        tigercanon.explain("25")
+
+
+def test_duplicates(room: Path) -> None:
+    names = {"a/TGR01001": 1, "b/TGR01001": 1, "a/TGR01003": 2, "a/TGR01005": 2, "a/TGR01007": 3}
+    put("m", "".join(["# tigercanon form 1\n", *(f"{number:064}  {name}\n" for name, number in names.items())]).encode())
+    groups = [(group.fingerprint[-1], group.counties, group.is_different) for group in tigercanon.duplicates("m")]
+    assert groups == [("1", ("a/TGR01001", "b/TGR01001"), False), ("2", ("a/TGR01003", "a/TGR01005"), True)]
+
+
+def at_work(program: Path) -> int:
+    """How many processes of the stand-in there are."""
+    return sum(bytes(program) in command and b"fingerprint" in command for _, _, command in processes())
+
+
+def closed_early(folder: str) -> None:
+    """The generator is closed before its end."""
+    call = tigercanon.manifest(folder, jobs=2)
+    assert next(call).county == f"{folder}/quick"
+    call.close()  # type: ignore[attr-defined]
+
+
+def ended_by_an_error(folder: str) -> None:
+    """An error ends the loop over it."""
+    with pytest.raises(RuntimeError):
+        for _ in tigercanon.manifest(folder, output=f"{folder}.manifest", jobs=2):
+            raise RuntimeError
+
+
+@pytest.mark.parametrize("end", [closed_early, ended_by_an_error])
+def test_two_calls_at_once(room: Path, stand_in: Path, end: Callable[[str], None]) -> None:
+    """A call that is ended early ends its own processes and removes its own folders, at once. One in another thread goes on."""
+    for name in ("one", "other"):
+        complete(f"{name}/quick", b"x\n")
+        complete(f"{name}/waiting", b"waits\n")
+        zip_up(f"{name}/waiting")
+    put("waits")
+    judged: list[str] = []
+    other = threading.Thread(target=lambda: judged.extend(each.county for each in tigercanon.manifest("other", jobs=2)))
+    other.start()
+    assert await_that(lambda: at_work(stand_in) == 1 and judged == ["other/quick"])
+    end("one")
+    assert await_that(lambda: at_work(stand_in) == 1, 1)
+    assert (len(left_behind()), os.path.exists("one.manifest.lock")) == (1, False)
+    os.unlink("waits")
+    other.join()
+    assert (judged, left_behind(), at_work(stand_in)) == (["other/quick", "other/waiting"], [], 0)
+
+
+def test_nothing_starts_after_the_end(room: Path) -> None:
+    with Resources() as resources:
+        place = Path(resources.place(0))
+        place.write_bytes(b"x")
+        with resources.part() as part:
+            inner = Path(part.place(0))
+            assert inner.parent.is_dir()
+        assert (inner.parent.exists(), place.parent.is_dir()) == (False, True)
+    assert left_behind() == []
+    starts: list[Callable[[], object]] = [
+        lambda: resources.place(0),
+        lambda: resources.run(["/bin/true"]),
+        resources.part().__enter__,
+    ]
+    for start in starts:
+        with pytest.raises(Closed):
+            start()
