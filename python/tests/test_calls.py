@@ -41,6 +41,8 @@ def test_verify(four: Four) -> None:
         os.unlink(f"in/c.RT{kind}")
     verdicts = {each.county: each.verdict for each in tigercanon.verify("m", "in")}
     assert verdicts == {"in/-d": "OK", "in/a a": "OK", "in/b": "FAILED", "in/c": "MISSING", "in/x": "NEW"}
+    with pytest.raises(Failure, match="nothing: no such file, folder or county"):
+        next(tigercanon.verify("m", "nothing"))
     os.rename("in", "moved")
     assert sum(each.verdict == "OK" for each in tigercanon.verify("m")) == 0
     put("m", manifest({"a a": four["in/a a"]}).encode())

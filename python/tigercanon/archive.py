@@ -100,6 +100,8 @@ def verify(
     with Resources() as resources:
         judging = Judging(Means(program, jobs, scheduler, memory, largest), resources, Tally())
         verification = Verification(judging, os.fspath(manifest), names, None if root is None else os.fspath(root))
+        if verification.troubled:
+            raise Failure("; ".join(f"{county.stem}: {county.trouble}" for county in verification.troubled))
         yield from values_of(verification.results(), judging)
 
 
