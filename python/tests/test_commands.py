@@ -136,13 +136,18 @@ class TestProgram:
 
 
 def test_installing(room: Path) -> None:
-    """The package installs with Debian's hatchling, without a network, and has its command."""
+    """The package installs with Debian's hatchling, without a network, and has all of its files, the guide and its command."""
     pytest.importorskip("hatchling", reason="python3-hatchling isn't installed")
     shutil.copytree(PACKAGE, "python", ignore=shutil.ignore_patterns("tests", "__pycache__"))
     put("docs/guide.md", (ROOT / "docs/guide.md").read_bytes())
     install = "-m pip install --no-build-isolation --no-index --no-deps --target site ./python"
     made = run([sys.executable, *install.split()])
     assert made.status == 0, made.err
+    source, installed = (
+        {path.relative_to(root) for path in root.rglob("*.*") if path.suffix != ".pyc"}
+        for root in (PACKAGE / "tigercanon", room / "site/tigercanon")
+    )
+    assert installed == source | {Path("refusals.md")}
     env = {"PYTHONPATH": str(room / "site"), "PATH": "/usr/bin:/bin"}
     version = run([sys.executable, "site/bin/tigercanon-tools", "--version"], env=env)
     assert version[:2] == (0, f"tigercanon-tools {VERSION}\n".encode())
