@@ -77,7 +77,7 @@ def test_duplicates(room: Path) -> None:
 
 
 def at_work(program: Path) -> int:
-    """How many processes of the stand-in there are."""
+    """How many processes of the fake there are."""
     return sum(bytes(program) in command and b"fingerprint" in command for _, _, command in processes())
 
 
@@ -96,7 +96,7 @@ def ended_by_an_error(folder: str) -> None:
 
 
 @pytest.mark.parametrize("end", [closed_early, ended_by_an_error])
-def test_two_calls_at_once(room: Path, stand_in: Path, end: Callable[[str], None]) -> None:
+def test_two_calls_at_once(room: Path, fake: Path, end: Callable[[str], None]) -> None:
     """A call that is ended early ends its own processes and removes its own folders, at once. One in another thread goes on."""
     for name in ("one", "other"):
         complete(f"{name}/quick", b"x\n")
@@ -106,13 +106,13 @@ def test_two_calls_at_once(room: Path, stand_in: Path, end: Callable[[str], None
     judged: list[str] = []
     other = threading.Thread(target=lambda: judged.extend(each.county for each in tigercanon.manifest("other", jobs=2)))
     other.start()
-    assert await_that(lambda: at_work(stand_in) == 1 and judged == ["other/quick"])
+    assert await_that(lambda: at_work(fake) == 1 and judged == ["other/quick"])
     end("one")
-    assert await_that(lambda: at_work(stand_in) == 1, 1)
+    assert await_that(lambda: at_work(fake) == 1, 1)
     assert (len(left_behind()), os.path.exists("one.manifest.lock")) == (1, False)
     os.unlink("waits")
     other.join()
-    assert (judged, left_behind(), at_work(stand_in)) == (["other/quick", "other/waiting"], [], 0)
+    assert (judged, left_behind(), at_work(fake)) == (["other/quick", "other/waiting"], [], 0)
 
 
 def test_nothing_starts_after_the_end(room: Path) -> None:
