@@ -74,19 +74,18 @@ class Explanation:
     lines: tuple[str, ...]
 
 
-def explain(
-    refusal: str = "",
-    county: str | os.PathLike[str] | None = None,
-    *,
-    program: str | None = None,
-    resources: Resources | None = None,
-) -> Explanation | None:
+def explain(refusal: str = "", county: str | os.PathLike[str] | None = None, *, program: str | None = None) -> Explanation | None:
     """Explains a refusal: the program's line, its number or its name. If a county is named, its places there are looked up; without a
     refusal it is the one that the county gets, and None if it is accepted. Raises Failure."""
-    if county is None:
+    with Resources() as resources:
+        return explanation(refusal, None if county is None else os.fspath(county), program, resources)
+
+
+def explanation(refusal: str, name: str | None, program: str | None, resources: Resources) -> Explanation | None:
+    """The explanation of a refusal, in the county of this name if there is a name."""
+    if name is None:
         return Explanation(bare(refusal), (), tuple(explained(refusal, page())))
-    name = os.fspath(county)
-    with resources.part() if resources else Resources() as part:
+    with resources.part() as part:
         source, _ = opened(name, found(name, False), part)
         if not refusal:
             ended = source.run(find_program(program), "check", (), part)
@@ -103,8 +102,8 @@ def run(options: argparse.Namespace, console: Console, resources: Resources) -> 
     *line, name = options.line
     county = found_there(name)
     resources.inputs(file.place for file in (county.places if county else ()))
-    words = [" ".join(line), name] if county else [" ".join(options.line)]
-    told = explain(*words, program=options.program, resources=resources)
+    refusal = line if county else options.line
+    told = explanation(" ".join(refusal), name if county else None, options.program, resources)
     if told is None:
         print_lines([f"{printable(name)}: accepted"])
         return 0
