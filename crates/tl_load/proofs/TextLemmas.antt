@@ -1,6 +1,6 @@
 -- The canonical text of records is loaded as these records.
 use Rattle.std.proofs.Common.{rules, ◌≡◌, ℕ, suc, ◌+◌, ◌<◌, ◌≤◌, true, false, List, [], ◌∷◌, ◌++◌, length, get_or, take, map, Result}
-use Rattle.std.proofs.Common.{Ok, refl, ap, ◌∙◌, append_assoc, append-nil, arith, eqb}
+use Rattle.std.proofs.Common.{Ok, Err, refl, ap, ◌∙◌, append_assoc, append-nil, arith, eqb}
 use Rattle.tl_load.proofs.Common.{All, Eight, FieldFault, Five, Four, I, IsLine, IsWithoutLineFeed, One, P, Record, Seven, Six, Spells, Two}
 use Rattle.tl_load.proofs.Common.{as_record, eqb-true, false_from_ne_true, flat_map-append, is_allowed, judged, le-ltb, length-drop, lines}
 use Rattle.tl_load.proofs.Common.{placed_lines, text_of}
@@ -14,6 +14,7 @@ use Rattle.tl_layout.specs.RecordTypes.{Type1, Type2, Type4, Type5, Type6, Type7
 use Rattle.tl_layout.specs.Laws.TypeLaws.{layout_laws}
 use Rattle.tl_load.proofs.RecordLines.{by_first, tiger_is_sound}
 use Rattle.tl_load.specs.LineOf.{judged_full, judged_as}
+use Rattle.tl_load.specs.declared.fault.LineFault.TheVariants as line_faults
 use Rattle.tl_load.specs.Choice.{judged_by, tiger}
 use Rattle.tl_load.proofs.LineLemmas.{lines_line, lines_none}
 use Rattle.tl_load.proofs.Filling.{filled_full}
@@ -32,6 +33,12 @@ pub judged_full_line : {R : Type 0} (rtype len : ℕ) (reading : List ℕ → Re
     → reading line ≡ Ok r → judged_as len reading line ≡ Ok r
 unfolding judged_as judged_full
 judged_full_line rtype len reading line r is e = search (rules, le-ltb, filled_full, bad_none)
+
+-- and as the fault with which reading fails
+pub judged_fault_line : {R : Type 0} (rtype len : ℕ) (reading : List ℕ → Result R FieldFault) (line : List ℕ) (fault : FieldFault)
+    → IsLine rtype len line → reading line ≡ Err fault → judged_as len reading line ≡ Err (line_faults.Field fault)
+unfolding judged_as judged_full
+judged_fault_line rtype len reading line fault is e = search (rules, le-ltb, filled_full, bad_none)
 
 judged_spelling : (r : Record) → FitsRecord r → judged (spelling_of r) ≡ Ok r
 unfolding judged_by type_of len_of spelling_of FitsRecord

@@ -75,8 +75,10 @@ impl<K: Collector> LoaderFor<K> {
         }
     }
 
-    /// Reads the next line by the layout of its type, and keeps its record.
-    fn read_as<L: Tabled>(&mut self, line: &[u8], is_clean: bool) -> Result<(), LoadFault>
+    /// Reads the next line, which may be shorter or longer than the layout of its type or have other bytes than printable ASCII, and
+    /// keeps its record. Not inlined, since few lines are so.
+    #[inline(never)]
+    fn read_unusual<L: Tabled>(&mut self, line: &[u8], is_clean: bool) -> Result<(), LoadFault>
         requires parts { self.old.parts < u64.MAX }
         requires begins { take 1 line.now ≡ L.RTYPE ∷ [] }
         requires clean { IsTrue is_clean → AreAllowed line.now }
@@ -91,6 +93,29 @@ impl<K: Collector> LoaderFor<K> {
         match judge_line::<L>(line, is_clean) {
             Ok(found) => self.add(found),
             Err(fault) => Err(fault.at(self.parts + 1, self.judged + 1)),
+        }
+    }
+
+    /// Reads the next line by the layout of its type, and keeps its record. The record of a full line of printable ASCII is moved once.
+    #[inline(never)]
+    fn read_as<L: Tabled>(&mut self, line: &[u8], is_clean: bool) -> Result<(), LoadFault>
+        requires parts { self.old.parts < u64.MAX }
+        requires begins { take 1 line.now ≡ L.RTYPE ∷ [] }
+        requires clean { IsTrue is_clean → AreAllowed line.now }
+        ensures judges { Lifts K.holds (JudgesAs line.now (as_record L.as_record (judged_as L.LEN L.reading line.now))) self.old result self.new }
+        ensures short { OnOk result (length line.now ≤ longest_line) }
+        ensures same_part { IsSamePart self.old self.new }
+        ensures unfinished { self.new.unfinished ≡ self.old.unfinished }
+        ensures judged { OnOk result (self.new.judged ≡ self.old.judged + 1) }
+        ensures one_more { OnOk result (total self.new.counts ≡ total self.old.counts + 1) }
+        ensures no_device { IfErr result IsNotDevice }
+    {
+        if !is_full_line::<L>(line, is_clean) {
+            return self.read_unusual::<L>(line, is_clean);
+        }
+        match L::take(line) {
+            Ok(found) => self.add(found),
+            Err(fault) => Err(LineFault::Field(fault).at(self.parts + 1, self.judged + 1)),
         }
     }
 

@@ -1,11 +1,34 @@
-use Rattle.std.proofs.Common.{rules}
-use Rattle.tl_load.proofs.LineLaws.{judged_short}
+use Rattle.std.proofs.Common.{◌+◌, Err, refl, sym, ap, ◌∙◌, subst}
+use Rattle.tl_load.proofs.Common.{after_verdict, as_record, seen, tiger}
 use Rattle.tl_load.proofs.Steps.{place_not_device}
-use Rattle.tl_load.proofs.Views.{on_ok_by}
+use Rattle.tl_load.proofs.TextLemmas.{judged_full_line, judged_fault_line}
+use Rattle.tl_load.specs.Steps.{JudgesAs}
 use Rattle.tl_load.proofs.loader_for.LoaderFor.read_as.Goals as goal
 
-pub returns-in-Ok-clause-short : goal.returns-in-Ok-clause-short
-returns-in-Ok-clause-short g c = search (rules, judged_short, on_ok_by)
+pub returns-in-Ok-clause-judges : goal.returns-in-Ok-clause-judges
+returns-in-Ok-clause-judges g c = λ records held.
+    let full = c.if-not-is_full_line.ensures refl in
+    let verdict = ap (as_record g.L.Tabled.as_record) (judged_full_line g.L.Layout.RTYPE g.L.Layout.LEN g.L.Layout.reading c.args.line.now
+    c.in-Ok.found full (sym c.in-Ok.ensures.exact)) in
+    let added = c.add.ensures.adds records held in (
+      added.0,
+      added.1,
+      subst (λ v. JudgesAs c.args.line.now v (seen c.args.self.now records) c.add.result (seen c.add.new.self added.0)) (sym verdict)
+          added.2,
+    )
+
+pub returns-in-Err-clause-judges : goal.returns-in-Err-clause-judges
+returns-in-Err-clause-judges g c =
+    let s = c.self.inside in
+    let full = c.if-not-is_full_line.ensures refl in
+    let verdict = ap (as_record g.L.Tabled.as_record) (judged_fault_line g.L.Layout.RTYPE g.L.Layout.LEN g.L.Layout.reading
+    c.args.line.now c.in-Err.fault full (sym c.in-Err.ensures.exact)) in
+    rw (← c.self.view_is) (λ records held. (
+      records,
+      tt,
+      λ of_lines. ap (after_verdict tiger s.limit records (record { part = s.parts + 1; line = s.judged + 1; bytes = c.args.line.now })) verdict
+          ∙ ap Err (sym c.at.ensures),
+    ))
 
 pub returns-in-Err-clause-no_device : goal.returns-in-Err-clause-no_device
 returns-in-Err-clause-no_device g c = place_not_device _ _ _ _ c.at.ensures
