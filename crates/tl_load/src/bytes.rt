@@ -86,7 +86,6 @@ fn from_delete(bytes: &[u8], at: usize) -> u8x16
     u8x16::from_slice(&bytes[at..]) - u8x16::splat(0x7f)
 }
 
-/// Whether this byte is allowed in a line.
 #[inline(always)]
 pub(crate) fn is_allowed_byte(byte: u8) -> bool
     ensures { result ≡ is_allowed byte }

@@ -89,14 +89,12 @@ impl fmt::Display for LoadFault {
     }
 }
 
-/// A fault at a line.
 fn at_line(kind: FaultKind, part: u64, line: u64) -> FaultReport
     ensures { result ≡ at_line kind part line }
 {
     FaultReport::at_two(kind, FaultPlace::Number(part), FaultPlace::Number(line))
 }
 
-/// A fault at a column of a line.
 fn at_column(kind: FaultKind, part: u64, line: u64, column: u16) -> FaultReport
     ensures { result ≡ at_column kind part line column }
 {

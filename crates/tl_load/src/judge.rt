@@ -49,7 +49,6 @@ pub(crate) fn is_full_line<L: Layout>(line: &[u8], is_clean: bool) -> bool
     is_clean && line.len() == L::LEN
 }
 
-/// A line of blanks.
 fn blanks() -> [u8; LONGEST_LINE]
     ensures { result ≡ replicate longest_line 32 }
 {
