@@ -54,11 +54,12 @@ def names(text: str, count: int) -> list[str]:
 
 def each_field(record: str) -> Iterator[list[Any]]:
     """The fields of a record type: name, first and last column, kind, and what it holds."""
+    yield from (["record type", 1, 1, "", "the type"], ["VERSION", 2, 5, "F", "the version of the files"])
     for places, name, kind, holds in ROW.findall(record):
         between = spans(places)
         if name.strip() == "LONG1, LAT1 to LONG10, LAT10":  # ten places of a longitude and a latitude, side by side
             between = [(at, to) for place in range(19, 209, 19) for at, to in ((place, place + 9), (place + 10, place + 18))]
-        called = names(name.strip(), len(between)) if name.strip() else ["record type" if between[0] == (1, 1) else "filler"]
+        called = names(name.strip(), len(between)) if name.strip() else ["filler"]
         for (first, last), each in zip(between, called):
             yield [each, first, last, kind.strip(), holds.strip().replace("`", "")]
 
@@ -66,7 +67,12 @@ def each_field(record: str) -> Iterator[list[Any]]:
 def record_types() -> dict[str, dict[str, Any]]:
     """The record types as docs/format.md has them: the length of a line, and the fields."""
     text = (ROOT / "docs/format.md").read_text("utf-8")
-    return {kind: {"length": int(length), "fields": [*each_field(body)]} for kind, length, body in SECTION.findall(text)}
+    made = {kind: {"length": int(length), "fields": [*each_field(body)]} for kind, length, body in SECTION.findall(text)}
+    # The fields that types 1 and 6 share are described once.
+    shared = {field[0]: field[4] for field in made["1"]["fields"]}
+    for field in made["6"]["fields"]:
+        field[4] = field[4] or shared[field[0]]
+    return made
 
 
 def contents() -> dict[str, list[dict[str, Any]]]:

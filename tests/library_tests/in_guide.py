@@ -1,20 +1,20 @@
-"""The guide's pages on C and Python: their examples, word for word, in a folder where a reader of the page would call them, and the
-constants and lines of the header."""
+"""The example on the page for C, word for word, in a folder where a reader of the page would call it, and the constants and lines of
+the header."""
 
 import itertools
 import os
 import re
-import zipfile
 from pathlib import Path
 from typing import Iterator
 
-from library_tests.support import SUFFIXES, WARNINGS, Tests, tools
+from library_tests.support import WARNINGS, Tests, tools
 from testing import ROOT, Answer, run
 
-STEM = ROOT / "examples/autauga/TGR01001"
 REFUSED = ROOT / "examples/broken.txt"
 GUIDE = (ROOT / "docs/guide.md").read_text(encoding="utf-8")
+PAGE = (ROOT / "docs/c.md").read_text(encoding="utf-8")
 HEADER_CALLER = Path(__file__).resolve().parent / "header.c"
+PROTOTYPES = Path(__file__).resolve().parent / "prototypes.h"
 # What only the row of each status says in the guide's table of exit statuses.
 STATUSES = {
     "DONE": r"^done",
@@ -34,60 +34,44 @@ def section(heading: str) -> str:
     return GUIDE.partition(f"\n## {heading}\n")[2].partition("\n## ")[0]
 
 
-def blocks(heading: str) -> list[str]:
-    """The blocks of code below a heading of the guide, without their indent."""
-    found = re.findall(r"(?:^(?:    .*)?\n)*^    .*\n", section(heading), re.M)
+def blocks() -> list[str]:
+    """The blocks of code of the page for C, without their indent."""
+    found = re.findall(r"(?:^(?:    .*)?\n)*^    .*\n", PAGE, re.M)
     return [re.sub("^    ", "", block, flags=re.M).strip("\n") + "\n" for block in found]
 
 
 def try_c(tests: Tests, place: Path, fingerprint: str) -> None:
     """The program of the page, by each of its lines that compile and run it."""
-    source, lines, _ = blocks("From C")
+    source, lines = blocks()
     (place / "one.c").write_text(source)
     exported, *calls = lines.splitlines()
     for call in calls:
         if "libtigercanon.a" in call and not (tests.library / "lib/libtigercanon.a").exists():
-            tests.skip(f"the guide's {call}: a prebuilt library has no archive")
+            tests.skip(f"the page's {call}: a prebuilt library has no archive")
             continue
         lacking = {"gcc", *re.findall("pkg-config", call)}.difference(tools("gcc", "pkg-config"))
         if lacking:
-            tests.skip(f"the guide's {call}: {' and '.join(sorted(lacking))} isn't installed")
+            tests.skip(f"the page's {call}: {' and '.join(sorted(lacking))} isn't installed")
             continue
         found = run(["bash", "-ec", f"{exported}\n{call}"], cwd=place)
-        tests.equal(f"the guide's {call}", Answer(0, f"{fingerprint}\n".encode(), b""), found)
+        tests.equal(f"the page's {call}", Answer(0, f"{fingerprint}\n".encode(), b""), found)
     if (place / "one").exists():
         try_input(tests, place)
 
 
 def try_input(tests: Tests, place: Path) -> None:
-    """Tries the guide's program on a refused set, on a long one, which it reads whole, and on a folder, which can't be read."""
+    """Tries the page's program on a refused set, on a long one, which it reads whole, and on a folder, which can't be read."""
     env = {**os.environ, "LD_LIBRARY_PATH": str(tests.library / "lib")}
     refused = run([place / "one"], input=REFUSED.read_bytes(), env=env)
-    tests.equal("the guide's program with a refused set", Answer(1, b"", b"refused 4 BadNumber 1 4 6\n"), refused)
+    tests.equal("the page's program with a refused set", Answer(1, b"", b"refused 4 BadNumber 1 4 6\n"), refused)
     record = (ROOT / "examples/autauga/canonical.txt").read_bytes().partition(b"\n")[0] + b"\n"
     lines = (65 << 20) // len(record) + 1
     found = run([place / "one"], input=record * lines + b"1\n", env=env)
-    tests.equal("the guide's program with 65 MiB", Answer(1, b"", b"refused 4 BadNumber 1 %d 6\n" % (lines + 1)), found)
+    tests.equal("the page's program with 65 MiB", Answer(1, b"", b"refused 4 BadNumber 1 %d 6\n" % (lines + 1)), found)
     folder = os.open(place, os.O_RDONLY)
     found = run([place / "one"], stdin=folder, env=env)
     os.close(folder)
-    tests.equal("the guide's program with a folder", Answer(1, b"", b"standard input: Is a directory\n"), found)
-
-
-def try_python(tests: Tests, place: Path, fingerprint: str) -> None:
-    """The program of the page, over a folder with a county, the same with other letters and packing, and a refused one."""
-    source, line = blocks("From Python")
-    (place / "counties.py").write_text(source)
-    (place / "in").mkdir()
-    for name, letters in (("TGR01001", str.upper), ("TGR01002", str.lower)):
-        with zipfile.ZipFile(place / f"in/{name}.ZIP", "w", zipfile.ZIP_DEFLATED) as county:
-            for suffix in SUFFIXES:
-                county.write(f"{STEM}{suffix}", letters(name + suffix))
-    with zipfile.ZipFile(place / "in/TGR01003.ZIP", "w") as county:
-        county.write(REFUSED, "TGR01003.RT1")
-    found = run(["bash", "-ec", line], cwd=place, env={**os.environ, "PYTHONDONTWRITEBYTECODE": "1"})
-    wanted = f"{fingerprint}  TGR01001\n{fingerprint}  TGR01002\n"
-    tests.equal("the guide's counties.py", Answer(0, wanted.encode(), b"TGR01003: refused 4 BadNumber 1 4 6\n"), found)
+    tests.equal("the page's program with a folder", Answer(1, b"", b"standard input: Is a directory\n"), found)
 
 
 def faults() -> Iterator[tuple[str, str]]:
@@ -123,10 +107,10 @@ def try_constants(tests: Tests, header: Path, shown: Answer) -> None:
 
 
 def try_prototypes(tests: Tests) -> None:
-    """The header declares the calls that the page shows, word for word, and no others."""
+    """The header declares the calls in prototypes.h, word for word, and no others."""
     header = (tests.library / "include/tigercanon.h").read_text(encoding="utf-8")
     found = re.findall(r"^(?:static inline )?\w+ tigercanon_\w+\([^)]*\)", header, re.M)
-    wanted = blocks("From C")[2].split(";")[:-1]
+    wanted = PROTOTYPES.read_text(encoding="utf-8").partition("*/")[2].split(";")[:-1]
     tests.equal("the header's prototypes", [" ".join(it.split()) for it in wanted], [" ".join(it.split()) for it in found])
     tests.equal("how many calls the header declares", len(wanted), len(set(re.findall(r"\btigercanon_\w+(?=\()", header))))
 
@@ -154,9 +138,7 @@ def run_all(tests: Tests) -> None:
     place = tests.room / "guide"
     (place / "out").mkdir(parents=True)
     (place / "out/library").symlink_to(tests.library)
-    (place / "python").symlink_to(tests.library / "python")
     (place / "examples").symlink_to(ROOT / "examples")
     try_c(tests, place, fingerprint)
-    try_python(tests, place, fingerprint)
     try_prototypes(tests)
     try_header(tests)
