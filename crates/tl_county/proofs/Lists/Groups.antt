@@ -1,10 +1,11 @@
 -- Groups of records with one number, taken in turn from records in the order of their numbers.
 use Rattle.std.proofs.Common.{rules, ◌≡◌, ◌==◌, ℕ, List, [], ◌∷◌, ◌++◌, map, filter, Less, is_eq, is_gt, sym, refl, ap, ◌∙◌, subst, nat_cmp}
-use Rattle.std.proofs.Common.{Option}
+use Rattle.std.proofs.Common.{Option, Some, false, cond}
 use Rattle.tl_county.proofs.Common.{AllByRecursion, Body7, BodyP, Chain, Fields1, Fields2, Fields4, Fields6, Fields7, Fields8, FieldsI}
 use Rattle.tl_county.proofs.Common.{FieldsP, LandmarkParts, PolygonKey, chains_along, eight_land, first, four_tlid, key_cmp, key_keys}
 use Rattle.tl_county.proofs.Common.{landmark_of, later_than, nat_keys, of_number, one_tlid, p_key, polygon_body_of, seven_land}
-use Rattle.tl_county.proofs.Common.{six_tlid, strict_head, two_tlid}
+use Rattle.tl_county.proofs.Common.{same-itself, six_tlid, strict_head, strict_tail, two_tlid}
+use Rattle.std.specs.Ordering.{ordering_reverse}
 use Rattle.std.specs.List.Sorted.{IsStrictlySortedBy}
 use Rattle.tl_county.specs.Building.{chain_with}
 use Rattle.ordered_lists.proofs.Lists.Counted.{filter-agree, eq_test}
@@ -101,3 +102,23 @@ polygons-step done whole key later keys points group body group_is body_is keys_
     (ap (λ l. done ++ map (polygon_body_of points) l) (sym keys_are) ∙ before)
     (body_is ∙ ap (λ l. first (map (λ (r : FieldsP). r.body) l)) (group_is ∙ group-flipped key_keys p_key key points))
     (polygons-later key points later (strict_head key_cmp key later (subst (IsStrictlySortedBy key_cmp) keys_are ascending)))
+
+-- a polygon's content isn't that of a record with a lesser key
+polygons-above : (r : FieldsP) (points : List FieldsP) (keys : List PolygonKey) → AllByRecursion (λ j. key_cmp (p_key r) j ≡ Less) keys
+    → map (polygon_body_of points) keys ≡ map (polygon_body_of (r ∷ points)) keys
+polygons-above r points [] h = refl
+polygons-above r points (j ∷ keys) h =
+    let others : List FieldsP = filter (λ q. is_eq (key_cmp j (p_key q))) points in
+    let apart : is_eq (key_cmp j (p_key r)) ≡ false = ap is_eq (key_keys.total.antisymm j (p_key r) ∙ ap ordering_reverse h.0) in
+    λ i. first (map (λ (q : FieldsP). q.body) (cond (sym apart i) (r ∷ others) others)) ∷ polygons-above r points keys h.1 i
+
+-- the contents of polygons that have one record each
+pub polygons-paired : (points : List FieldsP) → IsStrictlySortedBy key_cmp (map p_key points)
+    → map (λ (r : FieldsP). Some r.body) points ≡ map (polygon_body_of points) (map p_key points)
+polygons-paired [] h = refl
+polygons-paired (r ∷ points) h =
+    let key = p_key r in
+    let others : List FieldsP = filter (λ q. is_eq (key_cmp key (p_key q))) points in
+    let later = polygons-paired points (strict_tail key_cmp key (map p_key points) h)
+    ∙ polygons-above r points (map p_key points) (strict_head key_cmp key (map p_key points) h) in
+    λ i. first (map (λ (q : FieldsP). q.body) (cond (sym (same-itself key_keys key) i) (r ∷ others) others)) ∷ later i

@@ -83,6 +83,9 @@ impl<'a> InArena<'a> {
         ensures value { IfOk result (λ feats. feats.now ≡ flat_map (λ (r : Fields4). r.feats) names.now) }
         ensures in_range { IfOk result (λ feats. AllByRecursion (IsNumber 8) feats.now) }
     {
+        if names.is_empty() {
+            return Ok(&[]);
+        }
         self.feats.clear();
         join_feats(&mut self.feats, names)?;
         keep(self.arena, &self.feats)
@@ -92,6 +95,9 @@ impl<'a> InArena<'a> {
     fn keep_ranges(&mut self, ranges: &[Rec6]) -> Result<&'a [Ranges], AllocError>
         ensures { IfOk result (λ kept. kept.now ≡ map (λ (r : Fields6). r.ranges) ranges.now) }
     {
+        if ranges.is_empty() {
+            return Ok(&[]);
+        }
         self.ranges.clear();
         join_ranges(&mut self.ranges, ranges)?;
         keep(self.arena, &self.ranges)

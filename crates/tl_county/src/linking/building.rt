@@ -3,7 +3,7 @@
 ghost use Rattle.std.specs.List.{AllByRecursion};
 ghost use Rattle.std.specs.List.Sorted.{IsStrictlySortedBy};
 ghost use Rattle.std.specs.Ordering.{is_gt, nat_cmp, on};
-ghost use Rattle.std.specs.Prelude.{◌≡◌, ◌∷◌, [], ◌++◌, map, filter, flat_map, option_to_list, OnOk, IfOk};
+ghost use Rattle.std.specs.Prelude.{◌≡◌, ◌∷◌, [], ◌++◌, Some, map, filter, flat_map, option_to_list, OnOk, IfOk};
 ghost use Rattle.tl_county.specs.Building.{chain_with, chains_along, landmark_of, link_nodes, polygon_body_of};
 ghost use Rattle.county_chart.specs.County.{one_tlid, two_tlid, four_tlid, six_tlid, seven_land, eight_land, p_key, first};
 ghost use Rattle.ordered_lists.specs.Orders.{IsInOrder, distinct};
@@ -12,6 +12,7 @@ ghost use Rattle.tl_layout.specs.ByType.{of_number};
 ghost use Rattle.tl_layout.specs.Fields.{Fields2, Fields4, Fields5, Fields6, Fields7, FieldsP};
 ghost use Rattle.tl_layout.specs.Numbers.{IsNumber, IsNumberOrNone};
 
+use crate::keys::absent::have_same_keys;
 use crate::keys::repeated::keys_of;
 use crate::linking::chain_heads::{ChainHead, ChainLink};
 use county_chart::{PolygonKey, StoredChain, StoredLandmark, split_group};
@@ -39,7 +40,18 @@ fn first_body(points: &[RecP]) -> Option<BodyP>
     }
 }
 
-/// The content of each polygon's type P record, if it has one. The polygons and the records must be in order.
+/// The contents of the type P records, in their order.
+fn point_bodies(alloc: Global, points: &[RecP]) -> Result<Vec<Option<BodyP>>, AllocError>
+    ensures { IfOk result (λ bodies. bodies.items ≡ map (λ (r : FieldsP). Some r.body) points.now) }
+{
+    points
+        .iter()
+        .map(|point| Some(*point.body()))
+        .collect(alloc)
+}
+
+/// The content of each polygon's type P record, if it has one. The polygons and the records must be in order. Usually each polygon
+/// has one record.
 pub(crate) fn polygon_bodies(
     alloc: Global,
     polygons: &[PolygonKey],
@@ -49,6 +61,9 @@ pub(crate) fn polygon_bodies(
     requires points { IsInOrder (on p_key key_cmp) points.now }
     ensures { IfOk result (λ bodies. bodies.items ≡ map (polygon_body_of points.now) polygons.now) }
 {
+    if have_same_keys::<PolygonKey, RecP, PolygonKey>(points, polygons) {
+        return point_bodies(alloc, points);
+    }
     let mut bodies = Vec::with_capacity(alloc, polygons.len())?;
     let mut rest = points;
     let mut keys = polygons;

@@ -10,8 +10,9 @@ ghost use Rattle.ordered_lists.specs.Orders.{IsInOrder, distinct};
 ghost use Rattle.county_chart.specs.PolygonKeys.{key_cmp};
 ghost use Rattle.county_chart.specs.SequenceKeys.{sequence_cmp, uses_of};
 
+use crate::keys::absent::least_absent;
 use crate::keys::repeated::keys_of;
-use county_chart::{Keyed, PolygonKey, cenids_of, distinct_polygons, least_unknown};
+use county_chart::{Keyed, PolygonKey, cenids_of, distinct_polygons};
 use ordered_lists::sort_keys;
 use std::alloc::{AllocError, Global};
 use tl_layout::{Rec4, Rec8, RecI, RecP};
@@ -87,7 +88,7 @@ pub(crate) fn gather_polygons(
 {
     let cenids = likely_cenids(alloc, sides, points)?;
     let mut keys = distinct_polygons::<RecI>(alloc, cenids, sides)?;
-    let without_side = least_unknown::<PolygonKey, RecP, PolygonKey>(points, &keys);
+    let without_side = least_absent::<PolygonKey, RecP, PolygonKey>(points, &keys);
     if without_side.is_some() {
         push_points(&mut keys, points)?;
         let cenids = cenids_of::<PolygonKey>(alloc, &keys)?;

@@ -15,6 +15,7 @@ ghost use Rattle.tl_county.specs.RuleOrder.{RulesHold, IsFirstFrom};
 ghost use Rattle.county_chart.specs.SequenceKeys.{is_unnamed, sequence_cmp, uses_of};
 ghost use Rattle.tl_layout.specs.declared.record_type.Record.{Record};
 
+use crate::keys::absent::least_absent;
 use crate::keys::repeated::least_repeated;
 use crate::linking::gathering::uses_in_order;
 use crate::linking::table_order::{OrderedTables, Repeated};
@@ -50,7 +51,7 @@ pub(crate) fn check_chains(
         let rtype = LinkedType::Six;
         return Err(LinkFault::NoChain { rtype, tlid });
     }
-    if let Some(tlid) = least_unknown::<u64, u64, u64>(linked, tlids) {
+    if let Some(tlid) = least_absent::<u64, u64, u64>(linked, tlids) {
         let rtype = LinkedType::I;
         return Err(LinkFault::NoChain { rtype, tlid });
     }
@@ -89,7 +90,7 @@ pub(crate) fn check_links(
     requires linked { linked.now ≡ map i_tlid (ordered_of tables.now).of_type_i }
     ensures { (records : List Record) → by_type records ≡ ordered_of tables.now → MatchResult result (λ _. RulesHold records 8 10) (IsFirstFrom records 8) }
 {
-    if let Some(tlid) = least_unknown::<u64, u64, u64>(tlids, linked) {
+    if let Some(tlid) = least_absent::<u64, u64, u64>(tlids, linked) {
         return Err(LinkFault::LinkMissing { tlid });
     }
     if let Some(tlid) = least_repeated::<u64, u64>(linked) {

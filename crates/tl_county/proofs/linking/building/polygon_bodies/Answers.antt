@@ -1,8 +1,16 @@
-use Rattle.std.proofs.Common.{◌≡◌, ◌∷◌, ◌++◌, map, is_gt, sym, ◌∙◌, subst}
+use Rattle.std.proofs.Common.{◌≡◌, ◌∷◌, ◌++◌, IfOk, map, map-id, is_gt, sym, ap, ◌∙◌, subst}
 use Rattle.tl_county.proofs.Common.{IsInOrder, in_order-filter, key_cmp, on, p_key, polygon_body_of, strict_tail}
 use Rattle.std.specs.List.Sorted.{IsStrictlySortedBy}
-use Rattle.tl_county.proofs.Lists.Groups.{polygons-step}
+use Rattle.tl_county.proofs.Lists.Groups.{polygons-paired, polygons-step}
 use Rattle.tl_county.proofs.linking.building.polygon_bodies.Goals as goal
+
+pub returns-then-have_same_keys : goal.returns-then-have_same_keys
+returns-then-have_same_keys c =
+    let points = c.args.points.now in
+    let same : map p_key points ≡ c.args.polygons.now = c.have_same_keys.ensures c.if-have_same_keys.true ∙ map-id c.args.polygons.now in
+    subst (λ all. IfOk c.point_bodies.result (λ bodies. bodies.items ≡ all))
+    (polygons-paired points (subst (IsStrictlySortedBy key_cmp) (sym same) c.requires.polygons) ∙ ap (map (polygon_body_of points)) same)
+    c.point_bodies.ensures
 
 pub loop-key-preserved : goal.loop-key-preserved
 loop-key-preserved c =

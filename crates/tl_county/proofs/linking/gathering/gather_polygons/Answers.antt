@@ -7,8 +7,8 @@ use Rattle.tl_county.proofs.Rules.WithoutChain.{distinct-all_known, none_passes,
 use Rattle.tl_county.proofs.linking.gathering.gather_polygons.Goals as goal
 use Rattle.tl_county.proofs.linking.gathering.gather_polygons.Goals.{then-is_some+in_ok-push_points+in_ok-cenids-2+in_ok-keys-2, else-is_some}
 
-pub least_unknown-without_side-requires-clause-known : goal.least_unknown-without_side-requires-clause-known
-least_unknown-without_side-requires-clause-known c =
+pub least_absent-without_side-requires-clause-known : goal.least_absent-without_side-requires-clause-known
+least_absent-without_side-requires-clause-known c =
     subst (IsInOrder key_cmp) (sym (c.deref.ensures.value ∙ c.in_ok-keys.ensures))
     (distinct-in_order key_keys (flat_map side_keys c.args.sides.now))
 
@@ -26,14 +26,14 @@ returns-clause-keys c =
           ∙ distinct-more key_keys (distinct key_cmp sides) sides points
           (distinct_same key_keys (distinct key_cmp sides) sides (λ k. stands_in-distinct key_keys k sides))
       | else-is_some w ↦
-          let least : IsLeastPassing key_cmp (is_unknown key_cmp points sides) c.least_unknown-without_side.result =
+          let least : IsLeastPassing key_cmp (is_unknown key_cmp points sides) c.least_absent-without_side.result =
           least-same key_cmp (is_unknown key_cmp points (map (λ k. k) c.deref.result.now)) (is_unknown key_cmp points sides)
-          (unknown-distinct key_keys points sides c.deref.result.now (c.deref.ensures.value ∙ met)) c.least_unknown-without_side.result
-          c.least_unknown-without_side.ensures in
+          (unknown-distinct key_keys points sides c.deref.result.now (c.deref.ensures.value ∙ met)) c.least_absent-without_side.result
+          c.least_absent-without_side.ensures in
           ap (λ keys. keys.items) w.keys-is
           ∙ met
           ∙ distinct-all_known key_keys sides points
-          (none_passes key_cmp (is_unknown key_cmp points sides) c.least_unknown-without_side.result
+          (none_passes key_cmp (is_unknown key_cmp points sides) c.least_absent-without_side.result
           (sym c.is_some.ensures ∙ w.if-is_some.false) least)
     ]
 
@@ -43,5 +43,5 @@ returns-clause-without_side c =
     let points : List PolygonKey = map p_key c.args.points.now in
     let met : c.in_ok-keys.keys.items ≡ distinct key_cmp sides = c.in_ok-keys.ensures in
     least-same key_cmp (is_unknown key_cmp points (map (λ k. k) c.deref.result.now)) (is_unknown key_cmp points sides)
-    (unknown-distinct key_keys points sides c.deref.result.now (c.deref.ensures.value ∙ met)) c.least_unknown-without_side.result
-    c.least_unknown-without_side.ensures
+    (unknown-distinct key_keys points sides c.deref.result.now (c.deref.ensures.value ∙ met)) c.least_absent-without_side.result
+    c.least_absent-without_side.ensures

@@ -14,5 +14,5 @@ least_unknown-requires-2 c = search (rules, tables_in_order)
 pub least_unknown-requires-3 : goal.least_unknown-requires-3
 least_unknown-requires-3 c = search (rules, tables_in_order)
 
-pub least_unknown-requires-4 : goal.least_unknown-requires-4
-least_unknown-requires-4 c = search (rules, tables_in_order)
+pub least_absent-requires : goal.least_absent-requires
+least_absent-requires c = search (rules, tables_in_order)
