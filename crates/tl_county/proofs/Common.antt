@@ -3,7 +3,7 @@ pub use Rattle.county_chart.specs.BodyOrder.{bytes_cmp, landmark_body_cmp, link_
 pub use Rattle.county_chart.specs.County.{chain_of, chains_of, county_of, eight_land, first, five_feat, four_rtsq, four_tlid}
 pub use Rattle.county_chart.specs.County.{further_names, further_ranges, i_tlid, link_key, one_tlid, p_key, polygon_body, polygons_of}
 pub use Rattle.county_chart.specs.County.{seven_land, shape_points, side_keys, six_rtsq, six_tlid, two_rtsq, two_tlid}
-pub use Rattle.county_chart.specs.CountyRules.{IsCounty, chain_nodes, chain_polygons, nodes, polygon_keys, polygons_along}
+pub use Rattle.county_chart.specs.CountyRules.{IsCounty, chain_nodes, chain_polygons, nodes, polygons_along}
 pub use Rattle.county_chart.specs.FirstOf.{place_cmp}
 pub use Rattle.county_chart.specs.LandmarkParts.{LandmarkParts}
 pub use Rattle.county_chart.specs.Laws.KeyOrders.{key_keys, landmark_body_keys}
@@ -12,7 +12,6 @@ pub use Rattle.county_chart.specs.Limits.{IsWithinLimits, most_records}
 pub use Rattle.county_chart.specs.LinkRules.{IsFirstBrokenRule, IsLinked, chain_tlids, is_rule_broken, linked_tlids, named_feats, rtsqs}
 pub use Rattle.county_chart.specs.Packing.{Typed, by_type, type_after_type}
 pub use Rattle.county_chart.specs.PolygonKeys.{PolygonKey, key_cmp}
-pub use Rattle.county_chart.specs.Renumbering.{Carries, Renumbering, carried_chain, renumbered, turns}
 pub use Rattle.county_chart.specs.SequenceKeys.{is_unnamed, sequence_cmp, uses_of}
 pub use Rattle.county_chart.specs.StoredCounty.{LinksUnderLands, landmark_entry}
 pub use Rattle.county_chart.specs.declared.fault.LinkFault.{LinkFault}
@@ -34,12 +33,11 @@ pub use Rattle.ordered_lists.proofs.Lists.EntryLists.{entries-equal, in_order-st
 pub use Rattle.ordered_lists.proofs.Lists.EntryLists.{values-zip}
 pub use Rattle.ordered_lists.proofs.Lists.Groups.{later_than, strict_head, strict_tail}
 pub use Rattle.ordered_lists.proofs.Lists.InOrder.{in_order-itself, in_order-map}
-pub use Rattle.ordered_lists.proofs.Lists.Members.{among-map, among-permutation, among-pieces, among-unmap, among_known, known_is_among}
+pub use Rattle.ordered_lists.proofs.Lists.Members.{among-map, among-pieces, among-unmap, among_known, known_is_among}
 pub use Rattle.ordered_lists.proofs.Lists.Reordered.{SameElements, distinct_same, stands_alike}
 pub use Rattle.ordered_lists.specs.Entries.{entry_keys, entry_values, map_values}
 pub use Rattle.ordered_lists.specs.Keyed.{IsLeastPassing, is_repeated, is_unknown}
 pub use Rattle.ordered_lists.specs.Orders.{IsInOrder, distinct, has_repeat, in_order, put_in_order, stands_in, times}
-pub use Rattle.ordered_lists.specs.Pairs.{image}
 pub use Rattle.std.proofs.lemmas.Bool.{and_parts, eq-eqb, eqb-true, false≢true, lt-ltb, ltb-false, ltb-true, ne_eqb, or_cases}
 pub use Rattle.std.proofs.lemmas.Cmp.{nat_cmp_total, on_total, tied_itself}
 pub use Rattle.std.proofs.lemmas.Fn.{always_returns_same}
@@ -68,4 +66,3 @@ pub use Rattle.tl_layout.specs.declared.type5.Body5.{Body5}
 pub use Rattle.tl_layout.specs.declared.type7.Body7.{Body7}
 pub use Rattle.tl_layout.specs.declared.type_p.BodyP.{BodyP}
 pub use Rattle.tl_shape.specs.Chain.{Chain}
-pub use Rattle.tl_shape.specs.Turned.{turned_if}

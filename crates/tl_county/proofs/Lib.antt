@@ -2,6 +2,5 @@ pub mod Lists
 pub mod ByKey
 pub mod Sameness
 pub mod Rules
-pub mod Samples
 pub mod Packing
 pub mod Common
