@@ -20,14 +20,12 @@ pub(crate) struct NumberOrder {
     pub(crate) places: Vec<u64>,
 }
 
-/// The number at a place of a list.
 fn number_at(numbers: &[u64], place: u64) -> Option<u64>
     ensures { result ≡ slice_get numbers.now place }
 {
     numbers.get(place as usize).copied()
 }
 
-/// The numbers at these places of a list.
 fn numbers_at(alloc: Global, numbers: &[u64], places: &[u64]) -> Result<Vec<u64>, AllocError>
     ensures { IfOk result (λ found. found.items ≡ at_places numbers.now places.now) }
 {

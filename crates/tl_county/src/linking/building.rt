@@ -267,7 +267,6 @@ pub(crate) fn landmarks_of<L: StoredLandmark, B: LandmarkBuilder<L>>(
     Ok(found)
 }
 
-/// Inserts a node into the set, if there is one.
 fn insert_node(nodes: &mut NumberSet, node: Option<u64>) -> Result<(), AllocError>
     ensures { OnOk result (distinct nat_cmp nodes.new ≡ distinct nat_cmp (nodes.old ++ option_to_list node)) }
 {

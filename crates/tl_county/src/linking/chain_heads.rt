@@ -41,28 +41,24 @@ impl<'t> ChainHead<'t> {
         }
     }
 
-    /// The record.
     pub(crate) fn record(&self) -> &'t Rec1
         ensures { result.now ≡ self.now }
     {
         self.record
     }
 
-    /// Its TLID.
     pub(crate) fn tlid(&self) -> u64
         ensures { result ≡ self.now.tlid }
     {
         self.tlid
     }
 
-    /// The point at its start.
     pub(crate) fn start(&self) -> Point
         ensures { result ≡ self.now.start }
     {
         self.start
     }
 
-    /// The point at its end.
     pub(crate) fn end(&self) -> Point
         ensures { result ≡ self.now.end }
     {
@@ -70,14 +66,12 @@ impl<'t> ChainHead<'t> {
     }
 }
 
-/// The type 1 record at a place.
 fn head_at<'t>(records: &'t [Rec1], place: u64) -> Option<ChainHead<'t>>
     ensures { result ≡ slice_get records.now place }
 {
     records.get(place as usize).map(|head| ChainHead::new(head))
 }
 
-/// The type 1 records at these places.
 pub(crate) fn heads_at<'t>(
     alloc: Global,
     records: &'t [Rec1],
@@ -105,7 +99,6 @@ impl<'t> Model for ChainLink<'t> {
 }
 
 impl<'t> ChainLink<'t> {
-    /// The record.
     pub(crate) fn record(&self) -> &'t RecI
         ensures { result.now ≡ self.now }
     {
@@ -113,7 +106,6 @@ impl<'t> ChainLink<'t> {
     }
 }
 
-/// The type I record at a place.
 fn link_at<'t>(records: &'t [RecI], place: u64) -> Option<ChainLink<'t>>
     ensures { result ≡ slice_get records.now place }
 {
@@ -122,7 +114,6 @@ fn link_at<'t>(records: &'t [RecI], place: u64) -> Option<ChainLink<'t>>
         .map(|link| ChainLink { record: link })
 }
 
-/// The type I records at these places.
 pub(crate) fn links_at<'t>(
     alloc: Global,
     records: &'t [RecI],

@@ -12,7 +12,6 @@ use std::alloc::AllocError;
 
 /// A key with a number. Greater keys mostly have greater numbers.
 pub(crate) trait Numbered {
-    /// The number.
     fn number(&self) -> u64;
 }
 
