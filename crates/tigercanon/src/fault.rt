@@ -3,6 +3,7 @@
 ghost use Rattle.std.specs.Prelude.{◌≡◌, ◌≤◌, Some, length};
 ghost use Rattle.fault_report.specs.Reports.{report_line};
 ghost use Rattle.tigercanon.specs.Refusals.{report_of, reported_of};
+ghost use Rattle.tigercanon.specs.Statuses.{status_of};
 ghost use Rattle.tigercanon.specs.declared.fault.Fault.TheVariants.{Load, Link, Profile, Write, Memory};
 
 use fault_report::{FaultKind, FaultReport, Line, push, push_digits};
@@ -40,6 +41,19 @@ impl Fault {
             Fault::Profile(fault) => fault.report(),
             Fault::Write(fault) => fault.report(),
             Fault::Memory => FaultReport::bare(FaultKind::Memory),
+        }
+    }
+
+    /// The exit status of a job that stops because of it: 3 for a refused set, 4 for an I/O error, 5 if an allocation failed.
+    pub fn status(&self) -> u8
+        ensures { result ≡ status_of self.now }
+    {
+        match self {
+            Fault::Load(LoadFault::Device) | Fault::Write(_) => 4,
+            Fault::Load(LoadFault::Memory) | Fault::Memory => 5,
+            Fault::Link(LinkFault::Memory) => 5,
+            Fault::Profile(ProfileFault::Memory) => 5,
+            Fault::Load(_) | Fault::Link(_) | Fault::Profile(_) => 3,
         }
     }
 

@@ -36,6 +36,5 @@ pub use library::normalising::{
 pub use library::respelling::respell;
 pub use program::counted::run_counted;
 pub use program::files::{CountedFile, Opened, open_files};
-pub use program::refusal::Refusal;
 pub use program::reporting::{args_error, exit_status, report};
 pub use program::running::run;

@@ -5,7 +5,6 @@ pub(crate) mod ending;
 pub(crate) mod files;
 pub(crate) mod jobs;
 pub(crate) mod missing;
-pub(crate) mod refusal;
 pub(crate) mod reporting;
 pub(crate) mod running;
 pub(crate) mod two_sets;

@@ -9,7 +9,6 @@ ghost use Rattle.tigercanon.specs.Stopping.{stopped_by};
 
 use crate::fault::Fault;
 use crate::library::comparing::CompareFault;
-use crate::program::refusal::Refusal;
 use crate::program::writing::write_text;
 use fault_report::{Line, push};
 use tl_write::Sink;
@@ -81,7 +80,7 @@ pub(crate) fn report_stopped<E: Sink>(stopped: Stopped, err: &mut E) -> u8
 {
     let line = refusal_line_of(stopped);
     write_line(line.as_slice(), err);
-    Refusal(stopped.fault).status()
+    stopped.fault.status()
 }
 
 /// Writes to a sink, in one line, why a job stopped, if it did, and returns the exit status.

@@ -7,7 +7,7 @@ use test_support::growths::on_sets;
 use test_support::refused_sets::{Refused, of_clauses, of_lines, of_rules, refused_sets};
 use test_support::sets::{Set, SetLines};
 use tigercanon::{
-    CompareFault, Fault, Refusal, check, compare, fingerprint, normalise, normalise_with_renaming,
+    CompareFault, Fault, check, compare, fingerprint, normalise, normalise_with_renaming,
 };
 
 /// Each whole call reports this fault of the set, and comparing reports which set it is.
@@ -27,7 +27,7 @@ fn each_reports(rt: &impl Host, set: &Set<'_>, fault: Fault) {
 /// Each whole call rejects the set as its row states.
 fn is_refused(rt: &impl Host, set: &Set<'_>) {
     let fault = check(rt.alloc(), &[set.bytes]).expect_err(rt, set.row);
-    let line = format!(in rt.alloc(); "{}", Refusal(fault)).expect(rt, "there is memory");
+    let line = format!(in rt.alloc(); "{}", fault).expect(rt, "there is memory");
     let wanted = format!(in rt.alloc(); "refused {}", set.row).expect(rt, "there is memory");
     same_items(rt, set.row, line.as_bytes(), wanted.as_bytes());
     each_reports(rt, set, fault);
