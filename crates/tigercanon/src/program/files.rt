@@ -66,7 +66,6 @@ pub(crate) fn is_missing_a_file<R>(files: &[Opened<R>]) -> bool
 /// A file as a source that counts its failures. Each read of one that couldn't be opened fails.
 pub type CountedFile<R> = Counted<Opened<R>>;
 
-/// Whether the first of these files is absent.
 fn is_first_absent<R>(files: &[CountedFile<R>]) -> bool
     ensures { IsTrue result ↔ (slice_get (opened_of files.now) 0 ≡ Some Opened.Absent) }
 {
@@ -83,7 +82,6 @@ fn has_failed<R>(file: &CountedFile<R>) -> bool
     matches!(file.get_ref(), Opened::Failed)
 }
 
-/// Whether one of these files couldn't be opened.
 fn has_failed_one<R>(files: &[CountedFile<R>]) -> bool
     ensures { IsTrue result ↔ Contains (opened_of files.now) Opened.Failed }
 {

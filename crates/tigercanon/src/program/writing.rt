@@ -28,7 +28,6 @@ impl<'a, W: Write> LentOut<'a, W> {
         }
     }
 
-    /// Returns the writer.
     pub(crate) fn give_back(self) -> &'a mut W
         ensures same { result.ghost_name ≡ self.entry.writer.ghost_name }
         ensures now { result.now ≡ self.entry.writer.now }
