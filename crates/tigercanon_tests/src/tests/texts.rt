@@ -1,10 +1,10 @@
-//! What `Display` shows of each fault of a whole call: the line that the program prints; and the exit status of a refusal. The faults of
+//! What `Display` shows of each fault of a whole call: the line that the program prints; and its exit status. The faults of
 //! a layer are in `layer_tests`.
 
 use super::Host;
 use super::comparing::{same, same_items};
 use std::fmt::Display;
-use tigercanon::{CompareFault, Fault, PlanFault, Refusal};
+use tigercanon::{CompareFault, Fault, PlanFault};
 use tl_county::LinkFault::{self, LinkMissing};
 use tl_load::LoadFault;
 use tl_profile::ProfileFault::{self, TooSymmetric};
@@ -16,12 +16,11 @@ fn says<T: Display>(rt: &impl Host, fault: &T, text: &str) {
     same_items(rt, text, said.as_bytes(), text.as_bytes());
 }
 
-/// The fault's line is `refused` and this text, for the library and for the program, which exits with this status.
+/// The fault's line is `refused` and this text, and the program exits with this status.
 fn is_refused(rt: &impl Host, fault: Fault, text: &str, status: u8) {
     let line = format!(in rt.alloc(); "refused {text}").expect(rt, text);
     says(rt, &fault, &line);
-    says(rt, &Refusal(fault), &line);
-    same(rt, text, &Refusal(fault).status(), &status);
+    same(rt, text, &fault.status(), &status);
 }
 
 /// Faulty lines, broken rules and clauses, devices that fail, and want of memory in each layer.
