@@ -24,3 +24,4 @@ pub mod TieReading
 pub mod NamesInOrder
 pub mod NameNumbers
 pub mod NamesRead
+pub mod Alike
