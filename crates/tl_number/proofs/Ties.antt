@@ -1,5 +1,6 @@
 -- Choices that tie in type 1, compared without making their counties.
 pub mod NewlySeen
+pub mod Ranks
 pub mod Counterparts
 pub mod MovedKeys
 pub mod OpenOrder
