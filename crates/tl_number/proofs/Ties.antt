@@ -26,3 +26,6 @@ pub mod NamesInOrder
 pub mod NameNumbers
 pub mod NamesRead
 pub mod Alike
+pub mod PickedPlaces
+pub mod PartChoices
+pub mod KeptOpen
