@@ -29,3 +29,4 @@ pub mod Alike
 pub mod PickedPlaces
 pub mod PartChoices
 pub mod KeptOpen
+pub mod CountyParts
