@@ -10,9 +10,12 @@ pub mod OpenChains
 pub mod OpenLinks
 pub mod ChainGroups
 pub mod RangeOrder
+pub mod WantedMoves
 pub mod TieNumbers
+pub mod FixedKeys
 pub mod CriticalKeys
 pub mod TopologyOrder
+pub mod WantedKeys
 pub mod NameRecords
 pub mod PolygonOrder
 pub mod LinkOrder

@@ -35,7 +35,7 @@ use Rattle.canonical_form.proofs.Views.ViewChains.{bodies_read, chains, chains_a
 use Rattle.arranged_county.proofs.Views.ViewTables.{keys_paired, nodes_paired}
 
 -- values read from each directed chain are read from the chains in their new order
-read_along : (county : County) (is : IsCounty county) {X : Type 0} (part : Option Chain → X) (arrangement : List DirectedChain)
+pub read_along : (county : County) (is : IsCounty county) {X : Type 0} (part : Option Chain → X) (arrangement : List DirectedChain)
     (w : AreWhole county arrangement)
     → map (λ directed. part (directed_chain county directed)) arrangement ≡ map (λ c. part (Some c)) (chains county arrangement is w)
 read_along county is part arrangement w = sym (map-map part (directed_chain county) arrangement)
