@@ -5,6 +5,7 @@ use Rattle.tl_number.proofs.Common.{append_assoc, AllByRecursion, AreWithin, IsK
 use Rattle.tl_number.proofs.Common.{all_weaker, first_seen, first_stood, grouped, known-right, length-append, length-take, moved, newly_seen}
 use Rattle.tl_number.proofs.Common.{open_keys, range_with_len}
 use Rattle.tl_number.proofs.Common.{slice_get, Some, turned_by}
+use Rattle.std.specs.Prelude.{⊤}
 use Rattle.std.proofs.lemmas.Grind.{flat_map-append}
 use Rattle.std.proofs.lemmas.List.{take-append-drop}
 use Rattle.ordered_lists.proofs.ByKey.Keys.{known-append, known-left}
