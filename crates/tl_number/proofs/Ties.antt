@@ -33,3 +33,7 @@ pub mod PickedPlaces
 pub mod PartChoices
 pub mod KeptOpen
 pub mod CountyParts
+pub mod Columns
+pub mod KeptParts
+pub mod SmallChains
+pub mod SmallRecords
