@@ -37,3 +37,5 @@ pub mod Columns
 pub mod KeptParts
 pub mod SmallChains
 pub mod SmallRecords
+pub mod SmallChoices
+pub mod SmallCounty

@@ -1,7 +1,7 @@
 -- A part of a county is a county, it's within the same limits, and all its polygons are on sides.
-use Rattle.tl_number.proofs.Common.{◌≡◌, ◌≤◌, ◌<◌, ◌∙◌, ◌||◌, ℕ, suc, List, [], ◌∷◌, Bool, true, false, cond, map, filter, flat_map, filter_map}
+use Rattle.tl_number.proofs.Common.{◌≡◌, ◌≤◌, ◌∙◌, ◌||◌, ℕ, suc, List, [], ◌∷◌, Bool, true, false, cond, map, filter, flat_map, filter_map}
 use Rattle.tl_number.proofs.Common.{length, Ordering, Less, Option, Some, None, is_some, refl, sym, ap, subst, arith, nat_cmp, AllByRecursion}
-use Rattle.tl_number.proofs.Common.{AllKeysStandIn, AllStandIn, Body5, Body7, BodyP, Chain, County, IsCounty, IsKeyOrder, IsWithinLimits, Known}
+use Rattle.tl_number.proofs.Common.{AllKeysStandIn, AllStandIn, Body5, Body7, BodyP, Chain, County, IsCounty, IsKeyOrder, IsWithinLimits}
 use Rattle.tl_number.proofs.Common.{PolygonKey, all_known, all_map, all_unmap, all_weaker, cons_option, feats, key_cmp, key_keys, known_all}
 use Rattle.tl_number.proofs.Common.{length-append, length-map, link_key, lt-ltb, ltb-true, nat_keys, packed, packed_fours, packed_i, packed_p}
 use Rattle.tl_number.proofs.Common.{packed_sevens, packed_sixes, packed_twos, polygon_keys, polygons_along, stands_in, times}

@@ -10,7 +10,7 @@ use Rattle.ordered_lists.proofs.Lists.Elements.{all_weaker}
 use Rattle.county_chart.specs.Choices.{is_settled, open_place_at, open_places}
 use Rattle.county_chart.specs.declared.open_place.OpenPlace.{OpenPlace}
 use Rattle.tl_number.specs.OpenKeys.{is_open}
-use Rattle.tl_number.proofs.Ties.PartChoices.{IsKeptOpen, KeepsOpen}
+use Rattle.tl_number.proofs.Ties.PartChoices.{KeepsOpen}
 
 -- a place that an open place covers is open
 covered : (at : OpenPlace) (places : List OpenPlace) (place : ℕ) → at.place ≤ place → place < at.place + at.alike

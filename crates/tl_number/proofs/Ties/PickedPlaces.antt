@@ -2,6 +2,7 @@
 use Rattle.ordered_lists.proofs.Common.{◌≡◌, ◌⊎◌, ◌≤◌, ◌+◌, ◌∙◌, ℕ, zero, suc, List, [], ◌∷◌, Bool, true, false, cond, map, filter, length}
 use Rattle.ordered_lists.proofs.Common.{Ordering, is_eq, sym, refl, ap, inl, inr, arith, cons_option, slice_get, times, stands_in}
 use Rattle.ordered_lists.proofs.Common.{nat_lt, lt-ltb}
+use Rattle.ordered_lists.proofs.Common.{◌++◌, AllByRecursion, flat_map}
 use Rattle.std.specs.List.{range_with_len}
 use Rattle.ordered_lists.specs.Places.{at_places}
 use Rattle.ordered_lists.proofs.ByKey.Keys.{IsApart, IsKeyOrder, Known, apart_tail, known-here, map_agree, same_or_not, times-cons, times-no, times-yes}
@@ -60,6 +61,19 @@ places_picked {X} test (x ∷ xs) = go (test 0)
         ≡ cond b (x ∷ picked (map test (range_with_len 1 (length xs))) xs) (picked (map test (range_with_len 1 (length xs))) xs)
     go true ih = ap (λ ys. x ∷ ys) ih
     go false ih = ih
+
+-- what is read from each element, one item from each
+pub pieces_picked : {X Y : Type 0} (f : X → List Y) (bs : List Bool) (xs : List X) → AllByRecursion (λ x. (y : Y) × (f x ≡ y ∷ [])) xs
+    → flat_map f (picked bs xs) ≡ picked bs (flat_map f xs)
+pieces_picked f [] xs a = refl
+pieces_picked f (b ∷ bs) [] a = refl
+pieces_picked f (true ∷ bs) (x ∷ xs) a = (λ j. a.0.1 j ++ pieces_picked f bs xs a.1 j) ∙ ap (λ ys. picked (true ∷ bs) (ys ++ flat_map f xs)) (sym a.0.1)
+pieces_picked f (false ∷ bs) (x ∷ xs) a = pieces_picked f bs xs a.1 ∙ ap (λ ys. picked (false ∷ bs) (ys ++ flat_map f xs)) (sym a.0.1)
+
+pub length_pieces : {X Y : Type 0} (f : X → List Y) (xs : List X) → AllByRecursion (λ x. (y : Y) × (f x ≡ y ∷ [])) xs
+    → length (flat_map f xs) ≡ length xs
+length_pieces f [] a = refl
+length_pieces f (x ∷ xs) a = (λ j. length (a.0.1 j ++ flat_map f xs)) ∙ ap suc (length_pieces f xs a.1)
 
 -- Keys that occur once are among those picked exactly if they're marked.
 module _ {K : Type 0} {cmp : K → K → Ordering} (o : IsKeyOrder cmp) where
