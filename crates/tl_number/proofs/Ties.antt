@@ -16,6 +16,7 @@ pub mod FixedKeys
 pub mod CriticalKeys
 pub mod TopologyOrder
 pub mod WantedKeys
+pub mod WantedNumbers
 pub mod NameRecords
 pub mod PolygonOrder
 pub mod LinkOrder
@@ -27,6 +28,7 @@ pub mod CriticalNumbers
 pub mod TieReading
 pub mod NamesInOrder
 pub mod NameNumbers
+pub mod WantedNames
 pub mod NamesRead
 pub mod Alike
 pub mod PickedPlaces

@@ -1,15 +1,16 @@
 -- Lists of keys that differ in wanted keys alone: where the other keys stand, and how wanted keys compare.
 use Rattle.tl_number.proofs.Common.{◌≡◌, ◌⊎◌, ◌<◌, ◌+◌, ℕ, zero, suc, List, [], ◌∷◌, ◌++◌, map, filter, flat_map, length, Bool, true, false}
 use Rattle.tl_number.proofs.Common.{cond, not, Option, Some, None, Ordering, Equal, Less, Greater, is_eq, nat_cmp, refl, sym, ap, ap₂, ◌∙◌, subst}
-use Rattle.tl_number.proofs.Common.{inl, inr, arith, AllByRecursion, Among, IsKeyOrder, IsPermutation, Known, MatchOrdering, all_known, append_assoc}
-use Rattle.tl_number.proofs.Common.{append-nil, apart-permutation_of, first_seen, known-here, known-right, map-append, newly_seen}
+use Rattle.tl_number.proofs.Common.{inl, inr, arith, ◌≤◌, AllByRecursion, Among, IsApart, IsKeyOrder, IsPermutation, Known, MatchOrdering, all_known}
+use Rattle.tl_number.proofs.Common.{append-nil, apart-permutation_of, apart_tail, times-yes, first_seen, known-here, known-right, map-append, newly_seen}
 use Rattle.tl_number.proofs.Common.{nat_lt, ordering_then, place_in, range_with_len, ranked, same-itself, same_or_not, slice_cmp, stands_in, lt-ltb, times}
 use Rattle.tl_number.proofs.Common.{ltb-false, ltb-true}
 use Rattle.std.specs.Cmp.{nat_cmp_is}
 use Rattle.std.proofs.lemmas.List.Elements.{filter-append}
-use Rattle.ordered_lists.proofs.ByKey.Keys.{known-append, known-later, known-left, times-filter}
+use Rattle.ordered_lists.proofs.ByKey.Keys.{known-later, known-left, times-filter}
 use Rattle.ordered_lists.proofs.Lists.Elements.{all_filter}
 use Rattle.ordered_lists.proofs.Lists.Reordered.{from_permutation}
+use Rattle.canonical_form.proofs.Numbering.FirstSeen.{unknown_at_end}
 use Rattle.tl_number.proofs.Ties.NewlySeen.{AreAlike, alike_append, alike_itself, newly_alike, newly_apart, newly_append, newly_both}
 use Rattle.tl_number.proofs.Ties.NewlySeen.{newly_known, newly_unseen, seen_newly, seen_or_new}
 
@@ -355,3 +356,111 @@ module _ {K : Type 0} {cmp : K → K → Ordering} (o : IsKeyOrder cmp) where
           let there = in_filtered wanted (keys_at place) k h in
           let b = brought place e k there.0 there.1 in
           record { before = b.before; less = b.less; kept = b.kept; here = to_filtered wanted (keys_at b.before) k b.here there.1 }
+
+  -- the keys of a list without one of them
+  abbrev without : K → List K → List K
+  without j xs = filter (λ x. not (is_eq (cmp j x))) xs
+
+  -- a key without one that comes before it is at a lesser place, and without any other at the same one
+  record IsMovedUp (j k : K) (xs : List K) : Type 0 where
+    not_after : place_in cmp (without j xs) k ≤ place_in cmp xs k
+    less : place_in cmp xs j < place_in cmp xs k → place_in cmp (without j xs) k < place_in cmp xs k
+    same : place_in cmp xs k ≤ place_in cmp xs j → place_in cmp (without j xs) k ≡ place_in cmp xs k
+
+  moved_up : (j k : K) → is_eq (cmp k j) ≡ false → (xs : List K) → IsMovedUp j k xs
+  moved_up j k differ [] = record { not_after = omega arith; less = λ l. absurd (omega (arith, l)); same = λ l. refl }
+  moved_up j k differ (x ∷ xs) = go (same_or_not o j x) (same_or_not o k x) (moved_up j k differ xs)
+    where
+      left : (b : Bool) → is_eq (cmp j x) ≡ b → place_in cmp (without j (x ∷ xs)) k ≡ place_in cmp (cond (not b) (x ∷ without j xs) (without j xs)) k
+      left b e = ap (λ c. place_in cmp (cond (not c) (x ∷ without j xs) (without j xs)) k) e
+
+      go : (j ≡ x) ⊎ (is_eq (cmp j x) ≡ false) → (k ≡ x) ⊎ (is_eq (cmp k x) ≡ false) → IsMovedUp j k xs → IsMovedUp j k (x ∷ xs)
+      go (inl e) (inl f) ih =
+          let both : true ≡ false = sym (same-itself o k) ∙ ap (λ z. is_eq (cmp k z)) (f ∙ sym e) ∙ differ in cc
+      go (inl e) (inr f) ih =
+          let out = left true (ap (λ z. is_eq (cmp j z)) (sym e) ∙ same-itself o j) in
+          let first = place_first x xs j e in
+          let later = place_later x xs k f in
+          let down = ih.not_after in
+          record {
+            not_after = omega (arith, out, later, down);
+            less = λ l. (omega (arith, out, later, down));
+            same = λ l. absurd (omega (arith, l, first, later));
+          }
+      go (inr e) (inl f) ih =
+          let kept = left false e in
+          let here = place_first x xs k f in
+          let here_too = place_first x (without j xs) k f in
+          record {
+            not_after = omega (arith, kept, here, here_too);
+            less = λ l. absurd (omega (arith, l, here));
+            same = λ l. (omega (arith, kept, here, here_too));
+          }
+      go (inr e) (inr f) ih =
+          let kept = left false e in
+          let later = place_later x xs k f in
+          let later_too = place_later x (without j xs) k f in
+          let other = place_later x xs j e in
+          let down = ih.not_after in
+          record {
+            not_after = omega (arith, kept, later, later_too, down);
+            less = λ l. (let m = ih.less (omega (arith, l, later, other)) in omega (arith, m, kept, later, later_too));
+            same = λ l. (let m = ih.same (omega (arith, l, later, other)) in omega (arith, m, kept, later, later_too));
+          }
+
+  -- a key comes before one that isn't wanted in both lists or in neither, if also the keys that pass a test differ in wanted ones alone
+  pub before_alike : (wanted : K → Bool) (xs ys : List K)
+      → ((test : K → Bool) → masked_by wanted (filter test xs) ≡ masked_by wanted (filter test ys)) → masked_by wanted xs ≡ masked_by wanted ys
+      → (k : K) → wanted k ≡ false → (j : K) → place_in cmp xs j < place_in cmp xs k → place_in cmp ys j < place_in cmp ys k
+  before_alike wanted xs ys hidden whole k e j l = go (same_or_not o k j)
+    where
+      apart : is_eq (cmp k j) ≡ false → (b : Bool) → nat_lt (place_in cmp ys j) (place_in cmp ys k) ≡ b → place_in cmp ys j < place_in cmp ys k
+      apart differ true f = ltb-true (place_in cmp ys j) (place_in cmp ys k) f
+      apart differ false f =
+          let left = (moved_up j k differ xs).less l in
+          let right = (moved_up j k differ ys).same (ltb-false (place_in cmp ys j) (place_in cmp ys k) f) in
+          let all = same_place wanted xs ys whole k e in
+          let part = same_place wanted (without j xs) (without j ys) (hidden (λ x. not (is_eq (cmp j x)))) k e in
+          absurd (omega (arith, left, right, all, part))
+
+      go : (k ≡ j) ⊎ (is_eq (cmp k j) ≡ false) → place_in cmp ys j < place_in cmp ys k
+      go (inl same) = absurd (let one : place_in cmp xs j ≡ place_in cmp xs k = ap (place_in cmp xs) (sym same) in omega (arith, l, one))
+      go (inr differ) = apart differ (nat_lt (place_in cmp ys j) (place_in cmp ys k)) refl
+
+  -- Lists of as many distinct keys differ in wanted keys alone if each other key has one place in both.
+  pub masked_from_stay : (wanted : K → Bool) (xs ys : List K) → IsApart cmp xs → IsApart cmp ys → length xs ≡ length ys
+      → ((k : K) → wanted k ≡ false → place_in cmp xs k ≡ place_in cmp ys k) → masked_by wanted xs ≡ masked_by wanted ys
+  masked_from_stay wanted [] [] a b long stay = refl
+  masked_from_stay wanted [] (y ∷ ys) a b long stay = absurd (omega (arith, long))
+  masked_from_stay wanted (x ∷ xs) [] a b long stay = absurd (omega (arith, long))
+  masked_from_stay wanted (x ∷ xs) (y ∷ ys) a b long stay =
+      go (wanted x) (wanted y) refl refl
+      (masked_from_stay wanted xs ys (apart_tail o x xs a) (apart_tail o y ys b) (let l = long in omega (arith, l)))
+    where
+      -- a key that stands first isn't found later
+      past : (z : K) (zs : List K) → IsApart cmp (z ∷ zs) → (k : K) → k ≡ z → place_in cmp zs k ≡ length zs
+      past z zs once k same = unknown_at_end o zs k (let few = once k in let here = times-yes o k z zs same in omega (arith, few, here))
+
+      later_stay : (x ≡ y) → (k : K) → wanted k ≡ false → (k ≡ x) ⊎ (is_eq (cmp k x) ≡ false) → place_in cmp xs k ≡ place_in cmp ys k
+      later_stay same k e (inl f) = past x xs a k f ∙ (let l = long in let t : length xs ≡ length ys = omega (arith, l) in t) ∙ sym (past y ys b k (f ∙ same))
+      later_stay same k e (inr f) =
+          let p = place_later x xs k f in
+          let q = place_later y ys k (ap (λ z. is_eq (cmp k z)) (sym same) ∙ f) in
+          let s = stay k e in omega (arith, p, q, s)
+
+      go : (c d : Bool) → wanted x ≡ c → wanted y ≡ d
+          → (((k : K) → wanted k ≡ false → place_in cmp xs k ≡ place_in cmp ys k) → masked_by wanted xs ≡ masked_by wanted ys)
+          → cond c None (Some x) ∷ masked_by wanted xs ≡ cond d None (Some y) ∷ masked_by wanted ys
+      go true true e f rest = ap (λ l. None ∷ l) (rest (λ k g.
+          (let p = place_later x xs k (tested_apart wanted x k true e g) in let q = place_later y ys k (tested_apart wanted y k true f g) in
+          let s = stay k g in omega (arith, p, q, s))))
+      go true false e f rest = absurd (let p = place_later x xs y (tested_apart wanted x y true e f) in let q = place_first y ys y refl in
+          let s = stay y f in omega (arith, p, q, s))
+      go false true e f rest = absurd (let p = place_first x xs x refl in let q = place_later y ys x (tested_apart wanted y x true f e) in
+          let s = stay x e in omega (arith, p, q, s))
+      go false false e f rest = cases (same_or_not o x y)
+        where
+          cases : (x ≡ y) ⊎ (is_eq (cmp x y) ≡ false) → Some x ∷ masked_by wanted xs ≡ Some y ∷ masked_by wanted ys
+          cases (inl same) = λ i. Some (same i) ∷ rest (λ k g. later_stay same k g (same_or_not o k x)) i
+          cases (inr differ) = absurd (let p = place_first x xs x refl in let q = place_later y ys x differ in
+              let s = stay x e in omega (arith, p, q, s))

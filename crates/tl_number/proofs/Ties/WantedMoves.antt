@@ -1,8 +1,8 @@
 -- Moves at open places change the order of wanted keys alone.
 use Rattle.tl_number.proofs.Common.{◌≡◌, ◌<◌, ◌≤◌, ◌+◌, ◌/◌, ◌%◌, ℕ, zero, suc, List, [], ◌∷◌, ◌++◌, ◌⊎◌, filter, flat_map, map, take, drop}
 use Rattle.tl_number.proofs.Common.{length, Bool, true, false, cond, Ordering, refl, sym, ap, ap₂, ◌∙◌, subst, inl, inr, arith, append-nil}
-use Rattle.tl_number.proofs.Common.{append_assoc, AllByRecursion, AreWithin, IsKeyOrder, Known, OpenPlace, all_append, all_left, all_right}
-use Rattle.tl_number.proofs.Common.{all_weaker, first_seen, first_stood, grouped, known-right, length-append, length-take, moved, newly_seen}
+use Rattle.tl_number.proofs.Common.{append_assoc, AllByRecursion, AreWithin, IsKeyOrder, Known, OpenPlace, all_append}
+use Rattle.tl_number.proofs.Common.{first_seen, first_stood, known-right, length-append, length-take, moved, newly_seen}
 use Rattle.tl_number.proofs.Common.{open_keys, range_with_len}
 use Rattle.tl_number.proofs.Common.{slice_get, Some, turned_by}
 use Rattle.std.specs.Prelude.{⊤}
@@ -11,7 +11,7 @@ use Rattle.std.proofs.lemmas.List.{take-append-drop}
 use Rattle.ordered_lists.proofs.ByKey.Keys.{known-append, known-left}
 use Rattle.canonical_form.proofs.Choices.FixedPlaces.{moved_count}
 use Rattle.tl_number.proofs.Ties.MovedKeys.{insert_is, parts_at}
-use Rattle.tl_number.proofs.Ties.NewlySeen.{AreAlike, alike_itself, newly_known, seen_or_new}
+use Rattle.tl_number.proofs.Ties.NewlySeen.{AreAlike, alike_append, alike_itself, newly_known, seen_or_new}
 use Rattle.tl_number.proofs.Ties.OpenChains.{Covers}
 use Rattle.tl_number.proofs.Ties.Ranks.{block_hidden, masked_by}
 
@@ -191,9 +191,10 @@ module _ {X K : Type 0} {cmp : K → K → Ordering} (o : IsKeyOrder cmp) (keys_
         (met_block met (place + 1) xs (later_open place (length xs) opened) h.1),
   )
 
-  -- The keys of both lists by first appearance differ in wanted keys alone, also those that pass a test.
+  -- Both lists have the same keys, which by first appearance differ in wanted keys alone, also those that pass a test.
   pub record AreMoved (xs ys : List X) : Type 0 where
     pub met : AreMet [] 0 ys
+    pub members : AreAlike cmp (kept 0 xs) (kept 0 ys)
     pub hidden : (test : K → Bool)
         → masked_by wanted (filter test (first_seen cmp (kept 0 xs))) ≡ masked_by wanted (filter test (first_seen cmp (kept 0 ys)))
 
@@ -279,6 +280,11 @@ module _ {X K : Type 0} {cmp : K → K → Ordering} (o : IsKeyOrder cmp) (keys_
     moved_block : AreMoved (before ++ ((x ∷ passed) ++ rest)) (before ++ ((passed ++ (t ∷ [])) ++ rest))
     moved_block = record {
       met = still_met;
+      members = subst (λ l. AreAlike cmp l (kept 0 (before ++ ((passed ++ (t ∷ [])) ++ rest)))) (sym (parts (x ∷ passed) opened refl))
+          (subst (λ l. AreAlike cmp (kept 0 before ++ (flat_map keys_of (x ∷ passed) ++ kept end rest)) l)
+          (sym (parts (passed ++ (t ∷ [])) opened_too moved_length))
+          (alike_append o (kept 0 before) (kept 0 before) _ _ (alike_itself o (kept 0 before))
+          (alike_append o (flat_map keys_of (x ∷ passed)) (flat_map keys_of (passed ++ (t ∷ []))) _ _ members (alike_itself o (kept end rest)))));
       hidden = λ test.
           ap (λ l. masked_by wanted (filter test (first_seen cmp l))) (parts (x ∷ passed) opened refl)
           ∙ block_hidden o wanted (kept 0 before) (flat_map keys_of (x ∷ passed)) (flat_map keys_of (passed ++ (t ∷ []))) (kept end rest)
@@ -321,11 +327,15 @@ module _ {X K : Type 0} {cmp : K → K → Ordering} (o : IsKeyOrder cmp) (keys_
     pub all_moved : (places : List OpenPlace) (xs : List X) (n : ℕ) → AreWithin (length xs) places
         → AllByRecursion (λ at. (place : ℕ) → Covers at place → is_open place ≡ true) places → AreMet [] 0 xs
         → AreMoved xs (moved turn places (xs, n)).0
-    all_moved [] xs n within covered all_met = record { met = all_met; hidden = λ test. refl }
+    all_moved [] xs n within covered all_met = record { met = all_met; members = alike_itself o (kept 0 xs); hidden = λ test. refl }
     all_moved (at ∷ places) xs n within covered all_met =
         let later = moved turn places (xs, n) in
         let first = all_moved places xs n within.1 covered.1 all_met in
         let count = moved_count turn places xs n within.1 in
         let fits = within.0.there in
         let next = moved_once at later.1 within.0.some covered.0 later.0 (omega (arith, fits, count)) first.met in
-        record { met = next.met; hidden = λ test. first.hidden test ∙ next.hidden test }
+        record {
+          met = next.met;
+          members = λ k. ((λ h. (next.members k).0 ((first.members k).0 h)), (λ h. (first.members k).1 ((next.members k).1 h)));
+          hidden = λ test. first.hidden test ∙ next.hidden test;
+        }
