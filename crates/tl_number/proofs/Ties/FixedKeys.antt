@@ -54,6 +54,7 @@ module _ {K : Type 0} {cmp : K → K → Ordering} (o : IsKeyOrder cmp) where
       pub new_there : brings cmp places opened along first ≡ true
       pub here : Known cmp (group_at along first) k
 
+    -- each of these keys at fixed places has such a place
     first_fixed : (place : ℕ) (k : K) → stands_in cmp k opened ≡ true → Known cmp (fixed_keys places along place) k → FirstFixed place k
     first_fixed zero k is_opened h = absurd (omega (arith, h))
     first_fixed (suc place) k is_opened h =

@@ -42,6 +42,7 @@ record AreHeads {K : Type 0} (wanted : K → Bool) (x y : K) (xs ys : List K) : 
   here : (wanted x ≡ true) × (wanted y ≡ true) ⊎ (wanted x ≡ false) × (x ≡ y)
   later : masked_by wanted xs ≡ masked_by wanted ys
 
+-- each list's first key and the rest
 heads_of : {K : Type 0} (wanted : K → Bool) (x y : K) (xs ys : List K) → masked_by wanted (x ∷ xs) ≡ masked_by wanted (y ∷ ys)
     → AreHeads wanted x y xs ys
 heads_of wanted x y xs ys e = record { here = go (wanted x) (wanted y) refl refl (cc); later = (cc) }
@@ -92,6 +93,7 @@ module _ {K : Type 0} {cmp : K → K → Ordering} (o : IsKeyOrder cmp) where
   pub to_filtered : (test : K → Bool) (ks : List K) (k : K) → Known cmp ks k → test k ≡ true → Known cmp (filter test ks) k
   to_filtered test ks k h e = let same = times-filter o test k ks ∙ ap (λ b. cond b (times cmp k ks) 0) e in omega (arith, h, same)
 
+  -- the place of the first key, and of a later one
   pub place_first : (x : K) (xs : List K) (k : K) → k ≡ x → place_in cmp (x ∷ xs) k ≡ 0
   place_first x xs k same =
       ap (λ b. cond (not b) (1 + place_in cmp xs k) 0) (ap (λ j. is_eq (cmp k j)) (sym same) ∙ same-itself o k)
@@ -147,6 +149,7 @@ module _ {K : Type 0} {cmp : K → K → Ordering} (o : IsKeyOrder cmp) where
           ap (λ s. newly_seen cmp s passing) (sym (grown false e ∙ append-nil (filter test seen))) ∙ new
           ∙ sym (ap (λ a. cond a (k ∷ filter test more) (filter test more)) e)
 
+  -- keys by first appearance that pass a test are those that pass, by first appearance
   pub first_seen_filtered : (test : K → Bool) (keys : List K) → filter test (first_seen cmp keys) ≡ first_seen cmp (filter test keys)
   first_seen_filtered test keys =
       ap (filter test) (seen_newly o [] keys) ∙ sym (newly_filtered test [] keys) ∙ sym (seen_newly o [] (filter test keys))
@@ -160,6 +163,7 @@ module _ {K : Type 0} {cmp : K → K → Ordering} (o : IsKeyOrder cmp) where
     abbrev new_in : List K → List K
     new_in middle = newly_seen cmp a middle
 
+    -- the keys before the block, those that it brings, and those behind it
     parts : (middle : List K) → first_seen cmp (before ++ (middle ++ rest)) ≡ a ++ (new_in middle ++ newly_seen cmp (a ++ new_in middle) rest)
     parts middle = seen_newly o [] (before ++ (middle ++ rest)) ∙ newly_append o [] before (middle ++ rest)
         ∙ ap (λ l. a ++ l) (newly_append o a middle rest)
@@ -167,6 +171,7 @@ module _ {K : Type 0} {cmp : K → K → Ordering} (o : IsKeyOrder cmp) where
     both : AreAlike cmp (new_in block) (new_in block_too)
     both = newly_both o a block block_too alike
 
+    -- the block brings the same new keys in both orders, and all of them are wanted
     permuted : IsPermutation (new_in block) (new_in block_too)
     permuted = apart-permutation_of o (new_in block) (new_in block_too) (newly_apart o before block) (newly_apart o before block_too)
         (λ k. (both k).0) (λ k. (both k).1)
@@ -328,6 +333,7 @@ module _ {K : Type 0} {cmp : K → K → Ordering} (o : IsKeyOrder cmp) where
           ∙ ap (λ s. newly_seen cmp s (flat_map keys_at rest)) (append-nil seen)
           ∙ later seen (more seen (λ k h. h) (λ f. (let both : false ≡ true = sym e ∙ f in cc)))
 
+  -- a test of joined lists is a test of each
   filter_flat_map : {X : Type 0} (test : K → Bool) (f : X → List K) (xs : List X)
       → filter test (flat_map f xs) ≡ flat_map (λ x. filter test (f x)) xs
   filter_flat_map test f [] = refl

@@ -111,6 +111,7 @@ module _ {K : Type 0} {cmp : K → K → Ordering} (o : IsKeyOrder cmp) (wanted_
   also_known xs ys e k is_wanted h =
       (in_filtered o is_wanted_key xs k (subst (λ ks. Known cmp ks k) (sym e) (to_filtered o is_wanted_key ys k h is_wanted))).0
 
+  -- They compare alike.
   pub places_numbered : AreNumberedAlike cmp wanted_keys all small number number_too small_number small_number_too
   places_numbered = record {
     wanted_alike = λ j k e f h l.
@@ -135,11 +136,13 @@ grouped_of {X} {K} keys_of xs = flat_map-map (λ (g : List K). g) keys_of xs
 
 module _ (county : County) (shapes : OrderOfShapes) (known : LeavesChoices county shapes) (is : IsCounty county)
     (within : IsWithinLimits most_records county) where
+  -- the chains of a choice
   abbrev pub chosen : ℕ → List DirectedChain
   chosen n = chosen_chains county shapes known is within n
 
   module _ {K : Type 0} {cmp : K → K → Ordering} (o : IsKeyOrder cmp) (keys : Chain → List K)
       (turned_keys : (chain : Chain) → AreAlike cmp (keys (turned chain)) (keys chain)) where
+    -- the keys of a directed chain
     abbrev keys_of : DirectedChain → List K
     keys_of directed = flat_map keys (option_to_list (directed_chain county directed))
 
@@ -150,6 +153,7 @@ module _ (county : County) (shapes : OrderOfShapes) (known : LeavesChoices count
     abbrev pub kept_of : ℕ → List K
     kept_of n = first_seen cmp (grouped (at_places (keys_along keys county (chosen n)) (kept_places county shapes)))
 
+    -- the keys along the order of shapes
     abbrev along : List (List K)
     along = keys_along keys county shapes.by_shape
 
@@ -219,11 +223,13 @@ module _ (county : County) (shapes : OrderOfShapes) (known : LeavesChoices count
       abbrev pub wanted : K → Bool
       wanted k = stands_in cmp k wanted_keys
 
+      -- a place that has an element is below the length
       below : {X : Type 0} (xs : List X) (i : ℕ) (x : X) → slice_get xs i ≡ Some x → i < length xs
       below [] i x e = cc
       below (y ∷ ys) zero x e = omega arith
       below (y ∷ ys) (suc i) x e = let l = below ys i x e in omega (arith, l)
 
+      -- all keys at open places are wanted
       all_met : (keep : ℕ → Bool) (open_kept : (place : ℕ) → is_open shapes.places place ≡ true → keep place ≡ true)
           → AreMet o keys_of (is_open shapes.places) keep open_kept wanted [] 0 shapes.by_shape
       all_met keep open_kept = wanted_met o keys_of (is_open shapes.places) keep open_kept wanted [] 0 shapes.by_shape
@@ -243,6 +249,7 @@ module _ (county : County) (shapes : OrderOfShapes) (known : LeavesChoices count
       open_kept : (place : ℕ) → is_open shapes.places place ≡ true → is_kept county shapes place ≡ true
       open_kept place e = or_left (is_open shapes.places place) _ e
 
+      -- the keys at kept places, read from the chains
       kept_read : (i : ℕ) → kept_keys (is_kept county shapes) keys_of 0 (chosen i)
           ≡ grouped (at_places (keys_along keys county (chosen i)) (kept_places county shapes))
       kept_read i =
@@ -286,6 +293,7 @@ module _ (county : County) (shapes : OrderOfShapes) (known : LeavesChoices count
 
       -- If each place that brings one of them is kept, the wanted keys are the same along both.
       module _ (bringing_kept : (place : ℕ) → brings cmp shapes.places wanted_keys along place ≡ true → is_kept county shapes place ≡ true) where
+        -- a place that is left out is fixed, and brings nothing
         left_out : (place : ℕ) → is_kept county shapes place ≡ false
             → (is_open shapes.places place ≡ false) × (brings cmp shapes.places wanted_keys along place ≡ false)
         left_out place out = (closed (is_open shapes.places place) refl, nothing (brings cmp shapes.places wanted_keys along place) refl)
@@ -338,6 +346,7 @@ module _ (county : County) (shapes : OrderOfShapes) (known : LeavesChoices count
             (in_small : (n : ℕ) (k : K) → Known cmp keys_small k → Known cmp (kept_of n) k)
             (number_is : (n : ℕ) (k : K) → Known cmp (all_of n) k → number n k ≡ 1 + place_in cmp (all_of n) k)
             (small_number_is : (n : ℕ) (k : K) → Known cmp (kept_of n) k → small_number n k ≡ 1 + place_in cmp (kept_of n) k) where
+          -- those of two choices
           pub numbered_alike : (n m : ℕ) → AreNumberedAlike cmp wanted_keys keys_all keys_small (number n) (number m) (small_number n) (small_number m)
           numbered_alike n m = places_numbered o wanted_keys (all_of n) (all_of m) (kept_of n) (kept_of m)
               (every_key wanted (all_of n) (all_of m) (all_hidden n m)) (every_key wanted (kept_of n) (kept_of m) (kept_hidden n m))

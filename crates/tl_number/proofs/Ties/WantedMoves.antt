@@ -109,6 +109,7 @@ module _ {X K : Type 0} {cmp : K → K → Ordering} (o : IsKeyOrder cmp) (keys_
     grown false e k (inr h) = inl (known-right o k met (cond (keep place) (keys_of x) [])
         (subst (λ b. Known cmp (cond b (keys_of x) []) k) (sym (every place)) (newly_known o seen (keys_of x) k h)))
 
+  -- the keys met when a list is passed
   abbrev met_after : List K → ℕ → List X → List K
   met_after met place [] = met
   met_after met place (x ∷ xs) = met_after (met_at met place x) (place + 1) xs
@@ -120,6 +121,7 @@ module _ {X K : Type 0} {cmp : K → K → Ordering} (o : IsKeyOrder cmp) (keys_
       ap (λ l. cond (keep place) (keys_of x) [] ++ l) (kept_append (place + 1) end xs ys (omega (arith, e)))
       ∙ sym (append_assoc (cond (keep place) (keys_of x) []) (kept (place + 1) xs) (kept end ys))
 
+  -- what is met in each part
   met_apart : (met : List K) (place end : ℕ) (xs ys : List X) → end ≡ place + length xs → AreMet met place (xs ++ ys)
       → AreMet met place xs × AreMet (met_after met place xs) end ys
   met_apart met place end [] ys e h = (tt, subst (λ p. AreMet met p ys) (let t : place ≡ end = omega (arith, e) in t) h)
@@ -156,12 +158,14 @@ module _ {X K : Type 0} {cmp : K → K → Ordering} (o : IsKeyOrder cmp) (keys_
   abbrev AreOpen : ℕ → ℕ → Type 0
   AreOpen place count = (i : ℕ) → i < count → is_open (place + i) ≡ true
 
+  -- its first place and its later ones
   first_open : (place count : ℕ) → AreOpen place (suc count) → is_open place ≡ true
   first_open place count opened = ap is_open (let t : place ≡ place + 0 = omega arith in t) ∙ opened 0 (omega arith)
 
   later_open : (place count : ℕ) → AreOpen place (suc count) → AreOpen (place + 1) count
   later_open place count opened i l = ap is_open (let t : place + 1 + i ≡ place + suc i = omega arith in t) ∙ opened (suc i) (omega (arith, l))
 
+  -- all its keys are kept, and none is met
   block_kept : (place : ℕ) (xs : List X) → AreOpen place (length xs) → kept place xs ≡ flat_map keys_of xs
   block_kept place [] opened = refl
   block_kept place (x ∷ xs) opened =
@@ -194,6 +198,7 @@ module _ {X K : Type 0} {cmp : K → K → Ordering} (o : IsKeyOrder cmp) (keys_
   -- Both lists have the same keys, which by first appearance differ in wanted keys alone, also those that pass a test.
   pub record AreMoved (xs ys : List X) : Type 0 where
     pub met : AreMet [] 0 ys
+    -- it has the same keys in both orders
     pub members : AreAlike cmp (kept 0 xs) (kept 0 ys)
     pub hidden : (test : K → Bool)
         → masked_by wanted (filter test (first_seen cmp (kept 0 xs))) ≡ masked_by wanted (filter test (first_seen cmp (kept 0 ys)))
@@ -222,6 +227,7 @@ module _ {X K : Type 0} {cmp : K → K → Ordering} (o : IsKeyOrder cmp) (keys_
     inner : AreMet met start (x ∷ passed) × AreMet (met_after met start (x ∷ passed)) end rest
     inner = met_apart met start end (x ∷ passed) rest refl split.1
 
+    -- the keys of its elements were met before it or are wanted, in each order
     each_met : AllByRecursion (IsMet met) (x ∷ passed)
     each_met = block_met met start (x ∷ passed) opened inner.0
 
@@ -235,6 +241,7 @@ module _ {X K : Type 0} {cmp : K → K → Ordering} (o : IsKeyOrder cmp) (keys_
         (subst (λ l. AreMet l end rest)
         (block_after met start (x ∷ passed) opened ∙ sym (block_after met start (passed ++ (t ∷ [])) opened_too)) inner.1))
 
+    -- the keys before it, its own and those behind it
     parts : (middle : List X) → AreOpen start (length middle) → length middle ≡ suc (length passed)
         → kept 0 (before ++ (middle ++ rest)) ≡ kept 0 before ++ (flat_map keys_of middle ++ kept end rest)
     parts middle all long = kept_append 0 start before (middle ++ rest) (omega arith)
@@ -294,6 +301,7 @@ module _ {X K : Type 0} {cmp : K → K → Ordering} (o : IsKeyOrder cmp) (keys_
 
   -- One move, and all moves.
   module _ (turn : X → X) (turned : (x : X) → AreAlike cmp (keys_of (turn x)) (keys_of x)) where
+    -- a turned element has the same keys
     turned_by_alike : (digit : ℕ) (x : X) → AreAlike cmp (keys_of (turned_by turn digit x)) (keys_of x)
     turned_by_alike zero x = alike_itself o (keys_of x)
     turned_by_alike (suc digit) x = turned x

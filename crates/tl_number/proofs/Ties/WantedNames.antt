@@ -35,18 +35,22 @@ use Rattle.tl_number.proofs.Ties.WantedKeys.{places_numbered, same_wanted_keys, 
 -- The names of a county in a choice.
 module _ (county : County) (shapes : OrderOfShapes) (known : LeavesChoices county shapes) (is : IsCounty county)
     (within : IsWithinLimits most_records county) where
+  -- the chains of a choice
   abbrev arranged_in : ℕ → List DirectedChain
   arranged_in n = chosen county shapes known is within n
 
+  -- the FEATs of all names in their order, and those of chains by first appearance
   abbrev names_of : ℕ → List ℕ
   names_of n = feats_in_order county (arranged_in n)
 
   abbrev seen_in : ℕ → List ℕ
   seen_in n = all_of county shapes known is within nat_keys chain_feats turned_feats n
 
+  -- read along the chains
   seen_is : (n : ℕ) → seen_in n ≡ first_seen nat_cmp (feats_along_arrangement county (arranged_in n))
   seen_is n = ap (first_seen nat_cmp) (feats_grouped county (arranged_in n))
 
+  -- each name stands once
   once : (n : ℕ) → IsApart nat_cmp (names_of n)
   once n = each_once county shapes known is within (arranged_in n) (whole_numbered county shapes known is within n)
 
@@ -99,9 +103,11 @@ module _ (county : County) (shapes : OrderOfShapes) (known : LeavesChoices count
     → chains small (chosen_chains small order small_known small_is small_within n) small_is (whole_numbered small order small_known small_is small_within n)
     ≡ at_places (chains county (chosen county shapes known is within n) is (whole_numbered county shapes known is within n)) (kept_places county shapes))
     (same_content : (k : ℕ) → Known nat_cmp (feats small) k → name_under small k ≡ name_under county k) where
+  -- the names that are wanted
   abbrev wanted : ℕ → Bool
   wanted k = stands_in nat_cmp k (wanted_feats county shapes)
 
+  -- the names of a choice in both counties, and those of chains by first appearance
   abbrev names_in : ℕ → List ℕ
   names_in = names_of county shapes known is within
 
@@ -114,10 +120,12 @@ module _ (county : County) (shapes : OrderOfShapes) (known : LeavesChoices count
   abbrev seen_in_small : ℕ → List ℕ
   seen_in_small = seen_in small order small_known small_is small_within
 
+  -- a place that brings a wanted name is kept
   bringing_name : (place : ℕ) → brings nat_cmp shapes.places (wanted_feats county shapes) (keys_along chain_feats county shapes.by_shape) place ≡ true
       → is_kept county shapes place ≡ true
   bringing_name place e = or_right (is_open shapes.places place) _ (or_right _ _ (or_right _ _ e))
 
+  -- the small county has the names at kept places
   small_seen : (n : ℕ) → seen_in_small n ≡ kept_of county shapes known is within nat_keys chain_feats turned_feats n
   small_seen = small_keys county shapes known is within nat_keys chain_feats turned_feats small order small_known small_is small_within small_chains
 
@@ -126,6 +134,7 @@ module _ (county : County) (shapes : OrderOfShapes) (known : LeavesChoices count
   same_seen n = same_wanted_keys county shapes known is within nat_keys chain_feats turned_feats (wanted_feats county shapes) (λ k h. h) bringing_name n
       ∙ ap (filter wanted) (sym (small_seen n))
 
+  -- each wanted name is one of a chain, in both counties
   wanted_seen : (n k : ℕ) → wanted k ≡ true → Known nat_cmp (seen n) k
   wanted_seen n k e = opened_all county shapes known is within nat_keys chain_feats turned_feats (wanted_feats county shapes) (λ j h. h) n k
       (ltb-true 0 (times nat_cmp k (wanted_feats county shapes)) e)
@@ -153,15 +162,18 @@ module _ (county : County) (shapes : OrderOfShapes) (known : LeavesChoices count
 
   -- Wanted names compare alike in both counties.
   module _ (n j k : ℕ) (is_wanted : wanted j ≡ true) (is_wanted_too : wanted k ≡ true) where
+    -- they have the same content,
     content : (i : ℕ) → wanted i ≡ true → name_under small i ≡ name_under county i
     content i e = same_content i (there_name small order small_known small_is small_within n i
         (seen_named small order small_known small_is small_within n i (wanted_in_small n i e)))
 
+    -- ranks compare as the places of wanted names
     ranked : (ks : List ℕ) → Known nat_cmp ks j → Known nat_cmp ks k → nat_cmp (rank_of ks (Some j)) (rank_of ks (Some k))
         ≡ nat_cmp (place_in nat_cmp (filter wanted ks) j) (place_in nat_cmp (filter wanted ks) k)
     ranked ks h l = ap₂ nat_cmp (ranked_there ks j h) (ranked_there ks k l) ∙ next_cmp (place_in nat_cmp ks j) (place_in nat_cmp ks k)
         ∙ places_alike nat_keys wanted ks ks refl j k is_wanted is_wanted_too
 
+    -- and are in the same order of first appearance
     ranks : nat_cmp (rank_of (seen_in_small n) (Some j)) (rank_of (seen_in_small n) (Some k))
         ≡ nat_cmp (rank_of (seen n) (Some j)) (rank_of (seen n) (Some k))
     ranks = ranked (seen_in_small n) (wanted_in_small n j is_wanted) (wanted_in_small n k is_wanted_too)
@@ -206,6 +218,7 @@ module _ (county : County) (shapes : OrderOfShapes) (known : LeavesChoices count
 
 -- The names that a part of a county keeps have their contents.
 module _ {V : Type 0} (test : ℕ → Bool) where
+  -- the FEATs of names that pass a test are those FEATs that pass
   feats_filtered : (entries : List (ℕ × V)) → map (λ (e : ℕ × V). e.0) (filter (λ e. test e.0) entries) ≡ filter test (map (λ (e : ℕ × V). e.0) entries)
   feats_filtered [] = refl
   feats_filtered (e ∷ entries) = go (test e.0) (feats_filtered entries)
@@ -216,6 +229,7 @@ module _ {V : Type 0} (test : ℕ → Bool) where
       go true rest = ap (λ l. e.0 ∷ l) rest
       go false rest = rest
 
+  -- a FEAT that passes has the same content among them
   value_filtered : (entries : List (ℕ × V)) (k : ℕ) → test k ≡ true
       → value_under nat_cmp k (filter (λ e. test e.0) entries) ≡ value_under nat_cmp k entries
   value_filtered [] k passes = refl
@@ -230,6 +244,7 @@ module _ {V : Type 0} (test : ℕ → Bool) where
       go (inl same) false f later = let both : false ≡ true = sym f ∙ ap test (sym same) ∙ passes in cc
       go (inr differ) false f later = later ∙ sym (ap (λ b. cond b (Some e.1) (value_under nat_cmp k entries)) differ)
 
+-- so a name of a part of a county has its content of the county
 pub part_contents : (county : County) (keeps : ℕ × Chain → Bool) (with_landmarks : Bool) (k : ℕ)
     → Known nat_cmp (feats (part_of county keeps with_landmarks)) k → name_under (part_of county keeps with_landmarks) k ≡ name_under county k
 unfolding part_of

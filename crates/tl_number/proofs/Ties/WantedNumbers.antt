@@ -25,6 +25,7 @@ use Rattle.tl_number.proofs.Ties.WantedKeys.{small_keys, unopened_stays}
 -- the nodes and polygons of a county's chains appear in each choice
 module _ (county : County) (shapes : OrderOfShapes) (known : LeavesChoices county shapes) (is : IsCounty county)
     (within : IsWithinLimits most_records county) (n : ℕ) where
+  -- the arrangement of a choice
   abbrev order_of : Arrangement
   order_of = arrangement_of county (chosen county shapes known is within n)
 
@@ -53,12 +54,14 @@ module _ (county : County) (shapes : OrderOfShapes) (known : LeavesChoices count
     → chains small (chosen_chains small order small_known small_is small_within n) small_is (whole_numbered small order small_known small_is small_within n)
     ≡ at_places (chains county (chosen county shapes known is within n) is (whole_numbered county shapes known is within n)) (kept_places county shapes))
   where
+    -- the new numbers in a choice, in the county and in the small county
     abbrev new_in : ℕ → Renumbering
     new_in n = new_of county shapes known is within n
 
     abbrev new_in_small : ℕ → Renumbering
     new_in_small n = new_of small order small_known small_is small_within n
 
+    -- a place that brings a wanted node or polygon is kept
     bringing_node : (place : ℕ) → brings nat_cmp shapes.places (wanted_nodes county shapes) (keys_along chain_nodes county shapes.by_shape) place ≡ true
         → is_kept county shapes place ≡ true
     bringing_node place e = or_right (is_open shapes.places place) _
@@ -71,9 +74,11 @@ module _ (county : County) (shapes : OrderOfShapes) (known : LeavesChoices count
         (or_right (brings nat_cmp shapes.places (wanted_nodes county shapes) (keys_along chain_nodes county shapes.by_shape) place) _
         (or_left (brings key_cmp shapes.places (wanted_polygons county shapes) (keys_along chain_polygons county shapes.by_shape) place) _ e))
 
+    -- polygons at open places are wanted
     opened_polygon : (k : PolygonKey) → Known key_cmp (keys_at_open chain_polygons county shapes) k → Known key_cmp (wanted_polygons county shapes) k
     opened_polygon k h = known-left key_keys k (keys_at_open chain_polygons county shapes) (cond (is_linked county shapes) (map link_key county.links) []) h
 
+    -- the small county has the nodes and polygons at kept places
     small_nodes : (n : ℕ) → all_of small order small_known small_is small_within nat_keys chain_nodes turned_nodes n
         ≡ kept_of county shapes known is within nat_keys chain_nodes turned_nodes n
     small_nodes = small_keys county shapes known is within nat_keys chain_nodes turned_nodes small order small_known small_is small_within small_chains
