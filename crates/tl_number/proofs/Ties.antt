@@ -41,3 +41,6 @@ pub mod SmallChains
 pub mod SmallRecords
 pub mod SmallChoices
 pub mod SmallCounty
+pub mod SmallKeys
+pub mod SmallTopologies
+pub mod SmallNames

@@ -121,6 +121,15 @@ all_are_there {C} cs test count e =
     found (d ∷ ds) zero l = (d, refl)
     found (d ∷ ds) (suc q) l = found ds q (omega (arith, l))
 
+-- the chain at a place among the kept ones is that at the place
+pub chain_at_rank : {C : Type 0} (cs : List C) (places : List ℕ) → AllByRecursion (IsThere cs) places → (rank place : ℕ)
+    → slice_get places rank ≡ Some place → slice_get (at_places cs places) rank ≡ slice_get cs place
+chain_at_rank cs [] all rank place e = cc
+chain_at_rank cs (p ∷ ps) all zero place e =
+    ap (λ o. slice_get (cons_option o (at_places cs ps)) 0) all.0.1 ∙ sym all.0.1 ∙ ap (slice_get cs) (some_same p place e)
+chain_at_rank cs (p ∷ ps) all (suc rank) place e =
+    ap (λ o. slice_get (cons_option o (at_places cs ps)) (suc rank)) all.0.1 ∙ chain_at_rank cs ps all.1 rank place e
+
 module _ {C Y : Type 0} (pieces : C → List Y) (cs : List C) where
   parts_of : ℕ → ℕ → C → List (Kept C Y)
   parts_of place rank c = map (λ e. record { place = place; rank = rank; chain = c; part = e.0; piece = e.1 }) (numbered_from 1 (pieces c))
