@@ -4,16 +4,17 @@ use Rattle.tl_number.proofs.Common.{length, Ordering, Less, Option, Some, None, 
 use Rattle.tl_number.proofs.Common.{AllKeysStandIn, AllStandIn, Body5, Body7, BodyP, Chain, County, IsCounty, IsKeyOrder, IsWithinLimits}
 use Rattle.tl_number.proofs.Common.{PolygonKey, all_known, all_map, all_unmap, all_weaker, cons_option, feats, key_cmp, key_keys, known_all}
 use Rattle.tl_number.proofs.Common.{length-append, length-map, link_key, lt-ltb, ltb-true, nat_keys, packed, packed_fours, packed_i, packed_p}
-use Rattle.tl_number.proofs.Common.{packed_sevens, packed_sixes, packed_twos, polygon_keys, polygons_along, stands_in, times}
+use Rattle.tl_number.proofs.Common.{packed_sevens, packed_sixes, packed_twos, polygon_keys, polygons_along, stands_in, times, Fields8, IfSome}
+use Rattle.tl_number.proofs.Common.{IsInOrder, IsNumber, all_both, on}
 use Rattle.std.specs.Prelude.{IsTrue}
 use Rattle.std.specs.List.Sorted.{IsStrictlySortedBy}
 use Rattle.ordered_lists.proofs.ByKey.Keys.{stands_in-filter}
 use Rattle.ordered_lists.proofs.Lists.Elements.{all_filter, all_joined, all_pieces}
 use Rattle.county_chart.specs.BodyOrder.{landmark_body_cmp, link_cmp}
 use Rattle.county_chart.specs.CountyRules.{IsAscending, IsClosed, IsWhole, chain_polygons}
-use Rattle.county_chart.specs.Limits.{ContentsFit, FitsChain, FitsLandmark, FitsLink, FitsNameBody, FitsNumbers, FitsPolygon, ListsFit, NumbersFit}
+use Rattle.county_chart.specs.Limits.{ContentsFit, FitsChain, FitsLandmark, FitsLink, FitsNameBody, FitsNumbers, FitsPolygon, ListsFit}
+use Rattle.county_chart.specs.Limits.{NumbersFit}
 use Rattle.tl_number.specs.CountyParts.{feats_along, part_of}
-use Rattle.tl_number.proofs.Common.{Fields8, IfSome, IsInOrder, IsNumber, all_both, on}
 use Rattle.canonical_form.proofs.Common.{IsText, length-in_order, packed_by_type, packed_five, packed_one}
 use Rattle.county_chart.specs.Laws.PackedTypes.{by_type_of}
 use Rattle.county_chart.specs.Laws.TypeCounts.{HasAtMost, by_type_within, packed_within}
@@ -21,7 +22,7 @@ use Rattle.county_chart.specs.Packing.{p_polyid}
 use Rattle.std.proofs.lemmas.Bool.{or_right}
 
 -- the elements that pass a test
-all_pass : {X : Type 0} (test : X → Bool) (xs : List X) → AllByRecursion (λ x. test x ≡ true) (filter test xs)
+pub all_pass : {X : Type 0} (test : X → Bool) (xs : List X) → AllByRecursion (λ x. test x ≡ true) (filter test xs)
 all_pass test [] = tt
 all_pass {X} test (x ∷ xs) = go (test x) refl (all_pass test xs)
   where

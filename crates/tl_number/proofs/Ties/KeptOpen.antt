@@ -1,6 +1,6 @@
 -- A list that is in order and keeps its elements at open places keeps all that a choice moves or turns.
-use Rattle.ordered_lists.proofs.Common.{◌≡◌, ◌⊎◌, ◌<◌, ◌≤◌, ◌+◌, ◌∙◌, ◌==◌, ◌&&◌, ℕ, zero, suc, List, [], ◌∷◌, Bool, true, false, cond, map, length}
-use Rattle.ordered_lists.proofs.Common.{take, Ordering, is_eq, is_gt, sym, refl, ap, subst, inl, inr, arith, AllByRecursion, IsInOrder}
+use Rattle.ordered_lists.proofs.Common.{◌≡◌, ◌⊎◌, ◌<◌, ◌≤◌, ◌+◌, ◌∙◌, ◌==◌, ◌&&◌, ℕ, zero, suc, List, [], ◌∷◌, Bool, true, false, cond, map}
+use Rattle.ordered_lists.proofs.Common.{length, take, Ordering, is_eq, is_gt, sym, refl, ap, subst, inl, inr, arith, AllByRecursion, IsInOrder}
 use Rattle.ordered_lists.proofs.Common.{times, false≢true, on, lt-ltb}
 use Rattle.std.proofs.Common.{not, nat_le, nat_lt, ◌||◌}
 use Rattle.std.specs.List.{range_with_len}

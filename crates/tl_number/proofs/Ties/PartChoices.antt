@@ -1,7 +1,7 @@
 -- The choices of a part of a list that keeps each element that a choice moves or turns.
-use Rattle.ordered_lists.proofs.Common.{◌≡◌, ◌⊎◌, ◌≤◌, ◌∙◌, ℕ, zero, suc, List, [], ◌∷◌, Bool, true, false, cond, map, filter}
-use Rattle.ordered_lists.proofs.Common.{take, Ordering, is_eq, is_gt, sym, refl, ap, subst, inl, inr, arith, AllByRecursion, IsInOrder, IsTotalOrder}
-use Rattle.ordered_lists.proofs.Common.{times, in_order, put_in_order, upto, false≢true}
+use Rattle.ordered_lists.proofs.Common.{◌≡◌, ◌⊎◌, ◌≤◌, ◌∙◌, ℕ, zero, suc, List, [], ◌∷◌, Bool, true, false, cond, map, filter, take, Ordering}
+use Rattle.ordered_lists.proofs.Common.{is_eq, is_gt, sym, refl, ap, subst, inl, inr, arith, AllByRecursion, IsInOrder, IsTotalOrder, times}
+use Rattle.ordered_lists.proofs.Common.{in_order, put_in_order, upto, false≢true}
 use Rattle.std.specs.Prelude.{◌*◌, ◌/◌, ◌%◌, ⊤}
 use Rattle.std.specs.List.{insert}
 use Rattle.ordered_lists.proofs.ByKey.Keys.{IsKeyOrder, same-itself, same_or_not, times-no, times-yes}

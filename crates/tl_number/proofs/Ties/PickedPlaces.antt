@@ -1,11 +1,11 @@
 -- Elements of a list picked by marks: those that pass a test, and those at places that pass one.
 use Rattle.ordered_lists.proofs.Common.{◌≡◌, ◌⊎◌, ◌≤◌, ◌+◌, ◌∙◌, ℕ, zero, suc, List, [], ◌∷◌, Bool, true, false, cond, map, filter, length}
-use Rattle.ordered_lists.proofs.Common.{Ordering, is_eq, sym, refl, ap, inl, inr, arith, cons_option, slice_get, times, stands_in}
-use Rattle.ordered_lists.proofs.Common.{nat_lt, lt-ltb}
-use Rattle.ordered_lists.proofs.Common.{◌++◌, AllByRecursion, flat_map}
+use Rattle.ordered_lists.proofs.Common.{Ordering, is_eq, sym, refl, ap, inl, inr, arith, cons_option, slice_get, times, stands_in, nat_lt}
+use Rattle.ordered_lists.proofs.Common.{lt-ltb, ◌++◌, AllByRecursion, flat_map}
 use Rattle.std.specs.List.{range_with_len}
 use Rattle.ordered_lists.specs.Places.{at_places}
-use Rattle.ordered_lists.proofs.ByKey.Keys.{IsApart, IsKeyOrder, Known, apart_tail, known-here, map_agree, same_or_not, times-cons, times-no, times-yes}
+use Rattle.ordered_lists.proofs.ByKey.Keys.{IsApart, IsKeyOrder, Known, apart_tail, known-here, map_agree, same_or_not, times-cons, times-no}
+use Rattle.ordered_lists.proofs.ByKey.Keys.{times-yes}
 
 -- the elements at the places of marks
 abbrev pub picked : {X : Type 0} → List Bool → List X → List X

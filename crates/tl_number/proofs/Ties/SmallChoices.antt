@@ -1,9 +1,8 @@
 -- The choices of a county with some of another county's chains, those at open places among them, are these parts of the other's choices.
-use Rattle.tl_number.proofs.Common.{◌≡◌, ◌∙◌, ◌==◌, ℕ, List, [], ◌∷◌, Bool, true, false, cond, map, filter, flat_map}
-use Rattle.tl_number.proofs.Common.{refl, sym, ap, subst, nat_cmp, AllByRecursion, Chain}
-use Rattle.tl_number.proofs.Common.{County, IsApart, IsCounty, IsInOrder, IsPermutation, ascending, choices, entry_shape, false≢true}
-use Rattle.tl_number.proofs.Common.{in_order, in_order-map, is_either_way, map-map, map_agree_all, nat_keys, numbered_choice, on, on_total}
-use Rattle.tl_number.proofs.Common.{points_cmp, tlids, apart-permutation, apart_from_sorted, IsPermutation-map}
+use Rattle.tl_number.proofs.Common.{◌≡◌, ◌∙◌, ◌==◌, ℕ, List, [], ◌∷◌, Bool, true, false, cond, map, filter, flat_map, refl, sym, ap, subst}
+use Rattle.tl_number.proofs.Common.{nat_cmp, AllByRecursion, Chain, County, IsApart, IsCounty, IsInOrder, IsPermutation, ascending, choices}
+use Rattle.tl_number.proofs.Common.{entry_shape, false≢true, in_order, in_order-map, is_either_way, map-map, map_agree_all, nat_keys}
+use Rattle.tl_number.proofs.Common.{numbered_choice, on, on_total, points_cmp, tlids, apart-permutation, apart_from_sorted, IsPermutation-map}
 use Rattle.std.proofs.lemmas.Bool.{eqb-true}
 use Rattle.ordered_lists.proofs.Lists.InOrder.{in_order-in_order, in_order-unmap}
 use Rattle.ordered_lists.proofs.Lists.Reordered.{from_permutation}
@@ -16,21 +15,13 @@ use Rattle.canonical_form.specs.NumberedChoices.{chosen}
 use Rattle.canonical_form.specs.Tidy.{directed_shape, turned_directed}
 use Rattle.canonical_form.proofs.Choices.TidyChoices.{shapes_ascending, stated_here}
 use Rattle.canonical_form.proofs.Lists.Filtered.{filter-mapped}
+use Rattle.tl_number.proofs.Ties.CountyParts.{all_pass}
 use Rattle.tl_number.proofs.Ties.PartChoices.{KeepsOpen, chosen_part, chosen_same, filter_ordered, running_part}
 
--- the elements that pass a test, each with the test's answer
-all_passed : {X : Type 0} (test : X → Bool) (xs : List X) → AllByRecursion (λ x. test x ≡ true) (filter test xs)
-all_passed test [] = tt
-all_passed {X} test (x ∷ xs) = go (test x) refl (all_passed test xs)
-  where
-    go : (b : Bool) → test x ≡ b → AllByRecursion (λ y. test y ≡ true) (filter test xs)
-        → AllByRecursion (λ y. test y ≡ true) (cond b (x ∷ filter test xs) (filter test xs))
-    go true e rest = (e, rest)
-    go false e rest = rest
-
+-- functions that agree on what passes a test
 map_passed : {X Y : Type 0} (f g : X → Y) (test : X → Bool) → ((x : X) → test x ≡ true → f x ≡ g x) → (xs : List X)
     → map f (filter test xs) ≡ map g (filter test xs)
-map_passed f g test h xs = map_agree_all f g (λ x. test x ≡ true) h (filter test xs) (all_passed test xs)
+map_passed f g test h xs = map_agree_all f g (λ x. test x ≡ true) h (filter test xs) (all_pass test xs)
 
 -- the ascending arrangement of a county: its order, its shapes and how many choices they leave
 module _ (county : County) where
@@ -106,7 +97,7 @@ module _ (county small : County) (keep : ℕ → Bool) (chains_are : small.chain
         ∙ ap (filter keeps_directed) (sym (stated_here county is n))
       where
         same_shapes : AllByRecursion (λ d. directed_shape small d ≡ directed_shape county d) (filter keeps_directed (ascending county))
-        same_shapes = same (filter keeps_directed (ascending county)) (all_passed keeps_directed (ascending county))
+        same_shapes = same (filter keeps_directed (ascending county)) (all_pass keeps_directed (ascending county))
           where
             same : (ds : List (ℕ × Bool)) → AllByRecursion (λ d. keeps_directed d ≡ true) ds
                 → AllByRecursion (λ d. directed_shape small d ≡ directed_shape county d) ds

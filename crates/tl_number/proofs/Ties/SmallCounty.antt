@@ -1,23 +1,19 @@
 -- The small county is a county within limits, and its choices are those of the county at the places whose chains are kept.
-use Rattle.tl_number.proofs.Common.{◌≡◌, ◌<◌, ◌≤◌, ◌∙◌, ◌⊎◌, ◌&&◌, ◌==◌, ◌++◌, ℕ, zero, suc, List, [], ◌∷◌, Bool, true, false, cond, map}
-use Rattle.tl_number.proofs.Common.{filter, flat_map, length, not, inl, inr, Option, Some, None, option_map, option_to_list, slice_get, unwrap_or}
-use Rattle.tl_number.proofs.Common.{Ordering, refl, sym, ap, ap₂, subst, arith, nat_cmp, AllByRecursion, AllKeysStandIn, AreWhole, Chain, County}
-use Rattle.tl_number.proofs.Common.{DirectedChain, Fields8, HasChainsOf, IsApart, IsCounty, IsKeyOrder, IsWithinLimits, Known}
-use Rattle.tl_number.proofs.Common.{OpenPlace, OrderOfShapes, PolygonKey, all_weaker, among_known, arrangement_of, ascending, choices}
-use Rattle.tl_number.proofs.Common.{directed_chain, each_from, group_at, is_either_way, is_open, key_cmp, key_keys, keys_along, known_all}
-use Rattle.tl_number.proofs.Common.{known_is_among, length-map, length-range_with_len, link_key, lt-ltb, ltb-true, map-map, most_records, nat_keys}
-use Rattle.tl_number.proofs.Common.{numbered_arrangement, numbered_choice, open_places, points_cmp, polygon_keys, polygons_along}
-use Rattle.tl_number.proofs.Common.{range_with_len, stands_in, times, tlids, turned_if, slice_get-map}
+use Rattle.tl_number.proofs.Common.{◌≡◌, ◌<◌, ◌≤◌, ◌∙◌, ◌⊎◌, ◌==◌, ◌++◌, ℕ, zero, suc, List, [], ◌∷◌, Bool, true, false, cond, map, filter}
+use Rattle.tl_number.proofs.Common.{flat_map, length, inl, inr, Option, Some, None, option_map, option_to_list, slice_get, unwrap_or}
+use Rattle.tl_number.proofs.Common.{refl, sym, ap, subst, arith, nat_cmp, AllByRecursion, AllKeysStandIn, AreWhole, Chain, County}
+use Rattle.tl_number.proofs.Common.{DirectedChain, Fields8, HasChainsOf, IsApart, IsCounty, IsWithinLimits, Known}
+use Rattle.tl_number.proofs.Common.{OrderOfShapes, PolygonKey, all_weaker, among_known, arrangement_of, ascending, choices, directed_chain}
+use Rattle.tl_number.proofs.Common.{each_from, group_at, is_either_way, is_open, key_cmp, key_keys, keys_along, known_all, known_is_among}
+use Rattle.tl_number.proofs.Common.{length-map, length-range_with_len, link_key, lt-ltb, ltb-true, map-map, most_records, nat_keys}
+use Rattle.tl_number.proofs.Common.{numbered_arrangement, numbered_choice, open_places, points_cmp, polygon_keys, polygons_along, range_with_len}
+use Rattle.tl_number.proofs.Common.{stands_in, times, tlids, turned_if, slice_get-map, append-nil, known-permutation, slice_get-get_or}
 use Rattle.std.specs.Prelude.{IsTrue, ◌+◌}
 use Rattle.std.proofs.lemmas.List.FromFn.{get_or-range_with_len}
-use Rattle.tl_number.proofs.Common.{append-nil, known-permutation, slice_get-get_or}
 use Rattle.std.proofs.lemmas.Bool.{eq-eqb, or_left, or_right}
-use Rattle.std.proofs.lemmas.List.Sorted.{IsPermutation-refl}
 use Rattle.ordered_lists.specs.Places.{at_places}
 use Rattle.ordered_lists.proofs.Lists.Among.{Among, all_among, among_left, among_right}
-use Rattle.ordered_lists.proofs.Lists.Elements.{all_filter}
-use Rattle.ordered_lists.proofs.Lists.Members.{among-map, among-pieces, among-unmap, among_any, to_filter_map}
-use Rattle.ordered_lists.proofs.Lists.Ranges.{places_below}
+use Rattle.ordered_lists.proofs.Lists.Members.{among-map, among-pieces, among-unmap, to_filter_map}
 use Rattle.ordered_lists.proofs.Lists.Reordered.{to_filter}
 use Rattle.county_chart.specs.CountyRules.{chain_nodes, chain_polygons}
 use Rattle.county_chart.specs.PolygonKeys.{key_on}
@@ -34,14 +30,16 @@ use Rattle.canonical_form.proofs.Choices.TidyChoices.{numbered_is_choice, shapes
 use Rattle.canonical_form.proofs.Views.DirectedChains.{among-get, one_here}
 use Rattle.canonical_form.proofs.Views.ViewChains.{chains}
 use Rattle.tl_number.specs.ChoiceSearch.{LeavesChoices}
-use Rattle.tl_number.specs.CriticalKeys.{brings, fixed_keys}
+use Rattle.tl_number.specs.CriticalKeys.{brings}
+use Rattle.tl_number.proofs.Ties.FixedKeys.{fixed_before}
 use Rattle.tl_number.specs.CountyParts.{part_of}
 use Rattle.tl_number.specs.SmallCounty.{is_kept, is_linked, kept_places, kept_tlids, keys_at_open, small_county, wanted_nodes, wanted_polygons}
 use Rattle.tl_number.proofs.Ties.CountyParts.{part_is, part_sides, part_within}
 use Rattle.tl_number.proofs.Ties.KeptOpen.{keeps_open}
 use Rattle.tl_number.proofs.Ties.PartChoices.{KeepsOpen}
 use Rattle.tl_number.proofs.Ties.PickedPlaces.{filter_picked, length_pieces, map-picked, marks_of_picked, picked, pieces_picked, places_picked}
-use Rattle.tl_number.proofs.Ties.SmallChoices.{ascending_apart, ascending_arranges, ascending_ordered, choice_flags, choice_part, choices_part, entries_part}
+use Rattle.tl_number.proofs.Ties.SmallChoices.{ascending_apart, ascending_arranges, ascending_ordered, choice_flags, choice_part, choices_part}
+use Rattle.tl_number.proofs.Ties.SmallChoices.{entries_part}
 
 -- an element of a list has a place
 among_place : {X : Type 0} (x : X) (xs : List X) → Among x xs → (i : ℕ) × (slice_get xs i ≡ Some x)
@@ -59,42 +57,6 @@ in_range : (n i : ℕ) → i < n → Among i (range_with_len 0 n)
 in_range n i l = among-get (range_with_len 0 n) i i
     (slice_get-get_or (range_with_len 0 n) i 0 (omega (arith, l, length-range_with_len 0 n))
     ∙ ap Some (get_or-range_with_len 0 n i 0 l ∙ (let same : 0 + i ≡ i = omega arith in same)))
-
--- Of the places with a wanted key, one is open, or brings it first.
-module _ {K : Type 0} {cmp : K → K → Ordering} (o : IsKeyOrder cmp) (places : List OpenPlace) (wanted : List K) (along : List (List K)) (k : K)
-    (is_wanted : stands_in cmp k wanted ≡ true) where
-  record IsBrought : Type 0 where
-    place : ℕ
-    new_there : (is_open places place ≡ true) ⊎ (brings cmp places wanted along place ≡ true)
-    there : Among k (group_at along place)
-
-  earlier : (p : ℕ) → Among k (fixed_keys places along p) → (q : ℕ) × (q < p) × Among k (group_at along q)
-  earlier p m =
-      let group = among-unpieces (λ (g : List K). g) k (map (group_at along) (filter (λ q. not (is_open places q)) (range_with_len 0 p))) m in
-      let at = among-unmap (group_at along) group.0 (filter (λ q. not (is_open places q)) (range_with_len 0 p)) group.1 in (
-        at.0,
-        all_among (λ q. q < p) at.0 (filter (λ q. not (is_open places q)) (range_with_len 0 p))
-            (all_filter (λ q. q < p) (λ q. not (is_open places q)) (range_with_len 0 p) (places_below p (range_with_len 0 p) (IsPermutation-refl (range_with_len 0 p)))) at.1,
-        subst (Among k) at.2 group.2,
-      )
-
-  first_brought : (bound p : ℕ) → p < bound → Among k (group_at along p) → IsBrought
-  first_brought zero p below m = absurd (omega (arith, below))
-  first_brought (suc bound) p below m = go (is_open places p) refl (stands_in cmp k (fixed_keys places along p)) refl
-      (λ q less there. first_brought bound q (omega (arith, less, below)) there)
-    where
-      go : (b : Bool) → is_open places p ≡ b → (c : Bool) → stands_in cmp k (fixed_keys places along p) ≡ c
-          → ((q : ℕ) → q < p → Among k (group_at along q) → IsBrought) → IsBrought
-      go true e c f ih = record { place = p; new_there = inl e; there = m }
-      go false e true f ih =
-          let before = earlier p (known_is_among o k (fixed_keys places along p) (ltb-true 0 (times cmp k (fixed_keys places along p)) f)) in
-          ih before.0 before.1 before.2
-      go false e false f ih = record {
-        place = p;
-        new_there = inr (among_any (λ key. stands_in cmp key wanted && not (stands_in cmp key (fixed_keys places along p))) k (group_at along p) m
-            (ap₂ (λ x y. x && not y) is_wanted f));
-        there = m;
-      }
 
 -- The chains of a county and of its directed chains.
 module _ (county : County) (is : IsCounty county) where
@@ -134,11 +96,11 @@ module _ (county : County) (is : IsCounty county) where
   abbrev sides_of : DirectedChain → List PolygonKey
   sides_of directed = flat_map chain_polygons (option_to_list (directed_chain county directed))
 
-  to_sides : (directed : DirectedChain) (entry : ℕ × Chain) → IsEntryOf directed entry → (k : PolygonKey) → Among k (chain_polygons entry.1)
-      → Among k (sides_of directed)
-  to_sides directed entry of_directed k m =
+  to_sides : (directed : DirectedChain) (entry : ℕ × Chain) → IsEntryOf directed entry → (k : PolygonKey) {keys : List PolygonKey}
+      → keys ≡ chain_polygons entry.1 → Among k keys → Among k (sides_of directed)
+  to_sides directed entry of_directed k same m =
       subst (λ c. Among k (flat_map chain_polygons (option_to_list c))) (sym of_directed.read)
-      (among_left k (chain_polygons (turned_if directed.turned entry.1)) [] (among-turned k directed.turned entry.1 m))
+      (among_left k (chain_polygons (turned_if directed.turned entry.1)) [] (among-turned k directed.turned entry.1 (subst (Among k) same m)))
 
   from_sides : (directed : DirectedChain) (entry : ℕ × Chain) → IsEntryOf directed entry → (k : PolygonKey) → Among k (sides_of directed)
       → Among k (chain_polygons entry.1)
@@ -214,14 +176,20 @@ module _ (county : County) (shapes : OrderOfShapes) (known : LeavesChoices count
       places_are = known.order.places known.few
           ∙ ap (open_places points_cmp is_either_way 0) (shapes_of_order county by_shape known.order.by_shape ∙ sym (shapes_ascending county is))
 
-  sides_there : (p : ℕ) (directed : DirectedChain) → slice_get by_shape p ≡ Some directed
-      → group_at (keys_along chain_polygons county by_shape) p ≡ sides_of county is directed
+  -- the polygons at each place
+  abbrev along : List (List PolygonKey)
+  along = keys_along chain_polygons county by_shape
+
+  sides_there : (p : ℕ) (directed : DirectedChain) → slice_get by_shape p ≡ Some directed → group_at along p ≡ sides_of county is directed
   sides_there p directed e = ap (λ (g : Option (List PolygonKey)). unwrap_or g [])
       (slice_get-map (sides_of county is) by_shape p ∙ ap (option_map (sides_of county is)) e)
 
+  to_place : (p : ℕ) (directed : DirectedChain) (k : PolygonKey) → slice_get by_shape p ≡ Some directed → Among k (sides_of county is directed)
+      → Among k (group_at along p)
+  to_place p directed k e m = subst (Among k) (sym (sides_there p directed e)) m
+
   -- A polygon on a side is on a side at some place,
-  seen_somewhere : (k : PolygonKey) → Known key_cmp (polygons_along county.chains) k
-      → (p : ℕ) × (p < length by_shape) × Among k (group_at (keys_along chain_polygons county by_shape) p)
+  seen_somewhere : (k : PolygonKey) → Known key_cmp (polygons_along county.chains) k → (p : ℕ) × Among k (group_at along p)
   seen_somewhere k h =
       let entry = among-unpieces (λ (e : ℕ × Chain). chain_polygons e.1) k county.chains (known_is_among key_keys k (polygons_along county.chains) h) in
       let tlid : Known nat_cmp (map (λ (d : ℕ × Bool). d.0) (ascending county)) entry.0.0 =
@@ -230,16 +198,32 @@ module _ (county : County) (shapes : OrderOfShapes) (known : LeavesChoices count
       let directed = among-unmap tlid_of entry.0.0 by_shape
       (known_is_among nat_keys entry.0.0 (map tlid_of by_shape) (subst (λ ts. Known nat_cmp ts entry.0.0) tlids_by_shape tlid)) in
       let at = among_place directed.0 by_shape directed.1 in
-      let own = entry_of county is directed.0 (all_among (λ d. d.place < length county.chains) directed.0 by_shape chains_there directed.1) in
-      let same = same_entry county is directed.0 own.0 entry.0 own.1 entry.1 directed.2 in (
+      let own = entry_of county is directed.0 (all_among (λ d. d.place < length county.chains) directed.0 by_shape chains_there directed.1) in (
         at.0,
-        place_within by_shape at.0 directed.0 at.1,
-        subst (Among k) (sym (sides_there at.0 directed.0 at.1))
-            (to_sides county is directed.0 own.0 own.1 k (subst (λ (e : ℕ × Chain). Among k (chain_polygons e.1)) same entry.2)),
+        to_place at.0 directed.0 k at.1 (to_sides county is directed.0 own.0 own.1 k
+            (ap (λ (e : ℕ × Chain). chain_polygons e.1) (same_entry county is directed.0 own.0 entry.0 own.1 entry.1 directed.2)) entry.2),
       )
 
+  -- a wanted one at a place that is kept too,
+  kept_somewhere : (k : PolygonKey) → stands_in key_cmp k (wanted_polygons county shapes) ≡ true → (p : ℕ) → Among k (group_at along p)
+      → (q : ℕ) × (is_kept county shapes q ≡ true) × Among k (group_at along q)
+  kept_somewhere k is_wanted p m =
+      go (is_open shapes.places p) refl (brings key_cmp shapes.places (wanted_polygons county shapes) along p) refl
+    where
+      bringing : (q : ℕ) → brings key_cmp shapes.places (wanted_polygons county shapes) along q ≡ true → is_kept county shapes q ≡ true
+      bringing q e = or_right (is_open shapes.places q) _
+          (or_right (brings nat_cmp shapes.places (wanted_nodes county shapes) (keys_along chain_nodes county by_shape) q) _ (or_left _ _ e))
+
+      go : (b : Bool) → is_open shapes.places p ≡ b → (c : Bool) → brings key_cmp shapes.places (wanted_polygons county shapes) along p ≡ c
+          → (q : ℕ) × (is_kept county shapes q ≡ true) × Among k (group_at along q)
+      go true e c f = (p, or_left (is_open shapes.places p) _ e, m)
+      go false e true f = (p, bringing p f, m)
+      go false e false f =
+          let found = fixed_before key_keys shapes.places along (wanted_polygons county shapes) p f k is_wanted (among_known key_keys k (group_at along p) m) in
+          (found.first, bringing found.first found.new_there, known_is_among key_keys k (group_at along found.first) found.here)
+
   -- and the polygons at a place that is kept are on chains that are kept.
-  kept_sides : (p : ℕ) (k : PolygonKey) → is_kept county shapes p ≡ true → Among k (group_at (keys_along chain_polygons county by_shape) p)
+  kept_sides : (p : ℕ) (k : PolygonKey) → is_kept county shapes p ≡ true → Among k (group_at along p)
       → Among k (polygons_along (filter (λ entry. keeps entry.0) county.chains))
   kept_sides p k e m = go (slice_get by_shape p) refl
     where
@@ -253,7 +237,7 @@ module _ (county : County) (shapes : OrderOfShapes) (known : LeavesChoices count
           let tlid : Among (tlid_of directed) (kept_tlids county shapes) = among-map tlid_of directed (at_places by_shape (kept_places county shapes))
           (to_filter_map (slice_get by_shape) p directed (kept_places county shapes) place f) in
           let kept : keeps own.0.0 ≡ true = lt-ltb 0 (times nat_cmp own.0.0 (kept_tlids county shapes))
-          (among_known nat_keys own.0.0 (kept_tlids county shapes) (subst (λ t. Among t (kept_tlids county shapes)) own.1.tlid tlid)) in
+          (among_known nat_keys own.0.0 (kept_tlids county shapes) (subst (λ t. Among t (kept_tlids county shapes)) {y = own.0.0} own.1.tlid tlid)) in
           among-pieces (λ (entry : ℕ × Chain). chain_polygons entry.1) own.0 k (filter (λ entry. keeps entry.0) county.chains)
           (to_filter (λ (entry : ℕ × Chain). keeps entry.0) own.0 county.chains (among-get county.chains directed.place own.0 own.1.there) kept)
           (from_sides county is directed own.0 own.1 k (subst (Among k) (sides_there p directed f) m))
@@ -264,33 +248,29 @@ module _ (county : County) (shapes : OrderOfShapes) (known : LeavesChoices count
   links_on_sides e = each_from (λ link. IsTrue (stands_in key_cmp (link_key link) (polygons_along (filter (λ entry. keeps entry.0) county.chains))))
       county.links each
     where
-      kept_place : (p : ℕ) → (is_open shapes.places p ≡ true)
-          ⊎ (brings key_cmp shapes.places (wanted_polygons county shapes) (keys_along chain_polygons county by_shape) p ≡ true)
-          → is_kept county shapes p ≡ true
-      kept_place p (inl e) = or_left (is_open shapes.places p) _ e
-      kept_place p (inr e) = or_right (is_open shapes.places p) _
-          (or_right (brings nat_cmp shapes.places (wanted_nodes county shapes) (keys_along chain_nodes county by_shape) p) _ (or_left _ _ e))
+      wanted : (link : Fields8) → Among link county.links → stands_in key_cmp (link_key link) (wanted_polygons county shapes) ≡ true
+      wanted link m =
+          let k : PolygonKey = link_key link in
+          lt-ltb 0 (times key_cmp k (wanted_polygons county shapes)) (among_known key_keys k (wanted_polygons county shapes)
+          (subst (λ b. Among k (keys_at_open chain_polygons county shapes ++ cond b (map link_key county.links) [])) (sym e)
+          (among_right k (keys_at_open chain_polygons county shapes) (map link_key county.links) (among-map link_key link county.links m))))
+
+      on_side : (link : Fields8) → Among link county.links → Known key_cmp (polygons_along county.chains) (link_key link)
+      on_side link m =
+          let k : PolygonKey = link_key link in
+          ltb-true 0 (times key_cmp k (polygons_along county.chains))
+          (known_all key_keys (λ j. IsTrue (stands_in key_cmp j (polygons_along county.chains))) (polygon_keys county) known.sides k
+          (ltb-true 0 (times key_cmp k (polygon_keys county))
+          (all_among (λ (l : Fields8). IsTrue (stands_in key_cmp (link_key l) (polygon_keys county))) link county.links is.closed.link_polygons m)))
 
       each : (link : Fields8) → Among link county.links
           → IsTrue (stands_in key_cmp (link_key link) (polygons_along (filter (λ entry. keeps entry.0) county.chains)))
       each link m =
           let k : PolygonKey = link_key link in
-          let along : List (List PolygonKey) = keys_along chain_polygons county by_shape in
-          let among : Among k (wanted_polygons county shapes) =
-          subst (λ b. Among k (keys_at_open chain_polygons county shapes ++ cond b (map link_key county.links) [])) (sym e)
-          (among_right k (keys_at_open chain_polygons county shapes) (map link_key county.links) (among-map link_key link county.links m)) in
-          let is_wanted : stands_in key_cmp k (wanted_polygons county shapes) ≡ true =
-          lt-ltb 0 (times key_cmp k (wanted_polygons county shapes)) (among_known key_keys k (wanted_polygons county shapes) among) in
-          let in_county : stands_in key_cmp k (polygon_keys county) ≡ true =
-          all_among (λ (l : Fields8). IsTrue (stands_in key_cmp (link_key l) (polygon_keys county))) link county.links is.closed.link_polygons m in
-          let on_side : stands_in key_cmp k (polygons_along county.chains) ≡ true =
-          known_all key_keys (λ j. IsTrue (stands_in key_cmp j (polygons_along county.chains))) (polygon_keys county) known.sides k
-          (ltb-true 0 (times key_cmp k (polygon_keys county)) in_county) in
-          let seen = seen_somewhere k (ltb-true 0 (times key_cmp k (polygons_along county.chains)) on_side) in
-          let brought = first_brought key_keys shapes.places (wanted_polygons county shapes) along k is_wanted (length by_shape) seen.0 seen.1 seen.2 in
+          let seen = seen_somewhere k (on_side link m) in
+          let kept = kept_somewhere k (wanted link m) seen.0 seen.1 in
           lt-ltb 0 (times key_cmp k (polygons_along (filter (λ entry. keeps entry.0) county.chains)))
-          (among_known key_keys k (polygons_along (filter (λ entry. keeps entry.0) county.chains))
-          (kept_sides brought.place k (kept_place brought.place brought.new_there) brought.there))
+          (among_known key_keys k (polygons_along (filter (λ entry. keeps entry.0) county.chains)) (kept_sides kept.0 k kept.1 kept.2))
 
   -- The small county is a county,
   pub small_is : IsCounty (small_county county shapes)

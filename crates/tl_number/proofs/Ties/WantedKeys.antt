@@ -265,6 +265,7 @@ module _ (county : County) (shapes : OrderOfShapes) (known : LeavesChoices count
           ap (λ ks. masked_by wanted (filter test (first_seen cmp ks))) (sym (kept_read n))
           ∙ hidden_between wanted (is_kept county shapes) open_kept (all_met (is_kept county shapes) open_kept) n m test
           ∙ ap (λ ks. masked_by wanted (filter test (first_seen cmp ks))) (kept_read m)
+
       -- Both have the same keys in each choice,
       pub all_alike : (n m : ℕ) → AreAlike cmp (all_of n) (all_of m)
       all_alike n m k = (there n m, there m n)
