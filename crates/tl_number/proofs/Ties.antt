@@ -44,3 +44,4 @@ pub mod SmallCounty
 pub mod SmallKeys
 pub mod SmallTopologies
 pub mod SmallNames
+pub mod OwnOrder
