@@ -45,3 +45,4 @@ pub mod SmallKeys
 pub mod SmallTopologies
 pub mod SmallNames
 pub mod OwnOrder
+pub mod SmallNumbers

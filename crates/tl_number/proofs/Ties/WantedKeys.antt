@@ -1,5 +1,5 @@
 -- Two choices have the same keys by first appearance but for wanted ones, along all chains and along those at kept places.
-use Rattle.tl_number.proofs.Common.{◌≡◌, ◌<◌, ◌∙◌, ◌⊎◌, ◌+◌, ◌||◌, ℕ, zero, suc, List, [], ◌∷◌, ◌++◌, map, filter, flat_map, length, slice_get}
+use Rattle.tl_number.proofs.Common.{◌≡◌, ◌<◌, ◌∙◌, ◌⊎◌, ◌+◌, ℕ, zero, suc, List, [], ◌∷◌, ◌++◌, map, filter, flat_map, length, slice_get}
 use Rattle.tl_number.proofs.Common.{Bool, true, false, cond, Ordering, Option, Some, option_map, option_to_list, unwrap_or, refl, sym, ap}
 use Rattle.tl_number.proofs.Common.{ap₂, subst, inl, inr, arith, Chain, County, DirectedChain, IsCounty, IsKeyOrder, IsWithinLimits, Known}
 use Rattle.tl_number.proofs.Common.{OrderOfShapes, directed_chain, false≢true, first_open, first_seen, group_at, grouped, is_open, keys_along}
@@ -25,7 +25,8 @@ use Rattle.tl_number.proofs.Ties.OpenChains.{covered_among}
 use Rattle.tl_number.proofs.Ties.Ranks.{IsBrought, in_filtered, masked_by, next_cmp, places_alike, same_place, same_wanted, to_filtered}
 use Rattle.tl_number.proofs.Ties.TieNumbers.{chosen_chains, groups_at, groups_listed, length_numbered, turned_alike, whole_numbered}
 use Rattle.tl_number.proofs.Ties.TopologyOrder.{read_along}
-use Rattle.tl_number.proofs.Ties.WantedMoves.{AreMet, AreMoved, all_kept, all_moved, first_met, kept_keys, kept_there, wanted_met}
+use Rattle.tl_number.proofs.Ties.WantedMoves.{AreMet, AreMoved, all_kept, all_moved, first_met, kept_keys, kept_there, open_there}
+use Rattle.tl_number.proofs.Ties.WantedMoves.{wanted_met}
 
 -- a key at one of the places that pass a test is one of the keys there
 in_part : {K : Type 0} {cmp : K → K → Ordering} (o : IsKeyOrder cmp) (test : ℕ → Bool) (keys_at : ℕ → List K) (place count i : ℕ) (k : K)
@@ -291,6 +292,14 @@ module _ (county : County) (shapes : OrderOfShapes) (known : LeavesChoices count
       pub opened_kept : (n : ℕ) (k : K) → Known cmp (keys_at_open keys county shapes) k → Known cmp (kept_of n) k
       opened_kept n k h = subst (λ ks. Known cmp (first_seen cmp ks) k) (kept_read n)
           (opened_between wanted (is_kept county shapes) open_kept (all_met (is_kept county shapes) open_kept) n k h)
+
+      -- Each key at an open place of a choice is wanted.
+      pub opened_in : (n place : ℕ) (directed : DirectedChain) → slice_get (chosen n) place ≡ Some directed → is_open shapes.places place ≡ true
+          → (k : K) → Known cmp (keys_of directed) k → wanted k ≡ true
+      opened_in n place directed e f k h =
+          open_there o keys_of (is_open shapes.places) (is_open shapes.places) (λ p g. g) wanted (λ p g. g) 0 (chosen n)
+          (moved_to wanted (is_open shapes.places) (λ p g. g) (all_met (is_open shapes.places) (λ p g. g)) n).met place directed e
+          (ap (is_open shapes.places) (let t : 0 + place ≡ place = omega arith in t) ∙ f) k h
 
       -- If each place that brings one of them is kept, the wanted keys are the same along both.
       module _ (bringing_kept : (place : ℕ) → brings cmp shapes.places wanted_keys along place ≡ true → is_kept county shapes place ≡ true) where

@@ -4,7 +4,7 @@ use Rattle.tl_number.proofs.Common.{length, Bool, true, false, cond, Ordering, r
 use Rattle.tl_number.proofs.Common.{append_assoc, AllByRecursion, AreWithin, IsKeyOrder, Known, OpenPlace, all_append}
 use Rattle.tl_number.proofs.Common.{first_seen, first_stood, known-right, length-append, length-take, moved, newly_seen}
 use Rattle.tl_number.proofs.Common.{open_keys, range_with_len}
-use Rattle.tl_number.proofs.Common.{slice_get, Some, turned_by}
+use Rattle.tl_number.proofs.Common.{slice_get, None, Some, turned_by}
 use Rattle.std.specs.Prelude.{⊤}
 use Rattle.std.proofs.lemmas.Grind.{flat_map-append}
 use Rattle.std.proofs.lemmas.List.{take-append-drop}
@@ -108,6 +108,28 @@ module _ {X K : Type 0} {cmp : K → K → Ordering} (o : IsKeyOrder cmp) (keys_
         more (inr w) = inr w
     grown false e k (inr h) = inl (known-right o k met (cond (keep place) (keys_of x) [])
         (subst (λ b. Known cmp (cond b (keys_of x) []) k) (sym (every place)) (newly_known o seen (keys_of x) k h)))
+
+  -- if only open places are kept, each key at an open place is wanted
+  pub open_there : ((place : ℕ) → keep place ≡ true → is_open place ≡ true) → (place : ℕ) (xs : List X) → AreMet [] place xs → (i : ℕ) (x : X)
+      → slice_get xs i ≡ Some x → is_open (place + i) ≡ true → (k : K) → Known cmp (keys_of x) k → wanted k ≡ true
+  open_there only place [] all i x e f k h = absurd (let none : None ≡ Some x = e in cc)
+  open_there only place (y ∷ ys) all zero x e f k h =
+      go (all.0 (ap is_open (let t : place ≡ place + 0 = omega arith in t) ∙ f) k (subst (λ z. Known cmp (keys_of z) k) (sym same) h))
+    where
+      same : y ≡ x
+      same = cc
+
+      go : Known cmp [] k ⊎ (wanted k ≡ true) → wanted k ≡ true
+      go (inl l) = absurd (omega (arith, l))
+      go (inr w) = w
+  open_there only place (y ∷ ys) all (suc i) x e f k h =
+      open_there only (place + 1) ys (subst (λ met. AreMet met (place + 1) ys) (nothing (is_open place) refl (keep place) (only place)) all.1) i x e
+      (ap is_open (let t : place + 1 + i ≡ place + suc i = omega arith in t) ∙ f) k h
+    where
+      nothing : (b : Bool) → is_open place ≡ b → (c : Bool) → (c ≡ true → is_open place ≡ true) → cond b [] ([] ++ cond c (keys_of y) []) ≡ []
+      nothing true g c same = refl
+      nothing false g true same = let both : false ≡ true = sym g ∙ same refl in cc
+      nothing false g false same = refl
 
   -- the keys met when a list is passed
   abbrev met_after : List K → ℕ → List X → List K

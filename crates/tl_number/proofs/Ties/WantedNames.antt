@@ -1,7 +1,7 @@
 -- The numbers of names in two choices compare alike in a county and in its small county.
-use Rattle.tl_number.proofs.Common.{◌≡◌, ◌∙◌, ◌+◌, ◌||◌, ℕ, List, [], ◌∷◌, map, filter, length, Bool, true, false, cond, is_eq, refl, sym, ap, ap₂}
-use Rattle.tl_number.proofs.Common.{subst, ◌⊎◌, inl, inr, AllByRecursion, Chain, County, IsApart, DirectedChain, IsCounty, IsInOrder, IsWithinLimits, Known}
-use Rattle.tl_number.proofs.Common.{OrderOfShapes, Renumbering, Some, all_known, apart-permutation_of, feats, feats_along_arrangement, first_seen}
+use Rattle.tl_number.proofs.Common.{◌≡◌, ◌∙◌, ◌+◌, ℕ, List, [], ◌∷◌, map, filter, length, Bool, true, false, cond, is_eq, refl, sym, ap, ap₂}
+use Rattle.tl_number.proofs.Common.{subst, ◌⊎◌, inl, inr, Chain, County, IsApart, DirectedChain, IsCounty, IsInOrder, IsWithinLimits, Known}
+use Rattle.tl_number.proofs.Common.{OrderOfShapes, Some, all_known, apart-permutation_of, feats, feats_along_arrangement, first_seen}
 use Rattle.tl_number.proofs.Common.{image, keys_along, known-permutation_to, length_permutation, ltb-true, most_records, nat_cmp, nat_keys}
 use Rattle.tl_number.proofs.Common.{option_cmp, ordering_then, place_in, same_or_not, stands_in, times, is_open}
 use Rattle.std.proofs.lemmas.Bool.{or_right}
@@ -16,7 +16,7 @@ use Rattle.tl_number.specs.ChoiceSearch.{LeavesChoices}
 use Rattle.tl_number.specs.CountyParts.{feats_along, part_of}
 use Rattle.tl_number.specs.CriticalKeys.{brings}
 use Rattle.tl_number.specs.OpenNames.{chain_feats, feats_in_order}
-use Rattle.tl_number.specs.SmallCounty.{is_kept, kept_places, wanted_feats, wanted_nodes, wanted_polygons}
+use Rattle.tl_number.specs.SmallCounty.{is_kept, kept_places, wanted_feats}
 use Rattle.canonical_form.proofs.Lists.Grouping.{in_order-filter}
 use Rattle.canonical_form.proofs.Views.ViewChains.{chains}
 use Rattle.arranged_county.proofs.Names.NameRanks.{ranked_there}
@@ -80,13 +80,13 @@ module _ (county : County) (shapes : OrderOfShapes) (known : LeavesChoices count
   names_ordered n = feats_ordered county (arranged_in n) is (whole_numbered county shapes known is within n) (seen_in n) (seen_is n)
 
   -- the names of chains are among them, as are all names of the county
-  seen_named : (n k : ℕ) → Known nat_cmp (seen_in n) k → Known nat_cmp (names_of n) k
+  pub seen_named : (n k : ℕ) → Known nat_cmp (seen_in n) k → Known nat_cmp (names_of n) k
   seen_named n k h = seen_placed county shapes known is within (arranged_in n) (whole_numbered county shapes known is within n) k h
 
   name_there : (n k : ℕ) → Known nat_cmp (feats county) k → Known nat_cmp (names_of n) k
   name_there n k h = feat_placed county (arranged_in n) is (whole_numbered county shapes known is within n) k h
 
-  there_name : (n k : ℕ) → Known nat_cmp (names_of n) k → Known nat_cmp (feats county) k
+  pub there_name : (n k : ℕ) → Known nat_cmp (names_of n) k → Known nat_cmp (feats county) k
   there_name n k h = known-permutation_to nat_keys k (names_of n) (feats county)
       (feats_permuted county (arranged_in n) is (whole_numbered county shapes known is within n)) h
 

@@ -1,6 +1,6 @@
 -- The numbers of nodes and polygons in two choices compare alike in a county and in its small county.
-use Rattle.tl_number.proofs.Common.{◌≡◌, ◌∙◌, ◌+◌, ◌||◌, ℕ, List, [], map, filter, Bool, true, false, cond, refl, sym, ap, subst, Arrangement, County}
-use Rattle.tl_number.proofs.Common.{DirectedChain, IsCounty, IsWithinLimits, Known, OrderOfShapes, Renumbering, arrangement_of, first_open}
+use Rattle.tl_number.proofs.Common.{◌≡◌, ◌∙◌, ◌+◌, ℕ, [], map, filter, Bool, true, false, cond, sym, ap, subst, Arrangement, County}
+use Rattle.tl_number.proofs.Common.{IsCounty, IsWithinLimits, Known, OrderOfShapes, Renumbering, arrangement_of, first_open}
 use Rattle.tl_number.proofs.Common.{is_open, key_cmp, key_keys, keys_along, link_key, most_records, nat_cmp, nat_keys, nodes_along}
 use Rattle.tl_number.proofs.Common.{numbered_choice, place_in, placed, polygons_along, polygons_in_order, stands_in}
 use Rattle.std.proofs.lemmas.Bool.{or_left, or_right}
