@@ -46,3 +46,5 @@ pub mod SmallTopologies
 pub mod SmallNames
 pub mod OwnOrder
 pub mod SmallNumbers
+pub mod ChainTypes
+pub mod SmallOrder

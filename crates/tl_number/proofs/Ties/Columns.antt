@@ -31,10 +31,12 @@ value_width width NumberOrNone = width
 value_width width Opaque = width
 value_width width Filler = width
 
+-- a longitude and a latitude fill 19 columns
 pair_width : (point : Option Coordinates) → length (long_text point ++ lat_text point) ≡ 19
 pair_width point = length-append (long_text point) (lat_text point)
     ∙ ap₂ (λ m n. m + n) (long_text_is_text point).len (lat_text_is_text point).len
 
+-- a value that fits fills its columns
 value_fills : (width : ℕ) (kind : Kind) (value : ValueOf kind) → FitsValue width kind value
     → length (joined [] (value_texts width kind value)) ≡ value_width width kind
 value_fills width Number n f = length-number_text width n
@@ -106,6 +108,7 @@ spelled : (t : RecordType) (r : FieldsOf t) → fields_spelling t r ≡ (byte_of
 unfolding fields_spelling
 spelled t r = joined-before (byte_of t ∷ codes "2006") (rows_texts (table_of t) r)
 
+-- so spellings are in the order of the columns
 fields_in_order : (t : RecordType) (r s : FieldsOf t)
     → slice_cmp nat_cmp (fields_spelling t r) (fields_spelling t s) ≡ rows_cmp (table_of t) r s
 fields_in_order t r s =
@@ -114,6 +117,7 @@ fields_in_order t r s =
     ∙ cmp-append nat_cmp head head (joined [] (rows_texts (table_of t) r)) (joined [] (rows_texts (table_of t) s)) refl
     ∙ ap (λ o. ordering_then o (rows_cmp (table_of t) r s)) (tied_itself nat_list_cmp_total head)
 
+-- the spelling of a record of any type
 own_spelling : (t : RecordType) (r : FieldsOf t) → spelling_of (record_of t r) ≡ fields_spelling t r
 unfolding spelling_of
 own_spelling Type1 r = refl
@@ -163,6 +167,7 @@ abbrev pub later_places : List ℕ → List ℕ
 later_places [] = []
 later_places (n ∷ ns) = ns
 
+-- the text of places is that of the first and those of the others
 places_split : (count : ℕ) (ns : List ℕ)
     → places_text number_place_text (suc count) ns ≡ number_text 8 (first_place ns) ++ places_text number_place_text count (later_places ns)
 unfolding places_text
@@ -175,14 +180,17 @@ ArePlacesAlike zero ks ls ms ns = Unit {0}
 ArePlacesAlike (suc count) ks ls ms ns = (nat_cmp (first_place ks) (first_place ls) ≡ nat_cmp (first_place ms) (first_place ns))
     × ArePlacesAlike count (later_places ks) (later_places ls) (later_places ms) (later_places ns)
 
+-- the number in the first place has at most eight digits
 first_few : (ns : List ℕ) → AllByRecursion (IsNumber 8) ns → first_place ns < 10 ^ 8
 first_few [] all = omega arith
 first_few (n ∷ ns) all = all.0.1
 
+-- the numbers in the other places fit too
 later_all : (ns : List ℕ) → AllByRecursion (IsNumber 8) ns → AllByRecursion (IsNumber 8) (later_places ns)
 later_all [] all = tt
 later_all (n ∷ ns) all = all.1
 
+-- the first place decides before the others
 places_first : (count : ℕ) (ks ls : List ℕ)
     → slice_cmp nat_cmp (places_text number_place_text (suc count) ks) (places_text number_place_text (suc count) ls)
     ≡ ordering_then (slice_cmp nat_cmp (number_text 8 (first_place ks)) (number_text 8 (first_place ls)))

@@ -43,9 +43,11 @@ abbrev Ascends : List ℕ → Type 0
 Ascends [] = Unit {0}
 Ascends (p ∷ ps) = AllByRecursion (λ q. p < q) ps × Ascends ps
 
+-- options of the same value have the same value
 some_same : {X : Type 0} (x y : X) → Some x ≡ Some y → x ≡ y
 some_same x y e = cc
 
+-- a later one of ascending places is greater
 later_place : (ps : List ℕ) (i j p q : ℕ) → Ascends ps → slice_get ps i ≡ Some p → slice_get ps j ≡ Some q → i < j → p < q
 later_place [] i j p q a e f l = cc
 later_place (x ∷ ps) zero zero p q a e f l = absurd (omega (arith, l))
@@ -61,6 +63,7 @@ record IsPart (start end : ℕ) (ps : List ℕ) : Type 0 where
   from : AllByRecursion (λ q. start ≤ q) ps
   below : AllByRecursion (λ q. q < end) ps
 
+-- those of a range that pass a test ascend from its start and are below its end
 part_of_range : (test : ℕ → Bool) (start count end : ℕ) → start + count ≤ end → IsPart start end (filter test (range_with_len start count))
 part_of_range test start zero end l = record { ascends = tt; from = tt; below = tt }
 part_of_range test start (suc count) end l = go (test start) (part_of_range test (start + 1) count end (omega (arith, l)))

@@ -24,10 +24,12 @@ module _ (county : County) (shapes : OrderOfShapes) (known : LeavesChoices count
   abbrev pub choice_county : ℕ → County
   choice_county i = arranged_by county (chains_of county shapes known is within i)
 
+  -- they are read from its directed chains
   read_in : (i : ℕ) → map (directed_chain county) (chains_of county shapes known is within i) ≡ map Some (chains_in i)
   read_in i = bodies_read county (chains_of county shapes known is within i) is (whole_numbered county shapes known is within i)
       (chains_of county shapes known is within i) (whole_numbered county shapes known is within i).there
 
+  -- they are as many as the chains of the order of shapes
   pub length_chains : (i : ℕ) → length (chains_in i) ≡ length shapes.by_shape
   length_chains i = read_length (directed_chain county) (chains_of county shapes known is within i) (chains_in i) (read_in i)
       ∙ length_numbered county shapes known is within i
@@ -38,6 +40,7 @@ module _ (county : County) (shapes : OrderOfShapes) (known : LeavesChoices count
     pub there : slice_get (chains_of county shapes known is within i) place ≡ Some directed
     pub of_directed : directed_chain county directed ≡ Some c
 
+  -- which each chain comes from
   pub directed_at : (i place : ℕ) (c : Chain) → slice_get (chains_in i) place ≡ Some c → DirectedAt i place c
   directed_at i place c e = go (slice_get (chains_of county shapes known is within i) place) refl
     where
@@ -69,6 +72,7 @@ module _ (county : County) (shapes : OrderOfShapes) (known : LeavesChoices count
   chains_numbered i = chains_arranged county (arrangement_of county (chains_of county shapes known is within i)) is
       (arranges county (chains_of county shapes known is within i) is (whole_numbered county shapes known is within i))
 
+  -- and each by itself
   pub entry_at : (i place : ℕ) (c : Chain) → slice_get (chains_in i) place ≡ Some c
       → slice_get (choice_county i).chains place ≡ Some (suc place, renumbered (new_of county shapes known is within i) c)
   entry_at i place c e =

@@ -49,11 +49,13 @@ module _ (county : County) (shapes : OrderOfShapes) (known : LeavesChoices count
       (in_small : (i : ℕ) (k : K) → IsKeyOf cmp keys small order small_known small_is small_within i k → Known cmp small_all k)
       (open_wanted : (i place : ℕ) (c : Chain) → is_open shapes.places place ≡ true → slice_get (chains_at i) place ≡ Some c → (k : K)
       → Known cmp (keys c) k → stands_in cmp k wanted ≡ true) where
+    -- a key of a chain in a choice is one of all
     key_in_county : (i place : ℕ) (c : Chain) → slice_get (chains_at i) place ≡ Some c → (k : K) → Known cmp (keys c) k → Known cmp all k
     key_in_county i place c e k h =
         let at = directed_at county shapes known is within i place c e in
         in_all i k (key_of_chain o county (chains_of county shapes known is within i) keys place at.directed c at.there at.of_directed k h)
 
+    -- and one of the small county, if the chain is at a kept place
     key_in_small : (i place rank : ℕ) (c : Chain) → slice_get (chains_at i) place ≡ Some c → slice_get kept rank ≡ Some place → (k : K)
         → Known cmp (keys c) k → Known cmp small_all k
     key_in_small i place rank c e ranked k h =

@@ -45,6 +45,7 @@ pieces_map f n (suc most) [] = refl
 pieces_map f n (suc most) (x ∷ xs) = ap₂ (λ y ys. y ∷ ys) (take-map f n (x ∷ xs))
     (ap (pieces n most) (drop-map f n (x ∷ xs)) ∙ pieces_map f n most (drop n (x ∷ xs)))
 
+-- numbered elements that are mapped
 numbered_map : {X Y : Type 0} (f : X → Y) (n : ℕ) (xs : List X)
     → numbered_from n (map f xs) ≡ map (λ (e : ℕ × X). (e.0, f e.1)) (numbered_from n xs)
 numbered_map f n [] = refl
@@ -118,7 +119,7 @@ module _ (county : County) (shapes : OrderOfShapes) (known : LeavesChoices count
   abbrev number_in_small : ℕ → ℕ → ℕ
   number_in_small i = new_name (new_of small order small_known small_is small_within i)
 
-  -- the records of a chain are made of pieces of its names
+  -- the names of a chain, five by five
   abbrev pieces_of : Chain → List (List ℕ)
   pieces_of c = in_pieces 5 c.feats
 
@@ -131,6 +132,7 @@ module _ (county : County) (shapes : OrderOfShapes) (known : LeavesChoices count
   abbrev fours_in : ℕ → ℕ → List Fields4
   fours_in i place = fours_at county (number_in i) (chains_of county shapes known is within i) place
 
+  -- the records of a chain are made of pieces of its names
   fours_there : (i place : ℕ) (c : Chain) → slice_get (chains_at i) place ≡ Some c
       → fours_in i place ≡ made pieces_of (chains_at i) (four_of i) (suc place) c
   fours_there i place c e =
@@ -140,6 +142,7 @@ module _ (county : County) (shapes : OrderOfShapes) (known : LeavesChoices count
       ∙ ap (λ t. fours_under t (map (number_in i) c.feats)) (let t : place + 1 ≡ suc place = omega arith in t)
       ∙ fours_made (number_in i) (suc place) c.feats
 
+  -- which fit
   fours_fit_there : (i place : ℕ) → IsThere (chains_at i) place → AllByRecursion (λ r. FitsRecord (Four r)) (fours_in i place)
   fours_fit_there i place there =
       let whole = whole_numbered county shapes known is within i in
@@ -150,6 +153,7 @@ module _ (county : County) (shapes : OrderOfShapes) (known : LeavesChoices count
       (let past = none_past (chains_at i) place there.0 there.1 in let count = length_chains county shapes known is within i in omega (arith, past, count))
       place (omega arith)
 
+  -- so are those of the small county
   small_fours : (i : ℕ) → grouped (type_4_by_chain (of_small i))
       ≡ grouped (map (λ (e : ℕ × Chain). made pieces_of (chains_at i) (small_four_of i) e.0 e.1)
       (numbered_from 1 (chains_in small order small_known small_is small_within i)))

@@ -42,13 +42,16 @@ all_grouped P F Q each (place ∷ places) all =
 
 -- the records of types 1 and 6 of a county within its limits fit
 module _ (county : County) (is : IsCounty county) (within : IsWithinLimits most_records county) where
+  -- all records fit
   all_fit : AllByRecursion FitsRecord (types_1_to_4 county ++ (types_5_to_7 county ++ types_8_to_p county))
   all_fit = subst (AllByRecursion FitsRecord) (sym (all_groups county))
       (packed-fits county is.whole within.contents within.numbers within.lists)
 
+  -- so those of type 1 do
   pub ones_fit : AllByRecursion FitsRecord (ones_of county)
   ones_fit = all_left FitsRecord (ones_of county) _ (all_left FitsRecord (types_1_to_4 county) (types_5_to_7 county ++ types_8_to_p county) all_fit)
 
+  -- and those of type 6
   pub sixes_fit : AllByRecursion (λ r. FitsRecord (Six r)) (grouped (type_6_by_chain county))
   sixes_fit = all_unmap FitsRecord Six (grouped (type_6_by_chain county))
       (all_left FitsRecord (map Six (grouped (type_6_by_chain county))) (map Seven (grouped (type_7_by_landmark county)))
@@ -76,6 +79,7 @@ module _ (county : County) (shapes : OrderOfShapes) (known : LeavesChoices count
   abbrev of_small : ℕ → County
   of_small i = choice_county small order small_known small_is small_within i
 
+  -- each kept place has a chain
   pub kept_there : (i : ℕ) → AllByRecursion (IsThere (chains_at i)) kept
   kept_there i = all_are_there (chains_at i) is_in (length shapes.by_shape) (sym (length_chains county shapes known is within i))
 
@@ -100,14 +104,17 @@ module _ (county : County) (shapes : OrderOfShapes) (known : LeavesChoices count
     abbrev pub IsPart : ℕ → Kept Chain Y → Type 0
     IsPart i k = IsKept pieces (chains_at i) kept k × (Fits (in_county i k) × Fits (in_small i k))
 
+    -- the records of the county at kept places are made of the parts
     county_are : (i : ℕ) → grouped (map (F i) kept) ≡ map (in_county i) (parts i)
     county_are i = place_groups pieces (chains_at i) (make i) (F i) (F_is i) 0 kept (kept_there i)
 
+    -- and so are those of the small county
     small_too : (i : ℕ) → small_records i ≡ map (in_small i) (parts i)
     small_too i = small_are i
         ∙ ap (λ cs. grouped (map (λ (e : ℕ × Chain). made pieces (chains_at i) (small_make i) e.0 e.1) (numbered_from 1 cs))) (small_chains i)
         ∙ rank_groups pieces (chains_at i) (small_make i) 0 kept (kept_there i)
 
+    -- each part is where it says, and its records fit
     are_parts : (i : ℕ) → AllByRecursion (IsPart i) (parts i)
     are_parts i =
         all_both (IsKept pieces (chains_at i) kept) (λ k. Fits (in_county i k) × Fits (in_small i k)) (parts i)
@@ -137,6 +144,7 @@ module _ (county : County) (shapes : OrderOfShapes) (known : LeavesChoices count
     abbrev pub IsOne : ℕ → Kept Chain Chain → Type 0
     IsOne i k = IsKept whole_chain (chains_at i) kept k × (FitsRecord (make i (suc k.place) k.piece) × FitsRecord (small_make i (suc k.rank) k.piece))
 
+    -- The records at kept places are in one order with those of the small county.
     pub each_alike : (n m : ℕ)
         → ((v w : Kept Chain Chain) → IsOne n v → IsOne m w → spelling_cmp (make n (suc v.place) v.piece) (make m (suc w.place) w.piece)
         ≡ spelling_cmp (small_make n (suc v.rank) v.piece) (small_make m (suc w.rank) w.piece))
@@ -164,6 +172,7 @@ module _ (county : County) (shapes : OrderOfShapes) (known : LeavesChoices count
       ap (λ rs. slice_get rs place) (ones (of_choice i) ∙ map-map One packed_one (of_choice i).chains)
       ∙ slice_get-map (λ (e : ℕ × Chain). One (packed_one e)) (of_choice i).chains place
 
+  -- each place has one
   many_ones : (i : ℕ) → length (ones_of (of_choice i)) ≡ length shapes.by_shape
   many_ones i =
       ap length (ones (of_choice i)) ∙ length-map (map packed_one (of_choice i).chains) One ∙ length-map (of_choice i).chains packed_one
@@ -175,6 +184,7 @@ module _ (county : County) (shapes : OrderOfShapes) (known : LeavesChoices count
       counted n [] = refl
       counted n (c ∷ cs) = let ih = counted (suc n) cs in omega (arith, ih)
 
+  -- the records of the small county
   small_ones : (i : ℕ) → ones_of (of_small i)
       ≡ map (λ (e : ℕ × Chain). One (packed_one e)) (numbered_from 1 (chains_in small order small_known small_is small_within i))
   small_ones i =
@@ -233,6 +243,7 @@ module _ (county : County) (shapes : OrderOfShapes) (known : LeavesChoices count
       (λ tie. refl)
       ∙ sym (columns_decide Type1 small_one small_other)
 
+  -- So the records of type 1 are in one order in both counties.
   pub ones_small : (n m : ℕ) → groups_cmp One (type_1_by_chain (of_choice n)) (type_1_by_chain (of_choice m))
       ≡ groups_cmp One (type_1_by_chain (of_small n)) (type_1_by_chain (of_small m))
   ones_small n m =
@@ -266,6 +277,7 @@ module _ (county : County) (shapes : OrderOfShapes) (known : LeavesChoices count
       ∙ ap (λ o. sixes_under (place + 1) (ranges_of o)) at.of_directed
       ∙ ap (λ n. sixes_under n c.ranges) (let t : place + 1 ≡ suc place = omega arith in t)
 
+  -- which fit
   sixes_fit_there : (i place : ℕ) → IsThere (chains_at i) place → AllByRecursion (λ r. FitsRecord (Six r)) (sixes_in i place)
   sixes_fit_there i place there =
       let chosen = chains_of county shapes known is within i in
@@ -277,6 +289,7 @@ module _ (county : County) (shapes : OrderOfShapes) (known : LeavesChoices count
       let two = length_numbered county shapes known is within i in omega (arith, past, one, two))
       place (omega arith)
 
+  -- so are those of the small county
   small_sixes : (i : ℕ) → grouped (type_6_by_chain (of_small i))
       ≡ grouped (map (λ (e : ℕ × Chain). made (λ (x : Chain). x.ranges) (chains_at i) (six_of i) e.0 e.1)
       (numbered_from 1 (chains_in small order small_known small_is small_within i)))
@@ -308,6 +321,7 @@ module _ (county : County) (shapes : OrderOfShapes) (known : LeavesChoices count
       (λ tie. refl)
       ∙ sym (columns_decide Type6 small_one small_other)
 
+  -- So the records of type 6 are in one order in both counties.
   pub sixes_small : (n m : ℕ) → groups_cmp Six (type_6_by_chain (of_choice n)) (type_6_by_chain (of_choice m))
       ≡ groups_cmp Six (type_6_by_chain (of_small n)) (type_6_by_chain (of_small m))
   sixes_small n m =

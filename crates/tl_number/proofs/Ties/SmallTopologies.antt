@@ -110,12 +110,14 @@ right_listed x k e = known-right key_keys k (key_on x.left) (key_on x.right) (ke
 -- the records of type I of a choice
 module _ (county : County) (shapes : OrderOfShapes) (known : LeavesChoices county shapes) (is : IsCounty county)
     (within : IsWithinLimits most_records county) where
+  -- the record at a place is made of the chain there
   topology_there : (i place : ℕ) (c : Chain) → slice_get (chains_in county shapes known is within i) place ≡ Some c
       → slice_get (topologies_of (choice_county county shapes known is within i)) place
       ≡ Some (I (packed_i (suc place, renumbered (new_of county shapes known is within i) c)))
   topology_there i place c e = topology_record_there (choice_county county shapes known is within i) place
       ∙ ap (option_map (λ (entry : ℕ × Chain). I (packed_i entry))) (entry_at county shapes known is within i place c e)
 
+  -- all of them
   topologies_are : (i : ℕ) → topologies_of (choice_county county shapes known is within i)
       ≡ map (λ (e : ℕ × Chain). I (packed_i (e.0, renumbered (new_of county shapes known is within i) e.1)))
       (numbered_from 1 (chains_in county shapes known is within i))
@@ -126,6 +128,7 @@ module _ (county : County) (shapes : OrderOfShapes) (known : LeavesChoices count
       ∙ ap (map (λ (e : ℕ × Chain). I (packed_i e))) (chains_numbered county shapes known is within i)
       ∙ map-map (λ (e : ℕ × Chain). I (packed_i e)) (kept_entry r) (numbered_from 1 (chains_in county shapes known is within i))
 
+  -- which fit
   fit_in : (i : ℕ) → AllByRecursion FitsRecord (topologies_of (choice_county county shapes known is within i))
   fit_in i = let whole = whole_numbered county shapes known is within i in
       topologies_fit (choice_county county shapes known is within i) whole.is_county whole.within_limits
@@ -310,6 +313,7 @@ module _ (county : County) (shapes : OrderOfShapes) (known : LeavesChoices count
     stay_nodes : Stay county shapes known is within nat_keys chain_nodes new_node nodes
     stay_nodes n m k e h l = (nodes_alike n m).stay k e (in_nodes n k h)
 
+    -- and so have polygons
     stay_polygons : Stay county shapes known is within key_keys chain_polygons new_polygon polygons
     stay_polygons n m k e h l =
         ap₂ (λ (cenid : List ℕ) (polyid : ℕ). (cenid, polyid))
