@@ -31,6 +31,11 @@ pub mod NameNumbers
 pub mod WantedNames
 pub mod NamesRead
 pub mod Alike
+pub mod ListsAlike
+pub mod ArrangedChoices
+pub mod SmallPolygons
+pub mod SmallLinks
+pub mod SmallEntries
 pub mod PickedPlaces
 pub mod PartChoices
 pub mod KeptOpen
