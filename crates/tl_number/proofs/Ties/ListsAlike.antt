@@ -1,9 +1,11 @@
--- Lists put in order by orders that compare their elements alike, and filtered lists.
+-- Lists put in order by orders that compare their elements alike, and lists filtered by tests.
 use Rattle.ordered_lists.proofs.Common.{◌≡◌, ◌∙◌, List, [], ◌∷◌, map, Bool, true, false, cond, Ordering, is_gt, refl, sym, ap, inl, inr}
-use Rattle.ordered_lists.proofs.Common.{in_order, on, put_in_order}
-use Rattle.std.proofs.Common.{ap₂, filter}
-use Rattle.ordered_lists.proofs.Lists.Among.{Among}
+use Rattle.ordered_lists.proofs.Common.{in_order, is_eq, on, put_in_order}
+use Rattle.std.proofs.Common.{Some, ap₂, filter}
+use Rattle.ordered_lists.specs.Entries.{value_under}
+use Rattle.ordered_lists.proofs.ByKey.Keys.{IsKeyOrder, same-true}
 use Rattle.ordered_lists.proofs.ByKey.Numbers.{from_in_order}
+use Rattle.ordered_lists.proofs.Lists.Among.{Among}
 
 -- an element is put before the same one by orders that compare it alike
 put_alike : {X : Type 0} (by by_too : X → X → Ordering) (x : X) (ys : List X) → ((y : X) → Among y ys → by x y ≡ by_too x y)
@@ -71,3 +73,19 @@ filters_swap {X} test other (x ∷ xs) = go (test x) refl (other x) refl (filter
 pub filters_alike : {X : Type 0} (test other : X → Bool) (xs : List X) → ((x : X) → Among x xs → test x ≡ other x) → filter test xs ≡ filter other xs
 filters_alike test other [] alike = refl
 filters_alike test other (x ∷ xs) alike = ap₂ (λ b (l : List _). cond b (x ∷ l) l) (alike x (inl refl)) (filters_alike test other xs (λ y h. alike y (inr h)))
+
+-- the value under a key that passes a test is there among the entries whose keys pass
+pub value_filtered : {K V : Type 0} {cmp : K → K → Ordering} (o : IsKeyOrder cmp) (test : K → Bool) (entries : List (K × V)) (key : K) → test key ≡ true
+    → value_under cmp key (filter (λ entry. test entry.0) entries) ≡ value_under cmp key entries
+value_filtered o test [] key passes = refl
+value_filtered {K} {V} {cmp = cmp} o test (entry ∷ entries) key passes =
+    go (test entry.0) refl (is_eq (cmp key entry.0)) refl (value_filtered o test entries key passes)
+  where
+    kept : List (K × V)
+    kept = filter (λ e. test e.0) entries
+
+    go : (b : Bool) → test entry.0 ≡ b → (c : Bool) → is_eq (cmp key entry.0) ≡ c → value_under cmp key kept ≡ value_under cmp key entries
+        → value_under cmp key (cond b (entry ∷ kept) kept) ≡ cond (is_eq (cmp key entry.0)) (Some entry.1) (value_under cmp key entries)
+    go true f c g rest = ap (cond (is_eq (cmp key entry.0)) (Some entry.1)) rest
+    go false f true g rest = let both : true ≡ false = sym passes ∙ ap test (same-true o key entry.0 g) ∙ f in cc
+    go false f false g rest = rest ∙ sym (ap (λ c. cond c (Some entry.1) (value_under cmp key entries)) g)

@@ -1,17 +1,16 @@
 -- The records of type P in two choices of a county and of its small county compare alike.
-use Rattle.tl_number.proofs.Common.{◌≡◌, ◌∙◌, ℕ, List, [], ◌∷◌, map, filter, filter_map, Bool, true, false, cond, Option, Some, None, Ordering}
-use Rattle.tl_number.proofs.Common.{AllByRecursion, AllKeysStandIn, Among, Arrangement, BodyP, Chain, County, FieldsP, IsApart, IsCounty, IsKeyOrder, IsWithinLimits}
+use Rattle.tl_number.proofs.Common.{◌≡◌, ◌∙◌, ℕ, List, [], ◌∷◌, map, filter, filter_map, Bool, false, cond, Option, Some, None}
+use Rattle.tl_number.proofs.Common.{AllByRecursion, AllKeysStandIn, Among, Arrangement, BodyP, Chain, County, FieldsP, IsApart, IsCounty, IsWithinLimits}
 use Rattle.tl_number.proofs.Common.{Known, OrderOfShapes, P, PolygonKey, all_among, ap, ap₂, arranged, cons_option, grouped, groups_cmp, image}
 use Rattle.tl_number.proofs.Common.{is_some, key_cmp, key_keys, lt-ltb, map-id, map-map, map_agree_all, most_records, nat_cmp, nat_list_cmp_total, numbered, numbered_choice}
 use Rattle.tl_number.proofs.Common.{packed_body, packed_p, placed, polygon_keys, polygons_along, polygons_by_number, polygons_in_order, records_cmp, refl}
 use Rattle.tl_number.proofs.Common.{renaming_of, slice_cmp, spelling_cmp, spelling_of, stands_in, subst, sym, tied_itself, type_p_by_number, under_cenid}
-use Rattle.tl_number.proofs.Common.{is_eq, joined, times, under_number, unwrap_or}
+use Rattle.tl_number.proofs.Common.{joined, times, under_number, unwrap_or}
 use Rattle.std.specs.Option.{option_and_then}
 use Rattle.county_chart.specs.ChartWords.{polygon_under}
 use Rattle.ordered_lists.proofs.ByKey.Numbers.{all_themselves}
 use Rattle.ordered_lists.proofs.Lists.Members.{among-map}
-use Rattle.ordered_lists.specs.Entries.{value_under}
-use Rattle.ordered_lists.proofs.ByKey.Keys.{images-lefts, same-true}
+use Rattle.ordered_lists.proofs.ByKey.Keys.{images-lefts}
 use Rattle.tl_layout.specs.FieldTexts.{lat_text, long_text}
 use Rattle.tl_layout.specs.RecordText.{FitsRecord}
 use Rattle.tl_layout.specs.RecordTables.{table_p}
@@ -28,7 +27,7 @@ use Rattle.tl_number.specs.SmallCounty.{kept_tlids, is_linked, small_county, wan
 use Rattle.tl_number.proofs.Ties.Alike.{AreNumberedAlike}
 use Rattle.tl_number.proofs.Ties.ArrangedChoices.{IsArrangementOf, arranged_is, arranged_within, choice_arranges, numbered_on_side, polygon_number}
 use Rattle.tl_number.proofs.Ties.Columns.{AreColumnsAlike, numbers_alike, records_alike, rows_fit}
-use Rattle.tl_number.proofs.Ties.ListsAlike.{among_filtered, filters_alike, filters_swap}
+use Rattle.tl_number.proofs.Ties.ListsAlike.{among_filtered, filters_alike, filters_swap, value_filtered}
 use Rattle.tl_number.proofs.Ties.KeptParts.{lists_alike}
 use Rattle.tl_number.proofs.Ties.Ranks.{masked_by, wanted_decide}
 
@@ -229,22 +228,6 @@ module _ (county small : County) (wanted : List PolygonKey)
           ∙ ap₂ (λ xs ys. slice_cmp spelling_cmp (map (λ k. P (small_mine k)) xs) (map (λ k. P (small_theirs k)) ys))
           (same_keys one small_one h h_small same) (same_keys other small_other g g_small other_same)
           ∙ sym (wanted_records small is_wanted small_one small_other h_small g_small (small_masked (has_record small)) alike.small_stay)
-
--- a value under a key that passes a test is there among the entries whose keys pass
-value_filtered : {K V : Type 0} {cmp : K → K → Ordering} (o : IsKeyOrder cmp) (test : K → Bool) (entries : List (K × V)) (key : K) → test key ≡ true
-    → value_under cmp key (filter (λ entry. test entry.0) entries) ≡ value_under cmp key entries
-value_filtered o test [] key passes = refl
-value_filtered {K} {V} {cmp = cmp} o test (entry ∷ entries) key passes =
-    go (test entry.0) refl (is_eq (cmp key entry.0)) refl (value_filtered o test entries key passes)
-  where
-    kept : List (K × V)
-    kept = filter (λ e. test e.0) entries
-
-    go : (b : Bool) → test entry.0 ≡ b → (c : Bool) → is_eq (cmp key entry.0) ≡ c → value_under cmp key kept ≡ value_under cmp key entries
-        → value_under cmp key (cond b (entry ∷ kept) kept) ≡ cond (is_eq (cmp key entry.0)) (Some entry.1) (value_under cmp key entries)
-    go true f c g rest = ap (cond (is_eq (cmp key entry.0)) (Some entry.1)) rest
-    go false f true g rest = let both : true ≡ false = sym passes ∙ ap test (same-true o key entry.0 g) ∙ f in cc
-    go false f false g rest = rest ∙ sym (ap (λ c. cond c (Some entry.1) (value_under cmp key entries)) g)
 
 -- a part of a county keeps the contents of the polygons on its sides
 part_contents : (county : County) (keeps : ℕ × Chain → Bool) (with_landmarks : Bool) (k : PolygonKey)
