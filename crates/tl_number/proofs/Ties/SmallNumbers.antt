@@ -1,5 +1,5 @@
 -- The numbers of nodes, polygons and names in two choices compare alike in a county and in its small county, and what is wanted of them.
-use Rattle.tl_number.proofs.Common.{◌≡◌, ◌∙◌, ◌||◌, ℕ, List, [], map, filter, flat_map, Bool, true, false, cond, Ordering, Some, option_to_list, refl, sym, ap, subst}
+use Rattle.tl_number.proofs.Common.{◌≡◌, ◌∙◌, ℕ, List, [], map, filter, flat_map, Bool, true, false, cond, Ordering, Some, option_to_list, sym, ap, subst}
 use Rattle.tl_number.proofs.Common.{Arrangement, Chain, County, IsCounty, IsKeyOrder, IsWithinLimits, Known, OrderOfShapes, PolygonKey}
 use Rattle.tl_number.proofs.Common.{arrangement_of, feats, first_open, first_seen, grouped, image, is_open, key_cmp, key_keys, keys_along, link_key}
 use Rattle.tl_number.proofs.Common.{most_records, nat_cmp, nat_keys, nodes_along, numbered_choice, placed, polygons_along, polygons_in_order}
