@@ -1,8 +1,8 @@
 -- Two choices are in one order in a county and in its small county.
-use Rattle.tl_number.proofs.Common.{◌≡◌, ◌∙◌, ℕ, List, map, Equal, sym, ap, Body7, County, DirectedChain, Eight, Five, IsCounty, IsWithinLimits}
-use Rattle.tl_number.proofs.Common.{OrderOfShapes, P, Seven, arranged, arrangement_of, choices_cmp, groups_cmp, most_records, nat_cmp}
-use Rattle.tl_number.proofs.Common.{ordering_then, packed, packed_sevens, slice_cmp, text_of, type_2_by_chain, type_5_by_name}
-use Rattle.tl_number.proofs.Common.{type_7_by_landmark, type_8_together, type_p_by_number}
+use Rattle.tl_number.proofs.Common.{◌≡◌, ◌<◌, ◌∙◌, ℕ, List, map, false, Equal, sym, ap, subst, Body7, County, DirectedChain, Eight, Five, IsCounty}
+use Rattle.tl_number.proofs.Common.{IsLeastBelow, IsWithinLimits, OrderOfShapes, P, Record, Seven, arranged, arrangement_of, choices, choices_cmp}
+use Rattle.tl_number.proofs.Common.{groups_cmp, is_gt, most_records, nat_cmp, numbered_choice, ordering_then, packed, packed_sevens, slice_cmp, text_of}
+use Rattle.tl_number.proofs.Common.{type_2_by_chain, type_5_by_name, type_7_by_landmark, type_8_together, type_p_by_number}
 use Rattle.tl_layout.specs.declared.record_type.Record.TheVariants.{Two}
 use Rattle.tl_number.specs.ChoiceSearch.{LeavesChoices}
 use Rattle.tl_number.specs.SmallCounty.{small_county}
@@ -17,7 +17,11 @@ use Rattle.tl_number.proofs.Ties.ChainTypes.{type_1_small, type_4_small, type_6_
 use Rattle.tl_number.proofs.Ties.CriticalKeys.{chains_of}
 use Rattle.tl_number.proofs.Ties.NameRecords.{one_map}
 use Rattle.tl_number.proofs.Ties.SmallChains.{choice_county}
-use Rattle.tl_number.proofs.Ties.SmallCounty.{small_is, small_within}
+use Rattle.tl_number.proofs.Ties.OwnOrder.{own_order, own_order_is}
+use Rattle.tl_number.proofs.Ties.SmallCounty.{small_choices, small_leaves, small_sides}
+use Rattle.tl_number.proofs.Ties.SmallLinks.{small_links}
+use Rattle.tl_number.proofs.Ties.SmallNumbers.{choice_polygons, choice_polygons_stay, hidden_in_small, hidden_polygons, is_small, same_polygons, within_small}
+use Rattle.tl_number.proofs.Ties.SmallPolygons.{small_polygons}
 use Rattle.tl_number.proofs.Ties.TieNumbers.{choice_of, whole_numbered}
 
 -- Two choices of a county.
@@ -62,17 +66,17 @@ module _ (county : County) (shapes : OrderOfShapes) (known : LeavesChoices count
       (same_landmarks county is (arrangement_of county one) (arrangement_of county other)
       (arranges county one is (whole_numbered county shapes known is within n)) (arranges county other is (whole_numbered county shapes known is within m))))
 
--- A county and its small county, if the records of types 8 and P of the choices are in one order in both.
+-- A county and its small county, with an order of its own.
 module _ (county : County) (shapes : OrderOfShapes) (known : LeavesChoices county shapes) (is : IsCounty county)
     (within : IsWithinLimits most_records county) (order : OrderOfShapes) (small_known : LeavesChoices (small_county county shapes) order) where
   abbrev small : County
   small = small_county county shapes
 
   abbrev is_too : IsCounty small
-  is_too = small_is county shapes known is
+  is_too = is_small county shapes known is within order small_known
 
   abbrev within_too : IsWithinLimits most_records small
-  within_too = small_within county shapes known is within
+  within_too = within_small county shapes known is within order small_known
 
   abbrev of_choice : ℕ → County
   of_choice i = choice_county county shapes known is within i
@@ -80,13 +84,35 @@ module _ (county : County) (shapes : OrderOfShapes) (known : LeavesChoices count
   abbrev of_small : ℕ → County
   of_small i = choice_county small order small_known is_too within_too i
 
-  pub order_of_types : (n m : ℕ)
-      → groups_cmp Eight (type_8_together (of_choice n)) (type_8_together (of_choice m))
+  -- records of the choices with these numbers are those of their directed chains
+  of_numbers : {X : Type 0} (record_of : X → Record) (groups : County → List (List X)) (n m : ℕ)
+      → groups_cmp record_of (groups (arranged county (numbered_choice county n))) (groups (arranged county (numbered_choice county m)))
+      ≡ groups_cmp record_of (groups (arranged small (numbered_choice small n))) (groups (arranged small (numbered_choice small m)))
+      → groups_cmp record_of (groups (of_choice n)) (groups (of_choice m)) ≡ groups_cmp record_of (groups (of_small n)) (groups (of_small m))
+  of_numbers record_of groups n m alike =
+      (λ i. groups_cmp record_of (groups (arranged county (choice_of county shapes known is within n i)))
+      (groups (arranged county (choice_of county shapes known is within m i))))
+      ∙ alike
+      ∙ sym (λ i. groups_cmp record_of (groups (arranged small (choice_of small order small_known is_too within_too n i)))
+      (groups (arranged small (choice_of small order small_known is_too within_too m i))))
+
+  -- the records of type 8, and of type P
+  eights : (n m : ℕ) → groups_cmp Eight (type_8_together (of_choice n)) (type_8_together (of_choice m))
       ≡ groups_cmp Eight (type_8_together (of_small n)) (type_8_together (of_small m))
-      → groups_cmp P (type_p_by_number (of_choice n)) (type_p_by_number (of_choice m))
+  eights n m = of_numbers Eight type_8_together n m
+      (small_links county shapes is within known.sides is_too within_too (small_sides county shapes known is)
+      (choice_polygons county shapes known is within order small_known) (choice_polygons_stay county shapes known is within order small_known) n m)
+
+  polygons : (n m : ℕ) → groups_cmp P (type_p_by_number (of_choice n)) (type_p_by_number (of_choice m))
       ≡ groups_cmp P (type_p_by_number (of_small n)) (type_p_by_number (of_small m))
-      → choices_cmp small n m ≡ choices_cmp county n m
-  order_of_types n m eights polygons =
+  polygons n m = of_numbers P type_p_by_number n m
+      (small_polygons county shapes is within known.sides is_too within_too (small_sides county shapes known is) n m
+      (choice_polygons county shapes known is within order small_known n m) (same_polygons county shapes known is within order small_known)
+      (hidden_polygons county shapes known is within order small_known n m) (hidden_in_small county shapes known is within order small_known n m))
+
+  -- So two choices are in one order.
+  same_order : (n m : ℕ) → choices_cmp small n m ≡ choices_cmp county n m
+  same_order n m =
       let twos = sym (twos_tie county shapes known is within n m) ∙ twos_tie small order small_known is_too within_too n m in
       let fives = sym (fives_tie county shapes known is within n m) ∙ fives_tie small order small_known is_too within_too n m in
       let sevens = sym (sevens_tie county shapes known is within n m) ∙ sevens_tie small order small_known is_too within_too n m in
@@ -97,5 +123,17 @@ module _ (county : County) (shapes : OrderOfShapes) (known : LeavesChoices count
       types_decide small order small_known is_too within_too n m
       ∙ sym (λ i. ordering_then (ordering_then (ones i) (ordering_then (twos i) (fours i)))
       (ordering_then (ordering_then (fives i) (ordering_then (sixes i) (sevens i)))
-      (ordering_then (eights i) (ordering_then (topologies i) (polygons i)))))
+      (ordering_then (eights n m i) (ordering_then (topologies i) (polygons n m i)))))
       ∙ sym (types_decide county shapes known is within n m)
+
+module _ (county : County) (shapes : OrderOfShapes) (known : LeavesChoices county shapes) (is : IsCounty county)
+    (within : IsWithinLimits most_records county) where
+  -- Two choices are in one order in a county and in its small county.
+  pub small_same_order : (n m : ℕ) → choices_cmp (small_county county shapes) n m ≡ choices_cmp county n m
+  small_same_order = same_order county shapes known is within (own_order (small_county county shapes))
+      (small_leaves county shapes known is (own_order (small_county county shapes)) (own_order_is (small_county county shapes)))
+
+  -- So the least choice of the small county is the county's.
+  pub small_least : (k : ℕ) → IsLeastBelow (small_county county shapes) (choices (small_county county shapes)) k → IsLeastBelow county (choices county) k
+  small_least k least m l = subst (λ o. is_gt o ≡ false) (small_same_order k m)
+      (least m (subst (λ count. m < count) (sym (small_choices county shapes known is)) l))
