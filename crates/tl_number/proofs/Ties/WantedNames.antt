@@ -1,12 +1,11 @@
 -- The numbers of names in two choices compare alike in a county and in its small county.
-use Rattle.tl_number.proofs.Common.{◌≡◌, ◌∙◌, ◌+◌, ℕ, List, [], ◌∷◌, map, filter, length, Bool, true, false, cond, is_eq, refl, sym, ap, ap₂}
-use Rattle.tl_number.proofs.Common.{subst, ◌⊎◌, inl, inr, Chain, County, IsApart, DirectedChain, IsCounty, IsInOrder, IsWithinLimits, Known}
+use Rattle.tl_number.proofs.Common.{◌≡◌, ◌∙◌, ◌+◌, ℕ, List, filter, length, Bool, true, refl, sym, ap, ap₂}
+use Rattle.tl_number.proofs.Common.{subst, Body5, Chain, County, IsApart, DirectedChain, IsCounty, IsInOrder, IsWithinLimits, Known}
 use Rattle.tl_number.proofs.Common.{OrderOfShapes, Some, all_known, apart-permutation_of, feats, feats_along_arrangement, first_seen}
 use Rattle.tl_number.proofs.Common.{image, keys_along, known-permutation_to, length_permutation, ltb-true, most_records, nat_cmp, nat_keys}
-use Rattle.tl_number.proofs.Common.{option_cmp, ordering_then, place_in, same_or_not, stands_in, times, is_open}
+use Rattle.tl_number.proofs.Common.{option_cmp, ordering_then, place_in, stands_in, times, is_open}
 use Rattle.std.proofs.lemmas.Bool.{or_right}
 use Rattle.ordered_lists.specs.Places.{at_places}
-use Rattle.ordered_lists.specs.Entries.{value_under}
 use Rattle.ordered_lists.proofs.ByKey.Keys.{apart-filter}
 use Rattle.ordered_lists.proofs.Lists.InOrder.{in_order-permutation}
 use Rattle.county_chart.specs.BodyOrder.{name_body_cmp}
@@ -17,6 +16,7 @@ use Rattle.tl_number.specs.CountyParts.{feats_along, part_of}
 use Rattle.tl_number.specs.CriticalKeys.{brings}
 use Rattle.tl_number.specs.OpenNames.{chain_feats, feats_in_order}
 use Rattle.tl_number.specs.SmallCounty.{is_kept, kept_places, wanted_feats}
+use Rattle.canonical_form.proofs.Lists.Filtered.{filter-mapped}
 use Rattle.canonical_form.proofs.Lists.Grouping.{in_order-filter}
 use Rattle.canonical_form.proofs.Views.ViewChains.{chains}
 use Rattle.arranged_county.proofs.Names.NameRanks.{ranked_there}
@@ -24,6 +24,7 @@ use Rattle.tl_number.proofs.Lists.OrderPlaces.{in_order-among}
 use Rattle.tl_number.proofs.Names.NamePlaces.{feat_cmp, feat_keys, feats_ordered, feats_permuted, name_stays}
 use Rattle.tl_number.proofs.Ties.Alike.{AreNumberedAlike}
 use Rattle.tl_number.proofs.Ties.CriticalKeys.{new_of}
+use Rattle.tl_number.proofs.Ties.ListsAlike.{value_filtered}
 use Rattle.tl_number.proofs.Ties.NameNumbers.{each_once, seen_placed, turned_feats}
 use Rattle.tl_number.proofs.Ties.NamesInOrder.{feat_numbered, feat_placed, feats_grouped}
 use Rattle.tl_number.proofs.Ties.NewlySeen.{AreAlike}
@@ -216,39 +217,11 @@ module _ (county : County) (shapes : OrderOfShapes) (known : LeavesChoices count
       (name_is county shapes known is within n) (name_is county shapes known is within m)
       (name_is small order small_known small_is small_within n) (name_is small order small_known small_is small_within m)
 
--- The names that a part of a county keeps have their contents.
-module _ {V : Type 0} (test : ℕ → Bool) where
-  -- the FEATs of names that pass a test are those FEATs that pass
-  feats_filtered : (entries : List (ℕ × V)) → map (λ (e : ℕ × V). e.0) (filter (λ e. test e.0) entries) ≡ filter test (map (λ (e : ℕ × V). e.0) entries)
-  feats_filtered [] = refl
-  feats_filtered (e ∷ entries) = go (test e.0) (feats_filtered entries)
-    where
-      go : (b : Bool) → map (λ (d : ℕ × V). d.0) (filter (λ d. test d.0) entries) ≡ filter test (map (λ (d : ℕ × V). d.0) entries)
-          → map (λ (d : ℕ × V). d.0) (cond b (e ∷ filter (λ d. test d.0) entries) (filter (λ d. test d.0) entries))
-          ≡ cond b (e.0 ∷ filter test (map (λ (d : ℕ × V). d.0) entries)) (filter test (map (λ (d : ℕ × V). d.0) entries))
-      go true rest = ap (λ l. e.0 ∷ l) rest
-      go false rest = rest
-
-  -- a FEAT that passes has the same content among them
-  value_filtered : (entries : List (ℕ × V)) (k : ℕ) → test k ≡ true
-      → value_under nat_cmp k (filter (λ e. test e.0) entries) ≡ value_under nat_cmp k entries
-  value_filtered [] k passes = refl
-  value_filtered (e ∷ entries) k passes = go (same_or_not nat_keys k e.0) (test e.0) refl (value_filtered entries k passes)
-    where
-      rest : List (ℕ × V)
-      rest = filter (λ d. test d.0) entries
-
-      go : (k ≡ e.0) ⊎ (is_eq (nat_cmp k e.0) ≡ false) → (b : Bool) → test e.0 ≡ b → value_under nat_cmp k rest ≡ value_under nat_cmp k entries
-          → value_under nat_cmp k (cond b (e ∷ rest) rest) ≡ value_under nat_cmp k (e ∷ entries)
-      go c true f later = ap (λ v. cond (is_eq (nat_cmp k e.0)) (Some e.1) v) later
-      go (inl same) false f later = let both : false ≡ true = sym f ∙ ap test (sym same) ∙ passes in cc
-      go (inr differ) false f later = later ∙ sym (ap (λ b. cond b (Some e.1) (value_under nat_cmp k entries)) differ)
-
--- so a name of a part of a county has its content of the county
+-- A name of a part of a county has its content of the county.
 pub part_contents : (county : County) (keeps : ℕ × Chain → Bool) (with_landmarks : Bool) (k : ℕ)
     → Known nat_cmp (feats (part_of county keeps with_landmarks)) k → name_under (part_of county keeps with_landmarks) k ≡ name_under county k
 unfolding part_of
 part_contents county keeps with_landmarks k h =
     let used : ℕ → Bool = λ feat. stands_in nat_cmp feat (feats_along (filter keeps county.chains)) in
-    value_filtered used county.names k (in_filtered nat_keys used (feats county) k
-    (subst (λ ks. Known nat_cmp ks k) (feats_filtered used county.names) h)).1
+    value_filtered nat_keys used county.names k (in_filtered nat_keys used (feats county) k
+    (subst (λ ks. Known nat_cmp ks k) (sym (filter-mapped used (λ (name : ℕ × Body5). name.0) county.names)) h)).1
