@@ -1,9 +1,9 @@
 -- The numbers of nodes, polygons and names in two choices compare alike in a county and in its small county, and what is wanted of them.
-use Rattle.tl_number.proofs.Common.{◌≡◌, ◌∙◌, ℕ, List, [], map, filter, flat_map, Bool, true, false, cond, Ordering, Some, option_to_list, sym, ap, subst}
+use Rattle.tl_number.proofs.Common.{◌≡◌, ℕ, List, [], map, flat_map, true, false, cond, Ordering, Some, option_to_list, sym, subst}
 use Rattle.tl_number.proofs.Common.{Arrangement, Chain, County, IsCounty, IsKeyOrder, IsWithinLimits, Known, OrderOfShapes, PolygonKey}
-use Rattle.tl_number.proofs.Common.{arrangement_of, feats, first_open, first_seen, grouped, image, is_open, key_cmp, key_keys, keys_along, link_key}
-use Rattle.tl_number.proofs.Common.{most_records, nat_cmp, nat_keys, nodes_along, numbered_choice, placed, polygons_along, polygons_in_order}
-use Rattle.tl_number.proofs.Common.{renaming_of, slice_get, stands_in}
+use Rattle.tl_number.proofs.Common.{arrangement_of, feats, first_seen, grouped, image, is_open, key_cmp, key_keys, keys_along, link_key}
+use Rattle.tl_number.proofs.Common.{most_records, nat_cmp, nat_keys, nodes_along, placed, polygons_along}
+use Rattle.tl_number.proofs.Common.{slice_get, stands_in}
 use Rattle.std.proofs.lemmas.Bool.{or_parts}
 use Rattle.ordered_lists.specs.Places.{at_places}
 use Rattle.ordered_lists.proofs.ByKey.Keys.{known-left}
@@ -20,15 +20,13 @@ use Rattle.tl_number.proofs.Ties.Alike.{AreNumberedAlike}
 use Rattle.tl_number.proofs.Ties.CriticalKeys.{chains_of, new_of}
 use Rattle.tl_number.proofs.Ties.NameNumbers.{turned_feats}
 use Rattle.tl_number.proofs.Ties.NewlySeen.{AreAlike}
-use Rattle.tl_number.proofs.Ties.Ranks.{masked_by}
 use Rattle.tl_number.proofs.Ties.SmallChains.{chains_in, directed_at}
 use Rattle.tl_number.proofs.Ties.SmallCounty.{small_chains, small_is, small_within}
-use Rattle.tl_number.proofs.Ties.TieNumbers.{choice_of, whole_numbered}
+use Rattle.tl_number.proofs.Ties.TieNumbers.{whole_numbered}
 use Rattle.tl_number.proofs.Ties.TopologyOrder.{all_nodes, all_polygons, new_node, new_polygon, turned_nodes, turned_polygons}
 use Rattle.tl_number.proofs.Ties.WantedKeys.{opened_in}
 use Rattle.tl_number.proofs.Ties.WantedNames.{names_alike, part_contents, seen_named, there_name}
-use Rattle.tl_number.proofs.Ties.WantedNumbers.{nodes_alike, polygons_alike, polygons_hidden, polygons_same, polygons_stay}
-use Rattle.tl_number.proofs.Ties.WantedNumbers.{small_polygons_hidden}
+use Rattle.tl_number.proofs.Ties.WantedNumbers.{nodes_alike, polygons_alike}
 
 -- The keys of the chains of a choice are those of the county's chains.
 module _ (county : County) (shapes : OrderOfShapes) (known : LeavesChoices county shapes) (is : IsCounty county)
@@ -123,61 +121,3 @@ module _ (county : County) (shapes : OrderOfShapes) (known : LeavesChoices count
       (image nat_cmp (new_of (small_county county shapes) order small_known is_small within_small m).names)
   names_small = names_alike county shapes known is within (small_county county shapes) order small_known is_small within_small chains_small
       (small_content county shapes)
-
-  -- the number of a polygon in an arrangement
-  abbrev numbered_by : County → Arrangement → PolygonKey → ℕ
-  numbered_by of arrangement k = (image key_cmp (renaming_of of arrangement).polygons k).1
-
-  -- the same for polygons of the choices with these numbers
-  pub choice_polygons : (n m : ℕ) → AreNumberedAlike key_cmp (wanted_polygons county shapes) (polygons_along county.chains)
-      (polygons_along (small_county county shapes).chains)
-      (λ k. (image key_cmp (renaming_of county (numbered_choice county n)).polygons k).1)
-      (λ k. (image key_cmp (renaming_of county (numbered_choice county m)).polygons k).1)
-      (λ k. (image key_cmp (renaming_of (small_county county shapes) (numbered_choice (small_county county shapes) n)).polygons k).1)
-      (λ k. (image key_cmp (renaming_of (small_county county shapes) (numbered_choice (small_county county shapes) m)).polygons k).1)
-  choice_polygons n m =
-      let one = choice_of county shapes known is within in
-      let other = choice_of (small_county county shapes) order small_known is_small within_small in
-      subst (λ a. AreNumberedAlike key_cmp (wanted_polygons county shapes) (polygons_along county.chains) (polygons_along (small_county county shapes).chains)
-      (numbered_by county a) (numbered_by county (numbered_choice county m))
-      (numbered_by (small_county county shapes) (numbered_choice (small_county county shapes) n))
-      (numbered_by (small_county county shapes) (numbered_choice (small_county county shapes) m))) (one n)
-      (subst (λ b. AreNumberedAlike key_cmp (wanted_polygons county shapes) (polygons_along county.chains) (polygons_along (small_county county shapes).chains)
-      (λ k. (new_polygon (new_of county shapes known is within n) k).1) (numbered_by county b)
-      (numbered_by (small_county county shapes) (numbered_choice (small_county county shapes) n))
-      (numbered_by (small_county county shapes) (numbered_choice (small_county county shapes) m))) (one m)
-      (subst (λ c. AreNumberedAlike key_cmp (wanted_polygons county shapes) (polygons_along county.chains) (polygons_along (small_county county shapes).chains)
-      (λ k. (new_polygon (new_of county shapes known is within n) k).1) (λ k. (new_polygon (new_of county shapes known is within m) k).1)
-      (numbered_by (small_county county shapes) c)
-      (numbered_by (small_county county shapes) (numbered_choice (small_county county shapes) m))) (other n)
-      (subst (λ d. AreNumberedAlike key_cmp (wanted_polygons county shapes) (polygons_along county.chains) (polygons_along (small_county county shapes).chains)
-      (λ k. (new_polygon (new_of county shapes known is within n) k).1) (λ k. (new_polygon (new_of county shapes known is within m) k).1)
-      (λ k. (new_polygon (new_of (small_county county shapes) order small_known is_small within_small n) k).1)
-      (numbered_by (small_county county shapes) d)) (other m) (polygons_small n m))))
-
-  -- a polygon that doesn't first appear at an open place has one number in all choices
-  pub choice_polygons_stay : (n m : ℕ) (k : PolygonKey)
-      → stands_in key_cmp k (first_open key_cmp shapes.places (keys_along chain_polygons county shapes.by_shape)) ≡ false
-      → Known key_cmp (polygons_along county.chains) k
-      → (image key_cmp (renaming_of county (numbered_choice county n)).polygons k).1 ≡ (image key_cmp (renaming_of county (numbered_choice county m)).polygons k).1
-  choice_polygons_stay n m k e h =
-      sym (ap (λ a. numbered_by county a k) (choice_of county shapes known is within n))
-      ∙ polygons_stay county shapes known is within (small_county county shapes) order small_known is_small within_small chains_small n m k e h
-      ∙ ap (λ a. numbered_by county a k) (choice_of county shapes known is within m)
-
-  abbrev is_wanted : PolygonKey → Bool
-  is_wanted k = stands_in key_cmp k (wanted_polygons county shapes)
-
-  -- The polygons in their orders differ in wanted ones alone in both counties, and those are in one order in both.
-  pub hidden_polygons : (n m : ℕ) (test : PolygonKey → Bool) → masked_by is_wanted (filter test (polygons_in_order county (numbered_choice county n)))
-      ≡ masked_by is_wanted (filter test (polygons_in_order county (numbered_choice county m)))
-  hidden_polygons = polygons_hidden county shapes known is within (small_county county shapes) order small_known is_small within_small chains_small
-
-  pub hidden_in_small : (n m : ℕ) (test : PolygonKey → Bool)
-      → masked_by is_wanted (filter test (polygons_in_order (small_county county shapes) (numbered_choice (small_county county shapes) n)))
-      ≡ masked_by is_wanted (filter test (polygons_in_order (small_county county shapes) (numbered_choice (small_county county shapes) m)))
-  hidden_in_small = small_polygons_hidden county shapes known is within (small_county county shapes) order small_known is_small within_small chains_small
-
-  pub same_polygons : (n : ℕ) → filter is_wanted (polygons_in_order county (numbered_choice county n))
-      ≡ filter is_wanted (polygons_in_order (small_county county shapes) (numbered_choice (small_county county shapes) n))
-  same_polygons = polygons_same county shapes known is within (small_county county shapes) order small_known is_small within_small chains_small

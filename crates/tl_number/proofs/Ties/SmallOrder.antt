@@ -1,7 +1,7 @@
 -- Two choices are in one order in a county and in its small county.
-use Rattle.tl_number.proofs.Common.{◌≡◌, ◌<◌, ◌∙◌, ℕ, List, map, false, Equal, sym, ap, subst, Body7, County, DirectedChain, Eight, Five, IsCounty}
+use Rattle.tl_number.proofs.Common.{◌≡◌, ◌<◌, ◌∙◌, ℕ, List, false, Equal, sym, ap, subst, County, DirectedChain, Eight, Five, IsCounty}
 use Rattle.tl_number.proofs.Common.{IsLeastBelow, IsWithinLimits, OrderOfShapes, P, Record, Seven, arranged, arrangement_of, choices, choices_cmp}
-use Rattle.tl_number.proofs.Common.{groups_cmp, is_gt, most_records, nat_cmp, numbered_choice, ordering_then, packed, packed_sevens, slice_cmp, text_of}
+use Rattle.tl_number.proofs.Common.{groups_cmp, is_gt, most_records, nat_cmp, numbered_choice, ordering_then, packed, slice_cmp, text_of}
 use Rattle.tl_number.proofs.Common.{type_2_by_chain, type_5_by_name, type_7_by_landmark, type_8_together, type_p_by_number}
 use Rattle.tl_layout.specs.declared.record_type.Record.TheVariants.{Two}
 use Rattle.tl_number.specs.ChoiceSearch.{LeavesChoices}
@@ -10,7 +10,6 @@ use Rattle.canonical_form.proofs.Views.ViewChains.{arranges}
 use Rattle.record_groups.proofs.Texts.GroupOrders.{same_groups}
 use Rattle.record_groups.proofs.Texts.TypeOrders.{texts_in_order}
 use Rattle.record_groups.specs.RecordOrder.{types_1_to_4_cmp, types_5_to_7_cmp, types_8_to_p_cmp}
-use Rattle.tl_number.proofs.Landmarks.BodiesFirst.{same_landmarks}
 use Rattle.tl_number.proofs.Names.ContentFirst.{same_type_5}
 use Rattle.tl_number.proofs.Texts.SamePoints.{twos_of_numbers}
 use Rattle.tl_number.proofs.Ties.ChainTypes.{type_1_small, type_4_small, type_6_small, type_i_small}
@@ -18,10 +17,9 @@ use Rattle.tl_number.proofs.Ties.CriticalKeys.{chains_of}
 use Rattle.tl_number.proofs.Ties.NameRecords.{one_map}
 use Rattle.tl_number.proofs.Ties.SmallChains.{choice_county}
 use Rattle.tl_number.proofs.Ties.OwnOrder.{own_order, own_order_is}
-use Rattle.tl_number.proofs.Ties.SmallCounty.{small_choices, small_leaves, small_sides}
-use Rattle.tl_number.proofs.Ties.SmallLinks.{small_links}
-use Rattle.tl_number.proofs.Ties.SmallNumbers.{choice_polygons, choice_polygons_stay, hidden_in_small, hidden_polygons, is_small, same_polygons, within_small}
-use Rattle.tl_number.proofs.Ties.SmallPolygons.{small_polygons}
+use Rattle.tl_number.proofs.Ties.SmallCounty.{small_choices, small_leaves}
+use Rattle.tl_number.proofs.Ties.SmallEntries.{landmarks_in_small, links_in_small, polygons_in_small}
+use Rattle.tl_number.proofs.Ties.SmallNumbers.{chains_small, is_small, within_small}
 use Rattle.tl_number.proofs.Ties.TieNumbers.{choice_of, whole_numbered}
 
 -- Two choices of a county.
@@ -49,7 +47,7 @@ module _ (county : County) (shapes : OrderOfShapes) (known : LeavesChoices count
       (text_of (packed (arranged county (choice_of county shapes known is within m i)))))
       ∙ texts_in_order a b whole.is_county whole_too.is_county whole.within_limits whole_too.within_limits (one_map county shapes known is within n m)
 
-  -- they tie in types 2, 5 and 7
+  -- they tie in types 2 and 5
   twos_tie : Equal ≡ groups_cmp Two (type_2_by_chain a) (type_2_by_chain b)
   twos_tie = same_groups Two (type_2_by_chain a) (type_2_by_chain b)
       (ap (λ c. type_2_by_chain (arranged county c)) (choice_of county shapes known is within n) ∙ twos_of_numbers county is known.sides n m
@@ -59,12 +57,6 @@ module _ (county : County) (shapes : OrderOfShapes) (known : LeavesChoices count
   fives_tie = same_groups Five (type_5_by_name a) (type_5_by_name b)
       (same_type_5 county is (arrangement_of county one) (arrangement_of county other)
       (arranges county one is (whole_numbered county shapes known is within n)) (arranges county other is (whole_numbered county shapes known is within m)))
-
-  sevens_tie : Equal ≡ groups_cmp Seven (type_7_by_landmark a) (type_7_by_landmark b)
-  sevens_tie = same_groups Seven (type_7_by_landmark a) (type_7_by_landmark b)
-      (ap (λ (landmarks : List (ℕ × List Body7)). map packed_sevens landmarks)
-      (same_landmarks county is (arrangement_of county one) (arrangement_of county other)
-      (arranges county one is (whole_numbered county shapes known is within n)) (arranges county other is (whole_numbered county shapes known is within m))))
 
 -- A county and its small county, with an order of its own.
 module _ (county : County) (shapes : OrderOfShapes) (known : LeavesChoices county shapes) (is : IsCounty county)
@@ -96,34 +88,35 @@ module _ (county : County) (shapes : OrderOfShapes) (known : LeavesChoices count
       ∙ sym (λ i. groups_cmp record_of (groups (arranged small (choice_of small order small_known is_too within_too n i)))
       (groups (arranged small (choice_of small order small_known is_too within_too m i))))
 
-  -- the records of type 8, and of type P
-  eights : (n m : ℕ) → groups_cmp Eight (type_8_together (of_choice n)) (type_8_together (of_choice m))
+  -- landmarks, their links, and polygons
+  landmarks : (n m : ℕ) → groups_cmp Seven (type_7_by_landmark (of_choice n)) (type_7_by_landmark (of_choice m))
+      ≡ groups_cmp Seven (type_7_by_landmark (of_small n)) (type_7_by_landmark (of_small m))
+  landmarks n m = of_numbers Seven type_7_by_landmark n m (landmarks_in_small county shapes known is within order small_known is_too within_too
+      (chains_small county shapes known is within order small_known) n m)
+
+  links : (n m : ℕ) → groups_cmp Eight (type_8_together (of_choice n)) (type_8_together (of_choice m))
       ≡ groups_cmp Eight (type_8_together (of_small n)) (type_8_together (of_small m))
-  eights n m = of_numbers Eight type_8_together n m
-      (small_links county shapes is within known.sides is_too within_too (small_sides county shapes known is)
-      (choice_polygons county shapes known is within order small_known) (choice_polygons_stay county shapes known is within order small_known) n m)
+  links n m = of_numbers Eight type_8_together n m (links_in_small county shapes known is within order small_known is_too within_too
+      (chains_small county shapes known is within order small_known) n m)
 
   polygons : (n m : ℕ) → groups_cmp P (type_p_by_number (of_choice n)) (type_p_by_number (of_choice m))
       ≡ groups_cmp P (type_p_by_number (of_small n)) (type_p_by_number (of_small m))
-  polygons n m = of_numbers P type_p_by_number n m
-      (small_polygons county shapes is within known.sides is_too within_too (small_sides county shapes known is) n m
-      (choice_polygons county shapes known is within order small_known n m) (same_polygons county shapes known is within order small_known)
-      (hidden_polygons county shapes known is within order small_known n m) (hidden_in_small county shapes known is within order small_known n m))
+  polygons n m = of_numbers P type_p_by_number n m (polygons_in_small county shapes known is within order small_known is_too within_too
+      (chains_small county shapes known is within order small_known) n m)
 
   -- So two choices are in one order.
   same_order : (n m : ℕ) → choices_cmp small n m ≡ choices_cmp county n m
   same_order n m =
       let twos = sym (twos_tie county shapes known is within n m) ∙ twos_tie small order small_known is_too within_too n m in
       let fives = sym (fives_tie county shapes known is within n m) ∙ fives_tie small order small_known is_too within_too n m in
-      let sevens = sym (sevens_tie county shapes known is within n m) ∙ sevens_tie small order small_known is_too within_too n m in
       let ones = type_1_small county shapes known is within order small_known n m in
       let fours = type_4_small county shapes known is within order small_known n m in
       let sixes = type_6_small county shapes known is within order small_known n m in
       let topologies = type_i_small county shapes known is within order small_known n m in
       types_decide small order small_known is_too within_too n m
       ∙ sym (λ i. ordering_then (ordering_then (ones i) (ordering_then (twos i) (fours i)))
-      (ordering_then (ordering_then (fives i) (ordering_then (sixes i) (sevens i)))
-      (ordering_then (eights n m i) (ordering_then (topologies i) (polygons n m i)))))
+      (ordering_then (ordering_then (fives i) (ordering_then (sixes i) (landmarks n m i)))
+      (ordering_then (links n m i) (ordering_then (topologies i) (polygons n m i)))))
       ∙ sym (types_decide county shapes known is within n m)
 
 module _ (county : County) (shapes : OrderOfShapes) (known : LeavesChoices county shapes) (is : IsCounty county)
