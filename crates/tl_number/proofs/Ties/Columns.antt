@@ -200,7 +200,7 @@ places_first count ks ls = ap₂ (slice_cmp nat_cmp) (places_split count ks) (pl
     (places_text number_place_text count (later_places ks)) (places_text number_place_text count (later_places ls))
     (length-number_text 8 (first_place ks) ∙ sym (length-number_text 8 (first_place ls)))
 
--- so do their texts
+-- Their texts compare alike too.
 pub number_places_alike : (count : ℕ) (ks ls ms ns : List ℕ) → AllByRecursion (IsNumber 8) ks → AllByRecursion (IsNumber 8) ls
     → AllByRecursion (IsNumber 8) ms → AllByRecursion (IsNumber 8) ns → ArePlacesAlike count ks ls ms ns
     → slice_cmp nat_cmp (places_text number_place_text count ks) (places_text number_place_text count ls)

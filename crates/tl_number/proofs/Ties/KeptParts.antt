@@ -57,13 +57,13 @@ later_place (x ∷ ps) zero (suc j) p q a e f l =
 later_place (x ∷ ps) (suc i) zero p q a e f l = absurd (omega (arith, l))
 later_place (x ∷ ps) (suc i) (suc j) p q a e f l = later_place ps i j p q a.1 e f (omega (arith, l))
 
--- those of a range that pass a test
+-- ascending places from a start on and below an end
 record IsPart (start end : ℕ) (ps : List ℕ) : Type 0 where
   ascends : Ascends ps
   from : AllByRecursion (λ q. start ≤ q) ps
   below : AllByRecursion (λ q. q < end) ps
 
--- those of a range that pass a test ascend from its start and are below its end
+-- those of a range that pass a test are such places
 part_of_range : (test : ℕ → Bool) (start count end : ℕ) → start + count ≤ end → IsPart start end (filter test (range_with_len start count))
 part_of_range test start zero end l = record { ascends = tt; from = tt; below = tt }
 part_of_range test start (suc count) end l = go (test start) (part_of_range test (start + 1) count end (omega (arith, l)))
@@ -83,7 +83,7 @@ part_of_range test start (suc count) end l = go (test start) (part_of_range test
       below = h.below;
     }
 
--- are in the order of their places among them
+-- They are in the order of their places among them.
 pub kept_order : (test : ℕ → Bool) (count i j p q : ℕ) → slice_get (filter test (range_with_len 0 count)) i ≡ Some p
     → slice_get (filter test (range_with_len 0 count)) j ≡ Some q → nat_cmp (suc p) (suc q) ≡ nat_cmp (suc i) (suc j)
 kept_order test count i j p q e f = sym (one_cmp (suc i) (suc j) (suc p) (suc q) (record {
@@ -112,7 +112,7 @@ pub record Kept (C Y : Type 0) : Type 0 where
 abbrev pub IsThere : {C : Type 0} → List C → ℕ → Type 0
 IsThere {C} cs place = (c : C) × (slice_get cs place ≡ Some c)
 
--- as it is at each place below the length
+-- each place below the length has a chain
 pub all_are_there : {C : Type 0} (cs : List C) (test : ℕ → Bool) (count : ℕ) → count ≡ length cs
     → AllByRecursion (IsThere cs) (filter test (range_with_len 0 count))
 all_are_there {C} cs test count e =
@@ -194,7 +194,7 @@ module _ {C Y : Type 0} (pieces : C → List Y) (cs : List C) where
     pub counted : k.part ≡ suc index
     pub piece_there : slice_get (pieces k.chain) index ≡ Some k.piece
 
-  -- elements with their numbers
+  -- an element is at the place that its number says
   all_numbered : (ys : List Y) (n : ℕ)
       → AllByRecursion (λ (e : ℕ × Y). (i : ℕ) × (e.0 ≡ n + i) × (slice_get ys i ≡ Some e.1)) (numbered_from n ys)
   all_numbered [] n = tt

@@ -34,13 +34,13 @@ module _ (county : County) (shapes : OrderOfShapes) (known : LeavesChoices count
   length_chains i = read_length (directed_chain county) (chains_of county shapes known is within i) (chains_in i) (read_in i)
       ∙ length_numbered county shapes known is within i
 
-  -- the directed chain at a place
+  -- the directed chain at a place, of which a chain is made
   pub record DirectedAt (i place : ℕ) (c : Chain) : Type 0 where
     pub directed : DirectedChain
     pub there : slice_get (chains_of county shapes known is within i) place ≡ Some directed
     pub of_directed : directed_chain county directed ≡ Some c
 
-  -- which each chain comes from
+  -- each chain of a choice is made of one
   pub directed_at : (i place : ℕ) (c : Chain) → slice_get (chains_in i) place ≡ Some c → DirectedAt i place c
   directed_at i place c e = go (slice_get (chains_of county shapes known is within i) place) refl
     where
@@ -72,7 +72,7 @@ module _ (county : County) (shapes : OrderOfShapes) (known : LeavesChoices count
   chains_numbered i = chains_arranged county (arrangement_of county (chains_of county shapes known is within i)) is
       (arranges county (chains_of county shapes known is within i) is (whole_numbered county shapes known is within i))
 
-  -- and each by itself
+  -- the chain at a place, with its TLID and new numbers
   pub entry_at : (i place : ℕ) (c : Chain) → slice_get (chains_in i) place ≡ Some c
       → slice_get (choice_county i).chains place ≡ Some (suc place, renumbered (new_of county shapes known is within i) c)
   entry_at i place c e =

@@ -67,7 +67,7 @@ module _ (county : County) (shapes : OrderOfShapes) (known : LeavesChoices count
       abbrev pub CompareAlike : Option K → Option K → Type 0
       CompareAlike p q = nat_cmp (number_or_none one p) (number_or_none other q) ≡ nat_cmp (number_or_none small_one p) (number_or_none small_other q)
 
-      -- as those of wanted keys do, and none comes before each number,
+      -- they do if both keys are wanted or missing: a missing key comes before each other one,
       wanted_pair : (width : ℕ) (p q : Option K)
           → ((j : K) → p ≡ Some j → (stands_in cmp j wanted ≡ true) × Known cmp small_all j)
           → ((k : K) → q ≡ Some k → (stands_in cmp k wanted ≡ true) × Known cmp small_all k)
@@ -81,7 +81,7 @@ module _ (county : County) (shapes : OrderOfShapes) (known : LeavesChoices count
           let right = l k refl in
           alike.wanted_alike j k left.0 right.0 left.1 right.1
 
-      -- and those of one key.
+      -- and if both are one key.
       same_pair : (p : Option K) → ((j : K) → p ≡ Some j → Known cmp all j × Known cmp small_all j) → CompareAlike p p
       same_pair None h = refl
       same_pair (Some j) h = go (stands_in cmp j wanted) refl (h j refl)

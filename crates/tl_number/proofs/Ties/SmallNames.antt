@@ -76,7 +76,7 @@ places_from (suc count) f g h k (x ∷ xs) (y ∷ ys) alike = (alike 0, places_f
 abbrev name_in : ℕ → ℕ → Chain → Option ℕ
 name_in index place c = option_and_then (λ piece. slice_get piece place) (slice_get (in_pieces 5 c.feats) index)
 
--- is one of the chain
+-- such a name is one of the chain's
 name_listed : (index place : ℕ) (c : Chain) (k : ℕ) → name_in index place c ≡ Some k → Known nat_cmp c.feats k
 name_listed index place c k e = go (slice_get (in_pieces 5 c.feats) index) refl e
   where
@@ -142,7 +142,7 @@ module _ (county : County) (shapes : OrderOfShapes) (known : LeavesChoices count
       ∙ ap (λ t. fours_under t (map (number_in i) c.feats)) (let t : place + 1 ≡ suc place = omega arith in t)
       ∙ fours_made (number_in i) (suc place) c.feats
 
-  -- which fit
+  -- they fit
   fours_fit_there : (i place : ℕ) → IsThere (chains_at i) place → AllByRecursion (λ r. FitsRecord (Four r)) (fours_in i place)
   fours_fit_there i place there =
       let whole = whole_numbered county shapes known is within i in
@@ -153,7 +153,7 @@ module _ (county : County) (shapes : OrderOfShapes) (known : LeavesChoices count
       (let past = none_past (chains_at i) place there.0 there.1 in let count = length_chains county shapes known is within i in omega (arith, past, count))
       place (omega arith)
 
-  -- so are those of the small county
+  -- the records of the small county are made of pieces of names, too
   small_fours : (i : ℕ) → grouped (type_4_by_chain (of_small i))
       ≡ grouped (map (λ (e : ℕ × Chain). made pieces_of (chains_at i) (small_four_of i) e.0 e.1)
       (numbered_from 1 (chains_in small order small_known small_is small_within i)))

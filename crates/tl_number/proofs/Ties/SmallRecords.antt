@@ -194,7 +194,7 @@ module _ (county : County) (shapes : OrderOfShapes) (known : LeavesChoices count
       ∙ ap (map (λ (e : ℕ × Chain). One (packed_one e))) (chains_numbered small order small_known small_is small_within i)
       ∙ map-map (λ (e : ℕ × Chain). One (packed_one e)) (kept_entry r) es
 
-  -- in terms of the chain there
+  -- the record at a place, by the chain there
   one_there : (i place : ℕ) → slice_get (ones_of (of_choice i)) place ≡ option_map (λ c. One (packed_one (1 + place, c))) (slice_get (chains_at i) place)
   one_there i place =
       let r = new_of county shapes known is within i in
@@ -277,7 +277,7 @@ module _ (county : County) (shapes : OrderOfShapes) (known : LeavesChoices count
       ∙ ap (λ o. sixes_under (place + 1) (ranges_of o)) at.of_directed
       ∙ ap (λ n. sixes_under n c.ranges) (let t : place + 1 ≡ suc place = omega arith in t)
 
-  -- which fit
+  -- they fit
   sixes_fit_there : (i place : ℕ) → IsThere (chains_at i) place → AllByRecursion (λ r. FitsRecord (Six r)) (sixes_in i place)
   sixes_fit_there i place there =
       let chosen = chains_of county shapes known is within i in
@@ -289,7 +289,7 @@ module _ (county : County) (shapes : OrderOfShapes) (known : LeavesChoices count
       let two = length_numbered county shapes known is within i in omega (arith, past, one, two))
       place (omega arith)
 
-  -- so are those of the small county
+  -- the records of the small county are made of its ranges, too
   small_sixes : (i : ℕ) → grouped (type_6_by_chain (of_small i))
       ≡ grouped (map (λ (e : ℕ × Chain). made (λ (x : Chain). x.ranges) (chains_at i) (six_of i) e.0 e.1)
       (numbered_from 1 (chains_in small order small_known small_is small_within i)))

@@ -41,7 +41,7 @@ polygon_number r k = (new_polygon r k).1
 abbrev side_key : PolygonSide → Option PolygonKey
 side_key side = option_map (λ polyid. (side.cenid, polyid)) side.polyid
 
--- is that which is listed
+-- the polygon on a side is the one that is listed
 key_listed : (side : PolygonSide) (k : PolygonKey) → side_key side ≡ Some k → Known key_cmp (key_on side) k
 key_listed side k e = go side.cenid side.polyid e
   where
@@ -61,7 +61,7 @@ polyid_is r side = go side.cenid side.polyid
     go cenid None = refl
     go cenid (Some polyid) = refl
 
--- and its CENID
+-- the CENID of a side under new numbers
 cenid_is : (r : Renumbering) (side : PolygonSide) → ((k : PolygonKey) → side_key side ≡ Some k → (new_polygon r k).0 ≡ k.0)
     → (renumbered_side r side).cenid ≡ side.cenid
 cenid_is r side kept = go side.cenid side.polyid kept
@@ -117,7 +117,7 @@ module _ (county : County) (shapes : OrderOfShapes) (known : LeavesChoices count
   topology_there i place c e = topology_record_there (choice_county county shapes known is within i) place
       ∙ ap (option_map (λ (entry : ℕ × Chain). I (packed_i entry))) (entry_at county shapes known is within i place c e)
 
-  -- all of them
+  -- all records of a choice
   topologies_are : (i : ℕ) → topologies_of (choice_county county shapes known is within i)
       ≡ map (λ (e : ℕ × Chain). I (packed_i (e.0, renumbered (new_of county shapes known is within i) e.1)))
       (numbered_from 1 (chains_in county shapes known is within i))
@@ -128,7 +128,7 @@ module _ (county : County) (shapes : OrderOfShapes) (known : LeavesChoices count
       ∙ ap (map (λ (e : ℕ × Chain). I (packed_i e))) (chains_numbered county shapes known is within i)
       ∙ map-map (λ (e : ℕ × Chain). I (packed_i e)) (kept_entry r) (numbered_from 1 (chains_in county shapes known is within i))
 
-  -- which fit
+  -- they fit
   fit_in : (i : ℕ) → AllByRecursion FitsRecord (topologies_of (choice_county county shapes known is within i))
   fit_in i = let whole = whole_numbered county shapes known is within i in
       topologies_fit (choice_county county shapes known is within i) whole.is_county whole.within_limits
@@ -313,7 +313,7 @@ module _ (county : County) (shapes : OrderOfShapes) (known : LeavesChoices count
     stay_nodes : Stay county shapes known is within nat_keys chain_nodes new_node nodes
     stay_nodes n m k e h l = (nodes_alike n m).stay k e (in_nodes n k h)
 
-    -- and so have polygons
+    -- polygons that aren't wanted have one number, too
     stay_polygons : Stay county shapes known is within key_keys chain_polygons new_polygon polygons
     stay_polygons n m k e h l =
         ap₂ (λ (cenid : List ℕ) (polyid : ℕ). (cenid, polyid))
