@@ -43,6 +43,7 @@ module _ (county : County) (arrangement : Arrangement) (h : IsArrangementOf coun
   pub arranged_is : IsCounty (arranged county arrangement)
   arranged_is = arranged_county county arrangement h.is h.arranges h.sides
 
+  -- it is within the limits too
   pub arranged_within : IsWithinLimits most_records (arranged county arrangement)
   arranged_within = arrangement_within most_records (omega arith) county h.is arrangement h.arranges h.sides h.within
 

@@ -33,6 +33,7 @@ put_mapped by f x (y ∷ ys) = go (is_gt (by (f x) (f y))) (put_mapped by f x ys
     go true rest = ap (λ l. f y ∷ l) rest
     go false rest = refl
 
+-- images put in order are the images of elements put in order by them
 pub order_mapped : {X L : Type 0} (by : L → L → Ordering) (f : X → L) (xs : List X) → in_order by (map f xs) ≡ map f (in_order (on f by) xs)
 order_mapped by f [] = refl
 order_mapped by f (x ∷ xs) = ap (put_in_order by (f x)) (order_mapped by f xs) ∙ put_mapped by f x (in_order (on f by) xs)

@@ -25,6 +25,7 @@ module _ (county : County) (shapes : OrderOfShapes) (known : LeavesChoices count
     abbrev small : County
     small = small_county county shapes
 
+    -- the counties of choices
     abbrev choice : ℕ → County
     choice n = arranged county (numbered_choice county n)
 
@@ -47,6 +48,7 @@ module _ (county : County) (shapes : OrderOfShapes) (known : LeavesChoices count
         ))
         (polygons_alike county shapes known is within small order small_known small_is small_within small_chains n m)
 
+    -- polygons that first appear at fixed places have one number in all choices
     stay : (n m : ℕ) (k : PolygonKey)
         → stands_in key_cmp k (first_open key_cmp shapes.places (keys_along chain_polygons county shapes.by_shape)) ≡ false
         → Known key_cmp (polygons_along county.chains) k

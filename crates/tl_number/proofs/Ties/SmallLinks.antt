@@ -71,6 +71,7 @@ landmarks_under keys links landmarks = in_order (on (landmark_key (in_order link
 -- Two renamings that compare the polygons of links alike.
 module _ (links : List Fields8) (keys keys_too : List (PolygonKey × PolygonKey)) (kept : KeepsCenids keys) (kept_too : KeepsCenids keys_too)
     (alike : CompareAlike links keys keys keys_too keys_too) where
+  -- polygons of links compare alike under both
   parts_alike : (x y : Fields8) → Among x links → Among y links
       → link_part_cmp (link_part (relinked keys x)) (link_part (relinked keys y)) ≡ link_part_cmp (link_part (relinked keys_too x)) (link_part (relinked keys_too y))
   parts_alike x y h k = ap₂ ordering_then (alike x y h k)
@@ -81,25 +82,30 @@ module _ (links : List Fields8) (keys keys_too : List (PolygonKey × PolygonKey)
   abbrev sorted : List Fields8
   sorted = in_order (on (relinked keys) link_cmp) links
 
+  -- that is their order under one
   sorted_there : in_order link_cmp (map (relinked keys) links) ≡ map (relinked keys) sorted
   sorted_there = order_mapped link_cmp (relinked keys) links
 
+  -- and under the other
   sorted_too : in_order link_cmp (map (relinked keys_too) links) ≡ map (relinked keys_too) sorted
   sorted_too = images_alike link_cmp link_cmp (relinked keys) (relinked keys_too) links
       (λ x y h k. ap (ordering_then (nat_cmp x.land y.land)) (parts_alike x y h k))
 
-  -- and so are landmarks
+  -- the links of a landmark
   abbrev own : ℕ → List Fields8
   own land = filter (λ link. link.land == land) sorted
 
+  -- the polygons of a landmark, in order, are those of its links
   own_parts : (pairs : List (PolygonKey × PolygonKey)) (land : ℕ)
       → links_of (map (relinked pairs) sorted) land ≡ map (λ link. link_part (relinked pairs link)) (own land)
   own_parts pairs land = ap (map link_part) (filter-mapped (λ link. link.land == land) (relinked pairs) sorted)
       ∙ map-map link_part (relinked pairs) (own land)
 
+  -- a link of a landmark is one of the links
   is_own : (link : Fields8) (land : ℕ) → Among link (own land) → Among link links
   is_own link land h = from_in_order (on (relinked keys) link_cmp) links link (among_filtered (λ l. l.land == land) link sorted h).0
 
+  -- landmarks compare alike by their contents and polygons
   key_alike : (x y : ℕ × List Body7) → landmark_key_cmp (landmark_key (map (relinked keys) sorted) x) (landmark_key (map (relinked keys) sorted) y)
       ≡ landmark_key_cmp (landmark_key (map (relinked keys_too) sorted) x) (landmark_key (map (relinked keys_too) sorted) y)
   key_alike x y = ap (ordering_then (slice_cmp landmark_body_cmp x.1 y.1))
@@ -109,6 +115,7 @@ module _ (links : List Fields8) (keys keys_too : List (PolygonKey × PolygonKey)
       (λ u v h k. parts_alike u v (is_own u x.0 h) (is_own v y.0 k)) (own x.0) (own y.0) (all_themselves (own x.0)) (all_themselves (own y.0))
       ∙ sym (ap₂ (slice_cmp link_part_cmp) (own_parts keys_too x.0) (own_parts keys_too y.0)))
 
+  -- so landmarks are in one order
   landmarks_alike : (landmarks : List (ℕ × List Body7)) → landmarks_under keys links landmarks ≡ landmarks_under keys_too links landmarks
   landmarks_alike landmarks =
       ap (λ ls. in_order (on (landmark_key ls) landmark_key_cmp) landmarks) sorted_there
@@ -127,6 +134,7 @@ module _ (county small : County) (landmarks : small.landmarks ≡ county.landmar
   module _ (one small_one : Arrangement) (h : IsArrangementOf county one) (h_small : IsArrangementOf small small_one)
       (alike : CompareAlike county.links (renaming_of county one).polygons (renaming_of county one).polygons
       (renaming_of small small_one).polygons (renaming_of small small_one).polygons) where
+    -- the renamings of the county's and of the part's arrangement
     abbrev r : Renumbering
     r = renaming_of county one
 
@@ -151,9 +159,11 @@ module _ (county small : County) (landmarks : small.landmarks ≡ county.landmar
     abbrev pub sorted_links : List Fields8
     sorted_links = in_order (on (renamed r.polygons r.lands) link_cmp) county.links
 
+    -- the links of the arranged county, in this order
     pub links_are : (arranged county one).links ≡ map (renamed r.polygons r.lands) sorted_links
     links_are = links_arranged county one h.is h.arranges ∙ order_mapped link_cmp (renamed r.polygons r.lands) county.links
 
+    -- those of the arranged part are the same ones under its numbers of polygons
     pub small_links_are : (arranged small small_one).links ≡ map (renamed s.polygons r.lands) sorted_links
     small_links_are = links_arranged small small_one h_small.is h_small.arranges
         ∙ ap₂ (λ lands ls. in_order link_cmp (map (renamed s.polygons lands) ls)) (sym same_lands) links
@@ -167,12 +177,14 @@ module _ (county small : County) (landmarks : small.landmarks ≡ county.landmar
         (eights_fit (arranged county one) (arranged_is county one h) (arranged_within county one h)))
         (among-map (renamed r.polygons r.lands) link sorted_links there)
 
+    -- those of the part do too
     pub small_fits : (link : Fields8) → Among link sorted_links → FitsRecord (Eight (renamed s.polygons r.lands link))
     small_fits link there = all_among (λ l. FitsRecord (Eight l)) (renamed s.polygons r.lands link) (map (renamed s.polygons r.lands) sorted_links)
         (subst (AllByRecursion (λ l. FitsRecord (Eight l))) small_links_are
         (eights_fit (arranged small small_one) (arranged_is small small_one h_small) (arranged_within small small_one h_small)))
         (among-map (renamed s.polygons r.lands) link sorted_links there)
 
+    -- a link in this order is one of the county
     pub sorted_among : (link : Fields8) → Among link sorted_links → Among link county.links
     sorted_among link = from_in_order (on (renamed r.polygons r.lands) link_cmp) county.links link
 
@@ -185,6 +197,7 @@ module _ (county small : County) (landmarks : small.landmarks ≡ county.landmar
       (renaming_of small small_other).polygons (renaming_of small small_other).polygons)
       (alike : CompareAlike county.links (renaming_of county one).polygons (renaming_of county other).polygons
       (renaming_of small small_one).polygons (renaming_of small small_other).polygons) where
+    -- a link under the numbers of each arrangement; LANDs are the same in county and part
     abbrev mine : Fields8 → Fields8
     mine = renamed (renaming_of county one).polygons (renaming_of county one).lands
 
@@ -241,6 +254,7 @@ module _ (county small : County) (landmarks : small.landmarks ≡ county.landmar
 module _ (county small : County) (one other small_one small_other : Arrangement) (h : IsArrangementOf county one) (g : IsArrangementOf county other)
     (h_small : IsArrangementOf small small_one) (g_small : IsArrangementOf small small_other) (no_links : small.links ≡ [])
     (same : (link : Fields8) → Among link county.links → polygon_number county one (link_key link) ≡ polygon_number county other (link_key link)) where
+  -- links have the same polygons in both arrangements
   agree : LinksAgree county h.is one other h.arranges g.arranges
   agree = each_from (λ link. image key_cmp (new_keys county one) (link_key link) ≡ image key_cmp (new_keys county other) (link_key link)) county.links
       (λ link there.
@@ -248,10 +262,12 @@ module _ (county small : County) (one other small_one small_other : Arrangement)
       ∙ (λ i. ((keeps_cenid county one h (link_key link) ∙ sym (keeps_cenid county other g (link_key link))) i, same link there i))
       ∙ ap (λ keys. image key_cmp keys (link_key link)) (polygons_renamed county other g.is g.arranges))
 
+  -- the arranged part has no links
   none_there : (arrangement : Arrangement) → IsArrangementOf small arrangement → (arranged small arrangement).links ≡ []
   none_there arrangement k = links_arranged small arrangement k.is k.arranges
       ∙ ap (λ ls. in_order link_cmp (map (carried_link (renaming_of small arrangement)) ls)) no_links
 
+  -- So two choices tie in type 8 in both counties.
   pub unlinked_alike : groups_cmp Eight (type_8_together (arranged county one)) (type_8_together (arranged county other))
       ≡ groups_cmp Eight (type_8_together (arranged small small_one)) (type_8_together (arranged small small_other))
   unlinked_alike =
@@ -272,6 +288,7 @@ module _ (county : County) (shapes : OrderOfShapes) where
   unfolding small_county part_of
   landmarks_kept = refl
 
+  -- the same for links
   links_kept : (small_county county shapes).links ≡ cond (is_linked county shapes) county.links []
   unfolding small_county part_of
   links_kept = refl
@@ -282,6 +299,7 @@ module _ (county : County) (shapes : OrderOfShapes) where
   module _ (is : IsCounty county) (within : IsWithinLimits most_records county) (sides : AllKeysStandIn (polygons_along county.chains) (polygon_keys county))
       (small_is : IsCounty (small_county county shapes)) (small_within : IsWithinLimits most_records (small_county county shapes))
       (small_sides : AllKeysStandIn (polygons_along (small_county county shapes).chains) (polygon_keys (small_county county shapes))) where
+    -- each choice is an arrangement of its county
     choice : (n : ℕ) → IsArrangementOf county (numbered_choice county n)
     choice = choice_arranges county is within sides
 
@@ -306,18 +324,22 @@ module _ (county : County) (shapes : OrderOfShapes) where
         → Known key_cmp (polygons_along county.chains) k
         → polygon_number county (numbered_choice county n) k ≡ polygon_number county (numbered_choice county m) k) where
       module _ (linked : is_linked county shapes ≡ true) where
+        -- a small county with landmarks has all links
         all_links : small.links ≡ county.links
         all_links = links_kept ∙ ap (λ b. cond b county.links []) linked
 
+        -- their polygons are wanted
         wanted_there : (link : Fields8) → Among link county.links → stands_in key_cmp (link_key link) (wanted_polygons county shapes) ≡ true
         wanted_there link there = lt-ltb 0 (times key_cmp (link_key link) (wanted_polygons county shapes))
             (known-right key_keys (link_key link) (keys_at_open chain_polygons county shapes) (cond (is_linked county shapes) (map link_key county.links) [])
             (subst (λ b. Known key_cmp (cond b (map link_key county.links) []) (link_key link)) (sym linked)
             (among_known key_keys (link_key link) (map link_key county.links) (among-map link_key link county.links there))))
 
+        -- and on a side in the small county
         small_there : (link : Fields8) → Among link county.links → Known key_cmp (polygons_along small.chains) (link_key link)
         small_there link there = link_on_side small small_is small_sides link (subst (Among link) (sym all_links) there)
 
+        -- so they compare alike in both counties
         compare : (n m : ℕ) → CompareAlike county.links (renaming_of county (numbered_choice county n)).polygons
             (renaming_of county (numbered_choice county m)).polygons (renaming_of small (numbered_choice small n)).polygons
             (renaming_of small (numbered_choice small m)).polygons
@@ -325,6 +347,7 @@ module _ (county : County) (shapes : OrderOfShapes) where
             (small_there x there) (small_there y there_too)
 
       module _ (unlinked : is_linked county shapes ≡ false) where
+        -- no link has a polygon that first appears at an open place
         closed : (link : Fields8) → Among link county.links
             → stands_in key_cmp (link_key link) (first_open key_cmp shapes.places (keys_along chain_polygons county shapes.by_shape)) ≡ false
         closed link there =
@@ -332,6 +355,7 @@ module _ (county : County) (shapes : OrderOfShapes) where
             all_among (λ l. stands_in key_cmp (link_key l) opened ≡ false) link county.links
             (all_fail (λ (l : Fields8). stands_in key_cmp (link_key l) opened) county.links unlinked) there
 
+      -- So records of type 8 compare alike, whether or not the small county has landmarks.
       pub small_links : (n m : ℕ) → groups_cmp Eight (type_8_together (arranged county (numbered_choice county n)))
           (type_8_together (arranged county (numbered_choice county m)))
           ≡ groups_cmp Eight (type_8_together (arranged small (numbered_choice small n))) (type_8_together (arranged small (numbered_choice small m)))

@@ -69,6 +69,7 @@ records_under number body (key ∷ keys) = go (body key) refl (records_under num
 
 -- One arrangement of a county.
 module _ (county : County) (arrangement : Arrangement) (h : IsArrangementOf county arrangement) where
+  -- the polygons by first appearance
   abbrev seen : List PolygonKey
   seen = polygons_in_order county arrangement
 
@@ -100,6 +101,7 @@ module _ (county : County) (arrangement : Arrangement) (h : IsArrangementOf coun
   abbrev pub with_record : List PolygonKey
   with_record = filter (has_record county) seen
 
+  -- their records are the records of type P
   records_are : grouped (type_p_by_number (arranged county arrangement)) ≡ map record_in with_record
   records_are =
       grouped_selected packed_p (polygons_by_number (arranged county arrangement))
@@ -108,12 +110,14 @@ module _ (county : County) (arrangement : Arrangement) (h : IsArrangementOf coun
       ∙ map-map (under_number county) (λ key. (key, polygon_number county arrangement key)) seen)
       ∙ records_under (polygon_number county arrangement) (body_of county) seen
 
+  -- which fit
   record_fits : (key : PolygonKey) → Among key with_record → FitsRecord (P (record_in key))
   record_fits key there = all_among (λ r. FitsRecord (P r)) (record_in key) (map record_in with_record)
       (subst (AllByRecursion (λ r. FitsRecord (P r))) records_are
       (polygons_fit (arranged county arrangement) (arranged_is county arrangement h) (arranged_within county arrangement h)))
       (among-map record_in key with_record there)
 
+  -- each of these polygons is on a side
   on_side : (key : PolygonKey) → Among key with_record → Known key_cmp (polygons_along county.chains) key
   on_side key there = numbered_on_side county arrangement h key (among_filtered (has_record county) key seen there).0
 
@@ -122,6 +126,7 @@ module _ (county : County) (wanted : PolygonKey → Bool) (one other : Arrangeme
     (masked : masked_by wanted (with_record county one h) ≡ masked_by wanted (with_record county other g))
     (stay : (k : PolygonKey) → wanted k ≡ false → Known key_cmp (polygons_along county.chains) k
     → polygon_number county one k ≡ polygon_number county other k) where
+  -- records of other polygons are the same and stand at the same places
   pub wanted_records : groups_cmp P (type_p_by_number (arranged county one)) (type_p_by_number (arranged county other))
       ≡ slice_cmp spelling_cmp (map (λ k. P (record_in county one h k)) (filter wanted (with_record county one h)))
       (map (λ k. P (record_in county other g k)) (filter wanted (with_record county other g)))
@@ -137,15 +142,18 @@ module _ (county : County) (wanted : PolygonKey → Bool) (one other : Arrangeme
 -- A part of a county, in which polygons keep their content.
 module _ (county small : County) (wanted : List PolygonKey)
     (contents : (k : PolygonKey) → Known key_cmp (polygons_along small.chains) k → polygon_under small k ≡ polygon_under county k) where
+  -- whether a polygon is wanted
   abbrev is_wanted : PolygonKey → Bool
   is_wanted k = stands_in key_cmp k wanted
 
+  -- a polygon of the part has its content
   bodies : (k : PolygonKey) → Known key_cmp (polygons_along small.chains) k → body_of small k ≡ body_of county k
   bodies k known = ap (option_and_then (λ body. body)) (contents k known)
 
   -- one arrangement of each, with the same wanted polygons by first appearance
   module _ (one small_one : Arrangement) (h : IsArrangementOf county one) (h_small : IsArrangementOf small small_one)
       (same : filter is_wanted (polygons_in_order county one) ≡ filter is_wanted (polygons_in_order small small_one)) where
+    -- then the wanted polygons with a record are the same
     same_keys : filter is_wanted (with_record county one h) ≡ filter is_wanted (with_record small small_one h_small)
     same_keys =
         filters_swap is_wanted (has_record county) (polygons_in_order county one)
@@ -154,6 +162,7 @@ module _ (county small : County) (wanted : List PolygonKey)
         ∙ ap (filter is_wanted) (filters_alike (has_record county) (has_record small) (polygons_in_order small small_one)
         (λ k there. ap is_some (sym (bodies k (numbered_on_side small small_one h_small k there)))))
 
+    -- and the part has them
     in_part : (k : PolygonKey) → Among k (filter is_wanted (with_record county one h)) → Among k (with_record small small_one h_small)
     in_part k there = (among_filtered is_wanted k (with_record small small_one h_small) (subst (Among k) same_keys there)).0
 
@@ -164,6 +173,7 @@ module _ (county small : County) (wanted : List PolygonKey)
       (polygon_number county other) (polygon_number small small_one) (polygon_number small small_other))
       (same : filter is_wanted (polygons_in_order county one) ≡ filter is_wanted (polygons_in_order small small_one))
       (other_same : filter is_wanted (polygons_in_order county other) ≡ filter is_wanted (polygons_in_order small small_other)) where
+    -- the records of polygons in each arrangement
     abbrev mine : PolygonKey → FieldsP
     mine = record_in county one h
 
@@ -217,6 +227,7 @@ module _ (county small : County) (wanted : List PolygonKey)
         ≡ masked_by is_wanted (filter test (polygons_in_order county other)))
         (small_masked : (test : PolygonKey → Bool) → masked_by is_wanted (filter test (polygons_in_order small small_one))
         ≡ masked_by is_wanted (filter test (polygons_in_order small small_other))) where
+      -- a test of polygons can be whether they have a record
       pub part_alike : groups_cmp P (type_p_by_number (arranged county one)) (type_p_by_number (arranged county other))
           ≡ groups_cmp P (type_p_by_number (arranged small small_one)) (type_p_by_number (arranged small small_other))
       part_alike =
@@ -242,6 +253,7 @@ module _ (county : County) (shapes : OrderOfShapes) where
   abbrev small : County
   small = small_county county shapes
 
+  -- a polygon of a small county has its content
   pub small_contents : (k : PolygonKey) → Known key_cmp (polygons_along (small_county county shapes).chains) k
       → polygon_under (small_county county shapes) k ≡ polygon_under county k
   unfolding small_county
@@ -250,12 +262,14 @@ module _ (county : County) (shapes : OrderOfShapes) where
   module _ (is : IsCounty county) (within : IsWithinLimits most_records county) (sides : AllKeysStandIn (polygons_along county.chains) (polygon_keys county))
       (small_is : IsCounty (small_county county shapes)) (small_within : IsWithinLimits most_records (small_county county shapes))
       (small_sides : AllKeysStandIn (polygons_along (small_county county shapes).chains) (polygon_keys (small_county county shapes))) where
+    -- the polygons of a choice by first appearance, in the county and in the small county
     abbrev seen_in : ℕ → List PolygonKey
     seen_in n = polygons_in_order county (numbered_choice county n)
 
     abbrev small_seen_in : ℕ → List PolygonKey
     small_seen_in n = polygons_in_order small (numbered_choice small n)
 
+    -- whether a polygon is wanted
     abbrev wanted_there : PolygonKey → Bool
     wanted_there k = stands_in key_cmp k (wanted_polygons county shapes)
 
