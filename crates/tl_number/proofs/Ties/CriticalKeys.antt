@@ -1,42 +1,22 @@
 -- Two choices that number the keys at critical places alike number those at all other places alike.
-use Rattle.tl_number.proofs.Common.{◌≡◌, ◌<◌, ◌∙◌, ◌⊎◌, ◌&&◌, ◌||◌, ◌+◌, ℕ, zero, suc, List, [], ◌∷◌, ◌++◌, map, filter, flat_map, slice_get}
-use Rattle.tl_number.proofs.Common.{Bool, true, false, cond, not, Ordering, Option, Some, None, option_map, option_to_list, unwrap_or, refl, sym}
-use Rattle.tl_number.proofs.Common.{ap, ap₂, subst, inl, inr, arith, AllByRecursion, AreOpenKeys, Chain, County, DirectedChain, IsCounty}
+use Rattle.tl_number.proofs.Common.{◌≡◌, ◌<◌, ◌∙◌, ◌⊎◌, ℕ, zero, suc, List, [], ◌∷◌, ◌++◌, map, flat_map, slice_get}
+use Rattle.tl_number.proofs.Common.{Bool, true, false, Ordering, Option, Some, None, option_map, option_to_list, unwrap_or, refl, sym}
+use Rattle.tl_number.proofs.Common.{ap, subst, inl, inr, arith, AllByRecursion, AreOpenKeys, Chain, County, DirectedChain, IsCounty}
 use Rattle.tl_number.proofs.Common.{IsKeyOrder, IsWithinLimits, Known, OrderOfShapes, Renumbering, all_known, arrangement_of, directed_chain}
-use Rattle.tl_number.proofs.Common.{first_open, first_seen, group_at, grouped, is_eq, is_open, keys_along, known-right, known_all, known_cases}
-use Rattle.tl_number.proofs.Common.{list_any, lt-ltb, ltb-true, most_records, place_in, range_with_len, OpenPlace, renaming_of, renumbered}
+use Rattle.tl_number.proofs.Common.{first_open, first_seen, group_at, grouped, is_open, keys_along, known-right, known_all}
+use Rattle.tl_number.proofs.Common.{lt-ltb, most_records, place_in, renaming_of, renumbered}
 use Rattle.tl_number.proofs.Common.{slice_get-map, stands_in, times}
 use Rattle.ordered_lists.proofs.ByKey.Keys.{known-append, known-left}
 use Rattle.tl_shape.specs.Turned.{turned}
 use Rattle.tl_number.specs.ChoiceSearch.{LeavesChoices}
-use Rattle.tl_number.specs.CriticalKeys.{brings, fixed_keys}
+use Rattle.tl_number.specs.CriticalKeys.{brings}
 use Rattle.tl_number.specs.declared.open_keys.OpenKeys.{OpenKeys}
 use Rattle.canonical_form.proofs.Choices.ChosenArrangements.{arrangement_of_number_apart}
-use Rattle.arranged_county.proofs.Landmarks.LandmarkLinks.{pieces_next}
 use Rattle.canonical_form.proofs.Numbering.FirstSeen.{to_first_seen}
+use Rattle.tl_number.proofs.Ties.FixedKeys.{FirstFixed, fixed_before}
 use Rattle.tl_number.proofs.Ties.NewlySeen.{AreAlike}
 use Rattle.tl_number.proofs.Ties.OpenChains.{closed_apart}
 use Rattle.tl_number.proofs.Ties.TieNumbers.{chosen_chains, counterparts}
-
--- groups of a part of a list, one after another
-grouped_filter : {X Y : Type 0} (test : X → Bool) (f : X → List Y) (xs : List X)
-    → grouped (map f (filter test xs)) ≡ flat_map (λ x. cond (test x) (f x) []) xs
-grouped_filter test f [] = refl
-grouped_filter test f (x ∷ xs) = go (test x) (grouped_filter test f xs)
-  where
-    go : (b : Bool) → grouped (map f (filter test xs)) ≡ flat_map (λ x. cond (test x) (f x) []) xs
-        → grouped (map f (cond b (x ∷ filter test xs) (filter test xs))) ≡ cond b (f x) [] ++ flat_map (λ x. cond (test x) (f x) []) xs
-    go true rest = ap (λ l. f x ++ l) rest
-    go false rest = rest
-
--- the keys at one more place are added if it's fixed
-pub fixed_more : {K : Type 0} (places : List OpenPlace) (along : List (List K)) (place : ℕ)
-    → fixed_keys places along (place + 1) ≡ fixed_keys places along place ++ cond (not (is_open places place)) (group_at along place) []
-fixed_more {K} places along place =
-    let part : ℕ → List K = λ q. cond (not (is_open places q)) (group_at along q) [] in
-    grouped_filter (λ q. not (is_open places q)) (group_at along) (range_with_len 0 (place + 1))
-    ∙ sym (pieces_next part place)
-    ∙ ap (λ l. l ++ part place) (sym (grouped_filter (λ q. not (is_open places q)) (group_at along) (range_with_len 0 place)))
 
 module _ {K : Type 0} {cmp : K → K → Ordering} (o : IsKeyOrder cmp) where
   -- a key of one group is one of all groups, joined
@@ -57,24 +37,6 @@ module _ {K : Type 0} {cmp : K → K → Ordering} (o : IsKeyOrder cmp) where
       (in_group (keys_along keys county arrangement) place (keys chain ++ []) k
       (slice_get-map of_place arrangement place ∙ ap (option_map of_place) there ∙ ap (λ c. Some (flat_map keys (option_to_list c))) of_directed)
       (known-left o k (keys chain) [] h))
-
-  -- a test that one of these keys passes, and one that none does
-  some_passes : (test : K → Bool) (ks : List K) (k : K) → Known cmp ks k → test k ≡ true → list_any test ks ≡ true
-  some_passes test [] k h e = absurd (omega (arith, h))
-  some_passes test (j ∷ ks) k h e = go (known_cases o k j ks h) (some_passes test ks k) (test j) refl
-    where
-      go : (k ≡ j) ⊎ (Known cmp ks k × (is_eq (cmp k j) ≡ false)) → (Known cmp ks k → test k ≡ true → list_any test ks ≡ true)
-          → (b : Bool) → test j ≡ b → (b || list_any test ks) ≡ true
-      go c ih true f = refl
-      go (inl same) ih false f = let both : false ≡ true = sym f ∙ ap test (sym same) ∙ e in cc
-      go (inr r) ih false f = ih r.0 e
-
-  none_passes : (test : K → Bool) (ks : List K) (k : K) → list_any test ks ≡ false → Known cmp ks k → test k ≡ false
-  none_passes test ks k e h = go (test k) refl
-    where
-      go : (b : Bool) → test k ≡ b → test k ≡ false
-      go true f = let both : false ≡ true = sym e ∙ some_passes test ks k h f in cc
-      go false f = f
 
   mapped_alike : {L : Type 0} (f g : K → L) (ks : List K) → map f ks ≡ map g ks → AllByRecursion (λ k. f k ≡ g k) ks
   mapped_alike f g [] e = tt
@@ -161,46 +123,6 @@ module _ (county : County) (shapes : OrderOfShapes) (known : LeavesChoices count
         go None e l = absurd (omega (arith, l))
         go (Some directed) e l = inside directed e (directed_chain county directed) refl l
 
-    -- the first fixed place of an open key is critical
-    record FirstFixed (place : ℕ) (k : K) : Type 0 where
-      first : ℕ
-      before : first < place
-      fixed : is_open shapes.places first ≡ false
-      new_there : brings cmp shapes.places opened along first ≡ true
-      here : Known cmp (group_at along first) k
-
-    first_fixed : (place : ℕ) (k : K) → stands_in cmp k opened ≡ true → Known cmp (fixed_keys shapes.places along place) k → FirstFixed place k
-    first_fixed zero k is_opened h = absurd (omega (arith, h))
-    first_fixed (suc place) k is_opened h =
-        go (stands_in cmp k (fixed_keys shapes.places along place)) refl (is_open shapes.places place) refl (first_fixed place k is_opened)
-        (known-append o k (fixed_keys shapes.places along place) (cond (not (is_open shapes.places place)) (group_at along place) [])
-        (subst (λ l. Known cmp l k) (ap (fixed_keys shapes.places along) (let t : suc place ≡ place + 1 = omega arith in t)
-        ∙ fixed_more shapes.places along place) h))
-      where
-        later : FirstFixed place k → FirstFixed (suc place) k
-        later f = record {
-          first = f.first;
-          before = (let l = f.before in omega (arith, l));
-          fixed = f.fixed;
-          new_there = f.new_there;
-          here = f.here;
-        }
-
-        go : (b : Bool) → stands_in cmp k (fixed_keys shapes.places along place) ≡ b → (c : Bool) → is_open shapes.places place ≡ c
-            → (Known cmp (fixed_keys shapes.places along place) k → FirstFixed place k)
-            → Known cmp (fixed_keys shapes.places along place) k ⊎ Known cmp (cond (not c) (group_at along place) []) k → FirstFixed (suc place) k
-        go b e c f ih (inl l) = later (ih l)
-        go b e true f ih (inr l) = absurd (omega (arith, l))
-        go true e false f ih (inr l) = later (ih (ltb-true 0 (times cmp k (fixed_keys shapes.places along place)) e))
-        go false e false f ih (inr l) = record {
-          first = place;
-          before = omega arith;
-          fixed = f;
-          new_there = some_passes o (λ key. stands_in cmp key opened && not (stands_in cmp key (fixed_keys shapes.places along place)))
-              (group_at along place) k l (ap₂ (λ x y. x && not y) is_opened e);
-          here = l;
-        }
-
     -- Two choices.
     module _ (n m : ℕ) where
       -- they number the keys of the chain at a fixed place alike
@@ -218,7 +140,7 @@ module _ (county : County) (shapes : OrderOfShapes) (known : LeavesChoices count
         same_new : (k : K) → Known cmp (keys chain) k → new (new_of n) k ≡ new (new_of m) k
         same_new k h = go (stands_in cmp k opened) refl
           where
-            by_first : FirstFixed place k → new (new_of n) k ≡ new (new_of m) k
+            by_first : FirstFixed o shapes.places along opened place k → new (new_of n) k ≡ new (new_of m) k
             by_first f =
                 let at : AtPlace f.first k = at_place f.first k f.here in
                 let same : keys (renumbered (new_of n) at.chain) ≡ keys (renumbered (new_of m) at.chain) =
@@ -228,17 +150,8 @@ module _ (county : County) (shapes : OrderOfShapes) (known : LeavesChoices count
                 (sym (keys_renumbered (new_of n) at.chain) ∙ same ∙ keys_renumbered (new_of m) at.chain)) k at.key
 
             go : (b : Bool) → stands_in cmp k opened ≡ b → new (new_of n) k ≡ new (new_of m) k
-            go true e = by_first (first_fixed place k e (old (stands_in cmp k (fixed_keys shapes.places along place)) refl))
-              where
-                here : Known cmp (group_at along place) k
-                here = subst (λ g. Known cmp g k) (sym (keys_at_place place directed chain there of_directed)) (known-left o k (keys chain) [] h)
-
-                old : (c : Bool) → stands_in cmp k (fixed_keys shapes.places along place) ≡ c → Known cmp (fixed_keys shapes.places along place) k
-                old true f = ltb-true 0 (times cmp k (fixed_keys shapes.places along place)) f
-                old false f =
-                    let fails = none_passes o (λ key. stands_in cmp key opened && not (stands_in cmp key (fixed_keys shapes.places along place)))
-                    (group_at along place) k nothing_new here in
-                    let both : true ≡ false = sym (ap₂ (λ x y. x && not y) e f) ∙ fails in cc
+            go true e = by_first (fixed_before o shapes.places along opened place nothing_new k e
+                (subst (λ g. Known cmp g k) (sym (keys_at_place place directed chain there of_directed)) (known-left o k (keys chain) [] h)))
             go false e = stay n m k e (in_choice n k h) (in_choice m k h)
 
         -- So they number the keys of the chain at any other fixed place alike.

@@ -13,7 +13,7 @@ use Rattle.tl_number.specs.CriticalPlaces.{critical_from}
 use Rattle.tl_number.specs.declared.open_keys.OpenKeys.{OpenKeys}
 use Rattle.canonical_form.proofs.Numbering.FirstSeen.{from_first_seen, to_first_seen}
 use Rattle.arranged_county.proofs.Numbering.SeenLists.{seen_append}
-use Rattle.tl_number.proofs.Ties.CriticalKeys.{fixed_more}
+use Rattle.tl_number.proofs.Ties.FixedKeys.{fixed_more}
 
 -- Critical numbers.
 module _ (county : County) (polygons : OpenKeys (List PolygonKey)) (number : ℕ) (key : PolygonKey) (there : slice_get polygons.all number ≡ Some key) where

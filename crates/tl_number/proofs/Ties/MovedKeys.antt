@@ -12,13 +12,13 @@ use Rattle.tl_number.proofs.Ties.OpenChains.{Covers}
 use Rattle.tl_number.proofs.Ties.Counterparts.{AreExchanged, exchanged_itself, exchanged_of_block, exchanged_then}
 
 -- inserting an element splits a list into what comes before it and what comes after it
-insert_is : {X : Type 0} (j : ℕ) (xs : List X) (t : X) → j ≤ length xs → insert xs j t ≡ (take j xs ++ (t ∷ [])) ++ drop j xs
+pub insert_is : {X : Type 0} (j : ℕ) (xs : List X) (t : X) → j ≤ length xs → insert xs j t ≡ (take j xs ++ (t ∷ [])) ++ drop j xs
 insert_is zero xs t h = refl
 insert_is (suc j) [] t h = absurd (omega (arith, h))
 insert_is (suc j) (x ∷ xs) t h = ap (λ l. x ∷ l) (insert_is j xs t (omega (arith, h)))
 
 -- the elements from a place on, the first of them apart
-parts_at : {X : Type 0} (p : ℕ) (xs : List X) → p < length xs → (x : X) × (rest : List X) × (drop p xs ≡ x ∷ rest)
+pub parts_at : {X : Type 0} (p : ℕ) (xs : List X) → p < length xs → (x : X) × (rest : List X) × (drop p xs ≡ x ∷ rest)
 parts_at p [] h = absurd (omega (arith, h))
 parts_at zero (x ∷ xs) h = (x, xs, refl)
 parts_at (suc p) (x ∷ xs) h = parts_at p xs (omega (arith, h))

@@ -73,7 +73,7 @@ module _ (county : County) (shapes : OrderOfShapes) (known : LeavesChoices count
   along_placed arrangement whole (d ∷ ds) = all_append (Known nat_cmp (feats_in_order county arrangement)) (feats_of (directed_chain county d))
       (feats_along_arrangement county ds) (chain_feats_placed county arrangement is whole d) (along_placed arrangement whole ds)
 
-  seen_placed : (arrangement : List DirectedChain) → AreWhole county arrangement → (k : ℕ)
+  pub seen_placed : (arrangement : List DirectedChain) → AreWhole county arrangement → (k : ℕ)
       → Known nat_cmp (first_seen nat_cmp (grouped (keys_along chain_feats county arrangement))) k → Known nat_cmp (feats_in_order county arrangement) k
   seen_placed arrangement whole k h =
       known_all nat_keys (Known nat_cmp (feats_in_order county arrangement)) (feats_along_arrangement county arrangement)

@@ -1,10 +1,10 @@
--- The records of type 4 of two choices are in the order of those at named places.
-use Rattle.tl_number.proofs.Common.{◌≡◌, ◌≢◌, ◌∙◌, ◌<◌, ◌+◌, ◌^◌, ℕ, zero, suc, List, [], ◌∷◌, ◌++◌, flat_map, length, map, length-map, Option}
+-- The records of type 4 of two choices are in the order of those at named places, or at more places.
+use Rattle.tl_number.proofs.Common.{◌≡◌, ◌≢◌, ◌∙◌, ◌<◌, ◌+◌, ◌^◌, ℕ, zero, suc, List, [], ◌∷◌, ◌++◌, filter, flat_map, length, map, length-map, Option}
 use Rattle.tl_number.proofs.Common.{Some, None, option_map, Bool, false, true, Less, Equal, Greater, Ordering, AllByRecursion, AreSame, Chain}
 use Rattle.tl_number.proofs.Common.{County, DirectedChain, Fields4, Four, IsCounty, IsWithinLimits, OrderOfShapes, all_everywhere, all_left}
 use Rattle.tl_number.proofs.Common.{all_map, all_right, arith, ap, ap₂, arranged, arranged_by, codes, directed_chain, drop, feats_of, grouped}
 use Rattle.tl_number.proofs.Common.{groups_cmp, image, in_pieces, is_open, joined, keys_along, map_agree_all, most_records, nat_cmp, nat_keys}
-use Rattle.tl_number.proofs.Common.{nat_list_cmp_total, numbered_choice, numbered_from, on, on_total, ordering_then, packed_fours, refl}
+use Rattle.tl_number.proofs.Common.{nat_list_cmp_total, numbered_choice, numbered_from, on, on_total, ordering_then, packed_fours, range_with_len, refl}
 use Rattle.tl_number.proofs.Common.{rights-numbered_from, slice_cmp, slice_get, spelling_cmp, subst, sym, tied_itself, type_4_by_chain}
 use Rattle.std.proofs.lemmas.Bool.{or_parts, or_right}
 use Rattle.std.proofs.lemmas.Cmp.{lists_total}
@@ -83,7 +83,7 @@ tied_same (r ∷ rs) (s ∷ ss) f g e = go (four_cmp r s) refl e (tied_same rs s
     go Greater h tie rest = cc
 
 -- what holds of all records holds of those in each group
-all_there : {X : Type 0} (P : X → Type 0) (F : ℕ → List X) (p count : ℕ) → AllByRecursion P (groups_from F p count)
+pub all_there : {X : Type 0} (P : X → Type 0) (F : ℕ → List X) (p count : ℕ) → AllByRecursion P (groups_from F p count)
     → (i : ℕ) → i < count → (q : ℕ) → q ≡ p + i → AllByRecursion P (F q)
 all_there P F p zero all i l q e = absurd (omega (arith, l))
 all_there P F p (suc count) all zero l q e = subst (λ j. AllByRecursion P (F j)) (let same : p ≡ q = omega (arith, e) in same)
@@ -111,7 +111,7 @@ module _ (county : County) (shapes : OrderOfShapes) (known : LeavesChoices count
       go None = tt
       go (Some directed) = all_tlids (place + 1) (suc place) (map (number_of i) (feats_of (directed_chain county directed))) (omega arith)
 
-  whole_groups : (i : ℕ) → grouped (type_4_by_chain (arranged_by county (chains_in i))) ≡ groups_from (at i) 0 (length shapes.by_shape)
+  pub whole_groups : (i : ℕ) → grouped (type_4_by_chain (arranged_by county (chains_in i))) ≡ groups_from (at i) 0 (length shapes.by_shape)
   whole_groups i =
       chains_by_place county is (chains_in i) (whole_numbered county shapes known is within i)
       (λ n o. fours_under n (map (number_of i) (feats_of o))) (at i)
@@ -158,11 +158,8 @@ module _ (county : County) (shapes : OrderOfShapes) (known : LeavesChoices count
 
   -- Names that aren't among these have one number in all choices.
   module _ (names : List ℕ) (stay : Stay county shapes known is within nat_keys chain_feats (λ r. image nat_cmp r.names) names) (n m : ℕ) where
-    abbrev is_in : ℕ → Bool
-    is_in = is_named shapes.places names (keys_along chain_feats county shapes.by_shape)
-
-    abbrev places : List ℕ
-    places = named_among shapes.places names (keys_along chain_feats county shapes.by_shape) (length shapes.by_shape)
+    abbrev brings_name : ℕ → Bool
+    brings_name = brings nat_cmp shapes.places names (keys_along chain_feats county shapes.by_shape)
 
     abbrev Tie : ℕ → Type 0
     Tie place = slice_cmp four_cmp (at n place) (at m place) ≡ Equal
@@ -178,53 +175,69 @@ module _ (county : County) (shapes : OrderOfShapes) (known : LeavesChoices count
         ∙ there m place fixed directed chain e f)
         ∙ feats_back (place + 1) (map (number_of m) chain.feats)
 
-    left_out : (place : ℕ) → is_in place ≡ false → ((q : ℕ) → q < place → is_in q ≡ true → Tie q) → Tie place
-    left_out place out before = go (slice_get shapes.by_shape place) refl
-      where
-        parts : (is_open shapes.places place ≡ false) × (brings nat_cmp shapes.places names (keys_along chain_feats county shapes.by_shape) place ≡ false)
-        parts = or_parts (is_open shapes.places place) _ out
+    -- Places among which are the open ones and those that bring one of these names.
+    module _ (is_in : ℕ → Bool) (out_parts : (place : ℕ) → is_in place ≡ false → (is_open shapes.places place ≡ false) × (brings_name place ≡ false))
+        (brought : (place : ℕ) → brings_name place ≡ true → is_in place ≡ true) where
+      abbrev places : List ℕ
+      places = filter is_in (range_with_len 0 (length shapes.by_shape))
 
-        go : (o : Option DirectedChain) → slice_get shapes.by_shape place ≡ o → Tie place
-        go None e = ap₂ (slice_cmp four_cmp) (past n place parts.0 e) (past m place parts.0 e)
-        go (Some directed) e =
-            let entry = entry_of_directed county (chains_in n) is (whole_numbered county shapes known is within n) place directed
-            (fixed_there county shapes known is within n place parts.0 ∙ e) in
-            let alike : AllByRecursion (λ k. number_of n k ≡ number_of m k) entry.chain.feats =
-            alike_there county shapes known is within nat_keys chain_feats (λ r. image nat_cmp r.names) (λ r c. refl) names stay n m place parts.0 parts.1
-            (λ q l fixed new d c f g. same_feats q fixed (before q l (or_right (is_open shapes.places q) _ new)) d c f g)
-            directed entry.chain e entry.of_directed in
-            ap₂ (slice_cmp four_cmp) (there n place parts.0 directed entry.chain e entry.of_directed)
-            (there m place parts.0 directed entry.chain e entry.of_directed ∙ ap (fours_under (place + 1))
-            (sym (map_agree_all (number_of n) (number_of m) (λ k. number_of n k ≡ number_of m k) (λ k h. h) entry.chain.feats alike)))
-            ∙ tied_itself (lists_total (on_total Four (on_total spelling_of nat_list_cmp_total)))
-            (fours_under (place + 1) (map (number_of n) entry.chain.feats))
+      left_out : (place : ℕ) → is_in place ≡ false → ((q : ℕ) → q < place → is_in q ≡ true → Tie q) → Tie place
+      left_out place out before = go (slice_get shapes.by_shape place) refl
+        where
+          parts : (is_open shapes.places place ≡ false) × (brings_name place ≡ false)
+          parts = out_parts place out
 
-    lengths : (place : ℕ) → is_in place ≡ false → length (at n place) ≡ length (at m place)
-    lengths place out = go (slice_get shapes.by_shape place) refl
-      where
-        fixed : is_open shapes.places place ≡ false
-        fixed = (or_parts (is_open shapes.places place) _ out).0
+          go : (o : Option DirectedChain) → slice_get shapes.by_shape place ≡ o → Tie place
+          go None e = ap₂ (slice_cmp four_cmp) (past n place parts.0 e) (past m place parts.0 e)
+          go (Some directed) e =
+              let entry = entry_of_directed county (chains_in n) is (whole_numbered county shapes known is within n) place directed
+              (fixed_there county shapes known is within n place parts.0 ∙ e) in
+              let alike : AllByRecursion (λ k. number_of n k ≡ number_of m k) entry.chain.feats =
+              alike_there county shapes known is within nat_keys chain_feats (λ r. image nat_cmp r.names) (λ r c. refl) names stay n m place parts.0 parts.1
+              (λ q l fixed new d c f g. same_feats q fixed (before q l (brought q new)) d c f g)
+              directed entry.chain e entry.of_directed in
+              ap₂ (slice_cmp four_cmp) (there n place parts.0 directed entry.chain e entry.of_directed)
+              (there m place parts.0 directed entry.chain e entry.of_directed ∙ ap (fours_under (place + 1))
+              (sym (map_agree_all (number_of n) (number_of m) (λ k. number_of n k ≡ number_of m k) (λ k h. h) entry.chain.feats alike)))
+              ∙ tied_itself (lists_total (on_total Four (on_total spelling_of nat_list_cmp_total)))
+              (fours_under (place + 1) (map (number_of n) entry.chain.feats))
 
-        go : (o : Option DirectedChain) → slice_get shapes.by_shape place ≡ o → length (at n place) ≡ length (at m place)
-        go None e = ap length (past n place fixed e ∙ sym (past m place fixed e))
-        go (Some directed) e =
-            let entry = entry_of_directed county (chains_in n) is (whole_numbered county shapes known is within n) place directed
-            (fixed_there county shapes known is within n place fixed ∙ e) in
-            ap length (there n place fixed directed entry.chain e entry.of_directed)
-            ∙ as_many_under (place + 1) (map (number_of n) entry.chain.feats) (map (number_of m) entry.chain.feats)
-            (length-map entry.chain.feats (number_of n) ∙ sym (length-map entry.chain.feats (number_of m)))
-            ∙ sym (ap length (there m place fixed directed entry.chain e entry.of_directed))
+      lengths : (place : ℕ) → is_in place ≡ false → length (at n place) ≡ length (at m place)
+      lengths place out = go (slice_get shapes.by_shape place) refl
+        where
+          fixed : is_open shapes.places place ≡ false
+          fixed = (out_parts place out).0
 
-    -- So the records of type 4 are in the order of those at named places.
+          go : (o : Option DirectedChain) → slice_get shapes.by_shape place ≡ o → length (at n place) ≡ length (at m place)
+          go None e = ap length (past n place fixed e ∙ sym (past m place fixed e))
+          go (Some directed) e =
+              let entry = entry_of_directed county (chains_in n) is (whole_numbered county shapes known is within n) place directed
+              (fixed_there county shapes known is within n place fixed ∙ e) in
+              ap length (there n place fixed directed entry.chain e entry.of_directed)
+              ∙ as_many_under (place + 1) (map (number_of n) entry.chain.feats) (map (number_of m) entry.chain.feats)
+              (length-map entry.chain.feats (number_of n) ∙ sym (length-map entry.chain.feats (number_of m)))
+              ∙ sym (ap length (there m place fixed directed entry.chain e entry.of_directed))
+
+      -- So the records of type 4 are in the order of those at these places.
+      pub names_at : groups_cmp Four (type_4_by_chain (arranged_by county (chains_in n))) (type_4_by_chain (arranged_by county (chains_in m)))
+          ≡ groups_cmp Four (map (fours_at county (number_of n) (chains_in n)) places) (map (fours_at county (number_of m) (chains_in m)) places)
+      names_at =
+          let count : ℕ = length shapes.by_shape in
+          let few : count < 10 ^ 10 = (let small = few_by_shape county shapes known is within in omega (arith, small)) in
+          cmp_mapped Four spelling_cmp (grouped (type_4_by_chain (arranged_by county (chains_in n))))
+          (grouped (type_4_by_chain (arranged_by county (chains_in m))))
+          ∙ ap₂ (slice_cmp four_cmp) (whole_groups n) (whole_groups m)
+          ∙ those_decide four_cmp (λ (r : Fields4). r.tlid) (10 ^ 10) tlids_decide is_in (at n) (at m) (keyed n) (keyed m) left_out lengths
+          count few (as_many n m)
+          ∙ ap₂ (slice_cmp four_cmp) (sym (those_groups is_in (at n) 0 count)) (sym (those_groups is_in (at m) 0 count))
+          ∙ sym (cmp_mapped Four spelling_cmp (grouped (map (at n) places)) (grouped (map (at m) places)))
+
+    -- So they are in the order of those at named places.
     pub names_order : groups_cmp Four (type_4_by_chain (arranged_by county (chains_in n))) (type_4_by_chain (arranged_by county (chains_in m)))
-        ≡ groups_cmp Four (map (fours_at county (number_of n) (chains_in n)) places) (map (fours_at county (number_of m) (chains_in m)) places)
-    names_order =
-        let count : ℕ = length shapes.by_shape in
-        let few : count < 10 ^ 10 = (let small = few_by_shape county shapes known is within in omega (arith, small)) in
-        cmp_mapped Four spelling_cmp (grouped (type_4_by_chain (arranged_by county (chains_in n))))
-        (grouped (type_4_by_chain (arranged_by county (chains_in m))))
-        ∙ ap₂ (slice_cmp four_cmp) (whole_groups n) (whole_groups m)
-        ∙ those_decide four_cmp (λ (r : Fields4). r.tlid) (10 ^ 10) tlids_decide is_in (at n) (at m) (keyed n) (keyed m) left_out lengths
-        count few (as_many n m)
-        ∙ ap₂ (slice_cmp four_cmp) (sym (those_groups is_in (at n) 0 count)) (sym (those_groups is_in (at m) 0 count))
-        ∙ sym (cmp_mapped Four spelling_cmp (grouped (map (at n) places)) (grouped (map (at m) places)))
+        ≡ groups_cmp Four
+        (map (fours_at county (number_of n) (chains_in n))
+        (named_among shapes.places names (keys_along chain_feats county shapes.by_shape) (length shapes.by_shape)))
+        (map (fours_at county (number_of m) (chains_in m))
+        (named_among shapes.places names (keys_along chain_feats county shapes.by_shape) (length shapes.by_shape)))
+    names_order = names_at (is_named shapes.places names (keys_along chain_feats county shapes.by_shape))
+        (λ place out. or_parts (is_open shapes.places place) _ out) (λ place new. or_right (is_open shapes.places place) _ new)

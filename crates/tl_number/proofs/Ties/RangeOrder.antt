@@ -1,8 +1,8 @@
--- The records of type 6 of two choices are in the order of those at open places.
-use Rattle.tl_number.proofs.Common.{◌≡◌, ◌≢◌, ◌∙◌, ◌<◌, ◌+◌, ◌^◌, ℕ, suc, List, [], ◌∷◌, ◌++◌, length, map, Option, Some, None, option_map}
+-- The records of type 6 of two choices are in the order of those at open places, or at more places.
+use Rattle.tl_number.proofs.Common.{◌≡◌, ◌≢◌, ◌∙◌, ◌<◌, ◌+◌, ◌^◌, ℕ, suc, List, [], ◌∷◌, ◌++◌, length, map, filter, Bool, Option, Some, None, option_map}
 use Rattle.tl_number.proofs.Common.{false, Equal, Ordering, AllByRecursion, AreSame, AreWhole, County, DirectedChain, Fields6, IsCounty}
 use Rattle.tl_number.proofs.Common.{OpenPlace, Ranges, Six, arith, ap, ap₂, arranged_by, codes, directed_chain, drop, grouped, groups_cmp}
-use Rattle.tl_number.proofs.Common.{joined, nat_cmp, nat_list_cmp_total, numbered_from, on, on_total, packed_sixes, ranges_of, refl, slice_cmp}
+use Rattle.tl_number.proofs.Common.{joined, nat_cmp, nat_list_cmp_total, numbered_from, on, on_total, packed_sixes, range_with_len, ranges_of, refl, slice_cmp}
 use Rattle.tl_number.proofs.Common.{slice_get, spelling_cmp, sym, tied_itself, type_6_by_chain}
 use Rattle.std.proofs.lemmas.Cmp.{lists_total}
 use Rattle.canonical_form.proofs.Limits.CarriedLimits.{carried_many}
@@ -57,7 +57,7 @@ module _ (county : County) (is : IsCounty county) where
       go None = tt
       go (Some directed) = all_tlids (place + 1) (suc place) (omega arith) (numbered_from 1 (ranges_of (directed_chain county directed)))
 
-  whole_groups : (arrangement : List DirectedChain) → AreWhole county arrangement
+  pub whole_groups : (arrangement : List DirectedChain) → AreWhole county arrangement
       → grouped (type_6_by_chain (arranged_by county arrangement)) ≡ groups_from (at arrangement) 0 (length arrangement)
   whole_groups arrangement w = chains_by_place county is arrangement w (λ n o. sixes_under n (ranges_of o)) (at arrangement)
       (λ place directed e. ap (λ o. sixes_of county (option_map (λ d. (place, d)) o)) e) packed_sixes (λ n c. refl)
@@ -84,17 +84,23 @@ module _ (county : County) (is : IsCounty county) where
     tie_there place e = ap (slice_cmp six_cmp (at one place)) (sym (agree_there place e))
         ∙ tied_itself (lists_total (on_total Six (on_total spelling_of nat_list_cmp_total))) (at one place)
 
-    pub ranges_order : groups_cmp Six (type_6_by_chain a) (type_6_by_chain b)
-        ≡ groups_cmp Six (map (sixes_at county one) (open_among places (length one))) (map (sixes_at county other) (open_among places (length one)))
-    ranges_order =
+    -- places that are open among others
+    pub ranges_at : (is_in : ℕ → Bool) → ((place : ℕ) → is_in place ≡ false → is_open places place ≡ false)
+        → groups_cmp Six (type_6_by_chain a) (type_6_by_chain b)
+        ≡ groups_cmp Six (map (sixes_at county one) (filter is_in (range_with_len 0 (length one))))
+        (map (sixes_at county other) (filter is_in (range_with_len 0 (length one))))
+    ranges_at is_in fixed =
         let few : length one < 10 ^ 10 =
         (let whole = length_whole county one is agree.whole in let small = agree.whole.few in omega (arith, whole, small)) in
+        let kept : List ℕ = filter is_in (range_with_len 0 (length one)) in
         cmp_mapped Six spelling_cmp (grouped (type_6_by_chain a)) (grouped (type_6_by_chain b))
         ∙ ap₂ (slice_cmp six_cmp) (whole_groups one agree.whole)
         (whole_groups other agree.other_whole ∙ ap (groups_from (at other) 0) (sym agree.count))
-        ∙ those_decide six_cmp (λ (r : Fields6). r.tlid) (10 ^ 10) tlids_decide (is_open places) (at one) (at other) (keyed one) (keyed other)
-        (λ place e before. tie_there place e) (λ place e. ap length (agree_there place e)) (length one) few as_many
-        ∙ ap₂ (slice_cmp six_cmp) (sym (those_groups (is_open places) (at one) 0 (length one)))
-        (sym (those_groups (is_open places) (at other) 0 (length one)))
-        ∙ sym (cmp_mapped Six spelling_cmp (grouped (map (sixes_at county one) (open_among places (length one))))
-        (grouped (map (sixes_at county other) (open_among places (length one)))))
+        ∙ those_decide six_cmp (λ (r : Fields6). r.tlid) (10 ^ 10) tlids_decide is_in (at one) (at other) (keyed one) (keyed other)
+        (λ place e before. tie_there place (fixed place e)) (λ place e. ap length (agree_there place (fixed place e))) (length one) few as_many
+        ∙ ap₂ (slice_cmp six_cmp) (sym (those_groups is_in (at one) 0 (length one))) (sym (those_groups is_in (at other) 0 (length one)))
+        ∙ sym (cmp_mapped Six spelling_cmp (grouped (map (sixes_at county one) kept)) (grouped (map (sixes_at county other) kept)))
+
+    pub ranges_order : groups_cmp Six (type_6_by_chain a) (type_6_by_chain b)
+        ≡ groups_cmp Six (map (sixes_at county one) (open_among places (length one))) (map (sixes_at county other) (open_among places (length one)))
+    ranges_order = ranges_at (is_open places) (λ place e. e)

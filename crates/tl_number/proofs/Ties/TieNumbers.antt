@@ -28,7 +28,7 @@ use Rattle.tl_number.proofs.Ties.OpenChains.{covered_among}
 use Rattle.tl_number.proofs.Ties.OpenOrder.{open_alone}
 
 -- groups, read one by one
-groups_listed : {X : Type 0} (groups : List (List X)) → map (group_at groups) (range_with_len 0 (length groups)) ≡ groups
+pub groups_listed : {X : Type 0} (groups : List (List X)) → map (group_at groups) (range_with_len 0 (length groups)) ≡ groups
 groups_listed {X} groups =
     sym (map-map (λ (o : Option (List X)). unwrap_or o []) (slice_get groups) (range_with_len 0 (length groups)))
     ∙ ap (map (λ (o : Option (List X)). unwrap_or o [])) (listed groups)
@@ -39,7 +39,7 @@ groups_listed {X} groups =
     same (g ∷ gs) = ap (λ l. g ∷ l) (same gs)
 
 -- a place past the end has no group, and adds nothing
-groups_at : {X : Type 0} (groups : List (List X)) (places : List ℕ) → grouped (at_places groups places) ≡ grouped (map (group_at groups) places)
+pub groups_at : {X : Type 0} (groups : List (List X)) (places : List ℕ) → grouped (at_places groups places) ≡ grouped (map (group_at groups) places)
 groups_at groups [] = refl
 groups_at {X} groups (place ∷ places) = go (slice_get groups place) (groups_at groups places)
   where
@@ -103,7 +103,7 @@ module _ (county : County) (shapes : OrderOfShapes) (known : LeavesChoices count
     abbrev open_of : List DirectedChain → List K
     open_of arrangement = first_open cmp shapes.places (along arrangement)
 
-    turned_alike : (directed : DirectedChain) → AreAlike cmp (keys_of (other_way directed)) (keys_of directed)
+    pub turned_alike : (directed : DirectedChain) → AreAlike cmp (keys_of (other_way directed)) (keys_of directed)
     turned_alike directed = go (chain_at county directed.place) directed.turned
       where
         lone : (xs ys : List K) → AreAlike cmp xs ys → AreAlike cmp (xs ++ []) (ys ++ [])

@@ -1,4 +1,4 @@
--- The records of type I of two choices are in the order of those at critical places.
+-- The records of type I of two choices are in the order of those at critical places, or at more places.
 use Rattle.tl_number.proofs.Common.{◌≡◌, ◌<◌, ◌∙◌, ◌||◌, ◌⊎◌, ◌≤◌, ◌+◌, ℕ, List, [], ◌∷◌, ◌++◌, map, filter, flat_map, length, slice_get}
 use Rattle.tl_number.proofs.Common.{append-nil, length-map, map-map, Bool, false, true, Equal, Option, Some, None, option_cmp, option_map}
 use Rattle.tl_number.proofs.Common.{option_to_list, refl, sym, ap, ap₂, subst, arith, inl, inr, get_or, nat_lt, ltb-true, ltb-false}
@@ -26,7 +26,7 @@ use Rattle.record_groups.proofs.Records.Grouped.{grouped_map}
 use Rattle.record_groups.proofs.Records.PackedGroups.{is as is_packed}
 use Rattle.record_groups.proofs.Texts.TopologyRecords.{entry_of_directed, no_topology, topology_record_there}
 use Rattle.record_groups.proofs.Texts.TypeOnes.{same_one}
-use Rattle.tl_number.proofs.Ties.CriticalKeys.{alike_there, chains_of, fixed_there, new_of, places_stay}
+use Rattle.tl_number.proofs.Ties.CriticalKeys.{Stay, alike_there, chains_of, fixed_there, new_of, places_stay}
 use Rattle.tl_number.proofs.Ties.NewlySeen.{AreAlike}
 use Rattle.record_groups.proofs.Texts.PartOrder.{part_decides}
 use Rattle.record_groups.proofs.Texts.RecordExact.{topologies_fit, topology_exact}
@@ -35,7 +35,7 @@ use Rattle.canonical_form.proofs.Views.ViewChains.{bodies_read, chains, chains_a
 use Rattle.arranged_county.proofs.Views.ViewTables.{keys_paired, nodes_paired}
 
 -- values read from each directed chain are read from the chains in their new order
-read_along : (county : County) (is : IsCounty county) {X : Type 0} (part : Option Chain → X) (arrangement : List DirectedChain)
+pub read_along : (county : County) (is : IsCounty county) {X : Type 0} (part : Option Chain → X) (arrangement : List DirectedChain)
     (w : AreWhole county arrangement)
     → map (λ directed. part (directed_chain county directed)) arrangement ≡ map (λ c. part (Some c)) (chains county arrangement is w)
 read_along county is part arrangement w = sym (map-map part (directed_chain county) arrangement)
@@ -56,11 +56,11 @@ module _ (county : County) (arrangement : List DirectedChain) (is : IsCounty cou
         lone (c ∷ cs) = ap₂ (λ k l. k ++ l) (append-nil (keys c)) (lone cs)
 
 -- a place that brings something new is critical
-brought : (x y z : Bool) → (y ≡ true) ⊎ (z ≡ true) → (x || (y || z)) ≡ true
-brought true y z h = refl
-brought false true z h = refl
-brought false false z (inl h) = cc
-brought false false z (inr h) = h
+either_brought : (x y z : Bool) → (y ≡ true) ⊎ (z ≡ true) → (x || (y || z)) ≡ true
+either_brought true y z h = refl
+either_brought false true z h = refl
+either_brought false false z (inl h) = cc
+either_brought false false z (inr h) = h
 
 -- nodes and polygons of a turned chain, and of one with new numbers
 pub turned_nodes : (chain : Chain) → AreAlike nat_cmp (chain_nodes (turned chain)) (chain_nodes chain)
@@ -162,7 +162,9 @@ module _ (county : County) (shapes : OrderOfShapes) (known : LeavesChoices count
       ∙ ap (option_map (λ entry. I (packed_i entry))) at.entry
       ∙ ap (λ c. Some (I (packed_i (1 + place, renumbered (new_of county shapes known is within i) c)))) same
 
-  module _ (tables : TieTables) (are : AreTieTables county shapes tables) (n m : ℕ) where
+  -- Nodes and polygons that aren't among these have one number in all choices.
+  module _ (nodes : List ℕ) (stay_nodes : Stay county shapes known is within nat_keys chain_nodes new_node nodes)
+      (polygons : List PolygonKey) (stay_polygons : Stay county shapes known is within key_keys chain_polygons new_polygon polygons) (n m : ℕ) where
     abbrev a : County
     a = arranged_by county (chains_of county shapes known is within n)
 
@@ -175,9 +177,11 @@ module _ (county : County) (shapes : OrderOfShapes) (known : LeavesChoices count
     abbrev s : Renumbering
     s = new_of county shapes known is within m
 
-    abbrev is_in : ℕ → Bool
-    is_in = is_critical shapes.places tables.nodes.opened (keys_along chain_nodes county shapes.by_shape)
-        tables.polygons.opened (keys_along chain_polygons county shapes.by_shape)
+    abbrev brings_node : ℕ → Bool
+    brings_node = brings nat_cmp shapes.places nodes (keys_along chain_nodes county shapes.by_shape)
+
+    abbrev brings_polygon : ℕ → Bool
+    brings_polygon = brings key_cmp shapes.places polygons (keys_along chain_polygons county shapes.by_shape)
 
     abbrev Tie : ℕ → Type 0
     Tie place = option_cmp spelling_cmp (slice_get (topologies_of a) place) (slice_get (topologies_of b) place) ≡ Equal
@@ -196,59 +200,6 @@ module _ (county : County) (shapes : OrderOfShapes) (known : LeavesChoices count
         (subst (λ o. IfSome o FitsRecord) right (all_at FitsRecord (topologies_of b) (topologies_fit b other.is_county other.within_limits) place))
         (sym (ap₂ (option_cmp spelling_cmp) left right) ∙ tie)
 
-    left_out : (place : ℕ) → is_in place ≡ false → ((q : ℕ) → q < place → is_in q ≡ true → Tie q) → Tie place
-    left_out place out before = go (nat_lt place (length shapes.by_shape)) refl
-      where
-        fixed : is_open shapes.places place ≡ false
-        fixed = (or_parts (is_open shapes.places place) _ out).0
-
-        nothing_new : (brings nat_cmp shapes.places tables.nodes.opened (keys_along chain_nodes county shapes.by_shape) place ≡ false)
-            × (brings key_cmp shapes.places tables.polygons.opened (keys_along chain_polygons county shapes.by_shape) place ≡ false)
-        nothing_new = or_parts _ _ (or_parts (is_open shapes.places place) _ out).1
-
-        critical_nodes : (q : ℕ) → brings nat_cmp shapes.places tables.nodes.opened (keys_along chain_nodes county shapes.by_shape) q ≡ true → is_in q ≡ true
-        critical_nodes q e = brought (is_open shapes.places q) _ _ (inl e)
-
-        critical_polygons : (q : ℕ) → brings key_cmp shapes.places tables.polygons.opened (keys_along chain_polygons county shapes.by_shape) q ≡ true
-            → is_in q ≡ true
-        critical_polygons q e = brought (is_open shapes.places q) _ _ (inr e)
-
-        past : length shapes.by_shape ≤ place → Tie place
-        past l =
-            let none : (i : ℕ) → slice_get (topologies_of (arranged_by county (chains_of county shapes known is within i))) place ≡ None = λ i.
-            no_topology (arranged_by county (chains_of county shapes known is within i)) place
-            (let e = chains_arranged_by county (chains_of county shapes known is within i) is (whole_numbered county shapes known is within i) in
-            let f = length_numbered county shapes known is within i in omega (arith, l, e, f)) in
-            ap₂ (option_cmp spelling_cmp) (none n) (none m)
-
-        there : (directed : DirectedChain) → slice_get shapes.by_shape place ≡ Some directed → Tie place
-        there directed e =
-            let at = entry_of_directed county (chains_of county shapes known is within n) is (whole_numbered county shapes known is within n) place directed
-            (fixed_there county shapes known is within n place fixed ∙ e) in
-            let same = same_record r s at.chain
-            (alike_there county shapes known is within nat_keys chain_nodes new_node nodes_renumbered tables.nodes.opened
-            (places_stay county shapes known is within nat_keys chain_nodes new_node turned_nodes (λ k p. 1 + p) node_is tables.nodes are.nodes)
-            n m place fixed nothing_new.0
-            (λ q l q_fixed new d c f g. ap (λ (x : FieldsI). option_to_list x.start_node ++ option_to_list x.end_node)
-            (tied_same q q_fixed (before q l (critical_nodes q new)) d c f g)) directed at.chain e at.of_directed)
-            (alike_there county shapes known is within key_keys chain_polygons new_polygon polygons_renumbered tables.polygons.opened
-            (places_stay county shapes known is within key_keys chain_polygons new_polygon turned_polygons (λ k p. (k.0, 1 + p)) polygon_is
-            tables.polygons are.polygons)
-            n m place fixed nothing_new.1
-            (λ q l q_fixed new d c f g. ap (λ (x : FieldsI). key_on x.left ++ key_on x.right)
-            (tied_same q q_fixed (before q l (critical_polygons q new)) d c f g)) directed at.chain e at.of_directed)
-            (1 + place) in
-            ap₂ (option_cmp spelling_cmp) (record_there n place directed at.chain (fixed_there county shapes known is within n place fixed ∙ e) at.of_directed)
-            (record_there m place directed at.chain (fixed_there county shapes known is within m place fixed ∙ e) at.of_directed)
-            ∙ ap (λ x. spelling_cmp (I (packed_i (1 + place, renumbered r at.chain))) (I x)) (sym same)
-            ∙ sym (same_one (Some (I (packed_i (1 + place, renumbered r at.chain)))))
-
-        go : (d : Bool) → nat_lt place (length shapes.by_shape) ≡ d → Tie place
-        go true l =
-            let none : DirectedChain = record { place = 0; turned = false } in
-            there (get_or shapes.by_shape place none) (slice_get-get_or shapes.by_shape place none (ltb-true place (length shapes.by_shape) l))
-        go false l = past (ltb-false place (length shapes.by_shape) l)
-
     many : (i : ℕ) → length (topologies_of (arranged_by county (chains_of county shapes known is within i))) ≡ length shapes.by_shape
     many i =
         let c = arranged_by county (chains_of county shapes known is within i) in
@@ -256,10 +207,79 @@ module _ (county : County) (shapes : OrderOfShapes) (known : LeavesChoices count
         ∙ chains_arranged_by county (chains_of county shapes known is within i) is (whole_numbered county shapes known is within i)
         ∙ length_numbered county shapes known is within i
 
-    -- So the records of type I are in the order of those at critical places.
-    pub topologies_order : groups_cmp I (type_i_by_chain a) (type_i_by_chain b)
-        ≡ slice_cmp spelling_cmp (at_places (topologies_of a) tables.critical.items) (at_places (topologies_of b) tables.critical.items)
+    -- Places among which are the open ones and those that bring one of these nodes or polygons.
+    module _ (is_in : ℕ → Bool)
+        (out_parts : (place : ℕ) → is_in place ≡ false → (is_open shapes.places place ≡ false) × ((brings_node place ≡ false) × (brings_polygon place ≡ false)))
+        (brought : (place : ℕ) → (brings_node place ≡ true) ⊎ (brings_polygon place ≡ true) → is_in place ≡ true) where
+      left_out : (place : ℕ) → is_in place ≡ false → ((q : ℕ) → q < place → is_in q ≡ true → Tie q) → Tie place
+      left_out place out before = go (nat_lt place (length shapes.by_shape)) refl
+        where
+          fixed : is_open shapes.places place ≡ false
+          fixed = (out_parts place out).0
+
+          nothing_new : (brings_node place ≡ false) × (brings_polygon place ≡ false)
+          nothing_new = (out_parts place out).1
+
+          past : length shapes.by_shape ≤ place → Tie place
+          past l =
+              let none : (i : ℕ) → slice_get (topologies_of (arranged_by county (chains_of county shapes known is within i))) place ≡ None = λ i.
+              no_topology (arranged_by county (chains_of county shapes known is within i)) place
+              (let e = chains_arranged_by county (chains_of county shapes known is within i) is (whole_numbered county shapes known is within i) in
+              let f = length_numbered county shapes known is within i in omega (arith, l, e, f)) in
+              ap₂ (option_cmp spelling_cmp) (none n) (none m)
+
+          there : (directed : DirectedChain) → slice_get shapes.by_shape place ≡ Some directed → Tie place
+          there directed e =
+              let at = entry_of_directed county (chains_of county shapes known is within n) is (whole_numbered county shapes known is within n) place directed
+              (fixed_there county shapes known is within n place fixed ∙ e) in
+              let same = same_record r s at.chain
+              (alike_there county shapes known is within nat_keys chain_nodes new_node nodes_renumbered nodes stay_nodes
+              n m place fixed nothing_new.0
+              (λ q l q_fixed new d c f g. ap (λ (x : FieldsI). option_to_list x.start_node ++ option_to_list x.end_node)
+              (tied_same q q_fixed (before q l (brought q (inl new))) d c f g)) directed at.chain e at.of_directed)
+              (alike_there county shapes known is within key_keys chain_polygons new_polygon polygons_renumbered polygons stay_polygons
+              n m place fixed nothing_new.1
+              (λ q l q_fixed new d c f g. ap (λ (x : FieldsI). key_on x.left ++ key_on x.right)
+              (tied_same q q_fixed (before q l (brought q (inr new))) d c f g)) directed at.chain e at.of_directed)
+              (1 + place) in
+              ap₂ (option_cmp spelling_cmp) (record_there n place directed at.chain (fixed_there county shapes known is within n place fixed ∙ e) at.of_directed)
+              (record_there m place directed at.chain (fixed_there county shapes known is within m place fixed ∙ e) at.of_directed)
+              ∙ ap (λ x. spelling_cmp (I (packed_i (1 + place, renumbered r at.chain))) (I x)) (sym same)
+              ∙ sym (same_one (Some (I (packed_i (1 + place, renumbered r at.chain)))))
+
+          go : (d : Bool) → nat_lt place (length shapes.by_shape) ≡ d → Tie place
+          go true l =
+              let none : DirectedChain = record { place = 0; turned = false } in
+              there (get_or shapes.by_shape place none) (slice_get-get_or shapes.by_shape place none (ltb-true place (length shapes.by_shape) l))
+          go false l = past (ltb-false place (length shapes.by_shape) l)
+
+      -- So the records of type I are in the order of those at these places.
+      pub topologies_at : groups_cmp I (type_i_by_chain a) (type_i_by_chain b)
+          ≡ slice_cmp spelling_cmp (at_places (topologies_of a) (filter is_in (range_with_len 0 (length shapes.by_shape))))
+          (at_places (topologies_of b) (filter is_in (range_with_len 0 (length shapes.by_shape))))
+      topologies_at =
+          part_decides spelling_cmp is_in (topologies_of a) (topologies_of b) (many n ∙ sym (many m)) left_out
+          ∙ ap (λ places. slice_cmp spelling_cmp (at_places (topologies_of a) places) (at_places (topologies_of b) places))
+          (ap (λ count. filter is_in (range_with_len 0 count)) (many n))
+
+  -- So they are in the order of those at critical places.
+  module _ (tables : TieTables) (are : AreTieTables county shapes tables) (n m : ℕ) where
+    abbrev is_there : ℕ → Bool
+    is_there = is_critical shapes.places tables.nodes.opened (keys_along chain_nodes county shapes.by_shape)
+        tables.polygons.opened (keys_along chain_polygons county shapes.by_shape)
+
+    pub topologies_order : groups_cmp I (type_i_by_chain (arranged_by county (chains_of county shapes known is within n)))
+        (type_i_by_chain (arranged_by county (chains_of county shapes known is within m)))
+        ≡ slice_cmp spelling_cmp (at_places (topologies_of (arranged_by county (chains_of county shapes known is within n))) tables.critical.items)
+        (at_places (topologies_of (arranged_by county (chains_of county shapes known is within m))) tables.critical.items)
     topologies_order =
-        part_decides spelling_cmp is_in (topologies_of a) (topologies_of b) (many n ∙ sym (many m)) left_out
-        ∙ ap (λ places. slice_cmp spelling_cmp (at_places (topologies_of a) places) (at_places (topologies_of b) places))
-        (ap (λ count. filter is_in (range_with_len 0 count)) (many n) ∙ sym are.critical)
+        topologies_at tables.nodes.opened
+        (places_stay county shapes known is within nat_keys chain_nodes new_node turned_nodes (λ k p. 1 + p) node_is tables.nodes are.nodes)
+        tables.polygons.opened
+        (places_stay county shapes known is within key_keys chain_polygons new_polygon turned_polygons (λ k p. (k.0, 1 + p)) polygon_is
+        tables.polygons are.polygons)
+        n m is_there
+        (λ place out. (let parts = or_parts (is_open shapes.places place) _ out in (parts.0, or_parts _ _ parts.1)))
+        (λ place new. either_brought (is_open shapes.places place) _ _ new)
+        ∙ ap (λ places. slice_cmp spelling_cmp (at_places (topologies_of (arranged_by county (chains_of county shapes known is within n))) places)
+        (at_places (topologies_of (arranged_by county (chains_of county shapes known is within m))) places)) (sym are.critical)

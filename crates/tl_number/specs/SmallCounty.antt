@@ -1,0 +1,58 @@
+-- The part of a county by which its choices are compared: the chains at open places, the first fixed chain of each key that they have, and
+-- the landmarks if one of these has a polygon that first appears at an open place.
+use Rattle.std.specs.Prelude.{ℕ, ◌||◌, List, [], ◌++◌, Bool, cond, filter, length, map}
+use Rattle.std.specs.List.{range_with_len}
+use Rattle.std.specs.Ordering.{nat_cmp}
+use Rattle.ordered_lists.specs.Orders.{stands_in}
+use Rattle.ordered_lists.specs.Places.{at_places}
+use Rattle.tl_shape.specs.Chain.{Chain}
+use Rattle.county_chart.specs.County.{County, link_key}
+use Rattle.county_chart.specs.CountyRules.{chain_nodes, chain_polygons}
+use Rattle.county_chart.specs.PolygonKeys.{PolygonKey, key_cmp}
+use Rattle.county_chart.specs.ShapeOrder.{OrderOfShapes}
+use Rattle.canonical_form.specs.DirectedChains.{tlid_at}
+use Rattle.record_groups.specs.Groups.{group_at, grouped}
+use Rattle.tl_number.specs.CountyParts.{part_of}
+use Rattle.tl_number.specs.CriticalKeys.{brings}
+use Rattle.tl_number.specs.CriticalPlaces.{has_open_link}
+use Rattle.tl_number.specs.OpenKeys.{first_open, is_open, keys_along, open_among}
+use Rattle.tl_number.specs.OpenNames.{chain_feats}
+
+-- the keys of the chains at open places
+abbrev pub keys_at_open : {K : Type 0} → (Chain → List K) → County → OrderOfShapes → List K
+keys_at_open keys county shapes =
+    grouped (map (group_at (keys_along keys county shapes.by_shape)) (open_among shapes.places (length shapes.by_shape)))
+
+-- whether some landmark has a polygon that first appears at an open place
+abbrev pub is_linked : County → OrderOfShapes → Bool
+is_linked county shapes = has_open_link county (first_open key_cmp shapes.places (keys_along chain_polygons county shapes.by_shape))
+
+-- The keys whose numbers can differ between choices: those of chains at open places, and the polygons of landmarks if these are kept.
+abbrev pub wanted_nodes : County → OrderOfShapes → List ℕ
+wanted_nodes county shapes = keys_at_open chain_nodes county shapes
+
+abbrev pub wanted_feats : County → OrderOfShapes → List ℕ
+wanted_feats county shapes = keys_at_open chain_feats county shapes
+
+abbrev pub wanted_polygons : County → OrderOfShapes → List PolygonKey
+wanted_polygons county shapes =
+    keys_at_open chain_polygons county shapes ++ cond (is_linked county shapes) (map link_key county.links) []
+
+-- whether a place is open, or the first fixed place of a wanted key
+abbrev pub is_kept : County → OrderOfShapes → ℕ → Bool
+is_kept county shapes place = is_open shapes.places place
+    || (brings nat_cmp shapes.places (wanted_nodes county shapes) (keys_along chain_nodes county shapes.by_shape) place
+    || (brings key_cmp shapes.places (wanted_polygons county shapes) (keys_along chain_polygons county shapes.by_shape) place
+    || brings nat_cmp shapes.places (wanted_feats county shapes) (keys_along chain_feats county shapes.by_shape) place))
+
+-- the places whose chains are kept
+abbrev pub kept_places : County → OrderOfShapes → List ℕ
+kept_places county shapes = filter (is_kept county shapes) (range_with_len 0 (length shapes.by_shape))
+
+-- the TLIDs of the chains that are kept
+abbrev pub kept_tlids : County → OrderOfShapes → List ℕ
+kept_tlids county shapes = map (λ directed. tlid_at county directed.place) (at_places shapes.by_shape (kept_places county shapes))
+
+-- the part with the chains that are kept
+unfoldable pub small_county : County → OrderOfShapes → County
+small_county county shapes = part_of county (λ entry. stands_in nat_cmp entry.0 (kept_tlids county shapes)) (is_linked county shapes)
