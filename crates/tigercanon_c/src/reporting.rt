@@ -9,7 +9,7 @@ ghost use Rattle.tigercanon_c.specs.Reported.{fault_reported, fault_reported_of_
 
 use crate::edge::FaultNumbers;
 use fault_report::{FaultPlace, FaultReport};
-use tigercanon::{CompareFault, Fault, Refusal};
+use tigercanon::{CompareFault, Fault};
 use tl_load::LoadFault;
 
 /// A fault with up to three numbers as its places.
@@ -107,7 +107,7 @@ pub(crate) fn report(of: Fault, fault: &mut FaultNumbers) -> u8
     ensures memory { IsWantOfMemory of → result ≡ 5 }
 {
     *fault = fault_reported(0, of);
-    Refusal(of).status()
+    of.status()
 }
 
 /// Reports the fault of one of two sets, and returns its status.
@@ -121,7 +121,7 @@ pub(crate) fn report_of_two(of: CompareFault, fault: &mut FaultNumbers) -> u8
     match of {
         CompareFault::In { set, fault: of } => {
             *fault = fault_reported(set, of);
-            Refusal(of).status()
+            of.status()
         }
         CompareFault::Memory => {
             *fault = fault_reported(0, Fault::Memory);
