@@ -35,7 +35,7 @@ def sessions_of(file: Path) -> Iterator[Session]:
     for block in re.split(r"(?m)^== ", f"{file.stem}\n{file.read_text('utf-8')}"):
         rows, whole = re.findall(r"(?m)^each (.*)", block), re.sub(r"(?m)^each .*\n", "", block)
         for row in rows or [""]:
-            values = row.split(" :: ")
+            values: list[str] = row.split(" :: ")
             name, _, text = re.sub(r"\{(\d)\}", lambda found: (values + [""] * 9)[int(found[1])], whole).partition("\n")
             steps = [Step(command, re.sub("(?m)^    ", "", answer).rstrip("\n")) for command, answer in STEP.findall(text)]
             if steps:

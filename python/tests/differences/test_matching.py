@@ -32,7 +32,7 @@ WEST, EAST, NEAR_ZERO = "32.000000° N, 86.000000° W", "32.000000° N, 85.99999
 NO_RECORD = [("type P", "yes", "no"), ("FILE", "01001", "(none)"), ("POLYLONG, POLYLAT", WEST, "(none)")]
 
 TABLE = re.compile(r"^## Record type (\w): [^\n]* \((\d+) bytes\)\n(.*?)(?=^## |\Z)", re.M | re.S)
-FIELD = re.compile(r"^\| (\d+)(?:[^|]*-(\d+))? \| (?!CENID)([^|]*) \| [Bp] \| [^|]* \|(?: ([^|]*) ?\|)?$", re.M)
+FIELD = re.compile(r"^\| (\d+)(?:[^|]*-(\d+))? \| (?!CENID)([^|]*) \| [Bp] \|[^|]*\|(?: ([^|]*) ?\|)?$", re.M)
 """A field of text, or a point: its first and last column, its name, and its partner."""
 
 
