@@ -3,3 +3,4 @@ pub mod NumberTexts
 pub mod PointTexts
 pub mod Masks
 pub mod RowLaws
+pub mod Common

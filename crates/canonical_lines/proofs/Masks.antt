@@ -1,19 +1,10 @@
 -- What the masks of eight bytes say: which bytes are blanks, which are zeros, and which are digits.
-use Rattle.std.proofs.Common.{◌≡◌, ℕ, suc, ◌+◌, ◌-◌, ◌*◌, ◌%◌, ◌^◌, ◌<◌, ◌≤◌, inl, inr, Bool, true, false, cond, List, [], ◌∷◌, length}
-use Rattle.std.proofs.Common.{map, get_or, ltb, eqb, bit_and, refl, sym, ap, ◌∙◌, arith, lit<, replicate}
-use Rattle.std.specs.List.{list_all}
-use Rattle.std.proofs.lemmas.Bool.{eqb-true, eqb-false, and_parts}
-use Rattle.std.proofs.lemmas.List.{length-map}
-use Rattle.std.proofs.lemmas.Nat.{and_block}
-use Rattle.std.proofs.lemmas.Simd.{length-zip2, zip2_splat, map-map, mask_l-lt}
-use Rattle.std.specs.Int.Bits.{and_self}
-use Rattle.std.proofs.Math.Nat.{pow-succ'}
-use Rattle.canonical_lines.proofs.NumberTexts.{digit_bounds}
-use Rattle.canonical_lines.proofs.PointTexts.{all_at}
-use Rattle.canonical_lines.specs.Texts.{IsNumeral, IsNumeralOrNone}
-use Rattle.tl_layout.proofs.Words.{full_mask, digit_from}
-use Rattle.tl_layout.specs.NumberField.{is_blank, is_digit}
-use Rattle.tl_layout.specs.NumberReading.{drop_blanks}
+use Rattle.canonical_lines.proofs.Common.{Bool, IsNumeral, IsNumeralOrNone, List, [], and_block, and_parts, and_self, ap, arith, bit_and}
+use Rattle.canonical_lines.proofs.Common.{cond, digit_from, drop_blanks, eqb, eqb-false, eqb-true, false, full_mask, get_or, inl, inr}
+use Rattle.canonical_lines.proofs.Common.{is_blank, is_digit, length, length-map, length-zip2, list_all, lit<, ltb, map, map-map, mask_l-lt}
+use Rattle.canonical_lines.proofs.Common.{pow-succ', refl, replicate, suc, sym, true, zip2_splat, ℕ, ◌%◌, ◌*◌, ◌+◌, ◌-◌, ◌<◌, ◌^◌, ◌∙◌, ◌∷◌}
+use Rattle.canonical_lines.proofs.Common.{◌≡◌, ◌≤◌}
+use Rattle.canonical_lines.proofs.{NumberTexts.digit_bounds, PointTexts.all_at}
 use lib.Lanes.{mask_l, zip2}
 
 -- the test for digits: how far the byte is above the byte of 0

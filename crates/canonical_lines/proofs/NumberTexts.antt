@@ -1,17 +1,10 @@
 -- Columns with blanks and then digits without a leading zero are the canonical text of the digits' number.
-use Rattle.std.proofs.Common.{◌≡◌, ℕ, suc, ◌+◌, ◌-◌, ◌*◌, ◌/◌, ◌%◌, ◌<◌, ◌≤◌, List, [], ◌∷◌, ◌++◌, length, true, Some, None, refl, sym, ap}
-use Rattle.std.proofs.Common.{◌∙◌, arith, append_assoc, get_or, unwrap_or, Option, zero, inl, inr, slice_range, replicate}
-use Rattle.std.specs.List.{list_all}
-use Rattle.std.proofs.lemmas.Bool.{and_parts, and_from, eqb-true, ne_eqb, leb-true, le-leb}
-use Rattle.std.proofs.lemmas.List.Folds.{list_all-append}
-use Rattle.std.proofs.lemmas.List.{append-nil, length-append, take_all}
-use Rattle.canonical_lines.specs.Texts.{IsNumeral, IsNumeralOrNone, IsNumberText, IsNumberOrNoneText}
-use Rattle.tl_layout.specs.FieldTexts.{number_text, number_place_text}
-use Rattle.tl_layout.specs.Laws.NumberLaws.{splits_blanks}
-use Rattle.tl_layout.specs.Laws.NumberTextLaws.{number_below, length-number_text}
-use Rattle.tl_layout.specs.NumberField.{is_blank, is_digit, value_after}
-use Rattle.tl_layout.specs.Numbers.{IsNumberOrNone}
-use Rattle.tl_layout.specs.NumberReading.{drop_blanks}
+use Rattle.canonical_lines.proofs.Common.{IsNumberOrNone, IsNumberOrNoneText, IsNumberText, IsNumeral, IsNumeralOrNone, List, None, Option}
+use Rattle.canonical_lines.proofs.Common.{Some, [], and_from, and_parts, ap, append-nil, append_assoc, arith, drop_blanks, eqb-true, get_or}
+use Rattle.canonical_lines.proofs.Common.{inl, inr, is_blank, is_digit, le-leb, leb-true, length, length-append, length-number_text}
+use Rattle.canonical_lines.proofs.Common.{list_all, list_all-append, ne_eqb, number_below, refl, replicate, slice_range, suc, sym, take_all}
+use Rattle.canonical_lines.proofs.Common.{true, unwrap_or, value_after, zero, ℕ, ◌%◌, ◌*◌, ◌++◌, ◌+◌, ◌-◌, ◌/◌, ◌<◌, ◌∙◌, ◌∷◌, ◌≡◌, ◌≤◌}
+use Rattle.tl_layout.specs.{FieldTexts.number_place_text, FieldTexts.number_text, Laws.NumberLaws.splits_blanks}
 
 -- a digit is between the bytes of 0 and of 9
 pub digit_bounds : (digit : ℕ) → is_digit digit ≡ true → (48 ≤ digit) × (digit ≤ 57)

@@ -1,8 +1,7 @@
 -- Places are tested from the last one to the first.
-use Rattle.std.proofs.Common.{◌≡◌, ◌≤◌, ◌<◌, ◌+◌, ◌-◌, ◌*◌, ℕ, suc, take, drop, slice_range, subst, Bool, true, false, List, [], ◌∷◌, ◌++◌}
-use Rattle.std.proofs.Common.{Option, Some, None, refl, sym, ap, ◌∙◌, arith}
-use Rattle.std.proofs.lemmas.List.{drop-drop, take-append-drop}
-use Rattle.canonical_lines.specs.Texts.{IsPlacesText, IsUsedText}
+use Rattle.canonical_lines.proofs.Common.{Bool, IsPlacesText, IsUsedText, List, None, Option, Some, [], ap, arith, drop, drop-drop, false}
+use Rattle.canonical_lines.proofs.Common.{refl, slice_range, subst, suc, sym, take, take-append-drop, true, ℕ, ◌*◌, ◌++◌, ◌+◌, ◌-◌, ◌<◌}
+use Rattle.canonical_lines.proofs.Common.{◌∙◌, ◌∷◌, ◌≡◌, ◌≤◌}
 use Rattle.tl_layout.specs.FieldTexts.{places_text}
 
 -- the columns hold that many places, and one of them is used only if used is true

@@ -1,14 +1,11 @@
 -- A sign and digits are the canonical text of a coordinate.
-use Rattle.std.proofs.Common.{◌≡◌, ℕ, zero, suc, ◌+◌, ◌-◌, ◌*◌, ◌/◌, ◌%◌, ◌^◌, ◌<◌, ◌≤◌, ◌⊎◌, inl, inr, List, [], ◌∷◌, ◌++◌, length, true}
-use Rattle.std.proofs.Common.{refl, sym, ap, ◌∙◌, arith, append_assoc, subst, replicate, get_or, take, drop, slice_range, ℤ, pos, negsuc, unsigned_abs, Some, None}
-use Rattle.std.specs.List.{list_all}
-use Rattle.std.proofs.lemmas.Bool.{and_parts, and_from, le-leb}
-use Rattle.std.proofs.lemmas.List.{append-nil, take_all, take-append-drop, length-drop}
-use Rattle.canonical_lines.specs.Texts.{IsCoordinateText, IsPointOrNoneText, IsPointText}
+use Rattle.canonical_lines.proofs.Common.{IsCoordinateText, IsPointOrNoneText, IsPointText, List, None, Some, [], and_from, and_parts, ap}
+use Rattle.canonical_lines.proofs.Common.{append-nil, append_assoc, arith, drop, get_or, inl, inr, is_blank, is_digit, le-leb, length}
+use Rattle.canonical_lines.proofs.Common.{length-drop, list_all, negsuc, number_below, point_place_text, pos, refl, replicate, slice_range}
+use Rattle.canonical_lines.proofs.Common.{subst, suc, sym, take, take-append-drop, take_all, true, unsigned_abs, value_after, zero, ℕ, ℤ}
+use Rattle.canonical_lines.proofs.Common.{◌%◌, ◌*◌, ◌++◌, ◌+◌, ◌-◌, ◌/◌, ◌<◌, ◌^◌, ◌∙◌, ◌∷◌, ◌≡◌, ◌≤◌, ◌⊎◌}
 use Rattle.canonical_lines.proofs.NumberTexts.{digit_bounds, only_blanks}
-use Rattle.tl_layout.specs.FieldTexts.{digits_text, coordinate_text, point_place_text}
-use Rattle.tl_layout.specs.Laws.NumberTextLaws.{number_below}
-use Rattle.tl_layout.specs.NumberField.{is_blank, is_digit, value_after}
+use Rattle.tl_layout.specs.FieldTexts.{coordinate_text, digits_text}
 use lib.Lanes.{chunk}
 
 -- bytes that are all digits

@@ -1,28 +1,19 @@
 -- By a column table: a line whose columns hold canonical texts is read as the record of their values, and is that record's
 -- canonical spelling, except for the version.
-use Rattle.std.proofs.Common.{◌≡◌, ℕ, zero, suc, ◌+◌, ◌-◌, ◌≤◌, List, [], ◌∷◌, ◌++◌, length, take, drop, true, Some, None, Option, refl, sym, ap}
-use Rattle.std.proofs.Common.{◌∙◌, subst, arith, codes, replicate, unwrap_or}
-use Rattle.std.specs.List.{list_all}
-use Rattle.std.proofs.lemmas.Bool.{eqb-true}
-use Rattle.std.proofs.lemmas.List.{drop-drop, drop_all, take-append-drop}
+use Rattle.canonical_lines.proofs.Common.{Coordinates, IsOnMap, IsPointText, IsSpeltLine, RecordType, line_length, number_text, value_texts}
+use Rattle.canonical_lines.proofs.Common.{FieldsOf, IsNumber, drop_all, eqb-true, is_blank, list_all, replicate, rows_texts, suc, unwrap_or}
+use Rattle.canonical_lines.proofs.Common.{IsLine, IsText, List, Option, byte_of, codes, columns, joined, length, make_of, subst, table_of}
+use Rattle.canonical_lines.proofs.Common.{IsNumberOrNone, IsNumberText, IsPlacesText, drop-drop, joined-before, rows_spelling, with_version}
+use Rattle.canonical_lines.proofs.Common.{IsNumberOrNoneText, IsPointOrNoneText, arith, columns_of_text, point_place_text, take-append-drop}
+use Rattle.canonical_lines.proofs.Common.{None, Some, [], ap, drop, refl, sym, take, true, zero, ℕ, ◌++◌, ◌+◌, ◌-◌, ◌∙◌, ◌∷◌, ◌≡◌, ◌≤◌}
 use Rattle.canonical_lines.proofs.NumberTexts.{only_blanks}
-use Rattle.canonical_lines.specs.SpeltLine.{with_version, IsSpeltLine}
-use Rattle.canonical_lines.specs.Texts.{IsNumberText, IsNumberOrNoneText, IsPointText, IsPointOrNoneText, IsPlacesText}
-use Rattle.tl_layout.specs.Bytes.{IsText, IsLine, columns}
-use Rattle.tl_layout.specs.ColumnTable.{Kind, Number, NumberOrNone, Pair, PairOrNone, NumberPlaces, PointPlaces, Opaque, Filler}
-use Rattle.tl_layout.specs.ColumnTable.{ValueOf, Row, width_of, SpellsValue, SpellsRows, FitsValue, FitsRows, is_laid_out}
-use Rattle.tl_layout.specs.Columns.{joined}
-use Rattle.tl_layout.specs.Coordinates.{Coordinates, IsOnMap}
-use Rattle.tl_layout.specs.FieldMeaning.{SpellsNumber, SpellsNumberOrNone, SpellsPoint, SpellsPointOrNone, SpellsPointPlace}
-use Rattle.tl_layout.specs.FieldMeaning.{SpellsNumberPlace, SpellsPlaces}
-use Rattle.tl_layout.specs.FieldTexts.{value_texts, rows_texts, rows_spelling, number_text, number_place_text, point_place_text}
-use Rattle.tl_layout.specs.Laws.ColumnLaws.{joined-before, columns_of_text}
-use Rattle.tl_layout.specs.Laws.TableLaws.{Values, values_of, made, first_row, ordered, laid_out_within, joined-append, table_spelling_is_line}
-use Rattle.tl_layout.specs.Laws.TableLaws.{table_reads_spelling, table_reads_spelled, table_spelled_is_read}
-use Rattle.tl_layout.specs.Laws.TypeLaws.{is_table}
-use Rattle.tl_layout.specs.NumberField.{is_blank}
-use Rattle.tl_layout.specs.Numbers.{IsNumber, IsNumberOrNone}
-use Rattle.tl_layout.specs.RecordTypes.{RecordType, byte_of, line_length, FieldsOf, table_of, make_of, reading_of, fields_spelling}
+use Rattle.tl_layout.specs.ColumnTable.{Filler, FitsRows, FitsValue, Kind, Number, NumberOrNone, NumberPlaces, Opaque, Pair, PairOrNone}
+use Rattle.tl_layout.specs.ColumnTable.{PointPlaces, Row, SpellsRows, SpellsValue, ValueOf, is_laid_out, width_of}
+use Rattle.tl_layout.specs.FieldMeaning.{SpellsNumber, SpellsNumberOrNone, SpellsNumberPlace, SpellsPlaces, SpellsPoint, SpellsPointOrNone}
+use Rattle.tl_layout.specs.FieldMeaning.{SpellsPointPlace}
+use Rattle.tl_layout.specs.Laws.TableLaws.{Values, first_row, joined-append, laid_out_within, made, ordered, table_reads_spelled}
+use Rattle.tl_layout.specs.Laws.TableLaws.{table_reads_spelling, table_spelled_is_read, table_spelling_is_line, values_of}
+use Rattle.tl_layout.specs.{FieldTexts.number_place_text, Laws.TypeLaws.is_table, RecordTypes.fields_spelling, RecordTypes.reading_of}
 
 -- ---- what is known of a line
 

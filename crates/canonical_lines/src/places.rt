@@ -43,8 +43,7 @@ pub(crate) trait Places {
 pub(crate) struct PointPlaces;
 
 impl Places for PointPlaces {
-    ghost use Rattle.tl_layout.specs.Coordinates.{Coordinates, IsOnMap};
-    ghost use Rattle.tl_layout.specs.FieldTexts.{point_place_text};
+    ghost use Rattle.tl_layout.specs.{Coordinates.Coordinates, Coordinates.IsOnMap, FieldTexts.point_place_text};
 
     ghost Item = { Coordinates };
 
@@ -77,8 +76,7 @@ pub(crate) struct NumberPlaces;
 
 impl Places for NumberPlaces {
     ghost use Rattle.std.specs.Prelude.{ℕ};
-    ghost use Rattle.tl_layout.specs.FieldTexts.{number_place_text};
-    ghost use Rattle.tl_layout.specs.Numbers.{IsNumber};
+    ghost use Rattle.tl_layout.specs.{FieldTexts.number_place_text, Numbers.IsNumber};
 
     ghost Item = { ℕ };
 

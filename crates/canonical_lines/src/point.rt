@@ -2,9 +2,8 @@
 
 ghost use Rattle.canonical_lines.specs.Texts.{IsCoordinateText, IsPointOrNoneText, IsPointText};
 ghost use Rattle.std.specs.List.{list_all};
-ghost use Rattle.std.specs.Prelude.{◌≡◌, ◌⊎◌, length, true, IsTrue, None};
-ghost use Rattle.tl_layout.specs.FieldTexts.{point_place_text};
-ghost use Rattle.tl_layout.specs.NumberField.{is_digit};
+ghost use Rattle.std.specs.Prelude.{IsTrue, None, length, true, ◌≡◌, ◌⊎◌};
+ghost use Rattle.tl_layout.specs.{FieldTexts.point_place_text, NumberField.is_digit};
 
 use crate::number::is_blank;
 use std::simd::prelude::*;

@@ -1,8 +1,5 @@
 -- A program with one more subcommand.
-use Rattle.command_line.proofs.Common.{◌≡◌, ◌∙◌, ap, App, app_of, with_subcommand}
-use Rattle.std.proofs.Common.{Result, Ok, Err}
-use Rattle.std.specs.Prelude.{IfOk, IsOkAnd}
-use Rattle.clap.specs.declared.builder.command.Command.{Command}
+use Rattle.command_line.proofs.Common.{App, Command, Err, IfOk, IsOkAnd, Ok, Result, ap, app_of, with_subcommand, ◌∙◌, ◌≡◌}
 
 pub job_added : {E : Type 0} (job : Result Command E) (made before wanted : App) → IfOk job (λ j. app_of j ≡ wanted)
     → IsOkAnd job (λ j. made ≡ with_subcommand before (app_of j).top) → made ≡ with_subcommand before wanted.top

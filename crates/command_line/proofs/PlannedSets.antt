@@ -1,21 +1,10 @@
 -- The results of clap's getters, by the values that clap found.
-use Rattle.command_line.proofs.Common.{◌≡◌, ◌∙◌, Bool, true, false, List, [], Option, Some, None, Bor, ap, refl, sym, subst, codes}
-use Rattle.command_line.proofs.Common.{option_map, Row, found_of, subcommand_of, App, Text, first_of, one_of, rows_of, understood, Job}
-use Rattle.command_line.proofs.Common.{AreUnderstood, IsFlagGiven}
-use Rattle.std.proofs.Common.{Result, Ok, Err}
-use Rattle.std.proofs.Common.{inl, inr}
-use Rattle.std.specs.Prelude.{Box, OnOk}
-use Rattle.std.specs.Box.{box_value}
-use Rattle.clap.specs.Words.{HasMatchesOf, is_simple, subcommand_name_of}
-use Rattle.clap.specs.Simple.{subcommand_rows, subcommand_rows_of}
-use Rattle.clap.specs.declared.parser.matches.ArgMatches.{ArgMatches}
-use Rattle.clap.specs.declared.parser.matches.ArgMatches.TheViews.{out-ArgMatches, out-SubCommand}
-use Rattle.clap.specs.declared.parser.matches.SubCommand.{SubCommand}
-use Rattle.clap.specs.Words.{HasKind, fault_of, is_simple_and_free, kind_of, first_value, one_text}
-use Rattle.clap.specs.declared.error.Error.{Error}
-use Rattle.clap.specs.declared.error.kind.ErrorKind.TheVariants.{OutOfMemory}
-use Rattle.clap.specs.declared.parser.matches.Found.{Found}
-use Rattle.clap.proofs.WalkLemmas.{first_value-rows, one_text-rows}
+use Rattle.command_line.proofs.Common.{App, AreUnderstood, Bool, Bor, Box, Err, Error, Found, HasMatchesOf, IsFlagGiven, Job, List, None}
+use Rattle.command_line.proofs.Common.{Ok, OnOk, Option, OutOfMemory, Result, Row, Some, SubCommand, Text, [], ap, box_value, codes, false}
+use Rattle.command_line.proofs.Common.{fault_of, first_of, first_value, first_value-rows, found_of, inl, inr, is_simple, is_simple_and_free}
+use Rattle.command_line.proofs.Common.{kind_of, one_of, one_text, one_text-rows, option_map, out-ArgMatches, out-SubCommand, refl, rows_of}
+use Rattle.command_line.proofs.Common.{subcommand_name_of, subcommand_of, subst, sym, true, understood, ◌∙◌, ◌≡◌}
+use Rattle.clap.specs.{Simple.subcommand_rows, Simple.subcommand_rows_of, Words.HasKind, declared.parser.matches.ArgMatches.ArgMatches}
 
 -- the value of an argument
 pub value_given : (found : Found) (id : Text) (r : Option (Bor Text)) (value : Bor Text)

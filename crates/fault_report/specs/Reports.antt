@@ -1,16 +1,13 @@
 -- A fault as every interface reports it: its kind, which has a number and a name, and up to three places.
-use Rattle.std.specs.Prelude.{ℕ, List, [], ◌∷◌, ◌++◌, codes, encode_utf8, flat_map}
+use Rattle.std.specs.Prelude.{List, [], codes, encode_utf8, flat_map, ℕ, ◌++◌, ◌∷◌}
 use Rattle.std.specs.Fmt.{decimal}
 use Rattle.hex.specs.Hex.{encode_lower}
-use Rattle.fault_report.specs.declared.kind.FaultKind.{FaultKind}
-use Rattle.fault_report.specs.declared.kind.FaultKind.TheVariants.{UnknownType, LineTooLong, BadByte, BadNumber, BadPoint, GapInRecord}
-use Rattle.fault_report.specs.declared.kind.FaultKind.TheVariants.{TooManyRecords, Device, Memory, WriteFault}
-use Rattle.fault_report.specs.declared.kind.FaultKind.TheVariants.{ChainTwice, NoChain, SequenceBroken, LinkMissing, LinkTwice, NameTwice}
-use Rattle.fault_report.specs.declared.kind.FaultKind.TheVariants.{NameUnknown, PolygonTwice, LandUnknown, PolygonUnknown}
-use Rattle.fault_report.specs.declared.kind.FaultKind.TheVariants.{PolygonWithoutChain, TooSymmetric}
-use Rattle.fault_report.specs.declared.report.FaultPlace.{FaultPlace}
-use Rattle.fault_report.specs.declared.report.FaultPlace.TheVariants.{Nowhere, Number, RecordType, Cenid}
-use Rattle.fault_report.specs.declared.report.FaultReport.{FaultReport}
+use Rattle.fault_report.specs.declared.kind.FaultKind.TheVariants.{BadByte, BadNumber, BadPoint, ChainTwice, Device, GapInRecord}
+use Rattle.fault_report.specs.declared.kind.FaultKind.TheVariants.{LandUnknown, LineTooLong, LinkMissing, LinkTwice, Memory, NameTwice}
+use Rattle.fault_report.specs.declared.kind.FaultKind.TheVariants.{NameUnknown, NoChain, PolygonTwice, PolygonUnknown, PolygonWithoutChain}
+use Rattle.fault_report.specs.declared.kind.FaultKind.TheVariants.{SequenceBroken, TooManyRecords, TooSymmetric, UnknownType, WriteFault}
+use Rattle.fault_report.specs.declared.report.FaultPlace.TheVariants.{Cenid, Nowhere, Number, RecordType}
+use Rattle.fault_report.specs.declared.{kind.FaultKind.FaultKind, report.FaultPlace.FaultPlace, report.FaultReport.FaultReport}
 
 -- The number of each refusal.
 abbrev pub refusal_number : FaultKind → ℕ

@@ -1,9 +1,8 @@
 //! Marks by number. A number that has a place for a mark is looked up in a list by one read.
 
 ghost use Rattle.std.specs.Ordering.{nat_cmp};
-ghost use Rattle.std.specs.Prelude.{◌≡◌, ◌≤◌, ◌*◌, length, IfOk};
-ghost use Rattle.ordered_lists.specs.Marks.{AreMarksOf};
-ghost use Rattle.ordered_lists.specs.Orders.{IsInOrder, stands_in};
+ghost use Rattle.std.specs.Prelude.{IfOk, length, ◌*◌, ◌≡◌, ◌≤◌};
+ghost use Rattle.ordered_lists.specs.{Marks.AreMarksOf, Orders.IsInOrder, Orders.stands_in};
 
 use crate::keys::place_of;
 use std::alloc::{AllocError, Global};

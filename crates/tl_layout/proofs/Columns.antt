@@ -1,11 +1,9 @@
 -- The texts of numbers in eight columns.
-use Rattle.std.proofs.Common.{◌≡◌, ℕ, ◌+◌, ◌-◌, ◌*◌, ◌/◌, ◌%◌, ◌<◌, List, [], ◌∷◌, ◌++◌, refl, ap, ◌∙◌, arith}
-use Rattle.std.proofs.Common.{zero, suc, nat_eq, Bool, true, false, if◌then◌else◌, ◌==◌}
-use Rattle.std.proofs.Common.{◌≤◌, ◌⊎◌, inl, inr, length, slice_set}
-use Rattle.std.proofs.lemmas.List.{append-nil, drop_all}
-use borrow.Rule.Slice.PartMut.{put_mid}
-use Rattle.std.proofs.lemmas.Bool.{cases_lt, eqb-true, ne_eqb}
+use Rattle.tl_layout.proofs.Common.{Bool, List, [], ap, append-nil, arith, cases_lt, drop_all, eqb-true, false, if◌then◌else◌, inl, inr}
+use Rattle.tl_layout.proofs.Common.{length, nat_eq, ne_eqb, refl, slice_set, suc, true, zero, ℕ, ◌%◌, ◌*◌, ◌++◌, ◌+◌, ◌-◌, ◌/◌, ◌<◌, ◌==◌}
+use Rattle.tl_layout.proofs.Common.{◌∙◌, ◌∷◌, ◌≡◌, ◌≤◌, ◌⊎◌}
 use Rattle.tl_layout.specs.FieldTexts.{digits_text, number_text, text_behind}
+use borrow.Rule.Slice.PartMut.{put_mid}
 
 -- eight digits side by side
 pub eight_digits_text : (n : ℕ) → n < 100000000

@@ -1,10 +1,8 @@
 -- A coordinate that is only a sign and digits.
-use Rattle.tl_layout.proofs.Common.{IfSome, List, None, Option, Some, [], ap, arith, chunk, get_or, is_digit, le-leb, length, number_after}
-use Rattle.tl_layout.proofs.Common.{refl, sym, true, ℕ, ◌∙◌, ◌∷◌, ◌≡◌, ◌≤◌}
-use Rattle.std.proofs.Common.{◌⊎◌, inl, inr, ℤ}
-use Rattle.std.proofs.lemmas.List.{take_all}
-use Rattle.tl_layout.specs.CoordinateReading.{plus_of, minus_of, magnitude_of, signed_of, coordinate_of}
-use Rattle.tl_layout.specs.declared.coordinate.Coordinate.TheVariants.{Value}
+use Rattle.tl_layout.proofs.Common.{IfSome, List, None, Option, Some, Value, [], ap, arith, chunk, get_or, inl, inr, le-leb, length}
+use Rattle.tl_layout.proofs.Common.{minus_of, number_after, plus_of, refl, sym, take_all, true, ℕ, ℤ, ◌∙◌, ◌∷◌, ◌≡◌, ◌≤◌, ◌⊎◌}
+use Rattle.tl_layout.specs.NumberField.{is_digit}
+use Rattle.tl_layout.specs.CoordinateReading.{coordinate_of, magnitude_of, signed_of}
 
 -- a number that begins with a digit and is within the limit is a magnitude
 magnitude_is : (limit m : ℕ) (text : List ℕ) → is_digit (get_or text 0 0) ≡ true → number_after 0 text ≡ Some m → m ≤ limit

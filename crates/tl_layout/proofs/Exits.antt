@@ -1,6 +1,5 @@
 -- Exits by `?`.
-use Rattle.std.proofs.Common.{◌≡◌, Result, IfErr, IsErrAnd}
-use Rattle.std.proofs.lemmas.Result.{err_from_is_err_and}
+use Rattle.tl_layout.proofs.Common.{IfErr, IsErrAnd, Result, err_from_is_err_and, ◌≡◌}
 
 -- a property of the callee's error is a property of the returned error
 pub exit_with : {T E : Type 0} (r : Result T E) (f : E) (P : E → Type 0) → IsErrAnd r (λ e. e ≡ f) → P f → IfErr r P

@@ -1,6 +1,5 @@
 -- Number fields: the steps of the loops that read and write them.
-use Rattle.std.proofs.Common.{◌<◌, ◌+◌, ◌*◌, ◌^◌, ℕ, arith, add-one, lit<}
-use Rattle.std.proofs.Math.Nat.{pow-succ', pow-le-pow_right}
+use Rattle.tl_layout.proofs.Common.{add-one, arith, lit<, pow-le-pow_right, pow-succ', ℕ, ◌*◌, ◌+◌, ◌<◌, ◌^◌}
 
 -- a number with one more digit is below a power of ten one higher
 pub digit_more : (v d i : ℕ) → v < 10 ^ i → d < 10 → 10 * v + d < 10 ^ (i + 1)

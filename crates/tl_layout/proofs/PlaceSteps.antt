@@ -1,19 +1,12 @@
 -- Reading places one after another: the items that were read, followed by those of the remaining places.
-use Rattle.std.proofs.Common.{◌≡◌, ℕ, suc, ◌+◌, List, [], ◌∷◌, ◌++◌, Bool, true, false, Option, Some, None, Result, Ok, Err, refl, sym, ap}
-use Rattle.std.proofs.Common.{◌∙◌, subst, append_assoc, ◌≤◌, ◌*◌, arith, ◌-◌, drop, eqb, take, take-take}
-use Rattle.std.proofs.lemmas.Bool.{and_parts, eqb-true}
-use Rattle.std.proofs.lemmas.List.{drop-drop, drop-take, append-nil}
-use Rattle.tl_layout.specs.Bytes.{columns}
-use Rattle.tl_layout.specs.CoordinateReading.{coordinate_of, signed_of, magnitude_of}
-use Rattle.tl_layout.specs.FieldReading.{pair_of, point_or_none, point_or_none_at, and_then, places_reading}
+use Rattle.tl_layout.proofs.Common.{Bool, Err, FieldFault, List, None, Ok, Option, Result, Some, ZEROS, [], and_parts, ap, append-nil}
+use Rattle.tl_layout.proofs.Common.{append_assoc, arith, columns, drop, drop-drop, drop-take, eqb, eqb-true, false, gap, most_latitude}
+use Rattle.tl_layout.proofs.Common.{most_longitude, pair_of, reads_on, refl, subst, suc, suc-mul, sym, take, take-take, true, ℕ, ◌*◌, ◌++◌}
+use Rattle.tl_layout.proofs.Common.{◌+◌, ◌-◌, ◌∙◌, ◌∷◌, ◌≡◌, ◌≤◌}
+use Rattle.tl_layout.specs.CoordinateReading.{coordinate_of, magnitude_of, signed_of}
+use Rattle.tl_layout.specs.FieldReading.{and_then, places_reading, point_or_none, point_or_none_at}
 use Rattle.tl_layout.specs.NumberReading.{number_after}
-use Rattle.tl_layout.specs.declared.writing.TheConstants.{ZEROS}
 use lib.Pointwise.{pointwise}
-use Rattle.std.proofs.Math.Nat.{suc-mul}
-use Rattle.tl_layout.specs.Laws.FieldLaws.{reads_on}
-use Rattle.tl_layout.specs.FieldFaults.{gap}
-use Rattle.tl_layout.specs.declared.fault.FieldFault.{FieldFault}
-use Rattle.tl_layout.specs.Coordinates.{most_longitude, most_latitude}
 
 -- the items so far, followed by those that are read
 abbrev pub with_front : {A : Type 0} → List A → Result (List A) FieldFault → Result (List A) FieldFault

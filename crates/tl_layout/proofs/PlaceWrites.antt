@@ -1,7 +1,6 @@
 -- Writing places one after another.
-use Rattle.std.proofs.Common.{◌≡◌, ℕ, zero, suc, List, [], ◌∷◌, ◌++◌, drop, Option, slice_get}
-use Rattle.std.proofs.Common.{refl, sym, ap, ◌∙◌, append_assoc, subst}
-use Rattle.std.proofs.lemmas.List.{append-nil}
+use Rattle.tl_layout.proofs.Common.{List, Option, [], ap, append-nil, append_assoc, drop, refl, slice_get, subst, suc, sym, zero, ℕ, ◌++◌}
+use Rattle.tl_layout.proofs.Common.{◌∙◌, ◌∷◌, ◌≡◌}
 use Rattle.tl_layout.specs.FieldTexts.{places_text}
 
 -- the text of the places from one on is that place's text and the text of the places after it

@@ -1,11 +1,7 @@
 -- If tables hold a list, they hold the longer list after a record was added.
-use Rattle.std.proofs.Common.{◌≡◌, List, [], ◌∷◌, ◌++◌, Option, Some, None, refl, sym, ap, ◌∙◌, append-nil}
-use Rattle.std.specs.List.{filter_map, cons_option}
-use Rattle.std.proofs.lemmas.List.Elements.{filter_map-append}
-use Rattle.tl_layout.specs.RecordTypes.{Type1, Type2, Type4, Type5, Type6, Type7, Type8, TypeI, TypeP, as_type}
-use Rattle.tl_layout.specs.Tables.{HoldsByType, AddsRecord, and_then_one}
-use Rattle.tl_layout.specs.declared.record_type.Record.{Record}
-use Rattle.tl_layout.specs.declared.tables.Tables.{Tables}
+use Rattle.tl_layout.proofs.Common.{AddsRecord, HoldsByType, List, None, Option, Record, Some, Tables, Type1, Type2, Type4, Type5, Type6}
+use Rattle.tl_layout.proofs.Common.{Type7, Type8, TypeI, TypeP, [], and_then_one, ap, append-nil, as_type, cons_option, filter_map}
+use Rattle.tl_layout.proofs.Common.{filter_map-append, refl, sym, ◌++◌, ◌∙◌, ◌∷◌, ◌≡◌}
 
 last_of : {Y : Type 0} (o : Option Y) (ys : List Y) → ys ++ cons_option o [] ≡ and_then_one ys o
 last_of None ys = append-nil ys

@@ -1,14 +1,8 @@
 -- Eight digits in the bytes of a word, and their number.
-use Rattle.std.proofs.Common.{◌≡◌, ℕ, zero, suc, ◌+◌, ◌-◌, ◌*◌, ◌/◌, ◌%◌, ◌^◌, ◌<◌, ◌≤◌, Bool, true, false, cond, List, [], ◌∷◌}
-use Rattle.std.proofs.Common.{bit_and, length, get_or, replicate, map, drop, ltb, leb, refl, ap, ◌∙◌, arith, lit<}
-use Rattle.std.proofs.Common.{Some}
-use Rattle.std.specs.Int.Bits.{and_self}
-use Rattle.std.proofs.Math.Nat.{pow-succ'}
-use Rattle.std.proofs.lemmas.Bool.{and_from, and_parts, le-leb, leb-true, ltb-true}
-use Rattle.std.proofs.lemmas.List.{drop_all, drop_more}
-use Rattle.std.proofs.lemmas.Nat.{and_block, and_mask}
-use Rattle.tl_layout.specs.NumberField.{is_blank, is_digit}
-use Rattle.tl_layout.specs.NumberReading.{drop_blanks, number_after}
+use Rattle.tl_layout.proofs.Common.{Bool, List, Some, bit_and, cond, drop, drop_all, false, get_or, le-leb, leb, leb-true, length, ltb-true}
+use Rattle.tl_layout.proofs.Common.{[], ap, lit<, ltb, map, refl, suc, true, zero, ℕ, ◌%◌, ◌*◌, ◌+◌, ◌-◌, ◌/◌, ◌<◌, ◌^◌, ◌∙◌, ◌∷◌, ◌≡◌, ◌≤◌}
+use Rattle.tl_layout.proofs.Common.{and_block, and_from, and_mask, and_parts, and_self, arith, drop_blanks, drop_more, pow-succ', replicate}
+use Rattle.tl_layout.specs.{NumberField.is_blank, NumberField.is_digit, NumberReading.number_after}
 use lib.Lanes.{mask_l, sel_l}
 
 -- masking a word with two bytes before it keeps the first of the two

@@ -1,8 +1,6 @@
 -- The contents of a buffer after a part of it was written.
-use Rattle.std.proofs.Common.{◌≡◌, ◌≤◌, ◌-◌, ◌+◌, ℕ, List, [], ◌∷◌, ◌++◌, length, take, drop, slice_set, codes, arith, ap, sym, ◌∙◌}
-use Rattle.std.proofs.lemmas.List.{drop_all, append-nil, take_all}
-use Rattle.std.proofs.lemmas.Slice.{take-put_mid}
-use Rattle.tl_layout.specs.Columns.{joined}
+use Rattle.tl_layout.proofs.Common.{List, [], ap, append-nil, arith, codes, drop, drop_all, joined, length, slice_set, sym, take}
+use Rattle.tl_layout.proofs.Common.{take-put_mid, take_all, ℕ, ◌++◌, ◌+◌, ◌-◌, ◌∙◌, ◌∷◌, ◌≡◌, ◌≤◌}
 use borrow.Rule.Slice.PartMut.{put_mid}
 
 -- the first position was written, and then all others

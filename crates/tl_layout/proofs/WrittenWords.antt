@@ -1,7 +1,6 @@
 -- The digits of a number in the bytes of a word.
-use Rattle.std.proofs.Common.{◌≡◌, ℕ, suc, zero, ◌+◌, ◌-◌, ◌*◌, ◌/◌, ◌%◌, ◌<◌, ◌≤◌, ◌^◌, [], ◌∷◌, bit_and, get_or, refl, ap, ◌∙◌, arith, lit<}
-use Rattle.std.proofs.lemmas.Nat.{and_block, and_mask, le_bytes_8}
-use Rattle.std.specs.Int.{w64, to_le_bytes}
+use Rattle.tl_layout.proofs.Common.{[], and_block, and_mask, ap, arith, bit_and, get_or, le_bytes_8, lit<, refl, suc, to_le_bytes, w64}
+use Rattle.tl_layout.proofs.Common.{zero, ℕ, ◌%◌, ◌*◌, ◌+◌, ◌-◌, ◌/◌, ◌<◌, ◌^◌, ◌∙◌, ◌∷◌, ◌≡◌, ◌≤◌}
 
 -- the lowest seven bits of each of two numbers in a word, nineteen bits up
 two_low_bits : (a b : ℕ) → a < 67108864 → b < 67108864 → bit_and ((b * 4294967296 + a) / 524288) 545460846719

@@ -1,8 +1,6 @@
 -- Address ranges and ZIP codes, 58 bytes.
-use Rattle.std.specs.Prelude.{ℕ, ◌+◌, List, ◌∷◌}
-use Rattle.tl_layout.specs.Bytes.{IsText, columns}
-use Rattle.tl_layout.specs.Pairs.{FitsPair, pair_at, pair_texts}
-use Rattle.tl_layout.specs.declared.ranges.Ranges.{Ranges}
+use Rattle.std.specs.Prelude.{List, ℕ, ◌+◌, ◌∷◌}
+use Rattle.tl_layout.specs.{Bytes.IsText, Bytes.columns, Pairs.FitsPair, Pairs.pair_at, Pairs.pair_texts, declared.ranges.Ranges.Ranges}
 
 -- each field of the ranges has its width
 pub record FitsRanges (ranges : Ranges) : Type 0 where

@@ -1,13 +1,11 @@
 -- Column tables: what the columns of a record type hold, when a line spells a record, and what a turn of the chain and a mask
 -- do to a record.
-use Rattle.std.specs.Prelude.{◌≡◌, ℕ, ◌+◌, ◌-◌, ◌≤◌, List, [], ◌∷◌, length, Option, IfSome, Bool, false, cond, ◌==◌, ◌&&◌, nat_le}
+use Rattle.std.specs.Prelude.{Bool, IfSome, List, Option, [], cond, false, length, nat_le, ℕ, ◌&&◌, ◌+◌, ◌-◌, ◌==◌, ◌∷◌, ◌≡◌, ◌≤◌}
 use Rattle.std.specs.List.{AllByRecursion}
 use Rattle.tl_layout.specs.Bytes.{IsText, blanks, columns}
-use Rattle.tl_layout.specs.declared.mask.Mask.{Mask}
-use Rattle.tl_layout.specs.Numbers.{IsNumber, IsNumberOrNone}
-use Rattle.tl_layout.specs.Coordinates.{Coordinates, IsOnMap}
-use Rattle.tl_layout.specs.FieldMeaning.{SpellsNumber, SpellsNumberOrNone, SpellsPoint, SpellsPointOrNone, SpellsPointPlace}
-use Rattle.tl_layout.specs.FieldMeaning.{SpellsNumberPlace, SpellsPlaces}
+use Rattle.tl_layout.specs.FieldMeaning.{SpellsNumber, SpellsNumberOrNone, SpellsNumberPlace, SpellsPlaces, SpellsPoint, SpellsPointOrNone}
+use Rattle.tl_layout.specs.FieldMeaning.{SpellsPointPlace}
+use Rattle.tl_layout.specs.{Coordinates.Coordinates, Coordinates.IsOnMap, Numbers.IsNumber, Numbers.IsNumberOrNone, declared.mask.Mask.Mask}
 
 -- what a field holds
 pub data Kind : Type 0 where

@@ -1,16 +1,13 @@
 -- The faults of a line: which field is at fault, and what is reported. These definitions read no line: a field is at fault if
 -- its columns spell no value.
-use Rattle.std.specs.Prelude.{◌≡◌, ℕ, ◌+◌, ◌*◌, ◌<◌, List, ◌∷◌, ◌++◌, length, Option, Some, ◌⊎◌, ℤ}
+use Rattle.std.specs.Prelude.{List, Option, Some, length, ℕ, ℤ, ◌*◌, ◌++◌, ◌+◌, ◌<◌, ◌∷◌, ◌≡◌, ◌⊎◌}
 use Rattle.std.specs.List.{AllByRecursion}
-use Rattle.tl_layout.specs.Bytes.{columns}
-use Rattle.tl_layout.specs.CoordinateField.{IsCoordinateField, IsBlankField}
-use Rattle.tl_layout.specs.FieldMeaning.{SpellsNumber, SpellsNumberOrNone, SpellsPoint, SpellsPointOrNone, SpellsPointPlace}
-use Rattle.tl_layout.specs.FieldMeaning.{SpellsNumberPlace, SpellsPlaces}
-use Rattle.tl_layout.specs.ColumnTable.{Kind, Number, NumberOrNone, Pair, PairOrNone, NumberPlaces, PointPlaces, Opaque, Filler}
-use Rattle.tl_layout.specs.ColumnTable.{ValueOf, Row, SpellsField}
-use Rattle.tl_layout.specs.declared.fault.FieldKind.TheVariants.{BadPoint, BadNumber, GapInRecord}
-use Rattle.tl_layout.specs.declared.fault.FieldFault.{FieldFault}
-use Rattle.tl_layout.specs.Coordinates.{most_longitude, most_latitude}
+use Rattle.tl_layout.specs.FieldMeaning.{SpellsNumberPlace, SpellsPlaces, SpellsPointPlace}
+use Rattle.tl_layout.specs.ColumnTable.{Kind, NumberOrNone, NumberPlaces, Pair, PairOrNone, PointPlaces, Row, SpellsField, SpellsValue}
+use Rattle.tl_layout.specs.ColumnTable.{ValueOf}
+use Rattle.tl_layout.specs.declared.fault.FieldKind.TheVariants.{BadNumber, BadPoint, GapInRecord}
+use Rattle.tl_layout.specs.{Bytes.columns, CoordinateField.IsBlankField, CoordinateField.IsCoordinateField, Coordinates.most_latitude}
+use Rattle.tl_layout.specs.{Coordinates.most_longitude, declared.fault.FieldFault.FieldFault}
 
 -- a bad number, reported at this column
 abbrev pub bad_number : ℕ → FieldFault
@@ -43,25 +40,16 @@ pub record IsReportedOfPair (line : List ℕ) (first : ℕ) (fault : FieldFault)
   pub latitude : ¬ HasMalformedLongitude line first → HasMalformedLatitude line first → fault.column ≡ first + 10
   pub pair : ¬ HasMalformedLongitude line first → ¬ HasMalformedLatitude line first → fault.column ≡ first
 
--- the field spells no number, but must have one
-pub record IsNumberFault (line : List ℕ) (first last : ℕ) (fault : FieldFault) : Type 0 where
-  pub none_spelled : (n : ℕ) → ¬ SpellsNumber (columns first last line) n
-  pub reported : fault ≡ bad_number first
+-- what is reported for a field that begins at this column: a bad number there, or for a pair a bad point
+abbrev pub IsReported : List ℕ → ℕ → Kind → FieldFault → Type 0
+IsReported line first Pair fault = IsReportedOfPair line first fault
+IsReported line first PairOrNone fault = IsReportedOfPair line first fault
+IsReported line first _ fault = fault ≡ bad_number first
 
--- the field spells neither a number nor none
-pub record IsNumberOrNoneFault (line : List ℕ) (first last : ℕ) (fault : FieldFault) : Type 0 where
-  pub none_spelled : (n : Option ℕ) → ¬ SpellsNumberOrNone (columns first last line) n
-  pub reported : fault ≡ bad_number first
-
--- the pair spells no point, but must have one
-pub record IsPairFault (line : List ℕ) (first : ℕ) (fault : FieldFault) : Type 0 where
-  pub none_spelled : (point : _) → ¬ SpellsPoint (columns first (first + 9) line) (columns (first + 10) (first + 18) line) point
-  pub reported : IsReportedOfPair line first fault
-
--- the pair spells neither a point nor none
-pub record IsPairOrNoneFault (line : List ℕ) (first : ℕ) (fault : FieldFault) : Type 0 where
-  pub none_spelled : (point : _) → ¬ SpellsPointOrNone (columns first (first + 9) line) (columns (first + 10) (first + 18) line) point
-  pub reported : IsReportedOfPair line first fault
+-- the columns of a field spell no value, and this fault is reported
+pub record IsBadField (line : List ℕ) (first last : ℕ) (kind : Kind) (fault : FieldFault) : Type 0 where
+  pub none_spelled : (value : ValueOf kind) → ¬ SpellsValue line first last kind value
+  pub reported : IsReported line first kind fault
 
 -- the place that begins at this column is used, but one of the places before it, which spell these items, is unused
 pub record IsGap {A : Type 0} (Spells : ℕ → Option A → Type 0) (column before : ℕ) (items : List A) (fault : FieldFault) : Type 0 where
@@ -72,33 +60,22 @@ pub record IsGap {A : Type 0} (Spells : ℕ → Option A → Type 0) (column bef
 
 -- The leftmost faulty place of that many, from this column on: the places before it spell items, and either it is malformed or
 -- it is used after an unused place.
-pub record IsPlaceFault {A : Type 0} (Spells : ℕ → Option A → Type 0) (IsFormFault : ℕ → FieldFault → Type 0) (width count first : ℕ)
+pub record IsPlaceFault {A : Type 0} (Spells : ℕ → Option A → Type 0) (IsFault : ℕ → FieldFault → Type 0) (width count first : ℕ)
     (fault : FieldFault) : Type 0 where
   pub before : ℕ
   pub is_place : before < count
   pub items : List A
   pub spelled : SpellsPlaces Spells width before first items
-  pub at_fault : IsFormFault (first + width * before) fault ⊎ IsGap Spells (first + width * before) before items fault
+  pub at_fault : IsFault (first + width * before) fault ⊎ IsGap Spells (first + width * before) before items fault
 
--- the field in these columns is at fault, and this fault is reported
+-- The field in these columns is at fault, and this fault is reported: it spells no value, or if it consists of places, the leftmost
+-- faulty place is reported.
 abbrev pub IsValueFault : List ℕ → ℕ → ℕ → Kind → FieldFault → Type 0
-IsValueFault line first last Number fault = IsNumberFault line first last fault
-IsValueFault line first last NumberOrNone fault = IsNumberOrNoneFault line first last fault
-IsValueFault line first last Pair fault = IsPairFault line first fault
-IsValueFault line first last PairOrNone fault = IsPairOrNoneFault line first fault
 IsValueFault line first last NumberPlaces fault =
-    IsPlaceFault (SpellsNumberPlace line) (λ column. IsNumberOrNoneFault line column (column + 7)) 8 5 first fault
-IsValueFault line first last PointPlaces fault = IsPlaceFault (SpellsPointPlace line) (IsPairOrNoneFault line) 19 10 first fault
-IsValueFault line first last Opaque fault = ⊥
-IsValueFault line first last Filler fault = ⊥
-
--- the row's field is at fault, and this fault is reported
-abbrev pub IsFieldFault : {R : Type 0} → List ℕ → Row R → FieldFault → Type 0
-IsFieldFault line row fault = IsValueFault line row.first row.last row.kind fault
-
--- the row's columns spell some value
-abbrev pub IsWellFormed : {R : Type 0} → List ℕ → Row R → Type 0
-IsWellFormed line row = (value : ValueOf row.kind) × SpellsField line row value
+    IsPlaceFault (SpellsNumberPlace line) (λ column. IsBadField line column (column + 7) NumberOrNone) 8 5 first fault
+IsValueFault line first last PointPlaces fault =
+    IsPlaceFault (SpellsPointPlace line) (λ column. IsBadField line column (column + 18) PairOrNone) 19 10 first fault
+IsValueFault line first last kind fault = IsBadField line first last kind fault
 
 -- the reported fault of a full line: one row is at fault, and each row before it is well formed
 pub record IsLeftmostFault {R : Type 0} (table : List (Row R)) (line : List ℕ) (fault : FieldFault) : Type 0 where
@@ -106,5 +83,5 @@ pub record IsLeftmostFault {R : Type 0} (table : List (Row R)) (line : List ℕ)
   pub row : Row R
   pub after : List (Row R)
   pub split : table ≡ before ++ row ∷ after
-  pub well_formed : AllByRecursion (IsWellFormed line) before
-  pub at_fault : IsFieldFault line row fault
+  pub well_formed : AllByRecursion (λ (earlier : Row R). (value : ValueOf earlier.kind) × SpellsField line earlier value) before
+  pub at_fault : IsValueFault line row.first row.last row.kind fault

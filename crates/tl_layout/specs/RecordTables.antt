@@ -2,18 +2,12 @@
 -- documentation. Columns 1 to 5, the record type and the version, are the same in all and not in the tables. A longitude and
 -- the latitude after it are one row. If a turn of the chain exchanges a field with another one, the row has the other field's
 -- value last. Rows for fields that name a source and for reserved fields are marked: a mask can leave them out.
-use Rattle.std.specs.Prelude.{ℕ, List, [], ◌∷◌}
+use Rattle.std.specs.Prelude.{List, [], ◌∷◌}
 use Rattle.tl_layout.specs.ColumnTable.{Number, NumberOrNone, Pair, PairOrNone, NumberPlaces, PointPlaces, Opaque, Filler, Row}
 use Rattle.tl_layout.specs.ColumnTable.{Sources, Reserved, row, row_with_partner, row_of}
 use Rattle.tl_layout.specs.Fields.{Fields1, Fields2, Fields4, Fields5, Fields6, Fields7, Fields8, FieldsI, FieldsP}
 
 -- Record type 1, 228 bytes: a chain with its two end points.
-abbrev pub rtype_1 : ℕ
-rtype_1 = 49
-
-abbrev pub len_1 : ℕ
-len_1 = 228
-
 abbrev pub table_1 : List (Row Fields1)
 table_1 =
     row 6 15 Number (λ r. r.tlid)
@@ -59,12 +53,6 @@ table_1 =
     ∷ []
 
 -- Record type 2, 208 bytes: up to ten shape points of a chain.
-abbrev pub rtype_2 : ℕ
-rtype_2 = 50
-
-abbrev pub len_2 : ℕ
-len_2 = 208
-
 abbrev pub table_2 : List (Row Fields2)
 table_2 =
     row 6 15 Number (λ r. r.tlid)
@@ -73,12 +61,6 @@ table_2 =
     ∷ []
 
 -- Record type 4, 58 bytes: up to five features whose names a chain has besides its own.
-abbrev pub rtype_4 : ℕ
-rtype_4 = 52
-
-abbrev pub len_4 : ℕ
-len_4 = 58
-
 abbrev pub table_4 : List (Row Fields4)
 table_4 =
     row 6 15 Number (λ r. r.tlid)
@@ -87,12 +69,6 @@ table_4 =
     ∷ []
 
 -- Record type 5, 56 bytes: the name of a feature.
-abbrev pub rtype_5 : ℕ
-rtype_5 = 53
-
-abbrev pub len_5 : ℕ
-len_5 = 56
-
 abbrev pub table_5 : List (Row Fields5)
 table_5 =
     row 6 10 Opaque (λ r. r.body.file)
@@ -104,12 +80,6 @@ table_5 =
     ∷ []
 
 -- Record type 6, 76 bytes: further address ranges and ZIP codes of a chain.
-abbrev pub rtype_6 : ℕ
-rtype_6 = 54
-
-abbrev pub len_6 : ℕ
-len_6 = 76
-
 abbrev pub table_6 : List (Row Fields6)
 table_6 =
     row 6 15 Number (λ r. r.tlid)
@@ -127,12 +97,6 @@ table_6 =
     ∷ []
 
 -- Record type 7, 74 bytes: a landmark.
-abbrev pub rtype_7 : ℕ
-rtype_7 = 55
-
-abbrev pub len_7 : ℕ
-len_7 = 74
-
 abbrev pub table_7 : List (Row Fields7)
 table_7 =
     row 6 10 Opaque (λ r. r.body.file)
@@ -145,12 +109,6 @@ table_7 =
     ∷ []
 
 -- Record type 8, 36 bytes: a polygon that belongs to a landmark.
-abbrev pub rtype_8 : ℕ
-rtype_8 = 56
-
-abbrev pub len_8 : ℕ
-len_8 = 36
-
 abbrev pub table_8 : List (Row Fields8)
 table_8 =
     row 6 10 Opaque (λ r. r.file)
@@ -161,12 +119,6 @@ table_8 =
     ∷ []
 
 -- Record type I, 127 bytes: the nodes of a chain and the polygons on its sides.
-abbrev pub rtype_i : ℕ
-rtype_i = 73
-
-abbrev pub len_i : ℕ
-len_i = 127
-
 abbrev pub table_i : List (Row FieldsI)
 table_i =
     row 6 10 Opaque (λ r. r.body.file)
@@ -185,12 +137,6 @@ table_i =
     ∷ []
 
 -- Record type P, 45 bytes: a polygon's inner point.
-abbrev pub rtype_p : ℕ
-rtype_p = 80
-
-abbrev pub len_p : ℕ
-len_p = 45
-
 abbrev pub table_p : List (Row FieldsP)
 table_p =
     row 6 10 Opaque (λ r. r.body.file)

@@ -1,17 +1,12 @@
 -- The type of a record as an index, so that a definition or a lemma over all nine types is written once: what its lines and
 -- its records are, and which records fit.
-use Rattle.std.specs.Prelude.{ℕ, List, [], ◌∷◌, ◌++◌, map, filter_map, Option, Some, None, Result}
-use Rattle.tl_layout.specs.AddressRanges.{ranges_of}
-use Rattle.tl_layout.specs.ColumnTable.{Row, FitsRows, SpellsRows}
-use Rattle.tl_layout.specs.FieldTexts.{rows_spelling}
+use Rattle.std.specs.Prelude.{List, None, Option, Result, Some, [], filter_map, map, ℕ, ◌++◌, ◌∷◌}
+use Rattle.tl_layout.specs.ColumnTable.{FitsRows, Row, SpellsRows}
 use Rattle.tl_layout.specs.Fields.{Fields1, Fields2, Fields4, Fields5, Fields6, Fields7, Fields8, FieldsI, FieldsP}
-use Rattle.tl_layout.specs.RecordTables.{rtype_1, rtype_2, rtype_4, rtype_5, rtype_6, rtype_7, rtype_8, rtype_i, rtype_p}
-use Rattle.tl_layout.specs.RecordTables.{len_1, len_2, len_4, len_5, len_6, len_7, len_8, len_i, len_p}
 use Rattle.tl_layout.specs.RecordTables.{table_1, table_2, table_4, table_5, table_6, table_7, table_8, table_i, table_p}
-use Rattle.tl_layout.specs.TableReading.{Makes, rows_reading}
-use Rattle.tl_layout.specs.declared.fault.FieldFault.{FieldFault}
-use Rattle.tl_layout.specs.declared.record_type.Record.{Record}
-use Rattle.tl_layout.specs.declared.record_type.Record.TheVariants.{One, Two, Four, Five, Six, Seven, Eight, I, P}
+use Rattle.tl_layout.specs.declared.record_type.Record.TheVariants.{Eight, Five, Four, I, One, P, Seven, Six, Two}
+use Rattle.tl_layout.specs.{AddressRanges.ranges_of, FieldTexts.rows_spelling, TableReading.Makes, TableReading.rows_reading}
+use Rattle.tl_layout.specs.{declared.fault.FieldFault.FieldFault, declared.record_type.Record.Record}
 
 -- the record types of this project
 pub data RecordType : Type 0 where
@@ -25,25 +20,25 @@ pub data RecordType : Type 0 where
   TypeI : RecordType
   TypeP : RecordType
 
--- the types after type 1, in the order of a canonical text
+-- all types, in the order of a canonical text
+abbrev pub types : List RecordType
+types = Type1 ∷ Type2 ∷ Type4 ∷ Type5 ∷ Type6 ∷ Type7 ∷ Type8 ∷ TypeI ∷ TypeP ∷ []
+
+-- the types after type 1
 abbrev pub later_types : List RecordType
 later_types = Type2 ∷ Type4 ∷ Type5 ∷ Type6 ∷ Type7 ∷ Type8 ∷ TypeI ∷ TypeP ∷ []
 
--- all types, in the order of a canonical text
-abbrev pub types : List RecordType
-types = Type1 ∷ later_types
-
--- the byte in column 1 of a line of this type
+-- the byte in column 1 of a line of this type: the character 1, 2, 4, 5, 6, 7, 8, I or P
 abbrev pub byte_of : RecordType → ℕ
-byte_of Type1 = rtype_1
-byte_of Type2 = rtype_2
-byte_of Type4 = rtype_4
-byte_of Type5 = rtype_5
-byte_of Type6 = rtype_6
-byte_of Type7 = rtype_7
-byte_of Type8 = rtype_8
-byte_of TypeI = rtype_i
-byte_of TypeP = rtype_p
+byte_of Type1 = 49
+byte_of Type2 = 50
+byte_of Type4 = 52
+byte_of Type5 = 53
+byte_of Type6 = 54
+byte_of Type7 = 55
+byte_of Type8 = 56
+byte_of TypeI = 73
+byte_of TypeP = 80
 
 -- the fields of a record of this type
 abbrev pub FieldsOf : RecordType → Type 0
@@ -59,15 +54,15 @@ FieldsOf TypeP = FieldsP
 
 -- the length of a line of this type
 abbrev pub line_length : RecordType → ℕ
-line_length Type1 = len_1
-line_length Type2 = len_2
-line_length Type4 = len_4
-line_length Type5 = len_5
-line_length Type6 = len_6
-line_length Type7 = len_7
-line_length Type8 = len_8
-line_length TypeI = len_i
-line_length TypeP = len_p
+line_length Type1 = 228
+line_length Type2 = 208
+line_length Type4 = 58
+line_length Type5 = 56
+line_length Type6 = 76
+line_length Type7 = 74
+line_length Type8 = 36
+line_length TypeI = 127
+line_length TypeP = 45
 
 -- the columns of a line of this type
 abbrev pub table_of : (t : RecordType) → List (Row (FieldsOf t))

@@ -1,10 +1,9 @@
 //! Coordinates: longitudes and latitudes in millionths of a degree.
 
-ghost use Rattle.std.specs.Prelude.{◌≡◌, ◌≤◌, ◌<◌, ◌-◌, ◌⊎◌, length, Some, IfSome};
-ghost use Rattle.tl_layout.specs.CoordinateReading.{plus_of, minus_of, magnitude_of, signed_of, coordinate_of};
-ghost use Rattle.tl_layout.specs.declared.coordinate.Coordinate.TheVariants.{Value};
-ghost use Rattle.tl_layout.specs.FieldTexts.{sign_of, coordinate_text, digits_text};
-ghost use Rattle.tl_layout.specs.Coordinates.{most_longitude, most_latitude};
+ghost use Rattle.std.specs.Prelude.{IfSome, Some, length, ◌-◌, ◌<◌, ◌≡◌, ◌≤◌, ◌⊎◌};
+ghost use Rattle.tl_layout.specs.CoordinateReading.{coordinate_of, magnitude_of, minus_of, plus_of, signed_of};
+ghost use Rattle.tl_layout.specs.FieldTexts.{coordinate_text, digits_text, sign_of};
+ghost use Rattle.tl_layout.specs.{Coordinates.most_latitude, Coordinates.most_longitude, declared.coordinate.Coordinate.TheVariants.Value};
 
 use crate::digits::{put_behind, put_eight_digits};
 use crate::number::{digits, eight_digits, nine_digits, trim_start};

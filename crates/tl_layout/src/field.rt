@@ -1,10 +1,9 @@
 //! Reading fields by their columns, which are counted from 1 as in the column tables.
 
-ghost use Rattle.std.specs.Prelude.{◌≡◌, ◌+◌, ◌-◌, ◌≤◌, ◌<◌, length, IfOk};
+ghost use Rattle.std.specs.Prelude.{IfOk, length, ◌+◌, ◌-◌, ◌<◌, ◌≡◌, ◌≤◌};
 ghost use Rattle.tl_layout.specs.Bytes.{AreAllowed, columns, longest_line};
-ghost use Rattle.tl_layout.specs.FieldFaults.{gap, bad_point};
 ghost use Rattle.tl_layout.specs.FieldReading.{number_at, number_or_none_at, point_at, point_or_none_at};
-ghost use Rattle.tl_layout.specs.Numbers.{IsNumber, IsNumberOrNone};
+ghost use Rattle.tl_layout.specs.{FieldFaults.bad_point, FieldFaults.gap, Numbers.IsNumber, Numbers.IsNumberOrNone};
 
 use crate::coordinate::{Coordinate, read_latitude, read_longitude};
 use crate::fault::{FieldFault, FieldKind};

@@ -1,9 +1,8 @@
 //! The name of a feature, as in record types 1 and 5.
 
-ghost use Rattle.std.specs.Prelude.{◌≡◌, ◌+◌, ◌-◌, ◌≤◌, length, take};
-ghost use Rattle.tl_layout.specs.Bytes.{AreAllowed, longest_line};
-ghost use Rattle.tl_layout.specs.Columns.{joined};
+ghost use Rattle.std.specs.Prelude.{length, take, ◌+◌, ◌-◌, ◌≡◌, ◌≤◌};
 ghost use Rattle.tl_layout.specs.Names.{FitsName, feature_name_at, name_texts};
+ghost use Rattle.tl_layout.specs.{Bytes.AreAllowed, Bytes.longest_line, Columns.joined};
 
 use crate::field::text_at;
 use crate::text::Text;

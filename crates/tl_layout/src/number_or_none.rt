@@ -16,9 +16,8 @@ pub struct NumberOrNone {
 
 impl Model for NumberOrNone {
     ghost use Rattle.std.proofs.Common.{ap};
-    ghost use Rattle.std.specs.Prelude.{ℕ, Option, unwrap_or};
-    ghost use Rattle.tl_layout.specs.Laws.NumberLaws.{none_if_zero_again};
-    ghost use Rattle.tl_layout.specs.Numbers.{none_if_zero};
+    ghost use Rattle.std.specs.Prelude.{Option, unwrap_or, ℕ};
+    ghost use Rattle.tl_layout.specs.{Laws.NumberLaws.none_if_zero_again, Numbers.none_if_zero};
 
     ghost Value = { Option ℕ };
 

@@ -1,8 +1,7 @@
 //! A record of any type.
 
-ghost use Rattle.std.specs.Prelude.{◌≡◌, ◌≤◌, ◌<◌, length};
-ghost use Rattle.tl_layout.specs.RecordText.{type_of, len_of, spelling_of, FitsRecord};
-ghost use Rattle.tl_layout.specs.Bytes.{longest_line};
+ghost use Rattle.std.specs.Prelude.{length, ◌<◌, ◌≡◌, ◌≤◌};
+ghost use Rattle.tl_layout.specs.{Bytes.longest_line, RecordText.FitsRecord, RecordText.len_of, RecordText.spelling_of, RecordText.type_of};
 
 use crate::layout::Layout;
 use crate::type_i::RecI;

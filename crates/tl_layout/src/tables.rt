@@ -1,8 +1,7 @@
 //! The records of a set, by type.
 
-ghost use Rattle.std.specs.Prelude.{[], All, IfOk, OnOk, OnErr};
-ghost use Rattle.tl_layout.specs.RecordText.{FitsRecord};
-ghost use Rattle.tl_layout.specs.Tables.{HoldsByType, AddsRecord, AreSameTables};
+ghost use Rattle.std.specs.Prelude.{All, IfOk, OnErr, OnOk, []};
+ghost use Rattle.tl_layout.specs.{RecordText.FitsRecord, Tables.AddsRecord, Tables.AreSameTables, Tables.HoldsByType};
 
 use crate::record_type::Record;
 use crate::tabled::Tabled;

@@ -1,12 +1,9 @@
 //! Turning: what the fields of a chain are when it is seen from its other end.
 
-ghost use Rattle.std.specs.Prelude.{◌≡◌, ◌+◌, ◌-◌, ◌*◌, ◌≤◌, length, refl, take};
-ghost use Rattle.tl_layout.specs.AddressRanges.{ranges_texts};
-ghost use Rattle.tl_layout.specs.Columns.{joined};
-ghost use Rattle.tl_layout.specs.Pairs.{pair_texts};
-ghost use Rattle.tl_layout.specs.Turned.{exchanged, turned_ranges, turned_entities, turned_body, body_towards};
-ghost use Rattle.tl_layout.specs.Type1Groups.{entities_texts, body_1_texts};
-ghost use Rattle.tl_layout.specs.Bytes.{longest_line};
+ghost use Rattle.std.specs.Prelude.{length, refl, take, ◌*◌, ◌+◌, ◌-◌, ◌≡◌, ◌≤◌};
+ghost use Rattle.tl_layout.specs.Turned.{body_towards, exchanged, turned_body, turned_entities, turned_ranges};
+ghost use Rattle.tl_layout.specs.Type1Groups.{body_1_texts, entities_texts};
+ghost use Rattle.tl_layout.specs.{AddressRanges.ranges_texts, Bytes.longest_line, Columns.joined, Pairs.pair_texts};
 
 use crate::pair::LeftRight;
 use crate::ranges::Ranges;

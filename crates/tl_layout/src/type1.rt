@@ -1,17 +1,10 @@
 //! Record type 1: a chain's basic data.
 
 ghost use Rattle.std.proofs.Common.{lit≤};
-ghost use Rattle.std.specs.Prelude.{◌≡◌, ◌≤◌, ◌++◌, ◌∷◌, codes, length, take};
-ghost use Rattle.tl_layout.specs.Bytes.{IsText};
-ghost use Rattle.tl_layout.specs.Columns.{joined};
-ghost use Rattle.tl_layout.specs.FieldFaults.{IsLeftmostFault};
-ghost use Rattle.tl_layout.specs.FieldTexts.{number_text};
-ghost use Rattle.tl_layout.specs.Laws.TypeLaws.{layout_laws};
-ghost use Rattle.tl_layout.specs.Numbers.{IsNumber};
-ghost use Rattle.tl_layout.specs.RecordTables.{len_1, rtype_1};
-ghost use Rattle.tl_layout.specs.RecordTypes.{Type1, byte_of, line_length, table_of, FitsFields, SpellsFields, reading_of, fields_spelling};
-ghost use Rattle.tl_layout.specs.Type1.{type_1_short_reading};
-ghost use Rattle.tl_layout.specs.Type1Groups.{point_texts};
+ghost use Rattle.std.specs.Prelude.{codes, length, take, ◌++◌, ◌∷◌, ◌≡◌, ◌≤◌};
+ghost use Rattle.tl_layout.specs.RecordTypes.{FitsFields, SpellsFields, Type1, byte_of, fields_spelling, line_length, reading_of, table_of};
+ghost use Rattle.tl_layout.specs.{Bytes.IsText, Columns.joined, FieldFaults.IsLeftmostFault, FieldTexts.number_text};
+ghost use Rattle.tl_layout.specs.{Laws.TypeLaws.layout_laws, Numbers.IsNumber, Type1.type_1_short_reading, Type1Groups.point_texts};
 
 pub(crate) mod body;
 pub(crate) mod fields;
@@ -34,8 +27,7 @@ pub struct Rec1 {
 }
 
 impl Model for Rec1 {
-    ghost use Rattle.tl_layout.specs.Fields.{Fields1};
-    ghost use Rattle.tl_layout.specs.Numbers.{IsNumber};
+    ghost use Rattle.tl_layout.specs.{Fields.Fields1, Numbers.IsNumber};
 
     ghost Value = { Fields1 };
 
@@ -103,7 +95,7 @@ impl Rec1 {
     /// Writes columns 1 to 15 of the record with this number: the record type, the version and the TLID.
     pub fn put_number(tlid: u64, out: &mut [u8])
         requires { 15 ≤ length out.old }
-        ensures { take 15 out.new ≡ (rtype_1 ∷ codes "2006") ++ number_text 10 tlid }
+        ensures { take 15 out.new ≡ (byte_of Type1 ∷ codes "2006") ++ number_text 10 tlid }
     {
         write_head(out, b'1');
         write_number(out, 6, 15, tlid);
@@ -121,7 +113,7 @@ impl Rec1 {
     /// Reads a full line, group by group.
     #[tactic(auto, unfolding(crate::specs::Type1::type_1_short_reading, crate::specs::FieldReading::and_then))]
     fn read_groups(line: &[u8]) -> Result<Rec1, FieldFault>
-        requires { IsText len_1 line.now }
+        requires { IsText (line_length Type1) line.now }
         ensures { result ≡ type_1_short_reading line.now }
     {
         let tlid = read_number(line, 6, 15)?;

@@ -1,11 +1,9 @@
 //! Record type 2: shape points of a chain.
 
 ghost use Rattle.std.proofs.Common.{lit≤};
-ghost use Rattle.std.specs.Prelude.{◌≡◌, ◌≤◌, length};
-ghost use Rattle.tl_layout.specs.FieldFaults.{IsLeftmostFault};
-ghost use Rattle.tl_layout.specs.Laws.TypeLaws.{layout_laws};
-ghost use Rattle.tl_layout.specs.Numbers.{IsNumber};
-ghost use Rattle.tl_layout.specs.RecordTypes.{Type2, byte_of, line_length, table_of, FitsFields, SpellsFields, reading_of, fields_spelling};
+ghost use Rattle.std.specs.Prelude.{length, ◌≡◌, ◌≤◌};
+ghost use Rattle.tl_layout.specs.RecordTypes.{FitsFields, SpellsFields, Type2, byte_of, fields_spelling, line_length, reading_of, table_of};
+ghost use Rattle.tl_layout.specs.{FieldFaults.IsLeftmostFault, Laws.TypeLaws.layout_laws, Numbers.IsNumber};
 
 use crate::fault::FieldFault;
 use crate::field::read_number;
@@ -25,8 +23,7 @@ pub struct Rec2 {
 }
 
 impl Model for Rec2 {
-    ghost use Rattle.tl_layout.specs.Fields.{Fields2};
-    ghost use Rattle.tl_layout.specs.Numbers.{IsNumber};
+    ghost use Rattle.tl_layout.specs.{Fields.Fields2, Numbers.IsNumber};
 
     ghost Value = { Fields2 };
 

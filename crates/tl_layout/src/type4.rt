@@ -2,11 +2,9 @@
 
 ghost use Rattle.std.proofs.Common.{lit≤};
 ghost use Rattle.std.specs.List.{AllByRecursion};
-ghost use Rattle.std.specs.Prelude.{◌≡◌, ◌≤◌, length};
-ghost use Rattle.tl_layout.specs.FieldFaults.{IsLeftmostFault};
-ghost use Rattle.tl_layout.specs.Laws.TypeLaws.{layout_laws};
-ghost use Rattle.tl_layout.specs.Numbers.{IsNumber};
-ghost use Rattle.tl_layout.specs.RecordTypes.{Type4, byte_of, line_length, table_of, FitsFields, SpellsFields, reading_of, fields_spelling};
+ghost use Rattle.std.specs.Prelude.{length, ◌≡◌, ◌≤◌};
+ghost use Rattle.tl_layout.specs.RecordTypes.{FitsFields, SpellsFields, Type4, byte_of, fields_spelling, line_length, reading_of, table_of};
+ghost use Rattle.tl_layout.specs.{FieldFaults.IsLeftmostFault, Laws.TypeLaws.layout_laws, Numbers.IsNumber};
 
 use crate::fault::FieldFault;
 use crate::field::read_number;
@@ -26,8 +24,7 @@ pub struct Rec4 {
 
 impl Model for Rec4 {
     ghost use Rattle.std.specs.List.{AllByRecursion};
-    ghost use Rattle.tl_layout.specs.Fields.{Fields4};
-    ghost use Rattle.tl_layout.specs.Numbers.{IsNumber};
+    ghost use Rattle.tl_layout.specs.{Fields.Fields4, Numbers.IsNumber};
 
     ghost Value = { Fields4 };
 

@@ -1,14 +1,10 @@
 //! Record type I: the nodes of a chain and the polygons on its sides.
 
 ghost use Rattle.std.proofs.Common.{lit≤};
-ghost use Rattle.std.specs.Prelude.{◌≡◌, ◌≤◌, ◌<◌, Option, Result, Ok, length};
-ghost use Rattle.tl_layout.specs.Bytes.{AreAllowed, IsText};
-ghost use Rattle.tl_layout.specs.FieldFaults.{IsLeftmostFault};
-ghost use Rattle.tl_layout.specs.Laws.TypeLaws.{layout_laws};
-ghost use Rattle.tl_layout.specs.Numbers.{IsNumber, IsNumberOrNone};
-ghost use Rattle.tl_layout.specs.RecordTables.{len_i};
-ghost use Rattle.tl_layout.specs.RecordTypes.{TypeI, byte_of, line_length, table_of, FitsFields, SpellsFields, reading_of, fields_spelling};
-ghost use Rattle.tl_layout.specs.TypeI.{body_i_at, type_i_spelling};
+ghost use Rattle.std.specs.Prelude.{Ok, Option, Result, length, ◌<◌, ◌≡◌, ◌≤◌};
+ghost use Rattle.tl_layout.specs.RecordTypes.{FitsFields, SpellsFields, TypeI, byte_of, fields_spelling, line_length, reading_of, table_of};
+ghost use Rattle.tl_layout.specs.{Bytes.AreAllowed, Bytes.IsText, FieldFaults.IsLeftmostFault, Laws.TypeLaws.layout_laws, Numbers.IsNumber};
+ghost use Rattle.tl_layout.specs.{Numbers.IsNumberOrNone, TypeI.body_i_at, TypeI.type_i_spelling};
 
 use crate::fault::FieldFault;
 use crate::field::{read_number, read_number_or_none, text_at};
@@ -48,8 +44,7 @@ pub struct RecI {
 }
 
 impl Model for RecI {
-    ghost use Rattle.tl_layout.specs.Fields.{FieldsI};
-    ghost use Rattle.tl_layout.specs.Numbers.{IsNumber, IsNumberOrNone};
+    ghost use Rattle.tl_layout.specs.{Fields.FieldsI, Numbers.IsNumber, Numbers.IsNumberOrNone};
 
     ghost Value = { FieldsI };
 
@@ -146,7 +141,7 @@ impl BodyI {
 
     /// The content of a full line.
     fn at(line: &[u8]) -> BodyI
-        requires { IsText len_i line.now }
+        requires { IsText (line_length TypeI) line.now }
         ensures { result ≡ body_i_at line.now }
     {
         BodyI {
@@ -240,7 +235,7 @@ impl RecI {
         right: &Side,
         out: &mut [u8],
     )
-        requires { length out.old ≡ len_i }
+        requires { length out.old ≡ line_length TypeI }
         ensures { out.new
             ≡ type_i_spelling (record {
               tlid = tlid;

@@ -1,9 +1,8 @@
 //! Writing fields into the columns of a line, from left to right. Columns are counted from 1, as in the column tables.
 
-ghost use Rattle.std.specs.Prelude.{◌≡◌, ◌+◌, ◌-◌, ◌≤◌, ◌<◌, [], ◌∷◌, ◌++◌, length, take, replicate, codes, pos};
-ghost use Rattle.tl_layout.specs.Columns.{joined};
-ghost use Rattle.tl_layout.specs.Coordinates.{IsOnMap};
-ghost use Rattle.tl_layout.specs.FieldTexts.{number_text, coordinate_text, long_text, lat_text};
+ghost use Rattle.std.specs.Prelude.{[], codes, length, pos, replicate, take, ◌++◌, ◌+◌, ◌-◌, ◌<◌, ◌∷◌, ◌≡◌, ◌≤◌};
+ghost use Rattle.tl_layout.specs.FieldTexts.{coordinate_text, lat_text, long_text, number_text};
+ghost use Rattle.tl_layout.specs.{Columns.joined, Coordinates.IsOnMap};
 
 use crate::coordinate::put_coordinate;
 use crate::layout::Layout;

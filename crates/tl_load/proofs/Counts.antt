@@ -1,14 +1,11 @@
 -- The counts of records of each type.
-use Rattle.std.proofs.Common.{rules, ◌≡◌, ℕ, ◌+◌, ◌<◌, ◌≤◌, Bool, false, cond, List, [], ◌∷◌, ◌++◌, length, get_or, set, replicate, Ok, Err}
-use Rattle.std.proofs.Common.{refl, sym, ap, ◌∙◌, arith, lit<, eqb}
-use Rattle.tl_load.proofs.Common.{All-nil, AreCounted, Eight, Five, Four, I, One, P, Record, Seven, Six, Two, cases_eq, common_steps}
-use Rattle.tl_load.proofs.Common.{count_of, eq-eqb, is_line_feed, le-leb, length-replicate, lt-leb, ne_eqb}
-use Rattle.std.proofs.lemmas.List.{length-set, get_or-set_same, get_or-set_other, get_or-replicate}
-use Rattle.tl_layout.specs.RecordText.{type_of}
-use Rattle.tl_load.specs.Outcome.{most_records, with_record}
-use Rattle.tl_load.specs.Choice.{tiger}
-use Rattle.tl_load.specs.Keeping.{IsLoader, total}
+use Rattle.tl_load.proofs.Common.{All-nil, AreCounted, I, IsLoader, cases_eq, count_of, eq-eqb, get_or, length-set, most_records, replicate}
+use Rattle.tl_load.proofs.Common.{Bool, Eight, Five, Four, List, P, Seven, arith, cond, false, le-leb, length, lt-leb, ne_eqb, rules, total}
+use Rattle.tl_load.proofs.Common.{Err, Ok, One, Six, Two, [], ap, eqb, lit<, refl, set, sym, ℕ, ◌++◌, ◌+◌, ◌<◌, ◌∙◌, ◌∷◌, ◌≡◌, ◌≤◌}
+use Rattle.tl_load.proofs.Common.{Record, common_steps, get_or-replicate, get_or-set_other, get_or-set_same, is_line_feed, length-replicate}
 use Rattle.tl_load.proofs.Reading.{count_push}
+use Rattle.tl_layout.specs.RecordText.{type_of}
+use Rattle.tl_load.specs.{Choice.tiger, Outcome.with_record}
 use Rattle.tl_load.specs.declared.fault.LoadFault.TheVariants as faults
 
 tiger_rtype : (r : Record) → tiger.rtype r ≡ type_of r

@@ -1,14 +1,10 @@
 -- Cutting a set into parts: an empty part has no lines, and the bytes after the end of a line keep their lines.
-use Rattle.std.proofs.Common.{arith, rules, ◌≡◌, ◌↔◌, ℕ, ◌+◌, Bool, true, false, List, [], ◌∷◌, ◌++◌, map, refl, sym, ap, subst, ◌∙◌}
-use Rattle.std.proofs.Common.{append_assoc, eqb}
-use Rattle.tl_load.proofs.Common.{All-nil, AreLinesSpelled, FaultAt, FieldKind, IsFaultOf, IsWithoutLineFeed, Judge, LineFault, LoadFault}
-use Rattle.tl_load.proofs.Common.{PlacedLine, Spells, common_steps, eqb-true, field_fault_at, flat_map-append, is_line_feed, lines}
-use Rattle.tl_load.proofs.Common.{map-append, of_limit, of_line, placed_lines}
-use Rattle.std.specs.List.{flat_map}
-use Rattle.tl_load.specs.Lines.{HaveSameLines}
-use Rattle.tl_load.specs.Places.{numbered_lines, lines_from_part}
-use Rattle.tl_load.specs.Verdicts.{fault_at, without_place}
+use Rattle.tl_load.proofs.Common.{All-nil, AreLinesSpelled, Bool, FaultAt, FieldKind, HaveSameLines, IsFaultOf, IsWithoutLineFeed}
+use Rattle.tl_load.proofs.Common.{LineFault, List, LoadFault, PlacedLine, Spells, [], ap, append_assoc, arith, common_steps, eqb, eqb-true}
+use Rattle.tl_load.proofs.Common.{false, flat_map, flat_map-append, is_line_feed, lines, map, map-append, of_limit, of_line, placed_lines}
+use Rattle.tl_load.proofs.Common.{refl, rules, subst, sym, true, without_place, ℕ, ◌++◌, ◌+◌, ◌↔◌, ◌∙◌, ◌∷◌, ◌≡◌}
 use Rattle.tl_load.proofs.LineLemmas.{lines_line, lines_none}
+use Rattle.tl_load.specs.{Places.lines_from_part, Places.numbered_lines, Verdicts.Judge, Verdicts.fault_at, Verdicts.field_fault_at}
 use Rattle.tl_layout.specs.declared.fault.FieldKind.TheVariants as kinds
 use Rattle.tl_load.specs.declared.fault.LineFault.TheVariants as line_faults
 

@@ -1,8 +1,7 @@
 -- A line padded with blanks.
-use Rattle.std.proofs.Common.{rules, ◌≡◌, ℕ, ◌≤◌, false, cond, List, [], ◌∷◌, length, take, Option, Some, None, append-nil, ltb}
-use Rattle.tl_load.proofs.Common.{IsLine, fails_before_first, filled, is_allowed, length-append, length-replicate, ltb-false, not}
-use Rattle.tl_load.proofs.Common.{not-false}
-use Rattle.std.specs.Prelude.{position}
+use Rattle.tl_load.proofs.Common.{IsLine, List, None, Option, Some, [], append-nil, cond, fails_before_first, false, filled, is_allowed}
+use Rattle.tl_load.proofs.Common.{length, length-append, length-replicate, ltb, ltb-false, not, not-false, position, rules, take, ℕ, ◌∷◌}
+use Rattle.tl_load.proofs.Common.{◌≡◌, ◌≤◌}
 use Rattle.tl_layout.specs.Bytes.{AreAllowed}
 
 pub filled_full : (len : ℕ) (line : List ℕ) → length line ≡ len → filled len line ≡ line

@@ -1,23 +1,15 @@
 -- What a loader was fed after each call.
-use Rattle.std.proofs.Common.{rules, ◌≡◌, ℕ, ◌+◌, ◌≤◌, List, [], ◌∷◌, ◌++◌, length, map, replicate, Option, Some, None, Result, Ok, Err}
-use Rattle.std.proofs.Common.{refl, sym, ap, subst, ◌∙◌, append_assoc, append-nil, arith, inl, inr, ◌⊎◌}
-use Rattle.tl_load.proofs.Common.{All, AreCounted, Closes, Ends, FaultAt, IsOfLines, IsSamePart, IsWellAfter, IsWithoutLineFeed, most_unfinished}
-use Rattle.tl_load.proofs.Common.{Lifts, LoadFault, Loaded, LoadedInto, MatchOption, MatchResult, OnOk, PlacedLine, ReadsPart, Record}
-use Rattle.tl_load.proofs.Common.{SpellsWithin, Takes, TakesLines, WasFedInto, all_parts, common_steps, flat_map-append, length-append}
-use Rattle.tl_load.proofs.Common.{length-map, lines, outcome, placed_lines, seen, tiger, to_end, with_line_feeds, without_return}
-use Rattle.tl_load.proofs.Common.{◌then_with◌}
-use Rattle.std.specs.Prelude.{IfErr}
-use Rattle.tl_load.specs.Places.{numbered_lines, lines_from_part}
-use Rattle.tl_load.specs.Outcome.{outcome_after}
-use Rattle.tl_load.specs.Loaded.{IsFaultHowever, HasLoaded, IsWellSoFar}
-use Rattle.tl_load.specs.Keeping.{AreKept}
-use Rattle.tl_load.specs.Steps.{to_come, IsPartClosed, with_fault}
-use Rattle.tl_load.proofs.RecordLines.{tiger_is_sound}
-use Rattle.tl_load.proofs.Reading.{outcome_after-append, accepts_from_outcome, outcome_from_accepts, fault_from_outcome}
-use Rattle.tl_load.proofs.LineLemmas.{lines_none}
-use Rattle.tl_load.proofs.Counts.{none_counted}
+use Rattle.tl_load.proofs.Common.{All, AreCounted, AreKept, Closes, Ends, Err, FaultAt, HasLoaded, IfErr, IsFaultHowever, IsOfLines}
+use Rattle.tl_load.proofs.Common.{IsPartClosed, IsSamePart, IsWellAfter, IsWellSoFar, IsWithoutLineFeed, Lifts, List, LoadFault, Loaded}
+use Rattle.tl_load.proofs.Common.{LoadedInto, MatchOption, MatchResult, None, Ok, OnOk, Option, PlacedLine, ReadsPart, Record, Result, Some}
+use Rattle.tl_load.proofs.Common.{SpellsWithin, Takes, TakesLines, WasFedInto, [], all_parts, ap, append-nil, append_assoc, arith}
+use Rattle.tl_load.proofs.Common.{common_steps, flat_map-append, inl, inr, length, length-append, length-map, lines, map, most_unfinished}
+use Rattle.tl_load.proofs.Common.{outcome, placed_lines, refl, replicate, rules, seen, subst, sym, tiger, to_end, with_fault}
+use Rattle.tl_load.proofs.Common.{without_return, ℕ, ◌++◌, ◌+◌, ◌then_with◌, ◌∙◌, ◌∷◌, ◌≡◌, ◌≤◌, ◌⊎◌}
+use Rattle.tl_load.proofs.Reading.{accepts_from_outcome, fault_from_outcome, outcome_after-append, outcome_from_accepts}
 use Rattle.tl_load.proofs.Runs.{lines_after, numbered_lines-append, parts-append}
-use Rattle.tl_load.proofs.Steps.{comes_at_end}
+use Rattle.tl_load.proofs.{Counts.none_counted, LineLemmas.lines_none, RecordLines.tiger_is_sound, Steps.comes_at_end}
+use Rattle.tl_load.specs.{Loaded.with_line_feeds, Outcome.outcome_after, Places.lines_from_part, Places.numbered_lines, Steps.to_come}
 use Rattle.tl_load.specs.declared.fault.LoadFault.TheVariants as faults
 
 pub at_none : {A : Type 0} (P : Type 0) (Q : A → Type 0) (o : Option A) → o ≡ None → MatchOption o P Q → P

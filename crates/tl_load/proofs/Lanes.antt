@@ -1,14 +1,10 @@
 -- Bytes that are tested in vector lanes.
-use Rattle.std.proofs.Common.{rules, ◌≡◌, ℕ, ◌+◌, ◌-◌, ◌%◌, ◌<◌, ◌≤◌, ◌*◌, Bool, true, false, cond, List, [], ◌∷◌, length, get_or, map}
-use Rattle.std.proofs.Common.{refl, subst, ◌∙◌, ◌^◌, arith, ltb, w8}
-use Rattle.tl_load.proofs.Common.{Each1, cases_lt, chunk, get_or_default, is_allowed, le-leb, length-chunk, length-map, lt-ltb, ltb-false}
-use Rattle.tl_load.proofs.Common.{ltb-true, mask_l, zip2}
-use Rattle.std.specs.Prelude.{◌||◌}
-use Rattle.std.proofs.lemmas.Bool.{cond_both}
-use Rattle.std.proofs.lemmas.List.{get_or-map}
-use Rattle.std.proofs.lemmas.Simd.{get_or-chunk, Each1-get_or, tops_compared}
-use lib.Lanes.{sel_l, top}
+use Rattle.tl_load.proofs.Common.{Bool, Each1, Each1-get_or, List, [], arith, cases_lt, chunk, cond, cond_both, false, get_or, get_or-chunk}
+use Rattle.tl_load.proofs.Common.{get_or-map, get_or_default, is_allowed, le-leb, length, length-chunk, length-map, lt-ltb, ltb, ltb-false}
+use Rattle.tl_load.proofs.Common.{ltb-true, map, mask_l, refl, rules, subst, tops_compared, true, w8, zip2, ℕ, ◌%◌, ◌*◌, ◌+◌, ◌-◌, ◌<◌, ◌^◌}
+use Rattle.tl_load.proofs.Common.{◌||◌, ◌∙◌, ◌∷◌, ◌≡◌, ◌≤◌}
 use Rattle.tl_layout.specs.Bytes.{AreAllowed}
+use lib.Lanes.{sel_l, top}
 
 or_true : (x : Bool) → (x || true) ≡ true
 or_true true = refl

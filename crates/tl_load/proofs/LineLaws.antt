@@ -1,13 +1,11 @@
 -- A line is judged as the record that it spells.
-use Rattle.std.proofs.Common.{rules, ◌≡◌, ℕ, ◌+◌, ◌≤◌, Bool, true, false, cond, List, [], ◌∷◌, length, get_or, take, Result, Ok, Err, refl}
-use Rattle.std.proofs.Common.{ap, ◌∙◌, arith, ltb, ◌<◌, ◌↔◌}
-use Rattle.tl_load.proofs.Common.{FieldFault, IsFaultIn, IsLine, IsLineOf, LineFault, fails_before_first, filled, is_allowed, le-ltb}
-use Rattle.tl_load.proofs.Common.{lt-ltb, ltb-false, ltb-true, not, not-false}
-use Rattle.std.proofs.lemmas.Bool.{not_from_true, not-true}
-use Rattle.std.proofs.lemmas.List.Sums.{passes_at_first, position_or_len_is}
-use Rattle.tl_layout.specs.Bytes.{AreAllowed}
-use Rattle.tl_load.specs.LineOf.{first_bad, IsLeftmostBadByte, of_reading, judged_full, judged_as}
+use Rattle.tl_load.proofs.Common.{Bool, Err, FieldFault, IsFaultIn, IsLine, IsLineOf, LineFault, List, Ok, Result, [], ap, arith, cond}
+use Rattle.tl_load.proofs.Common.{fails_before_first, false, filled, get_or, is_allowed, le-ltb, length, lt-ltb, ltb, ltb-false, ltb-true}
+use Rattle.tl_load.proofs.Common.{not, not-false, not-true, not_from_true, passes_at_first, position_or_len_is, refl, rules, take, true, ℕ}
+use Rattle.tl_load.proofs.Common.{◌+◌, ◌<◌, ◌↔◌, ◌∙◌, ◌∷◌, ◌≡◌, ◌≤◌}
 use Rattle.tl_load.proofs.Filling.{begins_filled, length_filled}
+use Rattle.tl_layout.specs.Bytes.{AreAllowed}
+use Rattle.tl_load.specs.LineOf.{IsLeftmostBadByte, first_bad, judged_as, judged_full, of_reading}
 use Rattle.tl_load.specs.declared.fault.LineFault.TheVariants as line_faults
 
 -- what a layout promises about its reading and the lines that spell its records

@@ -1,12 +1,10 @@
 -- The lines of consecutive bytes.
-use Rattle.std.proofs.Common.{rules, ◌≡◌, ℕ, suc, ◌+◌, ◌-◌, ◌<◌, ◌≤◌, Bool, true, false, cond, List, [], ◌∷◌, ◌++◌, length, take, get_or}
-use Rattle.std.proofs.Common.{refl, sym, ap, ◌∙◌, append_assoc, append-nil, arith, eqb}
-use Rattle.tl_load.proofs.Common.{IsWithoutLineFeed, common_steps, eqb-true, is_line_feed, length-append, length-take}
-use Rattle.std.proofs.Math.Seq.{get_or-append_seam, take-append_seam}
-use Rattle.std.specs.List.{slice_split}
-use Rattle.std.proofs.lemmas.List.Splits.{slice_split_at, slice_split_none, length-slice_split}
+use Rattle.tl_load.proofs.Common.{Bool, IsWithoutLineFeed, List, [], ap, append-nil, append_assoc, arith, common_steps, cond, eqb, eqb-true}
+use Rattle.tl_load.proofs.Common.{false, get_or, get_or-append_seam, is_line_feed, length, length-append, length-take, refl, rules}
+use Rattle.tl_load.proofs.Common.{slice_split, suc, sym, take, take-append_seam, true, ℕ, ◌++◌, ◌+◌, ◌-◌, ◌<◌, ◌∙◌, ◌∷◌, ◌≡◌, ◌≤◌}
+use Rattle.std.proofs.lemmas.List.Splits.{length-slice_split, slice_split_at, slice_split_none}
 use Rattle.tl_layout.specs.Bytes.{AreAllowed}
-use Rattle.tl_load.specs.Lines.{without_return, last_line, lines_of_pieces, lines}
+use Rattle.tl_load.specs.Lines.{last_line, lines, lines_of_pieces, without_return}
 
 -- a nonempty list has a first piece
 cons_of : (pieces : List (List ℕ)) → 0 < length pieces → (first : List ℕ) × (rest : List (List ℕ)) × (pieces ≡ first ∷ rest)

@@ -1,7 +1,6 @@
 -- A loader of a list of records is a loader over a collector that holds that list.
-use Rattle.std.proofs.Common.{rules, ◌≡◌, ℕ, List, Option, Some, None, Result, Ok, Err, sym, subst, Vec, Global}
-use Rattle.tl_load.proofs.Common.{AreCounted, LoadFault, Loaded, LoadedInto, Record, WasFed, WasFedInto, seen}
-use Rattle.std.specs.Prelude.{IfOk, IfSome}
+use Rattle.tl_load.proofs.Common.{AreCounted, Err, Global, IfOk, IfSome, List, LoadFault, Loaded, LoadedInto, None, Ok, Option, Record}
+use Rattle.tl_load.proofs.Common.{Result, Some, Vec, WasFed, WasFedInto, rules, seen, subst, sym, ℕ, ◌≡◌}
 
 abbrev pub Records : Type 0
 Records = Vec Record Global

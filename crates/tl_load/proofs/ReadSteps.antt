@@ -1,10 +1,7 @@
 -- The bytes that a source returns, and its counts.
-use Rattle.std.proofs.Common.{rules, ℕ, ◌+◌, ◌%◌, ◌^◌, ◌≤◌, Ok, List, [], ◌++◌, length, Option, Some, None, refl, sym, ap, subst, ◌∙◌}
-use Rattle.std.proofs.Common.{append_assoc, append-nil, arith}
-use Rattle.tl_load.proofs.Common.{Consumes, Gave, most_unfinished, Lifts, LoadedInto, Record, RoseBy, Takes, length-append}
-use Rattle.std.proofs.Math.Nat.{mod-add-mod}
-use Rattle.tl_load.specs.Sources.{StopsThere}
-use Rattle.tl_load.specs.Steps.{TakesWell}
+use Rattle.tl_load.proofs.Common.{Consumes, Gave, Lifts, List, LoadedInto, None, Ok, Option, Record, RoseBy, Some, StopsThere, Takes}
+use Rattle.tl_load.proofs.Common.{TakesWell, [], ap, append-nil, append_assoc, arith, length, length-append, mod-add-mod, most_unfinished}
+use Rattle.tl_load.proofs.Common.{refl, rules, subst, sym, ℕ, ◌%◌, ◌++◌, ◌+◌, ◌^◌, ◌∙◌, ◌≤◌}
 
 consumes_nil : (a : Option (List ℕ)) → Consumes a a []
 consumes_nil None = tt

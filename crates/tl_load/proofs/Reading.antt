@@ -1,13 +1,10 @@
 -- Processing the lines one after another yields the records that they spell, or the first fault.
-use Rattle.std.proofs.Common.{rules, ◌≡◌, ℕ, ◌+◌, ◌<◌, ◌≤◌, Bool, true, false, cond, List, [], ◌∷◌, ◌++◌, map, Result, Ok, Err, refl, sym}
-use Rattle.std.proofs.Common.{ap, subst, ◌∙◌, append_assoc, append-nil, arith, inl, inr, eqb, leb, ◌⊎◌, ◌+◌}
-use Rattle.tl_load.proofs.Common.{AreLinesSpelled, FaultAt, IsFaultOf, Judge, LineFault, LoadFault, MatchResult, PlacedLine, Spells}
-use Rattle.tl_load.proofs.Common.{SpellsWithin, after_verdict, cases_eq, count_of, eq-eqb, le-leb, lt-leb, ne_eqb, of_limit, of_line}
-use Rattle.tl_load.proofs.Common.{outcome, placed_lines, ◌then_with◌}
-use Rattle.std.proofs.lemmas.Bool.{leb-true, leb-false}
-use Rattle.std.proofs.lemmas.List.Sums.{sum_by-append}
-use Rattle.tl_load.specs.Verdicts.{fault_at}
-use Rattle.tl_load.specs.Outcome.{IsWithinLimitBy, IsSpelled, IsFaulty, next, outcome_after}
+use Rattle.tl_load.proofs.Common.{AreLinesSpelled, Bool, Err, FaultAt, IsFaultOf, LineFault, List, LoadFault, MatchResult, Ok, PlacedLine}
+use Rattle.tl_load.proofs.Common.{Result, Spells, SpellsWithin, [], after_verdict, ap, append-nil, append_assoc, arith, cases_eq, cond}
+use Rattle.tl_load.proofs.Common.{count_of, eq-eqb, eqb, false, fault_at, inl, inr, le-leb, leb, leb-false, leb-true, lt-leb, map, ne_eqb}
+use Rattle.tl_load.proofs.Common.{of_limit, of_line, outcome, placed_lines, refl, rules, subst, sum_by-append, sym, true, ℕ, ◌++◌, ◌+◌, ◌<◌}
+use Rattle.tl_load.proofs.Common.{◌then_with◌, ◌∙◌, ◌∷◌, ◌≡◌, ◌≤◌, ◌⊎◌}
+use Rattle.tl_load.specs.{Outcome.IsFaulty, Outcome.IsSpelled, Outcome.IsWithinLimitBy, Outcome.next, Outcome.outcome_after, Verdicts.Judge}
 use Rattle.tl_load.specs.declared.fault.LoadFault.TheVariants as faults
 
 -- ---- verdicts

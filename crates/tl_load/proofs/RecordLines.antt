@@ -1,24 +1,15 @@
 -- A line is judged as the record that it has, and that record fits.
-use Rattle.std.proofs.Common.{rules, ◌≡◌, ◌⊎◌, ℕ, Bool, true, false, cond, List, [], ◌∷◌, take, Result, Ok, Err, refl, sym, ap, ◌∙◌, eqb}
-use Rattle.std.proofs.Common.{subst, inl, inr}
-use Rattle.tl_load.proofs.Common.{All, All-nil, AreLinesSpelled, FitsRecord, IsFaultIn, IsLineOf, LineFault, PlacedLine, Record, Spells}
-use Rattle.tl_load.proofs.Common.{SpellsWithin, as_record, eqb-true, ne_eqb, placed_lines, type_of}
-use Rattle.std.proofs.lemmas.List.Elements.{All-cons}
-use Rattle.tl_layout.specs.Limits.{IsWithinLimit}
-use Rattle.std.specs.List.{AllByRecursion}
-use Rattle.std.proofs.lemmas.Bool.{eqb-false}
-use Rattle.tl_layout.specs.FieldFaults.{IsLeftmostFault}
-use Rattle.tl_layout.specs.RecordTypes.{RecordType, Type1, Type2, Type4, Type5, Type6, Type7, Type8, TypeI, TypeP, types, FieldsOf}
-use Rattle.tl_layout.specs.RecordTypes.{byte_of, line_length, table_of, SpellsFields, reading_of, record_of, FitsFields}
-use Rattle.tl_layout.specs.Laws.RecordTypeLaws.{every_record, type_of_record, record_exact, fitting_record}
-use Rattle.tl_load.specs.LineOf.{judged_as}
-use Rattle.tl_load.specs.Choice.{judged_by, judged, tiger}
-use Rattle.tl_layout.specs.Laws.TypeLaws.{layout_laws}
-use Rattle.tl_load.specs.declared.fault.LineFault.TheVariants as line_faults
+use Rattle.tl_load.proofs.Common.{All, All-cons, All-nil, AllByRecursion, AreLinesSpelled, BeginsWith, Bool, Err, FitsRecord, IsFaultIn}
+use Rattle.tl_load.proofs.Common.{IsFaultOfLine, IsLeftmostFault, IsLineOf, IsWithinLimit, LineFault, List, Ok, PlacedLine, Record}
+use Rattle.tl_load.proofs.Common.{RecordType, Result, Spells, SpellsWithin, Type1, Type2, Type4, Type5, Type6, Type7, Type8, TypeI, TypeP}
+use Rattle.tl_load.proofs.Common.{[], ap, as_record, byte_of, cond, eqb, eqb-false, eqb-true, every_record, false, fitting_record, inl, inr}
+use Rattle.tl_load.proofs.Common.{layout_laws, line_length, ne_eqb, of_its_type, of_no_type, placed_lines, reading_of, record_exact, refl}
+use Rattle.tl_load.proofs.Common.{rules, subst, sym, table_of, take, true, type_of, type_of_record, ℕ, ◌∙◌, ◌∷◌, ◌≡◌, ◌⊎◌}
 use Rattle.tl_load.proofs.Reading.{IsSound}
-use Rattle.tl_load.specs.RecordLine.{HasRecord, record_types, BeginsWith, IsFaultOfLine, of_no_type, of_type_1, of_type_2, of_type_4}
-use Rattle.tl_load.specs.RecordLine.{of_type_5, of_type_6, of_type_7, of_type_8, of_type_i, of_type_p}
-use Rattle.tl_load.proofs.LineLaws.{Reading, judged_is_line, line_is_judged, line_fits, judged_fault_found, judged_fault_only}
+use Rattle.tl_load.proofs.LineLaws.{Reading, judged_fault_found, judged_fault_only, judged_is_line, line_fits, line_is_judged}
+use Rattle.tl_layout.specs.RecordTypes.{FieldsOf, FitsFields, SpellsFields, record_of, types}
+use Rattle.tl_load.specs.{Choice.judged, Choice.judged_by, Choice.tiger, LineOf.judged_as, RecordLine.HasRecord}
+use Rattle.tl_load.specs.declared.fault.LineFault.TheVariants as line_faults
 
 -- ---- the layouts
 
@@ -45,19 +36,6 @@ judged_by_own : (t : RecordType) (line : List ℕ) → judged_by (byte_of t) lin
 unfolding judged_by
 judged_by_own Type1 line = refl
 judged_by_own _ line = refl
-
--- the fault of a line that begins with the byte of a type
-fault_of_type : (t : RecordType) (line : List ℕ) (fault : LineFault) → BeginsWith (byte_of t) line
-    → IsFaultIn (line_length t) (IsLeftmostFault (table_of t)) line fault → IsFaultOfLine line fault
-fault_of_type Type1 line fault = of_type_1
-fault_of_type Type2 line fault = of_type_2
-fault_of_type Type4 line fault = of_type_4
-fault_of_type Type5 line fault = of_type_5
-fault_of_type Type6 line fault = of_type_6
-fault_of_type Type7 line fault = of_type_7
-fault_of_type Type8 line fault = of_type_8
-fault_of_type TypeI line fault = of_type_i
-fault_of_type TypeP line fault = of_type_p
 
 pub by_first : (rtype : ℕ) (line : List ℕ) → take 1 line ≡ rtype ∷ [] → judged line ≡ judged_by rtype line
 unfolding judged
@@ -158,7 +136,7 @@ fault_among (t ∷ ts) b line fault e = go (eqb b (byte_of t)) refl e (fault_amo
         → IsFaultOfLine (b ∷ line) fault ⊎ (IsOfNone ts (b ∷ line) × (fault ≡ line_faults.UnknownType)))
         → IsFaultOfLine (b ∷ line) fault ⊎ (IsOfNone (t ∷ ts) (b ∷ line) × (fault ≡ line_faults.UnknownType))
     go true is h rest = let begins = begins_so b (byte_of t) line is in
-        inl (fault_of_type t (b ∷ line) fault begins
+        inl (of_its_type t begins
         (judged_fault_found (byte_of t) (line_length t) (reading_of t) _ (layout_laws t).shows_leftmost (b ∷ line) fault begins
         (unwrapped_err (record_of t) (judged_of t (b ∷ line)) fault h)))
     go false is h rest = later (rest h)
@@ -168,25 +146,34 @@ fault_among (t ∷ ts) b line fault e = go (eqb b (byte_of t)) refl e (fault_amo
         later (inl found) = inl found
         later (inr none) = inr ((begins_otherwise b (byte_of t) line is, none.0), none.1)
 
-empty_has_no_type : AllByRecursion (λ (rtype : ℕ). ¬ BeginsWith rtype []) record_types
-empty_has_no_type = ((λ e. cc), ((λ e. cc), ((λ e. cc), ((λ e. cc), ((λ e. cc), ((λ e. cc), ((λ e. cc), ((λ e. cc), ((λ e. cc), tt)))))))))
+-- what holds for each type in the list of all types holds for each type
+each_type : (Holds : RecordType → Type 0) → AllByRecursion Holds types → (t : RecordType) → Holds t
+each_type Holds h Type1 = h.0
+each_type Holds h Type2 = h.1.0
+each_type Holds h Type4 = h.1.1.0
+each_type Holds h Type5 = h.1.1.1.0
+each_type Holds h Type6 = h.1.1.1.1.0
+each_type Holds h Type7 = h.1.1.1.1.1.0
+each_type Holds h Type8 = h.1.1.1.1.1.1.0
+each_type Holds h TypeI = h.1.1.1.1.1.1.1.0
+each_type Holds h TypeP = h.1.1.1.1.1.1.1.1.0
 
 -- the fault that a line is judged to have is its fault
 pub fault_of_judged : (line : List ℕ) (fault : LineFault) → judged line ≡ Err fault → IsFaultOfLine line fault
 unfolding judged
-fault_of_judged [] fault e = of_no_type empty_has_no_type (no_type_reported fault e)
+fault_of_judged [] fault e = of_no_type (λ t begins. cc) (no_type_reported fault e)
 fault_of_judged (b ∷ line) fault e = go (fault_among types b line fault (sym (judged_among_all b (b ∷ line)) ∙ e))
   where
     go : IsFaultOfLine (b ∷ line) fault ⊎ (IsOfNone types (b ∷ line) × (fault ≡ line_faults.UnknownType)) → IsFaultOfLine (b ∷ line) fault
     go (inl found) = found
-    go (inr none) = of_no_type none.0 none.1
+    go (inr none) = of_no_type (each_type (λ t. ¬ BeginsWith (byte_of t) (b ∷ line)) none.0) none.1
 
-unknown_among : (ts : List RecordType) (b : ℕ) (line : List ℕ) → IsOfNone ts (b ∷ line)
+unknown_among : (ts : List RecordType) (b : ℕ) (line : List ℕ) → ((t : RecordType) → ¬ BeginsWith (byte_of t) (b ∷ line))
     → judged_among ts b (b ∷ line) ≡ Err line_faults.UnknownType
 unknown_among [] b line h = refl
-unknown_among (t ∷ ts) b line h = search (rules, not_so, unknown_among ts b line h.1)
+unknown_among (t ∷ ts) b line h = rw (not_so b (byte_of t) line (h t)) (unknown_among ts b line h)
 
-unknown_judged : (line : List ℕ) → AllByRecursion (λ (rtype : ℕ). ¬ BeginsWith rtype line) record_types
+unknown_judged : (line : List ℕ) → ((t : RecordType) → ¬ BeginsWith (byte_of t) line)
     → judged line ≡ Err line_faults.UnknownType
 unfolding judged
 unknown_judged [] h = refl
@@ -202,15 +189,7 @@ judged_of_type t line fault begins h = by_first (byte_of t) line begins ∙ judg
 -- a line is judged to have the fault that it has
 pub judged_of_fault : (line : List ℕ) (fault : LineFault) → IsFaultOfLine line fault → judged line ≡ Err fault
 judged_of_fault line fault (of_no_type h e) = unknown_judged line h ∙ ap (λ (z : LineFault). Err z) (sym e)
-judged_of_fault line fault (of_type_1 begins h) = judged_of_type Type1 line fault begins h
-judged_of_fault line fault (of_type_2 begins h) = judged_of_type Type2 line fault begins h
-judged_of_fault line fault (of_type_4 begins h) = judged_of_type Type4 line fault begins h
-judged_of_fault line fault (of_type_5 begins h) = judged_of_type Type5 line fault begins h
-judged_of_fault line fault (of_type_6 begins h) = judged_of_type Type6 line fault begins h
-judged_of_fault line fault (of_type_7 begins h) = judged_of_type Type7 line fault begins h
-judged_of_fault line fault (of_type_8 begins h) = judged_of_type Type8 line fault begins h
-judged_of_fault line fault (of_type_i begins h) = judged_of_type TypeI line fault begins h
-judged_of_fault line fault (of_type_p begins h) = judged_of_type TypeP line fault begins h
+judged_of_fault line fault (of_its_type t begins h) = judged_of_type t line fault begins h
 
 -- the judge of TIGER/Line 2006 finds exactly the records and the faults of lines
 pub tiger_is_sound : IsSound tiger

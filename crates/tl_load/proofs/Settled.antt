@@ -1,8 +1,7 @@
 -- A line of more than 228 bytes is rejected, whatever follows these bytes.
-use Rattle.std.proofs.Common.{rules, ◌≡◌, ℕ, ◌<◌, ◌≤◌, Bool, true, false, cond, List, [], ◌∷◌, ◌++◌, length, Result, Err, refl, arith, eqb}
-use Rattle.tl_load.proofs.Common.{FieldFault, IsErr, longest_line, LineFault, Record, as_record, length-append, lt-ltb}
-use Rattle.tl_load.specs.LineOf.{judged_as}
-use Rattle.tl_load.specs.Choice.{judged_by, judged}
+use Rattle.tl_load.proofs.Common.{Bool, Err, FieldFault, IsErr, LineFault, List, Record, Result, [], arith, as_record, cond, eqb, false}
+use Rattle.tl_load.proofs.Common.{length, length-append, longest_line, lt-ltb, refl, rules, true, ℕ, ◌++◌, ◌<◌, ◌∷◌, ◌≡◌, ◌≤◌}
+use Rattle.tl_load.specs.{Choice.judged, Choice.judged_by, LineOf.judged_as}
 use Rattle.tl_load.specs.declared.fault.LineFault.TheVariants as line_faults
 
 too_long : {R : Type 0} (len : ℕ) (reading : List ℕ → Result R FieldFault) (wrap : R → Record) (line : List ℕ) → len ≤ longest_line

@@ -1,25 +1,15 @@
 -- The canonical text of records is loaded as these records.
-use Rattle.std.proofs.Common.{rules, ◌≡◌, ℕ, suc, ◌+◌, ◌<◌, ◌≤◌, true, false, List, [], ◌∷◌, ◌++◌, length, get_or, take, map, Result}
-use Rattle.std.proofs.Common.{Ok, Err, refl, ap, ◌∙◌, append_assoc, append-nil, arith, eqb}
-use Rattle.tl_load.proofs.Common.{All, Eight, FieldFault, Five, Four, I, IsLine, IsWithoutLineFeed, One, P, Record, Seven, Six, Spells, Two}
-use Rattle.tl_load.proofs.Common.{as_record, eqb-true, false_from_ne_true, flat_map-append, is_allowed, judged, le-ltb, length-drop, lines}
-use Rattle.tl_load.proofs.Common.{placed_lines, text_of}
-use Rattle.canonical_lines.specs.SpeltLine.{with_version}
-use Rattle.tl_layout.specs.Bytes.{AreAllowed}
-use Rattle.tl_layout.specs.RecordText.{type_of, len_of, spelling_of, FitsRecord}
-use Rattle.tl_layout.specs.Laws.RecordLaws.{spelling_is_line}
-use Rattle.tl_load.specs.Lines.{without_return}
-use Rattle.tl_load.specs.Places.{numbered_lines, lines_from_part}
-use Rattle.tl_layout.specs.RecordTypes.{Type1, Type2, Type4, Type5, Type6, Type7, Type8, TypeI, TypeP, reading_of}
-use Rattle.tl_layout.specs.Laws.TypeLaws.{layout_laws}
-use Rattle.tl_load.proofs.RecordLines.{by_first, tiger_is_sound}
-use Rattle.tl_load.specs.LineOf.{judged_full, judged_as}
+use Rattle.tl_load.proofs.Common.{All, IsWithoutLineFeed, append_assoc, false_from_ne_true, flat_map-append, placed_lines, spelling_is_line}
+use Rattle.tl_load.proofs.Common.{Eight, Ok, Record, Result, Seven, Spells, Type1, Type2, eqb-true, get_or, judged, le-ltb, length, text_of}
+use Rattle.tl_load.proofs.Common.{Err, I, One, P, Six, Two, [], ap, eqb, map, suc, true, ℕ, ◌++◌, ◌+◌, ◌<◌, ◌∙◌, ◌∷◌, ◌≡◌, ◌≤◌}
+use Rattle.tl_load.proofs.Common.{FieldFault, IsLine, append-nil, as_record, is_allowed, layout_laws, length-drop, reading_of, with_version}
+use Rattle.tl_load.proofs.Common.{Five, Four, List, Type4, Type5, Type6, Type7, Type8, TypeI, TypeP, arith, false, lines, refl, rules, take}
+use Rattle.tl_load.proofs.{Filling.filled_full, LineLaws.bad_none, LineLemmas.lines_line, LineLemmas.lines_none, Reading.AreJudged}
+use Rattle.tl_load.proofs.{Reading.judged_spelled, Reading.spelled_once, RecordLines.by_first, RecordLines.tiger_is_sound}
+use Rattle.tl_layout.specs.{Bytes.AreAllowed, RecordText.FitsRecord, RecordText.len_of, RecordText.spelling_of, RecordText.type_of}
+use Rattle.tl_load.specs.{Choice.judged_by, Choice.tiger, LineOf.judged_as, LineOf.judged_full, Lines.without_return}
+use Rattle.tl_load.specs.{Places.lines_from_part, Places.numbered_lines}
 use Rattle.tl_load.specs.declared.fault.LineFault.TheVariants as line_faults
-use Rattle.tl_load.specs.Choice.{judged_by, tiger}
-use Rattle.tl_load.proofs.LineLemmas.{lines_line, lines_none}
-use Rattle.tl_load.proofs.Filling.{filled_full}
-use Rattle.tl_load.proofs.LineLaws.{bad_none}
-use Rattle.tl_load.proofs.Reading.{AreJudged, judged_spelled, spelled_once}
 
 -- ---- a canonical line
 

@@ -1,15 +1,11 @@
 -- Small facts for proofs about the loader.
-use Rattle.std.proofs.Common.{rules, ◌≡◌, ℕ, ◌-◌, ◌<◌, ◌≤◌, true, false, List, [], ◌∷◌, ◌++◌, length, get_or, take, drop, Result, Ok}
-use Rattle.std.proofs.Common.{Err, inl, inr, refl, sym, ap, ◌∙◌, ◌+◌, subst, arith, eqb}
-use Rattle.tl_load.proofs.Common.{IsWithoutLineFeed, Loaded, OnOk, Record, eqb-true, false_from_ne_true, get_or_default, is_allowed}
-use Rattle.tl_load.proofs.Common.{is_line_feed, length-take, take-append-drop}
-use Rattle.std.specs.Prelude.{IsOk, IsTrue}
-use Rattle.std.proofs.lemmas.List.{get_or-take, drop_more, take_all, take_more, take_rest}
+use Rattle.tl_load.proofs.Common.{Err, OnOk, [], ap, drop, eqb, inl, inr, refl, sym, take, true, ℕ, ◌++◌, ◌+◌, ◌-◌, ◌<◌, ◌∙◌, ◌∷◌, ◌≡◌, ◌≤◌}
+use Rattle.tl_load.proofs.Common.{Inside, IsOk, IsTrue, List, Loaded, Record, Result, arith, false, get_or, length, rules, subst, take_all}
+use Rattle.tl_load.proofs.Common.{IsFeedAfter, IsLineEnd, drop_more, eqb-true, get_or-take, is_allowed, length-take, take_more, take_rest}
+use Rattle.tl_load.proofs.Common.{IsWithoutLineFeed, Ok, false_from_ne_true, get_or_default, is_line_feed, take-append-drop, without_return}
+use Rattle.tl_load.proofs.LineLemmas.{clean_without_return, without_feed_cons, without_return_drops}
 use Rattle.memchr.specs.Find.{Nowhere, Passes, is_byte}
 use Rattle.tl_layout.specs.Bytes.{AreAllowed}
-use Rattle.tl_load.proofs.LineLemmas.{clean_without_return, without_feed_cons, without_return_drops}
-use Rattle.tl_load.specs.Lines.{IsFeedAfter, IsLineEnd, without_return}
-use Rattle.tl_load.specs.declared.loader_for.LoaderFor.TheInside.{Inside}
 
 pub empty_is : (l : List ℕ) → eqb (length l) 0 ≡ true → l ≡ []
 empty_is [] h = refl

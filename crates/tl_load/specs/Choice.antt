@@ -1,16 +1,11 @@
 -- Choosing the layout by a line's first byte.
-use Rattle.std.specs.Prelude.{ℕ, List, [], ◌∷◌, ◌==◌, Result, Ok, Err, if◌then◌else◌}
-use Rattle.tl_layout.specs.RecordText.{type_of}
-use Rattle.tl_layout.specs.RecordTables.{rtype_1, rtype_2, rtype_4, rtype_5, rtype_6, rtype_7, rtype_8, rtype_i, rtype_p}
-use Rattle.tl_layout.specs.RecordTables.{len_1, len_2, len_4, len_5, len_6, len_7, len_8, len_i, len_p}
-use Rattle.tl_layout.specs.RecordTypes.{Type1, Type2, Type4, Type5, Type6, Type7, Type8, TypeI, TypeP, reading_of}
-use Rattle.tl_layout.specs.declared.record_type.Record.{Record}
-use Rattle.tl_layout.specs.declared.record_type.Record.TheVariants.{One, Two, Four, Five, Six, Seven, Eight, I, P}
-use Rattle.tl_load.specs.declared.fault.LineFault.{LineFault}
-use Rattle.tl_load.specs.declared.fault.LineFault.TheVariants as line_faults
-use Rattle.tl_load.specs.LineOf.{judged_as}
+use Rattle.std.specs.Prelude.{Err, List, Ok, Result, [], if◌then◌else◌, ℕ, ◌==◌, ◌∷◌}
+use Rattle.tl_layout.specs.RecordTypes.{Type1, Type2, Type4, Type5, Type6, Type7, Type8, TypeI, TypeP, byte_of, line_length, reading_of}
+use Rattle.tl_layout.specs.declared.record_type.Record.TheVariants.{Eight, Five, Four, I, One, P, Seven, Six, Two}
+use Rattle.tl_layout.specs.{RecordText.type_of, declared.record_type.Record.Record}
 use Rattle.tl_load.specs.RecordLine.{HasRecord, IsFaultOfLine}
-use Rattle.tl_load.specs.Verdicts.{Judge}
+use Rattle.tl_load.specs.{LineOf.judged_as, Verdicts.Judge, declared.fault.LineFault.LineFault}
+use Rattle.tl_load.specs.declared.fault.LineFault.TheVariants as line_faults
 
 -- the record of one layout, as a record of any type
 abbrev pub as_record : {R : Type 0} → (R → Record) → Result R LineFault → Result Record LineFault
@@ -20,15 +15,15 @@ as_record wrap (Err fault) = Err fault
 -- how a line is judged by its first byte, the record type
 unfoldable pub judged_by : ℕ → List ℕ → Result Record LineFault
 judged_by rtype line =
-    if rtype == rtype_1 then as_record One (judged_as len_1 (reading_of Type1) line)
-    else if rtype == rtype_2 then as_record Two (judged_as len_2 (reading_of Type2) line)
-    else if rtype == rtype_4 then as_record Four (judged_as len_4 (reading_of Type4) line)
-    else if rtype == rtype_5 then as_record Five (judged_as len_5 (reading_of Type5) line)
-    else if rtype == rtype_6 then as_record Six (judged_as len_6 (reading_of Type6) line)
-    else if rtype == rtype_7 then as_record Seven (judged_as len_7 (reading_of Type7) line)
-    else if rtype == rtype_8 then as_record Eight (judged_as len_8 (reading_of Type8) line)
-    else if rtype == rtype_i then as_record I (judged_as len_i (reading_of TypeI) line)
-    else if rtype == rtype_p then as_record P (judged_as len_p (reading_of TypeP) line)
+    if rtype == byte_of Type1 then as_record One (judged_as (line_length Type1) (reading_of Type1) line)
+    else if rtype == byte_of Type2 then as_record Two (judged_as (line_length Type2) (reading_of Type2) line)
+    else if rtype == byte_of Type4 then as_record Four (judged_as (line_length Type4) (reading_of Type4) line)
+    else if rtype == byte_of Type5 then as_record Five (judged_as (line_length Type5) (reading_of Type5) line)
+    else if rtype == byte_of Type6 then as_record Six (judged_as (line_length Type6) (reading_of Type6) line)
+    else if rtype == byte_of Type7 then as_record Seven (judged_as (line_length Type7) (reading_of Type7) line)
+    else if rtype == byte_of Type8 then as_record Eight (judged_as (line_length Type8) (reading_of Type8) line)
+    else if rtype == byte_of TypeI then as_record I (judged_as (line_length TypeI) (reading_of TypeI) line)
+    else if rtype == byte_of TypeP then as_record P (judged_as (line_length TypeP) (reading_of TypeP) line)
     else Err line_faults.UnknownType
 
 -- how a line is judged

@@ -1,13 +1,10 @@
 -- A loader over a collector: its fields, viewed together with the list of records that the collector holds.
-use Rattle.std.specs.Prelude.{◌≡◌, ℕ, ◌+◌, ◌*◌, ◌^◌, ◌-◌, ◌<◌, ◌≤◌, List, [], ◌∷◌, ◌++◌, length, slice_index, Option, MatchOption, Result, Ok, OnOk}
-use Rattle.tl_layout.specs.declared.fault.FieldFault.{FieldFault}
-use Rattle.tl_layout.specs.declared.record_type.Record.{Record}
-use Rattle.tl_load.specs.declared.fault.LoadFault.{LoadFault}
-use Rattle.tl_load.specs.Lines.{IsWithoutLineFeed, most_unfinished}
-use Rattle.tl_load.specs.Outcome.{count_of, most_records}
-use Rattle.tl_load.specs.Choice.{tiger}
-use Rattle.tl_load.specs.Loaded.{Loaded, IsOfLines, HasLoaded, IsFaultHowever}
-use Rattle.tl_layout.specs.RecordTables.{rtype_1, rtype_2, rtype_4, rtype_5, rtype_6, rtype_7, rtype_8, rtype_i, rtype_p}
+use Rattle.std.specs.Prelude.{List, MatchOption, Ok, OnOk, Option, Result, [], length, slice_index, ℕ, ◌*◌, ◌++◌, ◌+◌, ◌-◌, ◌<◌, ◌^◌, ◌∷◌}
+use Rattle.std.specs.Prelude.{◌≡◌, ◌≤◌}
+use Rattle.tl_layout.specs.RecordTypes.{Type1, Type2, Type4, Type5, Type6, Type7, Type8, TypeI, TypeP, byte_of}
+use Rattle.tl_layout.specs.{Limits.most_records, declared.fault.FieldFault.FieldFault, declared.record_type.Record.Record}
+use Rattle.tl_load.specs.{Choice.tiger, Lines.IsWithoutLineFeed, Lines.most_unfinished, Loaded.HasLoaded, Loaded.IsFaultHowever}
+use Rattle.tl_load.specs.{Loaded.IsOfLines, Loaded.Loaded, Outcome.count_of, declared.fault.LoadFault.LoadFault}
 
 -- what was kept so far, how many records of each type (by the byte in column 1), the number of closed parts, the number of
 -- judged lines in the open part, the bytes of its unfinished line, the limit of records of one type, and the recorded fault, if
@@ -56,9 +53,10 @@ HasSome holds l = (records : List Record) × AreKept holds l records
 
 -- the number of records of all nine types
 abbrev pub total : List ℕ → ℕ
-total counts = slice_index counts rtype_1 + slice_index counts rtype_2 + slice_index counts rtype_4 + slice_index counts rtype_5 +
-    slice_index counts rtype_6
-    + slice_index counts rtype_7 + slice_index counts rtype_8 + slice_index counts rtype_i + slice_index counts rtype_p
+total counts =
+    slice_index counts (byte_of Type1) + slice_index counts (byte_of Type2) + slice_index counts (byte_of Type4) +
+    slice_index counts (byte_of Type5) + slice_index counts (byte_of Type6) + slice_index counts (byte_of Type7) +
+    slice_index counts (byte_of Type8) + slice_index counts (byte_of TypeI) + slice_index counts (byte_of TypeP)
 
 -- an upper bound of the bytes that were fed, counting 230 for each judged line with its line ending
 abbrev pub bytes_used : {K : Type 0} → LoadedInto K → ℕ

@@ -1,15 +1,10 @@
 -- What the loader's internal steps do to its value.
-use Rattle.std.specs.Prelude.{◌≤◌, ◌≡◌, ℕ, ◌+◌, List, [], ◌++◌, length, map, Some, Result, Ok, Err, MatchResult, ◌⊎◌}
-use Rattle.tl_layout.specs.declared.record_type.Record.{Record}
-use Rattle.tl_load.specs.declared.fault.LineFault.{LineFault}
-use Rattle.tl_load.specs.declared.fault.LoadFault.{LoadFault}
-use Rattle.tl_load.specs.Lines.{without_return, lines, most_unfinished}
-use Rattle.tl_load.specs.Places.{PlacedLine, numbered_lines, lines_from_part}
-use Rattle.tl_load.specs.Outcome.{with_record, after_verdict, outcome_after}
-use Rattle.tl_load.specs.Choice.{tiger, judged}
-use Rattle.tl_load.specs.Loaded.{Loaded, IsOfLines, AreLines}
-use Rattle.tl_load.specs.Keeping.{LoadedInto, Lifts, total}
-use Rattle.tl_layout.specs.Bytes.{longest_line}
+use Rattle.std.specs.Prelude.{Err, List, MatchResult, Ok, Result, Some, [], length, map, ℕ, ◌++◌, ◌+◌, ◌≡◌, ◌≤◌, ◌⊎◌}
+use Rattle.tl_layout.specs.{Bytes.longest_line, declared.record_type.Record.Record}
+use Rattle.tl_load.specs.{Choice.judged, Choice.tiger, Keeping.Lifts, Keeping.LoadedInto, Keeping.total, Lines.lines, Lines.most_unfinished}
+use Rattle.tl_load.specs.{Lines.without_return, Loaded.AreLines, Loaded.IsOfLines, Loaded.Loaded, Outcome.after_verdict}
+use Rattle.tl_load.specs.{Outcome.outcome_after, Outcome.with_record, Places.PlacedLine, Places.lines_from_part, Places.numbered_lines}
+use Rattle.tl_load.specs.{declared.fault.LineFault.LineFault, declared.fault.LoadFault.LoadFault}
 
 -- the final result for the loader's value if these bytes follow in its open part, and then these parts
 unfoldable pub to_come : Loaded → List ℕ → List (List ℕ) → Result (List Record) LoadFault

@@ -1,10 +1,9 @@
 -- Judges of lines, and how a line's fault is reported.
-use Rattle.std.specs.Prelude.{ℕ, List, Result}
+use Rattle.std.specs.Prelude.{List, Result, ℕ}
 use Rattle.tl_layout.specs.declared.fault.FieldKind.{FieldKind}
+use Rattle.tl_load.specs.{declared.fault.LineFault.LineFault, declared.fault.LoadFault.LoadFault}
 use Rattle.tl_layout.specs.declared.fault.FieldKind.TheVariants as kinds
-use Rattle.tl_load.specs.declared.fault.LineFault.{LineFault}
 use Rattle.tl_load.specs.declared.fault.LineFault.TheVariants as line_faults
-use Rattle.tl_load.specs.declared.fault.LoadFault.{LoadFault}
 use Rattle.tl_load.specs.declared.fault.LoadFault.TheVariants as faults
 
 -- A judge of lines: which record a line has, which fault a faulty line has, and the type of a record. The verdict computes

@@ -1,13 +1,12 @@
 //! The loader of a list of records.
 
 ghost use Rattle.std.specs.Io.KnownBytes.{IsAtEnd};
-ghost use Rattle.std.specs.Prelude.{◌≡◌, ◌≤◌, ◌<◌, ◌+◌, ℕ, List, [], ◌∷◌, ◌++◌, None, Some, All, length, IfSome, Err, MatchResult, IfOk, IfErr, OnOk, is_ok, if◌then◌else◌};
-ghost use Rattle.tl_layout.specs.declared.record_type.Record.{Record};
-ghost use Rattle.tl_layout.specs.RecordText.{FitsRecord};
-ghost use Rattle.tl_load.specs.Choice.{tiger};
-ghost use Rattle.tl_load.specs.Loaded.{FedPart, IsNotDevice, is_device, IsOfLines, IsFaultHowever, IsWellAfter, WasFed, all_parts};
-ghost use Rattle.tl_load.specs.Outcome.{SpellsWithin, FaultAt, most_records};
-ghost use Rattle.tl_load.specs.Sources.{Gave, StopsThere, most_taken, most_read};
+ghost use Rattle.std.specs.Prelude.{All, Err, IfErr, IfOk, IfSome, List, MatchResult, None, OnOk, Some, [], if◌then◌else◌, is_ok, length};
+ghost use Rattle.std.specs.Prelude.{ℕ, ◌++◌, ◌+◌, ◌<◌, ◌∷◌, ◌≡◌, ◌≤◌};
+ghost use Rattle.tl_layout.specs.{Limits.most_records, RecordText.FitsRecord, declared.record_type.Record.Record};
+ghost use Rattle.tl_load.specs.Loaded.{FedPart, IsFaultHowever, IsNotDevice, IsOfLines, IsWellAfter, WasFed, all_parts, is_device};
+ghost use Rattle.tl_load.specs.Sources.{Gave, StopsThere, most_read, most_taken};
+ghost use Rattle.tl_load.specs.{Choice.tiger, Outcome.FaultAt, Outcome.SpellsWithin};
 
 use crate::fault::LoadFault;
 use crate::loader_for::LoaderFor;
@@ -24,9 +23,8 @@ pub struct Loader {
 }
 
 impl Model for Loader {
-    ghost use Rattle.std.specs.Prelude.{◌≡◌, None};
-    ghost use Rattle.tl_load.specs.Keeping.{seen, AreCounted};
-    ghost use Rattle.tl_load.specs.Loaded.{Loaded};
+    ghost use Rattle.std.specs.Prelude.{None, ◌≡◌};
+    ghost use Rattle.tl_load.specs.{Keeping.AreCounted, Keeping.seen, Loaded.Loaded};
 
     ghost Value = { Loaded };
 

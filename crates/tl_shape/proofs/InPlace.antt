@@ -1,7 +1,6 @@
 -- Mapping a list in place, item by item.
-use Rattle.std.proofs.Common.{◌≡◌, ℕ, zero, suc, ◌+◌, ◌<◌, ◌≤◌, List, [], ◌∷◌, ◌++◌, length, map, take, drop, get_or, slice_set}
-use Rattle.std.proofs.Common.{refl, ap, ◌∙◌, arith, add-one}
-use Rattle.std.proofs.lemmas.List.{append-nil, take_all, drop_all}
+use Rattle.tl_layout.proofs.Common.{List, [], add-one, ap, append-nil, arith, drop, drop_all, get_or, length, map, refl, slice_set, suc}
+use Rattle.tl_layout.proofs.Common.{take, take_all, zero, ℕ, ◌++◌, ◌+◌, ◌<◌, ◌∙◌, ◌∷◌, ◌≡◌, ◌≤◌}
 
 -- the item at the position that is mapped next is still unmapped
 at_place : {X : Type 0} (f : X → X) (xs : List X) (i : ℕ) (d : X) → get_or (map f (take i xs) ++ drop i xs) i d ≡ get_or xs i d

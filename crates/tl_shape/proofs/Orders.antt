@@ -1,11 +1,8 @@
 -- The orders of points and of point lists are total, and items that compare as equal are equal.
-use Rattle.std.proofs.Common.{◌≡◌, List, [], ◌∷◌, refl, ap, sym, ◌∙◌, true}
-use Rattle.std.specs.declared.cmp.Ordering.{Ordering}
-use Rattle.std.specs.declared.cmp.Ordering.TheVariants.{Less, Equal, Greater}
-use Rattle.std.specs.Ordering.{ordering_then, int_cmp, is_eq}
-use Rattle.std.specs.Cmp.{IsTotalOrder}
-use Rattle.std.proofs.lemmas.Cmp.{lists_total, then_total, on_total, int_cmp_total, tied_itself}
-use Rattle.std.proofs.lemmas.Map.Lookups.{exact_signed}
+use Rattle.tl_layout.proofs.Common.{List, [], ap, refl, sym, true, ◌∙◌, ◌∷◌, ◌≡◌}
+use Rattle.std.specs.{Cmp.IsTotalOrder, Ordering.int_cmp, Ordering.is_eq, Ordering.ordering_then, declared.cmp.Ordering.TheVariants.Less}
+use Rattle.std.specs.{declared.cmp.Ordering.Ordering, declared.cmp.Ordering.TheVariants.Equal, declared.cmp.Ordering.TheVariants.Greater}
+use Rattle.std.proofs.lemmas.{Cmp.int_cmp_total, Cmp.lists_total, Cmp.on_total, Cmp.then_total, Cmp.tied_itself, Map.Lookups.exact_signed}
 use Rattle.tl_layout.specs.Coordinates.{Coordinates}
 use Rattle.tl_shape.specs.PointOrder.{point_cmp, points_cmp}
 

@@ -16,20 +16,17 @@ pub record IsTurned (c d : Chain) : Type 0 where
   pub left : d.left ≡ c.right
   pub right : d.right ≡ c.left
 
--- the chain seen from its other end
+-- the chain seen from its other end; its names, the order of its ranges and the content of its type I record stay
 abbrev pub turned : Chain → Chain
-turned c =
-    record {
-      body = turned_body c.body;
-      points = reverse c.points;
-      feats = c.feats;
-      ranges = map turned_ranges c.ranges;
-      topology = c.topology;
-      start_node = c.end_node;
-      end_node = c.start_node;
-      left = c.right;
-      right = c.left;
-    }
+turned c = record c {
+  body = turned_body c.body;
+  points = reverse c.points;
+  ranges = map turned_ranges c.ranges;
+  start_node = c.end_node;
+  end_node = c.start_node;
+  left = c.right;
+  right = c.left;
+}
 
 -- the chain, turned if turns
 abbrev pub turned_if : Bool → Chain → Chain

@@ -1,17 +1,11 @@
 -- The words after the name of a job are left to the job's subcommand.
-use Rattle.command_line.proofs.Common.{◌≡◌, ◌∷◌, [], ap, codes, false, sym, true, List, Some, refl, App, Text, over_one_set}
-use Rattle.command_line.proofs.Common.{subcommand_of, understood, with_mask, word_of}
-use Rattle.command_line.proofs.Common.{Job, Check, Compare, Fingerprint, Normalise, Respell}
-use Rattle.std.specs.Prelude.{find}
+use Rattle.command_line.proofs.Common.{App, Check, Compare, Fingerprint, Job, Kinds, List, Normalise, Respell, Shape, Some, Text, []}
+use Rattle.command_line.proofs.Common.{answers_to, ap, built_fault, codes, false, fault_of, find, finished, level_fault, nothing_held}
+use Rattle.command_line.proofs.Common.{or_else, over_one_set, over_two_sets, refl, rows_after, settled, stopped_fault, subcommand_of, sym}
+use Rattle.command_line.proofs.Common.{true, understood, walk, walk_from, walk_stopped, walked, with_mask, word_of, ◌∷◌, ◌≡◌}
 use Rattle.clap.proofs.OnLiterals.{clap_on_literals}
-use Rattle.clap.proofs.FaultLemmas.{stopped_fault}
-use Rattle.clap.proofs.WalkLemmas.{walk_stopped}
-use Rattle.clap.specs.Words.{fault_of}
-use Rattle.clap.specs.Faults.{built_fault, check_fault, defaults_fault, level_fault, settle_fault, turn_fault, walk_fault}
-use Rattle.clap.specs.Kinds.{Kinds, or_else}
-use Rattle.clap.specs.Simple.{Shape, built, built_leaf, entered, inherited, label_of, marked_built, names_of, with_leaf_noted}
-use Rattle.clap.specs.Walk.{answers_to, finished, nothing_held, rows_after, settled, walk, walk_from, walked}
-use Rattle.command_line.specs.Grammar.{over_two_sets}
+use Rattle.clap.specs.Faults.{check_fault, defaults_fault, settle_fault, turn_fault, walk_fault}
+use Rattle.clap.specs.Simple.{built, built_leaf, entered, inherited, label_of, marked_built, names_of, with_leaf_noted}
 
 -- a subcommand with this grammar, as the parser prepares it
 abbrev pub prepared : App → Shape

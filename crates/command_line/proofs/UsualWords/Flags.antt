@@ -1,12 +1,9 @@
 -- The flags of a subcommand that prints or compares maps.
-use Rattle.command_line.proofs.Common.{◌++◌, [], App, Bool, true, false, codes, List, None, refl, Row, Text, over_one_set, with_mask}
-use Rattle.clap.proofs.OnLiterals.{clap_on_literals}
-use Rattle.clap.specs.Simple.{Shape}
-use Rattle.command_line.specs.Grammar.{over_two_sets}
-use Rattle.command_line.specs.Names.{reserved_words, source_words, stem_words}
-use Rattle.command_line.proofs.UsualWords.Entering.{prepared}
+use Rattle.command_line.proofs.Common.{App, Bool, List, None, Row, Shape, Text, [], codes, false, over_one_set, over_two_sets, refl}
+use Rattle.command_line.proofs.Common.{reserved_words, source_words, stem_words, true, with_mask, ◌++◌}
 use Rattle.command_line.proofs.UsualWords.Walking.{Reads, Steps, before_word, step_then}
-use Rattle.command_line.proofs.UsualWords.Words.{Read, flag_rows}
+use Rattle.command_line.proofs.{UsualWords.Entering.prepared, UsualWords.Words.Read, UsualWords.Words.flag_rows}
+use Rattle.clap.proofs.OnLiterals.{clap_on_literals}
 
 -- a subcommand over two sets, or over one
 abbrev over : Bool → Text → App

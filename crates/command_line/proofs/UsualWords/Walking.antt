@@ -1,12 +1,8 @@
 -- A subcommand's walk over its words, one word at a time.
-use Rattle.command_line.proofs.Common.{◌≡◌, ◌∙◌, ◌∷◌, [], ap, ap₂, false, List, None, Option, Row, Text, sym}
-use Rattle.std.specs.Prelude.{ℕ, fold}
-use Rattle.clap.specs.Faults.{check_fault, defaults_fault, settle_fault, step_fault, turn_fault, walk_fault}
-use Rattle.clap.specs.Kinds.{Kinds, or_else}
-use Rattle.clap.specs.Simple.{Shape}
-use Rattle.clap.specs.declared.error.kind.ErrorKind.{ErrorKind}
-use Rattle.clap.specs.Walk.{Held, Walk, arg_by_index, finished, idle, settled, to_positional, value, walked}
+use Rattle.command_line.proofs.Common.{ErrorKind, Held, Kinds, List, None, Option, Row, Shape, Text, Walk, [], ap, ap₂, arg_by_index, false}
+use Rattle.command_line.proofs.Common.{finished, fold, idle, or_else, settled, step_fault, sym, to_positional, value, ℕ, ◌∙◌, ◌∷◌, ◌≡◌}
 use Rattle.command_line.proofs.UsualWords.Words.{IsNoFlag, Read, read}
+use Rattle.clap.specs.{Faults.check_fault, Faults.defaults_fault, Faults.settle_fault, Faults.turn_fault, Faults.walk_fault, Walk.walked}
 
 -- the state of the walk before a word: what was found so far, the argument that is still pending, and the next argument's position
 abbrev pub before_word : List Row → Option (Text × List Text) → ℕ → Walk

@@ -1,14 +1,8 @@
 -- The parsed form of the words after a subcommand.
-use Rattle.command_line.proofs.Common.{◌≡◌, Bool, true, false, [], ◌∷◌, List, Option, Some, None, refl, codes, Row, Text, first_of, one_of}
-use Rattle.command_line.proofs.Common.{Job, Respell, Check, Compare}
-use Rattle.std.proofs.Common.{◌==◌}
-use Rattle.std.proofs.Common.{ne_eqb}
-use Rattle.std.specs.Str.{bytes_eq}
-use Rattle.clap.specs.Lexer.{long_of, short_of}
-use Rattle.clap.specs.Values.{reading_of}
+use Rattle.command_line.proofs.Common.{Bool, Check, CommandLine, Compare, IsPlain, Job, List, None, Option, Respell, Row, Some, Text, []}
+use Rattle.command_line.proofs.Common.{bytes_eq, codes, false, first_of, long_of, ne_eqb, one_of, reading_of, refl, short_of, true, ◌==◌}
+use Rattle.command_line.proofs.Common.{◌∷◌, ◌≡◌}
 use Rattle.clap.specs.declared.builder.value_parser.ValueParser.TheVariants as parser
-use Rattle.clap.specs.declared.parser.matches.ValueSource.TheVariants.{CommandLine}
-use Rattle.command_line.specs.Names.{IsPlain}
 
 -- a text that isn't a flag, as clap tests it
 pub record IsNoFlag (text : Text) : Type 0 where

@@ -1,9 +1,6 @@
 -- Orders whose equal keys are the same key: of lists, bytes, integers and pairs.
-use Rattle.std.proofs.Common.{◌≡◌, List, [], ◌∷◌, Ordering, Less, Equal, Greater, refl, nat_cmp}
-use Rattle.std.specs.Ordering.{ordering_then}
-use Rattle.std.specs.Cmp.Lexicographic.{slice_cmp}
-use Rattle.std.proofs.lemmas.Cmp.{lists_total, then_total, on_total}
-use Rattle.std.proofs.lemmas.Map.Lookups.{exact_pairs}
+use Rattle.ordered_lists.proofs.Common.{Equal, Greater, Less, List, Ordering, [], exact_pairs, lists_total, nat_cmp, on_total}
+use Rattle.ordered_lists.proofs.Common.{ordering_then, refl, slice_cmp, then_total, ◌∷◌, ◌≡◌}
 use Rattle.ordered_lists.proofs.ByKey.Keys.{IsKeyOrder, nat_keys}
 
 -- what follows if two orders, one after the other, compare as equal

@@ -1,16 +1,11 @@
 -- Keys under an order that distinguishes any two: how often they occur in a list, and their images by pairs.
-use Rattle.ordered_lists.proofs.Common.{◌≡◌, ◌⊎◌, ◌<◌, ◌≤◌, ◌+◌, ℕ, zero, suc, nat_lt, length-append, List, [], ◌∷◌, ◌++◌, Bool, true}
-use Rattle.ordered_lists.proofs.Common.{false, cond, map, filter, length, Ordering, Less, Equal, Greater, is_eq, is_gt, sym, refl, ap}
-use Rattle.ordered_lists.proofs.Common.{◌∙◌, subst, inl, inr, arith, IsPermutation, false≢true, lt-ltb, tied_itself, nat_cmp_total}
-use Rattle.ordered_lists.proofs.Common.{ordering_reverse, length-filter, sum_by-IsPermutation, IsTotalOrder, AllByRecursion, times}
-use Rattle.ordered_lists.proofs.Common.{stands_in, has_repeat}
-use Rattle.std.proofs.Common.{◌||◌}
-use Rattle.std.proofs.Common.{nat_cmp}
-use Rattle.std.proofs.lemmas.Bool.{false_from_ne_true}
-use Rattle.std.proofs.lemmas.Map.Lookups.{exact_unsigned}
-use Rattle.std.proofs.lemmas.List.Elements.{filter-append}
+use Rattle.ordered_lists.proofs.Common.{AllByRecursion, Bool, Equal, Greater, IsPermutation, IsTotalOrder, Less, List, Ordering, [], ap}
+use Rattle.ordered_lists.proofs.Common.{arith, cond, exact_unsigned, false, false_from_ne_true, false≢true, filter, filter-append}
+use Rattle.ordered_lists.proofs.Common.{has_repeat, inl, inr, is_eq, is_gt, length, length-append, length-filter, lt-ltb, map, nat_cmp}
+use Rattle.ordered_lists.proofs.Common.{nat_cmp_total, nat_lt, ordering_reverse, refl, stands_in, subst, suc, sum_by-IsPermutation, sym}
+use Rattle.ordered_lists.proofs.Common.{tied_itself, times, true, zero, ℕ, ◌++◌, ◌+◌, ◌<◌, ◌||◌, ◌∙◌, ◌∷◌, ◌≡◌, ◌≤◌, ◌⊎◌}
 use Rattle.std.specs.List.Sorted.{IsStrictlySortedBy}
-use Rattle.ordered_lists.specs.Pairs.{image, swapped, composed, is_named, to_itself}
+use Rattle.ordered_lists.specs.Pairs.{composed, image, is_named, swapped, to_itself}
 
 -- an order in which keys that compare as equal are equal
 pub record IsKeyOrder {K : Type 0} (cmp : K → K → Ordering) : Type 0 where

@@ -1,12 +1,8 @@
 -- Marks by number: no marks yet, and one number more.
-use Rattle.ordered_lists.proofs.Common.{◌≡◌, ◌⊎◌, ◌<◌, ◌≤◌, ◌++◌, ◌∷◌, [], ℕ, Bool, true, false, List, length, set, get_or, slice_get}
-use Rattle.ordered_lists.proofs.Common.{nat_lt, Some, is_eq, sym, ap, ◌∙◌, subst, inl, inr, arith, false≢true, lt-ltb}
-use Rattle.ordered_lists.proofs.Common.{get_or-set_other, get_or-set_same, length-set, AreMarksOf, times, stands_in}
-use Rattle.std.proofs.Common.{◌≢◌}
-use Rattle.std.proofs.Common.{nat_cmp}
-use Rattle.std.proofs.lemmas.Option.{slice_get-get_or}
-use Rattle.ordered_lists.proofs.ByKey.Keys.{differ, known-here, known-right, nat_keys, same-itself, same_or_not, times-append}
-use Rattle.ordered_lists.proofs.ByKey.Keys.{times-no}
+use Rattle.ordered_lists.proofs.Common.{AreMarksOf, Bool, List, Some, [], ap, arith, false, false≢true, get_or, get_or-set_other}
+use Rattle.ordered_lists.proofs.Common.{get_or-set_same, inl, inr, is_eq, length, length-set, lt-ltb, nat_cmp, nat_lt, set, slice_get}
+use Rattle.ordered_lists.proofs.Common.{slice_get-get_or, stands_in, subst, sym, times, true, ℕ, ◌++◌, ◌<◌, ◌∙◌, ◌∷◌, ◌≡◌, ◌≢◌, ◌≤◌, ◌⊎◌}
+use Rattle.ordered_lists.proofs.ByKey.Keys.{differ, known-here, known-right, nat_keys, same-itself, same_or_not, times-append, times-no}
 
 -- one more number is in the list at its own place, and no other place changes
 stands_in-end : (numbers : List ℕ) (place number : ℕ) → is_eq (nat_cmp number place) ≡ false

@@ -1,14 +1,9 @@
 -- Lists read at places: in order, at all places in another order, and with each item turned into another.
-use Rattle.ordered_lists.proofs.Common.{◌≡◌, ◌<◌, ℕ, List, [], ◌∷◌, map, length, get_or, Some, slice_get, sym, refl, ap, ◌∙◌, subst}
-use Rattle.ordered_lists.proofs.Common.{AllByRecursion, IsInOrder, IsPermutation, None, Option, arith, cons_option, on}
-use Rattle.std.proofs.Common.{nat_cmp, option_map}
-use Rattle.std.proofs.lemmas.List.FromFn.{fill_by_all}
-use Rattle.std.proofs.lemmas.List.Sorted.{IsPermutation-map, IsPermutation-refl, length_permutation}
-use Rattle.std.proofs.lemmas.Option.{slice_get-get_or, slice_get-map}
-use Rattle.std.specs.List.{range_with_len}
-use Rattle.ordered_lists.specs.Places.{at_places}
-use Rattle.ordered_lists.proofs.Lists.InOrder.{in_order-map}
-use Rattle.ordered_lists.proofs.Lists.Ranges.{places_below}
+use Rattle.ordered_lists.proofs.Common.{AllByRecursion, IsInOrder, IsPermutation, IsPermutation-map, IsPermutation-refl, List, None, Option}
+use Rattle.ordered_lists.proofs.Common.{Some, [], ap, arith, at_places, cons_option, fill_by_all, get_or, length, length_permutation, map}
+use Rattle.ordered_lists.proofs.Common.{nat_cmp, on, option_map, range_with_len, refl, slice_get, slice_get-get_or, slice_get-map, subst}
+use Rattle.ordered_lists.proofs.Common.{sym, ℕ, ◌<◌, ◌∙◌, ◌∷◌, ◌≡◌}
+use Rattle.ordered_lists.proofs.{Lists.InOrder.in_order-map, Lists.Ranges.places_below}
 
 -- at places that aren't past the end, each is read
 read_each : {X : Type 0} (items : List X) (d : X) (places : List ℕ) → AllByRecursion (λ place. place < length items) places

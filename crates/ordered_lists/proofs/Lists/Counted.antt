@@ -1,16 +1,12 @@
 -- How many elements lists have, in groups and in pieces, and how many numbers are within bounds.
-use Rattle.std.proofs.Common.{◌≡◌, ◌⊎◌, ◌+◌, ◌-◌, ◌<◌, ◌≤◌, ◌==◌, ℕ, zero, suc, List, [], ◌∷◌, ◌++◌, filter, flat_map, filter_map}
-use Rattle.std.proofs.Common.{length, length-append, take, drop, Bool, true, false, cond, Option, Some, None, Less, is_eq, sym}
-use Rattle.std.proofs.Common.{refl, ◌∙◌, subst, inl, inr, arith, nat_cmp}
-use Rattle.std.proofs.lemmas.Bool.{eq-eqb, ne_eqb, cases_eq}
-use Rattle.std.proofs.lemmas.Cmp.{nat_cmp_total, ranked}
-use Rattle.std.specs.List.{AllByRecursion, cons_option}
+use Rattle.ordered_lists.proofs.Common.{AllByRecursion, Bool, Less, List, None, Option, Some, [], arith, cases_eq, cond, cons_option, drop}
+use Rattle.ordered_lists.proofs.Common.{eq-eqb, false, filter, filter_map, flat_map, in_order, inl, inr, is_eq, length, length-append}
+use Rattle.ordered_lists.proofs.Common.{nat_cmp, nat_cmp_total, ne_eqb, ranked, refl, subst, suc, sym, take, true, zero, ℕ, ◌++◌, ◌+◌, ◌-◌}
+use Rattle.ordered_lists.proofs.Common.{◌<◌, ◌==◌, ◌∙◌, ◌∷◌, ◌≡◌, ◌≤◌, ◌⊎◌}
+use Rattle.ordered_lists.proofs.ByKey.Keys.{IsApart, differ, nat_keys, same-itself}
+use Rattle.ordered_lists.proofs.ByKey.Numbers.{all-in_order, count-in_order, length-in_order, strict_from_order}
+use Rattle.ordered_lists.proofs.{Lists.Elements.all_both, Lists.Elements.all_weaker, Lists.InOrder.in_order-in_order}
 use Rattle.std.specs.List.Sorted.{IsStrictlySortedBy}
-use Rattle.ordered_lists.specs.Orders.{in_order}
-use Rattle.ordered_lists.proofs.Lists.InOrder.{in_order-in_order}
-use Rattle.ordered_lists.proofs.ByKey.Keys.{IsApart, nat_keys, same-itself, differ}
-use Rattle.ordered_lists.proofs.ByKey.Numbers.{length-in_order, count-in_order, all-in_order, strict_from_order}
-use Rattle.ordered_lists.proofs.Lists.Elements.{all_weaker, all_both}
 
 -- the elements that pass each of several tests, test after test
 module _ {X K : Type 0} (p : K → X → Bool) where

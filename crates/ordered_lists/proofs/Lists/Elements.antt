@@ -1,7 +1,6 @@
 -- Lists: properties of each element, and maps that agree.
-use Rattle.ordered_lists.proofs.Common.{◌≡◌, List, [], ◌∷◌, ◌++◌, Bool, true, false, cond, map, filter, flat_map, filter_map, refl, ap}
-use Rattle.ordered_lists.proofs.Common.{suc, arith, Option, Some, None, AllByRecursion, cons_option}
-use Rattle.std.specs.Prelude.{All}
+use Rattle.ordered_lists.proofs.Common.{All, AllByRecursion, Bool, List, None, Option, Some, [], ap, arith, cond, cons_option, false}
+use Rattle.ordered_lists.proofs.Common.{filter, filter_map, flat_map, map, refl, suc, true, ◌++◌, ◌∷◌, ◌≡◌}
 
 pub map_itself : {X : Type 0} (f : X → X) → ((x : X) → f x ≡ x) → (xs : List X) → map f xs ≡ xs
 map_itself f h [] = refl

@@ -1,12 +1,10 @@
 -- Entries as lists of keys and of values.
-use Rattle.ordered_lists.proofs.Common.{◌≡◌, ◌⊎◌, ℕ, zero, suc, nat_lt, List, [], ◌∷◌, map, length, true, false, cond, Ordering, Less}
-use Rattle.ordered_lists.proofs.Common.{is_eq, is_gt, sym, refl, ap, ◌∙◌, subst, inl, inr, arith, Some, None, slice_get, false≢true}
-use Rattle.ordered_lists.proofs.Common.{lt-ltb, AllByRecursion, entry_keys, entry_values, value_under, times, stands_in, IsInOrder}
-use Rattle.std.specs.List.{zip}
-use Rattle.std.specs.List.Sorted.{IsStrictlySortedBy}
-use Rattle.ordered_lists.specs.Entries.{map_values}
-use Rattle.ordered_lists.proofs.ByKey.Keys.{IsKeyOrder, times-yes, times-no, same_or_not, same-itself}
+use Rattle.ordered_lists.proofs.Common.{AllByRecursion, IsInOrder, entry_keys, entry_values, false≢true, map_values, slice_get, value_under}
+use Rattle.ordered_lists.proofs.Common.{Less, List, Ordering, arith, false, is_eq, is_gt, length, lt-ltb, nat_lt, stands_in, subst, times}
+use Rattle.ordered_lists.proofs.Common.{None, Some, [], ap, cond, inl, inr, map, refl, suc, sym, true, zero, zip, ℕ, ◌∙◌, ◌∷◌, ◌≡◌, ◌⊎◌}
+use Rattle.ordered_lists.proofs.ByKey.Keys.{IsKeyOrder, same-itself, same_or_not, times-no, times-yes}
 use Rattle.ordered_lists.proofs.Lists.Elements.{all_weaker}
+use Rattle.std.specs.List.Sorted.{IsStrictlySortedBy}
 
 pub keys-zip : {K V : Type 0} (keys : List K) (values : List V) → length keys ≡ length values → entry_keys (zip keys values) ≡ keys
 keys-zip [] [] e = refl

@@ -1,11 +1,9 @@
 -- The elements of one key in a list that is in order.
-use Rattle.ordered_lists.proofs.Common.{◌≡◌, ◌⊎◌, ℕ, List, [], ◌∷◌, ◌++◌, filter, Bool, true, false, cond, Ordering, Less, Equal}
-use Rattle.ordered_lists.proofs.Common.{Greater, is_eq, is_gt, sym, refl, ap, ◌∙◌, subst, inl, inr, false≢true, AllByRecursion}
-use Rattle.ordered_lists.proofs.Common.{ordering_reverse}
-use Rattle.std.proofs.Common.{nat_cmp, append_assoc}
+use Rattle.ordered_lists.proofs.Common.{AllByRecursion, Bool, Equal, Greater, Less, List, Ordering, [], ap, append_assoc, cond, false}
+use Rattle.ordered_lists.proofs.Common.{false≢true, filter, inl, inr, is_eq, is_gt, nat_cmp, ordering_reverse, refl, subst, sym, true, ℕ}
+use Rattle.ordered_lists.proofs.Common.{◌++◌, ◌∙◌, ◌∷◌, ◌≡◌, ◌⊎◌}
+use Rattle.ordered_lists.proofs.{ByKey.Keys.IsKeyOrder, ByKey.Keys.same_or_not, Lists.Counted.filter-agree}
 use Rattle.std.specs.List.Sorted.{IsStrictlySortedBy}
-use Rattle.ordered_lists.proofs.Lists.Counted.{filter-agree}
-use Rattle.ordered_lists.proofs.ByKey.Keys.{IsKeyOrder, same_or_not}
 
 eq_reversed : (a b : Ordering) → a ≡ ordering_reverse b → is_eq a ≡ is_eq b
 eq_reversed a Less e = ap is_eq e

@@ -1,13 +1,10 @@
 -- Elements of a list: under a permutation, in a map, and when a test finds one.
-use Rattle.std.proofs.Common.{◌≡◌, ◌⊎◌, ◌<◌, ℕ, zero, suc, List, [], ◌∷◌, ◌++◌, map, flat_map, length, get_or, Bool, true, false}
-use Rattle.std.proofs.Common.{sym, refl, ap, ◌∙◌, subst, inl, inr, arith, IsPermutation, Contains, Ordering, is_eq, filter_map}
-use Rattle.std.proofs.Common.{Option, Some, None}
-use Rattle.std.proofs.lemmas.Bool.{false≢true, or_cases, or_left, or_right}
-use Rattle.std.proofs.lemmas.List.Sorted.{Contains-permutation}
-use Rattle.std.specs.List.{list_any, cons_option}
+use Rattle.ordered_lists.proofs.Common.{Bool, Contains, Contains-permutation, IsPermutation, List, None, Option, Ordering, Some, [], ap}
+use Rattle.ordered_lists.proofs.Common.{arith, cons_option, false, false≢true, filter_map, flat_map, get_or, inl, inr, is_eq, length}
+use Rattle.ordered_lists.proofs.Common.{list_any, map, or_cases, or_left, or_right, refl, subst, suc, sym, true, zero, ℕ, ◌++◌, ◌<◌, ◌∙◌}
+use Rattle.ordered_lists.proofs.Common.{◌∷◌, ◌≡◌, ◌⊎◌}
 use Rattle.ordered_lists.proofs.Lists.Among.{Among}
-use Rattle.ordered_lists.proofs.ByKey.Keys.{IsKeyOrder, IsApart, Known, times-yes, apart_tail, known-here, known-later}
-use Rattle.ordered_lists.proofs.ByKey.Keys.{known_cases}
+use Rattle.ordered_lists.proofs.ByKey.Keys.{IsApart, IsKeyOrder, Known, apart_tail, known-here, known-later, known_cases, times-yes}
 
 pub contains-among : {X : Type 0} (x : X) (xs : List X) → Among x xs → Contains xs x
 contains-among x [] h = absurd h

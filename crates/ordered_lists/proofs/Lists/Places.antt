@@ -1,11 +1,8 @@
 -- Places: the elements up to a place, and the element at the place of a key, or past the end.
-use Rattle.ordered_lists.proofs.Common.{◌≡◌, ◌+◌, ◌++◌, ℕ, zero, suc, List, [], ◌∷◌, length, take, Option, Some, None, IfSome, is_some}
-use Rattle.ordered_lists.proofs.Common.{slice_get, Ordering, refl, sym, ap, ◌∙◌, arith, IsStrictlySortedBy, entry_keys, entry_values}
-use Rattle.ordered_lists.proofs.Common.{value_under, stands_in}
-use Rattle.std.proofs.Common.{unwrap_or}
-use Rattle.std.proofs.lemmas.Option.{slice_get_past}
-use Rattle.ordered_lists.proofs.Lists.EntryLists.{none-under, value-at_place}
-use Rattle.ordered_lists.proofs.ByKey.Keys.{IsKeyOrder}
+use Rattle.ordered_lists.proofs.Common.{IfSome, IsStrictlySortedBy, List, None, Option, Ordering, Some, [], ap, arith, entry_keys}
+use Rattle.ordered_lists.proofs.Common.{entry_values, is_some, length, refl, slice_get, slice_get_past, stands_in, suc, sym, take}
+use Rattle.ordered_lists.proofs.Common.{unwrap_or, value_under, zero, ℕ, ◌++◌, ◌+◌, ◌∙◌, ◌∷◌, ◌≡◌}
+use Rattle.ordered_lists.proofs.{ByKey.Keys.IsKeyOrder, Lists.EntryLists.none-under, Lists.EntryLists.value-at_place}
 
 -- the elements up to a place, and those with the element at that place
 pub next_taken : {X : Type 0} (xs : List X) (place : ℕ) (x : X) → Some x ≡ slice_get xs place

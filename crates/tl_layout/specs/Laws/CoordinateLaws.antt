@@ -1,22 +1,18 @@
 -- A coordinate's field is read as the value that it spells, and the canonical text is among the spellings.
-use Rattle.std.proofs.Common.{◌≡◌, ℕ, zero, suc, ◌+◌, ◌-◌, ◌*◌, ◌/◌, ◌%◌, ◌^◌, ◌<◌, ◌≤◌, List, [], ◌∷◌, ◌++◌, length, true}
-use Rattle.std.proofs.Common.{nat_eq, nat_le, Option, Some, None, refl, sym, ap, ◌∙◌, subst, arith, IsTrue, ℤ, pos}
-use Rattle.std.proofs.Common.{negsuc, unsigned_abs}
+use Rattle.std.proofs.Common.{IsTrue, List, None, Option, Some, [], ap, arith, length, nat_eq, nat_le, negsuc, pos, refl, subst, suc, sym}
+use Rattle.std.proofs.Common.{true, unsigned_abs, zero, ℕ, ℤ, ◌%◌, ◌*◌, ◌++◌, ◌+◌, ◌-◌, ◌/◌, ◌<◌, ◌^◌, ◌∙◌, ◌∷◌, ◌≡◌, ◌≤◌}
+use Rattle.std.proofs.lemmas.Bool.{and_from, and_parts, cond_both, eqb-true, le-leb, leb-true, ne_eqb}
+use Rattle.std.proofs.lemmas.{List.Elements.All-cons, List.Elements.All-nil, List.Elements.All-push, List.append-nil, List.length_push}
 use Rattle.std.specs.List.{list_all}
-use Rattle.std.proofs.lemmas.Bool.{and_parts, and_from, cond_both, eqb-true, ne_eqb, leb-true, le-leb}
-use Rattle.std.proofs.lemmas.List.{append-nil, length_push}
-use Rattle.std.proofs.lemmas.List.Elements.{All-push, All-nil, All-cons}
-use Rattle.tl_layout.specs.Bytes.{IsText, AreAllowed, is_allowed}
-use Rattle.tl_layout.specs.NumberField.{is_blank, is_digit, value_after}
-use Rattle.tl_layout.specs.NumberReading.{drop_blanks, number_after}
-use Rattle.tl_layout.specs.Laws.NumberLaws.{number_after_found, number_after_only, digit_not_blank, splits_blanks, drop_blanks-append}
-use Rattle.tl_layout.specs.Laws.NumberLaws.{drop_blanks-blanks}
-use Rattle.tl_layout.specs.Laws.NumberTextLaws.{value_after-push, digits_push, last_is_digit, tenth_below, digit_allowed}
-use Rattle.tl_layout.specs.CoordinateField.{negated, IsSigned, unsigned, plus, minus, IsCoordinateField, IsBlankField}
-use Rattle.tl_layout.specs.CoordinateReading.{within, magnitude_of, made_of, plus_of, minus_of, signed_of, coordinate_of}
-use Rattle.tl_layout.specs.FieldTexts.{digits_text, sign_of, coordinate_text}
-use Rattle.tl_layout.specs.declared.coordinate.Coordinate.{Coordinate}
-use Rattle.tl_layout.specs.declared.coordinate.Coordinate.TheVariants.{Blank, Value}
+use Rattle.tl_layout.specs.Laws.NumberLaws.{digit_not_blank, drop_blanks-append, drop_blanks-blanks, number_after_found, number_after_only}
+use Rattle.tl_layout.specs.Laws.NumberLaws.{splits_blanks}
+use Rattle.tl_layout.specs.Laws.NumberTextLaws.{digit_allowed, digits_push, last_is_digit, tenth_below, value_after-push}
+use Rattle.tl_layout.specs.CoordinateField.{IsBlankField, IsCoordinateField, IsSigned, minus, negated, plus, unsigned}
+use Rattle.tl_layout.specs.CoordinateReading.{coordinate_of, made_of, magnitude_of, minus_of, plus_of, signed_of, within}
+use Rattle.tl_layout.specs.{Bytes.AreAllowed, Bytes.IsText, Bytes.is_allowed, FieldTexts.coordinate_text, FieldTexts.digits_text}
+use Rattle.tl_layout.specs.{FieldTexts.sign_of, NumberField.is_blank, NumberField.is_digit, NumberField.value_after}
+use Rattle.tl_layout.specs.{NumberReading.drop_blanks, NumberReading.number_after, declared.coordinate.Coordinate.Coordinate}
+use Rattle.tl_layout.specs.{declared.coordinate.Coordinate.TheVariants.Blank, declared.coordinate.Coordinate.TheVariants.Value}
 
 -- one or more digits within the limit, followed only by blanks
 pub record IsMagnitude (limit : ℕ) (bytes : List ℕ) (n : ℕ) : Type 0 where

@@ -1,16 +1,13 @@
 -- The canonical text of a number spells it, has the field's width, and consists of allowed bytes.
-use Rattle.std.proofs.Common.{◌≡◌, ℕ, zero, suc, ◌+◌, ◌-◌, ◌*◌, ◌/◌, ◌%◌, ◌^◌, ◌<◌, ◌≤◌, List, [], ◌∷◌, ◌++◌, length, Bool, true}
-use Rattle.std.proofs.Common.{false, cond, nat_eq, nat_le, refl, sym, ap, ◌∙◌, arith, append_assoc, IsTrue, lit<}
+use Rattle.std.proofs.Common.{Bool, IsTrue, List, [], ap, append_assoc, arith, cond, false, length, lit<, nat_eq, nat_le, refl, suc, sym}
+use Rattle.std.proofs.Common.{true, zero, ℕ, ◌%◌, ◌*◌, ◌++◌, ◌+◌, ◌-◌, ◌/◌, ◌<◌, ◌^◌, ◌∙◌, ◌∷◌, ◌≡◌, ◌≤◌}
+use Rattle.std.proofs.lemmas.Bool.{and_from, and_parts, eqb-false, eqb-true, le-leb, leb-true}
+use Rattle.std.proofs.{Math.Nat.mul-le-mul_left, Math.Nat.pow-le-pow_right, Math.Nat.pow-succ', lemmas.Bool.Decides.nat_tests}
+use Rattle.std.proofs.{lemmas.List.Elements.All-nil, lemmas.List.Elements.All-push, lemmas.List.Folds.list_all-append}
+use Rattle.std.proofs.{lemmas.List.append-nil, lemmas.List.length-append, lemmas.List.length_push}
 use Rattle.std.specs.List.{list_all}
-use Rattle.std.proofs.lemmas.Bool.{and_parts, and_from, eqb-true, eqb-false, le-leb, leb-true}
-use Rattle.std.proofs.lemmas.Bool.Decides.{nat_tests}
-use Rattle.std.proofs.lemmas.List.{append-nil, length_push, length-append}
-use Rattle.std.proofs.lemmas.List.Elements.{All-push, All-nil}
-use Rattle.std.proofs.lemmas.List.Folds.{list_all-append}
-use Rattle.std.proofs.Math.Nat.{pow-succ', pow-le-pow_right, mul-le-mul_left}
-use Rattle.tl_layout.specs.Bytes.{IsText, AreAllowed, is_allowed}
-use Rattle.tl_layout.specs.NumberField.{is_blank, is_digit, value_after, IsNumberField}
-use Rattle.tl_layout.specs.FieldTexts.{number_text}
+use Rattle.tl_layout.specs.NumberField.{IsNumberField, is_blank, is_digit, value_after}
+use Rattle.tl_layout.specs.{Bytes.AreAllowed, Bytes.IsText, Bytes.is_allowed, FieldTexts.number_text}
 
 -- the value of digits with one more appended
 pub value_after-push : (n : ℕ) (digits : List ℕ) (digit : ℕ)

@@ -1,23 +1,18 @@
 -- Places are read as what they spell, and the canonical text is among the spellings.
-use Rattle.std.proofs.Common.{◌≡◌, ℕ, zero, suc, ◌+◌, ◌*◌, ◌≤◌, List, [], ◌∷◌, ◌++◌, length, Bool, true, false, cond, Option}
-use Rattle.std.proofs.Common.{Some, None, Result, Ok, Err, refl, sym, ap, ◌∙◌, subst, arith, append_assoc, IsTrue, IfSome, take}
-use Rattle.std.proofs.Common.{drop, ◌-◌, unwrap_or, inr, lit<, lit≤, pos}
+use Rattle.std.proofs.Common.{Bool, Err, IfSome, IsTrue, List, None, Ok, Option, Result, Some, [], ap, append_assoc, arith, cond, drop}
+use Rattle.std.proofs.Common.{false, inr, length, lit<, lit≤, pos, refl, subst, suc, sym, take, true, unwrap_or, zero, ℕ, ◌*◌, ◌++◌, ◌+◌}
+use Rattle.std.proofs.Common.{◌-◌, ◌∙◌, ◌∷◌, ◌≡◌, ◌≤◌}
+use Rattle.std.proofs.lemmas.List.{drop_at, length-append, length-take, take_at}
+use Rattle.std.proofs.{Math.Nat.pow-le-pow_right, lemmas.List.Elements.All-append, lemmas.List.Elements.All-nil}
 use Rattle.std.specs.List.{AllByRecursion}
-use Rattle.std.proofs.lemmas.List.{length-append, drop_at, take_at, length-take}
-use Rattle.std.proofs.lemmas.List.Elements.{All-append, All-nil}
-use Rattle.std.proofs.Math.Nat.{pow-le-pow_right}
-use Rattle.tl_layout.specs.Bytes.{IsText, AreAllowed, is_allowed, columns}
-use Rattle.tl_layout.specs.Numbers.{IsNumber, IsNumberOrNone}
-use Rattle.tl_layout.specs.Coordinates.{Coordinates, IsOnMap, most_longitude, most_latitude}
-use Rattle.tl_layout.specs.Laws.NumberTextLaws.{number_text_is_text, number_below}
-use Rattle.tl_layout.specs.CoordinateField.{IsCoordinateField}
-use Rattle.tl_layout.specs.FieldTexts.{coordinate_text, point_place_text, number_place_text, places_text}
-use Rattle.tl_layout.specs.Laws.CoordinateLaws.{coordinate_text_is_text, coordinate_text_spells}
-use Rattle.tl_layout.specs.FieldReading.{and_then, at_place, places_reading}
-use Rattle.tl_layout.specs.FieldMeaning.{SpellsPointPlace, SpellsNumberPlace, SpellsPlaces}
-use Rattle.tl_layout.specs.Laws.FieldLaws.{reads, reads_on, ok_value, point_again, number_or_none_again}
-use Rattle.tl_layout.specs.FieldFaults.{gap}
-use Rattle.tl_layout.specs.declared.fault.FieldFault.{FieldFault}
+use Rattle.tl_layout.specs.Laws.FieldLaws.{number_or_none_again, ok_value, point_again, reads, reads_on}
+use Rattle.tl_layout.specs.{Bytes.AreAllowed, Coordinates.IsOnMap, FieldReading.and_then, FieldReading.at_place, Numbers.IsNumberOrNone}
+use Rattle.tl_layout.specs.{Bytes.IsText, Bytes.is_allowed, FieldFaults.gap, Numbers.IsNumber}
+use Rattle.tl_layout.specs.{Bytes.columns, CoordinateField.IsCoordinateField, FieldMeaning.SpellsNumberPlace, FieldMeaning.SpellsPointPlace}
+use Rattle.tl_layout.specs.{Coordinates.Coordinates, FieldReading.places_reading, FieldTexts.number_place_text, FieldTexts.point_place_text}
+use Rattle.tl_layout.specs.{Coordinates.most_latitude, Coordinates.most_longitude, FieldMeaning.SpellsPlaces, FieldTexts.coordinate_text}
+use Rattle.tl_layout.specs.{FieldTexts.places_text, Laws.CoordinateLaws.coordinate_text_is_text, Laws.CoordinateLaws.coordinate_text_spells}
+use Rattle.tl_layout.specs.{Laws.NumberTextLaws.number_below, Laws.NumberTextLaws.number_text_is_text, declared.fault.FieldFault.FieldFault}
 
 -- two texts side by side
 pub pair_of_texts : (m n : ℕ) (a b : List ℕ) → IsText m a → IsText n b → IsText (m + n) (a ++ b)

@@ -1,11 +1,10 @@
 -- Laws of the record types: each record has one of them, and is selected by that one alone.
-use Rattle.std.proofs.Common.{◌≡◌, ◌==◌, ◌⊎◌, Bool, true, false, Option, Some, None, refl, sym, ap, ◌∙◌, subst, inl, inr}
+use Rattle.std.proofs.Common.{Bool, None, Option, Some, ap, false, inl, inr, refl, subst, sym, true, ◌==◌, ◌∙◌, ◌≡◌, ◌⊎◌}
 use Rattle.std.proofs.lemmas.Bool.{eq-eqb}
-use Rattle.tl_layout.specs.RecordText.{type_of, FitsRecord, spelling_of}
-use Rattle.tl_layout.specs.RecordTypes.{RecordType, Type1, Type2, Type4, Type5, Type6, Type7, Type8, TypeI, TypeP, FieldsOf, byte_of}
-use Rattle.tl_layout.specs.RecordTypes.{FitsFields, fields_spelling, record_of, own_type, as_type}
-use Rattle.tl_layout.specs.declared.record_type.Record.{Record}
-use Rattle.tl_layout.specs.declared.record_type.Record.TheVariants.{One}
+use Rattle.tl_layout.specs.RecordText.{FitsRecord, spelling_of, type_of}
+use Rattle.tl_layout.specs.RecordTypes.{FieldsOf, FitsFields, RecordType, Type1, Type2, Type4, Type5, Type6, Type7, Type8, TypeI, TypeP}
+use Rattle.tl_layout.specs.RecordTypes.{as_type, byte_of, fields_spelling, own_type, record_of}
+use Rattle.tl_layout.specs.{declared.record_type.Record.Record, declared.record_type.Record.TheVariants.One}
 
 -- a record is the record of its type with its fields
 pub typed : (r : Record) → (t : RecordType) × (fields : FieldsOf t) × (r ≡ record_of t fields)

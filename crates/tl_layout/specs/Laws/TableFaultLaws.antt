@@ -1,28 +1,27 @@
 -- Reading a line by a column table fails exactly with the leftmost fault of the table.
-use Rattle.std.proofs.Common.{◌≡◌, ℕ, ◌+◌, List, [], ◌∷◌, ◌++◌, Result, Ok, Err, refl, sym, ap, ◌∙◌, subst, inl, inr}
+use Rattle.std.proofs.Common.{Err, List, Ok, Result, [], ap, inl, inr, refl, subst, sym, ℕ, ◌++◌, ◌+◌, ◌∙◌, ◌∷◌, ◌≡◌}
 use Rattle.std.specs.List.{AllByRecursion}
-use Rattle.tl_layout.specs.FieldReading.{number_at, number_or_none_at, point_at, point_or_none_at}
-use Rattle.tl_layout.specs.FieldMeaning.{SpellsNumberPlace, SpellsPointPlace}
-use Rattle.tl_layout.specs.Laws.FieldLaws.{reads_on, number_or_none_at_found, number_or_none_at_only, point_or_none_at_found}
-use Rattle.tl_layout.specs.Laws.FieldLaws.{point_or_none_at_only}
-use Rattle.tl_layout.specs.ColumnTable.{Kind, Number, NumberOrNone, Pair, PairOrNone, NumberPlaces, PointPlaces, Opaque, Filler, Row}
-use Rattle.tl_layout.specs.FieldFaults.{IsNumberOrNoneFault, IsPairOrNoneFault, IsValueFault, IsWellFormed, IsFieldFault, IsLeftmostFault}
-use Rattle.tl_layout.specs.TableReading.{Makes, value_reading, rows_reading}
-use Rattle.tl_layout.specs.Laws.ValueLaws.{value_found, value_only, fails, fails_first}
-use Rattle.tl_layout.specs.Laws.ValueLaws.{nothing_spelled, number_reported, number_or_none_reported, point_reported, point_or_none_reported, one_reported}
-use Rattle.tl_layout.specs.Laws.PlaceFaultLaws.{places_fault_found, places_fault_only}
-use Rattle.tl_layout.specs.declared.fault.FieldFault.{FieldFault}
+use Rattle.tl_layout.specs.ColumnTable.{Filler, Kind, Number, NumberOrNone, NumberPlaces, Opaque, Pair, PairOrNone, PointPlaces, Row}
+use Rattle.tl_layout.specs.ColumnTable.{SpellsField, ValueOf}
+use Rattle.tl_layout.specs.Laws.ValueLaws.{fails, fails_first, nothing_spelled, number_or_none_reported, number_reported, one_reported}
+use Rattle.tl_layout.specs.Laws.ValueLaws.{point_or_none_reported, point_reported, value_found, value_only}
+use Rattle.tl_layout.specs.{Bytes.columns, FieldFaults.IsLeftmostFault, FieldReading.point_or_none_at, declared.fault.FieldFault.FieldFault}
+use Rattle.tl_layout.specs.{FieldFaults.IsBadField, FieldReading.number_at, FieldReading.point_at, TableReading.Makes}
+use Rattle.tl_layout.specs.{FieldFaults.IsValueFault, Laws.FieldLaws.reads_on, TableReading.rows_reading, TableReading.value_reading}
+use Rattle.tl_layout.specs.{FieldMeaning.SpellsNumberPlace, Laws.FieldLaws.number_or_none_at_found, Laws.PlaceFaultLaws.places_fault_found}
+use Rattle.tl_layout.specs.{FieldMeaning.SpellsPointPlace, Laws.FieldLaws.point_or_none_at_only, Laws.PlaceFaultLaws.places_fault_only}
+use Rattle.tl_layout.specs.{FieldReading.number_or_none_at, Laws.FieldLaws.number_or_none_at_only, Laws.FieldLaws.point_or_none_at_found}
 
 -- the faults of a number or none, and of a point or none, as fields of their own or places
 number_or_none_fault_found : (line : List ℕ) (first last : ℕ) (fault : FieldFault) → number_or_none_at first last line ≡ Err fault
-    → IsNumberOrNoneFault line first last fault
+    → IsBadField line first last NumberOrNone fault
 number_or_none_fault_found line first last fault h =
     record { none_spelled = nothing_spelled line first last NumberOrNone fault h; reported = number_or_none_reported first last line fault h }
 
-pair_or_none_fault_found : (line : List ℕ) (first : ℕ) (fault : FieldFault) → point_or_none_at first line ≡ Err fault
-    → IsPairOrNoneFault line first fault
-pair_or_none_fault_found line first fault h =
-    record { none_spelled = nothing_spelled line first 0 PairOrNone fault h; reported = point_or_none_reported line first fault h }
+pair_or_none_fault_found : (line : List ℕ) (first last : ℕ) (fault : FieldFault) → point_or_none_at first line ≡ Err fault
+    → IsBadField line first last PairOrNone fault
+pair_or_none_fault_found line first last fault h =
+    record { none_spelled = nothing_spelled line first last PairOrNone fault h; reported = point_or_none_reported line first fault h }
 
 -- if reading fails, the field is at fault
 pub value_fault_found : (line : List ℕ) (first last : ℕ) (kind : Kind) (fault : FieldFault) → value_reading line first last kind ≡ Err fault
@@ -32,16 +31,17 @@ value_fault_found line first last Number fault h =
 value_fault_found line first last NumberOrNone fault h = number_or_none_fault_found line first last fault h
 value_fault_found line first last Pair fault h =
     record { none_spelled = nothing_spelled line first last Pair fault h; reported = point_reported line first fault h }
-value_fault_found line first last PairOrNone fault h = pair_or_none_fault_found line first fault h
+value_fault_found line first last PairOrNone fault h = pair_or_none_fault_found line first last fault h
 value_fault_found line first last NumberPlaces fault h =
     places_fault_found (λ column. number_or_none_at column (column + 7) line) (SpellsNumberPlace line)
-    (λ column. IsNumberOrNoneFault line column (column + 7)) (λ column. number_or_none_at_found column (column + 7) line)
+    (λ column. IsBadField line column (column + 7) NumberOrNone) (λ column. number_or_none_at_found column (column + 7) line)
     (λ column. number_or_none_fault_found line column (column + 7)) 8 5 first fault h
 value_fault_found line first last PointPlaces fault h =
-    places_fault_found (λ column. point_or_none_at column line) (SpellsPointPlace line) (IsPairOrNoneFault line)
-    (λ column. point_or_none_at_found column line) (pair_or_none_fault_found line) 19 10 first fault h
-value_fault_found line first last Opaque fault h = (cc)
-value_fault_found line first last Filler fault h = (cc)
+    places_fault_found (λ column. point_or_none_at column line) (SpellsPointPlace line)
+    (λ column. IsBadField line column (column + 18) PairOrNone) (λ column. point_or_none_at_found column line)
+    (λ column. pair_or_none_fault_found line column (column + 18)) 19 10 first fault h
+value_fault_found line first last Opaque fault h = absurd (cc)
+value_fault_found line first last Filler fault h = absurd (cc)
 
 -- if nothing is spelled, reading fails with the reported fault, provided that there is only one
 fails_reported : {A : Type 0} (Spells : A → Type 0) (Reported : FieldFault → Type 0) (read : Result A FieldFault)
@@ -53,16 +53,16 @@ fails_reported {A} Spells Reported read found reported one fault none t = go rea
     go (Ok value) e = absurd (none value (found value e))
     go (Err f) e = e ∙ ap (λ (f : FieldFault). Err f) (one f fault (reported f e) t)
 
-number_or_none_fault_only : (line : List ℕ) (first last : ℕ) (fault : FieldFault) → IsNumberOrNoneFault line first last fault
+number_or_none_fault_only : (line : List ℕ) (first last : ℕ) (fault : FieldFault) → IsBadField line first last NumberOrNone fault
     → number_or_none_at first last line ≡ Err fault
 number_or_none_fault_only line first last fault h =
     fails_reported _ _ (number_or_none_at first last line) (value_found line first last NumberOrNone) (number_or_none_reported first last line)
     (λ f g a b. a ∙ sym b) fault h.none_spelled h.reported
 
-pair_or_none_fault_only : (line : List ℕ) (first : ℕ) (fault : FieldFault) → IsPairOrNoneFault line first fault
+pair_or_none_fault_only : (line : List ℕ) (first last : ℕ) (fault : FieldFault) → IsBadField line first last PairOrNone fault
     → point_or_none_at first line ≡ Err fault
-pair_or_none_fault_only line first fault h =
-    fails_reported _ _ (point_or_none_at first line) (value_found line first 0 PairOrNone) (point_or_none_reported line first)
+pair_or_none_fault_only line first last fault h =
+    fails_reported _ _ (point_or_none_at first line) (value_found line first last PairOrNone) (point_or_none_reported line first)
     (one_reported line first) fault h.none_spelled h.reported
 
 -- if the field is at fault, reading fails with its fault
@@ -75,16 +75,17 @@ value_fault_only line first last NumberOrNone fault h = number_or_none_fault_onl
 value_fault_only line first last Pair fault h =
     fails_reported _ _ (point_at first line) (value_found line first last Pair) (point_reported line first)
     (one_reported line first) fault h.none_spelled h.reported
-value_fault_only line first last PairOrNone fault h = pair_or_none_fault_only line first fault h
+value_fault_only line first last PairOrNone fault h = pair_or_none_fault_only line first last fault h
 value_fault_only line first last NumberPlaces fault h =
     places_fault_only (λ column. number_or_none_at column (column + 7) line) (SpellsNumberPlace line)
-    (λ column. IsNumberOrNoneFault line column (column + 7)) (λ column. number_or_none_at_only column (column + 7) line)
+    (λ column. IsBadField line column (column + 7) NumberOrNone) (λ column. number_or_none_at_only column (column + 7) line)
     (λ column. number_or_none_fault_only line column (column + 7)) 8 5 first fault h
 value_fault_only line first last PointPlaces fault h =
-    places_fault_only (λ column. point_or_none_at column line) (SpellsPointPlace line) (IsPairOrNoneFault line)
-    (λ column. point_or_none_at_only column line) (pair_or_none_fault_only line) 19 10 first fault h
-value_fault_only line first last Opaque fault h = absurd h
-value_fault_only line first last Filler fault h = absurd h
+    places_fault_only (λ column. point_or_none_at column line) (SpellsPointPlace line)
+    (λ column. IsBadField line column (column + 18) PairOrNone) (λ column. point_or_none_at_only column line)
+    (λ column. pair_or_none_fault_only line column (column + 18)) 19 10 first fault h
+value_fault_only line first last Opaque fault h = absurd (h.none_spelled (columns first last line) refl)
+value_fault_only line first last Filler fault h = absurd (h.none_spelled tt tt)
 
 -- if reading a line fails, it fails with the leftmost fault
 pub leftmost_found : {R A : Type 0} (rows : List (Row R)) (make : Makes rows A) (line : List ℕ) (fault : FieldFault)
@@ -115,7 +116,8 @@ leftmost_found {R} {A} (row ∷ rows) make line fault h =
     ]
 
 fails_at : {R A : Type 0} (before : List (Row R)) (row : Row R) (after : List (Row R)) (make : Makes (before ++ row ∷ after) A)
-    (line : List ℕ) (fault : FieldFault) → AllByRecursion (IsWellFormed line) before → IsFieldFault line row fault
+    (line : List ℕ) (fault : FieldFault) → AllByRecursion (λ (earlier : Row R). (value : ValueOf earlier.kind) × SpellsField line earlier value) before
+    → IsValueFault line row.first row.last row.kind fault
     → rows_reading (before ++ row ∷ after) make line ≡ Err fault
 fails_at [] row after make line fault w f =
     fails_first _ _ fault (value_fault_only line row.first row.last row.kind fault f)

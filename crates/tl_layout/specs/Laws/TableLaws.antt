@@ -1,30 +1,21 @@
 -- The laws of a record type, derived from its column table.
-use Rattle.std.proofs.Common.{◌≡◌, ℕ, ◌+◌, ◌-◌, ◌≤◌, List, [], ◌∷◌, ◌++◌, length, true, Option, Some, IfSome, Ok, refl, sym, ap, ◌∙◌, subst}
-use Rattle.std.proofs.Common.{suc, arith, codes, unwrap_or, append_assoc, ◌&&◌, IsTrue, nat_eq}
-use Rattle.std.proofs.lemmas.Bool.{and_parts, eqb-true, leb-true}
-use Rattle.std.proofs.lemmas.List.{length-append}
-use Rattle.std.proofs.lemmas.List.Elements.{All-append, All-nil, All-cons}
-use Rattle.tl_layout.specs.Bytes.{is_allowed, AreAllowed, IsText, IsLine, columns}
-use Rattle.tl_layout.specs.Laws.ByteLaws.{blanks_are_text, text_2006}
-use Rattle.tl_layout.specs.Columns.{joined}
-use Rattle.tl_layout.specs.Laws.ColumnLaws.{joined-before, columns_of_text}
-use Rattle.tl_layout.specs.Numbers.{IsNumber}
-use Rattle.tl_layout.specs.Coordinates.{Coordinates, IsOnMap}
-use Rattle.tl_layout.specs.Laws.NumberTextLaws.{number_text_is_text}
-use Rattle.tl_layout.specs.FieldMeaning.{SpellsNumberPlace, SpellsPointPlace}
-use Rattle.tl_layout.specs.FieldTexts.{long_text, lat_text, number_place_text, point_place_text, value_texts, rows_texts, rows_spelling}
-use Rattle.tl_layout.specs.Laws.FieldLaws.{reads, reads_on, ok_value, number_fits, number_or_none_fits, number_again}
-use Rattle.tl_layout.specs.Laws.FieldLaws.{number_or_none_again, point_on_map, point_or_none_on_map, point_or_none_again}
-use Rattle.tl_layout.specs.Laws.FieldLaws.{long_text_is_text, lat_text_is_text}
-use Rattle.tl_layout.specs.Laws.PlaceLaws.{places_len, places_each, number_place_fits, places_text_is_text, places_again}
-use Rattle.tl_layout.specs.Laws.PlaceLaws.{number_place_again, number_place_is_text, point_place_again, point_place_is_text}
-use Rattle.tl_layout.specs.Laws.PlaceLaws.{columns_behind, two_parts, pair_of_texts}
-use Rattle.tl_layout.specs.ColumnTable.{Kind, Number, NumberOrNone, Pair, PairOrNone, NumberPlaces, PointPlaces, Opaque, Filler}
-use Rattle.tl_layout.specs.ColumnTable.{ValueOf, Row, width_of, SpellsValue, SpellsField, SpellsRows, FitsValue, FitsRows}
-use Rattle.tl_layout.specs.ColumnTable.{is_suited, is_laid_out}
-use Rattle.tl_layout.specs.TableReading.{Makes, value_reading, rows_reading}
-use Rattle.tl_layout.specs.Laws.ValueLaws.{value_found, value_only}
-use Rattle.tl_layout.specs.CoordinateReading.{within}
+use Rattle.std.proofs.Common.{IfSome, IsTrue, List, Ok, Option, Some, [], ap, append_assoc, arith, codes, length, nat_eq, refl, subst, suc}
+use Rattle.std.proofs.Common.{sym, true, unwrap_or, ℕ, ◌&&◌, ◌++◌, ◌+◌, ◌-◌, ◌∙◌, ◌∷◌, ◌≡◌, ◌≤◌}
+use Rattle.std.proofs.{lemmas.Bool.and_parts, lemmas.Bool.eqb-true, lemmas.Bool.leb-true, lemmas.List.Elements.All-append}
+use Rattle.std.proofs.{lemmas.List.Elements.All-cons, lemmas.List.Elements.All-nil, lemmas.List.length-append}
+use Rattle.tl_layout.specs.FieldTexts.{lat_text, long_text, number_place_text, point_place_text, rows_spelling, rows_texts, value_texts}
+use Rattle.tl_layout.specs.Laws.FieldLaws.{lat_text_is_text, long_text_is_text, number_again, number_fits, point_on_map, reads, reads_on}
+use Rattle.tl_layout.specs.Laws.FieldLaws.{number_or_none_again, number_or_none_fits, ok_value, point_or_none_again, point_or_none_on_map}
+use Rattle.tl_layout.specs.Laws.PlaceLaws.{columns_behind, number_place_again, number_place_fits, number_place_is_text, pair_of_texts}
+use Rattle.tl_layout.specs.Laws.PlaceLaws.{places_again, places_each, places_len, places_text_is_text, point_place_again}
+use Rattle.tl_layout.specs.Laws.PlaceLaws.{point_place_is_text, two_parts}
+use Rattle.tl_layout.specs.ColumnTable.{Filler, FitsRows, FitsValue, Kind, Number, NumberOrNone, NumberPlaces, Opaque, Pair, PairOrNone}
+use Rattle.tl_layout.specs.ColumnTable.{PointPlaces, Row, SpellsField, SpellsRows, SpellsValue, ValueOf, is_laid_out, is_suited, width_of}
+use Rattle.tl_layout.specs.{Bytes.AreAllowed, Bytes.IsLine, Bytes.IsText, Bytes.columns, Bytes.is_allowed, Numbers.IsNumber}
+use Rattle.tl_layout.specs.{Columns.joined, CoordinateReading.within, Coordinates.Coordinates, Coordinates.IsOnMap, Laws.ByteLaws.text_2006}
+use Rattle.tl_layout.specs.{FieldMeaning.SpellsNumberPlace, Laws.ColumnLaws.columns_of_text, Laws.NumberTextLaws.number_text_is_text}
+use Rattle.tl_layout.specs.{FieldMeaning.SpellsPointPlace, Laws.ByteLaws.blanks_are_text, Laws.ColumnLaws.joined-before, TableReading.Makes}
+use Rattle.tl_layout.specs.{Laws.ValueLaws.value_found, Laws.ValueLaws.value_only, TableReading.rows_reading, TableReading.value_reading}
 
 -- ---- the values of a record
 

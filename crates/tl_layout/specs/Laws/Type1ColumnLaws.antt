@@ -1,28 +1,16 @@
 -- The content of record type 1 and its columns determine each other.
-use Rattle.std.proofs.Common.{◌≡◌, ℕ, ◌+◌, ◌≤◌, List, [], ◌∷◌, ◌++◌, length, drop, take, get_or, refl, sym, ap, ◌∙◌, arith, append_assoc, codes}
-use Rattle.std.proofs.Common.{Ok, pos, subst, lit≤}
+use Rattle.std.proofs.Common.{List, Ok, [], ap, append_assoc, arith, codes, drop, get_or, length, lit≤, pos, refl, subst, sym, take, ℕ}
+use Rattle.std.proofs.Common.{◌++◌, ◌+◌, ◌∙◌, ◌∷◌, ◌≡◌, ◌≤◌}
 use Rattle.std.proofs.lemmas.List.{length-append}
-use Rattle.tl_layout.specs.Bytes.{IsText, columns}
-use Rattle.tl_layout.specs.Laws.ColumnLaws.{joined-before, columns_of_text, part_of_text}
-use Rattle.tl_layout.specs.Columns.{joined}
-use Rattle.tl_layout.specs.Laws.CoordinateLaws.{coordinate_text_is_text}
-use Rattle.tl_layout.specs.Coordinates.{Coordinates, IsOnMap}
-use Rattle.tl_layout.specs.Laws.FieldLaws.{reads, ok_value}
-use Rattle.tl_layout.specs.FieldReading.{number_at, point_at}
-use Rattle.tl_layout.specs.FieldTexts.{number_text}
-use Rattle.tl_layout.specs.Fields.{Fields1}
-use Rattle.tl_layout.specs.Laws.NumberTextLaws.{number_text_is_text}
-use Rattle.tl_layout.specs.Laws.PieceLaws.{pieces_join, pieces_of_part}
-use Rattle.tl_layout.specs.Pieces.{pieces_from}
-use Rattle.tl_layout.specs.Laws.PlaceLaws.{columns_behind, pair_of_texts}
-use Rattle.tl_layout.specs.RecordTables.{rtype_1}
-use Rattle.tl_layout.specs.RecordTypes.{Type1, FitsFields, fields_spelling, make_of, reading_of}
-use Rattle.tl_layout.specs.Type1.{type_1_short_reading}
-use Rattle.tl_layout.specs.Type1Columns.{body_1_of, body_1_text}
+use Rattle.tl_layout.specs.Laws.ColumnLaws.{columns_of_text, joined-before, part_of_text}
+use Rattle.tl_layout.specs.RecordTypes.{FitsFields, Type1, byte_of, fields_spelling, make_of, reading_of}
 use Rattle.tl_layout.specs.Type1Groups.{FitsBody1, body_1_at, body_1_texts, entities_at, point_texts}
-use Rattle.tl_layout.specs.Laws.Type1Laws.{type_1_fits, type_1_reading_is_short}
-use Rattle.tl_layout.specs.Laws.TypeLaws.{layout_laws}
-use Rattle.tl_layout.specs.declared.type1.fields.Body1Fields.{Body1Fields}
+use Rattle.tl_layout.specs.{Bytes.IsText, Columns.joined, FieldReading.point_at, Fields.Fields1, Laws.FieldLaws.reads, Pieces.pieces_from}
+use Rattle.tl_layout.specs.{Bytes.columns, Coordinates.Coordinates, FieldTexts.number_text, Laws.FieldLaws.ok_value, Type1Columns.body_1_of}
+use Rattle.tl_layout.specs.{Coordinates.IsOnMap, Laws.CoordinateLaws.coordinate_text_is_text, declared.type1.fields.Body1Fields.Body1Fields}
+use Rattle.tl_layout.specs.{FieldReading.number_at, Laws.PieceLaws.pieces_join, Laws.PlaceLaws.columns_behind, Laws.PlaceLaws.pair_of_texts}
+use Rattle.tl_layout.specs.{Laws.NumberTextLaws.number_text_is_text, Laws.PieceLaws.pieces_of_part, Laws.Type1Laws.type_1_reading_is_short}
+use Rattle.tl_layout.specs.{Laws.Type1Laws.type_1_fits, Laws.TypeLaws.layout_laws, Type1.type_1_short_reading, Type1Columns.body_1_text}
 
 -- the widths of the fields, from column 16 to column 190
 widths : List ℕ
@@ -149,7 +137,7 @@ three_groups before a b c =
     ∙ (append_assoc (before ++ joined [] a) (joined [] b) (joined [] c) ∙ append_assoc before (joined [] a) (joined [] b ++ joined [] c)))
 
 abbrev spelled_before : Fields1 → List ℕ
-spelled_before r = (rtype_1 ∷ codes "2006") ++ number_text 10 r.tlid
+spelled_before r = (byte_of Type1 ∷ codes "2006") ++ number_text 10 r.tlid
 
 abbrev spelled_behind : Fields1 → List ℕ
 spelled_behind r = joined [] (point_texts r.start) ++ joined [] (point_texts r.end)
@@ -164,7 +152,7 @@ point_is_text point = pair_of_texts 10 9 _ _ (coordinate_text_is_text 9 point.lo
 -- a record's content is in columns 16 to 190 of its spelling
 spelled_content : (r : Fields1) → length (fields_spelling Type1 r) ≡ 228 → columns 16 190 (fields_spelling Type1 r) ≡ body_1_text r.body
 spelled_content r l =
-    let head = length-append (rtype_1 ∷ codes "2006") (number_text 10 r.tlid) in
+    let head = length-append (byte_of Type1 ∷ codes "2006") (number_text 10 r.tlid) in
     let number = (number_text_is_text 10 r.tlid).len in
     let start = (point_is_text r.start).len in
     let end = (point_is_text r.end).len in

@@ -1,12 +1,9 @@
 -- Record type 4: FEATs that are read fit.
-use Rattle.std.proofs.Common.{◌≡◌, ℕ, List, Ok, ◌+◌, false}
+use Rattle.std.proofs.Common.{List, Ok, false, ℕ, ◌+◌, ◌≡◌}
 use Rattle.std.specs.List.{AllByRecursion}
-use Rattle.tl_layout.specs.Numbers.{IsNumber}
-use Rattle.tl_layout.specs.FieldMeaning.{SpellsNumberPlace}
 use Rattle.tl_layout.specs.FieldReading.{number_or_none_at, places_reading}
-use Rattle.tl_layout.specs.Laws.PlaceLaws.{places_each, number_place_fits}
-use Rattle.tl_layout.specs.ColumnTable.{NumberPlaces}
-use Rattle.tl_layout.specs.Laws.ValueLaws.{value_found}
+use Rattle.tl_layout.specs.Laws.PlaceLaws.{number_place_fits, places_each}
+use Rattle.tl_layout.specs.{ColumnTable.NumberPlaces, FieldMeaning.SpellsNumberPlace, Laws.ValueLaws.value_found, Numbers.IsNumber}
 
 -- FEATs that are read are in range
 pub feats_in_range : (line : List ℕ) (feats : List ℕ)

@@ -1,24 +1,20 @@
 -- For each kind of field: its columns are read as the value that they spell, and if they spell none, as the reported fault.
-use Rattle.std.proofs.Common.{◌≡◌, ℕ, zero, suc, ◌+◌, List, false, Option, Some, None, Result, Ok, Err, refl, sym, ap, ◌∙◌, subst}
-use Rattle.std.proofs.Common.{◌⊎◌, inl, inr, pos, rules}
-use Rattle.tl_layout.specs.Bytes.{columns}
-use Rattle.tl_layout.specs.NumberReading.{number_of}
-use Rattle.tl_layout.specs.CoordinateReading.{coordinate_of}
-use Rattle.tl_layout.specs.Laws.CoordinateLaws.{coordinate_found, coordinate_only, blank_found, blank_only}
-use Rattle.tl_layout.specs.Coordinates.{Coordinates, most_longitude, most_latitude}
-use Rattle.tl_layout.specs.FieldReading.{and_then, demanded, possible_number, number_at, number_or_none_at, pair_of}
-use Rattle.tl_layout.specs.FieldReading.{point_or_none_at, point_at}
-use Rattle.tl_layout.specs.FieldMeaning.{SpellsPointOrNone, SpellsNumberPlace, SpellsPointPlace}
-use Rattle.tl_layout.specs.FieldFaults.{bad_number, bad_point, IsMalformed, HasMalformedLongitude, HasMalformedLatitude, IsReportedOfPair}
-use Rattle.tl_layout.specs.Laws.FieldLaws.{ok_value, number_at_found, number_at_only, number_or_none_at_found, number_or_none_at_only}
-use Rattle.tl_layout.specs.Laws.FieldLaws.{point_or_none_at_found, point_or_none_at_only, point_at_found, point_at_only}
+use Rattle.std.proofs.Common.{Err, List, None, Ok, Option, Result, Some, ap, false, inl, inr, pos, refl, rules, subst, suc, sym, zero, ℕ}
+use Rattle.std.proofs.Common.{◌+◌, ◌∙◌, ◌≡◌, ◌⊎◌}
+use Rattle.tl_layout.specs.Laws.CoordinateLaws.{blank_found, blank_only, coordinate_found, coordinate_only}
+use Rattle.tl_layout.specs.Coordinates.{Coordinates, most_latitude, most_longitude}
+use Rattle.tl_layout.specs.FieldReading.{and_then, demanded, number_at, number_or_none_at, pair_of, point_at, point_or_none_at}
+use Rattle.tl_layout.specs.FieldReading.{possible_number}
+use Rattle.tl_layout.specs.FieldMeaning.{SpellsNumberPlace, SpellsPointOrNone, SpellsPointPlace}
+use Rattle.tl_layout.specs.FieldFaults.{HasMalformedLatitude, HasMalformedLongitude, IsMalformed, IsReportedOfPair, bad_number, bad_point}
+use Rattle.tl_layout.specs.Laws.FieldLaws.{number_at_found, number_at_only, number_or_none_at_found, number_or_none_at_only, ok_value}
+use Rattle.tl_layout.specs.Laws.FieldLaws.{point_at_found, point_at_only, point_or_none_at_found, point_or_none_at_only}
 use Rattle.tl_layout.specs.Laws.PlaceLaws.{places_found, places_only}
-use Rattle.tl_layout.specs.ColumnTable.{Kind, Number, NumberOrNone, Pair, PairOrNone, NumberPlaces, PointPlaces, Opaque, Filler}
-use Rattle.tl_layout.specs.ColumnTable.{ValueOf, SpellsValue}
-use Rattle.tl_layout.specs.TableReading.{value_reading}
-use Rattle.tl_layout.specs.declared.coordinate.Coordinate.{Coordinate}
-use Rattle.tl_layout.specs.declared.coordinate.Coordinate.TheVariants.{Malformed, Blank, Value}
-use Rattle.tl_layout.specs.declared.fault.FieldFault.{FieldFault}
+use Rattle.tl_layout.specs.ColumnTable.{Filler, Kind, Number, NumberOrNone, NumberPlaces, Opaque, Pair, PairOrNone, PointPlaces}
+use Rattle.tl_layout.specs.ColumnTable.{SpellsValue, ValueOf}
+use Rattle.tl_layout.specs.declared.coordinate.Coordinate.TheVariants.{Blank, Malformed, Value}
+use Rattle.tl_layout.specs.{Bytes.columns, CoordinateReading.coordinate_of, NumberReading.number_of, TableReading.value_reading}
+use Rattle.tl_layout.specs.{declared.coordinate.Coordinate.Coordinate, declared.fault.FieldFault.FieldFault}
 
 -- ---- reading
 

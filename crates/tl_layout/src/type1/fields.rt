@@ -1,9 +1,8 @@
 //! The fields of a record of type 1 other than its TLID and its points, in groups, and their columns in a line.
 
-ghost use Rattle.std.specs.Prelude.{◌≡◌, ◌≤◌, length, take};
-ghost use Rattle.tl_layout.specs.Bytes.{AreAllowed};
-ghost use Rattle.tl_layout.specs.Columns.{joined};
-ghost use Rattle.tl_layout.specs.Type1Groups.{FitsEntities, entities_at, entities_texts, FitsBody1, body_1_at, body_1_texts};
+ghost use Rattle.std.specs.Prelude.{length, take, ◌≡◌, ◌≤◌};
+ghost use Rattle.tl_layout.specs.Type1Groups.{FitsBody1, FitsEntities, body_1_at, body_1_texts, entities_at, entities_texts};
+ghost use Rattle.tl_layout.specs.{Bytes.AreAllowed, Columns.joined};
 
 use crate::field::text_at;
 use crate::name::FeatureName;

@@ -1,15 +1,11 @@
 //! How a loader judges the next line: it keeps and counts the line's record, or reports the line's fault.
 
-ghost use Rattle.std.specs.Prelude.{◌≡◌, ◌≤◌, ◌<◌, ◌+◌, [], ◌∷◌, length, take, Err, IfOk, IfErr, OnOk, IsTrue, false};
+ghost use Rattle.std.specs.Prelude.{Err, IfErr, IfOk, IsTrue, OnOk, [], false, length, take, ◌+◌, ◌<◌, ◌∷◌, ◌≡◌, ◌≤◌};
 ghost use Rattle.std.specs.Result.{IsErr};
 ghost use Rattle.tl_layout.specs.Bytes.{AreAllowed, longest_line};
-ghost use Rattle.tl_load.specs.Choice.{judged, as_record};
-ghost use Rattle.tl_load.specs.declared.fault.LineFault.TheVariants.{UnknownType};
-ghost use Rattle.tl_load.specs.declared.fault.LoadFault.TheVariants.{Memory};
-ghost use Rattle.tl_load.specs.Keeping.{IsSamePart, Lifts, total};
-ghost use Rattle.tl_load.specs.LineOf.{judged_as};
-ghost use Rattle.tl_load.specs.Loaded.{IsNotDevice};
-ghost use Rattle.tl_load.specs.Steps.{Judges, JudgesAs, KeepsUnread, Adds};
+ghost use Rattle.tl_load.specs.{Choice.as_record, Choice.judged, Keeping.IsSamePart, Keeping.Lifts, Keeping.total, LineOf.judged_as};
+ghost use Rattle.tl_load.specs.{Loaded.IsNotDevice, Steps.Adds, Steps.Judges, Steps.JudgesAs, Steps.KeepsUnread};
+ghost use Rattle.tl_load.specs.{declared.fault.LineFault.TheVariants.UnknownType, declared.fault.LoadFault.TheVariants.Memory};
 
 use crate::collector::Collector;
 use crate::fault::{LineFault, LoadFault};

@@ -1,9 +1,6 @@
-use Rattle.std.proofs.Common.{◌≡◌, ap, sym, ◌∙◌, refl, arith}
-use Rattle.std.proofs.lemmas.List.{take_all}
+use Rattle.canonical_lines.proofs.Common.{ap, arith, drop_blanks, refl, sym, take_all, two_and_eight, ◌∙◌, ◌≡◌}
 use Rattle.canonical_lines.proofs.NumberTexts.{plain_text_of}
 use Rattle.canonical_lines.proofs.number.is_number_or_none.Goals as goal
-use Rattle.tl_layout.proofs.CoordinateSteps.{two_and_eight}
-use Rattle.tl_layout.specs.NumberReading.{drop_blanks}
 use lib.Lanes.{chunk}
 
 pub returns-in-8 : goal.returns-in-8

@@ -1,5 +1,4 @@
-use Rattle.std.proofs.Common.{arith, inl, inr}
-use Rattle.canonical_lines.proofs.NumberTexts.{plain_text_of, is_empty}
+use Rattle.canonical_lines.proofs.{Common.arith, Common.inl, Common.inr, NumberTexts.is_empty, NumberTexts.plain_text_of}
 use Rattle.canonical_lines.proofs.number.is_plain.Goals as goal
 
 pub returns-in-empty : goal.returns-in-empty

@@ -1,11 +1,9 @@
-use Rattle.std.proofs.Common.{◌≡◌, ◌+◌, ◌<◌, ◌^◌, ℕ, length, eqb, ltb, bit_and, ap, sym, ◌∙◌, arith, lit≤, w8}
-use Rattle.std.proofs.lemmas.Bool.{eqb-true}
-use Rattle.std.proofs.lemmas.Simd.{bitmask_splat, Each1-get_or}
+use Rattle.canonical_lines.proofs.Common.{Each1-get_or, ap, arith, bit_and, bitmask_splat, eqb, eqb-true, is_blank, length, lit≤, ltb, sym}
+use Rattle.canonical_lines.proofs.Common.{w8, ℕ, ◌+◌, ◌<◌, ◌^◌, ◌∙◌, ◌≡◌}
+use Rattle.canonical_lines.proofs.Masks.{above_zero, above_zero_len, above_zero_mask, blanks_of, digits_of, in_common, is_low, masks_low}
+use Rattle.canonical_lines.proofs.Masks.{right_justified, zeros_of}
 use mir.Val.{Fits}
-use Rattle.canonical_lines.proofs.Masks.{above_zero, above_zero_len, above_zero_mask, blanks_of, digits_of, zeros_of, is_low, masks_low}
-use Rattle.canonical_lines.proofs.Masks.{in_common, right_justified}
 use Rattle.canonical_lines.proofs.number.is_right_justified.Goals as goal
-use Rattle.tl_layout.specs.NumberField.{is_blank}
 
 pub overflow_add-blanks : goal.overflow_add-blanks
 overflow_add-blanks c =

@@ -1,5 +1,4 @@
-use Rattle.std.proofs.Common.{◌≡◌, ◌-◌, ◌*◌, ℕ, drop, arith, false, refl, subst}
-use Rattle.std.proofs.lemmas.List.{drop_all}
+use Rattle.canonical_lines.proofs.Common.{arith, drop, drop_all, false, refl, subst, ℕ, ◌*◌, ◌-◌, ◌≡◌}
 use Rattle.canonical_lines.proofs.PlaceSteps.{ArePlaces, no_places, unused_at, used_at}
 use Rattle.canonical_lines.proofs.places.are_places.Goals as goal
 

@@ -1,10 +1,8 @@
-use Rattle.std.proofs.Common.{◌≡◌, ◌+◌, ◌-◌, ◌%◌, ◌^◌, ◌<◌, ℕ, length, map, replicate, get_or, ltb, sym, ap, ◌∙◌, lit≤, w8, true}
-use Rattle.std.proofs.lemmas.Bool.{eqb-true}
-use Rattle.std.proofs.lemmas.Simd.{bitmask_splat, length-zip2, zip2_splat, map-map, Each1-get_or}
-use mir.Val.{Fits}
+use Rattle.canonical_lines.proofs.Common.{Each1-get_or, ap, bitmask_splat, digit_from, eqb-true, full_mask, get_or, is_digit, length}
+use Rattle.canonical_lines.proofs.Common.{length-zip2, lit≤, ltb, map, map-map, replicate, sym, true, w8, zip2_splat, ℕ, ◌%◌, ◌+◌, ◌-◌, ◌<◌}
+use Rattle.canonical_lines.proofs.Common.{◌^◌, ◌∙◌, ◌≡◌}
 use Rattle.canonical_lines.proofs.PointTexts.{all_at}
-use Rattle.tl_layout.proofs.Words.{full_mask, digit_from}
-use Rattle.tl_layout.specs.NumberField.{is_digit}
+use mir.Val.{Fits}
 use lib.Lanes.{mask_l, zip2}
 use Rattle.canonical_lines.proofs.point.are_digits.Goals as goal
 

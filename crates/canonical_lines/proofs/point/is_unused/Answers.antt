@@ -1,8 +1,6 @@
-use Rattle.std.proofs.Common.{List, ℕ, get_or, eqb, ap, sym, ◌∙◌}
-use Rattle.canonical_lines.proofs.point.is_unused.Goals as goal
-use Rattle.canonical_lines.specs.declared.point.TheConstants.{UNUSED}
-use Rattle.tl_layout.proofs.PlaceSteps.{same_bytes}
+use Rattle.canonical_lines.proofs.Common.{List, UNUSED, ap, eqb, get_or, same_bytes, sym, ℕ, ◌∙◌}
 use Rattle.tl_layout.specs.FieldTexts.{coordinate_text, digits_text}
+use Rattle.canonical_lines.proofs.point.is_unused.Goals as goal
 use lib.Pointwise.{pointwise}
 
 pub returns-then-columns-eq43-clause-is : goal.returns-then-columns-eq43-clause-is

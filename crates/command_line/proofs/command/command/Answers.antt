@@ -1,5 +1,4 @@
-use Rattle.command_line.proofs.Common.{◌∙◌, ap, codes, IfOk-weaker, app_of, with_subcommand, over_one_set, with_mask}
-use Rattle.command_line.specs.Grammar.{over_two_sets}
+use Rattle.command_line.proofs.Common.{IfOk-weaker, ap, app_of, codes, over_one_set, over_two_sets, with_mask, with_subcommand, ◌∙◌}
 use Rattle.command_line.proofs.AddedJobs.{job_added}
 use Rattle.command_line.proofs.command.command.Goals as goal
 

@@ -1,5 +1,4 @@
-use Rattle.command_line.proofs.Common.{◌∙◌, ap, ap₂, IfOk-weaker, with_mask}
-use Rattle.clap.specs.Words.{with_rule}
+use Rattle.command_line.proofs.Common.{IfOk-weaker, ap, ap₂, with_mask, with_rule, ◌∙◌}
 use Rattle.command_line.proofs.command.compare.Goals as goal
 
 pub returns-clause-app : goal.returns-clause-app

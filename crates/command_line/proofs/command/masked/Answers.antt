@@ -1,5 +1,4 @@
-use Rattle.command_line.proofs.Common.{◌∙◌, ap, ap₂, IfOk-weaker, app_of}
-use Rattle.clap.specs.Words.{with_rule}
+use Rattle.command_line.proofs.Common.{IfOk-weaker, ap, app_of, ap₂, with_rule, ◌∙◌}
 use Rattle.command_line.proofs.command.masked.Goals as goal
 
 pub returns-clause-app : goal.returns-clause-app

@@ -1,5 +1,4 @@
-use Rattle.command_line.proofs.Common.{map, string_bytes, subst, sym, app_of, IsPlanOf}
-use Rattle.std.specs.Prelude.{IfOk}
+use Rattle.command_line.proofs.Common.{IfOk, IsPlanOf, app_of, map, string_bytes, subst, sym}
 use Rattle.command_line.proofs.PlannedSets.{memory_alone, met_in_words, read_well}
 use Rattle.command_line.proofs.planning.plan.Goals as goal
 

@@ -1,6 +1,4 @@
-use Rattle.std.proofs.lemmas.Iterator.{items_from_collect}
-use Rattle.std.proofs.lemmas.Iterator.Adapters.{YieldsList-from_skip, YieldsList-from_vec}
-use Rattle.std.specs.Vec.Iter.{into_iter_items}
+use Rattle.command_line.proofs.Common.{YieldsList-from_skip, YieldsList-from_vec, into_iter_items, items_from_collect}
 use Rattle.command_line.proofs.words.words_of.Goals as goal
 
 pub returns : goal.returns

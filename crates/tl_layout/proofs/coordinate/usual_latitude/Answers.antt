@@ -1,7 +1,6 @@
-use Rattle.tl_layout.proofs.Common.{arith, chunk, get_or}
-use Rattle.tl_layout.proofs.CoordinateSteps.{found_is, first_and_eight}
+use Rattle.tl_layout.proofs.Common.{arith, chunk, get_or, most_latitude}
+use Rattle.tl_layout.proofs.CoordinateSteps.{first_and_eight, found_is}
 use Rattle.tl_layout.proofs.coordinate.usual_latitude.Goals as goal
-use Rattle.tl_layout.specs.Coordinates.{most_latitude}
 
 pub returns : goal.returns
 returns c =

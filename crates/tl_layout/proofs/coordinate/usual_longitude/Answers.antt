@@ -1,7 +1,6 @@
-use Rattle.tl_layout.proofs.Common.{arith, chunk, get_or, ◌∷◌}
+use Rattle.tl_layout.proofs.Common.{arith, chunk, get_or, most_longitude, ◌∷◌}
 use Rattle.tl_layout.proofs.CoordinateSteps.{found_is, two_and_eight}
 use Rattle.tl_layout.proofs.coordinate.usual_longitude.Goals as goal
-use Rattle.tl_layout.specs.Coordinates.{most_longitude}
 
 pub returns : goal.returns
 returns c =

@@ -1,5 +1,4 @@
-use Rattle.std.proofs.Common.{◌≡◌, ◌≤◌, ◌++◌, length, drop}
-use Rattle.tl_layout.specs.FieldTexts.{text_behind}
+use Rattle.tl_layout.proofs.Common.{drop, length, text_behind, ◌++◌, ◌≡◌, ◌≤◌}
 use Rattle.tl_layout.proofs.digits.put_behind.Given as goal
 
 abbrev pub invariant-loop-i : goal.invariant-loop-i

@@ -1,5 +1,4 @@
-use Rattle.std.proofs.Common.{rules, arith}
-use Rattle.tl_layout.specs.Laws.FieldLaws.{number_read_in_range}
+use Rattle.tl_layout.proofs.Common.{arith, number_read_in_range, rules}
 use Rattle.tl_layout.proofs.field.read_number_or_none.Goals as goal
 
 pub returns-in-Some-clause-in_range : goal.returns-in-Some-clause-in_range

@@ -1,5 +1,4 @@
-use Rattle.std.proofs.Common.{arith}
-use Rattle.tl_layout.specs.Laws.ColumnLaws.{columns_of_width}
+use Rattle.tl_layout.proofs.Common.{arith, columns_of_width}
 use Rattle.tl_layout.proofs.field.text_at.Goals as goal
 
 pub from_slice-requires : goal.from_slice-requires

@@ -1,8 +1,7 @@
-use Rattle.std.proofs.Common.{◌≡◌, ◌+◌, ◌-◌, ◌%◌, ◌^◌, ℕ, length, map, replicate, get_or, ltb, sym, ap, ◌∙◌, arith, lit≤, w8}
-use Rattle.std.proofs.lemmas.Bool.{eqb-true}
-use Rattle.std.proofs.lemmas.Simd.{bitmask_splat, length-zip2, zip2_splat, map-map, Each1-get_or}
+use Rattle.tl_layout.proofs.Common.{Each1-get_or, ap, arith, bitmask_splat, eqb-true, get_or, length, length-zip2, lit≤, ltb, map, map-map}
+use Rattle.tl_layout.proofs.Common.{replicate, sym, w8, zip2_splat, ℕ, ◌%◌, ◌+◌, ◌-◌, ◌^◌, ◌∙◌, ◌≡◌}
+use Rattle.tl_layout.proofs.Words.{digit_from, full_mask}
 use mir.Val.{Fits}
-use Rattle.tl_layout.proofs.Words.{full_mask, digit_from}
 use lib.Lanes.{mask_l, zip2}
 use Rattle.tl_layout.proofs.number.are_digits.Goals as goal
 

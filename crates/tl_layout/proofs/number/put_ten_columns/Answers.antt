@@ -1,6 +1,5 @@
-use Rattle.std.proofs.Common.{◌≡◌, ◌+◌, ◌/◌, ◌%◌, ◌<◌, ◌≤◌, ℕ, ◌∷◌, slice_set, length-set, ◌∙◌, ap, arith}
-use Rattle.std.proofs.lemmas.Bool.{cases_lt}
-use Rattle.tl_layout.proofs.Columns.{ten_columns_low, ten_columns_high, first_of_ten, two_then_rest}
+use Rattle.tl_layout.proofs.Common.{ap, arith, cases_lt, length-set, slice_set, ℕ, ◌%◌, ◌+◌, ◌/◌, ◌<◌, ◌∙◌, ◌∷◌, ◌≡◌, ◌≤◌}
+use Rattle.tl_layout.proofs.Columns.{first_of_ten, ten_columns_high, ten_columns_low, two_then_rest}
 use Rattle.tl_layout.proofs.number.put_ten_columns.Goals as goal
 use Rattle.tl_layout.proofs.number.put_ten_columns.Goals.{then-high-lt10, else-high-lt10}
 

@@ -1,9 +1,7 @@
-use Rattle.std.proofs.Common.{◌≡◌, ◌+◌, ◌<◌, ℕ, Option, bit_and, eqb, replicate, map, ◌∙◌, ap, sym, subst, IfSome, Some, arith, lit≤, w8}
-use Rattle.std.proofs.lemmas.List.{length-map}
-use Rattle.std.proofs.lemmas.Simd.{bitmask_splat, mask_l-lt, tops_compared, zip2_splat}
-use Rattle.tl_layout.specs.NumberField.{is_blank}
-use Rattle.tl_layout.specs.NumberReading.{number_after, number_of}
+use Rattle.tl_layout.proofs.Common.{IfSome, Option, Some, ap, arith, bit_and, bitmask_splat, eqb, length-map, lit≤, map, mask_l-lt}
+use Rattle.tl_layout.proofs.Common.{number_after, replicate, subst, sym, tops_compared, w8, zip2_splat, ℕ, ◌+◌, ◌<◌, ◌∙◌, ◌≡◌}
 use Rattle.tl_layout.proofs.Words.{gives_number, selected}
+use Rattle.tl_layout.specs.{NumberField.is_blank, NumberReading.number_of}
 use lib.Lanes.{mask_l, sel_l}
 use Rattle.tl_layout.proofs.number.right_justified.Goals as goal
 

@@ -1,8 +1,7 @@
 -- Each place was read as the reading of all places requires.
-use Rattle.std.proofs.Common.{◌≡◌, ◌≤◌, ◌+◌, ◌*◌, ◌-◌, ℕ, suc, length, false, Ok, Err, sym, ◌∙◌, ap, refl, arith}
-use Rattle.std.proofs.lemmas.List.{length_push}
-use Rattle.tl_layout.specs.FieldReading.{places_reading}
-use Rattle.tl_layout.proofs.PlaceSteps.{after_none, after_some, at_gap, at_fault, at_end, at_start, next_column, column_within}
+use Rattle.tl_layout.proofs.Common.{Err, Ok, ap, arith, false, length, length_push, places_reading, refl, suc, sym, ℕ, ◌*◌, ◌+◌, ◌-◌, ◌∙◌}
+use Rattle.tl_layout.proofs.Common.{◌≡◌, ◌≤◌}
+use Rattle.tl_layout.proofs.PlaceSteps.{after_none, after_some, at_end, at_fault, at_gap, at_start, column_within, next_column}
 use Rattle.tl_layout.proofs.place.read_places.Goals as goal
 use Rattle.tl_layout.proofs.place.read_places.Goals.{in-None, in-Some+else-unused}
 

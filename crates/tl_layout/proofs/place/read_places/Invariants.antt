@@ -1,7 +1,6 @@
 -- The items read so far, followed by those of the remaining places, are the reading of all
 -- places.
-use Rattle.std.proofs.Common.{◌≡◌, ◌≤◌, ◌+◌, ◌*◌, ℕ, length, false}
-use Rattle.tl_layout.specs.FieldReading.{places_reading}
+use Rattle.tl_layout.proofs.Common.{false, length, places_reading, ℕ, ◌*◌, ◌+◌, ◌≡◌, ◌≤◌}
 use Rattle.tl_layout.proofs.PlaceSteps.{with_front}
 use Rattle.tl_layout.proofs.place.read_places.Given as goal
 

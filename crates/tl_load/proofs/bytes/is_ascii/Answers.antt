@@ -1,6 +1,5 @@
-use Rattle.std.proofs.Common.{◌≡◌, length, map, ltb, sym, ◌∙◌, lit≤, inl, inr, arith, w8}
-use Rattle.tl_load.proofs.Common.{bitmask_splat, cases_lt, eqb-true, mask_l}
-use Rattle.tl_load.proofs.Lanes.{allowed_at_each, each_of_selected, each_of_empty_mask}
+use Rattle.tl_load.proofs.Common.{arith, bitmask_splat, cases_lt, eqb-true, inl, inr, length, lit≤, ltb, map, mask_l, sym, w8, ◌∙◌, ◌≡◌}
+use Rattle.tl_load.proofs.Lanes.{allowed_at_each, each_of_empty_mask, each_of_selected}
 use Rattle.tl_load.proofs.bytes.is_ascii.Goals as goal
 
 pub loop-at-preserved : goal.loop-at-preserved

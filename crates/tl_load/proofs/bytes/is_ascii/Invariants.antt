@@ -1,5 +1,4 @@
-use Rattle.std.proofs.Common.{◌≡◌, ℕ, ◌+◌, ◌<◌, ◌≤◌, ◌-◌, true, get_or}
-use Rattle.tl_load.proofs.Common.{Each1, is_allowed}
+use Rattle.tl_load.proofs.Common.{Each1, get_or, is_allowed, true, ℕ, ◌+◌, ◌-◌, ◌<◌, ◌≡◌, ◌≤◌}
 use Rattle.tl_load.proofs.bytes.is_ascii.Given as goal
 
 -- if no lane is below 0xA1, the bytes before this position and the last 16 are clean

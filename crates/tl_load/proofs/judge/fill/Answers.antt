@@ -1,5 +1,4 @@
-use Rattle.std.proofs.Common.{refl}
-use Rattle.std.proofs.lemmas.List.{drop-replicate}
+use Rattle.tl_load.proofs.Common.{drop-replicate, refl}
 use Rattle.tl_load.proofs.judge.fill.Goals as goal
 
 pub returns : goal.returns

@@ -1,5 +1,4 @@
-use Rattle.std.proofs.Common.{rules}
-use Rattle.tl_load.proofs.Views.{ends_clean}
+use Rattle.tl_load.proofs.{Common.rules, Views.ends_clean}
 use Rattle.tl_load.proofs.line.end_at_length.Goals as goal
 
 pub returns-then-is_ascii : goal.returns-then-is_ascii

@@ -1,7 +1,6 @@
-use Rattle.std.proofs.Common.{sym, subst}
-use Rattle.tl_shape.specs.Chain.{Chain}
-use Rattle.tl_shape.specs.Turned.{IsTurned, turned}
-use Rattle.tl_shape.specs.TurnLaws.{turned-turned, turned_from_relation, relation_of_turned}
+use Rattle.tl_layout.proofs.Common.{subst, sym}
+use Rattle.tl_shape.specs.TurnLaws.{relation_of_turned, turned-turned, turned_from_relation}
+use Rattle.tl_shape.specs.{Chain.Chain, Turned.IsTurned, Turned.turned}
 use Rattle.tl_shape.proofs.laws.each_chain_has_one_turned_chain.Goals as goal
 
 pub returns-clause-back : goal.returns-clause-back

@@ -1,6 +1,4 @@
-use Rattle.std.proofs.Common.{refl}
-use Rattle.canonical_lines.proofs.RowLaws.{tested_is_spelt}
-use Rattle.tl_layout.specs.RecordTypes.{Type1}
+use Rattle.canonical_lines.proofs.{Common.Type1, Common.refl, RowLaws.tested_is_spelt}
 use Rattle.canonical_lines.proofs.canonical.Rec1Canonical.is_canonical.Goals as goal
 
 pub returns-then-is_point : goal.returns-then-is_point

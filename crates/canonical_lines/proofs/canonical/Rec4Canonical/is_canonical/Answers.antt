@@ -1,6 +1,4 @@
-use Rattle.std.proofs.Common.{refl}
-use Rattle.canonical_lines.proofs.RowLaws.{tested_is_spelt}
-use Rattle.tl_layout.specs.RecordTypes.{Type4}
+use Rattle.canonical_lines.proofs.{Common.Type4, Common.refl, RowLaws.tested_is_spelt}
 use Rattle.canonical_lines.proofs.canonical.Rec4Canonical.is_canonical.Goals as goal
 
 pub returns-then-is_number : goal.returns-then-is_number

@@ -1,5 +1,4 @@
-use Rattle.canonical_lines.proofs.RowLaws.{tested_is_spelt}
-use Rattle.tl_layout.specs.RecordTypes.{Type5}
+use Rattle.canonical_lines.proofs.{Common.Type5, RowLaws.tested_is_spelt}
 use Rattle.canonical_lines.proofs.canonical.Rec5Canonical.is_canonical.Goals as goal
 
 pub returns : goal.returns

@@ -1,6 +1,4 @@
-use Rattle.std.proofs.Common.{sym}
-use Rattle.canonical_lines.proofs.RowLaws.{tested_is_spelt}
-use Rattle.tl_layout.specs.RecordTypes.{Type8}
+use Rattle.canonical_lines.proofs.{Common.Type8, Common.sym, RowLaws.tested_is_spelt}
 use Rattle.canonical_lines.proofs.canonical.Rec8Canonical.is_canonical.Goals as goal
 
 pub returns-then-is_number : goal.returns-then-is_number

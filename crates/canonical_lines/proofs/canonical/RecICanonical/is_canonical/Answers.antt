@@ -1,6 +1,4 @@
-use Rattle.std.proofs.Common.{refl}
-use Rattle.canonical_lines.proofs.RowLaws.{tested_is_spelt}
-use Rattle.tl_layout.specs.RecordTypes.{TypeI}
+use Rattle.canonical_lines.proofs.{Common.TypeI, Common.refl, RowLaws.tested_is_spelt}
 use Rattle.canonical_lines.proofs.canonical.RecICanonical.is_canonical.Goals as goal
 
 pub returns-then-are_numbers_or_none : goal.returns-then-are_numbers_or_none

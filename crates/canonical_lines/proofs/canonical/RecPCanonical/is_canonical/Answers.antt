@@ -1,5 +1,4 @@
-use Rattle.canonical_lines.proofs.RowLaws.{tested_is_spelt}
-use Rattle.tl_layout.specs.RecordTypes.{TypeP}
+use Rattle.canonical_lines.proofs.{Common.TypeP, RowLaws.tested_is_spelt}
 use Rattle.canonical_lines.proofs.canonical.RecPCanonical.is_canonical.Goals as goal
 
 pub returns-then-is_number : goal.returns-then-is_number

@@ -1,6 +1,4 @@
-use Rattle.std.proofs.lemmas.List.Elements.{All-push}
-use Rattle.tl_layout.specs.RecordText.{FitsRecord}
-use Rattle.tl_layout.proofs.TableSteps.{holds_with}
+use Rattle.tl_layout.proofs.{Common.All-push, Common.FitsRecord, TableSteps.holds_with}
 use Rattle.tl_layout.proofs.tables.Tables.of.Goals as goal
 
 pub loop-record-preserved : goal.loop-record-preserved

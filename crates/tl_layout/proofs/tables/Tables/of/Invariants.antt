@@ -1,6 +1,4 @@
-use Rattle.std.proofs.Common.{All}
-use Rattle.tl_layout.specs.RecordText.{FitsRecord}
-use Rattle.tl_layout.specs.Tables.{HoldsByType}
+use Rattle.tl_layout.proofs.Common.{All, FitsRecord, HoldsByType}
 use Rattle.tl_layout.proofs.tables.Tables.of.Given as goal
 
 -- the tables hold the records so far, and each of these fits

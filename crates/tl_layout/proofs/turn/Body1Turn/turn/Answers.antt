@@ -1,14 +1,8 @@
 -- The turned content was written after fifteen blanks, and those columns are kept.
-use Rattle.tl_layout.proofs.Common.{ap, arith, body_1_texts, subst, sym, whole, ◌∙◌}
+use Rattle.tl_layout.proofs.Common.{AreAllowed, ap, arith, blanks, blanks_are_text, body_1_at, body_1_texts, body_turned_fits}
+use Rattle.tl_layout.proofs.Common.{columns_are_text, fields_again, joined-before, pair_of_texts, subst, sym, turned_body, ◌∙◌}
+use Rattle.tl_layout.proofs.Writes.{whole}
 use Rattle.tl_layout.proofs.turn.Body1Turn.turn.Goals as goal
-use Rattle.tl_layout.specs.Laws.ByteLaws.{blanks_are_text}
-use Rattle.tl_layout.specs.Bytes.{AreAllowed, blanks}
-use Rattle.tl_layout.specs.Laws.ColumnLaws.{joined-before}
-use Rattle.tl_layout.specs.Laws.PlaceLaws.{pair_of_texts}
-use Rattle.tl_layout.specs.Turned.{turned_body}
-use Rattle.tl_layout.specs.Laws.TurnedFits.{body_turned_fits}
-use Rattle.tl_layout.specs.Laws.Type1ColumnLaws.{columns_are_text, fields_again}
-use Rattle.tl_layout.specs.Type1Groups.{body_1_at}
 
 pub at-requires-clause-allowed : goal.at-requires-clause-allowed
 at-requires-clause-allowed c =

@@ -1,6 +1,5 @@
 -- One point was written after the other.
-use Rattle.tl_layout.proofs.Common.{arith, group_behind, refl, whole}
-use Rattle.tl_layout.specs.Type1Groups.{point_texts}
+use Rattle.tl_layout.proofs.{Common.arith, Common.point_texts, Common.refl, Writes.group_behind, Writes.whole}
 use Rattle.tl_layout.proofs.type1.Rec1.put_points.Goals as goal
 
 pub returns : goal.returns

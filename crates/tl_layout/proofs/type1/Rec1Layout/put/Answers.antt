@@ -1,8 +1,7 @@
 -- The content was written after the number, and the points after both.
-use Rattle.tl_layout.proofs.Common.{ap, body_1_texts, group_behind, ◌∙◌}
-use Rattle.tl_layout.specs.Columns.{joined}
-use Rattle.tl_layout.specs.RecordTypes.{Type1, fields_spelling}
-use Rattle.tl_layout.specs.Type1Groups.{point_texts}
+use Rattle.tl_layout.proofs.Common.{Type1, ap, body_1_texts, joined, point_texts, ◌∙◌}
+use Rattle.tl_layout.proofs.Writes.{group_behind}
+use Rattle.tl_layout.specs.RecordTypes.{fields_spelling}
 use Rattle.tl_layout.proofs.type1.Rec1Layout.put.Goals as goal
 
 pub returns-clause-spelling : goal.returns-clause-spelling

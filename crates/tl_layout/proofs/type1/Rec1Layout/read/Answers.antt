@@ -1,5 +1,4 @@
-use Rattle.std.proofs.Common.{refl}
-use Rattle.tl_layout.specs.Laws.Type1Laws.{type_1_reading_is_short}
+use Rattle.tl_layout.proofs.Common.{refl, type_1_reading_is_short}
 use Rattle.tl_layout.proofs.type1.Rec1Layout.read.Goals as goal
 
 pub returns : goal.returns

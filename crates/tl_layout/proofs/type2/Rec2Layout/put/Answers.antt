@@ -1,6 +1,7 @@
 -- The columns were written one after another, following the record type and the version.
-use Rattle.tl_layout.proofs.Common.{ap, arith, behind, number_text, places_text, point_place_text, refl, whole, ◌∙◌, ◌▸◌}
-use Rattle.tl_layout.specs.RecordTypes.{Type2, fields_spelling}
+use Rattle.tl_layout.proofs.Common.{Type2, ap, arith, number_text, places_text, point_place_text, refl, ◌∙◌}
+use Rattle.tl_layout.proofs.Writes.{behind, whole, ◌▸◌}
+use Rattle.tl_layout.specs.RecordTypes.{fields_spelling}
 use Rattle.tl_layout.proofs.type2.Rec2Layout.put.Goals as goal
 
 pub returns-clause-spelling : goal.returns-clause-spelling

@@ -1,7 +1,7 @@
 -- The columns were written one after another, following the record type and the version.
-use Rattle.tl_layout.proofs.Common.{ap, arith, group_behind, number_text, refl, whole, ◌∙◌, ◌▸◌}
-use Rattle.tl_layout.specs.Names.{name_texts}
-use Rattle.tl_layout.specs.RecordTypes.{Type5, fields_spelling}
+use Rattle.tl_layout.proofs.Common.{Type5, ap, arith, name_texts, number_text, refl, ◌∙◌}
+use Rattle.tl_layout.proofs.Writes.{group_behind, whole, ◌▸◌}
+use Rattle.tl_layout.specs.RecordTypes.{fields_spelling}
 use Rattle.tl_layout.proofs.type5.Rec5Layout.put.Goals as goal
 
 pub returns-clause-spelling : goal.returns-clause-spelling

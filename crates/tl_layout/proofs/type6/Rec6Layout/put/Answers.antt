@@ -1,7 +1,7 @@
 -- The columns were written one after another, following the record type and the version.
-use Rattle.tl_layout.proofs.Common.{ap, arith, group_behind, number_text, refl, whole, ◌∙◌, ◌▸◌}
-use Rattle.tl_layout.specs.AddressRanges.{ranges_texts}
-use Rattle.tl_layout.specs.RecordTypes.{Type6, fields_spelling}
+use Rattle.tl_layout.proofs.Common.{Type6, ap, arith, number_text, ranges_texts, refl, ◌∙◌}
+use Rattle.tl_layout.proofs.Writes.{group_behind, whole, ◌▸◌}
+use Rattle.tl_layout.specs.RecordTypes.{fields_spelling}
 use Rattle.tl_layout.proofs.type6.Rec6Layout.put.Goals as goal
 
 pub returns-clause-spelling : goal.returns-clause-spelling

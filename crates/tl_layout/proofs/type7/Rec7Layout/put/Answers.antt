@@ -1,7 +1,7 @@
 -- The columns were written one after another, following the record type and the version.
-use Rattle.tl_layout.proofs.Common.{[], ap, arith, group_behind, refl, whole, ◌∙◌, ◌∷◌, ◌▸◌}
-use Rattle.tl_layout.specs.FieldTexts.{long_text, lat_text}
-use Rattle.tl_layout.specs.RecordTypes.{Type7, fields_spelling}
+use Rattle.tl_layout.proofs.Common.{Type7, [], ap, arith, lat_text, long_text, refl, ◌∙◌, ◌∷◌}
+use Rattle.tl_layout.proofs.Writes.{group_behind, whole, ◌▸◌}
+use Rattle.tl_layout.specs.RecordTypes.{fields_spelling}
 use Rattle.tl_layout.proofs.type7.Rec7Layout.put.Goals as goal
 
 pub returns-clause-spelling : goal.returns-clause-spelling

@@ -1,6 +1,7 @@
 -- The columns were written one after another, following the record type and the version.
-use Rattle.tl_layout.proofs.Common.{ap, arith, refl, whole, ◌∙◌, ◌▸◌}
-use Rattle.tl_layout.specs.RecordTypes.{Type8, fields_spelling}
+use Rattle.tl_layout.proofs.Common.{Type8, ap, arith, refl, ◌∙◌}
+use Rattle.tl_layout.proofs.Writes.{whole, ◌▸◌}
+use Rattle.tl_layout.specs.RecordTypes.{fields_spelling}
 use Rattle.tl_layout.proofs.type8.Rec8Layout.put.Goals as goal
 
 pub returns-clause-spelling : goal.returns-clause-spelling

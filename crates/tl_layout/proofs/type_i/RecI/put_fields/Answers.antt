@@ -1,6 +1,6 @@
 -- The columns were written one after another, following the record type and the version.
-use Rattle.tl_layout.proofs.Common.{ap, arith, behind, number_text, refl, whole, ◌∙◌, ◌▸◌}
-use Rattle.std.proofs.Common.{unwrap_or}
+use Rattle.tl_layout.proofs.Common.{ap, arith, number_text, refl, unwrap_or, ◌∙◌}
+use Rattle.tl_layout.proofs.Writes.{behind, whole, ◌▸◌}
 use Rattle.tl_layout.specs.RecordTypes.{fields_spelling}
 use Rattle.tl_layout.proofs.type_i.RecI.put_fields.Goals as goal
 

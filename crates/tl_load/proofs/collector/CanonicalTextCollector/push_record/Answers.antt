@@ -1,6 +1,4 @@
-use Rattle.std.proofs.Common.{rules, ◌≡◌, ℕ, List, [], ◌∷◌, ◌++◌, Result, Ok, Err}
-use Rattle.tl_load.proofs.Common.{OnOk, Record, text_of}
-use Rattle.tl_layout.specs.RecordText.{spelling_of}
+use Rattle.tl_load.proofs.Common.{Err, List, Ok, OnOk, Record, Result, [], rules, spelling_of, text_of, ℕ, ◌++◌, ◌∷◌, ◌≡◌}
 use Rattle.tl_load.proofs.TextLemmas.{text_of-snoc}
 use Rattle.tl_load.proofs.collector.CanonicalTextCollector.push_record.Goals as goal
 

@@ -1,9 +1,4 @@
-use Rattle.tl_load.proofs.Common.{OnOk, Record}
-use Rattle.std.specs.Prelude.{Result, Ok, Err}
-use Rattle.std.proofs.Common.{List, ◌∷◌, [], ◌++◌}
-use Rattle.tl_layout.specs.Tables.{HoldsByType, AddsRecord}
-use Rattle.tl_layout.specs.declared.tables.Tables.{Tables}
-use Rattle.tl_layout.proofs.TableSteps.{holds_with}
+use Rattle.tl_load.proofs.Common.{AddsRecord, Err, HoldsByType, List, Ok, OnOk, Record, Result, Tables, [], holds_with, ◌++◌, ◌∷◌}
 use Rattle.tl_load.proofs.collector.TablesCollector.push_record.Goals as goal
 
 pushed : {T E : Type 0} (r : Result T E) (before after : Tables) (records : List Record) (added : Record) → HoldsByType before records

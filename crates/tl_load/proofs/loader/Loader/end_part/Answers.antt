@@ -1,5 +1,4 @@
-use Rattle.std.proofs.Common.{rules, ℕ, List}
-use Rattle.tl_load.proofs.Common.{WasFed, WasFedInto}
+use Rattle.tl_load.proofs.Common.{List, WasFed, WasFedInto, rules, ℕ}
 use Rattle.tl_load.proofs.Listed.{holds_list, into_of, of_into}
 use Rattle.tl_load.proofs.loader.Loader.end_part.Goals as goal
 

@@ -1,5 +1,4 @@
-use Rattle.std.proofs.Common.{rules, ℕ, List, Result, Ok, Err}
-use Rattle.tl_load.proofs.Common.{IsWellAfter, LoadFault, OnOk, WasFed, WasFedInto}
+use Rattle.tl_load.proofs.Common.{Err, IsWellAfter, List, LoadFault, Ok, OnOk, Result, WasFed, WasFedInto, rules, ℕ}
 use Rattle.tl_load.proofs.Listed.{holds_list, into_of, of_into}
 use Rattle.tl_load.proofs.loader.Loader.feed.Goals as goal
 

@@ -1,7 +1,5 @@
-use Rattle.std.proofs.Common.{ℕ, List}
-use Rattle.tl_load.proofs.Common.{All, FitsRecord, SpellsWithin, WasFed, WasFedInto, all_parts, tiger}
-use Rattle.tl_load.proofs.RecordLines.{spelled_fit}
-use Rattle.tl_load.proofs.Listed.{holds_list, into_of, found_list, also}
+use Rattle.tl_load.proofs.Common.{All, FitsRecord, List, SpellsWithin, WasFed, WasFedInto, all_parts, tiger, ℕ}
+use Rattle.tl_load.proofs.{Listed.also, Listed.found_list, Listed.holds_list, Listed.into_of, RecordLines.spelled_fit}
 use Rattle.tl_load.proofs.loader.Loader.finish.Goals as goal
 
 fed : (c : goal.After-finish) (limit : ℕ) (closed : List (List ℕ)) (open_part : List ℕ) → WasFed limit c.args.self closed open_part

@@ -1,6 +1,5 @@
-use Rattle.std.proofs.Common.{◌≡◌, sym, ◌∙◌, arith}
-use Rattle.tl_load.proofs.Common.{type_of}
-use Rattle.tl_load.proofs.Counts.{type_low, adds_full, adds_below, counted_more, total_up, loader_with}
+use Rattle.tl_load.proofs.Common.{arith, sym, type_of, ◌∙◌, ◌≡◌}
+use Rattle.tl_load.proofs.Counts.{adds_below, adds_full, counted_more, loader_with, total_up, type_low}
 use Rattle.tl_load.proofs.loader_for.LoaderFor.add.Goals as goal
 
 pub bounds-self-inside-rtype : goal.bounds-self-inside-rtype

@@ -1,6 +1,5 @@
-use Rattle.std.proofs.Common.{rules, ◌≡◌, ℕ, List, [], ◌∷◌, ◌++◌}
-use Rattle.tl_load.proofs.Common.{None, Some, WasFedInto}
-use Rattle.tl_load.proofs.Histories.{fed_closed, fed_closed_standing, reported_at, with_fault_reported, stands_at}
+use Rattle.tl_load.proofs.Common.{List, None, Some, WasFedInto, [], rules, ℕ, ◌++◌, ◌∷◌, ◌≡◌}
+use Rattle.tl_load.proofs.Histories.{fed_closed, fed_closed_standing, reported_at, stands_at, with_fault_reported}
 use Rattle.tl_load.proofs.loader_for.LoaderFor.end_part.Given as given
 use Rattle.tl_load.proofs.loader_for.LoaderFor.end_part.Goals as goal
 

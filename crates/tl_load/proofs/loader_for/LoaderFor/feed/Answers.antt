@@ -1,6 +1,5 @@
-use Rattle.std.proofs.Common.{rules, ◌≡◌, ℕ, List, ◌++◌}
-use Rattle.tl_load.proofs.Common.{None, Some, WasFedInto}
-use Rattle.tl_load.proofs.Histories.{fed_piece, fed_standing, stands_at, reported_at, with_fault_reported, well_of_step}
+use Rattle.tl_load.proofs.Common.{List, None, Some, WasFedInto, rules, ℕ, ◌++◌, ◌≡◌}
+use Rattle.tl_load.proofs.Histories.{fed_piece, fed_standing, reported_at, stands_at, well_of_step, with_fault_reported}
 use Rattle.tl_load.proofs.loader_for.LoaderFor.feed.Given as given
 use Rattle.tl_load.proofs.loader_for.LoaderFor.feed.Goals as goal
 

@@ -1,8 +1,5 @@
-use Rattle.std.proofs.Common.{◌+◌, Err, refl, sym, ap, ◌∙◌, subst}
-use Rattle.tl_load.proofs.Common.{after_verdict, as_record, seen, tiger}
-use Rattle.tl_load.proofs.Steps.{place_not_device}
-use Rattle.tl_load.proofs.TextLemmas.{judged_full_line, judged_fault_line}
-use Rattle.tl_load.specs.Steps.{JudgesAs}
+use Rattle.tl_load.proofs.Common.{Err, JudgesAs, after_verdict, ap, as_record, refl, seen, subst, sym, tiger, ◌+◌, ◌∙◌}
+use Rattle.tl_load.proofs.{Steps.place_not_device, TextLemmas.judged_fault_line, TextLemmas.judged_full_line}
 use Rattle.tl_load.proofs.loader_for.LoaderFor.read_as.Goals as goal
 
 pub returns-in-Ok-clause-judges : goal.returns-in-Ok-clause-judges

@@ -1,9 +1,7 @@
-use Rattle.std.proofs.Common.{◌≡◌, ◌<◌, ◌≤◌, ℕ, ◌+◌, ◌-◌, List, ◌++◌, length, take, drop, arith, refl, sym, ap, ◌∙◌, append_assoc, false}
-use Rattle.tl_load.proofs.Common.{most_unfinished, longest_line, Loaded, is_line_feed, length-append, length-drop, length-take, seen}
-use Rattle.tl_load.proofs.Common.{take-append-drop}
-use Rattle.std.proofs.lemmas.List.Elements.{All-append}
-use Rattle.tl_load.proofs.Steps.{refuses}
-use Rattle.tl_load.proofs.Views.{opened, on_ok_of}
+use Rattle.tl_load.proofs.Common.{All-append, List, Loaded, ap, append_assoc, arith, drop, false, is_line_feed, length, length-append}
+use Rattle.tl_load.proofs.Common.{length-drop, length-take, longest_line, most_unfinished, refl, seen, sym, take, take-append-drop, ℕ, ◌++◌}
+use Rattle.tl_load.proofs.Common.{◌+◌, ◌-◌, ◌<◌, ◌∙◌, ◌≡◌, ◌≤◌}
+use Rattle.tl_load.proofs.{Steps.refuses, Views.on_ok_of, Views.opened}
 use Rattle.tl_load.proofs.loader_for.LoaderFor.refuse_long.Goals as goal
 
 pub returns-clause-takes : goal.returns-clause-takes

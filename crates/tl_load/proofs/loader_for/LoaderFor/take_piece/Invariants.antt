@@ -1,6 +1,4 @@
-use Rattle.std.proofs.Common.{◌+◌, ◌≤◌, length, Ok}
-use Rattle.tl_load.proofs.Common.{IsSamePart, Lifts, bytes_used}
-use Rattle.tl_load.specs.Steps.{LeavesRestOnOk}
+use Rattle.tl_load.proofs.Common.{IsSamePart, LeavesRestOnOk, Lifts, Ok, bytes_used, length, ◌+◌, ◌≤◌}
 use Rattle.tl_load.proofs.loader_for.LoaderFor.take_piece.Given as goal
 
 abbrev pub invariant-loop-end : goal.invariant-loop-end

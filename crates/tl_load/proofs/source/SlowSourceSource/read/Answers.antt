@@ -1,6 +1,4 @@
-use Rattle.std.proofs.Common.{rules, ◌≡◌, ℕ, ◌≤◌, List, ◌++◌, length, take, drop}
-use Rattle.tl_load.proofs.Common.{length-take, take-append-drop}
-use Rattle.std.proofs.lemmas.List.{take_at, drop_all}
+use Rattle.tl_load.proofs.Common.{List, drop, drop_all, length, length-take, rules, take, take-append-drop, take_at, ℕ, ◌++◌, ◌≡◌, ◌≤◌}
 use Rattle.tl_load.proofs.source.SlowSourceSource.read.Goals as goal
 
 -- the bytes that were copied, and the rest

@@ -1,10 +1,7 @@
 -- The columns were written after fifteen blanks, and the fields are read from there.
-use Rattle.tl_layout.proofs.Common.{ap, arith, subst, sym, whole, ◌∙◌}
+use Rattle.tl_layout.proofs.Common.{AreAllowed, ap, arith, blanks_are_text, body_1_at, pair_of_texts, subst, sym, ◌∙◌}
+use Rattle.tl_layout.proofs.Writes.{whole}
 use Rattle.tl_layout.proofs.type1.body.Body1.fields.Goals as goal
-use Rattle.tl_layout.specs.Laws.ByteLaws.{blanks_are_text}
-use Rattle.tl_layout.specs.Bytes.{AreAllowed}
-use Rattle.tl_layout.specs.Laws.PlaceLaws.{pair_of_texts}
-use Rattle.tl_layout.specs.Type1Groups.{body_1_at}
 
 pub at-requires-clause-allowed : goal.at-requires-clause-allowed
 at-requires-clause-allowed c =

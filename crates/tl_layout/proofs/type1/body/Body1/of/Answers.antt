@@ -1,11 +1,8 @@
 -- The fields were written after fifteen blanks, and the columns after these are kept.
-use Rattle.tl_layout.proofs.Common.{List, ap, arith, body_1_texts, drop, take, whole, ℕ, ◌∙◌, ◌≡◌}
-use Rattle.std.proofs.lemmas.List.{take_all}
+use Rattle.tl_layout.proofs.Common.{List, ap, arith, blanks, body_1_of, body_1_text, body_1_texts, columns_are_text, drop, fields_again}
+use Rattle.tl_layout.proofs.Common.{joined-before, take, take_all, ℕ, ◌∙◌, ◌≡◌}
+use Rattle.tl_layout.proofs.Writes.{whole}
 use Rattle.tl_layout.proofs.type1.body.Body1.of.Goals as goal
-use Rattle.tl_layout.specs.Bytes.{blanks}
-use Rattle.tl_layout.specs.Laws.ColumnLaws.{joined-before}
-use Rattle.tl_layout.specs.Laws.Type1ColumnLaws.{columns_are_text, fields_again}
-use Rattle.tl_layout.specs.Type1Columns.{body_1_of, body_1_text}
 
 pub returns : goal.returns
 returns c =

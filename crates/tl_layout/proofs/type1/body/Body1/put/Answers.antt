@@ -1,7 +1,5 @@
 -- The columns were written after the contents so far.
-use Rattle.tl_layout.proofs.Common.{ap, body_1_texts, take, ◌∙◌}
-use Rattle.tl_layout.specs.Columns.{joined}
-use Rattle.tl_layout.specs.Laws.Type1ColumnLaws.{content_behind}
+use Rattle.tl_layout.proofs.Common.{ap, body_1_texts, content_behind, joined, take, ◌∙◌}
 use Rattle.tl_layout.proofs.type1.body.Body1.put.Goals as goal
 
 pub returns : goal.returns

@@ -1,12 +1,7 @@
 -- Contents are the same exactly if their columns are.
-use Rattle.std.proofs.Common.{rules, ap, sym, ◌∙◌}
-use Rattle.std.proofs.lemmas.Bool.Decides.{same_from_decides}
-use Rattle.std.proofs.lemmas.Slice.Eq.{slice_eq-Decides}
-use Rattle.std.specs.Cmp.{unsigned_Decides}
-use Rattle.std.specs.Cmp.Rules.{comparing}
+use Rattle.tl_layout.proofs.Common.{ap, body_1_of, body_1_text, comparing, rules, same_from_decides, slice_eq-Decides, sym, text_of_columns}
+use Rattle.tl_layout.proofs.Common.{unsigned_Decides, ◌∙◌}
 use Rattle.tl_layout.proofs.type1.body.Body1PartialEq.eq.Goals as goal
-use Rattle.tl_layout.specs.Laws.Type1ColumnLaws.{text_of_columns}
-use Rattle.tl_layout.specs.Type1Columns.{body_1_of, body_1_text}
 
 pub returns : goal.returns
 returns c =
