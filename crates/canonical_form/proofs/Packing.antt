@@ -1,4 +1,5 @@
 -- Counties packed into records.
+pub mod TypeOrder
 pub mod PackedGroups
 pub mod PackedNumbers
 pub mod PackedChains

@@ -1,16 +1,13 @@
 -- A county with the numbers of the canonical form.
-use Rattle.std.specs.Prelude.{ℕ, ◌≡◌, List, map, length, reverse, false}
-use Rattle.std.specs.List.{AllByRecursion}
-use Rattle.std.specs.Ordering.{is_gt, on}
+use Rattle.std.specs.Prelude.{List, false, length, map, reverse, ℕ, ◌≡◌}
+use Rattle.std.specs.{List.AllByRecursion, Ordering.is_gt, Ordering.on}
 use Rattle.tl_layout.specs.Coordinates.{Coordinates}
-use Rattle.tl_shape.specs.Chain.{Chain}
-use Rattle.county_chart.specs.County.{County}
-use Rattle.county_chart.specs.CountyRules.{tlids, feats, lands, polygon_keys, nodes_along, polygons_along, AllKeysStandIn}
+use Rattle.tl_shape.specs.{Chain.Chain, PointOrder.points_cmp}
+use Rattle.county_chart.specs.CountyRules.{AllKeysStandIn, feats, lands, nodes_along, polygon_keys, polygons_along, tlids}
+use Rattle.county_chart.specs.{County.County, PolygonKeys.PolygonKey}
 use Rattle.ordered_lists.specs.Orders.{IsInOrder}
-use Rattle.tl_shape.specs.PointOrder.{points_cmp}
-use Rattle.county_chart.specs.PolygonKeys.{PolygonKey}
 use Rattle.canonical_form.specs.Growth.{Grows, up_to}
-use Rattle.canonical_form.specs.Uses.{all_uses, name_key, name_key_cmp, landmark_key, landmark_key_cmp}
+use Rattle.canonical_form.specs.Uses.{all_uses, landmark_key, landmark_key_cmp, name_key, name_key_cmp}
 
 -- each POLYID has only one CENID
 abbrev pub HasOneCenidEach : List PolygonKey → Type 0

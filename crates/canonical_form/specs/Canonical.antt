@@ -1,38 +1,27 @@
 -- Canonical lists of records.
-use Rattle.std.specs.Prelude.{ℕ, ◌≡◌, ◌≤◌, List, [], ◌∷◌, map, length, false, ⊤}
-use Rattle.std.specs.Cmp.Lexicographic.{slice_cmp}
-use Rattle.std.specs.Ordering.{is_gt, nat_cmp, on, then_cmp}
-use Rattle.tl_layout.specs.declared.record_type.Record.{Record}
-use Rattle.county_chart.specs.BodyOrder.{link_cmp}
-use Rattle.tl_layout.specs.ByType.{of_type_1, of_type_2, of_type_4, of_type_5, of_type_6, of_type_7, of_type_8, of_type_i}
-use Rattle.tl_layout.specs.ByType.{of_type_p, of_number}
-use Rattle.tl_layout.specs.RecordText.{text_of}
-use Rattle.std.specs.List.{AllByRecursion}
-use Rattle.county_chart.specs.CountyRules.{tlids}
-use Rattle.county_chart.specs.Renumbering.{Renumbering, AreSame}
-use Rattle.ordered_lists.specs.Pairs.{image}
-use Rattle.county_chart.specs.County.{County, county_of, one_tlid, two_tlid, two_rtsq, four_tlid, four_rtsq, five_feat, six_tlid}
-use Rattle.county_chart.specs.County.{six_rtsq, i_tlid}
-use Rattle.county_chart.specs.LinkRules.{IsLinked}
-use Rattle.county_chart.specs.BodyOrder.{landmark_cmp}
-use Rattle.ordered_lists.specs.Orders.{IsInOrder}
-use Rattle.canonical_form.specs.Growth.{up_to}
-use Rattle.county_chart.specs.Packing.{by_type, type_after_type, p_polyid}
-use Rattle.canonical_form.specs.ArrangedCounty.{IsArranged, IsTidy}
+use Rattle.std.specs.Prelude.{List, [], false, filter, flat_map, is_some, length, map, ℕ, ⊤, ◌∷◌, ◌≡◌, ◌≤◌}
+use Rattle.std.specs.{Cmp.Lexicographic.slice_cmp, List.AllByRecursion, Ordering.is_gt, Ordering.nat_cmp, Ordering.on, Ordering.then_cmp}
+use Rattle.tl_layout.specs.RecordTypes.{Type1, Type2, Type4, Type5, Type6, Type7, Type8, TypeI, TypeP, as_type, of_type, types}
+use Rattle.tl_layout.specs.{ByType.of_number, RecordText.text_of, declared.record_type.Record.Record}
+use Rattle.county_chart.specs.{BodyOrder.landmark_cmp, BodyOrder.link_cmp, County.County, County.county_of, CountyRules.tlids}
+use Rattle.county_chart.specs.{LinkRules.IsLinked, LinkRules.rtsqs, Renumbering.AreSame, Renumbering.Renumbering}
+use Rattle.county_chart.specs.{declared.fault.SequencedType.SequencedType}
+use Rattle.ordered_lists.specs.{Orders.IsInOrder, Pairs.image}
+use Rattle.canonical_form.specs.{ArrangedCounty.IsArranged, ArrangedCounty.IsTidy, Growth.up_to}
 
--- The records are sorted by type. Within a type they ascend: records of chains by TLID and, if they have one, RTSQ; names by
+-- The records come type after type. Within a type they ascend: records of chains by TLID and, if they have one, RTSQ; names by
 -- FEAT; landmarks by LAND and content; links by LAND, POLYID, CENID and FILE; polygons by POLYID.
 pub record StandsInOrder (records : List Record) : Type 0 where
-  pub types : records ≡ type_after_type (by_type records)
-  pub of_type_1 : IsInOrder (on one_tlid nat_cmp) (of_type_1 records)
-  pub of_type_2 : IsInOrder (then_cmp (on two_tlid nat_cmp) (on two_rtsq nat_cmp)) (of_type_2 records)
-  pub of_type_4 : IsInOrder (then_cmp (on four_tlid nat_cmp) (on four_rtsq nat_cmp)) (of_type_4 records)
-  pub of_type_5 : IsInOrder (on five_feat nat_cmp) (of_type_5 records)
-  pub of_type_6 : IsInOrder (then_cmp (on six_tlid nat_cmp) (on six_rtsq nat_cmp)) (of_type_6 records)
-  pub of_type_7 : IsInOrder landmark_cmp (of_type_7 records)
-  pub of_type_8 : IsInOrder link_cmp (of_type_8 records)
-  pub of_type_i : IsInOrder (on i_tlid nat_cmp) (of_type_i records)
-  pub of_type_p : IsInOrder (on p_polyid nat_cmp) (of_type_p records)
+  pub types : records ≡ flat_map (λ t. filter (λ r. is_some (as_type t r)) records) types
+  pub of_type_1 : IsInOrder (on (λ r. r.tlid) nat_cmp) (of_type Type1 records)
+  pub of_type_2 : IsInOrder (then_cmp (on (λ r. r.tlid) nat_cmp) (on (λ r. r.rtsq) nat_cmp)) (of_type Type2 records)
+  pub of_type_4 : IsInOrder (then_cmp (on (λ r. r.tlid) nat_cmp) (on (λ r. r.rtsq) nat_cmp)) (of_type Type4 records)
+  pub of_type_5 : IsInOrder (on (λ r. r.feat) nat_cmp) (of_type Type5 records)
+  pub of_type_6 : IsInOrder (then_cmp (on (λ r. r.tlid) nat_cmp) (on (λ r. r.rtsq) nat_cmp)) (of_type Type6 records)
+  pub of_type_7 : IsInOrder landmark_cmp (of_type Type7 records)
+  pub of_type_8 : IsInOrder link_cmp (of_type Type8 records)
+  pub of_type_i : IsInOrder (on (λ r. r.tlid) nat_cmp) (of_type TypeI records)
+  pub of_type_p : IsInOrder (on (λ r. r.polyid) nat_cmp) (of_type TypeP records)
 
 -- each list has n elements, except that the last has between one and n
 abbrev pub AreFull : {X : Type 0} → ℕ → List (List X) → Type 0
@@ -43,14 +32,9 @@ AreFull n (xs ∷ ys ∷ rest) = (length xs ≡ n) × AreFull n (ys ∷ rest)
 -- The records of types 2 and 4 of each chain are full, except for the last one, and the records of types 2, 4 and 6 of each
 -- chain have the RTSQs 1, 2, 3, ..
 pub record IsPacked (records : List Record) : Type 0 where
-  pub points : (tlid : ℕ) → AreFull 10 (map (λ r. r.points) (of_number two_tlid tlid (of_type_2 records)))
-  pub feats : (tlid : ℕ) → AreFull 5 (map (λ r. r.feats) (of_number four_tlid tlid (of_type_4 records)))
-  pub two_rtsqs : (tlid : ℕ) → map two_rtsq (of_number two_tlid tlid (of_type_2 records)) ≡ up_to
-      (length (of_number two_tlid tlid (of_type_2 records)))
-  pub four_rtsqs : (tlid : ℕ) → map four_rtsq (of_number four_tlid tlid (of_type_4 records)) ≡ up_to
-      (length (of_number four_tlid tlid (of_type_4 records)))
-  pub six_rtsqs : (tlid : ℕ) → map six_rtsq (of_number six_tlid tlid (of_type_6 records)) ≡ up_to
-      (length (of_number six_tlid tlid (of_type_6 records)))
+  pub points : (tlid : ℕ) → AreFull 10 (map (λ r. r.points) (of_number (λ r. r.tlid) tlid (of_type Type2 records)))
+  pub feats : (tlid : ℕ) → AreFull 5 (map (λ r. r.feats) (of_number (λ r. r.tlid) tlid (of_type Type4 records)))
+  pub rtsqs : (rtype : SequencedType) (tlid : ℕ) → rtsqs rtype tlid records ≡ up_to (length (rtsqs rtype tlid records))
 
 -- A list of records in the canonical order, packing and numbering; the choice of TLIDs and directions is left open.
 pub record IsArrangedList (records : List Record) : Type 0 where

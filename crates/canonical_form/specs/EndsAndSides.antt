@@ -1,14 +1,12 @@
 -- The nodes and the polygons of chains, chain after chain, and their new numbers.
-use Rattle.std.specs.Prelude.{ℕ, ◌<◌, ◌≤◌, ◌^◌, List, ◌++◌, map, Option, Some, None, option_map, option_to_list}
-use Rattle.std.proofs.Common.{arith}
+use Rattle.std.specs.Prelude.{List, None, Option, Some, map, option_map, option_to_list, ℕ, ◌++◌, ◌<◌, ◌^◌, ◌≤◌}
 use Rattle.std.specs.Ordering.{nat_cmp}
+use Rattle.std.proofs.Common.{arith}
 use Rattle.tl_layout.specs.PolygonSide.{PolygonSide}
 use Rattle.tl_shape.specs.Chain.{Chain}
-use Rattle.county_chart.specs.PolygonKeys.{PolygonKey, key_cmp, key_on}
+use Rattle.county_chart.specs.{PolygonKeys.PolygonKey, PolygonKeys.key_cmp, PolygonKeys.key_on, Renumbering.side_of}
 use Rattle.ordered_lists.specs.Pairs.{image}
-use Rattle.county_chart.specs.Renumbering.{side_of}
-use Rattle.canonical_form.specs.Arrangement.{under_cenid}
-use Rattle.canonical_form.specs.Growth.{numbered}
+use Rattle.canonical_form.specs.{Arrangement.under_cenid, Growth.numbered}
 
 -- the start node and the end node of a chain
 abbrev pub ends_of : Chain → Option ℕ × Option ℕ

@@ -1,7 +1,6 @@
 -- Numbers by first appearance.
-use Rattle.std.specs.Prelude.{ℕ, ◌+◌, ◌≤◌, max, List, [], ◌∷◌, ◌++◌, map, cond, ⊤}
-use Rattle.std.specs.List.{range_with_len}
-use Rattle.std.specs.declared.cmp.Ordering.{Ordering}
+use Rattle.std.specs.Prelude.{List, [], cond, map, max, ℕ, ⊤, ◌++◌, ◌+◌, ◌∷◌, ◌≤◌}
+use Rattle.std.specs.{List.range_with_len, declared.cmp.Ordering.Ordering}
 use Rattle.ordered_lists.specs.Orders.{stands_in}
 use Rattle.county_chart.specs.Packing.{numbered_from}
 

@@ -1,10 +1,8 @@
 -- Moving chains at the open places of the order of shapes, and the places at which no chain moves.
-use Rattle.std.specs.Prelude.{ℕ, ◌≡◌, ◌+◌, ◌<◌, ◌≤◌, List, [], ◌∷◌, length, map, not, slice_get, ⊤}
+use Rattle.std.specs.Prelude.{List, [], length, map, not, slice_get, ℕ, ⊤, ◌+◌, ◌<◌, ◌∷◌, ◌≡◌, ◌≤◌}
 use Rattle.std.specs.List.{AllByRecursion}
-use Rattle.county_chart.specs.County.{County}
-use Rattle.county_chart.specs.DirectedChains.{directed_chain}
-use Rattle.county_chart.specs.declared.directed_chain.DirectedChain.{DirectedChain}
-use Rattle.county_chart.specs.declared.open_place.OpenPlace.{OpenPlace}
+use Rattle.county_chart.specs.{County.County, DirectedChains.directed_chain, declared.directed_chain.DirectedChain.DirectedChain}
+use Rattle.county_chart.specs.{declared.open_place.OpenPlace.OpenPlace}
 use Rattle.canonical_form.specs.WholeArrangements.{AreWhole}
 
 -- the chain in the other direction

@@ -1,44 +1,38 @@
 -- The ten rules for records that fit together. The definition of each, by counts over the whole list, gives the places that break
 -- it.
-use Rattle.std.specs.Prelude.{ℕ, ◌≡◌, List, [], ◌∷◌, ◌++◌, map, flat_map, Bool, false, not, ◌&&◌, nat_lt}
+use Rattle.std.specs.Prelude.{Bool, List, [], false, flat_map, map, nat_lt, not, ℕ, ◌&&◌, ◌++◌, ◌∷◌, ◌≡◌}
 use Rattle.std.specs.Ordering.{nat_cmp}
-use Rattle.tl_layout.specs.declared.record_type.Record.{Record}
-use Rattle.county_chart.specs.declared.fault.LinkFault.{LinkFault}
-use Rattle.county_chart.specs.declared.fault.LinkFault.TheVariants.{ChainTwice, NoChain, SequenceBroken, LinkMissing, LinkTwice, NameTwice}
-use Rattle.county_chart.specs.declared.fault.LinkFault.TheVariants.{NameUnknown, PolygonTwice, LandUnknown, PolygonUnknown, Memory}
-use Rattle.county_chart.specs.declared.fault.LinkedType.{LinkedType}
-use Rattle.county_chart.specs.declared.fault.LinkedType.TheVariants.{Two, Four, Six, I}
-use Rattle.county_chart.specs.declared.fault.SequencedType.{SequencedType}
+use Rattle.tl_layout.specs.RecordTypes.{Type1, Type2, Type4, Type5, Type6, Type7, Type8, TypeI, TypeP, of_type}
+use Rattle.tl_layout.specs.{ByType.of_number, declared.record_type.Record.Record}
+use Rattle.county_chart.specs.declared.fault.LinkFault.TheVariants.{ChainTwice, LandUnknown, LinkMissing, LinkTwice, Memory, NameTwice}
+use Rattle.county_chart.specs.declared.fault.LinkFault.TheVariants.{NameUnknown, NoChain, PolygonTwice, PolygonUnknown, SequenceBroken}
+use Rattle.county_chart.specs.declared.fault.LinkedType.TheVariants.{Four, I, Six, Two}
+use Rattle.county_chart.specs.County.{link_key, p_key, side_keys}
+use Rattle.county_chart.specs.{FirstOf.IsFirst, LinkedTypes.linked_type, PolygonKeys.key_cmp, declared.fault.LinkFault.LinkFault}
+use Rattle.county_chart.specs.{declared.fault.LinkedType.LinkedType, declared.fault.SequencedType.SequencedType}
+use Rattle.ordered_lists.specs.Orders.{has_repeat, stands_in, times}
 use Rattle.county_chart.specs.declared.fault.SequencedType.TheVariants as sequenced
-use Rattle.tl_layout.specs.ByType.{of_type_1, of_type_2, of_type_4, of_type_5, of_type_6, of_type_7, of_type_8, of_type_i}
-use Rattle.tl_layout.specs.ByType.{of_type_p, of_number}
-use Rattle.county_chart.specs.County.{one_tlid, two_tlid, two_rtsq, four_tlid, four_rtsq, five_feat, six_tlid, six_rtsq, seven_land}
-use Rattle.county_chart.specs.County.{eight_land, link_key, i_tlid, p_key, side_keys}
-use Rattle.county_chart.specs.FirstOf.{IsFirst}
-use Rattle.county_chart.specs.LinkedTypes.{linked_type}
-use Rattle.ordered_lists.specs.Orders.{times, stands_in, has_repeat}
-use Rattle.county_chart.specs.PolygonKeys.{key_cmp}
 
 -- the TLIDs of the type 1 records
 abbrev pub chain_tlids : List Record → List ℕ
-chain_tlids records = map one_tlid (of_type_1 records)
+chain_tlids records = map (λ r. r.tlid) (of_type Type1 records)
 
 -- the TLIDs of the records of a type that belong to chains
 abbrev pub linked_tlids : LinkedType → List Record → List ℕ
-linked_tlids Two records = map two_tlid (of_type_2 records)
-linked_tlids Four records = map four_tlid (of_type_4 records)
-linked_tlids Six records = map six_tlid (of_type_6 records)
-linked_tlids I records = map i_tlid (of_type_i records)
+linked_tlids Two records = map (λ r. r.tlid) (of_type Type2 records)
+linked_tlids Four records = map (λ r. r.tlid) (of_type Type4 records)
+linked_tlids Six records = map (λ r. r.tlid) (of_type Type6 records)
+linked_tlids I records = map (λ r. r.tlid) (of_type TypeI records)
 
 -- the RTSQs of a chain's records of a type
 abbrev pub rtsqs : SequencedType → ℕ → List Record → List ℕ
-rtsqs sequenced.Two tlid records = map two_rtsq (of_number two_tlid tlid (of_type_2 records))
-rtsqs sequenced.Four tlid records = map four_rtsq (of_number four_tlid tlid (of_type_4 records))
-rtsqs sequenced.Six tlid records = map six_rtsq (of_number six_tlid tlid (of_type_6 records))
+rtsqs sequenced.Two tlid records = map (λ r. r.rtsq) (of_number (λ r. r.tlid) tlid (of_type Type2 records))
+rtsqs sequenced.Four tlid records = map (λ r. r.rtsq) (of_number (λ r. r.tlid) tlid (of_type Type4 records))
+rtsqs sequenced.Six tlid records = map (λ r. r.rtsq) (of_number (λ r. r.tlid) tlid (of_type Type6 records))
 
 -- the FEATs that a chain's type 4 records name
 abbrev pub named_feats : ℕ → List Record → List ℕ
-named_feats tlid records = flat_map (λ r. r.feats) (of_number four_tlid tlid (of_type_4 records))
+named_feats tlid records = flat_map (λ r. r.feats) (of_number (λ r. r.tlid) tlid (of_type Type4 records))
 
 -- whether a rule is broken at a place
 abbrev pub is_rule_broken : List Record → LinkFault → Bool
@@ -47,17 +41,18 @@ is_rule_broken records (NoChain rtype tlid) =
     stands_in nat_cmp tlid (linked_tlids rtype records) && not (stands_in nat_cmp tlid (chain_tlids records))
 is_rule_broken records (SequenceBroken rtype tlid) = has_repeat nat_cmp (rtsqs rtype tlid records)
 is_rule_broken records (LinkMissing tlid) =
-    stands_in nat_cmp tlid (chain_tlids records) && not (stands_in nat_cmp tlid (map i_tlid (of_type_i records)))
-is_rule_broken records (LinkTwice tlid) = nat_lt 1 (times nat_cmp tlid (map i_tlid (of_type_i records)))
-is_rule_broken records (NameTwice feat) = nat_lt 1 (times nat_cmp feat (map five_feat (of_type_5 records)))
+    stands_in nat_cmp tlid (chain_tlids records) && not (stands_in nat_cmp tlid (map (λ r. r.tlid) (of_type TypeI records)))
+is_rule_broken records (LinkTwice tlid) = nat_lt 1 (times nat_cmp tlid (map (λ r. r.tlid) (of_type TypeI records)))
+is_rule_broken records (NameTwice feat) = nat_lt 1 (times nat_cmp feat (map (λ r. r.feat) (of_type Type5 records)))
 is_rule_broken records (NameUnknown tlid feat) =
-    stands_in nat_cmp feat (named_feats tlid records) && not (stands_in nat_cmp feat (map five_feat (of_type_5 records)))
-is_rule_broken records (PolygonTwice cenid polyid) = nat_lt 1 (times key_cmp (cenid, polyid) (map p_key (of_type_p records)))
+    stands_in nat_cmp feat (named_feats tlid records) && not (stands_in nat_cmp feat (map (λ r. r.feat) (of_type Type5 records)))
+is_rule_broken records (PolygonTwice cenid polyid) = nat_lt 1 (times key_cmp (cenid, polyid) (map p_key (of_type TypeP records)))
 is_rule_broken records (LandUnknown land) =
-    stands_in nat_cmp land (map eight_land (of_type_8 records)) && not (stands_in nat_cmp land (map seven_land (of_type_7 records)))
+    stands_in nat_cmp land (map (λ r. r.land) (of_type Type8 records)) && not
+    (stands_in nat_cmp land (map (λ r. r.land) (of_type Type7 records)))
 is_rule_broken records (PolygonUnknown cenid polyid) =
-    stands_in key_cmp (cenid, polyid) (map link_key (of_type_8 records)) && not
-    (stands_in key_cmp (cenid, polyid) (flat_map side_keys (of_type_i records) ++ map p_key (of_type_p records)))
+    stands_in key_cmp (cenid, polyid) (map link_key (of_type Type8 records)) && not
+    (stands_in key_cmp (cenid, polyid) (flat_map side_keys (of_type TypeI records) ++ map p_key (of_type TypeP records)))
 is_rule_broken records Memory = false
 
 -- the place of a record type among the four: 2, 4 and 6 before I

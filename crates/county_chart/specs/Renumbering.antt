@@ -1,20 +1,13 @@
 -- Renamings of a county's numbers, and the county that each carries a county onto.
-use Rattle.std.specs.Prelude.{ℕ, ◌≡◌, List, [], map, filter, Bool, cond, not, false, Option, Some, None, option_map, IsTrue}
-use Rattle.std.specs.Prelude.{IsPermutation}
-use Rattle.std.specs.List.{AllByRecursion}
-use Rattle.std.specs.Ordering.{nat_cmp}
-use Rattle.tl_layout.specs.Fields.{Fields8}
-use Rattle.tl_layout.specs.PolygonSide.{PolygonSide}
-use Rattle.tl_layout.specs.declared.type5.Body5.{Body5}
-use Rattle.tl_layout.specs.declared.type7.Body7.{Body7}
-use Rattle.tl_layout.specs.declared.type_p.BodyP.{BodyP}
-use Rattle.tl_shape.specs.Chain.{Chain}
-use Rattle.county_chart.specs.County.{County, link_key}
-use Rattle.county_chart.specs.CountyRules.{tlids, feats, polygon_keys, lands, nodes}
-use Rattle.ordered_lists.specs.Orders.{stands_in, has_repeat}
-use Rattle.county_chart.specs.PolygonKeys.{PolygonKey, key_cmp}
-use Rattle.tl_shape.specs.Turned.{turned_if}
-use Rattle.ordered_lists.specs.Pairs.{image, ArePaired, to_itself, swapped, is_named, composed}
+use Rattle.std.specs.Prelude.{Bool, IsPermutation, IsTrue, List, None, Option, Some, [], cond, false, filter, map, not, option_map, ℕ, ◌≡◌}
+use Rattle.std.specs.{List.AllByRecursion, Ordering.nat_cmp}
+use Rattle.tl_layout.specs.{Fields.Fields8, PolygonSide.PolygonSide, declared.type5.Body5.Body5, declared.type7.Body7.Body7}
+use Rattle.tl_layout.specs.{declared.type_p.BodyP.BodyP}
+use Rattle.tl_shape.specs.{Chain.Chain, Turned.turned_if}
+use Rattle.county_chart.specs.CountyRules.{feats, lands, nodes, polygon_keys, tlids}
+use Rattle.county_chart.specs.{County.County, County.link_key, PolygonKeys.PolygonKey, PolygonKeys.key_cmp}
+use Rattle.ordered_lists.specs.Orders.{has_repeat, stands_in}
+use Rattle.ordered_lists.specs.Pairs.{ArePaired, composed, image, is_named, swapped, to_itself}
 
 -- Each old number with its new one, kind by kind, and the old TLIDs of the chains that are turned.
 pub record Renumbering : Type 0 where
@@ -43,12 +36,8 @@ renumbered_side r side = renumbered_polygon r side.cenid side.polyid
 
 -- the chain with its names, nodes and polygons renamed
 abbrev pub renumbered : Renumbering → Chain → Chain
-renumbered r c = record {
-  body = c.body;
-  points = c.points;
+renumbered r c = record c {
   feats = map (image nat_cmp r.names) c.feats;
-  ranges = c.ranges;
-  topology = c.topology;
   start_node = option_map (image nat_cmp r.nodes) c.start_node;
   end_node = option_map (image nat_cmp r.nodes) c.end_node;
   left = renumbered_side r c.left;
@@ -69,8 +58,7 @@ abbrev pub carried_landmark : Renumbering → ℕ × List Body7 → ℕ × List 
 carried_landmark r entry = (image nat_cmp r.lands entry.0, entry.1)
 
 abbrev pub carried_link : Renumbering → Fields8 → Fields8
-carried_link r link = record {
-  file = link.file;
+carried_link r link = record link {
   cenid = (image key_cmp r.polygons (link_key link)).0;
   polyid = (image key_cmp r.polygons (link_key link)).1;
   land = image nat_cmp r.lands link.land;

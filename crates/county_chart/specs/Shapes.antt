@@ -1,10 +1,8 @@
 -- The shapes of chains: a chain's points or their reverse, whichever is less.
-use Rattle.std.specs.Prelude.{ℕ, List, reverse, Bool, cond}
-use Rattle.std.specs.Ordering.{is_lt}
+use Rattle.std.specs.{Ordering.is_lt, Prelude.Bool, Prelude.List, Prelude.cond, Prelude.reverse, Prelude.ℕ}
 use Rattle.tl_layout.specs.Coordinates.{Coordinates}
 use Rattle.tl_shape.specs.PointOrder.{points_cmp}
-use Rattle.county_chart.specs.ChartWords.{chain_at, points_of}
-use Rattle.county_chart.specs.County.{County}
+use Rattle.county_chart.specs.{ChartWords.chain_at, ChartWords.points_of, County.County}
 
 -- the points in their own direction, or from the other end
 abbrev pub points_from : Bool → List Coordinates → List Coordinates
@@ -12,7 +10,7 @@ points_from turned points = cond turned (reverse points) points
 
 -- the lesser of the points and their reverse
 abbrev pub least_points : List Coordinates → List Coordinates
-least_points points = points_from (is_lt (points_cmp (reverse points) points)) points
+least_points points = cond (is_lt (points_cmp (reverse points) points)) (reverse points) points
 
 -- the points of the chain at a place
 abbrev pub points_at : County → ℕ → List Coordinates

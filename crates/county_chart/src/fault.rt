@@ -1,10 +1,8 @@
 //! The ways in which records can fail to fit together.
 
 ghost use Rattle.std.specs.Prelude.{◌≡◌};
-ghost use Rattle.fault_report.specs.Reports.{at};
-ghost use Rattle.fault_report.specs.declared.report.FaultPlace.TheVariants.{Number};
-ghost use Rattle.county_chart.specs.LinkedTypes.{byte_of, linked_type};
-ghost use Rattle.county_chart.specs.Reports.{at_polygon, at_type};
+ghost use Rattle.fault_report.specs.{Reports.at, declared.report.FaultPlace.TheVariants.Number};
+ghost use Rattle.county_chart.specs.{LinkedTypes.byte_of, LinkedTypes.linked_type, Reports.at_polygon, Reports.at_type};
 
 use fault_report::{FaultKind, FaultPlace, FaultReport};
 use std::alloc::{AllocError, AllocFailed};
@@ -94,20 +92,24 @@ impl fmt::Debug for LinkFault {
     fn fmt<W: fmt::Write>(&self, f: &mut fmt::Formatter<W>) -> fmt::Result {
         match self {
             LinkFault::ChainTwice { tlid } => show_number(f, "ChainTwice", "tlid", tlid),
-            LinkFault::NoChain { rtype, tlid } => show_record(f, "NoChain", rtype, tlid),
+            LinkFault::NoChain { rtype, tlid } => {
+                show_two(f, "NoChain", "rtype", rtype, "tlid", tlid)
+            }
             LinkFault::SequenceBroken { rtype, tlid } => {
-                show_record(f, "SequenceBroken", rtype, tlid)
+                show_two(f, "SequenceBroken", "rtype", rtype, "tlid", tlid)
             }
             LinkFault::LinkMissing { tlid } => show_number(f, "LinkMissing", "tlid", tlid),
             LinkFault::LinkTwice { tlid } => show_number(f, "LinkTwice", "tlid", tlid),
             LinkFault::NameTwice { feat } => show_number(f, "NameTwice", "feat", feat),
-            LinkFault::NameUnknown { tlid, feat } => show_name_unknown(f, tlid, feat),
+            LinkFault::NameUnknown { tlid, feat } => {
+                show_two(f, "NameUnknown", "tlid", tlid, "feat", feat)
+            }
             LinkFault::PolygonTwice { cenid, polyid } => {
-                show_polygon(f, "PolygonTwice", cenid, polyid)
+                show_two(f, "PolygonTwice", "cenid", cenid, "polyid", polyid)
             }
             LinkFault::LandUnknown { land } => show_number(f, "LandUnknown", "land", land),
             LinkFault::PolygonUnknown { cenid, polyid } => {
-                show_polygon(f, "PolygonUnknown", cenid, polyid)
+                show_two(f, "PolygonUnknown", "cenid", cenid, "polyid", polyid)
             }
             LinkFault::Memory => f.write_str("Memory"),
         }
@@ -124,41 +126,18 @@ fn show_number<T: fmt::Debug, W: fmt::Write>(
     f.debug_struct(fault).field(field, number).finish()
 }
 
-/// Prints a fault of a chain's records of one type.
-fn show_record<T: fmt::Debug, W: fmt::Write>(
+/// Prints a fault that has two fields.
+fn show_two<T: fmt::Debug, U: fmt::Debug, W: fmt::Write>(
     f: &mut fmt::Formatter<W>,
     fault: &str,
-    rtype: &T,
-    tlid: &u64,
+    field: &str,
+    value: &T,
+    next_field: &str,
+    next_value: &U,
 ) -> fmt::Result {
     f.debug_struct(fault)
-        .field("rtype", rtype)
-        .field("tlid", tlid)
-        .finish()
-}
-
-/// Prints that a chain names a FEAT without a name.
-fn show_name_unknown<W: fmt::Write>(
-    f: &mut fmt::Formatter<W>,
-    tlid: &u64,
-    feat: &u32,
-) -> fmt::Result {
-    f.debug_struct("NameUnknown")
-        .field("tlid", tlid)
-        .field("feat", feat)
-        .finish()
-}
-
-/// Prints a fault of a polygon.
-fn show_polygon<W: fmt::Write>(
-    f: &mut fmt::Formatter<W>,
-    fault: &str,
-    cenid: &[u8; 5],
-    polyid: &u64,
-) -> fmt::Result {
-    f.debug_struct(fault)
-        .field("cenid", cenid)
-        .field("polyid", polyid)
+        .field(field, value)
+        .field(next_field, next_value)
         .finish()
 }
 

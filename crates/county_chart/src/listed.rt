@@ -1,9 +1,7 @@
 //! Lists that are read by place: one loop for each question that is asked of all their items.
 
-ghost use Rattle.std.specs.Bool.{Decides};
-ghost use Rattle.std.specs.Cmp.Lexicographic.{slice_cmp};
-ghost use Rattle.std.specs.List.{AllByRecursion};
-ghost use Rattle.std.specs.Prelude.{◌≡◌, ◌++◌, ℕ, OnOk, OnErr, take};
+ghost use Rattle.std.specs.Prelude.{OnErr, OnOk, take, ℕ, ◌++◌, ◌≡◌};
+ghost use Rattle.std.specs.{Bool.Decides, Cmp.Lexicographic.slice_cmp, List.AllByRecursion};
 
 use std::alloc::AllocError;
 use std::cmp::Ordering;

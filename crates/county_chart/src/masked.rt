@@ -3,14 +3,9 @@
 //! The fields that a mask leaves out are blanked as they are read, and the county itself isn't changed. Only the contents of landmarks
 //! are copied, and only if SOURCE is left out, because SOURCE is one of the fields that they are sorted by.
 
-ghost use Rattle.std.specs.Prelude.{◌≡◌, IfErr, IfOk, true};
-ghost use Rattle.county_chart.specs.MaskedCounty.{masked};
-ghost use Rattle.county_chart.specs.Laws.MaskedCounties.{masked_is_county};
-ghost use Rattle.county_chart.specs.Laws.MaskedLimits.{masked_within_limits};
-ghost use Rattle.county_chart.specs.MaskedProps.{MatchesBodies-prop};
-ghost use Rattle.county_chart.specs.MaskedTables.{MatchesBodies};
-ghost use Rattle.county_chart.specs.ChartWords.{bodies_at};
-ghost use Rattle.county_chart.specs.Limits.{most_records};
+ghost use Rattle.std.specs.Prelude.{IfErr, IfOk, true, ◌≡◌};
+ghost use Rattle.county_chart.specs.{Laws.MaskedCounties.masked_is_county, Laws.MaskedLimits.masked_within_limits, Limits.most_records};
+ghost use Rattle.county_chart.specs.{MaskedCounty.masked, MaskedProps.MatchesBodies-prop, MaskedTables.MatchesBodies};
 
 use crate::chart::Chart;
 use crate::joined_lists::JoinedLists;
@@ -59,16 +54,6 @@ impl<C: Chart + Drop> Masked<C> {
             mask,
             bodies,
         })
-    }
-}
-
-impl<C: Chart> Masked<C> {
-    /// The contents of the landmark at a place, for a mask that leaves out SOURCE. They are empty past the last landmark.
-    fn bodies_of_place(&self, place: usize) -> &[Body7]
-        requires { self.now.mask.sources ≡ true }
-        ensures { result.now ≡ bodies_at (⟦<Masked<C> as Chart>⟧.county self.now) place }
-    {
-        self.bodies.at(place)
     }
 }
 
@@ -231,7 +216,7 @@ impl<C: Chart> Chart for Masked<C> {
     #[tactic(auto, using(crate::proofs::Masks::MaskedReads::bodies_unmasked))]
     fn landmark_body_at(&self, place: usize, body: usize) -> Option<Body7> {
         if self.mask.sources {
-            self.bodies_of_place(place).get(body).copied()
+            self.bodies.at(place).get(body).copied()
         } else {
             self.chart.landmark_body_at(place, body)
         }

@@ -1,15 +1,9 @@
 -- Lists of numbers with and without a repetition.
-use Rattle.renamings.proofs.Common.{◌≡◌, ℕ, zero, suc, List, [], ◌∷◌, Bool, true, false, refl}
-use Rattle.renamings.proofs.Common.{sym, ◌∙◌, subst, arith, IsPermutation, nat_cmp, length}
-use Rattle.renamings.proofs.Common.{Decides, IsInOrder, times, stands_in, has_repeat}
-use Rattle.renamings.proofs.Common.{nat_keys, apart-permutation, apart_from_sorted}
-use Rattle.std.proofs.Common.{is_gt, ◌<◌, ◌+◌, get_or, ltb, Less}
-use Rattle.std.proofs.lemmas.Bool.{false≢true, true≢false, lt-ltb, ltb-true, ltb-false, or_left, or_right}
-use Rattle.std.proofs.lemmas.Cmp.{nat_cmp_total}
-use Rattle.std.proofs.lemmas.Map.Keys.{sorted_from_all_adjacent}
-use Rattle.std.specs.List.{IsAllAdjacentAnswer}
-use Rattle.ordered_lists.proofs.ByKey.Keys.{order_antisymm, times-yes}
-use Rattle.ordered_lists.proofs.Lists.Distinct.{has_repeat-apart, apart_from_no_repeat}
+use Rattle.renamings.proofs.Common.{IsAllAdjacentAnswer, apart-permutation, ltb, order_antisymm, sorted_from_all_adjacent, true≢false}
+use Rattle.county_chart.proofs.Common.{Bool, Decides, IsInOrder, IsPermutation, Less, List, [], apart_from_no_repeat, apart_from_sorted}
+use Rattle.county_chart.proofs.Common.{arith, false, false≢true, get_or, has_repeat, has_repeat-apart, is_gt, length, lt-ltb, ltb-false}
+use Rattle.county_chart.proofs.Common.{ltb-true, nat_cmp, nat_cmp_total, nat_keys, or_left, or_right, refl, stands_in, subst, suc, sym}
+use Rattle.county_chart.proofs.Common.{times, times-yes, true, zero, ℕ, ◌+◌, ◌<◌, ◌∙◌, ◌∷◌, ◌≡◌}
 
 -- in a list in order, a number that isn't less than the next one is repeated
 not_ascending : (xs : List ℕ) (k : ℕ) → IsInOrder nat_cmp xs → k + 1 < length xs → ltb (get_or xs k 0) (get_or xs (k + 1) 0) ≡ false

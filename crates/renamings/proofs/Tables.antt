@@ -1,11 +1,8 @@
 -- Pairs of numbers by the values under their old numbers.
-use Rattle.renamings.proofs.Common.{◌≡◌, nat_lt, suc, List, [], ◌∷◌, map, filter, filter_map, length, Bool, true, false, cond, Ordering}
-use Rattle.renamings.proofs.Common.{is_eq, Option, Some, None, unwrap_or, option_map, refl, ap, ◌∙◌, arith, value_under, image, is_named}
-use Rattle.renamings.proofs.Common.{composed, IsKeyOrder, lefts, named_images, pair_on}
-use Rattle.std.proofs.Common.{is_some, Less, Equal, Greater}
-use Rattle.std.proofs.lemmas.Bool.{lt-ltb}
-use Rattle.std.specs.List.{cons_option}
-use Rattle.std.specs.Ordering.{ordering_reverse}
+use Rattle.renamings.proofs.Common.{lefts, named_images, pair_on}
+use Rattle.county_chart.proofs.Common.{Bool, Equal, Greater, IsKeyOrder, Less, List, None, Option, Ordering, Some, [], ap, arith, composed}
+use Rattle.county_chart.proofs.Common.{cond, cons_option, false, filter, filter_map, image, is_eq, is_named, is_some, length, lt-ltb, map}
+use Rattle.county_chart.proofs.Common.{nat_lt, option_map, ordering_reverse, refl, suc, true, unwrap_or, value_under, ◌∙◌, ◌∷◌, ◌≡◌}
 
 is_eq-reverse : (a : Ordering) → is_eq (ordering_reverse a) ≡ is_eq a
 is_eq-reverse Less = refl

@@ -1,11 +1,8 @@
 -- Pairs of an old and a new number: the new number in the first pair of an old one.
-use Rattle.std.specs.Prelude.{ℕ, Bool, List, Option, option_map, filter_map}
-use Rattle.std.specs.declared.cmp.Ordering.{Ordering}
-use Rattle.std.specs.Ordering.{nat_cmp}
-use Rattle.ordered_lists.specs.Entries.{value_under}
-use Rattle.ordered_lists.specs.Orders.{stands_in}
+use Rattle.std.specs.Prelude.{Bool, List, Option, filter_map, option_map, ℕ}
+use Rattle.std.specs.{Ordering.nat_cmp, declared.cmp.Ordering.Ordering}
+use Rattle.ordered_lists.specs.{Entries.value_under, Orders.stands_in, Pairs.image}
 use Rattle.county_chart.specs.Renumbering.{exactly_one}
-use Rattle.ordered_lists.specs.Pairs.{image}
 
 -- the new numbers of the old ones that pairs name
 abbrev pub named_images : {K : Type 0} → (K → K → Ordering) → List (K × K) → List K → List K

@@ -1,8 +1,7 @@
 //! The new numbers that pairs of an old and a new number give.
 
-ghost use Rattle.std.specs.Prelude.{◌≡◌, IfOk};
-ghost use Rattle.ordered_lists.specs.Entries.{value_under};
-ghost use Rattle.ordered_lists.specs.Pairs.{image};
+ghost use Rattle.std.specs.Prelude.{IfOk, ◌≡◌};
+ghost use Rattle.ordered_lists.specs.{Entries.value_under, Pairs.image};
 
 use indexmap::IndexMap;
 use ordered_lists::Key;

@@ -1,9 +1,8 @@
 //! Lists of numbers that are asked which numbers are in them.
 
-ghost use Rattle.std.specs.Bool.{Decides};
-ghost use Rattle.std.specs.Ordering.{nat_cmp};
-ghost use Rattle.std.specs.Prelude.{◌≡◌, IfOk, false};
-ghost use Rattle.ordered_lists.specs.Orders.{IsInOrder, has_repeat, stands_in};
+ghost use Rattle.std.specs.Prelude.{IfOk, false, ◌≡◌};
+ghost use Rattle.std.specs.{Bool.Decides, Ordering.nat_cmp};
+ghost use Rattle.ordered_lists.specs.Orders.{has_repeat, stands_in};
 
 use ordered_lists::place_of;
 use std::alloc::{AllocError, Global};
@@ -17,8 +16,7 @@ pub struct SortedNumbers<'a> {
 }
 
 impl<'a> Model for SortedNumbers<'a> {
-    ghost use Rattle.std.specs.Ordering.{nat_cmp};
-    ghost use Rattle.std.specs.Prelude.{IsPermutation, List, ℕ};
+    ghost use Rattle.std.specs.{Ordering.nat_cmp, Prelude.IsPermutation, Prelude.List, Prelude.ℕ};
     ghost use Rattle.ordered_lists.specs.Orders.{IsInOrder};
 
     ghost Value = { List ℕ };
@@ -26,14 +24,6 @@ impl<'a> Model for SortedNumbers<'a> {
     ghost view = { λ s. s.numbers.now };
 
     ghost invariant = { λ s. IsInOrder nat_cmp s.sorted.items × IsPermutation s.numbers.now s.sorted.items };
-}
-
-/// Whether no number of a list, which is in order, is in it twice.
-fn ascend(numbers: &[u64]) -> bool
-    requires { IsInOrder nat_cmp numbers.now }
-    ensures { Decides result (has_repeat nat_cmp numbers.now ≡ false) }
-{
-    numbers.is_sorted_by(|number, next| number < next)
 }
 
 impl<'a> SortedNumbers<'a> {
@@ -57,6 +47,6 @@ impl<'a> SortedNumbers<'a> {
     pub fn has_no_repeat(&self) -> bool
         ensures { Decides result (has_repeat nat_cmp self.now ≡ false) }
     {
-        ascend(&self.sorted)
+        self.sorted.is_sorted_by(|number, next| number < next)
     }
 }

@@ -1,13 +1,9 @@
 -- The links of landmarks, collected landmark by landmark and compared by their fields.
-use Rattle.tl_cert.proofs.Common.{◌≡◌, ℕ, zero, suc, List, [], ◌∷◌, ◌++◌, map, flat_map, take, Bool, slice_get, refl, sym, ap, ◌∙◌}
-use Rattle.tl_cert.proofs.Common.{subst, append_assoc, append-nil, IsPermutation, nat_cmp, IsPermutation-sym, IsPermutation-trans}
-use Rattle.tl_cert.proofs.Common.{IsPermutation-map, Decides, of_number, Fields8, County, eight_land, IsCounty, lands, times, stands_in}
-use Rattle.tl_cert.proofs.Common.{Known, nat_keys, apart_from_sorted, all_weaker, map-map, LinkFields, link_fields, decides_same}
-use Rattle.std.proofs.Common.{◌+◌, IsTrue, add-one}
-use Rattle.std.proofs.lemmas.Bool.{ltb-true}
-use Rattle.county_chart.specs.ChartWords.{links_with}
-use Rattle.ordered_lists.proofs.Lists.Elements.{map_itself}
-use Rattle.county_chart.proofs.Lists.OfNumber.{groups-permutation}
+use Rattle.tl_cert.proofs.Common.{Bool, County, Decides, Fields8, IsCounty, IsPermutation, IsPermutation-map, IsPermutation-sym}
+use Rattle.tl_cert.proofs.Common.{IsPermutation-trans, IsTrue, Known, LinkFields, List, [], add-one, all_weaker, ap, apart_from_sorted}
+use Rattle.tl_cert.proofs.Common.{append-nil, append_assoc, decides_same, eight_land, flat_map, groups-permutation, lands, link_fields}
+use Rattle.tl_cert.proofs.Common.{links_with, ltb-true, map, map-map, map_itself, nat_cmp, nat_keys, of_number, refl, slice_get, stands_in}
+use Rattle.tl_cert.proofs.Common.{subst, suc, sym, take, times, zero, ℕ, ◌++◌, ◌+◌, ◌∙◌, ◌∷◌, ◌≡◌}
 
 -- the links of the landmarks with these LANDs, landmark by landmark
 abbrev pub under_lands : List Fields8 → List ℕ → List Fields8

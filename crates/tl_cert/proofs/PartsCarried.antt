@@ -1,26 +1,12 @@
 -- A renaming carries the parts of a county exactly if the other county has each of them under its new number.
-use Rattle.std.proofs.Common.{◌≡◌, ◌⊎◌, ◌≤◌, ℕ, List, [], ◌∷◌, map, length, false, cond, Ordering, is_eq, Option, Some, None}
-use Rattle.std.proofs.Common.{unwrap_or, refl, sym, ap, ◌∙◌, subst, inl, inr, arith, IsPermutation, nat_cmp}
-use Rattle.std.proofs.lemmas.List.Sorted.{IsPermutation-refl, IsPermutation-sym, IsPermutation-trans, IsPermutation-map, length_permutation}
-use Rattle.std.specs.List.{AllByRecursion}
-use Rattle.tl_layout.specs.declared.type5.Body5.{Body5}
-use Rattle.tl_layout.specs.declared.type7.Body7.{Body7}
-use Rattle.tl_layout.specs.declared.type_p.BodyP.{BodyP}
-use Rattle.tl_shape.specs.Turned.{turned_if}
-use Rattle.county_chart.specs.County.{County}
-use Rattle.county_chart.specs.CountyRules.{IsCounty, tlids, feats, polygon_keys, lands}
-use Rattle.ordered_lists.specs.Entries.{entry_keys, value_under}
-use Rattle.county_chart.specs.PolygonKeys.{PolygonKey}
-use Rattle.county_chart.specs.Renumbering.{Renumbering, turns, renumbered, carried_link, NumbersArePaired, Carries}
-use Rattle.ordered_lists.specs.Pairs.{image, ArePaired}
-use Rattle.ordered_lists.proofs.ByKey.Keys.{IsKeyOrder, IsApart, Known, nat_keys, lefts, same_or_not, same-itself, times-yes, apart_tail}
-use Rattle.ordered_lists.proofs.ByKey.Keys.{apart-permutation, images-lefts, apart_from_sorted}
-use Rattle.county_chart.specs.Laws.KeyOrders.{key_keys}
-use Rattle.ordered_lists.proofs.Lists.Elements.{all_weaker, all_both, all_map, all_unmap, map-map}
-use Rattle.ordered_lists.proofs.Lists.Among.{Among, all_among}
-use Rattle.ordered_lists.proofs.Lists.Members.{among-permutation}
-use Rattle.county_chart.proofs.Sameness.Equivalence.{keys_known}
-use Rattle.tl_cert.specs.PartsThere.{IsLandmarkThere, ArePartsThere}
+use Rattle.tl_cert.proofs.Common.{AllByRecursion, Among, ArePaired, ArePartsThere, Body5, Body7, BodyP, Carries, County, IsApart, IsCounty}
+use Rattle.tl_cert.proofs.Common.{IsKeyOrder, IsLandmarkThere, IsPermutation, IsPermutation-map, IsPermutation-refl, IsPermutation-sym}
+use Rattle.tl_cert.proofs.Common.{IsPermutation-trans, Known, List, None, NumbersArePaired, Option, Ordering, PolygonKey, Renumbering, Some}
+use Rattle.tl_cert.proofs.Common.{[], all_among, all_both, all_map, all_unmap, all_weaker, among-permutation, ap, apart-permutation}
+use Rattle.tl_cert.proofs.Common.{apart_from_sorted, apart_tail, arith, carried_link, cond, entry_keys, false, feats, image, images-lefts}
+use Rattle.tl_cert.proofs.Common.{inl, inr, is_eq, key_keys, keys_known, lands, lefts, length, length_permutation, map, map-map, nat_cmp}
+use Rattle.tl_cert.proofs.Common.{nat_keys, polygon_keys, refl, renumbered, same-itself, same_or_not, subst, sym, times-yes, tlids}
+use Rattle.tl_cert.proofs.Common.{turned_if, turns, unwrap_or, value_under, ℕ, ◌∙◌, ◌∷◌, ◌≡◌, ◌≤◌, ◌⊎◌}
 
 -- a property of each element that is among others is one of each element
 among_all : {X : Type 0} (P : X → Type 0) (xs : List X) → ((x : X) → Among x xs → P x) → AllByRecursion P xs

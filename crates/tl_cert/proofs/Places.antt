@@ -1,13 +1,7 @@
 -- The numbers and the entries of a county, decided place by place.
-use Rattle.tl_cert.proofs.Common.{◌≡◌, ℕ, zero, suc, List, [], ◌∷◌, Bool, true, Ordering, is_eq, Option, Some, slice_get}
-use Rattle.tl_cert.proofs.Common.{sym, ap, ◌∙◌, subst, IsPermutation, IsPermutation-sym, IsPermutation-trans}
-use Rattle.tl_cert.proofs.Common.{Decides, slice_cmp, IsInOrder, entry_keys, decides_over, IsKeyOrder}
-use Rattle.tl_cert.proofs.Common.{same-itself}
-use Rattle.std.proofs.Common.{IfSome}
-use Rattle.ordered_lists.specs.Entries.{entry_values}
-use Rattle.ordered_lists.proofs.Lists.InOrder.{in_order-permutation}
-use Rattle.ordered_lists.proofs.ByKey.KeyOrders.{lists_keys}
-use Rattle.ordered_lists.proofs.ByKey.Keys.{same-true}
+use Rattle.tl_cert.proofs.Common.{Bool, Decides, IfSome, IsInOrder, IsKeyOrder, IsPermutation, IsPermutation-sym, IsPermutation-trans, List}
+use Rattle.tl_cert.proofs.Common.{Option, Ordering, Some, [], ap, decides_over, entry_keys, entry_values, in_order-permutation, is_eq}
+use Rattle.tl_cert.proofs.Common.{lists_keys, same-itself, same-true, slice_cmp, slice_get, subst, suc, sym, true, zero, ℕ, ◌∙◌, ◌∷◌, ◌≡◌}
 
 -- the key and the value of an entry are at the same place
 module _ {K V : Type 0} where

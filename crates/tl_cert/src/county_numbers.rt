@@ -10,8 +10,7 @@ use std::marker::PhantomData;
 /// A kind of numbers of a county, such as TLIDs.
 pub(crate) trait NumberKind<K: Key> {
     ghost use Rattle.std.specs.Prelude.{List};
-    ghost use Rattle.county_chart.specs.County.{County};
-    ghost use Rattle.county_chart.specs.CountyRules.{IsCounty};
+    ghost use Rattle.county_chart.specs.{County.County, CountyRules.IsCounty};
     ghost use Rattle.ordered_lists.specs.Orders.{IsInOrder};
 
     /// The numbers of this kind.
@@ -77,8 +76,7 @@ pub(crate) struct PolygonKeys;
 
 impl NumberKind<PolygonKey> for PolygonKeys {
     ghost use Rattle.ordered_lists.proofs.Lists.EntryLists.{in_order-strict};
-    ghost use Rattle.county_chart.specs.CountyRules.{polygon_keys};
-    ghost use Rattle.county_chart.specs.PolygonKeys.{key_cmp};
+    ghost use Rattle.county_chart.specs.{CountyRules.polygon_keys, PolygonKeys.key_cmp};
 
     ghost numbers = { polygon_keys };
 
@@ -119,9 +117,7 @@ pub(crate) struct Nodes;
 
 impl NumberKind<u64> for Nodes {
     ghost use Rattle.std.specs.Ordering.{nat_cmp};
-    ghost use Rattle.ordered_lists.proofs.ByKey.Keys.{nat_keys};
-    ghost use Rattle.ordered_lists.proofs.ByKey.Numbers.{distinct-strict};
-    ghost use Rattle.ordered_lists.proofs.Lists.EntryLists.{in_order-strict};
+    ghost use Rattle.ordered_lists.proofs.{ByKey.Keys.nat_keys, ByKey.Numbers.distinct-strict, Lists.EntryLists.in_order-strict};
     ghost use Rattle.county_chart.specs.CountyRules.{nodes, nodes_along};
 
     ghost numbers = { nodes };

@@ -88,14 +88,6 @@ impl<'a, C: Chart> Chart for Lent<'a, C> {
         self.chart.chain_body_at(place)
     }
 
-    fn put_chain_body(&self, place: usize, turned: bool, out: &mut [u8]) {
-        self.chart.put_chain_body(place, turned, out);
-    }
-
-    fn chain_byte(&self, place: usize) -> u8 {
-        self.chart.chain_byte(place)
-    }
-
     fn point_count_at(&self, place: usize) -> usize {
         self.chart.point_count_at(place)
     }

@@ -1,13 +1,10 @@
 //! Whether the lists of a renaming pair the numbers of two counties.
 
-ghost use Rattle.std.specs.Bool.{Decides};
-ghost use Rattle.std.specs.List.{AllByRecursion};
-ghost use Rattle.std.specs.Ordering.{nat_cmp};
-ghost use Rattle.std.specs.Prelude.{◌≡◌, IfOk, IsPermutation, IsTrue, false};
+ghost use Rattle.std.specs.Prelude.{IfOk, IsPermutation, IsTrue, false, ◌≡◌};
+ghost use Rattle.std.specs.{Bool.Decides, List.AllByRecursion, Ordering.nat_cmp};
 ghost use Rattle.county_chart.specs.CountyRules.{feats, lands, nodes, polygon_keys, tlids};
-ghost use Rattle.ordered_lists.specs.Orders.{has_repeat, stands_in};
-ghost use Rattle.ordered_lists.specs.Pairs.{ArePaired};
 ghost use Rattle.county_chart.specs.Renumbering.{NumbersArePaired};
+ghost use Rattle.ordered_lists.specs.{Orders.has_repeat, Orders.stands_in, Pairs.ArePaired};
 
 use crate::county_numbers::{Feats, Lands, Nodes, NumberKind, PolygonKeys, Tlids, numbers_of};
 use crate::pairing::{are_known, new_numbers, old_numbers};
@@ -80,14 +77,6 @@ impl<'a> Tested for PolygonPairs<'a> {
     }
 }
 
-/// Whether the two polygons of each pair have the same CENID.
-fn keep_cenids(renaming: &Renaming) -> bool
-    ensures { Decides result (AllByRecursion (λ pair. pair.0.0 ≡ pair.1.0) renaming.now.polygons) }
-{
-    let pairs = renaming.polygons();
-    all_hold(&PolygonPairs { pairs })
-}
-
 /// Whether the pairs of all five kinds are those of the two counties' numbers, and polygons keep their CENIDs.
 fn lists_are_paired<A: Chart, B: Chart>(
     alloc: Global,
@@ -127,7 +116,8 @@ fn lists_are_paired<A: Chart, B: Chart>(
     if !nodes {
         return Ok(false);
     }
-    Ok(keep_cenids(renaming))
+    let pairs = renaming.polygons();
+    Ok(all_hold(&PolygonPairs { pairs }))
 }
 
 /// TLIDs of turned chains, tested for being those of a county's chains.

@@ -1,10 +1,9 @@
 //! A renaming with tables, so that no number is searched along its lists.
 
 ghost use Rattle.std.specs.Ordering.{nat_cmp};
-ghost use Rattle.std.specs.Prelude.{◌≡◌, IfOk};
-ghost use Rattle.county_chart.specs.PolygonKeys.{key_cmp};
+ghost use Rattle.std.specs.Prelude.{IfOk, ◌≡◌};
+ghost use Rattle.county_chart.specs.{PolygonKeys.key_cmp, Renumbering.turns};
 ghost use Rattle.ordered_lists.specs.Pairs.{image};
-ghost use Rattle.county_chart.specs.Renumbering.{turns};
 
 use county_chart::PolygonKey;
 use renamings::{Images, Renaming, SortedNumbers};

@@ -1,32 +1,24 @@
--- The names from below that several proofs of this crate cite, passed on from one place. Declares nothing.
-pub use Rattle.ordered_lists.proofs.Lists.Elements.{map-map}
-pub use Rattle.ordered_lists.specs.Keyed.{IsLeastPassing, is_unknown}
-pub use Rattle.ordered_lists.specs.Orders.{IsInOrder, distinct, stands_in}
-pub use Rattle.std.proofs.Common.{Bool, Equal, Greater, IsPermutation, Less, List, Option, Ordering, Some, [], ap, append_assoc, ap₂}
-pub use Rattle.std.proofs.Common.{arith, cond, drop, false, filter, is_eq, is_gt, is_some, length, length-append, map}
-pub use Rattle.std.proofs.Common.{nat_lt, not, option_map, refl, reverse, slice_get, subst, suc, sym, take, true, ℕ, ◌&&◌, ◌*◌}
-pub use Rattle.std.proofs.Common.{◌++◌, ◌+◌, ◌<◌, ◌^◌, ◌∙◌, ◌∷◌, ◌≡◌, ◌≤◌}
-pub use Rattle.std.proofs.lemmas.Bool.{lt-ltb}
-pub use Rattle.std.proofs.lemmas.List.{length-map, map-append}
-pub use Rattle.std.specs.List.{AllByRecursion, range_with_len}
-pub use Rattle.std.specs.Ordering.{ordering_then}
-pub use Rattle.county_chart.proofs.Limits.FewChains.{few_chains}
-pub use Rattle.county_chart.specs.ChartWords.{chain_at}
-pub use Rattle.county_chart.specs.County.{County}
-pub use Rattle.county_chart.specs.CountyRules.{IsCounty, chain_polygons, has_body, polygons_along}
-pub use Rattle.county_chart.specs.Laws.KeyOrders.{key_keys, points_keys}
-pub use Rattle.county_chart.specs.PolygonKeys.{PolygonKey, key_cmp}
-pub use Rattle.county_chart.specs.declared.directed_chain.DirectedChain.{DirectedChain}
-pub use Rattle.tl_layout.specs.declared.type_p.BodyP.{BodyP}
-pub use Rattle.county_chart.specs.Choices.{choices, is_either_way, is_first, is_settled, most_choices, open_place_at, open_places}
-pub use Rattle.county_chart.specs.Choices.{running, ways_at}
-pub use Rattle.tl_profile.specs.PlacedShapes.{HasHead, placed_directed, placed_key_cmp, whole_shape}
-pub use Rattle.county_chart.specs.Profile.{IsFirstBrokenClause, IsInProfile}
-pub use Rattle.county_chart.specs.ShapeOrder.{AreInShapeOrder, along_shape, along_shapes, directed_cmp, points_along}
-pub use Rattle.county_chart.specs.Shapes.{points_at}
-pub use Rattle.tl_profile.specs.Sides.{key_if_bodied, keys_on}
-pub use Rattle.county_chart.specs.declared.profile_fault.ProfileFault.TheVariants.{PolygonWithoutChain, TooSymmetric}
-pub use Rattle.county_chart.specs.declared.open_place.OpenPlace.{OpenPlace}
-pub use Rattle.tl_profile.specs.declared.shapes.PlacedShape.{PlacedShape}
-pub use Rattle.tl_shape.specs.Chain.{Chain}
-pub use Rattle.tl_shape.specs.PointOrder.{point_cmp, points_cmp}
+-- The names from below that the proofs of this crate cite, passed on from one place. Declares nothing.
+pub use Rattle.county_chart.proofs.Common.{AllByRecursion, AreInShapeOrder, Greater, IsFirstBrokenClause, distinct-in_order, polygons_along}
+pub use Rattle.county_chart.proofs.Common.{County, Less, List, Some, arith, false, has_body, is_eq, is_gt, key_keys, length, rules, subst}
+pub use Rattle.county_chart.proofs.Common.{Equal, along_shape, empty_list, is_unknown, most_choices, open_places, points_along, points_keys}
+pub use Rattle.county_chart.proofs.Common.{IsInOrder, Ordering, distinct, length-map, map-append, map-map, points_cmp, slice_get, stands_in}
+pub use Rattle.county_chart.proofs.Common.{[], ap, ap₂, cond, map, not, refl, suc, sym, take, ℕ, ◌&&◌, ◌++◌, ◌+◌, ◌<◌, ◌∙◌, ◌∷◌, ◌≡◌, ◌≤◌}
+pub use Rattle.county_chart.proofs.Common.{along_shapes, append_assoc, is_either_way, key_cmp, length-append, ordering_then, range_with_len}
+pub use Rattle.county_chart.proofs.Profile.CountedChoices.{IsCounted, alike-next, alike_few, counted_next, more_choices-append}
+pub use Rattle.county_chart.proofs.Profile.Places.{ChainStands, all_next, along_from, chain_stands, some-same, two_along}
+pub use Rattle.county_chart.proofs.Profile.ProfileFaults.{first_clause_computed, profile_computed, profile_has_none, profile_or_first}
+pub use Rattle.county_chart.proofs.{ByKey.KeySets.stands_in-distinct, Limits.FewChains.few_chains, Profile.SameChoices.choices_stated}
+pub use Rattle.county_chart.specs.{Choices.counted_choices, ShapeOrder.directed_cmp}
+pub use Rattle.ordered_lists.proofs.{ByKey.KeyedLists.at_lists, ByKey.KeyedLists.in_order-filter, ByKey.KeyedLists.least-same, Common.IfOk}
+pub use Rattle.ordered_lists.proofs.{Common.IsLeastPassing, Common.IsTotalOrder, Common.items_from_collect, Common.length_permutation}
+pub use Rattle.ordered_lists.proofs.{Common.then_total, Common.zero-add, Lists.InOrder.strict-map, Lists.Reordered.all_permuted}
+pub use Rattle.tl_shape.specs.PointOrder.{point_cmp}
+pub use Rattle.tl_layout.proofs.Common.{filter_map, ℤ}
+pub use Rattle.std.proofs.Common.{int_cmp, min, neg_ℤ, ◌<ℤ◌, ◌≤ℤ◌}
+pub use Rattle.std.proofs.lemmas.List.FromFn.{length-map-range_with_len, map-range_with_len_more}
+pub use Rattle.std.proofs.{lemmas.Cmp.int_cmp_total, lemmas.Grind.flat_map-append, lemmas.Int.ints}
+pub use Rattle.std.specs.{Cmp.int_cmp_is, Cmp.int_ranks, Int.RustNames.unsigned_abs, Ordering.nat_cmp}
+pub use Rattle.tl_profile.specs.PlacedShapes.{HasHead, placed_cmp, placed_directed, placed_key_cmp, whole_shape}
+pub use Rattle.tl_profile.specs.{PointRanks.IsRankOf, PointRanks.point_rank, Sides.key_if_bodied, Sides.keys_on, Sides.keys_with_body}
+pub use Rattle.tl_profile.specs.{declared.open_places.OpenChoices.OpenChoices, declared.shapes.PlacedShape.PlacedShape}

@@ -1,19 +1,14 @@
 -- The shapes of a county in order, and a pass over them from the last to the first.
-use Rattle.tl_profile.proofs.Common.{◌≡◌, ◌<◌, ◌≤◌, ◌+◌, ◌*◌, ◌^◌, ℕ, suc, List, [], ◌∷◌, ◌++◌, map, length, reverse, take, drop}
-use Rattle.tl_profile.proofs.Common.{false, cond, Ordering, Less, Equal, Greater, is_gt, refl, sym, ap, ◌∙◌, subst, arith}
-use Rattle.tl_profile.proofs.Common.{append_assoc, length-append, AllByRecursion, ordering_then, length-map, map-append, points_cmp}
-use Rattle.tl_profile.proofs.Common.{County, IsInOrder, map-map, choices, is_either_way, is_settled, most_choices, open_places}
-use Rattle.tl_profile.proofs.Common.{open_place_at, running, ways_at, placed_directed, whole_shape, AreInShapeOrder, along_shape}
-use Rattle.tl_profile.proofs.Common.{along_shapes, points_along, directed_cmp, DirectedChain, OpenPlace, PlacedShape, few_chains}
-use Rattle.std.proofs.Common.{◌-◌, min}
-use Rattle.std.specs.Ordering.{nat_cmp}
-use Rattle.std.proofs.lemmas.List.{take_all}
-use Rattle.std.proofs.lemmas.List.FromFn.{length-map-range_with_len}
-use Rattle.std.proofs.lemmas.List.Sorted.{length_permutation}
-use Rattle.county_chart.specs.Limits.{IsWithinLimits, most_records}
-use Rattle.county_chart.specs.Choices.{counted_choices}
-use Rattle.county_chart.proofs.Profile.CountedChoices.{IsCounted, counted_next, more_choices-append}
-use Rattle.county_chart.proofs.Profile.SameChoices.{choices_stated}
+use Rattle.tl_profile.proofs.Common.{AllByRecursion, Ordering, choices_stated, is_either_way, length-append, ordering_then, placed_directed}
+use Rattle.tl_profile.proofs.Common.{AreInShapeOrder, counted_choices, length-map-range_with_len, length_permutation, more_choices-append}
+use Rattle.tl_profile.proofs.Common.{County, Greater, IsInOrder, List, [], arith, cond, false, is_gt, length, map-map, nat_cmp, refl, subst}
+use Rattle.tl_profile.proofs.Common.{Equal, PlacedShape, along_shapes, append_assoc, counted_next, directed_cmp, most_choices, points_along}
+use Rattle.tl_profile.proofs.Common.{IsCounted, Less, along_shape, few_chains, length-map, map-append, open_places, points_cmp, whole_shape}
+use Rattle.tl_profile.proofs.Common.{ap, map, min, suc, sym, take, ℕ, ◌++◌, ◌+◌, ◌<◌, ◌∙◌, ◌∷◌, ◌≡◌, ◌≤◌}
+use Rattle.county_chart.proofs.Common.{IsWithinLimits, choices, drop, is_settled, most_records, open_place_at}
+use Rattle.county_chart.proofs.Common.{reverse, running, take_all, ways_at, ◌*◌, ◌-◌, ◌^◌}
+use Rattle.county_chart.specs.declared.directed_chain.DirectedChain.{DirectedChain}
+use Rattle.county_chart.specs.declared.open_place.OpenPlace.{OpenPlace}
 
 first_not_greater : (a b : Ordering) → is_gt (ordering_then a b) ≡ false → is_gt a ≡ false
 first_not_greater Less b e = refl

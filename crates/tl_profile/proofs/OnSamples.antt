@@ -1,23 +1,9 @@
 -- The profile of the samples.
-use Rattle.tl_profile.proofs.Common.{List, [], ◌∷◌, Some, refl, IsInProfile, IsFirstBrokenClause, PolygonWithoutChain, TooSymmetric}
-use Rattle.std.proofs.Common.{flat_map, codes}
-use Rattle.tl_layout.specs.declared.record_type.Record.{Record}
-use Rattle.county_chart.specs.County.{county_of}
-use Rattle.county_chart.proofs.Samples.Counties.{
-  cenid_1,
-  there,
-  loop,
-  loop_chain,
-  bare_loop,
-  doubled,
-  meeting,
-  landmark,
-  in_polygon,
-  polygon,
-  link,
-  no_side,
-}
-use Rattle.county_chart.proofs.Profile.ProfileFaults.{profile_computed, first_clause_computed}
+use Rattle.tl_profile.proofs.Common.{IsFirstBrokenClause, List, Some, [], first_clause_computed, profile_computed, refl, ◌∷◌}
+use Rattle.county_chart.proofs.Common.{IsInProfile, Record, codes, county_of, flat_map}
+use Rattle.county_chart.proofs.Samples.Counties.{bare_loop, cenid_1, doubled, in_polygon, landmark, link, loop, loop_chain, meeting}
+use Rattle.county_chart.proofs.Samples.Counties.{no_side, polygon, there}
+use Rattle.county_chart.specs.declared.profile_fault.ProfileFault.TheVariants.{PolygonWithoutChain, TooSymmetric}
 
 pub there_in_profile : IsInProfile (county_of there)
 there_in_profile = profile_computed (county_of there) refl

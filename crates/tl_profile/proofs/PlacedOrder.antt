@@ -1,14 +1,10 @@
 -- The order of placed shapes is the order of their chains.
-use Rattle.tl_profile.proofs.Common.{◌≡◌, ◌∷◌, [], List, map, false, Ordering, Less, Equal, Greater, is_gt, refl, sym, ap, ap₂, ◌∙◌}
-use Rattle.tl_profile.proofs.Common.{subst, IsPermutation, AllByRecursion, ordering_then, point_cmp, points_cmp}
-use Rattle.tl_profile.proofs.Common.{County, IsInOrder, points_keys, AreInShapeOrder}
-use Rattle.tl_profile.proofs.Common.{along_shapes, directed_cmp, HasHead, placed_key_cmp, placed_directed, whole_shape, PlacedShape}
-use Rattle.std.proofs.Common.{nat_cmp}
-use Rattle.std.specs.Cmp.{IsTotalOrder}
-use Rattle.std.proofs.lemmas.Cmp.{int_cmp_total, nat_cmp_total, then_total, on_total}
-use Rattle.std.proofs.lemmas.List.Sorted.{IsPermutation-map}
+use Rattle.tl_profile.proofs.Common.{AllByRecursion, AreInShapeOrder, County, Equal, Greater, HasHead, IsInOrder, IsTotalOrder, Less, List}
+use Rattle.tl_profile.proofs.Common.{Ordering, PlacedShape, [], along_shapes, ap, ap₂, directed_cmp, false, int_cmp_total, is_gt, map}
+use Rattle.tl_profile.proofs.Common.{ordering_then, placed_cmp, placed_directed, placed_key_cmp, point_cmp, points_cmp, points_keys, refl}
+use Rattle.tl_profile.proofs.Common.{subst, sym, then_total, whole_shape, ◌∙◌, ◌∷◌, ◌≡◌}
 use Rattle.tl_profile.proofs.PointRanks.{as_points}
-use Rattle.tl_profile.specs.PlacedShapes.{placed_cmp}
+use Rattle.county_chart.proofs.Common.{IsPermutation, IsPermutation-map, nat_cmp, nat_cmp_total, on_total}
 
 pub placed_key_total : (county : County) → IsTotalOrder (placed_key_cmp county)
 placed_key_total county =

@@ -1,12 +1,7 @@
 -- Ranks compare as the points of the map do.
-use Rattle.std.proofs.Common.{◌≡◌, Ordering, Less, Equal, Greater, sym, ap₂, ◌∙◌, int_cmp, ℤ, ◌<ℤ◌, ◌≤ℤ◌, ◌≤◌, pos, neg_ℤ, arith}
-use Rattle.std.proofs.lemmas.Int.{ints}
-use Rattle.std.specs.Cmp.{int_cmp_is, int_ranks}
-use Rattle.std.specs.Int.RustNames.{unsigned_abs}
-use Rattle.std.specs.Ordering.{MatchOrdering, ordering_then}
-use Rattle.tl_layout.specs.Coordinates.{Coordinates, IsOnMap}
-use Rattle.tl_shape.specs.PointOrder.{point_cmp}
-use Rattle.tl_profile.specs.PointRanks.{IsRankOf, point_rank}
+use Rattle.tl_profile.proofs.Common.{Equal, Greater, IsRankOf, Less, Ordering, ap₂, arith, int_cmp, int_cmp_is, int_ranks, ints, neg_ℤ}
+use Rattle.tl_profile.proofs.Common.{ordering_then, point_cmp, point_rank, sym, unsigned_abs, ℤ, ◌<ℤ◌, ◌∙◌, ◌≡◌, ◌≤ℤ◌, ◌≤◌}
+use Rattle.county_chart.proofs.Common.{Coordinates, IsOnMap, MatchOrdering, pos}
 
 -- a latitude's magnitude bounds it on both sides
 between : (z : ℤ) → unsigned_abs z ≤ 99999999 → (neg_ℤ (pos 99999999) ≤ℤ z) × (z ≤ℤ pos 99999999)

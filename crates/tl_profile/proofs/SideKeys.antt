@@ -1,21 +1,11 @@
 -- The keys on sides and those with a type P record, gathered place by place, and how the profile judges them.
-use Rattle.tl_profile.proofs.Common.{◌≡◌, ℕ, suc, ◌+◌, ◌<◌, nat_lt, List, [], ◌∷◌, ◌++◌, map, filter, length, take, slice_get, Bool}
-use Rattle.tl_profile.proofs.Common.{true, false, cond, not, ◌&&◌, Option, Some, is_some, option_map, is_eq, refl, sym, ap, ◌∙◌}
-use Rattle.tl_profile.proofs.Common.{append_assoc, arith, range_with_len, lt-ltb, BodyP, Chain, chain_at, has_body, County, IsCounty}
-use Rattle.tl_profile.proofs.Common.{chain_polygons, polygons_along, is_unknown, IsInOrder, distinct, stands_in, PolygonKey, key_cmp}
-use Rattle.tl_profile.proofs.Common.{key_keys, key_if_bodied, keys_on}
-use Rattle.std.proofs.Common.{◌||◌, None, append-nil, map-id}
-use Rattle.std.specs.List.{list_any, filter_map, cons_option}
-use Rattle.std.specs.Ordering.{on}
-use Rattle.std.proofs.lemmas.Grind.{flat_map-append}
-use Rattle.tl_layout.specs.PolygonSide.{PolygonSide}
-use Rattle.county_chart.specs.PolygonKeys.{key_on}
-use Rattle.ordered_lists.proofs.Lists.EntryLists.{in_order-strict}
-use Rattle.ordered_lists.proofs.Lists.InOrder.{strict-map, in_order-map}
-use Rattle.ordered_lists.proofs.ByKey.KeyedLists.{in_order-filter}
-use Rattle.county_chart.proofs.ByKey.KeySets.{stands_in-distinct}
-use Rattle.tl_profile.specs.Sides.{keys_with_body}
-use Rattle.county_chart.proofs.Profile.Places.{ChainStands, chain_stands}
+use Rattle.tl_profile.proofs.Common.{ChainStands, IsInOrder, append_assoc, chain_stands, filter_map, is_unknown, key_if_bodied, strict-map}
+use Rattle.tl_profile.proofs.Common.{County, [], arith, distinct, false, has_body, key_cmp, key_keys, keys_on, length, slice_get, stands_in}
+use Rattle.tl_profile.proofs.Common.{List, Some, ap, cond, is_eq, map, not, refl, suc, sym, take, ℕ, ◌&&◌, ◌++◌, ◌+◌, ◌<◌, ◌∙◌, ◌∷◌, ◌≡◌}
+use Rattle.tl_profile.proofs.Common.{flat_map-append, in_order-filter, keys_with_body, polygons_along, range_with_len, stands_in-distinct}
+use Rattle.county_chart.proofs.Common.{BodyP, Bool, Chain, IsCounty, None, Option, PolygonKey, PolygonSide, append-nil, chain_at}
+use Rattle.county_chart.proofs.Common.{chain_polygons, cons_option, filter, in_order-map, in_order-strict, is_some, key_on, list_any}
+use Rattle.county_chart.proofs.Common.{lt-ltb, map-id, nat_lt, on, option_map, true, ◌||◌}
 
 -- the sides of one more chain
 pub sides_next : (county : County) (place : ℕ) → place < length county.chains → (before left_too both : List PolygonKey)

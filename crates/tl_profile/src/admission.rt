@@ -1,16 +1,13 @@
 //! Admission: a county in the profile is kept as such. For any other county, the first clause that it breaks is reported.
 
-ghost use Rattle.std.specs.Prelude.{◌≡◌, ◌≢◌, IfOk, IfErr};
-ghost use Rattle.county_chart.specs.CountyRules.{is_without_chain};
+ghost use Rattle.std.specs.Prelude.{IfErr, IfOk, ◌≡◌, ◌≢◌};
+ghost use Rattle.county_chart.specs.{CountyRules.is_without_chain, PolygonKeys.key_cmp, Profile.AreAllOnSides, Profile.IsFirstBrokenClause};
+ghost use Rattle.county_chart.specs.{Profile.IsInProfile, ShapeOrder.IsShapeOrder, declared.profile_fault.ProfileFault.TheVariants.Memory};
 ghost use Rattle.ordered_lists.specs.Keyed.{IsLeastPassing};
-ghost use Rattle.county_chart.specs.PolygonKeys.{key_cmp};
-ghost use Rattle.county_chart.specs.declared.profile_fault.ProfileFault.TheVariants.{Memory};
-ghost use Rattle.county_chart.specs.Profile.{AreAllOnSides, IsFirstBrokenClause, IsInProfile};
-ghost use Rattle.county_chart.specs.ShapeOrder.{IsShapeOrder};
 
 use crate::open_places::MOST_CHOICES;
 use crate::shape_order::{ShapeOrder, order_by_shape};
-use crate::sides::{check_polygons, refuse_without_chain};
+use crate::sides::{least_without_chain, refuse_without_chain};
 use county_chart::{Chart, County, CountyIn, PolygonKey, ProfileFault};
 use std::alloc::Global;
 use std::marker::Model;
@@ -25,8 +22,7 @@ pub struct Admitted<C: Chart = County> {
 }
 
 impl<C: Chart> Model for Admitted<C> {
-    ghost use Rattle.county_chart.specs.Profile.{IsInProfile};
-    ghost use Rattle.county_chart.specs.ShapeOrder.{IsShapeOrder};
+    ghost use Rattle.county_chart.specs.{Profile.IsInProfile, ShapeOrder.IsShapeOrder};
 
     ghost Value = { C };
 
@@ -127,9 +123,8 @@ fn admit_kept<C: Chart + Drop>(alloc: Global, chart: C) -> Result<Admitted<C>, P
     // For a county in the profile, `Memory` is the only possible fault.
     ensures succeeds { IsInProfile (C.county chart) → IfErr result (λ fault. fault ≡ Memory) }
 {
-    check_polygons(alloc, &chart)?;
-    let order = check_choices(alloc, &chart)?;
-    Ok(Admitted { chart, order })
+    let without_chain = least_without_chain(alloc, &chart)?;
+    admit_linked(alloc, chart, without_chain)
 }
 
 /// Admits a county if it is in the profile, but doesn't search the sides: `without_chain` is the least polygon that has a

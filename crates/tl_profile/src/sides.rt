@@ -1,13 +1,9 @@
 //! Polygons with a record of type P that are on no side of a chain.
 
-ghost use Rattle.std.specs.Prelude.{◌≡◌, ◌≢◌, ◌++◌, IfOk, IfErr, OnOk, slice_get};
-ghost use Rattle.county_chart.specs.County.{County};
-ghost use Rattle.county_chart.specs.CountyRules.{is_without_chain, polygons_along};
-ghost use Rattle.ordered_lists.specs.Keyed.{IsLeastPassing};
-ghost use Rattle.ordered_lists.specs.Orders.{distinct};
-ghost use Rattle.county_chart.specs.PolygonKeys.{key_cmp};
-ghost use Rattle.county_chart.specs.declared.profile_fault.ProfileFault.TheVariants.{Memory};
-ghost use Rattle.county_chart.specs.Profile.{AreAllOnSides, IsFirstBrokenClause};
+ghost use Rattle.std.specs.Prelude.{IfErr, IfOk, OnOk, slice_get, ◌++◌, ◌≡◌};
+ghost use Rattle.county_chart.specs.{County.County, CountyRules.is_without_chain, CountyRules.polygons_along, PolygonKeys.key_cmp};
+ghost use Rattle.county_chart.specs.{Profile.AreAllOnSides, Profile.IsFirstBrokenClause};
+ghost use Rattle.ordered_lists.specs.{Keyed.IsLeastPassing, Orders.distinct};
 ghost use Rattle.tl_profile.specs.Sides.{key_if_bodied, keys_on, keys_with_body};
 
 use county_chart::{Chart, KeySet, PolygonKey, ProfileFault, least_unknown};
@@ -64,7 +60,10 @@ fn polygons_with_body<C: Chart>(alloc: Global, chart: &C) -> Result<Vec<PolygonK
 }
 
 /// The least polygon with a record of type P that is on no side of a chain, by the bytes of the CENID and then by POLYID.
-fn least_without_chain<C: Chart>(alloc: Global, chart: &C) -> Result<Option<PolygonKey>, AllocError>
+pub(crate) fn least_without_chain<C: Chart>(
+    alloc: Global,
+    chart: &C,
+) -> Result<Option<PolygonKey>, AllocError>
     ensures { IfOk result (IsLeastPassing key_cmp (is_without_chain (C.county chart.now))) }
 {
     let sides = sides_in_order(alloc, chart)?;
@@ -85,12 +84,4 @@ pub(crate) fn refuse_without_chain(least: Option<PolygonKey>) -> Result<(), Prof
         return Err(ProfileFault::PolygonWithoutChain { cenid, polyid });
     }
     Ok(())
-}
-
-/// Checks the clause on polygons.
-pub(crate) fn check_polygons<C: Chart>(alloc: Global, chart: &C) -> Result<(), ProfileFault>
-    ensures all { OnOk result (AreAllOnSides (C.county chart.now)) }
-    ensures broken { IfErr result (λ fault. fault ≢ Memory → IsFirstBrokenClause (C.county chart.now) fault) }
-{
-    refuse_without_chain(least_without_chain(alloc, chart)?)
 }

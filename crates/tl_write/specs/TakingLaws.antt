@@ -1,34 +1,11 @@
 -- Taking records one after another is taking them together.
-use Rattle.std.proofs.Common.{
-  ◌≡◌,
-  ◌∙◌,
-  ◌<◌,
-  ◌+◌,
-  ℕ,
-  length,
-  length-append,
-  arith,
-  List,
-  [],
-  ◌∷◌,
-  ◌++◌,
-  Result,
-  Ok,
-  Err,
-  refl,
-  sym,
-  ap,
-  subst,
-  append_assoc,
-  append-nil,
-}
+use Rattle.std.proofs.Common.{Err, List, Ok, Result, [], ap, append-nil, append_assoc, arith, length, length-append, refl, subst, sym, ℕ}
+use Rattle.std.proofs.Common.{◌++◌, ◌+◌, ◌<◌, ◌∙◌, ◌∷◌, ◌≡◌}
 use Rattle.std.specs.Bool.{if◌then◌else◌}
-use Rattle.std.specs.Result.{is_ok, MatchResult}
-use Rattle.tl_layout.specs.RecordText.{text_of, spelling_of}
-use Rattle.tl_layout.specs.declared.record_type.Record.{Record}
-use Rattle.tl_write.specs.GoingOut.{Waiting, HasCounted, IsGoingOut, HoldsBeginning}
-use Rattle.tl_write.specs.Taking.{PutsText, ListsRecords}
-use Rattle.tl_write.specs.declared.fault.WriteFault.{WriteFault}
+use Rattle.std.specs.Result.{MatchResult, is_ok}
+use Rattle.tl_layout.specs.{RecordText.spelling_of, RecordText.text_of, declared.record_type.Record.Record}
+use Rattle.tl_write.specs.GoingOut.{HasCounted, HoldsBeginning, IsGoingOut, Waiting}
+use Rattle.tl_write.specs.{Taking.ListsRecords, Taking.PutsText, declared.fault.WriteFault.WriteFault}
 
 -- the text of one list after another
 pub text_of-append : (xs ys : List Record) → text_of (xs ++ ys) ≡ text_of xs ++ text_of ys
@@ -95,28 +72,49 @@ module _ {W : Type 0} (failed : W → ℕ) (holds : W → List ℕ → Type 0) w
         (longer holds held (text ++ text_of xs) (text_of ys) fault.written e (stopped.bytes held text h));
   }
 
-  -- the line of one record
-  pub puts_line : (r : Record) (spelling : List ℕ) → spelling_of r ≡ spelling → (a b : Waiting) (d e : W)
-      (result : Result (Unit {0}) WriteFault) → failed e ≡ (if is_ok result then failed d else failed d + 1)
-      → ((total : ℕ) → HasCounted total a
-      → MatchResult result (λ _. HasCounted (total + length (spelling ++ 10 ∷ [])) b) (λ f. f.written < total))
-      → ((held text : List ℕ) → IsGoingOut holds held text a d
-      → MatchResult result (λ _. IsGoingOut holds held (text ++ (spelling ++ 10 ∷ [])) b e)
-      (λ f. HoldsBeginning holds held text f.written e))
-      → PutsText failed holds (text_of (r ∷ [])) a d result b e
-  puts_line r spelling same a b d e (Ok t) failures counted put = record {
-    failures = failures;
-    counted = λ total h. subst (λ s. HasCounted (total + length s) b) (sym line) (counted total h);
-    bytes = λ held text h. subst (λ s. IsGoingOut holds held (text ++ s) b e) (sym line) (put held text h);
-  }
-    where
-      line : text_of (r ∷ []) ≡ spelling ++ 10 ∷ []
-      line = append-nil (spelling_of r ++ 10 ∷ []) ∙ ap (λ s. s ++ 10 ∷ []) same
-  puts_line r spelling same a b d e (Err f) failures counted put = record {
+  -- the sink failed before the line of a record
+  pub puts_nothing : (r : Record) (a b : Waiting) (d e : W) (fault : WriteFault) → failed e ≡ failed d + 1
+      → ((total : ℕ) → HasCounted total a → fault.written < total)
+      → ((held text : List ℕ) → IsGoingOut holds held text a d → HoldsBeginning holds held text fault.written e)
+      → PutsText failed holds (text_of (r ∷ [])) a d (Err fault) b e
+  puts_nothing r a b d e fault failures counted sent = record {
     failures = failures;
     counted = λ total h. omega (arith, counted total h);
-    bytes = λ held text h. longer holds held text (text_of (r ∷ [])) f.written e (put held text h);
+    bytes = λ held text h. longer holds held text (text_of (r ∷ [])) fault.written e (sent held text h);
   }
+
+  -- the line of one record, after the waiting bytes were sent if there wasn't enough space for it
+  pub puts_line : (r : Record) (spelling : List ℕ) → spelling_of r ≡ spelling → (a b c : Waiting) (d e : W) → failed e ≡ failed d
+      → ((total : ℕ) → HasCounted total a → HasCounted total b)
+      → ((held text : List ℕ) → IsGoingOut holds held text a d → IsGoingOut holds held text b e)
+      → c ≡ record { waiting = b.waiting ++ (spelling ++ 10 ∷ []); sent = b.sent }
+      → PutsText failed holds (text_of (r ∷ [])) a d (Ok tt) c e
+  puts_line r spelling same a b c d e failures counted sent appended = record {
+    failures = failures;
+    counted = λ total h. let k = counted total h in record {
+      sent = k.sent;
+      count = sent_is ∙ k.count;
+      all = omega (arith, k.all, ap length waiting_is, length-append b.waiting line, ap length line_is);
+    };
+    bytes = λ held text h. let k = sent held text h in record {
+      sent = k.sent;
+      text_is = (λ i. k.text_is i ++ line_is i) ∙ append_assoc k.sent b.waiting line ∙ ap (λ w. k.sent ++ w) (sym waiting_is);
+      count = sent_is ∙ k.count;
+      arrived = k.arrived;
+    };
+  }
+    where
+      line : List ℕ
+      line = spelling ++ 10 ∷ []
+
+      line_is : text_of (r ∷ []) ≡ line
+      line_is = append-nil (spelling_of r ++ 10 ∷ []) ∙ ap (λ s. s ++ 10 ∷ []) same
+
+      sent_is : c.sent ≡ b.sent
+      sent_is = ap (λ (w : Waiting). w.sent) appended
+
+      waiting_is : c.waiting ≡ b.waiting ++ line
+      waiting_is = ap (λ (w : Waiting). w.waiting) appended
 
 pub lists_then : (E : Type 0) (xs ys a b c : List Record) (result : Result (Unit {0}) E) → ListsRecords {E = E} xs a (Ok tt) b
     → ListsRecords ys b result c → ListsRecords (xs ++ ys) a result c

@@ -88,7 +88,7 @@ impl TextBuffer {
     }
 
     /// Sends the waiting bytes if there isn't enough space for `count` more.
-    fn make_space<W: Sink>(&mut self, count: usize, w: &mut W) -> Result<(), WriteFault>
+    pub(crate) fn make_space<W: Sink>(&mut self, count: usize, w: &mut W) -> Result<(), WriteFault>
         requires failures { W.failed w.old < u64.MAX }
         requires count { count ≤ BUFFER_BYTES }
         ensures failures { W.failed w.new ≡ (if is_ok result then W.failed w.old else W.failed w.old + 1) }
@@ -104,8 +104,8 @@ impl TextBuffer {
         self.send(w)
     }
 
-    /// Appends the line of a record: its canonical spelling and LF.
-    fn append<L: Layout>(&mut self, found: &L)
+    /// Appends the line of a record: its canonical spelling and LF. There must be enough space for it.
+    pub(crate) fn append<L: Layout>(&mut self, found: &L)
         requires { length self.old.waiting + L.LEN < BUFFER_BYTES }
         ensures { self.new ≡ record { waiting = self.old.waiting ++ (L.spelling found.now ++ 10 ∷ []); sent = self.old.sent } }
     {
@@ -114,27 +114,8 @@ impl TextBuffer {
         self.filled = end;
     }
 
-    /// Appends the line of a record. If there isn't enough space for it, the waiting bytes are sent first.
-    pub(crate) fn put_line<L: Layout, W: Sink>(
-        &mut self,
-        found: &L,
-        w: &mut W,
-    ) -> Result<(), WriteFault>
-        requires { W.failed w.old < u64.MAX }
-        ensures failures { W.failed w.new ≡ (if is_ok result then W.failed w.old else W.failed w.old + 1) }
-        ensures counted { (total : ℕ) → HasCounted total self.old
-            → MatchResult result (λ _. HasCounted (total + length (L.spelling found.now ++ 10 ∷ [])) self.new) (λ f. f.written < total) }
-        ensures put { (held text : List ℕ) → IsGoingOut W.holds held text self.old w.old
-            → MatchResult result (λ _. IsGoingOut W.holds held (text ++ (L.spelling found.now ++ 10 ∷ [])) self.new w.new)
-            (λ f. HoldsBeginning W.holds held text f.written w.new) }
-    {
-        self.make_space(L::LEN + 1, w)?;
-        self.append(found);
-        Ok(())
-    }
-
     /// Appends the line of a record of a group. There must be enough space for it.
-    fn append_from<G: RecordGroups>(
+    pub(crate) fn append_from<G: RecordGroups>(
         &mut self,
         groups: &G,
         group: usize,
@@ -152,33 +133,6 @@ impl TextBuffer {
         let buffer = &mut self.bytes[self.filled..end];
         put_line_of(groups, group, head, place, buffer);
         self.filled = end;
-    }
-
-    /// Appends the line of a record of a group. If there isn't enough space for it, the waiting bytes are sent first.
-    pub(crate) fn put_line_from<G: RecordGroups, W: Sink>(
-        &mut self,
-        groups: &G,
-        group: usize,
-        head: G::Head,
-        place: usize,
-        w: &mut W,
-    ) -> Result<(), WriteFault>
-        requires group { group < length (G.groups groups.now) }
-        requires head { G.IsHead groups.now group head }
-        requires place { place < length (group_at (G.groups groups.now) group) }
-        requires failures { W.failed w.old < u64.MAX }
-        ensures failures { W.failed w.new ≡ (if is_ok result then W.failed w.old else W.failed w.old + 1) }
-        ensures counted { (found : G.Item) → slice_get (group_at (G.groups groups.now) group) place ≡ Some found
-            → (total : ℕ) → HasCounted total self.old
-            → MatchResult result (λ _. HasCounted (total + length (G.Item.spelling found ++ 10 ∷ [])) self.new) (λ f. f.written < total) }
-        ensures put { (found : G.Item) → slice_get (group_at (G.groups groups.now) group) place ≡ Some found
-            → (held text : List ℕ) → IsGoingOut W.holds held text self.old w.old
-            → MatchResult result (λ _. IsGoingOut W.holds held (text ++ (G.Item.spelling found ++ 10 ∷ [])) self.new w.new)
-            (λ f. HoldsBeginning W.holds held text f.written w.new) }
-    {
-        self.make_space(<G::Item as Layout>::LEN + 1, w)?;
-        self.append_from(groups, group, head, place);
-        Ok(())
     }
 
     /// Sends the waiting bytes, and returns the number of bytes of the whole text.

@@ -8,13 +8,13 @@ use crate::sink::Sink;
 use crate::text_buffer::TextBuffer;
 use record_groups::{RecordGroups, RecordVisitor};
 use std::alloc::AllocError;
-use tl_layout::{Record, Tabled};
+use tl_layout::{Layout, Record, Tabled};
 
-/// Writes the text of the records to a sink, after the text before.
+/// Writes the text of the records to a sink, after the text before. If a line doesn't fit into the buffer, the waiting bytes are sent
+/// first.
 impl<W: Sink> RecordVisitor<W> for TextBuffer {
     ghost use Rattle.std.below.core.specs.declared.int.u64.TheConstants.{MAX};
-    ghost use Rattle.tl_write.specs.Taking.{PutsText};
-    ghost use Rattle.tl_write.specs.TakingLaws.{puts_none, puts_then, puts_stops};
+    ghost use Rattle.tl_write.specs.{Taking.PutsText, TakingLaws.puts_none, TakingLaws.puts_stops, TakingLaws.puts_then};
 
     type Fault = WriteFault;
 
@@ -23,7 +23,9 @@ impl<W: Sink> RecordVisitor<W> for TextBuffer {
     ghost Takes = { λ records. PutsText W.failed W.holds (text_of records) };
 
     fn take<L: Tabled>(&mut self, found: L, device: &mut W) -> Result<(), WriteFault> {
-        self.put_line(&found, device)
+        self.make_space(L::LEN + 1, device)?;
+        self.append(&found);
+        Ok(())
     }
 
     fn visit_group<G: RecordGroups>(
@@ -34,7 +36,9 @@ impl<W: Sink> RecordVisitor<W> for TextBuffer {
         place: usize,
         device: &mut W,
     ) -> Result<(), WriteFault> {
-        self.put_line_from(groups, group, head, place, device)
+        self.make_space(<G::Item as Layout>::LEN + 1, device)?;
+        self.append_from(groups, group, head, place);
+        Ok(())
     }
 
     ghost none = { puts_none W.failed W.holds };
@@ -51,8 +55,7 @@ pub(crate) struct NoDevice;
 /// Appends the records to the list.
 impl RecordVisitor<NoDevice> for Vec<Record> {
     ghost use Rattle.std.proofs.Common.{append-nil, sym};
-    ghost use Rattle.tl_write.specs.Taking.{ListsRecords};
-    ghost use Rattle.tl_write.specs.TakingLaws.{lists_then};
+    ghost use Rattle.tl_write.specs.{Taking.ListsRecords, TakingLaws.lists_then};
 
     type Fault = AllocError;
 

@@ -1,35 +1,31 @@
 -- The arranged county is a county, and all its numbers are canonical for the arrangement's choice.
-use Rattle.canonical_form.proofs.Common.{◌≡◌, ◌⊎◌, ◌≤◌, ℕ, List, [], ◌∷◌, map, length, false, Option, IsTrue, Ordering, is_eq, is_gt, sym, ap}
-use Rattle.canonical_form.proofs.Common.{ap₂, ◌∙◌, subst, inl, inr, arith, nat_cmp, IsPermutation, AllByRecursion, AllKeysStandIn, AllStandIn}
-use Rattle.canonical_form.proofs.Common.{Among, Arrangement, Arranges, Body7, BodyP, Carries, Chain, County, Fields8, Grows, IsApart, IsArranged}
-use Rattle.canonical_form.proofs.Common.{IsAscending, IsCounty, IsInOrder, IsKeyOrder, IsPermutation-sym, IsStrictlySortedBy, Known, PolygonKey}
-use Rattle.canonical_form.proofs.Common.{all-in_order, all_among, all_map, all_uses, all_weaker, among-map, among-permutation, among-unmap}
-use Rattle.canonical_form.proofs.Common.{among_known, apart_from_sorted, arranged, arranged_tlids, carried_landmark, carried_link, carried_name}
-use Rattle.canonical_form.proofs.Common.{carried_polygon, each_from, feats, first_seen, image, in_order, in_order-equal, in_order-in_order}
-use Rattle.canonical_form.proofs.Common.{in_order-is_permutation, in_order-map, key_cmp, key_keys, keys_known, known_all, known_is_among}
-use Rattle.canonical_form.proofs.Common.{landmark_body_cmp, landmark_key, landmark_key_cmp, landmarks_in_order, lands, length-map, link_cmp}
-use Rattle.canonical_form.proofs.Common.{link_keys, link_part_keys, links_relinked, lt-ltb, ltb-true, map-map, name_key, name_key_cmp}
-use Rattle.canonical_form.proofs.Common.{names_in_order, nat_keys, new_keys, nodes_along, nodes_in_order, numbered, on, on_total, placed}
-use Rattle.canonical_form.proofs.Common.{polygon_keys, polygons_along, polygons_in_order, relinked, renaming_of, rights, same_or_not, stands_in}
-use Rattle.canonical_form.proofs.Common.{strict_from_order, times, times-no, times-permutation, times-yes, under_cenid, up_to, uses_of_name}
-use Rattle.canonical_form.proofs.Common.{Some, position_or_len, refl, slice_get}
+use Rattle.canonical_form.proofs.Common.{AllByRecursion, IsPermutation-sym, IsStrictlySortedBy, in_order-is_permutation, landmarks_in_order}
+use Rattle.canonical_form.proofs.Common.{AllKeysStandIn, arranged_tlids, carried_polygon, in_order-equal, known_is_among, position_or_len}
+use Rattle.canonical_form.proofs.Common.{AllStandIn, IsArranged, IsKeyOrder, PolygonKey, all_weaker, first_seen, same_or_not, under_cenid}
+use Rattle.canonical_form.proofs.Common.{Among, Body7, BodyP, Chain, Grows, Known, arith, false, feats, image, is_eq, is_gt, placed, rights}
+use Rattle.canonical_form.proofs.Common.{Arrangement, County, IsAscending, among-unmap, among_known, nodes_along, renaming_of, uses_of_name}
+use Rattle.canonical_form.proofs.Common.{Arranges, IsInOrder, all_among, among-map, each_from, keys_known, known_all, length-map, link_keys}
+use Rattle.canonical_form.proofs.Common.{Carries, HasOneCenidEach, carried_landmark, landmark_key_cmp, strict_from_order, times-permutation}
+use Rattle.canonical_form.proofs.Common.{Fields8, IsApart, IsTrue, Option, [], all_map, key_cmp, length, lt-ltb, map-map, nat_cmp, times-no}
+use Rattle.canonical_form.proofs.Common.{IsCounty, List, Ordering, all_uses, arranged, in_order, map_agree, slice_get, stands_in, times-yes}
+use Rattle.canonical_form.proofs.Common.{IsPermutation, inl, link_part_keys, links_relinked, names_in_order, nodes_in_order, polygons_along}
+use Rattle.canonical_form.proofs.Common.{Some, ap, inr, lands, map, on, refl, subst, sym, times, up_to, ℕ, ◌∙◌, ◌∷◌, ◌≡◌, ◌≤◌, ◌⊎◌}
+use Rattle.canonical_form.proofs.Common.{all-in_order, carried_link, carried_name, in_order-map, landmark_key, name_key_cmp, polygon_keys}
+use Rattle.canonical_form.proofs.Common.{among-permutation, apart_from_sorted, ap₂, in_order-in_order, landmark_body_cmp, polygons_in_order}
+use Rattle.canonical_form.proofs.Common.{key_keys, link_cmp, links_of, ltb-true, name_key, nat_keys, new_keys, numbered, on_total, relinked}
 use Rattle.canonical_form.proofs.Sameness.CarriedCounty.{carried_closed, carried_whole, feats-turned}
-use Rattle.ordered_lists.proofs.ByKey.Keys.{map_agree}
-use Rattle.canonical_form.specs.ArrangedCounty.{HasOneCenidEach}
-use Rattle.canonical_form.specs.Uses.{links_of}
-use Rattle.canonical_form.proofs.Arrangements.Carrying.{arrangement_carries, from_placed, polygons_to_placed, keys_arranged, tlids_arranged}
-use Rattle.canonical_form.proofs.Arrangements.Carrying.{feats_arranged, lands_arranged, nodes_along_arranged, chains_arranged, names_arranged}
-use Rattle.canonical_form.proofs.Arrangements.Carrying.{polygons_arranged, landmarks_arranged, links_arranged, nodes_renamed, polygons_renamed}
-use Rattle.canonical_form.proofs.Lists.Counting.{up_to-strict}
+use Rattle.canonical_form.proofs.Arrangements.Carrying.{arrangement_carries, chains_arranged, feats_arranged, from_placed, keys_arranged}
+use Rattle.canonical_form.proofs.Arrangements.Carrying.{landmarks_arranged, lands_arranged, links_arranged, names_arranged}
+use Rattle.canonical_form.proofs.Arrangements.Carrying.{nodes_along_arranged, nodes_renamed, polygons_arranged, polygons_renamed}
+use Rattle.canonical_form.proofs.Arrangements.Carrying.{polygons_to_placed, tlids_arranged}
 use Rattle.canonical_form.proofs.Numbering.FirstSeen.{first_seen-grows, known_within, place_from, to_first_seen}
 use Rattle.canonical_form.proofs.Numbering.NewNumbers.{image-numbered, image-under_cenid}
-use Rattle.canonical_form.proofs.Numbering.SeenKeys.{found_key}
 use Rattle.canonical_form.proofs.Arrangements.Placed.{chain_count, rights-numbered}
-use Rattle.canonical_form.proofs.Unique.SameLandmarks.{landmark_key_keys, relanded, count-permutation, is_link, times-links, links_of-in_order}
-use Rattle.canonical_form.proofs.Unique.SameLandmarks.{count-relanded}
-use Rattle.canonical_form.proofs.Unique.SameKeys.{key_with}
-use Rattle.canonical_form.proofs.Unique.SameNames.{name_key_keys, all_uses-kept, all_uses-all, uses_of-renamed}
+use Rattle.canonical_form.proofs.Unique.SameLandmarks.{count-permutation, count-relanded, is_link, landmark_key_keys, links_of-in_order}
+use Rattle.canonical_form.proofs.Unique.SameLandmarks.{relanded, times-links}
+use Rattle.canonical_form.proofs.Unique.SameNames.{all_uses-all, all_uses-kept, name_key_keys, uses_of-renamed}
 use Rattle.canonical_form.proofs.Unique.SameNumbers.{counted_injective, kept_entry, polygons_along-kept}
+use Rattle.canonical_form.proofs.{Lists.Counting.up_to-strict, Numbering.SeenKeys.found_key, Unique.SameKeys.key_with}
 
 -- different keys have different places
 place-injective : {K : Type 0} {cmp : K → K → Ordering} (o : IsKeyOrder cmp) (i : ℕ) (xs : List K) (k j : K) → Known cmp xs k

@@ -1,28 +1,19 @@
 -- The numbers of an arranged county are small, and canonical lists keep the limits of their original lists.
-use Rattle.canonical_form.proofs.Common.{◌≡◌, ◌+◌, ◌*◌, ◌<◌, ◌≤◌, ℕ, suc, max, List, [], ◌∷◌, map, flat_map, length, length-append, Option, Some}
-use Rattle.canonical_form.proofs.Common.{None, option_to_list, IsTrue, sym, subst, arith, nat_cmp, AllByRecursion, AllKeysStandIn, AllStandIn}
-use Rattle.canonical_form.proofs.Common.{Arrangement, Arranges, Body5, Body7, BodyP, Carries, Chain, County, GrowsFrom, IsAccepted, IsArranged}
-use Rattle.canonical_form.proofs.Common.{IsCanonicalThrough, IsCounty, IsLeastChoice, IsSight, IsWithinLimits, PolygonKey, Record, all_both}
-use Rattle.canonical_form.proofs.Common.{all_known, all_unmap, all_weaker, arranged, arranged_list, by_type_of, chain_nodes, chain_polygons}
-use Rattle.canonical_form.proofs.Common.{county-is_county, county_of, feats, key_cmp, key_keys, key_on, key_under, known_all, lands, length-map}
-use Rattle.canonical_form.proofs.Common.{link_key, lt-ltb, ltb-true, most_records, nat_keys, nodes_along, packed, packed_by_type, packed_five}
-use Rattle.canonical_form.proofs.Common.{packed_one, packed_sevens, polygon_keys, polygons_along, renaming_of, stands_in, times, tlids, up_to}
-use Rattle.tl_layout.specs.Limits.{IsWithinLimit, count_of_type}
-use Rattle.tl_layout.specs.RecordText.{FitsRecord}
-use Rattle.canonical_form.proofs.Limits.CarriedLimits.{carried_contents, carried_lists, carried_counts}
-use Rattle.county_chart.proofs.Limits.FitsCounty.{county_counts, county-within_limits}
-use Rattle.county_chart.proofs.Limits.FitsPacked.{packed-fits}
-use Rattle.ordered_lists.proofs.Lists.Elements.{all_pieces}
-use Rattle.county_chart.specs.Laws.TypeCounts.{HasAtMost, HasWithin, KeepsLimits, by_type_keeps, by_type_within, packed_keeps}
-use Rattle.county_chart.specs.Laws.TypeCounts.{packed_within}
-use Rattle.canonical_form.specs.SeenRecords.{ShowsNoMore}
-use Rattle.canonical_form.proofs.CanonicalLists.Ascending.{sides_in_profile}
-use Rattle.canonical_form.proofs.Arrangements.Carrying.{arrangement_carries}
-use Rattle.canonical_form.specs.RecordNumbers.{numbers_of, greatest_number}
-use Rattle.ordered_lists.proofs.Lists.Ranges.{range_bounds}
-use Rattle.canonical_form.proofs.Arrangements.SmallNumbers.{IsSmall, IsSmallKey, NamesSmall, NumbersSmall, small_numbers_fit, packed_low}
-use Rattle.canonical_form.proofs.Arrangements.ArrangedCounties.{is_arranged, arranged_county}
-use Rattle.canonical_form.proofs.CanonicalLists.TidyLists.{canonical_is_choice}
+use Rattle.canonical_form.proofs.Common.{AllByRecursion, Body5, IsCanonicalThrough, county-is_county, county-within_limits, greatest_number}
+use Rattle.canonical_form.proofs.Common.{AllKeysStandIn, IsWithinLimits, [], by_type_within, chain_polygons, option_to_list, packed_by_type}
+use Rattle.canonical_form.proofs.Common.{AllStandIn, county_counts, length-append, most_records, packed_keeps, packed_sevens, packed_within}
+use Rattle.canonical_form.proofs.Common.{Arrangement, Body7, KeepsLimits, ShowsNoMore, chain_nodes, nodes_along, polygon_keys, range_bounds}
+use Rattle.canonical_form.proofs.Common.{Arranges, IsCounty, all_both, all_known, all_unmap, county_of, key_under, known_all, stands_in, ℕ}
+use Rattle.canonical_form.proofs.Common.{BodyP, GrowsFrom, HasAtMost, HasWithin, all_weaker, by_type_of, length-map, numbers_of, packed_one}
+use Rattle.canonical_form.proofs.Common.{Carries, IsLeastChoice, IsWithinLimit, arranged_list, by_type_keeps, count_of_type, polygons_along}
+use Rattle.canonical_form.proofs.Common.{Chain, IsTrue, Option, Record, arith, feats, key_on, lands, length, lt-ltb, packed, subst, times}
+use Rattle.canonical_form.proofs.Common.{County, IsSight, arranged, flat_map, key_cmp, key_keys, link_key, ltb-true, map, nat_cmp, nat_keys}
+use Rattle.canonical_form.proofs.Common.{FitsRecord, IsAccepted, IsArranged, PolygonKey, all_pieces, packed-fits, packed_five, renaming_of}
+use Rattle.canonical_form.proofs.Common.{List, None, Some, max, suc, sym, tlids, up_to, ◌*◌, ◌+◌, ◌<◌, ◌∷◌, ◌≡◌, ◌≤◌}
+use Rattle.canonical_form.proofs.Limits.CarriedLimits.{carried_contents, carried_counts, carried_lists}
+use Rattle.canonical_form.proofs.CanonicalLists.{Ascending.sides_in_profile, TidyLists.canonical_is_choice}
+use Rattle.canonical_form.proofs.Arrangements.SmallNumbers.{IsSmall, IsSmallKey, NamesSmall, NumbersSmall, packed_low, small_numbers_fit}
+use Rattle.canonical_form.proofs.Arrangements.{ArrangedCounties.arranged_county, ArrangedCounties.is_arranged, Carrying.arrangement_carries}
 
 -- numbers that grow are at most as large as the list is long
 grown_bounds : (m : ℕ) (ks : List ℕ) → GrowsFrom m ks → AllByRecursion (λ k. (1 ≤ k) × (k ≤ m + length ks)) ks

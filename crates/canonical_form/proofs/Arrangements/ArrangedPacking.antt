@@ -1,23 +1,20 @@
 -- The packing of an arranged county is an arranged list of records.
-use Rattle.canonical_form.proofs.Common.{flat_map, ◌≡◌, ◌≤◌, ◌-◌, min, ℕ, zero, suc, List, [], ◌∷◌, map, filter_map, length, take, drop, Ordering, is_gt}
-use Rattle.canonical_form.proofs.Common.{false, sym, refl, ap, ap₂, ◌∙◌, subst, arith, nat_cmp, map-id, length-drop, AllByRecursion, AreFull}
-use Rattle.canonical_form.proofs.Common.{Body7, Chain, Coordinates, County, Fields2, Fields4, Fields6, Fields7, IsArranged, IsArrangedList}
-use Rattle.canonical_form.proofs.Common.{IsCounty, IsInOrder, IsPacked, IsStrictlySortedBy, Ranges, StandsInOrder, all_everywhere, all_weaker}
-use Rattle.canonical_form.proofs.Common.{by_type_of, in_order-in_order, in_pieces, inner_points, landmark_body_cmp, length-map, length-take}
-use Rattle.canonical_form.proofs.Common.{link_cmp, map-map, map_agree_everywhere, nat_cmp_total, numbered_from, of_number, on, on_total}
-use Rattle.canonical_form.proofs.Common.{p_polyid, packed, packed_by_type, packed_five, packed_fours, packed_i, packed_one}
-use Rattle.canonical_form.proofs.Packing.PackedCounty.{packed_county}
-use Rattle.canonical_form.proofs.Common.{packed_p, packed_sevens, packed_sixes, packed_twos, pieces, rights-numbered_from, then_cmp, up_to}
-use Rattle.county_chart.specs.County.{one_tlid, two_tlid, two_rtsq, four_tlid, four_rtsq, five_feat, six_tlid, six_rtsq}
-use Rattle.county_chart.specs.County.{seven_land, i_tlid}
-use Rattle.county_chart.specs.Packing.{type_after_type}
-use Rattle.county_chart.proofs.Packing.Pieces.{lefts-numbered_from, length-numbered_from}
+use Rattle.canonical_form.proofs.Common.{AllByRecursion, AreFull, Body7, Chain, Coordinates, County, Fields2, Fields4, Fields6, Fields7}
+use Rattle.canonical_form.proofs.Common.{IsArranged, IsArrangedList, IsCounty, IsInOrder, IsPacked, IsStrictlySortedBy, List, Ordering}
+use Rattle.canonical_form.proofs.Common.{Ranges, SequencedType, StandsInOrder, [], all_everywhere, all_weaker, ap, ap₂, arith, by_type_of}
+use Rattle.canonical_form.proofs.Common.{drop, false, filter_map, five_feat, flat_map, four_rtsq, four_tlid, i_tlid, in_order-from_strict}
+use Rattle.canonical_form.proofs.Common.{in_order-in_order, in_pieces, inner_points, is_gt, landmark_body_cmp, landmark_cmp}
+use Rattle.canonical_form.proofs.Common.{lefts-numbered_from, length, length-drop, length-map, length-numbered_from, length-take, link_cmp}
+use Rattle.canonical_form.proofs.Common.{map, map-id, map-map, map_agree_everywhere, min, nat_cmp, nat_cmp_total, numbered_from, of_number}
+use Rattle.canonical_form.proofs.Common.{of_type_2, of_type_4, of_type_6, on, on_total, one_tlid, p_polyid, packed, packed_by_type}
+use Rattle.canonical_form.proofs.Common.{packed_five, packed_fours, packed_i, packed_one, packed_p, packed_sevens, packed_sixes}
+use Rattle.canonical_form.proofs.Common.{packed_twos, pieces, refl, rights-numbered_from, rtsqs, seven_land, six_rtsq, six_tlid, subst, suc}
+use Rattle.canonical_form.proofs.Common.{sym, take, then_cmp, two_rtsq, two_tlid, type_after_type, up_to, zero, ℕ, ◌-◌, ◌∙◌, ◌∷◌, ◌≡◌, ◌≤◌}
 use Rattle.canonical_form.proofs.Packing.PackedGroups.{group_holds, groups_in_order}
-use Rattle.ordered_lists.proofs.Lists.InOrder.{in_order-from_strict}
-use Rattle.canonical_form.proofs.Packing.PackedNumbers.{two_own, four_own, six_own, seven_own, numbered_strict, tlids_apart, ones, twos, fours}
-use Rattle.canonical_form.proofs.Packing.PackedNumbers.{fives, sixes, sevens, eights, links_of_chains, polygons_packed}
-use Rattle.canonical_form.proofs.Packing.PackedLinked.{packed_linked}
-use Rattle.county_chart.specs.BodyOrder.{landmark_cmp}
+use Rattle.canonical_form.proofs.Packing.PackedNumbers.{eights, fives, four_own, fours, links_of_chains, numbered_strict, ones}
+use Rattle.canonical_form.proofs.Packing.PackedNumbers.{polygons_packed, seven_own, sevens, six_own, sixes, tlids_apart, two_own, twos}
+use Rattle.canonical_form.proofs.{Packing.PackedCounty.packed_county, Packing.PackedLinked.packed_linked, Packing.TypeOrder.type_by_type}
+use Rattle.county_chart.specs.declared.fault.SequencedType.TheVariants as sequenced
 
 -- pieces except the last are full
 full_pieces : {X : Type 0} (n most : ℕ) (xs : List X) → 1 ≤ n → length xs ≤ most → AreFull n (pieces n most xs)
@@ -80,7 +77,7 @@ module _ (c : County) (is : IsCounty c) where
   pub packed_stands_in_order : StandsInOrder (packed c)
   unfolding make_2 make_4 make_6
   packed_stands_in_order = record {
-    types = sym (ap type_after_type (by_type_of (packed_by_type c)));
+    types = sym (ap type_after_type (by_type_of (packed_by_type c))) ∙ type_by_type (packed c);
     of_type_1 = subst (IsInOrder (on one_tlid nat_cmp)) (sym (ones c is))
         (in_order-from_strict one_tlid (map packed_one c.chains)
         (subst (IsStrictlySortedBy nat_cmp) (sym (map-map one_tlid packed_one c.chains)) is.ascending.chains));
@@ -121,6 +118,22 @@ module _ (c : County) (is : IsCounty c) where
   in_group number pack own P none each xs same tlid = subst (λ ys. P (of_number number tlid ys)) (sym same)
       (group_holds number pack own P none c.chains (tlids_apart c is) (all_everywhere (λ e. P (pack e)) each c.chains) tlid)
 
+  -- numbers that count from 1, as many as there are of them
+  counted : {X : Type 0} (number : X → ℕ) (xs : List X) → map number xs ≡ up_to (length xs) → map number xs ≡ up_to (length (map number xs))
+  counted number xs e = e ∙ ap up_to (sym (length-map xs number))
+
+  packed_rtsqs : (rtype : SequencedType) (tlid : ℕ) → rtsqs rtype tlid (packed c) ≡ up_to (length (rtsqs rtype tlid (packed c)))
+  unfolding make_2 make_4 make_6
+  packed_rtsqs sequenced.Two tlid = counted two_rtsq (of_number two_tlid tlid (of_type_2 (packed c)))
+      (in_group two_tlid packed_twos two_own (λ xs. map two_rtsq xs ≡ up_to (length xs)) refl
+      (λ e. rtsqs_counted two_rtsq (make_2 e) (λ piece. refl) (in_pieces 10 (inner_points e.1.points))) _ (twos c is) tlid)
+  packed_rtsqs sequenced.Four tlid = counted four_rtsq (of_number four_tlid tlid (of_type_4 (packed c)))
+      (in_group four_tlid packed_fours four_own (λ xs. map four_rtsq xs ≡ up_to (length xs)) refl
+      (λ e. rtsqs_counted four_rtsq (make_4 e) (λ piece. refl) (in_pieces 5 e.1.feats)) _ (fours c is) tlid)
+  packed_rtsqs sequenced.Six tlid = counted six_rtsq (of_number six_tlid tlid (of_type_6 (packed c)))
+      (in_group six_tlid packed_sixes six_own (λ xs. map six_rtsq xs ≡ up_to (length xs)) refl
+      (λ e. rtsqs_counted six_rtsq (make_6 e) (λ piece. refl) e.1.ranges) _ (sixes c is) tlid)
+
   pub packed_is_packed : IsPacked (packed c)
   unfolding make_2 make_4 make_6
   packed_is_packed = record {
@@ -134,12 +147,7 @@ module _ (c : County) (is : IsCounty c) where
         (sym (contents_made four_rtsq (make_4 e) (λ piece. refl) (λ (r : Fields4). r.feats) (λ (piece : List ℕ). piece) (λ piece. refl)
         (in_pieces 5 e.1.feats) ∙ map-id (in_pieces 5 e.1.feats)))
         (full_pieces 5 (length e.1.feats) e.1.feats (omega arith) (omega arith))) _ (fours c is);
-    two_rtsqs = in_group two_tlid packed_twos two_own (λ xs. map two_rtsq xs ≡ up_to (length xs)) refl
-        (λ e. rtsqs_counted two_rtsq (make_2 e) (λ piece. refl) (in_pieces 10 (inner_points e.1.points))) _ (twos c is);
-    four_rtsqs = in_group four_tlid packed_fours four_own (λ xs. map four_rtsq xs ≡ up_to (length xs)) refl
-        (λ e. rtsqs_counted four_rtsq (make_4 e) (λ piece. refl) (in_pieces 5 e.1.feats)) _ (fours c is);
-    six_rtsqs = in_group six_tlid packed_sixes six_own (λ xs. map six_rtsq xs ≡ up_to (length xs)) refl
-        (λ e. rtsqs_counted six_rtsq (make_6 e) (λ piece. refl) e.1.ranges) _ (sixes c is);
+    rtsqs = packed_rtsqs;
   }
 
   -- The packing of an arranged county is an arranged list.

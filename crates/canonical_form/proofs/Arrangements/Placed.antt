@@ -1,18 +1,14 @@
 -- The chains of an arrangement, in their new order and direction and with their new numbers.
-use Rattle.canonical_form.proofs.Common.{◌≡◌, ◌⊎◌, ◌≤◌, ℕ, zero, suc, nat_lt, List, [], ◌∷◌, ◌++◌, map, filter, flat_map, length, Bool, true}
-use Rattle.canonical_form.proofs.Common.{false, cond, is_eq, sym, refl, ap, ap₂, ◌∙◌, subst, inl, inr, arith, nat_cmp, IsPermutation}
-use Rattle.canonical_form.proofs.Common.{AllByRecursion, Arrangement, Arranges, Chain, County, IsApart, IsCounty, Known, Renumbering, all_weaker}
-use Rattle.canonical_form.proofs.Common.{apart-permutation, apart_from_sorted, apart_tail, arranged_tlids, carried_chain, chains_in_order}
-use Rattle.canonical_form.proofs.Common.{entries_of, image, images-lefts, keys_known, known-here, known-permutation, known-permutation_to}
-use Rattle.canonical_form.proofs.Common.{known_cases, length-map, lt-ltb, map-append, map-map, map_agree_all, nat_keys, numbered, numbered_from}
-use Rattle.canonical_form.proofs.Common.{placed, renumbered, rights-numbered_from, same_or_not, stands_in, times, times-no, times-of_number}
-use Rattle.canonical_form.proofs.Common.{times-yes, tlids, turned_if, turned_tlids, turns, up_to}
-use Rattle.ordered_lists.proofs.ByKey.Keys.{known-later, differ}
-use Rattle.county_chart.proofs.Lists.OfNumber.{of_number-all, groups-permutation}
-use Rattle.ordered_lists.proofs.ByKey.Numbers.{only_one}
-use Rattle.canonical_form.proofs.Lists.Counting.{entries_equal, flat_map-map}
-use Rattle.county_chart.proofs.Packing.Pieces.{lefts-numbered_from}
-use Rattle.canonical_form.proofs.Unique.SameNumbers.{kept_entry}
+use Rattle.canonical_form.proofs.Common.{AllByRecursion, Arrangement, Arranges, Bool, Chain, County, IsApart, IsCounty, IsPermutation}
+use Rattle.canonical_form.proofs.Common.{Known, List, Renumbering, [], all_weaker, ap, apart-permutation, apart_from_sorted, apart_tail}
+use Rattle.canonical_form.proofs.Common.{ap₂, arith, arranged_tlids, carried_chain, chains_in_order, cond, differ, entries_of, false}
+use Rattle.canonical_form.proofs.Common.{filter, flat_map, groups-permutation, image, images-lefts, inl, inr, is_eq, keys_known, known-here}
+use Rattle.canonical_form.proofs.Common.{known-later, known-permutation, known-permutation_to, known_cases, lefts-numbered_from, length}
+use Rattle.canonical_form.proofs.Common.{length-map, lt-ltb, map, map-append, map-map, map_agree_all, nat_cmp, nat_keys, nat_lt, numbered}
+use Rattle.canonical_form.proofs.Common.{numbered_from, of_number-all, only_one, placed, refl, renumbered, rights-numbered_from}
+use Rattle.canonical_form.proofs.Common.{same_or_not, stands_in, subst, suc, sym, times, times-no, times-of_number, times-yes, tlids, true}
+use Rattle.canonical_form.proofs.Common.{turned_if, turned_tlids, turns, up_to, zero, ℕ, ◌++◌, ◌∙◌, ◌∷◌, ◌≡◌, ◌≤◌, ◌⊎◌}
+use Rattle.canonical_form.proofs.{Lists.Counting.entries_equal, Lists.Counting.flat_map-map, Unique.SameNumbers.kept_entry}
 
 -- numbered keys as pairs
 pub lefts-numbered : {K : Type 0} (keys : List K) → map (λ (pair : K × ℕ). pair.0) (numbered keys) ≡ keys

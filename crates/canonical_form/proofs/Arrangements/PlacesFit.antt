@@ -1,13 +1,10 @@
 -- A county within its limits is small enough for places of 32 bits.
-use Rattle.canonical_form.proofs.Common.{◌≡◌, ◌*◌, ◌<◌, ◌≤◌, ℕ, List, [], ◌∷◌, map, filter, flat_map, length, IsTrue, Ordering, is_eq, subst}
-use Rattle.canonical_form.proofs.Common.{arith, AllByRecursion, AllKeysStandIn, Among, BodyP, Chain, County, IsApart, IsCounty, IsKeyOrder}
-use Rattle.canonical_form.proofs.Common.{IsWithinLimits, PolygonKey, all_weaker, apart_from_sorted, by_type_of, chain_polygons, key_keys}
-use Rattle.canonical_form.proofs.Common.{known_is_among, length-map, ltb-true, most_records, packed, packed_by_type, packed_five, packed_one}
-use Rattle.canonical_form.proofs.Common.{packed_sevens, polygon_keys, polygons_along, same-itself, stands_in, times, to_filter}
-use Rattle.std.proofs.Common.{◌^◌}
-use Rattle.std.specs.Prelude.{Option}
-use Rattle.ordered_lists.proofs.Lists.Counted.{few_in_groups}
-use Rattle.county_chart.specs.Laws.TypeCounts.{HasAtMost, by_type_within}
+use Rattle.canonical_form.proofs.Common.{AllByRecursion, AllKeysStandIn, Among, BodyP, Chain, County, HasAtMost, IsApart, IsCounty}
+use Rattle.canonical_form.proofs.Common.{IsKeyOrder, IsTrue, IsWithinLimits, List, Option, Ordering, PolygonKey, [], all_weaker}
+use Rattle.canonical_form.proofs.Common.{apart_from_sorted, arith, by_type_of, by_type_within, chain_polygons, few_in_groups, filter}
+use Rattle.canonical_form.proofs.Common.{flat_map, is_eq, key_keys, known_is_among, length, length-map, ltb-true, map, most_records, packed}
+use Rattle.canonical_form.proofs.Common.{packed_by_type, packed_five, packed_one, packed_sevens, polygon_keys, polygons_along, same-itself}
+use Rattle.canonical_form.proofs.Common.{stands_in, subst, times, to_filter, ℕ, ◌*◌, ◌<◌, ◌^◌, ◌∷◌, ◌≡◌, ◌≤◌}
 use Rattle.canonical_form.proofs.Arrangements.ArrangedNumbers.{few_landmarks, long_joined, short_joined, two_polygons}
 
 -- the places of chains, names, polygons and landmarks fit into 32 bits

@@ -1,25 +1,17 @@
 -- Polygons in the order of first appearance are the polygons of the arranged county by number.
-use Rattle.canonical_form.proofs.Common.{map_agree_all, ◌≡◌, ℕ, List, [], ◌∷◌, map, length, Option, Some, sym, refl, ap, ◌∙◌, subst, nat_cmp}
-use Rattle.canonical_form.proofs.Common.{IsPermutation, IfSome, zero, suc, slice_get, option_map, None, arith, ◌+◌, AllByRecursion}
-use Rattle.canonical_form.proofs.Common.{AllKeysStandIn, Arrangement, Arranges, BodyP, County, IsApart, IsCounty, IsPermutation-map}
-use Rattle.canonical_form.proofs.Common.{IsPermutation-sym, IsPermutation-trans, IsStrictlySortedBy, PolygonKey, arranged, carried_polygon}
-use Rattle.canonical_form.proofs.Common.{image, images-lefts, in_order, in_order-in_order, in_order-is_permutation, in_order-map}
-use Rattle.canonical_form.proofs.Common.{in_order-permutation, key_cmp, key_keys, lefts, map-map, nat_cmp_total, nat_keys, numbered}
-use Rattle.canonical_form.proofs.Common.{numbered_from, on, on_total, placed, polygon_keys, polygons_along, polygons_in_order, renaming_of}
-use Rattle.canonical_form.proofs.Common.{rights, strict-map, under_cenid, up_to}
-use Rattle.ordered_lists.specs.Entries.{entry_keys, entry_values, value_under}
-use Rattle.canonical_form.specs.ByNumber.{entry_polyid, polygons_by_number, under_number}
-use Rattle.std.proofs.lemmas.Option.{slice_get-map}
-use Rattle.std.specs.Option.{option_and_then}
-use Rattle.county_chart.specs.ChartWords.{polygon_under}
-use Rattle.ordered_lists.proofs.Lists.InOrder.{strict-permutation}
-use Rattle.ordered_lists.proofs.Lists.EntryLists.{in_order-strict, value-at_place}
-use Rattle.ordered_lists.proofs.Lists.ByPlace.{all_at}
+use Rattle.canonical_form.proofs.Common.{AllByRecursion, carried_polygon, entry_polyid, in_order-strict, option_and_then, polygons_in_order}
+use Rattle.canonical_form.proofs.Common.{AllKeysStandIn, BodyP, IsPermutation, map_agree_all, nat_cmp_total, polygons_along, value-at_place}
+use Rattle.canonical_form.proofs.Common.{Arrangement, entry_values, images-lefts, in_order-map, numbered_from, polygon_under, slice_get-map}
+use Rattle.canonical_form.proofs.Common.{Arranges, IsCounty, arith, arranged, in_order, key_keys, nat_keys, numbered, slice_get, strict-map}
+use Rattle.canonical_form.proofs.Common.{County, IfSome, Option, all_at, image, key_cmp, length, map-map, nat_cmp, on_total, placed, rights}
+use Rattle.canonical_form.proofs.Common.{IsApart, entry_keys, option_map, polygon_keys, renaming_of, under_cenid, under_number, value_under}
+use Rattle.canonical_form.proofs.Common.{IsPermutation-map, IsPermutation-sym, in_order-in_order, polygons_by_number, strict-permutation, ℕ}
+use Rattle.canonical_form.proofs.Common.{IsPermutation-trans, IsStrictlySortedBy, PolygonKey, in_order-is_permutation, in_order-permutation}
+use Rattle.canonical_form.proofs.Common.{List, None, Some, [], ap, lefts, map, on, refl, subst, suc, sym, up_to, zero, ◌+◌, ◌∙◌, ◌∷◌, ◌≡◌}
+use Rattle.canonical_form.proofs.Arrangements.Carrying.{polygon_lefts, polygons_arranged, polygons_permutation, polygons_renamed}
+use Rattle.canonical_form.proofs.{Arrangements.Placed.lefts-numbered, Arrangements.Placed.rights-numbered, Lists.Counting.map-equal_all}
+use Rattle.canonical_form.proofs.{Lists.Counting.up_to-strict, Numbering.FirstSeen.first_seen-apart}
 use Rattle.ordered_lists.proofs.Lists.Reordered.{all_permuted}
-use Rattle.canonical_form.proofs.Arrangements.Carrying.{polygon_lefts, polygons_permutation, polygons_renamed, polygons_arranged}
-use Rattle.canonical_form.proofs.Lists.Counting.{map-equal_all, up_to-strict}
-use Rattle.canonical_form.proofs.Numbering.FirstSeen.{first_seen-apart}
-use Rattle.canonical_form.proofs.Arrangements.Placed.{lefts-numbered, rights-numbered}
 
 -- numbered elements, read by place
 pub numbered_at : {X : Type 0} (i : ℕ) (xs : List X) (k : ℕ) → slice_get (numbered_from i xs) k ≡ option_map (λ x. (i + k, x))

@@ -1,28 +1,21 @@
 -- A canonical list of records is the packing of its county: chains, names and landmarks.
-use Rattle.canonical_form.proofs.Common.{AreFull, ◌≤◌, ◌≡◌, ℕ, ◌==◌, List, [], ◌∷◌, ◌++◌, map, flat_map, length, sym, refl, ap, ap₂, ◌∙◌, subst}
-use Rattle.canonical_form.proofs.Common.{arith, nat_cmp, map-id, AllByRecursion, Chain, Coordinates, Fields2, Fields4, Fields6, Fields7, FieldsI}
-use Rattle.canonical_form.proofs.Common.{IsInOrder, IsLinked, IsPacked, IsStrictlySortedBy, Known, Ranges, Record, StandsInOrder, all_known}
-use Rattle.canonical_form.proofs.Common.{all_unmap, in_order, in_order-map, in_pieces, known-distinct, landmark_body_cmp, last_point, lt-ltb}
-use Rattle.canonical_form.proofs.Common.{ltb-true, map-append, map-map, map_agree_all, nat_keys, numbered_from, of_number, on, packed_five}
-use Rattle.canonical_form.proofs.Common.{packed_fours, packed_i, packed_one, packed_sevens, packed_sixes, packed_twos, stands_in}
-use Rattle.canonical_form.proofs.Common.{strict_from_order, then_cmp, times, up_to}
-use Rattle.tl_layout.specs.Fields.{Fields1, Fields5}
-use Rattle.tl_layout.specs.ByType.{of_type_1, of_type_2, of_type_4, of_type_5, of_type_6, of_type_7, of_type_i}
-use Rattle.county_chart.specs.County.{one_tlid, two_tlid, two_rtsq, four_tlid, four_rtsq, five_feat, six_tlid, six_rtsq, seven_land}
-use Rattle.county_chart.specs.County.{i_tlid, shape_points, further_names, chain_of, chains_of, names_of, landmarks_of}
-use Rattle.county_chart.specs.LinkRules.{chain_tlids, linked_tlids}
-use Rattle.county_chart.specs.declared.fault.LinkFault.TheVariants.{NoChain}
-use Rattle.county_chart.specs.declared.fault.LinkedType.{LinkedType}
-use Rattle.county_chart.specs.declared.fault.LinkedType.TheVariants.{Two, Four, Six, I}
-use Rattle.ordered_lists.specs.Orders.{distinct}
-use Rattle.ordered_lists.proofs.Lists.InOrder.{in_order-itself, in_order-from_strict}
-use Rattle.county_chart.proofs.Rules.LinkedCounty.{needed, apart_chains, the_link}
-use Rattle.county_chart.proofs.Lists.OfNumber.{of_number-all}
-use Rattle.ordered_lists.proofs.ByKey.Numbers.{distinct-strict}
-use Rattle.county_chart.specs.BodyOrder.{landmark_cmp}
-use Rattle.county_chart.specs.Packing.{without_last}
+use Rattle.canonical_form.proofs.Common.{AllByRecursion, AreFull, Chain, Coordinates, Fields1, Fields2, Fields4, Fields5, Fields6, Fields7}
+use Rattle.canonical_form.proofs.Common.{FieldsI, IsInOrder, IsLinked, IsPacked, IsStrictlySortedBy, Known, LinkedType, List, NoChain}
+use Rattle.canonical_form.proofs.Common.{Ranges, Record, StandsInOrder, [], all_known, all_unmap, ap, apart_chains, ap₂, arith, chain_of}
+use Rattle.canonical_form.proofs.Common.{chain_tlids, chains_of, distinct, distinct-strict, five_feat, flat_map, four_rtsq, four_tlid}
+use Rattle.canonical_form.proofs.Common.{further_names, i_tlid, in_order, in_order-from_strict, in_order-itself, in_order-map, in_pieces}
+use Rattle.canonical_form.proofs.Common.{known-distinct, landmark_body_cmp, landmark_cmp, landmarks_of, last_point, length, length-map}
+use Rattle.canonical_form.proofs.Common.{linked_tlids, lt-ltb, ltb-true, map, map-append, map-id, map-map, map_agree_all, names_of, nat_cmp}
+use Rattle.canonical_form.proofs.Common.{nat_keys, needed, numbered_from, of_number, of_number-all, of_type_1, of_type_2, of_type_4}
+use Rattle.canonical_form.proofs.Common.{of_type_5, of_type_6, of_type_7, of_type_i, on, one_tlid, packed_five, packed_fours, packed_i}
+use Rattle.canonical_form.proofs.Common.{packed_one, packed_sevens, packed_sixes, packed_twos, refl, seven_land, shape_points, six_rtsq}
+use Rattle.canonical_form.proofs.Common.{six_tlid, stands_in, strict_from_order, subst, sym, the_link, then_cmp, times, two_rtsq, two_tlid}
+use Rattle.canonical_form.proofs.Common.{up_to, without_last, ℕ, ◌++◌, ◌==◌, ◌∙◌, ◌∷◌, ◌≡◌, ◌≤◌}
 use Rattle.canonical_form.proofs.Lists.Counting.{flat_map-map, up_to-strict}
-use Rattle.canonical_form.proofs.Lists.Grouping.{in_order-weaker, then-first, in_order-filter, parts_in_order, grouped, pieces-joined, rtsqs-back}
+use Rattle.canonical_form.proofs.Lists.Grouping.{grouped, in_order-filter, in_order-weaker, parts_in_order, pieces-joined, rtsqs-back}
+use Rattle.canonical_form.proofs.Lists.Grouping.{then-first}
+use Rattle.county_chart.specs.declared.fault.LinkedType.TheVariants.{Four, I, Six, Two}
+use Rattle.county_chart.specs.declared.fault.SequencedType.TheVariants as sequenced
 
 -- the points between the ends, and the last one
 inner_back : (s : Coordinates) (ps : List Coordinates) (e : Coordinates) → without_last (ps ++ (e ∷ [])) ≡ ps
@@ -144,10 +137,14 @@ module _ (records : List Record) (linked : IsLinked records) where
         ap (in_pieces width) (ap (flat_map content) (rtsq_order rtsq rs counted) ∙ joined_pieces content rs)
         ∙ pieces-joined width one (map content rs) full_pieces (length (flat_map (λ l. l) (map content rs))) (omega arith)
 
+    -- numbers that count from 1, as many as there are items
+    counted : {X : Type 0} (rtsq : X → ℕ) (xs : List X) → map rtsq xs ≡ up_to (length (map rtsq xs)) → map rtsq xs ≡ up_to (length xs)
+    counted rtsq xs e = e ∙ ap up_to (length-map xs rtsq)
+
     two_pieces : (n : ℕ) → in_pieces 10 (shape_points records n) ≡ map (λ (r : Fields2). r.points)
         (of_number two_tlid n (of_type_2 records))
     two_pieces n = contents_back 10 (omega arith) two_rtsq (λ (r : Fields2). r.points) (of_number two_tlid n (of_type_2 records))
-        (full.two_rtsqs n) (full.points n)
+        (counted two_rtsq (of_number two_tlid n (of_type_2 records)) (full.rtsqs sequenced.Two n)) (full.points n)
 
     -- the lists of all chains, in records with RTSQs
     lists_back : {X : Type 0} (pack : ℕ × Chain → List X) (tlid rtsq : X → ℕ) (xs : List X)
@@ -169,7 +166,7 @@ module _ (records : List Record) (linked : IsLinked records) where
         ∙ ap (λ ls. map (λ (p : ℕ × List Coordinates). record { tlid = r.tlid; rtsq = p.0; points = p.1 }) (numbered_from 1 ls))
         (two_pieces r.tlid)
         ∙ rtsqs-back two_tlid two_rtsq (λ (q : Fields2). q.points) (λ t i content. record { tlid = t; rtsq = i; points = content })
-        (λ q. refl) r.tlid 1 rs (of_number-all two_tlid r.tlid (of_type_2 records)) (full.two_rtsqs r.tlid)
+        (λ q. refl) r.tlid 1 rs (of_number-all two_tlid r.tlid (of_type_2 records)) (counted two_rtsq rs (full.rtsqs sequenced.Two r.tlid))
 
     pub twos_back : flat_map packed_twos (chains_of records) ≡ of_type_2 records
     twos_back = lists_back packed_twos two_tlid two_rtsq (of_type_2 records) twos_of order.of_type_2 (linked_known Two)
@@ -177,7 +174,7 @@ module _ (records : List Record) (linked : IsLinked records) where
     four_pieces : (n : ℕ) → in_pieces 5 (further_names records n) ≡ map (λ (r : Fields4). r.feats)
         (of_number four_tlid n (of_type_4 records))
     four_pieces n = contents_back 5 (omega arith) four_rtsq (λ (r : Fields4). r.feats) (of_number four_tlid n (of_type_4 records))
-        (full.four_rtsqs n) (full.feats n)
+        (counted four_rtsq (of_number four_tlid n (of_type_4 records)) (full.rtsqs sequenced.Four n)) (full.feats n)
 
     fours_of : (r : Fields1) (link : FieldsI) → packed_fours (r.tlid, chain_of records r link) ≡ of_number four_tlid r.tlid
         (of_type_4 records)
@@ -185,7 +182,7 @@ module _ (records : List Record) (linked : IsLinked records) where
         let rs : List Fields4 = of_number four_tlid r.tlid (of_type_4 records) in
         ap (λ ls. map (λ (p : ℕ × List ℕ). record { tlid = r.tlid; rtsq = p.0; feats = p.1 }) (numbered_from 1 ls)) (four_pieces r.tlid)
         ∙ rtsqs-back four_tlid four_rtsq (λ (q : Fields4). q.feats) (λ t i content. record { tlid = t; rtsq = i; feats = content })
-        (λ q. refl) r.tlid 1 rs (of_number-all four_tlid r.tlid (of_type_4 records)) (full.four_rtsqs r.tlid)
+        (λ q. refl) r.tlid 1 rs (of_number-all four_tlid r.tlid (of_type_4 records)) (counted four_rtsq rs (full.rtsqs sequenced.Four r.tlid))
 
     pub fours_back : flat_map packed_fours (chains_of records) ≡ of_type_4 records
     fours_back = lists_back packed_fours four_tlid four_rtsq (of_type_4 records) fours_of order.of_type_4 (linked_known Four)
@@ -194,10 +191,11 @@ module _ (records : List Record) (linked : IsLinked records) where
         (of_type_6 records)
     sixes_of r link =
         let rs : List Fields6 = of_number six_tlid r.tlid (of_type_6 records) in
+        let from_one = counted six_rtsq rs (full.rtsqs sequenced.Six r.tlid) in
         ap (λ qs. map (λ (p : ℕ × Ranges). record { tlid = r.tlid; rtsq = p.0; ranges = p.1 })
-        (numbered_from 1 (map (λ (q : Fields6). q.ranges) qs))) (rtsq_order six_rtsq rs (full.six_rtsqs r.tlid))
+        (numbered_from 1 (map (λ (q : Fields6). q.ranges) qs))) (rtsq_order six_rtsq rs from_one)
         ∙ rtsqs-back six_tlid six_rtsq (λ (q : Fields6). q.ranges) (λ t i content. record { tlid = t; rtsq = i; ranges = content })
-        (λ q. refl) r.tlid 1 rs (of_number-all six_tlid r.tlid (of_type_6 records)) (full.six_rtsqs r.tlid)
+        (λ q. refl) r.tlid 1 rs (of_number-all six_tlid r.tlid (of_type_6 records)) from_one
 
     pub sixes_back : flat_map packed_sixes (chains_of records) ≡ of_type_6 records
     sixes_back = lists_back packed_sixes six_tlid six_rtsq (of_type_6 records) sixes_of order.of_type_6 (linked_known Six)

@@ -1,26 +1,18 @@
 -- The type P records of an arranged list are its county's polygons, packed; so the whole list is the packing of its county.
-use Rattle.canonical_form.proofs.Common.{◌≡◌, ◌⊎◌, ◌≤◌, ℕ, suc, List, [], ◌∷◌, ◌++◌, map, flat_map, filter_map, false, Option, Some, None}
-use Rattle.canonical_form.proofs.Common.{IsTrue, Ordering, Less, Equal, Greater, is_gt, is_eq, sym, refl, ap, ◌∙◌, subst, inl, inr, arith}
-use Rattle.canonical_form.proofs.Common.{nat_cmp, AllByRecursion, Among, BodyP, FieldsP, IsApart, IsArranged, IsArrangedList, IsInOrder}
-use Rattle.canonical_form.proofs.Common.{IsKeyOrder, IsLinked, IsPacked, Known, PolygonKey, Record, StandsInOrder, all_among, among-map}
-use Rattle.canonical_form.proofs.Common.{among-unmap, among_known, apart-distinct, apart_tail, cons_option, county_of, in_order}
-use Rattle.canonical_form.proofs.Common.{in_order-in_order, key_cmp, key_keys, known-distinct, known-right, known_all, known_is_among, link_cmp}
-use Rattle.canonical_form.proofs.Common.{ltb-false, ltb-true, nat_cmp_total, nat_keys, on, on_total, p_polyid, packed, packed_body}
-use Rattle.canonical_form.proofs.Common.{packed_by_type, packed_p, polygon_keys, polygons_along, same_or_not, stands_in, times, times-no}
-use Rattle.canonical_form.proofs.Common.{times-yes, true≢false}
+use Rattle.canonical_form.proofs.Common.{AllByRecursion, IsArrangedList, StandsInOrder, in_order-in_order, in_order-itself, type_after_type}
+use Rattle.canonical_form.proofs.Common.{Among, among-unmap, among_known, cons_option, keys-county, known-right, polygon_keys, strict-equal}
+use Rattle.canonical_form.proofs.Common.{BodyP, Equal, FieldsP, Greater, IsApart, IsTrue, Option, Record, by_type, key_cmp, nat_cmp, packed}
+use Rattle.canonical_form.proofs.Common.{IsArranged, PolygonTwice, from_in_order, in_filter_map, nat_cmp_total, polygon_body, to_filter_map}
+use Rattle.canonical_form.proofs.Common.{IsInOrder, IsLinked, all_among, among-map, county_of, known_all, ltb-false, times-cons, true≢false}
+use Rattle.canonical_form.proofs.Common.{IsKeyOrder, PolygonKey, apart_tail, filter_map, packed_body, polygons_of, same_or_not, to_in_order}
+use Rattle.canonical_form.proofs.Common.{IsPacked, Ordering, ap, distinct, of_type_8, of_type_i, of_type_p, side_keys, stands_in, times-yes}
+use Rattle.canonical_form.proofs.Common.{Known, Less, List, None, Some, arith, false, inl, is_eq, is_gt, p_key, refl, subst, times, ℕ, ◌++◌}
+use Rattle.canonical_form.proofs.Common.{[], apart-distinct, known-distinct, known_is_among, packed_by_type, polygons_along, times-in_order}
+use Rattle.canonical_form.proofs.Common.{flat_map, in_order, key_keys, link_cmp, ltb-true, nat_keys, on_total, p_polyid, packed_p, times-no}
+use Rattle.canonical_form.proofs.Common.{inr, map, on, suc, sym, ◌∙◌, ◌∷◌, ◌≡◌, ◌≤◌, ◌⊎◌}
+use Rattle.canonical_form.proofs.Arrangements.Repacked.{fives_back, fours_back, is_back, ones_back, sevens_back, sixes_back, twos_back}
+use Rattle.canonical_form.proofs.{Packing.PolygonBodies.body_found, Packing.PolygonBodies.first_body, Packing.TypeOrder.type_by_type}
 use Rattle.std.specs.List.Sorted.{IsStrictlySortedBy}
-use Rattle.tl_layout.specs.ByType.{of_type_p, of_type_i, of_type_8}
-use Rattle.county_chart.specs.County.{p_key, side_keys, polygon_body, polygons_of}
-use Rattle.county_chart.specs.declared.fault.LinkFault.TheVariants.{PolygonTwice}
-use Rattle.ordered_lists.specs.Orders.{distinct}
-use Rattle.ordered_lists.proofs.Lists.InOrder.{in_order-itself, strict-equal}
-use Rattle.canonical_form.proofs.Packing.PolygonBodies.{first_body, body_found}
-use Rattle.ordered_lists.proofs.ByKey.Keys.{times-cons}
-use Rattle.county_chart.proofs.Rules.LinkedCounty.{keys-county}
-use Rattle.ordered_lists.proofs.Lists.Members.{in_filter_map, to_filter_map}
-use Rattle.ordered_lists.proofs.ByKey.Numbers.{times-in_order, from_in_order, to_in_order}
-use Rattle.county_chart.specs.Packing.{by_type, type_after_type}
-use Rattle.canonical_form.proofs.Arrangements.Repacked.{ones_back, twos_back, fours_back, fives_back, sixes_back, sevens_back, is_back}
 
 -- in order by a number, if equal numbers mean equal keys and no key occurs twice
 strict_from_keys : {X K : Type 0} {cmp : K → K → Ordering} (o : IsKeyOrder cmp) (f : X → ℕ) (key : X → K) (xs : List X)
@@ -170,7 +162,7 @@ module _ (records : List Record) (linked : IsLinked records) (order : StandsInOr
 pub arranged_is_packed : (records : List Record) → IsLinked records → StandsInOrder records → IsPacked records → IsArranged
     (county_of records)
     → records ≡ packed (county_of records)
-arranged_is_packed records linked order full in_form = order.types ∙ ap type_after_type same
+arranged_is_packed records linked order full in_form = order.types ∙ sym (type_by_type records) ∙ ap type_after_type same
   where
     same : by_type records ≡ packed_by_type (county_of records)
     same = λ i. record {

@@ -1,16 +1,10 @@
 -- Each list of records is accepted or has one refusal. Through each view the canonical lists of two accepted lists have the same
 -- text if the view shows the same map of both counties, and are equal only then.
-use Rattle.canonical_form.proofs.Common.{◌≡◌, ◌⊎◌, List, refl, sym, ap, subst, inl, inr, AreSame, County, IsAccepted, IsCanonicalThrough}
-use Rattle.canonical_form.proofs.Common.{IsCounty, IsInProfile, IsLinked, IsSight, Record, county-is_county, county_of, plain, same-reflexive}
-use Rattle.canonical_form.proofs.Common.{same-symmetric, same-transitive, text_of}
-use Rattle.county_chart.specs.LinkRules.{IsFirstBrokenRule}
-use Rattle.county_chart.specs.declared.fault.LinkFault.{LinkFault}
-use Rattle.county_chart.proofs.Rules.LinkFaults.{linked_or_first, linked_has_none, one_first_rule}
-use Rattle.county_chart.specs.Profile.{IsFirstBrokenClause}
-use Rattle.county_chart.specs.declared.profile_fault.ProfileFault.{ProfileFault}
-use Rattle.county_chart.proofs.Profile.ProfileFaults.{profile_or_first, profile_has_none, one_first_clause}
-use Rattle.county_chart.proofs.Profile.SameProfile.{same_in_profile}
-use Rattle.canonical_form.specs.Accepted.{RecordsRefusal, Unlinked, OutOfProfile, IsRefusal, IsCanonicalOf}
+use Rattle.canonical_form.proofs.Common.{AreSame, County, IsSight, List, Record, Unlinked, inl, inr, refl, subst, sym, text_of, ◌≡◌, ◌⊎◌}
+use Rattle.canonical_form.proofs.Common.{IsAccepted, IsCounty, IsLinked, IsRefusal, LinkFault, OutOfProfile, ProfileFault, county_of, plain}
+use Rattle.canonical_form.proofs.Common.{IsCanonicalOf, RecordsRefusal, one_first_rule, same-reflexive, same-symmetric, same_in_profile}
+use Rattle.canonical_form.proofs.Common.{IsCanonicalThrough, IsFirstBrokenClause, IsFirstBrokenRule, ap, county-is_county, one_first_clause}
+use Rattle.canonical_form.proofs.Common.{IsInProfile, linked_has_none, linked_or_first, profile_has_none, profile_or_first, same-transitive}
 use Rattle.canonical_form.proofs.CanonicalLists.TidyLists.{canonical_texts_equal}
 
 pub accepted_or_refused : (records : List Record) → IsAccepted records ⊎ ((refusal : RecordsRefusal) × IsRefusal records refusal)

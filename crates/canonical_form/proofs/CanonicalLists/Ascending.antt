@@ -1,15 +1,14 @@
 -- Counties in the profile: their polygons are on sides, and they have few choices. Each accepted list of records has a canonical
 -- list, the list of a choice of least text.
-use Rattle.canonical_form.proofs.Common.{◌≡◌, ◌⊎◌, ◌≤◌, ◌||◌, List, true, Option, IsTrue, is_some, sym, ap, ◌∙◌, subst, inl, inr, AllKeysStandIn}
-use Rattle.canonical_form.proofs.Common.{Among, Arrangement, BodyP, County, HasShapesApart, IsAccepted, IsCanonicalThrough, IsCounty}
-use Rattle.canonical_form.proofs.Common.{IsInProfile, IsLeastChoice, IsSight, PolygonKey, Record, TooSymmetric, all_among, among-unmap, arranged}
-use Rattle.canonical_form.proofs.Common.{arranged_list, ascending, choices, county-is_county, county_of, each_from, key_cmp, lt-ltb, ltb-false}
-use Rattle.canonical_form.proofs.Common.{most_choices, numbered_choice, polygon_keys, polygons_along, renaming_of, stands_in, times}
-use Rattle.std.proofs.lemmas.Bool.{or_cases}
-use Rattle.county_chart.proofs.Profile.SameProfile.{body_on_side}
-use Rattle.canonical_form.proofs.Arrangements.Carrying.{arrangement_carries}
-use Rattle.canonical_form.proofs.CanonicalLists.OneChoice.{only_choice}
-use Rattle.canonical_form.proofs.CanonicalLists.TidyLists.{choice_is_same, least_choice, least_choice_is_canonical, canonical_is_choice, read_back}
+use Rattle.canonical_form.proofs.Common.{AllKeysStandIn, Among, Arrangement, BodyP, County, HasShapesApart, IsAccepted, IsCanonicalThrough}
+use Rattle.canonical_form.proofs.Common.{IsCounty, IsInProfile, IsLeastChoice, IsSight, IsTrue, List, Option, PolygonKey, Record}
+use Rattle.canonical_form.proofs.Common.{TooSymmetric, all_among, among-unmap, ap, arranged, arranged_list, ascending, body_on_side}
+use Rattle.canonical_form.proofs.Common.{choices, county-is_county, county_of, each_from, inl, inr, is_some, key_cmp, lt-ltb, ltb-false}
+use Rattle.canonical_form.proofs.Common.{most_choices, numbered_choice, or_cases, polygon_keys, polygons_along, renaming_of, stands_in}
+use Rattle.canonical_form.proofs.Common.{subst, sym, times, true, ◌||◌, ◌∙◌, ◌≡◌, ◌≤◌, ◌⊎◌}
+use Rattle.canonical_form.proofs.CanonicalLists.TidyLists.{canonical_is_choice, choice_is_same, least_choice, least_choice_is_canonical}
+use Rattle.canonical_form.proofs.CanonicalLists.TidyLists.{read_back}
+use Rattle.canonical_form.proofs.{Arrangements.Carrying.arrangement_carries, CanonicalLists.OneChoice.only_choice}
 
 module _ (county : County) (is : IsCounty county) (profile : IsInProfile county) where
   -- each polygon is on a side

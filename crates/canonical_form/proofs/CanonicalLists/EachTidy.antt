@@ -1,20 +1,16 @@
 -- If a renaming carries a county onto an arranged county, that county is the first one under the arrangement read off the renaming.
-use Rattle.canonical_form.proofs.Common.{◌≡◌, ℕ, List, map, length, Bool, true, false, sym, refl, ap, ◌∙◌, subst, nat_cmp, IsPermutation, map-id}
-use Rattle.canonical_form.proofs.Common.{AllByRecursion, AllKeysStandIn, Arrangement, Arranges, Carries, County, IsApart, IsArranged, IsCounty}
-use Rattle.canonical_form.proofs.Common.{IsPermutation-map, IsPermutation-sym, IsPermutation-trans, Known, Renumbering, all_unmap}
-use Rattle.canonical_form.proofs.Common.{apart-permutation, apart_from_sorted, arranged, arranged_tlids, false≢true, image, images-lefts}
-use Rattle.canonical_form.proofs.Common.{known-permutation, known-permutation_to, known_all, lefts, length-map, map-map, nat_keys, numbered}
-use Rattle.canonical_form.proofs.Common.{polygon_keys, polygons_along, renaming_of, rights, stands_in, tlids, turns, up_to}
-use Rattle.county_chart.specs.Renumbering.{inverse, then, exactly_one}
-use Rattle.ordered_lists.specs.Pairs.{swapped}
-use Rattle.ordered_lists.proofs.ByKey.Keys.{image-known}
-use Rattle.ordered_lists.proofs.Lists.Elements.{map_itself}
-use Rattle.county_chart.proofs.Sameness.Equivalence.{Follows, there_and_back, inverse_follows, inverse_carries, then_follows, then_carries}
+use Rattle.canonical_form.proofs.Common.{AllByRecursion, AllKeysStandIn, Arrangement, Arranges, Bool, Carries, County, IsApart, IsArranged}
+use Rattle.canonical_form.proofs.Common.{IsCounty, IsPermutation, IsPermutation-map, IsPermutation-sym, IsPermutation-trans, Known, List}
+use Rattle.canonical_form.proofs.Common.{Renumbering, all_unmap, ap, apart-permutation, apart_from_sorted, arranged, arranged_tlids}
+use Rattle.canonical_form.proofs.Common.{exactly_one, false, false≢true, image, image-known, images-lefts, inverse, known-permutation}
+use Rattle.canonical_form.proofs.Common.{known-permutation_to, known_all, lefts, length, length-map, map, map-id, map-map, map_itself}
+use Rattle.canonical_form.proofs.Common.{nat_cmp, nat_keys, numbered, polygon_keys, polygons_along, refl, renaming_of, rights, stands_in}
+use Rattle.canonical_form.proofs.Common.{subst, swapped, sym, then, tlids, true, turns, up_to, ℕ, ◌∙◌, ◌≡◌}
 use Rattle.canonical_form.proofs.Arrangements.ArrangedCounties.{arranged_county, is_arranged}
-use Rattle.canonical_form.proofs.Arrangements.Carrying.{arrangement_carries, chains_renamed, turned_renamed, images-numbered}
-use Rattle.canonical_form.proofs.Lists.Counting.{map-equal_all}
+use Rattle.canonical_form.proofs.Arrangements.Carrying.{arrangement_carries, chains_renamed, images-numbered, turned_renamed}
 use Rattle.canonical_form.proofs.Arrangements.Placed.{arrangement_apart, turns_as_stated}
-use Rattle.canonical_form.proofs.Unique.Rigid.{rigid}
+use Rattle.canonical_form.proofs.{Lists.Counting.map-equal_all, Unique.Rigid.rigid}
+use Rattle.county_chart.proofs.Sameness.Equivalence.{Follows, inverse_carries, inverse_follows, then_carries, then_follows, there_and_back}
 
 both_or_none : (a b : Bool) → exactly_one a b ≡ false → a ≡ b
 both_or_none true true e = refl

@@ -1,14 +1,11 @@
 -- The canonical form of the samples: which lists are canonical, and that the samples are carried onto them.
-use Rattle.canonical_form.proofs.Common.{◌≡◌, [], ◌∷◌, refl, ap, arith, ◌==◌, List, AreSame, IsArranged, IsArrangedList}
-use Rattle.std.proofs.Common.{lit≤, slice_index}
-use Rattle.canonical_form.proofs.Common.{IsCanonical, IsLinked, Record, Renumbering, county-is_county, county_of, packed, subst, true≢false}
-use Rattle.std.proofs.lemmas.List.Sorted.{IsPermutation-refl}
+use Rattle.canonical_form.proofs.Common.{AreSame, IsArranged, IsArrangedList, IsCanonical, IsLinked, IsPermutation-refl, List, Record}
+use Rattle.canonical_form.proofs.Common.{Renumbering, [], ap, arith, county-is_county, county_of, linked_computed, lit≤, packed, refl}
+use Rattle.canonical_form.proofs.Common.{slice_index, subst, true≢false, ◌==◌, ◌∷◌, ◌≡◌}
+use Rattle.canonical_form.proofs.{Arrangements.ArrangedPacking.packed_arranged, CanonicalLists.OneChoice.strict_is_canonical}
 use Rattle.std.specs.List.Sorted.{IsStrictlySortedBy}
-use Rattle.county_chart.proofs.Rules.LinkFaults.{linked_computed}
-use Rattle.county_chart.proofs.Samples.Counties.{there, canonical_there, canonical_shaped, canonical_polygons, canonical_named}
-use Rattle.county_chart.proofs.Samples.Counties.{canonical_schools, canonical_meeting}
-use Rattle.canonical_form.proofs.Arrangements.ArrangedPacking.{packed_arranged}
-use Rattle.canonical_form.proofs.CanonicalLists.OneChoice.{strict_is_canonical}
+use Rattle.county_chart.proofs.Samples.Counties.{canonical_meeting, canonical_named, canonical_polygons, canonical_schools}
+use Rattle.county_chart.proofs.Samples.Counties.{canonical_shaped, canonical_there, there}
 
 -- the packing of these counties
 pub packed_there : packed (county_of canonical_there) ≡ canonical_there

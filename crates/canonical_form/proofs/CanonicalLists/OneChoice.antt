@@ -1,17 +1,14 @@
 -- If the shapes of chains are distinct, and none is its own reverse, there is one choice: the ascending arrangement.
-use Rattle.canonical_form.proofs.Common.{◌≡◌, ◌<◌, ◌*◌, suc, List, [], ◌∷◌, map, reverse, Bool, false, cond, Ordering, Less, Equal, Greater}
-use Rattle.canonical_form.proofs.Common.{is_eq, is_gt, sym, refl, ap, ◌∙◌, subst, arith, AllByRecursion, AreSame, Arrangement, County}
-use Rattle.canonical_form.proofs.Common.{HasShapesApart, IsApart, IsArrangedList, IsCanonical, IsChoice, IsCounty, IsKeyOrder, IsNotAfter}
-use Rattle.canonical_form.proofs.Common.{IsStrictlySortedBy, IsTidy, IsTidyList, Record, all_map, all_weaker, apart_from_no_repeat}
-use Rattle.canonical_form.proofs.Common.{apart_from_sorted, apart_tail, arranged_list, ascending, choices, choices_of_shapes, county-is_county}
-use Rattle.canonical_form.proofs.Common.{county_of, entry_points, entry_shape, has_repeat-apart, is_either_way, map_agree_all, numbered_choice}
-use Rattle.canonical_form.proofs.Common.{points_cmp, points_from, points_keys, running, same-reflexive, shapes, times, times-yes}
-use Rattle.ordered_lists.proofs.Lists.EntryLists.{in_order-strict}
-use Rattle.ordered_lists.proofs.Lists.InOrder.{strict-unmap, in_order-unmap}
-use Rattle.canonical_form.specs.Strict.{IsStrict}
-use Rattle.canonical_form.proofs.Choices.LesserDirections.{turned_same}
-use Rattle.canonical_form.proofs.Choices.TidyChoices.{choice_number, first_choice}
-use Rattle.canonical_form.proofs.CanonicalLists.TidyLists.{tidy_is_choice, not_after_itself}
+use Rattle.canonical_form.proofs.Common.{AllByRecursion, AreSame, Arrangement, Bool, County, Equal, Greater, HasShapesApart, IsApart}
+use Rattle.canonical_form.proofs.Common.{IsArrangedList, IsCanonical, IsChoice, IsCounty, IsKeyOrder, IsNotAfter, IsStrict}
+use Rattle.canonical_form.proofs.Common.{IsStrictlySortedBy, IsTidy, IsTidyList, Less, List, Ordering, Record, [], all_map, all_weaker, ap}
+use Rattle.canonical_form.proofs.Common.{apart_from_no_repeat, apart_from_sorted, apart_tail, arith, arranged_list, ascending, choices}
+use Rattle.canonical_form.proofs.Common.{choices_of_shapes, cond, county-is_county, county_of, entry_points, entry_shape, false}
+use Rattle.canonical_form.proofs.Common.{has_repeat-apart, in_order-strict, in_order-unmap, is_either_way, is_eq, is_gt, map, map_agree_all}
+use Rattle.canonical_form.proofs.Common.{numbered_choice, points_cmp, points_from, points_keys, refl, reverse, running, same-reflexive}
+use Rattle.canonical_form.proofs.Common.{shapes, strict-unmap, subst, suc, sym, times, times-yes, ◌*◌, ◌<◌, ◌∙◌, ◌∷◌, ◌≡◌}
+use Rattle.canonical_form.proofs.{CanonicalLists.TidyLists.not_after_itself, CanonicalLists.TidyLists.tidy_is_choice}
+use Rattle.canonical_form.proofs.{Choices.LesserDirections.turned_same, Choices.TidyChoices.choice_number, Choices.TidyChoices.first_choice}
 
 running_one : {K : Type 0} {cmp : K → K → Ordering} (o : IsKeyOrder cmp) (either : K → Bool) (ks : List K) → IsApart cmp ks
     → AllByRecursion (λ k. either k ≡ false) ks → running cmp either ks ≡ 1

@@ -1,11 +1,10 @@
 -- Tidy counties that are the same map have the same shapes.
-use Rattle.canonical_form.proofs.Common.{◌≡◌, ◌∙◌, ℕ, List, [], ◌∷◌, map, reverse, Bool, true, false, Ordering, Less, Equal, Greater, is_gt, sym}
-use Rattle.canonical_form.proofs.Common.{refl, ap, subst, AreSame, Chain, Coordinates, County, IsInOrder, IsTidy, Renumbering, all_map}
-use Rattle.canonical_form.proofs.Common.{carried_chain, entry_points, entry_shape, false≢true, least_points, map-map, map_agree_all}
-use Rattle.canonical_form.proofs.Common.{map_agree_everywhere, on, ordering_reverse, points_cmp, points_from, points_keys, turned_if, turns}
-use Rattle.std.specs.Ordering.{is_lt}
-use Rattle.ordered_lists.proofs.Lists.Reordered.{SameElements, from_permutation, same-map}
-use Rattle.county_chart.proofs.Profile.ShapePoints.{least_reverse}
+use Rattle.canonical_form.proofs.Common.{AreSame, Bool, Chain, Coordinates, County, Equal, Greater, IsInOrder, IsTidy, Less, List, Ordering}
+use Rattle.canonical_form.proofs.Common.{Renumbering, SameElements, [], all_map, ap, carried_chain, entry_points, entry_shape, false}
+use Rattle.canonical_form.proofs.Common.{false≢true, from_permutation, is_gt, least_points, least_reverse, map, map-map, map_agree_all}
+use Rattle.canonical_form.proofs.Common.{map_agree_everywhere, on, ordering_reverse, points_cmp, points_from, points_keys, refl, reverse}
+use Rattle.canonical_form.proofs.Common.{same-map, subst, sym, true, turned_if, turns, ℕ, ◌∙◌, ◌∷◌, ◌≡◌}
+use Rattle.ordered_lists.proofs.Common.{is_lt}
 
 -- points that don't come after their reverse are their shape
 own_shape : (points : List Coordinates) → is_gt (points_cmp points (reverse points)) ≡ false → points ≡ least_points points

@@ -1,22 +1,15 @@
 -- If the shapes of chains are distinct, and none is its own reverse, canonical lists are strict, and strict lists are canonical.
-use Rattle.canonical_form.proofs.Common.{◌≡◌, ℕ, List, map, reverse, false, Less, is_gt, nat_lt, sym, refl, ap, subst, AllByRecursion, AreSame}
-use Rattle.canonical_form.proofs.Common.{Chain, Coordinates, County, HasShapesApart, IsAccepted, IsCanonicalThrough, IsCounty, IsInProfile}
-use Rattle.canonical_form.proofs.Common.{IsSight, IsTidy, Mask, Record, TooSymmetric, all_among, all_both, all_unmap, all_weaker}
-use Rattle.canonical_form.proofs.Common.{apart_from_no_repeat, county-is_county, county_of, each_from, entry_points, has_repeat}
-use Rattle.canonical_form.proofs.Common.{has_repeat-apart, is_either_way, least_points, map-map, masked, most_choices, plain, points_cmp}
-use Rattle.canonical_form.proofs.Common.{points_keys, same-symmetric, same-transitive, shapes, strict-map, strict_from_order}
-use Rattle.county_chart.specs.MaskedCounty.{masked_chain}
-use Rattle.ordered_lists.proofs.Lists.Reordered.{SameElements, apart-same}
-use Rattle.county_chart.specs.Profile.{AreAllOnSides}
-use Rattle.county_chart.specs.declared.profile_fault.ProfileFault.TheVariants.{PolygonWithoutChain, Memory}
-use Rattle.canonical_form.specs.Strict.{IsStrict, IsStrictlyAccepted, IsStrictThrough}
-use Rattle.canonical_form.proofs.CanonicalLists.Accepted.{plain_sight}
-use Rattle.canonical_form.proofs.CanonicalLists.Ascending.{canonical_exists}
-use Rattle.canonical_form.proofs.Masks.MaskedSights.{masked_sight}
+use Rattle.canonical_form.proofs.Common.{AllByRecursion, IsAccepted, county-is_county, has_repeat-apart, same-transitive, strict_from_order}
+use Rattle.canonical_form.proofs.Common.{AreAllOnSides, HasShapesApart, IsCounty, SameElements, TooSymmetric, is_either_way, same-symmetric}
+use Rattle.canonical_form.proofs.Common.{AreSame, County, IsSight, IsStrict, IsTidy, Memory, Record, all_both, each_from, map-map, reverse}
+use Rattle.canonical_form.proofs.Common.{Chain, all_among, all_unmap, all_weaker, apart-same, county_of, has_repeat, points_cmp, strict-map}
+use Rattle.canonical_form.proofs.Common.{Coordinates, IsInProfile, entry_points, least_points, map, masked_chain, most_choices, points_keys}
+use Rattle.canonical_form.proofs.Common.{IsCanonicalThrough, IsStrictThrough, IsStrictlyAccepted, PolygonWithoutChain, apart_from_no_repeat}
+use Rattle.canonical_form.proofs.Common.{Less, List, Mask, ap, false, is_gt, masked, nat_lt, plain, refl, shapes, subst, sym, ℕ, ◌≡◌}
 use Rattle.canonical_form.proofs.CanonicalLists.OneChoice.{one_choice, only_tidy, strict_is_canonical}
 use Rattle.canonical_form.proofs.CanonicalLists.SameShapes.{points_in_order, shapes_carried, tidy_shapes}
-use Rattle.canonical_form.proofs.CanonicalLists.TidyLists.{tidy_of}
-use Rattle.canonical_form.proofs.Lists.Counting.{less_from}
+use Rattle.canonical_form.proofs.{CanonicalLists.Accepted.plain_sight, CanonicalLists.Ascending.canonical_exists}
+use Rattle.canonical_form.proofs.{CanonicalLists.TidyLists.tidy_of, Lists.Counting.less_from, Masks.MaskedSights.masked_sight}
 
 -- ---- lists that the stricter rules accept are accepted
 

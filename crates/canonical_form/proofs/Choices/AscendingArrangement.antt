@@ -1,18 +1,11 @@
 -- All chains in the order of their shapes and places are the ascending arrangement.
-use Rattle.canonical_form.proofs.Common.{◌≡◌, ◌<◌, ℕ, List, [], ◌∷◌, map, length, Bool, Less, Equal, Option, Some, None, option_map, slice_get}
-use Rattle.canonical_form.proofs.Common.{is_lt, refl, sym, ap, ap₂, ◌∙◌, subst, nat_cmp, reverse, Ordering, AllByRecursion, AreInShapeOrder}
-use Rattle.canonical_form.proofs.Common.{Chain, County, DirectedChain, IsTotalOrder, all_unmap, ascending}
-use Rattle.canonical_form.specs.DirectedChains.{HasChainsOf, arrangement_of, tlid_at}
-use Rattle.county_chart.specs.ChartWords.{chain_at, points_of}
-use Rattle.canonical_form.proofs.Common.{entry_shape, in_order, least_points, on, on_total, ordering_reverse, ordering_then}
-use Rattle.std.specs.Option.{option_cmp}
-use Rattle.canonical_form.proofs.Common.{points_along, points_cmp, points_keys, tlids}
-use Rattle.std.proofs.lemmas.Option.{slice_get-map, get_or_from_slice_get}
-use Rattle.county_chart.proofs.Profile.Places.{along_from}
-use Rattle.county_chart.specs.ShapeOrder.{along_shape, directed_cmp}
-use Rattle.canonical_form.specs.Arrangement.{comes_turned}
-use Rattle.canonical_form.proofs.Lists.SortedPlaces.{sorted_items, each_item, item_places}
-use Rattle.ordered_lists.proofs.Lists.Ranges.{places_below}
+use Rattle.canonical_form.proofs.Common.{AllByRecursion, AreInShapeOrder, Ordering, arrangement_of, get_or_from_slice_get, ordering_reverse}
+use Rattle.canonical_form.proofs.Common.{Bool, County, Equal, Option, ap₂, is_lt, length, nat_cmp, on_total, reverse, subst, tlid_at, tlids}
+use Rattle.canonical_form.proofs.Common.{Chain, along_from, along_shape, entry_shape, least_points, places_below, points_along, points_keys}
+use Rattle.canonical_form.proofs.Common.{DirectedChain, HasChainsOf, IsTotalOrder, comes_turned, directed_cmp, ordering_then, slice_get-map}
+use Rattle.canonical_form.proofs.Common.{Less, List, None, Some, [], ap, map, on, refl, sym, ℕ, ◌<◌, ◌∙◌, ◌∷◌, ◌≡◌}
+use Rattle.canonical_form.proofs.Common.{all_unmap, ascending, chain_at, in_order, option_cmp, option_map, points_cmp, points_of, slice_get}
+use Rattle.canonical_form.proofs.Lists.SortedPlaces.{each_item, item_places, sorted_items}
 use Rattle.canonical_form.proofs.Choices.LesserDirections.{turned_same}
 
 -- an order of optional values with none first

@@ -1,15 +1,12 @@
 -- Choices selected by numbers: each number selects a choice, and each choice has a number below the count of choices.
-use Rattle.canonical_form.proofs.Common.{below_more, ◌≡◌, ◌⊎◌, ◌<◌, ◌≤◌, ◌+◌, ◌*◌, ◌/◌, ◌%◌, ℕ, zero, suc, List, [], ◌∷◌, map, take, drop}
-use Rattle.canonical_form.proofs.Common.{length, Bool, true, false, cond, Ordering, is_eq, is_gt, sym, refl, ap, ◌∙◌, subst, inl, inr, arith}
-use Rattle.canonical_form.proofs.Common.{nat_cmp, IsPermutation, AllByRecursion, IsInOrder, IsKeyOrder, IsPermutation-insert, IsPermutation-map}
-use Rattle.canonical_form.proofs.Common.{IsPermutation-sym, IsPermutation-trans, IsTotalOrder, Known, all_append, all_known, all_map, all_unmap}
-use Rattle.canonical_form.proofs.Common.{chosen, in_order, in_order-equal, in_order-in_order, in_order-is_permutation, insert, known_all}
-use Rattle.canonical_form.proofs.Common.{map-map, nat_keys, not_greater, on, order_antisymm, running, same_or_not, stood, tied_itself, times}
-use Rattle.canonical_form.proofs.Common.{times-no, times-permutation, times-yes, turned_by, upto}
-use Rattle.std.proofs.lemmas.Nat.{mod_below, mod-mul-add, div-mul-add, mul-add-lt, mul-le}
-use Rattle.ordered_lists.proofs.ByKey.Keys.{order_itself}
-use Rattle.ordered_lists.proofs.ByKey.Numbers.{count-in_order}
-use Rattle.ordered_lists.proofs.Lists.Counted.{all_take, all_drop}
+use Rattle.canonical_form.proofs.Common.{AllByRecursion, IsInOrder, IsPermutation-sym, count-in_order, in_order-in_order, times-permutation}
+use Rattle.canonical_form.proofs.Common.{Bool, Ordering, all_drop, all_take, in_order, known_all, mod_below, nat_keys, times-yes, turned_by}
+use Rattle.canonical_form.proofs.Common.{IsKeyOrder, IsPermutation, IsTotalOrder, in_order-equal, mod-mul-add, order_antisymm, order_itself}
+use Rattle.canonical_form.proofs.Common.{IsPermutation-insert, IsPermutation-map, IsPermutation-trans, div-mul-add, in_order-is_permutation}
+use Rattle.canonical_form.proofs.Common.{Known, all_map, arith, chosen, false, insert, length, map-map, mul-le, nat_cmp, running, times-no}
+use Rattle.canonical_form.proofs.Common.{List, cond, drop, inl, inr, is_eq, is_gt, map, refl, stood, subst, take, times, true, upto, zero}
+use Rattle.canonical_form.proofs.Common.{[], ap, on, suc, sym, ◌%◌, ◌*◌, ◌+◌, ◌/◌, ◌<◌, ◌∙◌, ◌∷◌, ◌≡◌, ◌≤◌, ◌⊎◌}
+use Rattle.canonical_form.proofs.Common.{all_append, all_known, all_unmap, below_more, mul-add-lt, not_greater, same_or_not, tied_itself, ℕ}
 
 -- keys that occur equally often in two lists
 pub permutation_of_times : {K : Type 0} {cmp : K → K → Ordering} (o : IsKeyOrder cmp) (xs ys : List K)

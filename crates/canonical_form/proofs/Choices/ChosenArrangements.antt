@@ -1,23 +1,15 @@
 -- Chains in the order of their shapes, moved at their open places, are the choice with a number.
-use Rattle.canonical_form.proofs.Common.{◌≡◌, ◌<◌, ◌≤◌, ◌+◌, ◌/◌, ◌%◌, ℕ, zero, suc, List, [], ◌∷◌, ◌++◌, map, take, drop, length, Bool, true}
-use Rattle.canonical_form.proofs.Common.{false, cond, Ordering, sym, refl, ap, ◌∙◌, subst, arith, AllByRecursion, AreInShapeOrder, County}
-use Rattle.canonical_form.proofs.Common.{DirectedChain, IsCounty, IsKeyOrder, arranged_tlids, chosen, insert, is_either_way, length-map}
-use Rattle.canonical_form.proofs.Common.{map-append, nat_keys, numbered_choice, open_places, points_along, points_cmp, points_keys, stood, times}
-use Rattle.canonical_form.proofs.Common.{times-permutation, tlids, turned_by}
-use Rattle.canonical_form.specs.MovedChains.{AgreeApart, AreWithin, StandInOrder, other_way}
-use Rattle.canonical_form.specs.DirectedChains.{HasChainsOf, arrangement_of, tlid_at}
-use Rattle.canonical_form.specs.WholeArrangements.{NamesEachOnce}
-use Rattle.county_chart.specs.declared.open_place.OpenPlace.{OpenPlace}
-use Rattle.canonical_form.specs.NumberedChoices.{moved}
-use Rattle.std.proofs.lemmas.List.{drop-map, take-map}
-use Rattle.county_chart.specs.Choices.{is_settled, open_place_at}
-use Rattle.county_chart.proofs.Profile.CountedChoices.{alike_few}
-use Rattle.canonical_form.specs.Tidy.{directed_shape, turned_directed}
+use Rattle.canonical_form.proofs.Common.{AgreeApart, AllByRecursion, AreInShapeOrder, AreWithin, Bool, County, DirectedChain, HasChainsOf}
+use Rattle.canonical_form.proofs.Common.{IsCounty, IsKeyOrder, List, NamesEachOnce, OpenPlace, Ordering, StandInOrder, [], alike_few, ap}
+use Rattle.canonical_form.proofs.Common.{arith, arranged_tlids, arrangement_of, chosen, cond, directed_shape, drop, drop-map, false, insert}
+use Rattle.canonical_form.proofs.Common.{is_either_way, is_settled, length, length-map, map, map-append, moved, nat_keys, numbered_choice}
+use Rattle.canonical_form.proofs.Common.{open_place_at, open_places, other_way, points_along, points_cmp, points_keys, refl, stood, subst}
+use Rattle.canonical_form.proofs.Common.{suc, sym, take, take-map, times, times-permutation, tlid_at, tlids, true, turned_by}
+use Rattle.canonical_form.proofs.Common.{turned_directed, zero, ℕ, ◌%◌, ◌++◌, ◌+◌, ◌/◌, ◌<◌, ◌∙◌, ◌∷◌, ◌≡◌, ◌≤◌}
 use Rattle.canonical_form.proofs.Choices.AscendingArrangement.{arrangement_ascend, arrangement_there, shapes_of_order}
-use Rattle.canonical_form.proofs.Choices.Choosing.{all_insert}
 use Rattle.canonical_form.proofs.Choices.FixedPlaces.{insert_count, moved_apart, open_in_order}
-use Rattle.canonical_form.proofs.Choices.MovedChoice.{moved_is}
 use Rattle.canonical_form.proofs.Choices.TidyChoices.{numbered_is_choice, shapes_ascending, stated_here}
+use Rattle.canonical_form.proofs.{Choices.Choosing.all_insert, Choices.MovedChoice.moved_is}
 
 -- a property of elements in either direction is a property of those chosen
 chosen_all : {X K : Type 0} (cmp : K → K → Ordering) (either : K → Bool) (key : X → K) (turn : X → X) (P : X → Type 0)

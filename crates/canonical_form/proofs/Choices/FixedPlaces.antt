@@ -1,13 +1,10 @@
 -- Moves at open places leave the elements at all other places as they are.
-use Rattle.canonical_form.proofs.Common.{◌≡◌, ◌<◌, ◌≤◌, ◌+◌, ◌/◌, ◌%◌, ℕ, zero, suc, nat_lt, List, [], ◌∷◌, ◌++◌, take, drop, length, Bool, true}
-use Rattle.canonical_form.proofs.Common.{false, cond, Ordering, Some, None, slice_get, sym, refl, ap, ◌∙◌, arith, AllByRecursion}
-use Rattle.canonical_form.proofs.Common.{IsPermutation-insert, all_weaker, insert, Decides, ltb-false, ltb-true, open_places, turned_by}
-use Rattle.canonical_form.specs.MovedChains.{AgreeApart, AreWithin, StandInOrder, IsApart}
-use Rattle.county_chart.specs.declared.open_place.OpenPlace.{OpenPlace}
-use Rattle.canonical_form.specs.NumberedChoices.{first_stood, moved}
-use Rattle.std.proofs.lemmas.List.Sorted.{length_permutation}
-use Rattle.std.proofs.lemmas.Option.{slice_get_past}
-use Rattle.county_chart.specs.Choices.{is_settled, open_place_at}
+use Rattle.canonical_form.proofs.Common.{AgreeApart, AllByRecursion, AreWithin, Bool, Decides, IsPermutation-insert, List, None, OpenPlace}
+use Rattle.canonical_form.proofs.Common.{Ordering, Some, StandInOrder, [], all_weaker, ap, arith, cond, drop, false, first_stood, insert}
+use Rattle.canonical_form.proofs.Common.{is_settled, length, length_permutation, ltb-false, ltb-true, moved, nat_lt, open_place_at}
+use Rattle.canonical_form.proofs.Common.{open_places, refl, slice_get, slice_get_past, suc, sym, take, true, turned_by, zero, ℕ, ◌%◌, ◌++◌}
+use Rattle.canonical_form.proofs.Common.{◌+◌, ◌/◌, ◌<◌, ◌∙◌, ◌∷◌, ◌≡◌, ◌≤◌}
+use Rattle.canonical_form.specs.MovedChains.{IsApart}
 
 pub nothing_left : {X : Type 0} (xs : List X) → length xs ≡ 0 → xs ≡ []
 nothing_left [] e = refl

@@ -1,12 +1,8 @@
 -- The choice with a number is reached by moving only the elements at open places, from the last place to the first.
-use Rattle.canonical_form.proofs.Common.{◌≡◌, ◌+◌, ◌*◌, ◌==◌, ℕ, suc, List, [], ◌∷◌, ◌++◌, map, take, drop, length, Bool, true, false, cond, not}
-use Rattle.canonical_form.proofs.Common.{◌&&◌, Ordering, sym, refl, ap, ◌∙◌, arith, chosen, eqb-true, open_places, stood, take-append_seam}
-use Rattle.canonical_form.proofs.Common.{times}
-use Rattle.county_chart.specs.declared.open_place.OpenPlace.{OpenPlace}
-use Rattle.canonical_form.specs.NumberedChoices.{first_stood, moved, moved_at}
-use Rattle.std.proofs.lemmas.Bool.{and_parts, not-true}
-use Rattle.std.proofs.lemmas.List.{append_assoc, length-append}
-use Rattle.std.proofs.Math.Seq.{drop-append_seam}
+use Rattle.canonical_form.proofs.Common.{Bool, List, OpenPlace, Ordering, [], and_parts, ap, append_assoc, arith, chosen, cond, drop}
+use Rattle.canonical_form.proofs.Common.{drop-append_seam, eqb-true, false, first_stood, length, length-append, map, moved, moved_at, not}
+use Rattle.canonical_form.proofs.Common.{not-true, open_places, refl, stood, suc, sym, take, take-append_seam, times, true, ℕ, ◌&&◌, ◌*◌}
+use Rattle.canonical_form.proofs.Common.{◌++◌, ◌+◌, ◌==◌, ◌∙◌, ◌∷◌, ◌≡◌}
 use Rattle.canonical_form.proofs.Choices.Choosing.{stood-digits}
 
 -- the last place is moved first

@@ -1,26 +1,20 @@
 -- The choices that make a county tidy are those selected by numbers.
-use Rattle.canonical_form.proofs.Common.{◌≡◌, ◌⊎◌, ◌<◌, ◌==◌, ℕ, List, [], ◌∷◌, ◌++◌, map, flat_map, reverse, Bool, true, false, not, Ordering}
-use Rattle.canonical_form.proofs.Common.{Less, Equal, Greater, is_eq, is_gt, is_lt, sym, refl, ap, ◌∙◌, subst, inl, inr, nat_cmp, IsPermutation}
-use Rattle.canonical_form.proofs.Common.{AllByRecursion, Among, Arrangement, Arranges, Chain, Coordinates, County, IsChoice, IsCounty, IsInOrder}
-use Rattle.canonical_form.proofs.Common.{IsPermutation-map, IsPermutation-trans, IsTidy, Known, all_both, all_map, all_unmap, all_weaker}
-use Rattle.canonical_form.proofs.Common.{among-map, among_known, arranged, arranged_tlids, ascending, choices, choices_of_shapes, chosen}
-use Rattle.canonical_form.proofs.Common.{each_from, entries_of, entry_points, entry_shape, eq-eqb, false≢true, in_order, in_order-in_order}
-use Rattle.canonical_form.proofs.Common.{in_order-is_permutation, in_order-map, is_either_way, least_points, map-map, map_agree_all, nat_keys}
-use Rattle.canonical_form.proofs.Common.{on, on_total, order_antisymm, placed, points_cmp, points_from, points_keys, renaming_of}
-use Rattle.canonical_form.proofs.Common.{rights-numbered_from, running, same-itself, same-true, shapes, times-permutation, tlids, to_filter}
-use Rattle.canonical_form.proofs.Common.{turned_if}
-use Rattle.std.proofs.lemmas.List.{append-nil, reverse-reverse}
-use Rattle.ordered_lists.proofs.ByKey.Numbers.{from_in_order}
-use Rattle.ordered_lists.proofs.Lists.Reordered.{from_permutation}
-use Rattle.county_chart.proofs.Profile.Factorials.{running-same}
-use Rattle.canonical_form.specs.Arrangement.{comes_turned}
-use Rattle.canonical_form.specs.Tidy.{directed_shape, turned_directed, numbered_choice}
+use Rattle.canonical_form.proofs.Common.{AllByRecursion, arranged_tlids, directed_shape, in_order-unmap, order_antisymm, turned_directed, ℕ}
+use Rattle.canonical_form.proofs.Common.{Among, Chain, IsTidy, choices, chosen, eq-eqb, map-map, nat_cmp, placed, reverse, running, shapes}
+use Rattle.canonical_form.proofs.Common.{Arrangement, IsPermutation-map, IsPermutation-trans, in_order-is_permutation, rights-numbered_from}
+use Rattle.canonical_form.proofs.Common.{Arranges, IsChoice, all_unmap, among-map, ascending, each_from, same-true, to_filter, turned_if}
+use Rattle.canonical_form.proofs.Common.{Bool, Coordinates, among_known, entry_shape, in_order-map, least_points, points_from, running-same}
+use Rattle.canonical_form.proofs.Common.{County, choices_of_shapes, from_permutation, in_order-in_order, reverse-reverse, times-permutation}
+use Rattle.canonical_form.proofs.Common.{Equal, Known, Less, List, false, inl, is_eq, is_gt, is_lt, refl, subst, tlids, true, ◌++◌, ◌==◌}
+use Rattle.canonical_form.proofs.Common.{Greater, IsCounty, Ordering, all_both, all_map, arranged, flat_map, in_order, nat_keys, on_total}
+use Rattle.canonical_form.proofs.Common.{IsInOrder, append-nil, entries_of, false≢true, points_cmp, points_keys, renaming_of, same-itself}
+use Rattle.canonical_form.proofs.Common.{IsPermutation, all_weaker, comes_turned, entry_points, from_in_order, is_either_way, map_agree_all}
+use Rattle.canonical_form.proofs.Common.{[], ap, inr, map, not, on, sym, ◌<◌, ◌∙◌, ◌∷◌, ◌≡◌, ◌⊎◌}
 use Rattle.canonical_form.proofs.Choices.LesserDirections.{shape_turned, turned_same}
-use Rattle.canonical_form.proofs.Arrangements.Carrying.{chains_arranged}
-use Rattle.canonical_form.proofs.Choices.Choosing.{IsChosen, permutation_of_times, chosen_is_choice, choice_has_number, first_stated}
+use Rattle.canonical_form.proofs.Choices.Choosing.{IsChosen, choice_has_number, chosen_is_choice, first_stated, permutation_of_times}
 use Rattle.canonical_form.proofs.Arrangements.Placed.{arrangement_known, one_chain}
-use Rattle.canonical_form.proofs.Unique.SameNumbers.{kept_entry}
-use Rattle.ordered_lists.proofs.Lists.InOrder.{in_order-unmap}
+use Rattle.canonical_form.proofs.{Arrangements.Carrying.chains_arranged, Unique.SameNumbers.kept_entry}
+use Rattle.canonical_form.specs.Tidy.{numbered_choice}
 
 -- points that don't come after their reverse, in the direction given, are the shape
 least_if : (turned : Bool) (ps : List Coordinates)

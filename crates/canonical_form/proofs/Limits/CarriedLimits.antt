@@ -1,26 +1,17 @@
 -- A renaming that carries keeps a county's limits: its contents fit, its lists fit into their records, and it takes as many records
 -- of each type.
-use Rattle.std.proofs.Common.{rules, ◌≡◌, ◌-◌, ◌≤◌, ℕ, zero, suc, List, [], ◌∷◌, map, flat_map, filter_map, length, reverse, drop, sum_by}
-use Rattle.std.proofs.Common.{Bool, true, false, Option, Some, None, IfSome, sym, refl, ap, ◌∙◌, subst, arith, nat_cmp, IsPermutation}
-use Rattle.std.proofs.Common.{length-drop}
-use Rattle.canonical_form.proofs.Common.{AllByRecursion, Among, Body5, Body7, BodyP, Carries, Chain, ContentsFit, Coordinates, County}
-use Rattle.canonical_form.proofs.Common.{FitsChain, FitsLandmark, FitsLink, FitsNameBody, FitsPolygon, IsPermutation-sym, IsText}
-use Rattle.canonical_form.proofs.Common.{ListsFit, PolygonKey, Renumbering, all_among, all_map, all_weaker, among-permutation}
-use Rattle.canonical_form.proofs.Common.{among-unmap, carried_chain, carried_landmark, carried_link, carried_polygon, common_steps}
-use Rattle.canonical_form.proofs.Common.{each_from, image, in_pieces, inner_points, length-in_order, length-map, packed_by_type}
-use Rattle.canonical_form.proofs.Common.{packed_five, packed_fours, packed_i, packed_one, packed_p, packed_sevens, packed_sixes}
-use Rattle.canonical_form.proofs.Common.{packed_twos, pieces, renumbered, renumbered_polygon, turned_if, turns, without_last}
-use Rattle.std.proofs.lemmas.List.{length-reverse}
+use Rattle.canonical_form.proofs.Common.{AllByRecursion, FitsLandmark, body_turned_fits, carried_landmark, carried_polygon, length-in_order}
+use Rattle.canonical_form.proofs.Common.{Among, Body5, Body7, BodyP, Bool, Chain, arith, false, image, pieces, rules, subst, sum_by, turns}
+use Rattle.canonical_form.proofs.Common.{Carries, IsText, ListsFit, Option, all_map, flat_map, length, nat_cmp, packed_i, packed_p, reverse}
+use Rattle.canonical_form.proofs.Common.{ContentsFit, Coordinates, FitsPolygon, IfSome, Renumbering, among-unmap, image-keeps, without_last}
+use Rattle.canonical_form.proofs.Common.{County, IsPermutation, carried_chain, length-reverse, packed_by_type, packed_sevens, turned_ranges}
+use Rattle.canonical_form.proofs.Common.{FitsChain, FitsLink, HasAsMany, HasWithin, all_among, each_from, in_pieces, renumbered, turned_if}
+use Rattle.canonical_form.proofs.Common.{FitsNameBody, carried_link, carried_name, common_steps, inner_points, packed_fours, packed_sixes}
+use Rattle.canonical_form.proofs.Common.{IsPermutation-reverse, PolygonKey, length-numbered_from, link_content_turned, sum_by-IsPermutation}
+use Rattle.canonical_form.proofs.Common.{IsPermutation-sym, among-permutation, length_permutation, ranges_turned_fit, renumbered_polygon, ℕ}
+use Rattle.canonical_form.proofs.Common.{List, None, Some, [], ap, drop, map, refl, suc, sym, true, zero, ◌-◌, ◌∙◌, ◌∷◌, ◌≡◌, ◌≤◌}
+use Rattle.canonical_form.proofs.Common.{all_weaker, filter_map, length-drop, length-map, packed_five, packed_one, packed_twos, sum_by-cons}
 use Rattle.std.proofs.lemmas.List.Concat.{length-flat_map}
-use Rattle.std.proofs.lemmas.List.Sums.{sum_by-cons}
-use Rattle.std.proofs.lemmas.List.Sorted.{IsPermutation-reverse, length_permutation, sum_by-IsPermutation}
-use Rattle.tl_layout.specs.Turned.{turned_ranges}
-use Rattle.tl_layout.specs.Laws.TurnedFits.{body_turned_fits, ranges_turned_fit}
-use Rattle.county_chart.specs.Renumbering.{carried_name}
-use Rattle.county_chart.proofs.Packing.Pieces.{length-numbered_from}
-use Rattle.county_chart.proofs.Limits.FieldsFit.{link_content_turned}
-use Rattle.county_chart.proofs.Sameness.Equivalence.{image-keeps}
-use Rattle.county_chart.specs.Laws.TypeCounts.{HasAsMany, HasWithin}
 
 all_reversed : {X : Type 0} (Q : X → Type 0) (xs : List X) → AllByRecursion Q xs → AllByRecursion Q (reverse xs)
 all_reversed Q xs a =

@@ -1,12 +1,8 @@
 -- Lists that count from a number: they ascend, and lists with the same length are equal.
-use Rattle.canonical_form.proofs.Common.{Ordering, is_gt, is_eq, false, true≢false, ◌≡◌, ◌<◌, ◌+◌, ℕ, List, [], ◌∷◌, ◌++◌, map, flat_map, Less}
-use Rattle.canonical_form.proofs.Common.{Equal, Greater, refl, ap, arith, nat_cmp, AllByRecursion, range_with_len, up_to, ◌≤◌, ◌-◌, Bool}
-use Rattle.canonical_form.proofs.Common.{Decides, false≢true, length, length-range_with_len, ltb-false, ltb-true, nat_lt, subst, sym, true, ◌∙◌}
-use Rattle.std.proofs.lemmas.List.FromFn.{get_or-range_with_len}
-use Rattle.std.specs.Bool.{MatchBool}
-use Rattle.std.specs.List.{AllWithin, HoldsAt}
-use Rattle.std.specs.List.Sorted.{IsStrictlySortedBy}
-use Rattle.ordered_lists.proofs.Lists.Ranges.{range_strict}
+use Rattle.canonical_form.proofs.Common.{AllByRecursion, IsStrictlySortedBy, get_or-range_with_len, length-range_with_len, range_with_len}
+use Rattle.canonical_form.proofs.Common.{AllWithin, Decides, MatchBool, Ordering, false≢true, flat_map, ltb-false, range_strict, true≢false}
+use Rattle.canonical_form.proofs.Common.{Bool, Less, List, [], ap, refl, sym, true, up_to, ℕ, ◌++◌, ◌+◌, ◌-◌, ◌<◌, ◌∙◌, ◌∷◌, ◌≡◌, ◌≤◌}
+use Rattle.canonical_form.proofs.Common.{Equal, Greater, HoldsAt, arith, false, is_eq, is_gt, length, ltb-true, map, nat_cmp, nat_lt, subst}
 
 -- a comparison that finds neither greater nor equal
 pub less_from : (o : Ordering) → is_gt o ≡ false → is_eq o ≡ false → o ≡ Less

@@ -1,7 +1,6 @@
 -- The elements of a list that pass a test.
-use Rattle.canonical_form.proofs.Common.{◌≡◌, ◌⊎◌, ◌==◌, ◌&&◌, ℕ, List, [], ◌∷◌, map, filter, Bool, true, false, cond, refl, sym, ap, ◌∙◌, inl}
-use Rattle.canonical_form.proofs.Common.{inr, AllByRecursion, eq-eqb, ne_eqb}
-use Rattle.std.proofs.lemmas.Bool.{cases_eq}
+use Rattle.canonical_form.proofs.Common.{AllByRecursion, Bool, List, [], ap, cases_eq, cond, eq-eqb, false, filter, inl, inr, map, ne_eqb}
+use Rattle.canonical_form.proofs.Common.{refl, sym, true, ℕ, ◌&&◌, ◌==◌, ◌∙◌, ◌∷◌, ◌≡◌, ◌⊎◌}
 
 -- of a mapped list
 pub filter-mapped : {X Y : Type 0} (p : Y → Bool) (f : X → Y) (xs : List X) → filter p (map f xs) ≡ map f (filter (λ x. p (f x)) xs)

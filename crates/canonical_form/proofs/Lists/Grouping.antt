@@ -1,13 +1,11 @@
 -- A list that ascends by a number is its elements number by number; and a list in pieces is joined again.
-use Rattle.canonical_form.proofs.Common.{take-append_seam, drop_all, nat_cmp_total, take_all, tied_itself, ◌≡◌, ◌⊎◌, ◌<◌, ◌≤◌, ◌+◌, ℕ, zero, suc}
-use Rattle.canonical_form.proofs.Common.{List, [], ◌∷◌, ◌++◌, map, flat_map, filter, length, length-append, take, drop, Bool, true, false, cond}
-use Rattle.canonical_form.proofs.Common.{Ordering, Less, Equal, Greater, is_gt, is_eq, sym, refl, ap, ap₂, ◌∙◌, subst, inl, inr, arith, nat_cmp}
-use Rattle.canonical_form.proofs.Common.{add-one, append-nil, AllByRecursion, AreFull, IsInOrder, Known, MatchOrdering, all_weaker, eq-eqb}
-use Rattle.canonical_form.proofs.Common.{false≢true, known_all, known_cases, nat_keys, ne_eqb, numbered_from, of_number, on, ordering_then}
-use Rattle.canonical_form.proofs.Common.{pieces, range_with_len, ranked}
-use Rattle.std.proofs.Math.Seq.{drop-append_seam}
+use Rattle.canonical_form.proofs.Common.{AllByRecursion, MatchOrdering, drop-append_seam, length-append, range_with_len, take-append_seam}
+use Rattle.canonical_form.proofs.Common.{AreFull, Bool, Greater, add-one, eq-eqb, filter, length, nat_cmp, ne_eqb, pieces, ranked, take_all}
+use Rattle.canonical_form.proofs.Common.{Equal, Known, Less, List, arith, cond, drop, false, is_eq, is_gt, refl, subst, take, true, zero}
+use Rattle.canonical_form.proofs.Common.{IsInOrder, Ordering, append-nil, drop_all, false≢true, flat_map, known_all, nat_keys, of_number, ℕ}
+use Rattle.canonical_form.proofs.Common.{[], ap, inl, inr, map, on, suc, sym, ◌++◌, ◌+◌, ◌<◌, ◌∙◌, ◌∷◌, ◌≡◌, ◌≤◌, ◌⊎◌}
+use Rattle.canonical_form.proofs.Common.{all_filter, all_weaker, ap₂, known_cases, nat_cmp_total, numbered_from, ordering_then, tied_itself}
 use Rattle.std.specs.List.Sorted.{IsStrictlySortedBy}
-use Rattle.ordered_lists.proofs.Lists.Elements.{all_filter}
 
 below : (m n : ℕ) → nat_cmp m n ≡ Less → m < n
 below m n e = ranked m n Less (sym e)

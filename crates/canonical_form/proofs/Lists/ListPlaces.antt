@@ -1,7 +1,7 @@
 -- Lists read by place, and parts of lists.
-use Rattle.canonical_form.proofs.Common.{◌≡◌, ◌+◌, ◌<◌, ◌≤◌, ℕ, zero, suc, List, [], ◌∷◌, ◌++◌, length, take, drop, map, Option, Some, None}
-use Rattle.canonical_form.proofs.Common.{slice_get, length-drop, length-take, min, sym, refl, ap, ◌∙◌, arith, Ordering, Less, Equal, Greater}
-use Rattle.canonical_form.proofs.Common.{ordering_then}
+use Rattle.canonical_form.proofs.Common.{Equal, Greater, Less, List, None, Option, Ordering, Some, [], ap, arith, drop, length, length-drop}
+use Rattle.canonical_form.proofs.Common.{length-take, map, min, ordering_then, refl, slice_get, suc, sym, take, zero, ℕ, ◌++◌, ◌+◌, ◌<◌}
+use Rattle.canonical_form.proofs.Common.{◌∙◌, ◌∷◌, ◌≡◌, ◌≤◌}
 
 pub some-same : {X : Type 0} (o : Option X) (x y : X) → Some x ≡ o → o ≡ Some y → x ≡ y
 some-same o x y e f = cc

@@ -1,16 +1,11 @@
 -- Counties under a mask: a mask that leaves nothing out changes nothing, masking twice is masking once, and a county that a mask
 -- doesn't change is carried onto one that it doesn't change.
-use Rattle.std.proofs.Common.{rules, ◌≡◌, ℕ, List, [], ◌∷◌, map, Bool, true, false, cond, refl, ap, ◌∙◌}
-use Rattle.canonical_form.proofs.Common.{AllByRecursion, Body7, Carries, Chain, County, IsPermutation-sym, Renumbering, all-in_order}
-use Rattle.canonical_form.proofs.Common.{all_among, all_everywhere, all_map, all_weaker, among-permutation, carried_chain}
-use Rattle.canonical_form.proofs.Common.{carried_landmark, each_from, in_order, in_order-itself, landmark_body_cmp, landmark_body_keys}
-use Rattle.canonical_form.proofs.Common.{map_values, masked, masked_bodies, masked_body_7, renumbered, turned_if}
-use Rattle.tl_layout.specs.Masked.{no_mask}
+use Rattle.canonical_form.proofs.Common.{AllByRecursion, all_everywhere, carried_chain, carried_landmark, in_order-itself, masked_bodies, ℕ}
+use Rattle.canonical_form.proofs.Common.{Body7, Carries, all_among, all_map, each_from, in_order, masked, no_mask, renumbered, turned_if}
+use Rattle.canonical_form.proofs.Common.{Bool, Chain, List, Mask, ap, cond, false, map, refl, rules, true, ◌∙◌, ◌∷◌, ◌≡◌}
+use Rattle.canonical_form.proofs.Common.{County, Renumbering, all-in_order, all_weaker, map_itself, map_values, masked_body_7, masked_chain}
+use Rattle.canonical_form.proofs.Common.{IsPermutation-sym, [], among-permutation, in_order-in_order, landmark_body_cmp, landmark_body_keys}
 use Rattle.tl_layout.specs.Laws.MaskLaws.{masked_twice_1, masked_twice_7, masked_twice_i}
-use Rattle.tl_layout.specs.declared.mask.Mask.{Mask}
-use Rattle.county_chart.specs.MaskedCounty.{masked_chain}
-use Rattle.ordered_lists.proofs.Lists.Elements.{map_itself}
-use Rattle.ordered_lists.proofs.Lists.InOrder.{in_order-in_order}
 
 -- a mask that leaves nothing out changes nothing
 pub masked_by_none : (county : County) → masked no_mask county ≡ county

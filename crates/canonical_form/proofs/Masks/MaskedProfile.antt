@@ -1,21 +1,12 @@
 -- The profile and the order of chains by their shapes don't depend on anything that a mask leaves out.
-use Rattle.canonical_form.proofs.Common.{◌≡◌, ◌&&◌, ℕ, List, map, reverse, not, refl, sym, ap, ◌∙◌, subst, nat_cmp, length, min, suc, ◌≤◌}
-use Rattle.canonical_form.proofs.Common.{IsPermutation, AreInShapeOrder, Chain, Coordinates, County, DirectedChain, IsInOrder, IsInProfile, Mask}
-use Rattle.canonical_form.proofs.Common.{OrderOfShapes, TooSymmetric, choices, choices_of_shapes, is_either_way, key_cmp, least_points, map-map}
-use Rattle.canonical_form.proofs.Common.{masked, most_choices, open_places, ordering_then, points_along, points_cmp, points_from, range_with_len}
-use Rattle.canonical_form.proofs.Common.{running, stands_in}
-use Rattle.std.specs.Prelude.{nat_lt}
-use Rattle.std.specs.Ordering.{is_lt}
-use Rattle.county_chart.specs.CountyRules.{has_body}
-use Rattle.county_chart.specs.MaskedCounty.{masked_chain}
-use Rattle.county_chart.specs.Laws.MaskedCounties.{sides_masked}
-use Rattle.county_chart.proofs.Masks.MaskedReads.{chain_count_masked, points_masked}
-use Rattle.county_chart.specs.Profile.{is_clause_broken}
-use Rattle.county_chart.proofs.Profile.Places.{along_from}
-use Rattle.county_chart.specs.ShapeOrder.{along_shape, along_shapes, directed_cmp, IsShapeOrder}
-use Rattle.county_chart.specs.Shapes.{points_at}
-use Rattle.county_chart.specs.declared.profile_fault.ProfileFault.{ProfileFault}
-use Rattle.county_chart.specs.declared.profile_fault.ProfileFault.TheVariants.{PolygonWithoutChain, Memory}
+use Rattle.canonical_form.proofs.Common.{AreInShapeOrder, Chain, Coordinates, County, DirectedChain, IsInOrder, IsInProfile, IsPermutation}
+use Rattle.canonical_form.proofs.Common.{IsShapeOrder, List, Mask, Memory, OrderOfShapes, PolygonWithoutChain, ProfileFault, TooSymmetric}
+use Rattle.canonical_form.proofs.Common.{along_from, along_shape, along_shapes, ap, chain_count_masked, choices, choices_of_shapes}
+use Rattle.canonical_form.proofs.Common.{directed_cmp, has_body, is_clause_broken, is_either_way, key_cmp, least_points, length, map}
+use Rattle.canonical_form.proofs.Common.{map-map, masked, masked_chain, min, most_choices, nat_cmp, nat_lt, not, open_places, ordering_then}
+use Rattle.canonical_form.proofs.Common.{points_along, points_at, points_cmp, points_from, points_masked, range_with_len, refl, reverse}
+use Rattle.canonical_form.proofs.Common.{running, sides_masked, stands_in, subst, suc, sym, ℕ, ◌&&◌, ◌∙◌, ◌≡◌, ◌≤◌}
+use Rattle.ordered_lists.proofs.Common.{is_lt}
 
 module _ (mask : Mask) (county : County) where
   abbrev mask_entry : ℕ × Chain → ℕ × Chain

@@ -1,12 +1,7 @@
 -- Each mask is a view, and never takes more records than the whole county.
-use Rattle.canonical_form.proofs.Common.{ℕ, arith, subst, IsSight, Mask, by_type_of, masked, packed, packed_by_type}
-use Rattle.tl_layout.specs.Limits.{count_of_type}
-use Rattle.county_chart.specs.Laws.MaskedCounties.{masked_is_county}
-use Rattle.county_chart.specs.Laws.MaskedLimits.{counts_masked, masked_within_limits}
-use Rattle.canonical_form.proofs.Masks.MaskedCounties.{masked_twice, carried_masked}
-use Rattle.county_chart.specs.Laws.TypeCounts.{HasWithin, by_type_keeps, packed_keeps}
-use Rattle.canonical_form.specs.SeenRecords.{ShowsNoMore}
-use Rattle.canonical_form.proofs.Masks.MaskedProfile.{masked_in_profile}
+use Rattle.canonical_form.proofs.Common.{HasWithin, IsSight, Mask, ShowsNoMore, arith, by_type_of, counts_masked, masked, packed, subst, ℕ}
+use Rattle.canonical_form.proofs.Common.{by_type_keeps, count_of_type, masked_is_county, masked_within_limits, packed_by_type, packed_keeps}
+use Rattle.canonical_form.proofs.Masks.{MaskedCounties.carried_masked, MaskedCounties.masked_twice, MaskedProfile.masked_in_profile}
 
 pub masked_sight : (mask : Mask) → IsSight (masked mask)
 masked_sight mask = record {

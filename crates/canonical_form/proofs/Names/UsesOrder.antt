@@ -1,10 +1,9 @@
 -- Uses of names: each occurs once in the list of all uses, and a name's uses are those under its FEAT.
-use Rattle.canonical_form.proofs.Common.{◌≡◌, ◌<◌, ℕ, suc, ◌==◌, List, [], ◌∷◌, ◌++◌, map, filter, Bool, true, false, cond, Less, sym, refl, ap}
-use Rattle.canonical_form.proofs.Common.{◌∙◌, subst, inl, inr, arith, nat_cmp, AllByRecursion, Among, Chain, IsKeyOrder, Use, all_uses, eq-eqb}
-use Rattle.canonical_form.proofs.Common.{eqb-true, nat_cmp_total, nat_keys, ordering_then, pair_keys, tied_itself, use_cmp, uses_from}
-use Rattle.canonical_form.proofs.Common.{uses_of_name}
+use Rattle.canonical_form.proofs.Common.{AllByRecursion, Among, Bool, Chain, IsKeyOrder, Less, List, Use, [], all_uses, ap, arith, cond}
+use Rattle.canonical_form.proofs.Common.{eq-eqb, eqb-true, false, filter, inl, inr, less, map, nat_cmp, nat_cmp_total, nat_keys}
+use Rattle.canonical_form.proofs.Common.{ordering_then, pair_keys, refl, subst, suc, sym, tied_itself, true, use_cmp, uses_from}
+use Rattle.canonical_form.proofs.Common.{uses_of_name, ℕ, ◌++◌, ◌<◌, ◌==◌, ◌∙◌, ◌∷◌, ◌≡◌}
 use Rattle.std.specs.List.Sorted.{IsStrictlySortedBy}
-use Rattle.ordered_lists.proofs.Lists.Ranges.{less}
 
 pub use_keys : IsKeyOrder use_cmp
 use_keys = pair_keys nat_keys nat_keys

@@ -1,10 +1,9 @@
 -- Keys in the order of their first occurrence: each occurs once, the members are the same, and the numbers grow along the keys.
-use Rattle.canonical_form.proofs.Common.{◌≡◌, ◌⊎◌, ◌<◌, ◌≤◌, ◌+◌, ℕ, max, List, [], ◌∷◌, ◌++◌, map, length, Bool, true, false, cond, Ordering}
-use Rattle.canonical_form.proofs.Common.{is_eq, sym, refl, ap, ◌∙◌, subst, inl, inr, arith, append_assoc, append-nil, length-append, Grows}
-use Rattle.canonical_form.proofs.Common.{GrowsFrom, IsApart, IsKeyOrder, Known, first_seen, first_seen_after, known-here, known-right}
-use Rattle.canonical_form.proofs.Common.{known_cases, ltb-false, ltb-true, same_or_not, stands_in, times, times-append, times-no, times-yes}
-use Rattle.canonical_form.proofs.Common.{any-stands_in, lt-ltb, nat_lt, not, position_or_len, same-itself}
-use Rattle.ordered_lists.proofs.ByKey.Keys.{known-append, known-later, known-left}
+use Rattle.canonical_form.proofs.Common.{Bool, Known, List, Ordering, arith, false, is_eq, lt-ltb, ltb-true, nat_lt, subst, times, times-no}
+use Rattle.canonical_form.proofs.Common.{Grows, any-stands_in, append_assoc, first_seen_after, known-append, length-append, position_or_len}
+use Rattle.canonical_form.proofs.Common.{GrowsFrom, append-nil, first_seen, known-here, known-left, length, ltb-false, stands_in, times-yes}
+use Rattle.canonical_form.proofs.Common.{IsApart, IsKeyOrder, known-later, known-right, known_cases, same-itself, same_or_not, times-append}
+use Rattle.canonical_form.proofs.Common.{[], ap, cond, inl, inr, map, max, not, refl, sym, true, ℕ, ◌++◌, ◌+◌, ◌<◌, ◌∙◌, ◌∷◌, ◌≡◌, ◌≤◌, ◌⊎◌}
 use Rattle.canonical_form.proofs.Numbering.FoundPlaces.{any_within, first_stays, none_at_end, place_behind}
 
 module _ {K : Type 0} {cmp : K → K → Ordering} (o : IsKeyOrder cmp) where

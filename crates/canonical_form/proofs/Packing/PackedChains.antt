@@ -1,15 +1,14 @@
 -- The records of a chain in a packed county: each belongs to a chain of the county, and no RTSQ occurs twice.
-use Rattle.std.proofs.Common.{rules, ◌≡◌, ℕ, List, map, flat_map, false, sym, refl, ap, ◌∙◌, subst, nat_cmp}
-use Rattle.canonical_form.proofs.Common.{AllByRecursion, Chain, County, IsCounty, Known, LinkedType, Ranges, SequencedType}
-use Rattle.canonical_form.proofs.Common.{all_everywhere, all_joined, all_map, all_weaker, among_known, apart_from_sorted, each_from}
-use Rattle.canonical_form.proofs.Common.{four_rtsq, four_tlid, has_repeat, has_repeat-apart, in_pieces, inner_points, linked_tlids}
-use Rattle.canonical_form.proofs.Common.{map-map, map_agree_everywhere, nat_keys, numbered_from, of_number, packed, packed_fours}
-use Rattle.canonical_form.proofs.Common.{packed_sixes, packed_twos, rtsqs, six_rtsq, six_tlid, tlids, two_rtsq, two_tlid}
-use Rattle.county_chart.specs.declared.fault.LinkedType.TheVariants.{Four, I, Six, Two}
+use Rattle.canonical_form.proofs.Common.{AllByRecursion, Chain, County, IsCounty, Known, LinkedType, List, Ranges, SequencedType}
+use Rattle.canonical_form.proofs.Common.{all_everywhere, all_joined, all_map, all_weaker, among_known, ap, apart_from_sorted, each_from}
+use Rattle.canonical_form.proofs.Common.{false, flat_map, four_rtsq, four_tlid, has_repeat, has_repeat-apart, in_pieces, inner_points}
+use Rattle.canonical_form.proofs.Common.{keys_known, linked_tlids, map, map-map, map_agree_everywhere, nat_cmp, nat_keys, numbered_from}
+use Rattle.canonical_form.proofs.Common.{of_number, packed, packed_fours, packed_sixes, packed_twos, refl, rtsqs, rules, six_rtsq, six_tlid}
+use Rattle.canonical_form.proofs.Common.{subst, sym, tlids, two_rtsq, two_tlid, ℕ, ◌∙◌, ◌≡◌}
 use Rattle.canonical_form.proofs.Packing.PackedGroups.{group_holds}
-use Rattle.county_chart.proofs.Sameness.Equivalence.{keys_known}
-use Rattle.canonical_form.proofs.Packing.PackedNumbers.{four_own, six_own, two_own, numbered_strict, fours, link_numbers, sixes, tlids_apart}
-use Rattle.canonical_form.proofs.Packing.PackedNumbers.{twos}
+use Rattle.canonical_form.proofs.Packing.PackedNumbers.{four_own, fours, link_numbers, numbered_strict, six_own, sixes, tlids_apart}
+use Rattle.canonical_form.proofs.Packing.PackedNumbers.{two_own, twos}
+use Rattle.county_chart.specs.declared.fault.LinkedType.TheVariants.{Four, I, Six, Two}
 use Rattle.county_chart.specs.declared.fault.SequencedType.TheVariants as sequenced
 
 module _ (c : County) (is : IsCounty c) where

@@ -1,33 +1,24 @@
 -- The county of the packing of a county is that county.
-use Rattle.canonical_form.proofs.Common.{AllByRecursion, Among, Body7, BodyP, Chain, Coordinates, County, Fields1, Fields2, Fields4}
-use Rattle.canonical_form.proofs.Common.{Fields5, Fields6, Fields7, FieldsP, IsCounty, IsInOrder, Known, PolygonKey, Ranges, all_among}
-use Rattle.canonical_form.proofs.Common.{all_joined, among-map, among-unmap, among_known, apart_from_sorted, chain_of, chains_of}
-use Rattle.canonical_form.proofs.Common.{common_steps, county_of, distinct, distinct-strict, each_from, five_feat, four_rtsq, four_tlid}
-use Rattle.canonical_form.proofs.Common.{further_names, further_ranges, i_tlid, in_order, in_order-itself, in_pieces, inner_points}
-use Rattle.canonical_form.proofs.Common.{key_cmp, key_keys, known-append, known-distinct, known_all, known_from_distinct}
-use Rattle.canonical_form.proofs.Common.{known_is_among, landmark_body_cmp, lands, ltb-true, map-map, map_agree_all}
-use Rattle.canonical_form.proofs.Common.{map_agree_everywhere, nat_keys, numbered_from, of_number, of_type_7, of_type_i, of_type_p, on}
-use Rattle.canonical_form.proofs.Common.{one_tlid, p_key, packed, packed_body, packed_five, packed_fours, packed_i, packed_one}
-use Rattle.canonical_form.proofs.Common.{packed_p, packed_sevens, packed_sixes, packed_twos, pieces, polygon_body, polygon_keys}
-use Rattle.canonical_form.proofs.Common.{polygons_along, polygons_of, seven_land, shape_points, side_keys, six_rtsq, six_tlid}
-use Rattle.canonical_form.proofs.Common.{stands_in, times, to_in_order, two_rtsq, two_tlid, without_last}
-use Rattle.std.proofs.Common.{rules, ◌≡◌, ◌⊎◌, ◌≤◌, ℕ, zero, suc, List, [], ◌∷◌, ◌++◌, map, flat_map, filter_map, length, take, drop}
-use Rattle.std.proofs.Common.{Option, Some, None, IsTrue, sym, refl, ap, ◌∙◌, subst, inl, inr, arith, nat_cmp, map-id, take-append-drop}
-use Rattle.std.proofs.Common.{length-drop}
-use Rattle.std.proofs.lemmas.List.Concat.{flat_map_single}
-use Rattle.std.specs.List.Sorted.{IsStrictlySortedBy}
-use Rattle.county_chart.specs.County.{names_of, landmarks_of}
-use Rattle.county_chart.specs.Packing.{first_point, last_point}
-use Rattle.county_chart.proofs.Sameness.Carried.{among-unpieces}
-use Rattle.county_chart.proofs.Packing.Pieces.{rights-numbered_from}
-use Rattle.canonical_form.proofs.Packing.PackedGroups.{group_of}
-use Rattle.ordered_lists.proofs.Lists.InOrder.{in_order-from_strict, strict-equal}
-use Rattle.ordered_lists.proofs.Lists.Members.{in_filter_map, to_filter_map, one_entry}
-use Rattle.ordered_lists.proofs.ByKey.Numbers.{all_themselves, from_in_order}
-use Rattle.canonical_form.proofs.Packing.PackedNumbers.{two_own, four_own, six_own, seven_own, numbered_strict, tlids_apart, ones, twos, fours}
-use Rattle.canonical_form.proofs.Packing.PackedNumbers.{fives, sixes, sevens, eights, links_of_chains, polygons_packed}
+use Rattle.canonical_form.proofs.Common.{AllByRecursion, all_themselves, among-unpieces, further_ranges, in_order-itself, known-distinct, ℕ}
+use Rattle.canonical_form.proofs.Common.{Among, IsStrictlySortedBy, apart_from_sorted, distinct-strict, landmark_body_cmp, take-append-drop}
+use Rattle.canonical_form.proofs.Common.{Body7, BodyP, Chain, Known, None, Some, arith, lands, p_key, packed, pieces, rules, subst, times}
+use Rattle.canonical_form.proofs.Common.{Coordinates, in_order-from_strict, known_from_distinct, map_agree_everywhere, rights-numbered_from}
+use Rattle.canonical_form.proofs.Common.{County, from_in_order, further_names, in_filter_map, known_is_among, map_agree_all, polygons_along}
+use Rattle.canonical_form.proofs.Common.{Fields1, Fields2, Fields4, Fields5, [], packed_i, packed_p, six_rtsq, six_tlid, two_rtsq, two_tlid}
+use Rattle.canonical_form.proofs.Common.{Fields6, Fields7, FieldsP, List, Option, Ranges, i_tlid, key_cmp, length, map-id, map-map, nat_cmp}
+use Rattle.canonical_form.proofs.Common.{IsCounty, chain_of, distinct, flat_map, in_order, key_keys, ltb-true, names_of, nat_keys, one_tlid}
+use Rattle.canonical_form.proofs.Common.{IsInOrder, all_among, among-map, chains_of, county_of, each_from, five_feat, four_rtsq, four_tlid}
+use Rattle.canonical_form.proofs.Common.{IsTrue, among_known, first_point, length-drop, packed_body, packed_five, packed_twos, without_last}
+use Rattle.canonical_form.proofs.Common.{PolygonKey, all_joined, filter_map, last_point, packed_one, polygons_of, seven_land, to_in_order}
+use Rattle.canonical_form.proofs.Common.{among-unmap, common_steps, inner_points, known-append, numbered_from, packed_sevens, to_filter_map}
+use Rattle.canonical_form.proofs.Common.{ap, drop, inl, inr, map, on, refl, suc, sym, take, zero, ◌++◌, ◌∙◌, ◌∷◌, ◌≡◌, ◌≤◌, ◌⊎◌}
+use Rattle.canonical_form.proofs.Common.{in_pieces, known_all, of_number, of_type_7, of_type_i, of_type_p, one_entry, side_keys, stands_in}
+use Rattle.canonical_form.proofs.Common.{landmarks_of, packed_fours, packed_sixes, polygon_body, polygon_keys, shape_points, strict-equal}
+use Rattle.canonical_form.proofs.Packing.PackedNumbers.{eights, fives, four_own, fours, links_of_chains, numbered_strict, ones}
+use Rattle.canonical_form.proofs.Packing.PackedNumbers.{polygons_packed, seven_own, sevens, six_own, sixes, tlids_apart, two_own, twos}
 use Rattle.canonical_form.proofs.Packing.PackedNamed.{few_polygons, key_stands, land_stands, sides_along}
-use Rattle.canonical_form.proofs.Packing.PolygonBodies.{first_body, body_found}
+use Rattle.canonical_form.proofs.{Packing.PackedGroups.group_of, Packing.PolygonBodies.body_found, Packing.PolygonBodies.first_body}
+use Rattle.std.proofs.lemmas.List.Concat.{flat_map_single}
 
 -- a list of at least two points is its first point, those between and its last point
 last_behind : (p : Coordinates) (points : List Coordinates) → 1 ≤ length points

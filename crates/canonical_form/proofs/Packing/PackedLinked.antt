@@ -1,15 +1,14 @@
 -- The packing of a county is linked.
-use Rattle.std.proofs.Common.{rules, ◌≡◌, ◌&&◌, ℕ, nat_lt, List, ◌++◌, map, flat_map, Bool, true, false, not, IsTrue, refl, ap, ◌∙◌}
-use Rattle.std.proofs.Common.{nat_cmp}
-use Rattle.canonical_form.proofs.Common.{ChainTwice, County, IsApart, IsCounty, IsLinked, Known, LandUnknown, LinkMissing, LinkTwice}
-use Rattle.canonical_form.proofs.Common.{Memory, NameTwice, NameUnknown, NoChain, PolygonTwice, PolygonUnknown, SequenceBroken, all_map}
-use Rattle.canonical_form.proofs.Common.{apart_from_sorted, chain_tlids, eight_land, false≢true, i_tlid, key_cmp, key_keys, known_all}
-use Rattle.canonical_form.proofs.Common.{lands, link_key, lt-ltb, ltb-true, nat_keys, of_type_7, of_type_8, of_type_i, of_type_p, p_key}
-use Rattle.canonical_form.proofs.Common.{packed, polygon_keys, seven_land, side_keys, stands_in, times, tlids}
-use Rattle.std.proofs.lemmas.Bool.{le-ltb}
+use Rattle.canonical_form.proofs.Common.{Bool, County, IsApart, IsCounty, IsLinked, IsTrue, Known, LandUnknown, LinkMissing, LinkTwice}
+use Rattle.canonical_form.proofs.Common.{List, NameTwice, NameUnknown, NoChain, PolygonTwice, PolygonUnknown, SequenceBroken, all_map, ap}
+use Rattle.canonical_form.proofs.Common.{apart_from_sorted, chain_tlids, eight_land, false, false≢true, flat_map, i_tlid, key_cmp, key_keys}
+use Rattle.canonical_form.proofs.Common.{known_all, lands, le-ltb, link_key, lt-ltb, ltb-true, map, nat_cmp, nat_keys, nat_lt, not}
+use Rattle.canonical_form.proofs.Common.{of_type_7, of_type_8, of_type_i, of_type_p, p_key, packed, polygon_keys, refl, rules, seven_land}
+use Rattle.canonical_form.proofs.Common.{side_keys, stands_in, times, tlids, true, ℕ, ◌&&◌, ◌++◌, ◌∙◌, ◌≡◌}
 use Rattle.canonical_form.proofs.Packing.PackedNumbers.{chain_numbers, eights, link_numbers, name_numbers, tlids_apart}
 use Rattle.canonical_form.proofs.Packing.PackedChains.{all_linked, sequence}
 use Rattle.canonical_form.proofs.Packing.PackedNamed.{few_polygons, key_stands, land_stands, named}
+use Rattle.county_chart.specs.declared.fault.LinkFault.TheVariants.{ChainTwice, Memory}
 
 -- if the second of two tests holds whenever the first does, the first never holds alone
 implied : (a b : Bool) → (a ≡ true → b ≡ true) → (a && not b) ≡ false

@@ -1,18 +1,15 @@
 -- The FEATs, LANDs and polygons that the records of a packed county name are in the county.
-use Rattle.std.proofs.Common.{rules, ◌≡◌, ◌⊎◌, ◌<◌, ◌≤◌, ◌+◌, ◌||◌, ℕ, List, [], ◌∷◌, ◌++◌, map, flat_map, filter_map, length, true, Option}
-use Rattle.std.proofs.Common.{Some, None, IsTrue, is_some, sym, refl, ap, ◌∙◌, subst, inl, inr, arith, nat_cmp}
-use Rattle.canonical_form.proofs.Common.{AllByRecursion, AllStandIn, Among, Body7, BodyP, Chain, County, Fields4, Fields7, FieldsP}
-use Rattle.canonical_form.proofs.Common.{IsApart, IsCounty, Known, PolygonKey, all_among, all_joined, all_map, all_weaker, among-map}
-use Rattle.canonical_form.proofs.Common.{among-pieces, among-unmap, among_known, apart_from_sorted, common_steps, false≢true, feats}
-use Rattle.canonical_form.proofs.Common.{four_tlid, in_pieces, key_cmp, key_keys, known-left, known-right, known_is_among, lands}
-use Rattle.canonical_form.proofs.Common.{ltb-true, named_feats, nat_keys, numbered_from, of_number, of_type_7, of_type_i, of_type_p}
-use Rattle.canonical_form.proofs.Common.{or_cases, p_key, packed, packed_body, packed_fours, packed_i, packed_p, packed_sevens}
-use Rattle.canonical_form.proofs.Common.{polygon_keys, polygons_along, same_or_not, seven_land, side_keys, stands_in, times, times-cons}
-use Rattle.canonical_form.proofs.Common.{times-no, times-yes, to_in_order}
-use Rattle.county_chart.proofs.Packing.Pieces.{all_in_pieces, all_numbered_from}
+use Rattle.canonical_form.proofs.Common.{AllByRecursion, AllStandIn, Among, Body7, BodyP, Chain, County, Fields4, Fields7, FieldsP, IsApart}
+use Rattle.canonical_form.proofs.Common.{IsCounty, IsTrue, Known, List, None, Option, PolygonKey, Some, [], all_among, all_in_pieces}
+use Rattle.canonical_form.proofs.Common.{all_joined, all_map, all_numbered_from, all_weaker, among-map, among-pieces, among-unmap}
+use Rattle.canonical_form.proofs.Common.{among_known, ap, apart_from_sorted, arith, common_steps, false≢true, feats, filter_map, flat_map}
+use Rattle.canonical_form.proofs.Common.{four_tlid, in_pieces, inl, inr, is_some, key_cmp, key_keys, known-left, known-right}
+use Rattle.canonical_form.proofs.Common.{known_is_among, lands, length, ltb-true, map, named_feats, nat_cmp, nat_keys, numbered_from}
+use Rattle.canonical_form.proofs.Common.{of_number, of_type_7, of_type_i, of_type_p, or_cases, p_key, packed, packed_body, packed_fours}
+use Rattle.canonical_form.proofs.Common.{packed_i, packed_p, packed_sevens, polygon_keys, polygons_along, refl, rules, same_or_not}
+use Rattle.canonical_form.proofs.Common.{seven_land, side_keys, stands_in, subst, sym, times, times-cons, times-in_order, times-no}
+use Rattle.canonical_form.proofs.Common.{times-yes, to_filter_map, to_in_order, true, ℕ, ◌++◌, ◌+◌, ◌<◌, ◌||◌, ◌∙◌, ◌∷◌, ◌≡◌, ◌≤◌, ◌⊎◌}
 use Rattle.canonical_form.proofs.Packing.PackedGroups.{group_holds}
-use Rattle.ordered_lists.proofs.Lists.Members.{to_filter_map}
-use Rattle.ordered_lists.proofs.ByKey.Numbers.{times-in_order}
 use Rattle.canonical_form.proofs.Packing.PackedNumbers.{four_own, fours, links_of_chains, polygons_packed, sevens, tlids_apart}
 
 -- a polygon has at most as many records as entries

@@ -1,13 +1,12 @@
 -- The records of each type of a packed county, and their numbers.
-use Rattle.std.proofs.Common.{rules, ◌≡◌, ◌<◌, ℕ, suc, List, [], ◌∷◌, map, flat_map, filter_map, Less, refl, ap, ◌∙◌, arith, nat_cmp}
-use Rattle.canonical_form.proofs.Common.{AllByRecursion, Body7, Chain, County, IsApart, IsCounty, Type1, Type2, Type4, Type5, Type6}
-use Rattle.canonical_form.proofs.Common.{Type7, Type8, TypeI, TypeP, all_everywhere, all_map, apart_from_sorted, chain_tlids, feats}
-use Rattle.canonical_form.proofs.Common.{five_feat, four_tlid, i_tlid, in_order, map-map, nat_keys, numbered_from, of_type_1, of_type_2}
-use Rattle.canonical_form.proofs.Common.{of_type_4, of_type_5, of_type_6, of_type_7, of_type_8, of_type_i, of_type_p, on, one_tlid}
-use Rattle.canonical_form.proofs.Common.{p_polyid, packed, packed_by_type, packed_five, packed_fours, packed_i, packed_one, packed_p}
-use Rattle.canonical_form.proofs.Common.{packed_sevens, packed_sixes, packed_twos, seven_land, six_tlid, tlids, two_tlid}
+use Rattle.canonical_form.proofs.Common.{AllByRecursion, all_everywhere, apart_from_sorted, numbered_from, packed_by_type, packed_sevens, ℕ}
+use Rattle.canonical_form.proofs.Common.{Body7, Chain, Type1, Type2, Type4, Type5, Type6, Type7, Type8, TypeI, TypeP, arith, feats, packed}
+use Rattle.canonical_form.proofs.Common.{County, chain_tlids, filter_map, of_its_type, packed_five, packed_fours, packed_sixes, packed_twos}
+use Rattle.canonical_form.proofs.Common.{IsApart, Less, all_map, i_tlid, map-map, nat_cmp, p_polyid, packed_i, packed_p, six_tlid, two_tlid}
+use Rattle.canonical_form.proofs.Common.{IsCounty, five_feat, four_tlid, of_type_1, of_type_2, of_type_4, of_type_5, packed_one, seven_land}
+use Rattle.canonical_form.proofs.Common.{List, [], ap, on, refl, rules, suc, tlids, ◌<◌, ◌∙◌, ◌∷◌, ◌≡◌}
+use Rattle.canonical_form.proofs.Common.{flat_map, in_order, map, nat_keys, of_type_6, of_type_7, of_type_8, of_type_i, of_type_p, one_tlid}
 use Rattle.std.specs.List.Sorted.{IsStrictlySortedBy}
-use Rattle.county_chart.specs.Laws.PackedTypes.{of_its_type}
 use Rattle.county_chart.proofs.Lists.Compared.{less}
 
 -- records that are made with a number have it

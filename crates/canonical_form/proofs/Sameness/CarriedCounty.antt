@@ -1,18 +1,13 @@
 -- A renaming that carries takes a closed county to a closed one, and a whole one to a whole one.
-use Rattle.std.proofs.Common.{rules, ◌≡◌, ◌≤◌, ◌||◌, ℕ, List, map, length, Bool, true, false, Option, IsTrue, is_some, option_to_list}
-use Rattle.std.proofs.Common.{Ordering, sym, refl, subst, nat_cmp}
-use Rattle.canonical_form.proofs.Common.{AllKeysStandIn, AllStandIn, Among, Body7, BodyP, Carries, Chain, County, Fields8, IsKeyOrder}
-use Rattle.canonical_form.proofs.Common.{IsPermutation-sym, IsWhole, Known, PolygonKey, Renumbering, all_among, among-map}
-use Rattle.canonical_form.proofs.Common.{among-permutation, among-pieces, among-unmap, among_known, carried_chain, carried_landmark}
-use Rattle.canonical_form.proofs.Common.{carried_link, carried_polygon, chain_nodes, chain_polygons, each_from, feats, image, key_cmp}
-use Rattle.canonical_form.proofs.Common.{key_keys, key_on, known_is_among, lands, link_key, lt-ltb, ltb-true, nat_keys, or_cases}
-use Rattle.canonical_form.proofs.Common.{polygon_keys, polygons_along, stands_in, times, turned_if, turns}
-use Rattle.std.proofs.lemmas.Bool.{or_left, or_right}
-use Rattle.std.proofs.lemmas.List.{length-reverse}
-use Rattle.county_chart.specs.CountyRules.{IsClosed}
-use Rattle.ordered_lists.specs.Pairs.{ArePaired}
-use Rattle.county_chart.proofs.Sameness.Carried.{among-swapped, among-turned, among-unpieces, chain_polygons-renumbered}
-use Rattle.ordered_lists.proofs.ByKey.Keys.{known-permutation, known-permutation_to, image-known}
+use Rattle.canonical_form.proofs.Common.{AllKeysStandIn, AllStandIn, Among, ArePaired, Body7, BodyP, Bool, Carries, Chain, County, Fields8}
+use Rattle.canonical_form.proofs.Common.{IsClosed, IsKeyOrder, IsPermutation-sym, IsTrue, IsWhole, Known, List, Option, Ordering}
+use Rattle.canonical_form.proofs.Common.{PolygonKey, Renumbering, all_among, among-map, among-permutation, among-pieces, among-swapped}
+use Rattle.canonical_form.proofs.Common.{among-turned, among-unmap, among-unpieces, among_known, carried_chain, carried_landmark}
+use Rattle.canonical_form.proofs.Common.{carried_link, carried_polygon, chain_nodes, chain_polygons, chain_polygons-renumbered, each_from}
+use Rattle.canonical_form.proofs.Common.{false, feats, image, image-known, is_some, key_cmp, key_keys, key_on, known-permutation}
+use Rattle.canonical_form.proofs.Common.{known-permutation_to, known_is_among, lands, length, length-reverse, link_key, lt-ltb, ltb-true}
+use Rattle.canonical_form.proofs.Common.{map, nat_cmp, nat_keys, option_to_list, or_cases, or_left, or_right, polygon_keys, polygons_along}
+use Rattle.canonical_form.proofs.Common.{refl, rules, stands_in, subst, sym, times, true, turned_if, turns, ℕ, ◌||◌, ◌≡◌, ◌≤◌}
 
 -- a turn keeps the nodes and polygons of a chain, in both directions
 pub nodes-turned : (n : ℕ) (b : Bool) (c : Chain) → Among n (chain_nodes c) → Among n (chain_nodes (turned_if b c))

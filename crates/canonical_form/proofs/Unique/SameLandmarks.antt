@@ -1,25 +1,17 @@
 -- If a renaming carries one arranged county onto another, keeps each TLID and turns no chain, the landmarks and their links are
 -- equal: landmarks are in the order of their bodies and links.
-use Rattle.canonical_form.proofs.Common.{eight_land, ◌≡◌, ◌⊎◌, ◌<◌, ℕ, zero, suc, ◌==◌, List, [], ◌∷◌, map, filter, length, Bool, false, cond}
-use Rattle.canonical_form.proofs.Common.{◌&&◌, IsTrue, Ordering, Less, Equal, Greater, is_eq, sym, refl, ap, ◌∙◌, subst, inl, inr, arith}
-use Rattle.canonical_form.proofs.Common.{nat_cmp, IsPermutation, AllByRecursion, Body7, Carries, County, Fields8, IsArranged, IsAscending}
-use Rattle.canonical_form.proofs.Common.{IsClosed, IsInOrder, IsKeyOrder, Known, PolygonKey, Renumbering, all_weaker, carried_link, eq-eqb}
-use Rattle.canonical_form.proofs.Common.{false≢true, image, in_order-equal, key_cmp, landmark_key_cmp, lands, length-map, link_cmp, link_key}
-use Rattle.canonical_form.proofs.Common.{link_keys, link_part, link_part_cmp, link_part_keys, lists_keys, ltb-true, map_agree_all, nat_cmp_total}
-use Rattle.canonical_form.proofs.Common.{nat_keys, ne_eqb, ordering_then, pair_keys, polygon_keys, stands_in, tied_itself, times}
-use Rattle.std.proofs.lemmas.Bool.{cases_eq}
-use Rattle.ordered_lists.proofs.Lists.Counted.{filter-agree}
-use Rattle.county_chart.proofs.Lists.OfNumber.{of_number-all}
-use Rattle.canonical_form.proofs.Lists.Grouping.{in_order-filter, parts_in_order}
+use Rattle.canonical_form.proofs.Common.{AllByRecursion, Body7, Bool, Carries, County, Equal, Fields8, Greater, IsArranged, IsAscending}
+use Rattle.canonical_form.proofs.Common.{IsClosed, IsInOrder, IsKeyOrder, IsPermutation, IsTrue, Known, Less, LinkPart, List, Ordering}
+use Rattle.canonical_form.proofs.Common.{PolygonKey, Renumbering, [], all_weaker, ap, arith, carried_link, cases_eq, cond, differ}
+use Rattle.canonical_form.proofs.Common.{eight_land, eq-eqb, false, false≢true, filter, filter-agree, image, in_order-equal, inl, inr}
+use Rattle.canonical_form.proofs.Common.{is_eq, key_cmp, landmark_body_keys, landmark_key_cmp, lands, length, length-filter, length-map}
+use Rattle.canonical_form.proofs.Common.{link_cmp, link_key, link_keys, link_part, link_part_cmp, link_part_keys, links_of, lists_keys}
+use Rattle.canonical_form.proofs.Common.{ltb-true, map, map_agree_all, nat_cmp, nat_cmp_total, nat_keys, ne_eqb, of_number-all}
+use Rattle.canonical_form.proofs.Common.{ordering_then, pair_keys, polygon_keys, refl, stands_in, subst, suc, sum_by-IsPermutation, sym}
+use Rattle.canonical_form.proofs.Common.{tied_itself, times, zero, ℕ, ◌&&◌, ◌<◌, ◌==◌, ◌∙◌, ◌∷◌, ◌≡◌, ◌⊎◌}
 use Rattle.canonical_form.proofs.Lists.Filtered.{filter-agree_all, filter-filtered, filter-mapped, same_after}
-use Rattle.std.proofs.lemmas.List.Sums.{length-filter}
-use Rattle.std.proofs.lemmas.List.Sorted.{sum_by-IsPermutation}
-use Rattle.county_chart.specs.BodyOrder.{LinkPart}
-use Rattle.county_chart.specs.Laws.KeyOrders.{landmark_body_keys}
-use Rattle.ordered_lists.proofs.ByKey.Keys.{differ}
-use Rattle.canonical_form.specs.Uses.{links_of}
-use Rattle.canonical_form.proofs.Unique.SameNumbers.{counted_injective}
-use Rattle.canonical_form.proofs.Unique.SameKeys.{entries_same, parts_same}
+use Rattle.canonical_form.proofs.{Lists.Grouping.in_order-filter, Lists.Grouping.parts_in_order, Unique.SameKeys.entries_same}
+use Rattle.canonical_form.proofs.{Unique.SameKeys.parts_same, Unique.SameNumbers.counted_injective}
 
 pub landmark_key_keys : IsKeyOrder landmark_key_cmp
 landmark_key_keys = pair_keys (lists_keys landmark_body_keys) (lists_keys link_part_keys)

@@ -1,17 +1,15 @@
 -- If a renaming carries one arranged county onto another, keeps each TLID and turns no chain, the names and the FEATs of chains are
 -- equal: names are in the order of content and uses, and their uses determine the chains' lists.
-use Rattle.canonical_form.proofs.Common.{◌≡◌, ℕ, suc, ◌==◌, List, [], ◌∷◌, ◌++◌, map, filter, length, IsTrue, sym, refl, ap, ap₂, ◌∙◌, subst}
-use Rattle.canonical_form.proofs.Common.{nat_cmp, AllByRecursion, AllStandIn, Among, Carries, Chain, County, IsApart, IsArranged, IsClosed}
-use Rattle.canonical_form.proofs.Common.{IsKeyOrder, IsStrictlySortedBy, Known, Renumbering, Use, all_append, all_left, all_right, all_uses}
-use Rattle.canonical_form.proofs.Common.{all_weaker, among-unmap, apart_from_sorted, feats, image, lists_keys, ltb-true, map-append, map-map}
-use Rattle.canonical_form.proofs.Common.{name_key_cmp, pair_keys, stands_in, times, use_cmp, uses_from, uses_of_name}
+use Rattle.canonical_form.proofs.Common.{AllByRecursion, AllStandIn, Among, Carries, Chain, County, IsApart, IsArranged, IsClosed}
+use Rattle.canonical_form.proofs.Common.{IsKeyOrder, IsStrictlySortedBy, IsTrue, Known, List, Renumbering, Use, [], all_append, all_left}
+use Rattle.canonical_form.proofs.Common.{all_right, all_uses, all_weaker, among-unmap, ap, apart_from_sorted, ap₂, feats, filter, image}
+use Rattle.canonical_form.proofs.Common.{length, lists_keys, ltb-true, map, map-append, map-map, name_body_keys, name_key_cmp, nat_cmp}
+use Rattle.canonical_form.proofs.Common.{one_entry, pair_keys, refl, stands_in, subst, suc, sym, times, use_cmp, uses_from, uses_of_name, ℕ}
+use Rattle.canonical_form.proofs.Common.{◌++◌, ◌==◌, ◌∙◌, ◌∷◌, ◌≡◌}
 use Rattle.canonical_form.proofs.Lists.Filtered.{filter-agree_all, filter-mapped, same_after}
-use Rattle.county_chart.specs.Laws.KeyOrders.{name_body_keys}
-use Rattle.ordered_lists.proofs.Lists.Members.{one_entry}
-use Rattle.canonical_form.proofs.Lists.Counting.{up_to-strict}
-use Rattle.canonical_form.proofs.Unique.SameKeys.{entries_same, parts_same}
-use Rattle.canonical_form.proofs.Unique.SameNumbers.{counted_injective, kept_entry, KeepsChains, all_themselves}
-use Rattle.canonical_form.proofs.Names.UsesOrder.{use_keys, all_uses-strict, use_under, under_use}
+use Rattle.canonical_form.proofs.Unique.SameNumbers.{KeepsChains, all_themselves, counted_injective, kept_entry}
+use Rattle.canonical_form.proofs.Names.UsesOrder.{all_uses-strict, under_use, use_keys, use_under}
+use Rattle.canonical_form.proofs.{Lists.Counting.up_to-strict, Unique.SameKeys.entries_same, Unique.SameKeys.parts_same}
 
 pub name_key_keys : IsKeyOrder name_key_cmp
 name_key_keys = pair_keys name_body_keys (lists_keys use_keys)

@@ -1,16 +1,13 @@
 -- If a renaming carries one arranged county onto another, keeps each TLID and turns no chain, the nodes and the polygons on sides
 -- have equal numbers: they are numbered by first appearance along the same chains.
-use Rattle.canonical_form.proofs.Common.{◌≡◌, ℕ, List, [], ◌∷◌, ◌++◌, map, IsTrue, sym, refl, ap, ap₂, ◌∙◌, subst, inl, inr, nat_cmp, map-id}
-use Rattle.canonical_form.proofs.Common.{IsPermutation, AllByRecursion, Among, Carries, Chain, County, Grows, IsApart, IsArranged, IsAscending}
-use Rattle.canonical_form.proofs.Common.{IsClosed, Known, PolygonKey, Renumbering, all_among, all_joined, all_known, all_weaker, among-map}
-use Rattle.canonical_form.proofs.Common.{apart-distinct, apart-permutation, apart_from_sorted, chain_nodes, chain_polygons, image, key_cmp}
-use Rattle.canonical_form.proofs.Common.{key_keys, known-distinct, known-permutation, lefts, ltb-true, map-append, map-map, nat_keys, nodes}
-use Rattle.canonical_form.proofs.Common.{nodes_along, polygon_keys, polygons_along, renumbered, rights, stands_in, times, up_to}
-use Rattle.county_chart.proofs.Sameness.Carried.{chain_nodes-renumbered, chain_polygons-renumbered}
-use Rattle.ordered_lists.proofs.ByKey.Keys.{image-injective}
-use Rattle.county_chart.proofs.Sameness.Equivalence.{image-keeps}
-use Rattle.canonical_form.proofs.Lists.Counting.{up_to-strict}
-use Rattle.canonical_form.proofs.Numbering.Growth.{grown}
+use Rattle.canonical_form.proofs.Common.{AllByRecursion, Among, Carries, Chain, County, Grows, IsApart, IsArranged, IsAscending, IsClosed}
+use Rattle.canonical_form.proofs.Common.{IsPermutation, IsTrue, Known, List, PolygonKey, Renumbering, [], all_among, all_joined, all_known}
+use Rattle.canonical_form.proofs.Common.{all_weaker, among-map, ap, apart-distinct, apart-permutation, apart_from_sorted, ap₂, chain_nodes}
+use Rattle.canonical_form.proofs.Common.{chain_nodes-renumbered, chain_polygons, chain_polygons-renumbered, image, image-injective}
+use Rattle.canonical_form.proofs.Common.{image-keeps, inl, inr, key_cmp, key_keys, known-distinct, known-permutation, lefts, ltb-true, map}
+use Rattle.canonical_form.proofs.Common.{map-append, map-id, map-map, nat_cmp, nat_keys, nodes, nodes_along, polygon_keys, polygons_along}
+use Rattle.canonical_form.proofs.Common.{refl, renumbered, rights, stands_in, subst, sym, times, up_to, ℕ, ◌++◌, ◌∙◌, ◌∷◌, ◌≡◌}
+use Rattle.canonical_form.proofs.{Lists.Counting.up_to-strict, Numbering.Growth.grown}
 
 -- A renaming onto numbers that count from 1 gives different numbers to different ones.
 pub counted_injective : (pairs : List (ℕ × ℕ)) (olds news : List ℕ) (count : ℕ) → IsPermutation (lefts pairs) olds

@@ -1,12 +1,9 @@
 -- Directed chains that name each chain once turn a county into a county.
-use Rattle.canonical_form.proofs.Common.{◌<◌, length, arith, nat_cmp, List, AllKeysStandIn, Arrangement, Arranges, County, DirectedChain}
-use Rattle.canonical_form.proofs.Common.{IsApart, IsCounty, IsWithinLimits, apart-permutation_of, apart_from_sorted, arranged_tlids}
-use Rattle.canonical_form.proofs.Common.{most_records, nat_keys, polygon_keys, polygons_along, tlids}
-use Rattle.std.proofs.Common.{◌^◌}
-use Rattle.canonical_form.specs.WholeArrangements.{AreWhole, NamesEachOnce}
-use Rattle.canonical_form.specs.DirectedChains.{HasChainsOf, arrangement_of}
-use Rattle.canonical_form.proofs.Arrangements.ArrangedCounties.{arranged_county}
-use Rattle.canonical_form.proofs.Arrangements.ArrangedNumbers.{arrangement_within}
+use Rattle.canonical_form.proofs.Common.{AllKeysStandIn, AreWhole, Arrangement, Arranges, County, DirectedChain, HasChainsOf, IsApart}
+use Rattle.canonical_form.proofs.Common.{IsCounty, IsWithinLimits, List, NamesEachOnce, apart-permutation_of, apart_from_sorted, arith}
+use Rattle.canonical_form.proofs.Common.{arranged_tlids, arrangement_of, length, most_records, nat_cmp, nat_keys, polygon_keys}
+use Rattle.canonical_form.proofs.Common.{polygons_along, tlids, ◌<◌, ◌^◌}
+use Rattle.canonical_form.proofs.{Arrangements.ArrangedCounties.arranged_county, Arrangements.ArrangedNumbers.arrangement_within}
 
 pub arranges_once : (county : County) (order : Arrangement) → IsCounty county → NamesEachOnce county order → Arranges order county
 arranges_once county order is once =

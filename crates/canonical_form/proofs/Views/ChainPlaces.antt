@@ -1,13 +1,8 @@
 -- The chain at a place of a county within its limits.
-use Rattle.canonical_form.proofs.Common.{◌≡◌, ◌+◌, ◌-◌, ◌<◌, ◌≤◌, ℕ, zero, suc, List, [], ◌∷◌, length, Option, Some, None, option_map, slice_get}
-use Rattle.canonical_form.proofs.Common.{refl, ap, ◌∙◌, subst, arith, AllByRecursion, Chain, Coordinates, County, FitsNumbers, IsCounty}
-use Rattle.canonical_form.proofs.Common.{IsNumber, IsWithinLimits, inner_points, last_point, most_records}
-use Rattle.county_chart.specs.ChartWords.{chain_at, points_of}
-use Rattle.county_chart.specs.Packing.{first_point, without_last}
-use Rattle.canonical_form.proofs.Common.{tlids}
-use Rattle.std.proofs.lemmas.Option.{slice_get-map}
-use Rattle.county_chart.specs.Limits.{ListsFit, most_shape_points}
-use Rattle.canonical_form.proofs.Common.{sym, IfSome, IsNumberOrNone}
+use Rattle.canonical_form.proofs.Common.{AllByRecursion, IsNumberOrNone, IsWithinLimits, [], inner_points, most_shape_points, slice_get-map}
+use Rattle.canonical_form.proofs.Common.{Chain, IfSome, IsCounty, IsNumber, ListsFit, Option, arith, chain_at, length, points_of, slice_get}
+use Rattle.canonical_form.proofs.Common.{Coordinates, County, FitsNumbers, first_point, last_point, most_records, option_map, without_last}
+use Rattle.canonical_form.proofs.Common.{List, None, Some, ap, refl, subst, suc, sym, tlids, zero, ℕ, ◌+◌, ◌-◌, ◌<◌, ◌∙◌, ◌∷◌, ◌≡◌, ◌≤◌}
 use Rattle.canonical_form.proofs.Lists.ListPlaces.{some-same}
 
 -- a property of all elements of a list is a property of the element at a place

@@ -1,17 +1,11 @@
 -- The chains of an arrangement given by directed chains are those at their places.
-use Rattle.canonical_form.proofs.Common.{◌≡◌, ◌⊎◌, ◌<◌, ◌≤◌, ◌==◌, ℕ, zero, suc, List, [], ◌∷◌, ◌++◌, map, flat_map, length, Option, Some, None}
-use Rattle.canonical_form.proofs.Common.{option_map, slice_get, sym, refl, ap, ap₂, ◌∙◌, inl, inr, arith, append-nil, Among, Arrangement, Chain}
-use Rattle.canonical_form.proofs.Common.{County, DirectedChain, IsCounty, apart_from_sorted}
-use Rattle.canonical_form.specs.DirectedChains.{HasChainsOf, arrangement_of, tlid_at}
-use Rattle.county_chart.specs.ChartWords.{chain_at, feats_of}
-use Rattle.canonical_form.proofs.Common.{chains_in_order, entries_of, eq-eqb, nat_keys, numbered_from, placed}
-use Rattle.county_chart.specs.DirectedChains.{directed_chain}
-use Rattle.canonical_form.proofs.Common.{rights-numbered_from, times-of_number, tlids, to_filter, turned_if}
-use Rattle.std.proofs.lemmas.Option.{slice_get-map, get_or_from_slice_get}
-use Rattle.ordered_lists.proofs.Lists.Elements.{flat_map_agree}
-use Rattle.std.proofs.lemmas.Grind.{flat_map-append}
-use Rattle.canonical_form.proofs.Lists.Counting.{flat_map-map}
-use Rattle.canonical_form.proofs.Views.ChainPlaces.{some_at}
+use Rattle.canonical_form.proofs.Common.{Among, Arrangement, Chain, County, DirectedChain, HasChainsOf, IsCounty, List, None, Option, Some}
+use Rattle.canonical_form.proofs.Common.{[], ap, apart_from_sorted, append-nil, ap₂, arith, arrangement_of, chain_at, chains_in_order}
+use Rattle.canonical_form.proofs.Common.{directed_chain, entries_of, eq-eqb, feats_of, flat_map, flat_map-append, flat_map_agree}
+use Rattle.canonical_form.proofs.Common.{get_or_from_slice_get, inl, inr, length, map, nat_keys, numbered_from, option_map, placed, refl}
+use Rattle.canonical_form.proofs.Common.{rights-numbered_from, slice_get, slice_get-map, suc, sym, times-of_number, tlid_at, tlids}
+use Rattle.canonical_form.proofs.Common.{to_filter, turned_if, zero, ℕ, ◌++◌, ◌<◌, ◌==◌, ◌∙◌, ◌∷◌, ◌≡◌, ◌≤◌, ◌⊎◌}
+use Rattle.canonical_form.proofs.{Lists.Counting.flat_map-map, Views.ChainPlaces.some_at}
 
 -- the element at a place is in the list
 pub among-get : {X : Type 0} (xs : List X) (i : ℕ) (x : X) → slice_get xs i ≡ Some x → Among x xs

@@ -1,19 +1,12 @@
 -- The chains of a county in an arrangement, read at the places of its directed chains.
-use Rattle.canonical_form.proofs.Common.{◌≡◌, ◌≤◌, ℕ, zero, suc, List, [], ◌∷◌, ◌++◌, map, flat_map, length, Option, Some, None, option_map}
-use Rattle.canonical_form.proofs.Common.{slice_get, sym, refl, ap, ◌∙◌, arith, nat_cmp, Arrangement, Arranges, Chain, County}
-use Rattle.canonical_form.specs.WholeArrangements.{AreWhole, arranged_by}
-use Rattle.canonical_form.proofs.Common.{DirectedChain, IsApart, IsCounty, Renumbering, apart-permutation_of, apart_from_sorted}
-use Rattle.canonical_form.specs.DirectedChains.{HasChainsOf, arrangement_of, tlid_at}
-use Rattle.canonical_form.proofs.Common.{arranged_tlids, entries_of}
-use Rattle.county_chart.specs.ChartWords.{chain_at}
-use Rattle.county_chart.specs.DirectedChains.{directed_chain}
-use Rattle.ordered_lists.specs.Entries.{entry_values}
-use Rattle.canonical_form.proofs.Common.{length-map, map-map, nat_keys, placed, renaming_of, renumbered, rights-numbered_from}
-use Rattle.std.proofs.lemmas.Option.{slice_get-map, slice_get_past}
-use Rattle.canonical_form.proofs.Common.{tlids, turned_if, up_to}
+use Rattle.canonical_form.proofs.Common.{AreWhole, Arrangement, Arranges, Chain, County, DirectedChain, HasChainsOf, IsApart, IsCounty}
+use Rattle.canonical_form.proofs.Common.{List, None, Option, Renumbering, Some, [], ap, apart-permutation_of, apart_from_sorted, arith}
+use Rattle.canonical_form.proofs.Common.{arranged_by, arranged_tlids, arrangement_of, chain_at, directed_chain, entries_of, entry_values}
+use Rattle.canonical_form.proofs.Common.{flat_map, length, length-map, map, map-map, nat_cmp, nat_keys, option_map, placed, refl}
+use Rattle.canonical_form.proofs.Common.{renaming_of, renumbered, rights-numbered_from, slice_get, slice_get-map, slice_get_past, suc, sym}
+use Rattle.canonical_form.proofs.Common.{tlid_at, tlids, turned_if, up_to, zero, ℕ, ◌++◌, ◌∙◌, ◌∷◌, ◌≡◌, ◌≤◌}
 use Rattle.canonical_form.proofs.Arrangements.Carrying.{chains_arranged, tlids_arranged}
-use Rattle.canonical_form.proofs.Unique.SameNumbers.{kept_entry}
-use Rattle.canonical_form.proofs.Views.DirectedChains.{one_here}
+use Rattle.canonical_form.proofs.{Unique.SameNumbers.kept_entry, Views.DirectedChains.one_here}
 
 -- a list read through a function of another list's elements
 pub read_there : {X Y : Type 0} (f : X → Option Y) (xs : List X) (ys : List Y) → map f xs ≡ map Some ys → (i : ℕ) (x : X)

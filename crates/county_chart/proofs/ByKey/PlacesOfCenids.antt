@@ -1,11 +1,8 @@
 -- The CENID that a look-up finds at a place.
-use Rattle.std.proofs.Common.{rules, ◌≡◌, ◌<◌, ℕ, zero, suc, nat_eq, List, [], ◌∷◌, length, get_or, true, Option, Some, None, IfSome}
-use Rattle.std.proofs.Common.{is_some, slice_get, Ordering, sym, subst}
-use Rattle.county_chart.proofs.Common.{IsKeyOrder, Known, false≢true}
-use Rattle.std.proofs.lemmas.Option.{slice_get_read}
-use Rattle.std.specs.Option.{option_eq}
-use lib.Pointwise.{pointwise}
+use Rattle.county_chart.proofs.Common.{IfSome, IsKeyOrder, Option, Ordering, false≢true, is_some, option_eq, slice_get, slice_get_read, suc}
+use Rattle.county_chart.proofs.Common.{Known, List, None, Some, [], get_or, length, nat_eq, rules, subst, sym, true, zero, ℕ, ◌<◌, ◌∷◌, ◌≡◌}
 use Rattle.ordered_lists.proofs.ByKey.Keys.{known-here, known-later}
+use lib.Pointwise.{pointwise}
 
 -- a look-up that finds the wanted bytes returns their place
 pub stands_at : {B : Type 0} (now : B → List ℕ) (xs : List (List ℕ)) (i : ℕ) (found : Option B) (wanted : B)

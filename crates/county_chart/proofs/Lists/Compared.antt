@@ -1,9 +1,7 @@
 -- Two numbers compared, and two lists from a place on.
-use Rattle.std.proofs.Common.{rules, ◌≡◌, ◌<◌, ◌≤◌, ◌+◌, ◌⊎◌, inl, inr, ℕ, zero, suc, List, [], ◌∷◌, length, drop, slice_get, Some}
-use Rattle.std.proofs.Common.{Ordering, Less, Equal, Greater, refl, sym, ap, ◌∙◌, add-one, arith, nat_cmp, cond, ◌==◌}
-use Rattle.county_chart.proofs.Common.{lt-ltb, nat_cmp_total, ordering_then, slice_cmp}
-use Rattle.std.specs.Cmp.{nat_cmp_is}
-use Rattle.std.specs.Ordering.{MatchOrdering, ordering_reverse}
+use Rattle.county_chart.proofs.Common.{Equal, Greater, Less, List, MatchOrdering, Ordering, Some, [], add-one, ap, arith, cond, drop, inl}
+use Rattle.county_chart.proofs.Common.{inr, length, lt-ltb, nat_cmp, nat_cmp_is, nat_cmp_total, ordering_reverse, ordering_then, refl}
+use Rattle.county_chart.proofs.Common.{rules, slice_cmp, slice_get, suc, sym, zero, ℕ, ◌+◌, ◌<◌, ◌==◌, ◌∙◌, ◌∷◌, ◌≡◌, ◌≤◌, ◌⊎◌}
 
 -- two numbers compared
 pub less : (m n : ℕ) → m < n → nat_cmp m n ≡ Less

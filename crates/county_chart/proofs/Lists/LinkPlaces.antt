@@ -1,8 +1,7 @@
 -- The links of the landmark at a place, or past the end.
-use Rattle.std.proofs.Common.{rules, ◌≡◌, ℕ, List, [], ◌∷◌, length, false, IsTrue, Option, Some, None, IfSome, is_some, slice_get}
-use Rattle.std.proofs.Common.{unwrap_or, nat_cmp, refl, ap}
-use Rattle.county_chart.proofs.Common.{AllByRecursion, Fields8, eight_land, false≢true, links_with, ne_eqb, of_number, stands_in}
-use Rattle.std.proofs.lemmas.Option.{slice_get_past}
+use Rattle.county_chart.proofs.Common.{AllByRecursion, Fields8, IfSome, IsTrue, List, None, Option, Some, [], ap, eight_land, false}
+use Rattle.county_chart.proofs.Common.{false≢true, is_some, length, links_with, nat_cmp, ne_eqb, of_number, refl, rules, slice_get}
+use Rattle.county_chart.proofs.Common.{slice_get_past, stands_in, unwrap_or, ℕ, ◌∷◌, ◌≡◌}
 
 -- links whose LANDs are all in the list have no LAND that isn't
 none_of_land : (land : ℕ) (lands : List ℕ) → stands_in nat_cmp land lands ≡ false → (links : List Fields8)

@@ -1,14 +1,10 @@
 -- Stored landmarks: their contents and links, under a LAND and by place.
-use Rattle.county_chart.proofs.Common.{AllByRecursion, Fields8, LandmarkParts, LinksUnderLands, eight_land, entry_keys, entry_values}
-use Rattle.county_chart.proofs.Common.{eq-eqb, false≢true, landmark_entry, links_with, map-map, nat_keys, ne_eqb, of_number}
-use Rattle.county_chart.proofs.Common.{same-itself, same_or_not, strict_head, strict_tail, value_under}
-use Rattle.std.proofs.Common.{rules, ◌≡◌, ◌⊎◌, ◌==◌, ℕ, suc, List, [], ◌∷◌, ◌++◌, map, flat_map, true, false, cond, Less, is_eq}
-use Rattle.std.proofs.Common.{inl, inr, sym, refl, ap, ◌∙◌, subst, nat_cmp, Option, Some, None, unwrap_or, option_map}
-use Rattle.std.proofs.Common.{slice_get, zero}
-use Rattle.std.proofs.lemmas.List.{append-nil}
-use Rattle.std.proofs.lemmas.List.Elements.{filter-append}
-use Rattle.std.specs.List.Sorted.{IsStrictlySortedBy}
-use Rattle.ordered_lists.proofs.Lists.EntryLists.{value-at_place}
+use Rattle.county_chart.proofs.Common.{AllByRecursion, Fields8, IsStrictlySortedBy, LandmarkParts, Less, LinksUnderLands, List, None}
+use Rattle.county_chart.proofs.Common.{Option, Some, [], ap, append-nil, cond, eight_land, entry_keys, entry_values, eq-eqb, false}
+use Rattle.county_chart.proofs.Common.{false≢true, filter-append, flat_map, inl, inr, is_eq, landmark_entry, links_with, map, map-map}
+use Rattle.county_chart.proofs.Common.{nat_cmp, nat_keys, ne_eqb, of_number, option_map, refl, rules, same-itself, same_or_not, slice_get}
+use Rattle.county_chart.proofs.Common.{strict_head, strict_tail, subst, suc, sym, true, unwrap_or, value-at_place, value_under, zero, ℕ}
+use Rattle.county_chart.proofs.Common.{◌++◌, ◌==◌, ◌∙◌, ◌∷◌, ◌≡◌, ◌⊎◌}
 
 -- the links with a LAND are the ones stored under it
 module _ (land : ℕ) where

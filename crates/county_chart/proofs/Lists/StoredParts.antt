@@ -1,9 +1,8 @@
 -- Entries with stored values, and the entries that they represent.
-use Rattle.std.proofs.Common.{rules, ◌≡◌, ℕ, zero, suc, List, [], ◌∷◌, map, flat_map, refl, sym, ap, ◌∙◌, slice_get, Option, Some, IfSome}
-use Rattle.std.proofs.Common.{option_map, unwrap_or, nat_cmp}
-use Rattle.county_chart.proofs.Common.{LandmarkParts, LinksUnderLands, distinct-in_order, eight_land, entry_keys, entry_values}
-use Rattle.county_chart.proofs.Common.{keys-map_values, landmark_entry, map_values, map_values-id, nat_keys, of_number, value_under}
-use Rattle.std.specs.List.Sorted.{IsStrictlySortedBy}
+use Rattle.county_chart.proofs.Common.{IfSome, IsStrictlySortedBy, LandmarkParts, LinksUnderLands, List, Option, Some, [], ap}
+use Rattle.county_chart.proofs.Common.{distinct-in_order, eight_land, entry_keys, entry_values, flat_map, keys-map_values, landmark_entry}
+use Rattle.county_chart.proofs.Common.{map, map_values, map_values-id, nat_cmp, nat_keys, of_number, option_map, refl, rules, slice_get}
+use Rattle.county_chart.proofs.Common.{suc, sym, unwrap_or, value_under, zero, ℕ, ◌∙◌, ◌∷◌, ◌≡◌}
 use Rattle.county_chart.proofs.Lists.StoredLandmarks.{bodies-under, lands-kept, links-under}
 
 pub keys-kept : {K V W : Type 0} (f : V → W) (xs : List (K × V)) → entry_keys xs ≡ entry_keys (map_values f xs)

@@ -1,8 +1,6 @@
 -- Pieces of a list to which others are appended.
-use Rattle.std.proofs.Common.{rules, ◌≡◌, ◌≤◌, ℕ, List, [], ◌∷◌, ◌++◌, length, ap, ◌∙◌, slice_range, length-append, length-drop}
-use Rattle.std.proofs.Math.Seq.{drop-append_seam}
-use Rattle.std.proofs.lemmas.List.{drop-append-le, take-append-le, take_all}
-use Rattle.county_chart.specs.JoinedLists.{AreWithin, pieces_in}
+use Rattle.county_chart.proofs.Common.{AreWithin, List, [], ap, drop-append-le, drop-append_seam, length, length-append, length-drop}
+use Rattle.county_chart.proofs.Common.{pieces_in, rules, slice_range, take-append-le, take_all, ℕ, ◌++◌, ◌∙◌, ◌∷◌, ◌≡◌, ◌≤◌}
 
 module _ {X : Type 0} (xs ys : List X) where
   -- a piece of the list is the same piece after more is appended

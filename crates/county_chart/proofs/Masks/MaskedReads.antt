@@ -1,14 +1,9 @@
 -- The values that a chart reads of a county under a mask.
-use Rattle.std.proofs.Common.{rules, ◌≡◌, ◌<◌, ℕ, List, [], length, false, Option, Some, None, option_map, slice_get, refl, sym, ap, ◌∙◌}
-use Rattle.std.proofs.Common.{arith}
-use Rattle.county_chart.proofs.Common.{Body7, Chain, County, entry_values, length-map, links_with, map_values, masked, masked_bodies}
-use Rattle.county_chart.proofs.Common.{values-map_values}
-use Rattle.std.proofs.lemmas.Option.{slice_get-map, slice_get-get_or, unwrap_or-slice_get}
-use Rattle.tl_layout.specs.Masked.{masked_body_1, masked_body_i}
-use Rattle.tl_layout.specs.declared.mask.Mask.{Mask}
-use Rattle.county_chart.specs.ChartWords.{chain_at, points_of, feats_of, ranges_of, bodies_at, links_at}
-use Rattle.county_chart.specs.MaskedCounty.{masked_chain}
-use Rattle.county_chart.specs.Laws.MaskedCounties.{lands_masked, length_masked_bodies}
+use Rattle.county_chart.proofs.Common.{Body7, Chain, County, List, Mask, None, Option, Some, [], ap, arith, bodies_at, chain_at}
+use Rattle.county_chart.proofs.Common.{entry_values, false, feats_of, lands_masked, length, length-map, length_masked_bodies, links_at}
+use Rattle.county_chart.proofs.Common.{links_with, map_values, masked, masked_bodies, masked_body_1, masked_body_i, masked_chain}
+use Rattle.county_chart.proofs.Common.{option_map, points_of, ranges_of, refl, rules, slice_get, slice_get-get_or, slice_get-map, sym}
+use Rattle.county_chart.proofs.Common.{unwrap_or-slice_get, values-map_values, ℕ, ◌<◌, ◌∙◌, ◌≡◌}
 
 -- the value at a place after all values are mapped
 value_at_place : {K V W : Type 0} (f : V → W) (entries : List (K × V)) (place : ℕ)

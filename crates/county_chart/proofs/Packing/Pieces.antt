@@ -1,9 +1,7 @@
 -- Lists cut into pieces, and elements numbered from a number on.
-use Rattle.std.proofs.Common.{rules, ◌≡◌, ◌+◌, ◌*◌, ◌<◌, ◌≤◌, ℕ, zero, suc, List, [], ◌∷◌, map, length, drop, refl, ap, arith}
-use Rattle.county_chart.proofs.Common.{AllByRecursion, all_weaker, numbered_from, pieces}
-use Rattle.std.proofs.lemmas.List.{length-drop, length-take}
-use Rattle.std.specs.List.{range_with_len}
-use Rattle.ordered_lists.proofs.Lists.Counted.{all_take, all_drop}
+use Rattle.county_chart.proofs.Common.{AllByRecursion, List, [], all_drop, all_take, all_weaker, ap, arith, drop, length, length-drop}
+use Rattle.county_chart.proofs.Common.{length-take, map, pieces, range_with_len, refl, rules, suc, zero, ℕ, ◌*◌, ◌+◌, ◌<◌, ◌∷◌, ◌≡◌, ◌≤◌}
+use Rattle.county_chart.specs.Packing.{numbered_from}
 
 -- pieces of n: at most c of them if there are at most n * c elements, none longer than n
 pub few_pieces : {X : Type 0} (n c most : ℕ) (xs : List X) → length xs ≤ n * c → length (pieces n most xs) ≤ c

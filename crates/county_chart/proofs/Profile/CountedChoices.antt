@@ -1,13 +1,8 @@
 -- A pass over ordered keys, from the last to the first: the running product, and the places with a choice.
-use Rattle.std.proofs.Common.{Bool, List, Ordering, [], ap, arith, cond, false, inl, inr, is_eq, length, refl, reverse, suc, true, ℕ, ◌*◌}
-use Rattle.std.proofs.Common.{◌++◌, ◌+◌, ◌∙◌, ◌∷◌, ◌≡◌, ◌≤◌, ◌⊎◌}
-use Rattle.county_chart.proofs.Common.{IsInOrder, IsKeyOrder, running, same-true, times, times-no, times-yes}
-use Rattle.county_chart.specs.Choices.{is_first, is_settled, open_place_at, open_places, ways_at}
-use Rattle.county_chart.specs.declared.open_place.OpenPlace.{OpenPlace}
-use Rattle.std.proofs.lemmas.List.{reverse-append}
-use Rattle.ordered_lists.proofs.ByKey.Keys.{same_or_not}
-use Rattle.ordered_lists.proofs.ByKey.KeyedLists.{before_all, less_from}
-use Rattle.county_chart.specs.Choices.{alike_first}
+use Rattle.county_chart.proofs.Common.{Bool, IsInOrder, IsKeyOrder, List, OpenPlace, Ordering, [], alike_first, ap, arith, before_all, cond}
+use Rattle.county_chart.proofs.Common.{false, inl, inr, is_eq, is_first, is_settled, length, less_from, open_place_at, open_places, refl}
+use Rattle.county_chart.proofs.Common.{reverse, reverse-append, running, same-true, same_or_not, suc, times, times-no, times-yes, true}
+use Rattle.county_chart.proofs.Common.{ways_at, ℕ, ◌*◌, ◌++◌, ◌+◌, ◌∙◌, ◌∷◌, ◌≡◌, ◌≤◌, ◌⊎◌}
 
 module _ {K : Type 0} {cmp : K → K → Ordering} (o : IsKeyOrder cmp) where
   -- in order, a key occurs after itself one time more than the next key does if they are the same, and never if they aren't

@@ -1,14 +1,10 @@
 -- The running product of keys is the product of the factorials of how often each key occurs, and of twos. It is therefore the
 -- same for every order of the keys.
-use Rattle.std.proofs.Common.{◌≡◌, ◌⊎◌, ◌<◌, ◌≤◌, ◌*◌, ◌^◌, ℕ, suc, nat_lt, List, [], ◌∷◌, map, filter, length, Bool, true, false, cond}
-use Rattle.std.proofs.Common.{Ordering, is_eq, is_gt, sym, refl, ap, ◌∙◌, subst, inl, inr, arith}
-use Rattle.std.proofs.lemmas.Bool.{ltb-true, ltb-false}
-use Rattle.std.proofs.Math.Nat.{pow-succ'}
-use Rattle.ordered_lists.specs.Orders.{times, stands_in, put_in_order, distinct}
-use Rattle.ordered_lists.proofs.ByKey.Keys.{IsKeyOrder, IsApart, Known, times-yes, times-no, apart_tail, known_cases, map_agree, differ}
-use Rattle.ordered_lists.proofs.Lists.Distinct.{apart-distinct, known-distinct, known_from_distinct}
-use Rattle.ordered_lists.proofs.Lists.Reordered.{SameElements, times-same, distinct_same}
-use Rattle.county_chart.specs.Choices.{factorial, product, running}
+use Rattle.county_chart.proofs.Common.{Bool, IsApart, IsKeyOrder, Known, List, Ordering, SameElements, [], ap, apart-distinct, apart_tail}
+use Rattle.county_chart.proofs.Common.{arith, cond, differ, distinct, distinct_same, factorial, false, filter, inl, inr, is_eq, is_gt}
+use Rattle.county_chart.proofs.Common.{known-distinct, known_cases, known_from_distinct, length, ltb-false, ltb-true, map, map_agree}
+use Rattle.county_chart.proofs.Common.{nat_lt, pow-succ', product, put_in_order, refl, running, stands_in, subst, suc, sym, times, times-no}
+use Rattle.county_chart.proofs.Common.{times-same, times-yes, true, ℕ, ◌*◌, ◌<◌, ◌^◌, ◌∙◌, ◌∷◌, ◌≡◌, ◌≤◌, ◌⊎◌}
 
 module _ {K : Type 0} {cmp : K → K → Ordering} (o : IsKeyOrder cmp) where
   product-put : (f : K → ℕ) (k : K) (ds : List K) → product (map f (put_in_order cmp k ds)) ≡ f k * product (map f ds)

@@ -1,14 +1,10 @@
 -- The chain at a place of a county.
-use Rattle.std.proofs.Common.{Bool, List, Option, Ordering, Some, [], ap, arith, drop, false, inl, inr, length, option_map, refl, reverse}
-use Rattle.std.proofs.Common.{slice_get, subst, suc, sym, take, true, zero, ℕ, ◌++◌, ◌<◌, ◌∙◌, ◌∷◌, ◌≡◌, ◌≤◌}
-use Rattle.county_chart.proofs.Common.{AllByRecursion, Among, Chain, Coordinates, County, DirectedChain, IsCounty, all_among, least_points}
-use Rattle.county_chart.proofs.Common.{points_along, points_cmp, points_from, points_of, slice_get-map}
-use Rattle.county_chart.specs.ChartWords.{chain_at}
-use Rattle.county_chart.specs.Shapes.{points_at}
-use Rattle.std.proofs.Common.{IsSome}
-use Rattle.std.specs.Ordering.{is_lt}
-use Rattle.std.proofs.lemmas.List.{length-reverse}
+use Rattle.county_chart.proofs.Common.{AllByRecursion, DirectedChain, least_points, length-reverse, option_map, points_along, slice_get-map}
+use Rattle.county_chart.proofs.Common.{Among, Bool, Chain, County, IsSome, List, Option, [], arith, chain_at, false, length, reverse, subst}
+use Rattle.county_chart.proofs.Common.{Coordinates, IsCounty, Ordering, all_among, points_at, points_cmp, points_from, points_of, slice_get}
+use Rattle.county_chart.proofs.Common.{Some, ap, drop, inl, inr, refl, suc, sym, take, true, zero, ℕ, ◌++◌, ◌<◌, ◌∙◌, ◌∷◌, ◌≡◌, ◌≤◌}
 use Rattle.county_chart.proofs.DirectedChains.{points_turned}
+use Rattle.ordered_lists.proofs.Common.{is_lt}
 
 -- an item, and the lists before and after it
 pub record StandsAt {X : Type 0} (xs : List X) (place : ℕ) : Type 0 where

@@ -1,15 +1,10 @@
 -- A county is in the profile, or exactly one clause is broken first.
-use Rattle.std.proofs.Common.{List, Option, [], cond, inl, inr, is_eq, is_some, map, not, refl, subst, suc, sym, true, zero, ℕ, ◌&&◌, ◌∷◌}
-use Rattle.std.proofs.Common.{◌≡◌, ◌⊎◌}
-use Rattle.county_chart.proofs.Common.{Among, BodyP, County, IsInProfile, PolygonKey, among-map, and_parts, false≢true, has_body, key_cmp}
-use Rattle.county_chart.proofs.Common.{key_keys, polygons_along, same-true, stands_in}
-use Rattle.county_chart.specs.Profile.{IsFirstBrokenClause, is_clause_broken, profile_fault_place}
-use Rattle.county_chart.specs.declared.profile_fault.ProfileFault.{ProfileFault}
-use Rattle.county_chart.specs.declared.profile_fault.ProfileFault.TheVariants.{Memory, PolygonWithoutChain, TooSymmetric}
-use Rattle.std.proofs.Common.{◌==◌}
-use Rattle.county_chart.proofs.Rules.FirstFault.{first_or_none, not_first, one_first, none_there}
-use Rattle.county_chart.proofs.Rules.FirstFault.{least_there, none_computed, first_computed}
-use Rattle.ordered_lists.proofs.Lists.Members.{any_among}
+use Rattle.county_chart.proofs.Common.{Among, BodyP, County, Memory, Option, has_body, is_some, key_cmp, key_keys, same-true, stands_in, ℕ}
+use Rattle.county_chart.proofs.Common.{IsFirstBrokenClause, PolygonWithoutChain, inl, is_clause_broken, polygons_along, profile_fault_place}
+use Rattle.county_chart.proofs.Common.{IsInProfile, PolygonKey, ProfileFault, TooSymmetric, [], among-map, and_parts, any_among, false≢true}
+use Rattle.county_chart.proofs.Common.{List, cond, inr, is_eq, map, not, refl, subst, suc, sym, true, zero, ◌&&◌, ◌==◌, ◌∷◌, ◌≡◌, ◌⊎◌}
+use Rattle.county_chart.proofs.Rules.FirstFault.{first_computed, first_or_none, least_there, none_computed, none_there, not_first}
+use Rattle.county_chart.proofs.Rules.FirstFault.{one_first}
 
 -- the fault at a place
 abbrev part : List (List ℕ) → ℕ → List ℕ

@@ -1,15 +1,10 @@
 -- Counties that are the same leave equally many choices, and the shapes of a county in order determine how many.
-use Rattle.std.proofs.Common.{Bool, IsPermutation, List, false, map, refl, subst, sym, true, ℕ, ◌∙◌, ◌≡◌}
-use Rattle.county_chart.proofs.Common.{AreSame, Carries, Chain, Coordinates, County, DirectedChain, IsPermutation-sym, Renumbering}
-use Rattle.county_chart.proofs.Common.{SameElements, along_shapes, carried_chain, is_either_way, least_points, map-map, points_along}
-use Rattle.county_chart.proofs.Common.{points_cmp, points_keys, running, shapes, turned_if, turns}
-use Rattle.county_chart.specs.Choices.{choices}
-use Rattle.county_chart.specs.ShapeOrder.{AreInShapeOrder}
-use Rattle.ordered_lists.proofs.Lists.Elements.{map_agree_everywhere}
-use Rattle.ordered_lists.proofs.Lists.Reordered.{from_permutation, same-map}
-use Rattle.county_chart.proofs.Profile.Factorials.{running_is, running-same}
-use Rattle.county_chart.proofs.Profile.ShapePoints.{least_reverse}
-use Rattle.county_chart.proofs.Profile.ShapesOfCounty.{shapes_along}
+use Rattle.county_chart.proofs.Common.{AreInShapeOrder, DirectedChain, IsPermutation-sym, from_permutation, map_agree_everywhere, turned_if}
+use Rattle.county_chart.proofs.Common.{AreSame, Carries, Coordinates, Renumbering, choices, map, map-map, points_cmp, points_keys, same-map}
+use Rattle.county_chart.proofs.Common.{Bool, Chain, County, List, false, refl, running, shapes, subst, sym, true, turns, ℕ, ◌∙◌, ◌≡◌}
+use Rattle.county_chart.proofs.Common.{IsPermutation, SameElements, along_shapes, carried_chain, is_either_way, least_points, points_along}
+use Rattle.county_chart.proofs.Profile.Factorials.{running-same, running_is}
+use Rattle.county_chart.proofs.{Profile.ShapePoints.least_reverse, Profile.ShapesOfCounty.shapes_along}
 
 -- the number of choices depends only on the shapes
 pub choices_of_shapes : (county : County) → running points_cmp is_either_way (shapes county) ≡ choices county

@@ -1,21 +1,13 @@
 -- If two counties are the same map, both are in the profile or neither is.
-use Rattle.std.proofs.Common.{Bool, Option, ap, false, is_eq, is_some, map, nat_lt, not, refl, subst, sym, true, ◌&&◌, ◌∙◌, ◌≡◌}
-use Rattle.county_chart.proofs.Common.{Among, AreSame, BodyP, Carries, Chain, County, IsCounty, IsInProfile, IsPermutation-sym, Known}
-use Rattle.county_chart.proofs.Common.{PolygonKey, Renumbering, among-map, and_parts, carried_chain, chain_polygons, false≢true, has_body}
-use Rattle.county_chart.proofs.Common.{key_cmp, key_keys, lt-ltb, ltb-true, polygons_along, stands_in, times, turned_if, turns}
-use Rattle.county_chart.specs.Choices.{most_choices}
-use Rattle.county_chart.specs.declared.profile_fault.ProfileFault.TheVariants.{Memory, PolygonWithoutChain, TooSymmetric}
-use Rattle.ordered_lists.proofs.Lists.Members.{among-permutation}
-use Rattle.std.proofs.lemmas.Bool.{and_from, false_from_ne_true}
-use Rattle.county_chart.specs.Renumbering.{carried_polygon, renumbered}
-use Rattle.ordered_lists.specs.Pairs.{image}
-use Rattle.county_chart.proofs.Sameness.Carried.{chain_polygons-renumbered, among-unpieces, among-turned}
-use Rattle.ordered_lists.proofs.ByKey.Keys.{same-itself}
-use Rattle.county_chart.proofs.Sameness.Equivalence.{same-symmetric}
-use Rattle.ordered_lists.proofs.Lists.Members.{among-unmap, among-pieces, among_any, among_known, known_is_among}
-use Rattle.county_chart.specs.Profile.{AreAllOnSides}
-use Rattle.county_chart.proofs.Profile.ProfileFaults.{body_entry}
-use Rattle.county_chart.proofs.Profile.SameChoices.{same_choices}
+use Rattle.county_chart.proofs.Common.{Among, AreAllOnSides, AreSame, BodyP, Bool, Carries, Chain, County, IsCounty, IsInProfile}
+use Rattle.county_chart.proofs.Common.{IsPermutation-sym, Known, Memory, Option, PolygonKey, PolygonWithoutChain, Renumbering, TooSymmetric}
+use Rattle.county_chart.proofs.Common.{among-map, among-permutation, among-pieces, among-unmap, among_any, among_known, and_from, and_parts}
+use Rattle.county_chart.proofs.Common.{ap, carried_chain, carried_polygon, chain_polygons, false, false_from_ne_true, false≢true, has_body}
+use Rattle.county_chart.proofs.Common.{image, is_eq, is_some, key_cmp, key_keys, known_is_among, lt-ltb, ltb-true, map, most_choices}
+use Rattle.county_chart.proofs.Common.{nat_lt, not, polygons_along, refl, renumbered, same-itself, stands_in, subst, sym, times, true}
+use Rattle.county_chart.proofs.Common.{turned_if, turns, ◌&&◌, ◌∙◌, ◌≡◌}
+use Rattle.county_chart.proofs.Sameness.Carried.{among-turned, among-unpieces, chain_polygons-renumbered}
+use Rattle.county_chart.proofs.{Profile.ProfileFaults.body_entry, Profile.SameChoices.same_choices, Sameness.Equivalence.same-symmetric}
 
 not-false : (b : Bool) → not b ≡ false → b ≡ true
 not-false true e = refl

@@ -1,8 +1,7 @@
 -- The points of all directed chains are the county's shapes.
-use Rattle.std.proofs.Common.{List, Some, [], ap, ap₂, arith, length, map, option_map, refl, slice_get, subst, suc, ℕ, ◌+◌, ◌∙◌, ◌∷◌, ◌≡◌}
-use Rattle.county_chart.proofs.Common.{Chain, County, along_shapes, least_points, map-map, points_along, points_of, shapes, slice_get-map}
-use Rattle.county_chart.specs.ShapeOrder.{along_shape}
-use Rattle.std.specs.List.{range_with_len}
+use Rattle.county_chart.proofs.Common.{Chain, County, List, Some, [], along_shape, along_shapes, ap, ap₂, arith, least_points, length, map}
+use Rattle.county_chart.proofs.Common.{map-map, option_map, points_along, points_of, range_with_len, refl, shapes, slice_get, slice_get-map}
+use Rattle.county_chart.proofs.Common.{subst, suc, ℕ, ◌+◌, ◌∙◌, ◌∷◌, ◌≡◌}
 use Rattle.county_chart.proofs.Profile.Places.{along_from}
 
 -- a function of each place that agrees with a function of the item there has the same values

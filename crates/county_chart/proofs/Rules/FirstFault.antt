@@ -1,12 +1,8 @@
 -- If all faults are in a finite list, either there is none or exactly one is the first.
-use Rattle.std.proofs.Common.{rules, ◌≡◌, ◌⊎◌, ℕ, List, [], ◌∷◌, Bool, true, false, not, ◌&&◌, ◌||◌, is_gt, sym, refl, ap, ◌∙◌, inl, inr}
-use Rattle.county_chart.proofs.Common.{AllByRecursion, Among, IsKeyOrder, all_among, and_parts, bytes_keys, false≢true, list_all}
-use Rattle.county_chart.proofs.Common.{or_cases, place_cmp}
-use Rattle.std.proofs.lemmas.Bool.{not-true}
-use Rattle.std.proofs.lemmas.Cmp.{upto}
-use Rattle.county_chart.specs.FirstOf.{IsFirst}
-use Rattle.ordered_lists.proofs.ByKey.Keys.{order_antisymm, order_total, order_itself}
-use Rattle.ordered_lists.proofs.ByKey.KeyOrders.{lists_keys}
+use Rattle.county_chart.proofs.Common.{AllByRecursion, Among, Bool, IsFirst, IsKeyOrder, List, [], all_among, and_parts, ap, bytes_keys}
+use Rattle.county_chart.proofs.Common.{false, false≢true, inl, inr, is_gt, list_all, lists_keys, not, not-true, or_cases, place_cmp, refl}
+use Rattle.county_chart.proofs.Common.{rules, sym, true, upto, ℕ, ◌&&◌, ◌||◌, ◌∙◌, ◌∷◌, ◌≡◌, ◌⊎◌}
+use Rattle.ordered_lists.proofs.ByKey.Keys.{order_antisymm, order_itself, order_total}
 
 pub place_keys : IsKeyOrder place_cmp
 place_keys = lists_keys bytes_keys

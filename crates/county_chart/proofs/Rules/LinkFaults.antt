@@ -1,17 +1,16 @@
 -- Either a list of records is linked, or exactly one rule is the first that is broken.
-use Rattle.std.proofs.Common.{rules, ◌≡◌, ◌⊎◌, ◌<◌, ℕ, zero, suc, nat_lt, ◌==◌, List, [], ◌∷◌, ◌++◌, map, flat_map, Bool, true, false, cond}
-use Rattle.std.proofs.Common.{not, ◌&&◌, is_eq, refl, inl, inr, nat_cmp, arith}
-use Rattle.county_chart.proofs.Common.{Among, ChainTwice, Fields4, Four, I, Known, LandUnknown, LinkFault, LinkMissing, LinkTwice}
-use Rattle.county_chart.proofs.Common.{LinkedType, Memory, NameTwice, NameUnknown, NoChain, PolygonTwice, PolygonUnknown, Record}
-use Rattle.county_chart.proofs.Common.{SequenceBroken, SequencedType, Six, Two, and_parts, common_steps, differ_apart, eight_land}
-use Rattle.county_chart.proofs.Common.{eqb-true, false≢true, five_feat, four_rtsq, four_tlid, has_repeat, i_tlid, key_keys}
-use Rattle.county_chart.proofs.Common.{known-append, link_key, ltb-true, nat_keys, ne_eqb, of_number, of_type_2, of_type_4, of_type_5}
-use Rattle.county_chart.proofs.Common.{of_type_6, of_type_8, of_type_i, of_type_p, p_key, same_or_not, six_rtsq, six_tlid, stands_in}
-use Rattle.county_chart.proofs.Common.{times, times-no, times-yes, two_rtsq, two_tlid}
-use Rattle.county_chart.specs.LinkedTypes.{linked_type}
-use Rattle.county_chart.specs.LinkRules.{chain_tlids, linked_tlids, rtsqs, is_rule_broken, link_fault_place, IsLinked, IsFirstBrokenRule}
-use Rattle.ordered_lists.proofs.Lists.Among.{among_left, among_right, known_among}
-use Rattle.county_chart.proofs.Rules.FirstFault.{first_or_none, not_first, one_first, none_there, least_there, none_computed, first_computed}
+use Rattle.county_chart.proofs.Common.{Among, Fields4, NoChain, i_tlid, nat_cmp, nat_keys, six_rtsq, six_tlid, times-no, two_rtsq, two_tlid}
+use Rattle.county_chart.proofs.Common.{Bool, LandUnknown, LinkMissing, PolygonTwice, common_steps, differ_apart, known-append, linked_tlids}
+use Rattle.county_chart.proofs.Common.{ChainTwice, LinkedType, NameUnknown, among_right, chain_tlids, known_among, linked_type, same_or_not}
+use Rattle.county_chart.proofs.Common.{I, five_feat, four_rtsq, four_tlid, of_number, of_type_2, of_type_4, of_type_5, of_type_6, of_type_8}
+use Rattle.county_chart.proofs.Common.{IsFirstBrokenRule, PolygonUnknown, SequenceBroken, SequencedType, is_rule_broken, link_fault_place}
+use Rattle.county_chart.proofs.Common.{IsLinked, LinkFault, LinkTwice, NameTwice, among_left, and_parts, eight_land, false≢true, has_repeat}
+use Rattle.county_chart.proofs.Common.{Known, List, arith, cond, false, is_eq, nat_lt, ne_eqb, p_key, refl, rtsqs, rules, times, true, zero}
+use Rattle.county_chart.proofs.Common.{Record, eqb-true, flat_map, key_keys, link_key, ltb-true, of_type_i, of_type_p, stands_in, times-yes}
+use Rattle.county_chart.proofs.Common.{Six, [], inl, inr, map, not, suc, ℕ, ◌&&◌, ◌++◌, ◌<◌, ◌==◌, ◌∷◌, ◌≡◌, ◌⊎◌}
+use Rattle.county_chart.proofs.Rules.FirstFault.{first_computed, first_or_none, least_there, none_computed, none_there, not_first}
+use Rattle.county_chart.proofs.Rules.FirstFault.{one_first}
+use Rattle.county_chart.specs.declared.fault.{LinkFault.TheVariants.Memory, LinkedType.TheVariants.Four, LinkedType.TheVariants.Two}
 use Rattle.county_chart.specs.declared.fault.SequencedType.TheVariants as sequenced
 
 -- the fault at a place

@@ -1,10 +1,9 @@
 -- The numbers of a carried chain are the images of its numbers.
-use Rattle.std.proofs.Common.{rules, ◌≡◌, ◌⊎◌, ℕ, List, [], ◌∷◌, ◌++◌, map, flat_map, Bool, true, false, Option, Some, None, option_map}
-use Rattle.std.proofs.Common.{Ordering, option_to_list, refl, inl, inr, nat_cmp}
-use Rattle.county_chart.proofs.Common.{Among, Chain, IsKeyOrder, Known, PolygonKey, Renumbering, SameElements, among-pieces}
-use Rattle.county_chart.proofs.Common.{among_known, chain_nodes, chain_polygons, image, key_cmp, key_on, key_under, known_is_among}
-use Rattle.county_chart.proofs.Common.{map-append, renumbered, renumbered_polygon, stands_alike, stands_in, turned_if}
-use Rattle.ordered_lists.proofs.Lists.Among.{among_left, among_right}
+use Rattle.county_chart.proofs.Common.{Among, Bool, Chain, IsKeyOrder, Known, List, None, Option, Ordering, PolygonKey, Renumbering}
+use Rattle.county_chart.proofs.Common.{SameElements, Some, [], among-pieces, among_known, among_left, among_right, chain_nodes}
+use Rattle.county_chart.proofs.Common.{chain_polygons, false, flat_map, image, inl, inr, key_cmp, key_on, key_under, known_is_among, map}
+use Rattle.county_chart.proofs.Common.{map-append, nat_cmp, option_map, option_to_list, refl, renumbered, renumbered_polygon, rules}
+use Rattle.county_chart.proofs.Common.{stands_alike, stands_in, true, turned_if, ℕ, ◌++◌, ◌∷◌, ◌≡◌, ◌⊎◌}
 
 pub key_on-renumbered : (r : Renumbering) (cenid : List ℕ) (polyid : Option ℕ)
     → key_on (renumbered_polygon r cenid polyid) ≡ map (image key_cmp r.polygons) (key_under cenid polyid)

@@ -1,24 +1,19 @@
 -- Sameness is an equivalence: the identity carries, and so do inverses and compositions of renamings that carry.
-use Rattle.std.proofs.Common.{rules, ◌≡◌, ℕ, nat_lt, List, [], ◌∷◌, Bool, true, false, map, filter, Ordering, IsTrue, sym, refl, ap, ◌∙◌}
-use Rattle.std.proofs.Common.{subst, IsPermutation, nat_cmp, Option, Some, None, option_map, option_to_list, map-id}
-use Rattle.county_chart.proofs.Common.{AllByRecursion, AllKeysStandIn, AllStandIn, Carries, Chain, County, Fields8, IsApart, IsCounty}
-use Rattle.county_chart.proofs.Common.{IsKeyOrder, IsPermutation-sym, IsPermutation-trans, Known, PolygonKey, Renumbering, all_known}
-use Rattle.county_chart.proofs.Common.{all_map, all_weaker, apart_from_sorted, carried_chain, carried_landmark, carried_link}
-use Rattle.county_chart.proofs.Common.{carried_polygon, chain_nodes, chain_polygons, feats, filter_all, has_repeat, has_repeat-apart}
-use Rattle.county_chart.proofs.Common.{image, key_cmp, key_keys, key_on, key_under, known-distinct, lands, link_key, lt-ltb, ltb-true}
-use Rattle.county_chart.proofs.Common.{map-map, map_agree_all, nat_keys, nodes, polygon_keys, renumbered, renumbered_polygon}
-use Rattle.county_chart.proofs.Common.{same_or_not, stands_in, times, tlids, turned_if, turns}
-use Rattle.std.proofs.lemmas.List.Sorted.{IsPermutation-map}
-use Rattle.county_chart.specs.CountyRules.{IsClosed, nodes_along}
-use Rattle.county_chart.specs.Renumbering.{renumbered_side, carried_name, AreSame, identity, inverse, exactly_one, then}
-use Rattle.ordered_lists.specs.Pairs.{ArePaired, to_itself, swapped, is_named, composed}
-use Rattle.tl_shape.specs.TurnLaws.{turned-turned}
-use Rattle.ordered_lists.proofs.Lists.Elements.{map_itself, all_unmap, all_left, all_right, all_pieces, all_filter}
-use Rattle.ordered_lists.proofs.ByKey.Keys.{lefts, rights, apart-permutation, known-permutation, known-permutation_to, image-known}
-use Rattle.ordered_lists.proofs.ByKey.Keys.{times-images, has_repeat-images, apart-filter, stands_in-filter, image-back, image-yes}
-use Rattle.ordered_lists.proofs.ByKey.Keys.{image-no, rights-swapped, lefts-swapped, image-to_itself, lefts-to_itself, rights-to_itself}
-use Rattle.ordered_lists.proofs.ByKey.Keys.{images-lefts, followed, joined-followed, image-followed, lefts-followed, rights-followed}
-use Rattle.ordered_lists.proofs.Lists.Distinct.{apart-distinct}
+use Rattle.county_chart.proofs.Common.{AllByRecursion, AllKeysStandIn, AllStandIn, ArePaired, AreSame, Bool, Carries, Chain, County}
+use Rattle.county_chart.proofs.Common.{Fields8, IsApart, IsClosed, IsCounty, IsKeyOrder, IsPermutation, IsPermutation-map}
+use Rattle.county_chart.proofs.Common.{IsPermutation-sym, IsPermutation-trans, IsTrue, Known, List, None, Option, Ordering, PolygonKey}
+use Rattle.county_chart.proofs.Common.{Renumbering, Some, [], all_filter, all_known, all_left, all_map, all_pieces, all_right, all_unmap}
+use Rattle.county_chart.proofs.Common.{all_weaker, ap, apart-distinct, apart_from_sorted, carried_chain, carried_landmark, carried_link}
+use Rattle.county_chart.proofs.Common.{carried_name, carried_polygon, chain_nodes, chain_polygons, composed, exactly_one, false, feats}
+use Rattle.county_chart.proofs.Common.{filter, has_repeat, has_repeat-apart, identity, image, inverse, is_named, key_cmp, key_keys, key_on}
+use Rattle.county_chart.proofs.Common.{key_under, known-distinct, lands, link_key, lt-ltb, ltb-true, map, map-id, map-map, map_agree_all}
+use Rattle.county_chart.proofs.Common.{map_itself, nat_cmp, nat_keys, nat_lt, nodes, nodes_along, option_map, option_to_list, polygon_keys}
+use Rattle.county_chart.proofs.Common.{refl, renumbered, renumbered_polygon, renumbered_side, rules, same_or_not, stands_in, subst, swapped}
+use Rattle.county_chart.proofs.Common.{sym, then, times, tlids, to_itself, true, turned-turned, turned_if, turns, ℕ, ◌∙◌, ◌∷◌, ◌≡◌}
+use Rattle.ordered_lists.proofs.ByKey.Keys.{apart-filter, image-followed, images-lefts, lefts-followed, lefts-swapped, rights-swapped}
+use Rattle.ordered_lists.proofs.ByKey.Keys.{apart-permutation, has_repeat-images, known-permutation, known-permutation_to, rights-to_itself}
+use Rattle.ordered_lists.proofs.ByKey.Keys.{filter_all, followed, image-back, image-known, image-no, lefts, rights, times-images}
+use Rattle.ordered_lists.proofs.ByKey.Keys.{image-to_itself, image-yes, joined-followed, lefts-to_itself, rights-followed, stands_in-filter}
 
 -- renaming and turning a chain commute
 pub renumbered-turned_if : (r : Renumbering) (b : Bool) (c : Chain) → renumbered r (turned_if b c) ≡ turned_if b (renumbered r c)

@@ -1,10 +1,7 @@
 -- Small counties that try out the definitions.
-use Rattle.std.proofs.Common.{ℕ, ◌-◌, ◌+◌, ◌*◌, List, [], ◌∷◌, ◌++◌, length, replicate, codes, Option, Some, None, pos, negsuc}
-use Rattle.county_chart.proofs.Common.{Body5, Coordinates, Eight, Five, One, P, Ranges, Record, Seven}
-use Rattle.tl_layout.specs.PolygonSide.{PolygonSide}
-use Rattle.tl_layout.specs.declared.type1.fields.Body1Fields.{Body1Fields}
-use Rattle.tl_layout.specs.declared.type_i.BodyI.{BodyI}
-use Rattle.tl_layout.specs.declared.record_type.Record.TheVariants.{Two, Four, I}
+use Rattle.county_chart.proofs.Common.{Body1Fields, Body5, Coordinates, Eight, Five, Four, List, None, One, Option, P, PolygonSide, Ranges}
+use Rattle.county_chart.proofs.Common.{Record, Seven, Some, Two, [], codes, length, negsuc, pos, replicate, ℕ, ◌*◌, ◌++◌, ◌+◌, ◌-◌, ◌∷◌}
+use Rattle.tl_layout.specs.{declared.record_type.Record.TheVariants.I, declared.type_i.BodyI.BodyI}
 
 abbrev pub blanks : ℕ → List ℕ
 blanks n = replicate n 32

@@ -1,8 +1,7 @@
 -- Marks by number, and uses whose FEATs all have names.
-use Rattle.std.proofs.Common.{rules, ◌≡◌, ◌&&◌, not, ℕ, Bool, true, false, List, [], ◌∷◌, None, flat_map, nat_cmp, ap, refl}
-use Rattle.tl_county.proofs.Common.{AllByRecursion, Fields4, IsLeastPassing, all_joined, all_map, and_parts, is_unnamed, known_all}
-use Rattle.tl_county.proofs.Common.{list_all, ltb-true, sequence_cmp, stands_in, times, uses_of}
-use Rattle.tl_county.specs.Marks.{all_have_names}
+use Rattle.tl_county.proofs.Common.{AllByRecursion, Bool, Fields4, IsLeastPassing, List, None, [], all_have_names, all_joined, all_map}
+use Rattle.tl_county.proofs.Common.{and_parts, ap, false, flat_map, is_unnamed, known_all, list_all, ltb-true, nat_cmp, not, refl, rules}
+use Rattle.tl_county.proofs.Common.{sequence_cmp, stands_in, times, true, uses_of, ℕ, ◌&&◌, ◌∷◌, ◌≡◌}
 use Rattle.tl_county.proofs.Rules.RuleTests.{sequence_keys}
 
 -- the FEAT of a use is one of the names

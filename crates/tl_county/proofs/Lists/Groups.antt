@@ -1,15 +1,10 @@
 -- Groups of records with one number, taken in turn from records in the order of their numbers.
-use Rattle.std.proofs.Common.{rules, ◌≡◌, ◌==◌, ℕ, List, [], ◌∷◌, ◌++◌, map, filter, Less, is_eq, is_gt, sym, refl, ap, ◌∙◌, subst, nat_cmp}
-use Rattle.std.proofs.Common.{Option, Some, false, cond}
 use Rattle.tl_county.proofs.Common.{AllByRecursion, Body7, BodyP, Chain, Fields1, Fields2, Fields4, Fields6, Fields7, Fields8, FieldsI}
-use Rattle.tl_county.proofs.Common.{FieldsP, LandmarkParts, PolygonKey, chains_along, eight_land, first, four_tlid, key_cmp, key_keys}
-use Rattle.tl_county.proofs.Common.{landmark_of, later_than, nat_keys, of_number, one_tlid, p_key, polygon_body_of, seven_land}
-use Rattle.tl_county.proofs.Common.{same-itself, six_tlid, strict_head, strict_tail, two_tlid}
-use Rattle.std.specs.Ordering.{ordering_reverse}
-use Rattle.std.specs.List.Sorted.{IsStrictlySortedBy}
-use Rattle.tl_county.specs.Building.{chain_with}
-use Rattle.ordered_lists.proofs.Lists.Counted.{filter-agree, eq_test}
-use Rattle.ordered_lists.proofs.Lists.Groups.{group-later, group-flipped, one_done}
+use Rattle.tl_county.proofs.Common.{FieldsP, IsStrictlySortedBy, LandmarkParts, Less, List, Option, PolygonKey, Some, [], ap, chain_with}
+use Rattle.tl_county.proofs.Common.{chains_along, cond, eight_land, eq_test, false, filter, filter-agree, first, four_tlid, group-flipped}
+use Rattle.tl_county.proofs.Common.{group-later, is_eq, is_gt, key_cmp, key_keys, landmark_of, later_than, map, nat_cmp, nat_keys}
+use Rattle.tl_county.proofs.Common.{of_number, one_done, one_tlid, ordering_reverse, p_key, polygon_body_of, refl, rules, same-itself}
+use Rattle.tl_county.proofs.Common.{seven_land, six_tlid, strict_head, strict_tail, subst, sym, two_tlid, ℕ, ◌++◌, ◌==◌, ◌∙◌, ◌∷◌, ◌≡◌}
 
 -- by numbers
 module _ {X : Type 0} (number : X → ℕ) where

@@ -1,25 +1,21 @@
 -- The county depends on the packing of types 2 and 4 and on RTSQs only through the contents in their order.
-use Rattle.std.proofs.Common.{not, ◌&&◌, rules, arith, ◌≡◌, ◌<◌, ℕ, List, [], ◌∷◌, ◌++◌, map, flat_map, filter_map, Option, Some, None}
-use Rattle.std.proofs.Common.{option_map, Ordering, is_gt, sym, refl, ap, ap₂, ◌∙◌, nat_cmp, IsTrue, nat_lt, ◌||◌}
-use Rattle.tl_county.proofs.Common.{AllByRecursion, ChainTwice, Eight, Fields1, Fields2, Fields4, Fields6, FieldsI, Five, IsLinked}
-use Rattle.tl_county.proofs.Common.{LandUnknown, LinkFault, LinkMissing, LinkTwice, LinkedType, Memory, NameTwice, NameUnknown, NoChain}
-use Rattle.tl_county.proofs.Common.{One, P, PolygonTwice, PolygonUnknown, Record, SequenceBroken, SequencedType, Seven, Typed}
-use Rattle.tl_county.proofs.Common.{all-in_order, all_known, all_map, as_type, by_type, chain_of, chains_of, common_steps, cons_option}
-use Rattle.tl_county.proofs.Common.{county_of, eight_land, five_feat, four_rtsq, four_tlid, further_names, further_ranges, has_repeat}
-use Rattle.tl_county.proofs.Common.{i_tlid, in_order, is_rule_broken, key_cmp, link_key, linked_tlids, lt-ltb, map-map, map_agree_all}
-use Rattle.tl_county.proofs.Common.{map_agree_everywhere, named_feats, nat_cmp_total, nat_keys, of_number, of_type_2, of_type_4}
-use Rattle.tl_county.proofs.Common.{of_type_6, on, one_tlid, p_key, polygons_of, put_in_order, rtsqs, seven_land, shape_points}
-use Rattle.tl_county.proofs.Common.{side_keys, six_rtsq, six_tlid, stands_in, tied_itself, times, two_rtsq, two_tlid}
-use Rattle.std.proofs.lemmas.Bool.{cases_order}
-use Rattle.tl_layout.specs.declared.record_type.Record.TheVariants.{Two, Four, Six, I}
-use Rattle.tl_layout.specs.RecordTypes as record_types
-use Rattle.county_chart.specs.declared.fault.LinkedType.TheVariants.{Two as Type2, Four as Type4, Six as Type6, I as TypeI}
-use Rattle.county_chart.specs.declared.fault.SequencedType.TheVariants as sequenced
-use Rattle.tl_county.specs.Repacked.{Sequence, resequenced, KeepsSequence}
-use Rattle.ordered_lists.proofs.Lists.Elements.{all_both, all_unmap}
+use Rattle.tl_county.proofs.Common.{AllByRecursion, P, PolygonUnknown, SequenceBroken, further_ranges, is_rule_broken, map_agree_everywhere}
+use Rattle.tl_county.proofs.Common.{ChainTwice, LinkedType, [], cases_order, cons_option, eight_land, named_feats, polygons_of, tied_itself}
+use Rattle.tl_county.proofs.Common.{Eight, Four, List, None, Seven, Some, Typed, ap, arith, is_gt, less, nat_lt, p_key, rtsqs, rules, times}
+use Rattle.tl_county.proofs.Common.{Fields1, Fields2, Fields4, Fields6, FieldsI, NoChain, all_map, six_rtsq, six_tlid, two_rtsq, two_tlid}
+use Rattle.tl_county.proofs.Common.{Five, chains_of, county_of, five_feat, four_rtsq, four_tlid, of_number, of_type_2, of_type_4, of_type_6}
+use Rattle.tl_county.proofs.Common.{IsLinked, LandUnknown, LinkMissing, NameUnknown, common_steps, linked_tlids, put_in_order, shape_points}
+use Rattle.tl_county.proofs.Common.{IsTrue, Memory, Option, Record, as_type, by_type, greater, i_tlid, key_cmp, lt-ltb, map-map, nat_cmp}
+use Rattle.tl_county.proofs.Common.{LinkFault, LinkTwice, NameTwice, all_known, all_unmap, filter_map, has_repeat, option_map, seven_land}
+use Rattle.tl_county.proofs.Common.{One, Six, Two, ap₂, map, not, on, refl, sym, ◌&&◌, ◌++◌, ◌<◌, ◌||◌, ◌∙◌, ◌∷◌, ◌≡◌}
+use Rattle.tl_county.proofs.Common.{Ordering, all_both, chain_of, flat_map, in_order, link_key, nat_keys, one_tlid, side_keys, stands_in, ℕ}
+use Rattle.tl_county.proofs.Common.{PolygonTwice, SequencedType, all-in_order, further_names, map_agree_all, nat_cmp_total, of_number-all}
 use Rattle.tl_county.proofs.Sameness.SameChains.{chains_alike}
-use Rattle.county_chart.proofs.Lists.OfNumber.{of_number-all}
-use Rattle.county_chart.proofs.Lists.Compared.{less, greater}
+use Rattle.tl_layout.specs.declared.record_type.Record.TheVariants.{I}
+use Rattle.county_chart.specs.declared.fault.LinkedType.TheVariants.{Four as Type4, I as TypeI, Six as Type6, Two as Type2}
+use Rattle.tl_county.specs.Repacked.{KeepsSequence, Sequence, resequenced}
+use Rattle.tl_layout.specs.RecordTypes as record_types
+use Rattle.county_chart.specs.declared.fault.SequencedType.TheVariants as sequenced
 
 -- the records of the types that aren't ordered by RTSQ
 abbrev pub unsequenced : List Record → Typed

@@ -1,16 +1,14 @@
 -- Cutting a record of type 2 or 4 into two, or leaving out an empty one, changes neither whether a list is linked nor its county.
-use Rattle.std.proofs.Common.{rules, ◌≡◌, ◌⊎◌, ◌<◌, ℕ, ◌==◌, List, [], ◌∷◌, ◌++◌, map, flat_map, Bool, true, false, cond, not, ◌&&◌}
-use Rattle.std.proofs.Common.{Ordering, is_eq, is_gt, sym, refl, ap, ◌∙◌, subst, inl, inr, arith, nat_cmp, IsPermutation, append_assoc}
-use Rattle.tl_county.proofs.Common.{AllByRecursion, Fields2, Fields4, IsLinked, IsPermutation-sym, LinkFault, NameUnknown, NoChain}
-use Rattle.tl_county.proofs.Common.{Record, SequenceBroken, all-in_order, chain_tlids, common_steps, county_of, eqb-true, false≢true}
-use Rattle.tl_county.proofs.Common.{four_rtsq, four_tlid, has_repeat, in_order, is_rule_broken, lt-ltb, nat_keys, of_number, of_type_2}
-use Rattle.tl_county.proofs.Common.{of_type_4, of_type_5, on, put_in_order, stands_in, times-no, two_rtsq, two_tlid}
-use Rattle.tl_layout.specs.declared.record_type.Record.TheVariants.{Two, Four}
-use Rattle.tl_county.specs.Repacked.{IsCut, AreCut, IsSplit, IsEmpty, LeavesEmptyOut}
-use Rattle.county_chart.specs.declared.fault.LinkedType.TheVariants.{Two as Type2, Four as Type4}
+use Rattle.tl_county.proofs.Common.{AllByRecursion, Bool, Fields2, Fields4, Four, IsLinked, IsPermutation, IsPermutation-sym, LinkFault}
+use Rattle.tl_county.proofs.Common.{List, NameUnknown, NoChain, Ordering, Record, SequenceBroken, Two, [], all-in_order, ap, append_assoc}
+use Rattle.tl_county.proofs.Common.{arith, chain_tlids, common_steps, cond, county_of, eqb-true, false, false≢true, flat_map, four_rtsq}
+use Rattle.tl_county.proofs.Common.{four_tlid, greater, has_repeat, in_order, inl, inr, is_eq, is_gt, is_rule_broken, less, lt-ltb, map}
+use Rattle.tl_county.proofs.Common.{nat_cmp, nat_keys, not, of_number, of_type_2, of_type_4, of_type_5, on, put_in_order, refl, rules}
+use Rattle.tl_county.proofs.Common.{stands_in, subst, sym, times-no, true, two_rtsq, two_tlid, ℕ, ◌&&◌, ◌++◌, ◌<◌, ◌==◌, ◌∙◌, ◌∷◌, ◌≡◌, ◌⊎◌}
 use Rattle.tl_county.proofs.Packing.Repacking.{AreRepacked, repacked-county}
-use Rattle.county_chart.proofs.Lists.Compared.{less, greater}
-use Rattle.tl_county.proofs.Sameness.SameCounty.{reordered-linked, reordered-county}
+use Rattle.tl_county.proofs.Sameness.SameCounty.{reordered-county, reordered-linked}
+use Rattle.tl_county.specs.Repacked.{AreCut, IsCut, IsEmpty, IsSplit, LeavesEmptyOut}
+use Rattle.county_chart.specs.declared.fault.LinkedType.TheVariants.{Four as Type4, Two as Type2}
 use Rattle.county_chart.specs.declared.fault.SequencedType.TheVariants as sequenced_types
 
 module _ {X : Type 0} (by : X → X → Ordering) (x y : X) (ys : List X) where

@@ -1,29 +1,16 @@
 -- The parts that linking builds from tables in order are the county of their records.
-use Rattle.tl_county.proofs.Common.{AreInOrder, Body5, Chain, Fields1, Fields2, Fields4, Fields5, Fields6, FieldsI, IsCounty}
-use Rattle.tl_county.proofs.Common.{IsFirstBrokenRule, IsLinked, IsPermutation-trans, IsWithinLimits, LinkFault, LinksUnderLands}
-use Rattle.tl_county.proofs.Common.{Record, SameElements, Typed, by_type, by_type_of, chain_nodes, chains_along, common_steps}
-use Rattle.tl_county.proofs.Common.{county_along, county_of, distinct, eight_land, entries-equal, entry_keys, entry_values, five_feat}
-use Rattle.tl_county.proofs.Common.{i_tlid, keys-map_values, landmark_of, link_nodes, map-map, map_values, most_records, nodes}
-use Rattle.tl_county.proofs.Common.{one_tlid, seven_land, type_after_type, typed_of, values-map_values, values-zip}
-use Rattle.std.proofs.Common.{rules, ◌≡◌, ℕ, List, [], ◌∷◌, ◌++◌, map, flat_map, length}
-use Rattle.std.proofs.Common.{sym, refl, ap, ◌∙◌, subst, arith, nat_cmp, IsPermutation}
-use Rattle.std.specs.List.{zip}
-use Rattle.std.specs.List.Sorted.{IsStrictlySortedBy}
-use Rattle.tl_layout.specs.Tables.{HoldsByType}
-use Rattle.tl_layout.specs.declared.tables.Tables.{Tables}
-use Rattle.tl_county.specs.Building.{landmarks_along}
-use Rattle.county_chart.proofs.Limits.FitsCounty.{county-within_limits}
-use Rattle.ordered_lists.proofs.Lists.Elements.{flat_map-map, all_places}
-use Rattle.county_chart.proofs.Lists.OfNumber.{of_number-all}
-use Rattle.tl_layout.specs.RecordText.{FitsRecord}
-use Rattle.county_chart.specs.Limits.{HoldsWithinLimits}
-use Rattle.tl_county.specs.OrderedTables.{ArePermuted}
-use Rattle.county_chart.proofs.Rules.LinkedCounty.{county-is_county}
-use Rattle.tl_county.proofs.Rules.LinkedTables.{tlids-strict, feats-strict, side_by_side, county-built}
-use Rattle.ordered_lists.proofs.Lists.Reordered.{from_permutation}
-use Rattle.tl_county.proofs.Sameness.SameCounty.{reordered-county}
-use Rattle.tl_county.proofs.Sameness.SameRules.{same-sym, same-linked, same-first}
-use Rattle.tl_county.proofs.Rules.TypedRecords.{grouped, permuted-after}
+use Rattle.tl_county.proofs.Common.{AreInOrder, ArePermuted, Body5, Chain, Fields1, Fields2, Fields4, Fields5, Fields6, FieldsI, FitsRecord}
+use Rattle.tl_county.proofs.Common.{HoldsByType, HoldsWithinLimits, IsCounty, IsFirstBrokenRule, IsLinked, IsPermutation}
+use Rattle.tl_county.proofs.Common.{IsPermutation-trans, IsStrictlySortedBy, IsWithinLimits, LinkFault, LinksUnderLands, List, Record}
+use Rattle.tl_county.proofs.Common.{SameElements, Tables, Typed, [], all_places, ap, arith, by_type, by_type_of, chain_nodes, chains_along}
+use Rattle.tl_county.proofs.Common.{common_steps, county-is_county, county-within_limits, county_along, county_of, distinct, eight_land}
+use Rattle.tl_county.proofs.Common.{entries-equal, entry_keys, entry_values, five_feat, flat_map, flat_map-map, from_permutation, i_tlid}
+use Rattle.tl_county.proofs.Common.{keys-map_values, landmark_of, landmarks_along, length, link_nodes, map, map-map, map_values}
+use Rattle.tl_county.proofs.Common.{most_records, nat_cmp, nodes, of_number-all, one_tlid, refl, rules, seven_land, subst, sym}
+use Rattle.tl_county.proofs.Common.{type_after_type, typed_of, values-map_values, values-zip, zip, ℕ, ◌++◌, ◌∙◌, ◌∷◌, ◌≡◌}
+use Rattle.tl_county.proofs.Rules.LinkedTables.{county-built, feats-strict, side_by_side, tlids-strict}
+use Rattle.tl_county.proofs.Sameness.SameRules.{same-first, same-linked, same-sym}
+use Rattle.tl_county.proofs.{Rules.TypedRecords.grouped, Rules.TypedRecords.permuted-after, Sameness.SameCounty.reordered-county}
 
 pub length-chains_along : (twos : List Fields2) (fours : List Fields4) (sixes : List Fields6) (rs : List Fields1) (ls : List FieldsI)
     → map one_tlid rs ≡ map i_tlid ls → length (map one_tlid rs) ≡ length (chains_along twos fours sixes rs ls)

@@ -1,14 +1,10 @@
 -- The lists gathered for linking: keys without repetition, landmarks in order, and tables that hold the records of a list.
-use Rattle.std.proofs.Common.{rules, ◌≡◌, ◌⊎◌, nat_lt, List, [], ◌∷◌, Bool, true, false, cond, Ordering, Less, Equal, Greater, is_eq, is_gt}
-use Rattle.std.proofs.Common.{sym, refl, ap, ◌∙◌, subst, inl, inr, arith, nat_cmp, Option, Some, None}
-use Rattle.tl_county.proofs.Common.{AllByRecursion, Coordinates, Fields7, IsInOrder, IsKeyOrder, all_known, all_weaker, bytes_cmp}
-use Rattle.tl_county.proofs.Common.{distinct, false≢true, first_least, known_from_distinct, lt-ltb, ordering_then, put_in_order}
-use Rattle.tl_county.proofs.Common.{same-itself, same_or_not, stands_in, times, times-cons, times-yes}
-use Rattle.std.specs.List.{dedup, dedup_from}
-use Rattle.tl_shape.specs.PointOrder.{point_cmp}
-use Rattle.county_chart.specs.BodyOrder.{optional_point_cmp}
-use Rattle.county_chart.specs.BodyOrder.{landmark_cmp}
-use Rattle.ordered_lists.proofs.ByKey.KeyedLists.{before_all, less_from}
+use Rattle.tl_county.proofs.Common.{AllByRecursion, Bool, Coordinates, Equal, Fields7, Greater, IsInOrder, IsKeyOrder, Less, List, None}
+use Rattle.tl_county.proofs.Common.{Option, Ordering, Some, [], all_known, all_weaker, ap, arith, before_all, bytes_cmp, cond, dedup}
+use Rattle.tl_county.proofs.Common.{dedup_from, distinct, false, false≢true, first_least, inl, inr, is_eq, is_gt, known_from_distinct}
+use Rattle.tl_county.proofs.Common.{landmark_cmp, less_from, lt-ltb, nat_cmp, nat_lt, optional_point_cmp, ordering_then, point_cmp}
+use Rattle.tl_county.proofs.Common.{put_in_order, refl, rules, same-itself, same_or_not, stands_in, subst, sym, times, times-cons}
+use Rattle.tl_county.proofs.Common.{times-yes, true, ◌∙◌, ◌∷◌, ◌≡◌, ◌⊎◌}
 
 module _ {K : Type 0} {cmp : K → K → Ordering} (o : IsKeyOrder cmp) where
   -- a list in order without its repetitions has each key once

@@ -1,28 +1,18 @@
 -- The county of linked records in the order of their numbers is the one built by walking their tables.
-use Rattle.tl_county.proofs.Common.{AllByRecursion, Among, AreInOrder, Fields1, Fields5, Fields7, Fields8, FieldsI, I, IsInOrder}
-use Rattle.tl_county.proofs.Common.{IsLinked, Known, LandUnknown, LandmarkParts, LinkTwice, NameTwice, NoChain, Record, all_weaker}
-use Rattle.tl_county.proofs.Common.{among-map, among_known, by_type, chain_of, chain_tlids, chains_along, chains_of, common_steps}
-use Rattle.tl_county.proofs.Common.{county_along, county_of, distinct, distinct-strict, eight_land, eq-eqb, false≢true, filter_all}
-use Rattle.tl_county.proofs.Common.{first_least, five_feat, four_tlid, i_tlid, in_order, in_order-filter, in_order-itself, in_order-map}
-use Rattle.tl_county.proofs.Common.{in_order-strict, known-distinct, known_cases, known_is_among, landmark_body_cmp, landmark_entry}
-use Rattle.tl_county.proofs.Common.{landmark_of, later_than, link_cmp, link_part, link_part_cmp, linked_tlids, lt-ltb, ltb-false}
-use Rattle.tl_county.proofs.Common.{ltb-true, nat_cmp_total, nat_keys, of_number, of_type_1, of_type_2, of_type_4, of_type_5, of_type_6}
-use Rattle.tl_county.proofs.Common.{of_type_7, of_type_8, of_type_i, on, one_tlid, ordering_then, seven_land, six_tlid, stands_in}
-use Rattle.tl_county.proofs.Common.{strict_head, strict_tail, tied_itself, times, two_tlid}
-use Rattle.std.proofs.Common.{rules, ◌≡◌, ◌⊎◌, ◌<◌, ℕ, List, [], ◌∷◌, ◌++◌, map, flat_map, filter, Bool, true, false, not, cond, Ordering}
-use Rattle.std.proofs.Common.{Less, Equal, is_eq, is_gt, sym, refl, ap, ◌∙◌, subst, inl, inr, arith, nat_cmp}
-use Rattle.std.specs.List.{zip}
-use Rattle.std.specs.List.Sorted.{IsStrictlySortedBy}
-use Rattle.std.specs.Ordering.{is_lt}
-use Rattle.tl_county.proofs.Rules.RuleTests.{in_order-first}
-use Rattle.tl_county.specs.Building.{chain_with}
-use Rattle.tl_county.proofs.Lists.Groups.{group-of_number, number-later}
-use Rattle.ordered_lists.proofs.Lists.InOrder.{strict-equal}
-use Rattle.ordered_lists.proofs.ByKey.KeyedLists.{group-and_later, lt_reversed}
-use Rattle.county_chart.proofs.Rules.LinkedCounty.{apart_chains, one_link, the_link, needed}
-use Rattle.ordered_lists.proofs.ByKey.Numbers.{all_themselves, strict_from_order}
-use Rattle.county_chart.proofs.Lists.OfNumber.{of_number-all}
-use Rattle.ordered_lists.proofs.Lists.Reordered.{to_filter}
+use Rattle.tl_county.proofs.Common.{AllByRecursion, Bool, all_themselves, in_order-filter, in_order-itself, in_order-strict, known-distinct}
+use Rattle.tl_county.proofs.Common.{Among, Fields1, Fields5, link_cmp, ltb-true, nat_keys, one_link, one_tlid, six_tlid, the_link, two_tlid}
+use Rattle.tl_county.proofs.Common.{AreInOrder, Record, all_weaker, chain_with, eight_land, false≢true, filter_all, later_than, tied_itself}
+use Rattle.tl_county.proofs.Common.{Equal, Fields7, Fields8, FieldsI, NoChain, [], by_type, eq-eqb, filter, i_tlid, lt-ltb, nat_cmp, needed}
+use Rattle.tl_county.proofs.Common.{I, Known, arith, cond, false, inr, is_eq, is_gt, is_lt, map, not, refl, rules, subst, times, true, ◌++◌}
+use Rattle.tl_county.proofs.Common.{IsInOrder, LinkTwice, NameTwice, among-map, chains_of, county_of, five_feat, four_tlid, inl, seven_land}
+use Rattle.tl_county.proofs.Common.{IsLinked, Ordering, chain_of, distinct, flat_map, in_order, of_type_8, of_type_i, stands_in, to_filter}
+use Rattle.tl_county.proofs.Common.{IsStrictlySortedBy, LandUnknown, distinct-strict, group-and_later, landmark_body_cmp, strict_from_order}
+use Rattle.tl_county.proofs.Common.{LandmarkParts, among_known, known_is_among, landmark_entry, link_part_cmp, nat_cmp_total, of_number-all}
+use Rattle.tl_county.proofs.Common.{Less, apart_chains, chains_along, common_steps, county_along, in_order-map, linked_tlids, ordering_then}
+use Rattle.tl_county.proofs.Common.{List, link_part, ltb-false, of_number, of_type_1, of_type_2, of_type_4, of_type_5, of_type_6, of_type_7}
+use Rattle.tl_county.proofs.Common.{ap, on, sym, zip, ℕ, ◌<◌, ◌∙◌, ◌∷◌, ◌≡◌, ◌⊎◌}
+use Rattle.tl_county.proofs.Common.{chain_tlids, first_least, known_cases, landmark_of, lt_reversed, strict-equal, strict_head, strict_tail}
+use Rattle.tl_county.proofs.{Lists.Groups.group-of_number, Lists.Groups.number-later, Rules.RuleTests.in_order-first}
 
 -- in a group with one number, an order by the number and something else is an order by the other
 pub group_order : {X : Type 0} (number : X → ℕ) (next : X → X → Ordering) (n : ℕ) (xs : List X) → AllByRecursion (λ x. number x ≡ n) xs

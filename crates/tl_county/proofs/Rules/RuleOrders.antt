@@ -1,14 +1,11 @@
 -- The rules in turn: what each search finds about its rule, and how stretches of rules are joined.
-use Rattle.std.proofs.Common.{rules, ◌≡◌, ◌<◌, ◌≤◌, ◌==◌, ℕ, suc, nat_lt, List, [], ◌∷◌, ◌++◌, Bool, true, false, cond, not, ◌||◌, Ordering}
-use Rattle.std.proofs.Common.{Less, Equal, Greater, is_gt, sym, refl, ap, ◌∙◌, inl, inr, arith, nat_cmp, Some, None}
-use Rattle.tl_county.proofs.Common.{Among, ChainTwice, Four, I, IsFirstBrokenRule, IsLeastPassing, IsLinked, LandUnknown, LinkFault}
-use Rattle.tl_county.proofs.Common.{LinkMissing, LinkTwice, Memory, NameTwice, NameUnknown, NoChain, PolygonTwice, PolygonUnknown}
-use Rattle.tl_county.proofs.Common.{Record, RulesHold, SequenceBroken, Six, Two, and_parts, eqb-true, false≢true, is_rule_broken}
-use Rattle.tl_county.proofs.Common.{list_all, list_any, lt-ltb, ltb-false, ltb-true, ordering_then, place_cmp, slice_cmp}
-use Rattle.county_chart.specs.LinkRules.{link_fault_place}
-use Rattle.tl_county.specs.RuleOrder.{rule_place, IsFirstFrom}
-use Rattle.county_chart.proofs.Rules.LinkFaults.{part, number}
-use Rattle.ordered_lists.proofs.Lists.Members.{any_among}
+use Rattle.tl_county.proofs.Common.{Among, Greater, IsLinked, NoChain, Ordering, eqb-true, list_all, list_any, ltb-true, nat_cmp, slice_cmp}
+use Rattle.tl_county.proofs.Common.{Bool, Equal, Less, List, Memory, None, Record, Some, arith, false, is_gt, lt-ltb, nat_lt, number, rules}
+use Rattle.tl_county.proofs.Common.{ChainTwice, IsFirstFrom, LandUnknown, LinkMissing, NameUnknown, PolygonTwice, false≢true, ordering_then}
+use Rattle.tl_county.proofs.Common.{I, ap, cond, inr, not, part, refl, suc, sym, true, ℕ, ◌++◌, ◌<◌, ◌==◌, ◌||◌, ◌∙◌, ◌∷◌, ◌≡◌, ◌≤◌}
+use Rattle.tl_county.proofs.Common.{IsFirstBrokenRule, IsLeastPassing, PolygonUnknown, SequenceBroken, [], is_rule_broken, link_fault_place}
+use Rattle.tl_county.proofs.Common.{LinkFault, LinkTwice, NameTwice, RulesHold, and_parts, any_among, inl, ltb-false, place_cmp, rule_place}
+use Rattle.county_chart.specs.declared.fault.LinkedType.TheVariants.{Four, Six, Two}
 use Rattle.county_chart.specs.declared.fault.SequencedType.TheVariants as sequenced
 
 -- a fault's place begins with the place of its rule and ends with its key

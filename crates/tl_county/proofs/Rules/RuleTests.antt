@@ -1,23 +1,19 @@
 -- The rules for records that fit together, each as its search finds it.
-use Rattle.std.proofs.Common.{rules, ◌≡◌, ◌⊎◌, ◌<◌, ◌+◌, ◌==◌, ◌&&◌, not, ℕ, nat_lt, List, [], ◌∷◌, ◌++◌, map, flat_map, Bool, true, false}
-use Rattle.std.proofs.Common.{cond, Ordering, Less, Equal, Greater, is_eq, is_gt, sym, refl, ap, ◌∙◌, subst, inl, inr, arith, nat_cmp, Some}
-use Rattle.std.proofs.Common.{None, zero-add, IsPermutation}
-use Rattle.tl_county.proofs.Common.{Fields4, IsInOrder, IsKeyOrder, IsLeastPassing, LandUnknown, LinkFault, NameTwice, NameUnknown}
-use Rattle.tl_county.proofs.Common.{PolygonKey, PolygonTwice, PolygonUnknown, Record, SequenceBroken, Typed, all_weaker, and_parts}
-use Rattle.tl_county.proofs.Common.{apart_from_no_repeat, by_type, bytes_cmp, common_steps, distinct, eight_land, eq-eqb, false≢true}
-use Rattle.tl_county.proofs.Common.{first_least, five_feat, four_rtsq, four_tlid, has_repeat, is_repeated, is_rule_broken, is_unknown}
-use Rattle.tl_county.proofs.Common.{is_unnamed, key_cmp, key_keys, least-same, link_key, lt-ltb, ltb-true, nat_cmp_total, nat_keys}
-use Rattle.tl_county.proofs.Common.{ne_eqb, of_number, or_cases, ordering_then, p_key, place_cmp, same-itself, same_or_not}
-use Rattle.tl_county.proofs.Common.{sequence_cmp, seven_land, side_keys, six_rtsq, six_tlid, stands_in, tied_itself, times, times-cons}
-use Rattle.tl_county.proofs.Common.{times-no, times-yes, two_rtsq, two_tlid, uses_of}
-use Rattle.std.specs.List.{find}
-use Rattle.county_chart.specs.LinkRules.{link_fault_place}
-use Rattle.tl_county.specs.RuleOrder.{rule_place}
-use Rattle.ordered_lists.proofs.Lists.Distinct.{times-distinct, bit}
-use Rattle.ordered_lists.proofs.ByKey.KeyOrders.{pair_keys}
-use Rattle.ordered_lists.proofs.ByKey.Keys.{times-permutation, times-append, known-here}
-use Rattle.county_chart.proofs.Rules.LinkFaults.{part, number}
+use Rattle.tl_county.proofs.Common.{Bool, PolygonKey, all_weaker, eight_land, false≢true, has_repeat, same-itself, same_or_not, tied_itself}
+use Rattle.tl_county.proofs.Common.{Equal, List, Record, Typed, arith, eq-eqb, false, is_eq, is_gt, lt-ltb, nat_lt, ne_eqb, number, uses_of}
+use Rattle.tl_county.proofs.Common.{Fields4, Greater, by_type, key_cmp, nat_cmp, six_rtsq, six_tlid, times-no, two_rtsq, two_tlid, zero-add}
+use Rattle.tl_county.proofs.Common.{IsInOrder, LandUnknown, NameUnknown, common_steps, first_least, is_repeated, sequence_cmp, times-append}
+use Rattle.tl_county.proofs.Common.{IsKeyOrder, IsPermutation, SequenceBroken, is_rule_broken, nat_cmp_total, ordering_then, times-distinct}
+use Rattle.tl_county.proofs.Common.{IsLeastPassing, PolygonTwice, PolygonUnknown, apart_from_no_repeat, link_fault_place, times-permutation}
+use Rattle.tl_county.proofs.Common.{Less, NameTwice, and_parts, bytes_cmp, five_feat, four_rtsq, four_tlid, of_number, pair_keys, place_cmp}
+use Rattle.tl_county.proofs.Common.{LinkFault, Ordering, is_unknown, is_unnamed, known-here, least-same, rule_place, seven_land, times-cons}
+use Rattle.tl_county.proofs.Common.{None, Some, bit, cond, find, inl, inr, p_key, part, refl, rules, subst, times, true, ◌&&◌, ◌++◌, ◌==◌}
+use Rattle.tl_county.proofs.Common.{[], ap, map, not, sym, ℕ, ◌+◌, ◌<◌, ◌∙◌, ◌∷◌, ◌≡◌, ◌⊎◌}
+use Rattle.tl_county.proofs.Common.{distinct, flat_map, key_keys, link_key, ltb-true, nat_keys, or_cases, side_keys, stands_in, times-yes}
 use Rattle.tl_county.proofs.Rules.RuleOrders.{IsRule, fault_of_rule}
+use Rattle.county_chart.specs.County.{i_tlid, one_tlid}
+use Rattle.county_chart.specs.declared.fault.LinkFault.TheVariants.{ChainTwice, NoChain}
+use Rattle.county_chart.specs.declared.fault.LinkedType.TheVariants.{Four, I, Six, Two}
 use Rattle.county_chart.specs.declared.fault.SequencedType.TheVariants as sequenced
 
 -- orders of lists of one or two numbers
@@ -197,6 +193,26 @@ module _ (records : List Record) (t : Typed) (e : by_type records ≡ t) where
     only = only;
     order = λ k j h. ap is_gt (order k j) ∙ keyed (bytes_cmp k.0 j.0) (nat_cmp k.1 j.1) h;
   }
+
+  -- a TLID with two records of type 1, and one of a record without its chain
+  pub rule_11 : IsRule nat_cmp (is_repeated nat_cmp (map one_tlid t.of_type_1)) records 0 ChainTwice
+  rule_11 = numbered 0 ChainTwice (λ u. is_repeated nat_cmp (map one_tlid u.of_type_1)) (λ k. refl) (λ k. refl) (λ p. refl) (λ k j. refl)
+
+  pub rule_12_two : IsRule nat_cmp (is_unknown nat_cmp (map two_tlid t.of_type_2) (map one_tlid t.of_type_1)) records 1 (NoChain Two)
+  rule_12_two = numbered 1 (NoChain Two) (λ u. is_unknown nat_cmp (map two_tlid u.of_type_2) (map one_tlid u.of_type_1))
+      (λ k. refl) (λ k. refl) (λ p. refl) (λ k j. refl)
+
+  pub rule_12_four : IsRule nat_cmp (is_unknown nat_cmp (map four_tlid t.of_type_4) (map one_tlid t.of_type_1)) records 2 (NoChain Four)
+  rule_12_four = numbered 2 (NoChain Four) (λ u. is_unknown nat_cmp (map four_tlid u.of_type_4) (map one_tlid u.of_type_1))
+      (λ k. refl) (λ k. refl) (λ p. refl) (λ k j. refl)
+
+  pub rule_12_six : IsRule nat_cmp (is_unknown nat_cmp (map six_tlid t.of_type_6) (map one_tlid t.of_type_1)) records 3 (NoChain Six)
+  rule_12_six = numbered 3 (NoChain Six) (λ u. is_unknown nat_cmp (map six_tlid u.of_type_6) (map one_tlid u.of_type_1))
+      (λ k. refl) (λ k. refl) (λ p. refl) (λ k j. refl)
+
+  pub rule_12_i : IsRule nat_cmp (is_unknown nat_cmp (map i_tlid t.of_type_i) (map one_tlid t.of_type_1)) records 4 (NoChain I)
+  rule_12_i = numbered 4 (NoChain I) (λ u. is_unknown nat_cmp (map i_tlid u.of_type_i) (map one_tlid u.of_type_1))
+      (λ k. refl) (λ k. refl) (λ p. refl) (λ k j. refl)
 
   pub rule_13_two : IsRule nat_cmp (λ k. has_repeat nat_cmp (map two_rtsq (of_number two_tlid k t.of_type_2))) records 5
       (SequenceBroken sequenced.Two)

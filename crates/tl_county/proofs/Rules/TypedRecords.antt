@@ -1,12 +1,9 @@
 -- Records type after type are the records of a list in another order.
-use Rattle.std.proofs.Common.{ℕ, List, [], ◌∷◌, ◌++◌, map, take, IsPermutation}
-use Rattle.tl_county.proofs.Common.{Eight, Five, IsPermutation-refl, IsPermutation-sym, IsPermutation-trans, One, P, Record, Seven}
-use Rattle.tl_county.proofs.Common.{Typed, by_type, of_type, record_of, type_after_type}
-use Rattle.std.proofs.lemmas.List.Sorted.{IsPermutation-cons, IsPermutation-middle, IsPermutation-map, IsPermutation-append}
-use Rattle.std.proofs.lemmas.List.Sorted.{IsPermutation-append_right}
-use Rattle.tl_layout.specs.RecordTypes.{types}
-use Rattle.tl_layout.specs.declared.record_type.Record.TheVariants.{Two, Four, Six, I}
-use Rattle.tl_county.specs.OrderedTables.{ArePermuted}
+use Rattle.tl_county.proofs.Common.{ArePermuted, Eight, Five, Four, IsPermutation, IsPermutation-append, IsPermutation-append_right}
+use Rattle.tl_county.proofs.Common.{IsPermutation-cons, IsPermutation-map, IsPermutation-middle, IsPermutation-refl, IsPermutation-sym}
+use Rattle.tl_county.proofs.Common.{IsPermutation-trans, List, One, P, Record, Seven, Six, Two, Typed, [], by_type, map, of_type, record_of}
+use Rattle.tl_county.proofs.Common.{take, type_after_type, types, ℕ, ◌++◌, ◌∷◌}
+use Rattle.tl_layout.specs.declared.record_type.Record.TheVariants.{I}
 
 -- these lists one after another, and then the rest
 abbrev before_rest : List (List Record) → List Record → List Record

@@ -1,16 +1,12 @@
 -- Polygons with a type P record that are on no side: in the tables of linked records, and in their county.
-use Rattle.std.proofs.Common.{rules, ◌≡◌, ℕ, suc, nat_lt, List, [], ◌∷◌, ◌++◌, length, filter, map, flat_map, Bool, true, false, cond, not}
-use Rattle.std.proofs.Common.{◌&&◌, ◌||◌, Option, is_eq, is_some, refl, sym, ap, ap₂, ◌∙◌, arith, Ordering, None, Some, map-id}
-use Rattle.tl_county.proofs.Common.{AllByRecursion, Among, Chain, Fields1, FieldsI, IsKeyOrder, IsLeastPassing, IsLinked, Known}
-use Rattle.tl_county.proofs.Common.{PolygonKey, Record, all_among, among-pieces, among_known, chain_of, chain_polygons, chains_of}
-use Rattle.tl_county.proofs.Common.{count-map, county_of, distinct, distinct_same, each_from, false≢true, first, is_unknown, key_cmp}
-use Rattle.tl_county.proofs.Common.{key_keys, known-append, known-left, known-right, known_is_among, list_any, lt-ltb, ltb-true}
-use Rattle.tl_county.proofs.Common.{of_type_1, of_type_i, of_type_p, p_key, polygon_body, polygons_along, same-true, side_keys}
-use Rattle.tl_county.proofs.Common.{stands_alike, stands_in}
-use Rattle.county_chart.specs.CountyRules.{has_body, is_without_chain}
-use Rattle.county_chart.proofs.Sameness.Carried.{among-unpieces}
-use Rattle.county_chart.proofs.ByKey.KeySets.{stands_in-distinct}
-use Rattle.county_chart.proofs.Rules.LinkedCounty.{chains_all, linked_chain, needed}
+use Rattle.tl_county.proofs.Common.{AllByRecursion, Among, Bool, Chain, Fields1, FieldsI, IsKeyOrder, IsLeastPassing, IsLinked, Known, List}
+use Rattle.tl_county.proofs.Common.{None, Option, Ordering, PolygonKey, Record, Some, [], all_among, among-pieces, among-unpieces}
+use Rattle.tl_county.proofs.Common.{among_known, ap, ap₂, arith, chain_of, chain_polygons, chains_all, chains_of, cond, count-map}
+use Rattle.tl_county.proofs.Common.{county_of, distinct, distinct_same, each_from, false, false≢true, filter, first, flat_map, has_body}
+use Rattle.tl_county.proofs.Common.{is_eq, is_some, is_unknown, is_without_chain, key_cmp, key_keys, known-append, known-left, known-right}
+use Rattle.tl_county.proofs.Common.{known_is_among, length, linked_chain, list_any, lt-ltb, ltb-true, map, map-id, nat_lt, needed, not}
+use Rattle.tl_county.proofs.Common.{of_type_1, of_type_i, of_type_p, p_key, polygon_body, polygons_along, refl, rules, same-true, side_keys}
+use Rattle.tl_county.proofs.Common.{stands_alike, stands_in, stands_in-distinct, suc, sym, true, ℕ, ◌&&◌, ◌++◌, ◌||◌, ◌∙◌, ◌∷◌, ◌≡◌}
 
 -- a list has a first element exactly if it isn't empty
 first_there : {X Y : Type 0} (f : X → Y) (xs : List X) → is_some (first (map f xs)) ≡ nat_lt 0 (length xs)

@@ -1,8 +1,6 @@
 -- The chains of two lists of records that agree on the records of each chain.
-use Rattle.std.proofs.Common.{◌≡◌, ◌∙◌, ℕ, List, map, flat_map, ap, nat_cmp}
-use Rattle.tl_county.proofs.Common.{Fields1, FieldsI, Record, chain_of, chains_of, i_tlid, in_order, map_agree_everywhere, of_number}
-use Rattle.tl_county.proofs.Common.{of_type_1, of_type_i, on, one_tlid}
-use Rattle.ordered_lists.proofs.Lists.Elements.{flat_map_agree}
+use Rattle.tl_county.proofs.Common.{Fields1, FieldsI, List, Record, ap, chain_of, chains_of, flat_map, flat_map_agree, i_tlid, in_order}
+use Rattle.tl_county.proofs.Common.{map, map_agree_everywhere, nat_cmp, of_number, of_type_1, of_type_i, on, one_tlid, ℕ, ◌∙◌, ◌≡◌}
 
 pub chains_alike : (xs ys : List Record) → ((r : Fields1) (link : FieldsI) → chain_of xs r link ≡ chain_of ys r link)
     → ((n : ℕ) → of_number i_tlid n (of_type_i xs) ≡ of_number i_tlid n (of_type_i ys))

@@ -1,19 +1,16 @@
 -- Lists with the same records break the same rules at the same places.
-use Rattle.std.proofs.Common.{◌≡◌, ◌⊎◌, ℕ, nat_lt, ◌==◌, List, ◌++◌, map, flat_map, Bool, true, false, not, ◌&&◌, sym, refl, ap, ap₂, ◌∙◌}
-use Rattle.std.proofs.Common.{subst, inl, inr, nat_cmp}
-use Rattle.tl_county.proofs.Common.{Among, ChainTwice, Fields4, FieldsI, FieldsP, Four, I, IsFirstBrokenRule, IsLinked, Known}
-use Rattle.tl_county.proofs.Common.{LandUnknown, LinkFault, LinkMissing, LinkTwice, LinkedType, Memory, NameTwice, NameUnknown, NoChain}
-use Rattle.tl_county.proofs.Common.{PolygonKey, PolygonTwice, PolygonUnknown, Record, RecordType, SameElements, SequenceBroken, Six}
-use Rattle.tl_county.proofs.Common.{Two, Type1, Type2, Type4, Type5, Type6, Type7, Type8, TypeI, TypeP, among-map, among-pieces}
-use Rattle.tl_county.proofs.Common.{among-unmap, among_known, apart_from_no_repeat, as_type, chain_tlids, eight_land, false≢true}
-use Rattle.tl_county.proofs.Common.{five_feat, four_rtsq, four_tlid, has_repeat, has_repeat-apart, i_tlid, is_rule_broken, key_cmp}
-use Rattle.tl_county.proofs.Common.{key_keys, known-append, known-left, known-right, known_is_among, link_key, linked_tlids}
-use Rattle.tl_county.proofs.Common.{named_feats, nat_keys, of_number, of_type, of_type_2, of_type_4, of_type_5, of_type_6, of_type_7}
-use Rattle.tl_county.proofs.Common.{of_type_8, of_type_i, of_type_p, one_tlid, p_key, rtsqs, seven_land, side_keys, six_rtsq, six_tlid}
-use Rattle.tl_county.proofs.Common.{stands_alike, stands_in, two_rtsq, two_tlid}
-use Rattle.tl_layout.specs.RecordTypes.{FieldsOf}
-use Rattle.county_chart.proofs.Sameness.Carried.{among-unpieces, pieces_alike}
-use Rattle.ordered_lists.proofs.Lists.Reordered.{same-filter_map, same-filter, same-map, times-same, apart-same}
+use Rattle.tl_county.proofs.Common.{Among, FieldsP, Memory, NoChain, Record, as_type, i_tlid, key_cmp, nat_cmp, of_type, two_rtsq, two_tlid}
+use Rattle.tl_county.proofs.Common.{Bool, LinkFault, LinkTwice, NameTwice, among-map, five_feat, four_rtsq, four_tlid, of_number, of_type_2}
+use Rattle.tl_county.proofs.Common.{ChainTwice, LinkedType, PolygonKey, among_known, ap, chain_tlids, known-right, named_feats, same-filter}
+use Rattle.tl_county.proofs.Common.{Fields4, NameUnknown, among-pieces, among-unmap, known-append, linked_tlids, pieces_alike, stands_alike}
+use Rattle.tl_county.proofs.Common.{FieldsI, RecordType, apart-same, eight_land, false≢true, has_repeat, known-left, seven_land, times-same}
+use Rattle.tl_county.proofs.Common.{FieldsOf, IsLinked, ap₂, flat_map, key_keys, link_key, nat_keys, one_tlid, same-map, six_rtsq, six_tlid}
+use Rattle.tl_county.proofs.Common.{I, inl, inr, map, not, subst, sym, true, ℕ, ◌&&◌, ◌++◌, ◌==◌, ◌∙◌, ◌≡◌, ◌⊎◌}
+use Rattle.tl_county.proofs.Common.{IsFirstBrokenRule, LandUnknown, PolygonUnknown, apart_from_no_repeat, has_repeat-apart, same-filter_map}
+use Rattle.tl_county.proofs.Common.{Known, Type1, Type2, Type4, Type5, Type6, Type7, Type8, TypeI, TypeP, false, nat_lt, p_key, refl, rtsqs}
+use Rattle.tl_county.proofs.Common.{LinkMissing, PolygonTwice, SameElements, SequenceBroken, among-unpieces, is_rule_broken, known_is_among}
+use Rattle.tl_county.proofs.Common.{List, of_type_4, of_type_5, of_type_6, of_type_7, of_type_8, of_type_i, of_type_p, side_keys, stands_in}
+use Rattle.county_chart.specs.declared.fault.LinkedType.TheVariants.{Four, Six, Two}
 use Rattle.county_chart.specs.declared.fault.SequencedType.TheVariants as sequenced
 
 -- the same, seen from the other list

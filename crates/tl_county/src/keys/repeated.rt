@@ -1,9 +1,8 @@
 //! The keys of items, and the least one that occurs twice.
 
 ghost use Rattle.std.specs.Ordering.{on};
-ghost use Rattle.std.specs.Prelude.{◌≡◌, map, true, None, OnOk, IfOk, IsPermutation};
-ghost use Rattle.ordered_lists.specs.Keyed.{IsLeastPassing, is_repeated};
-ghost use Rattle.ordered_lists.specs.Orders.{IsInOrder};
+ghost use Rattle.std.specs.Prelude.{IfOk, IsPermutation, None, OnOk, map, true, ◌≡◌};
+ghost use Rattle.ordered_lists.specs.{Keyed.IsLeastPassing, Keyed.is_repeated, Orders.IsInOrder};
 
 use county_chart::{Keyed, put_in_order};
 use ordered_lists::Key;

@@ -1,18 +1,13 @@
 //! The rules for records that fit together, over tables in order.
 
 ghost use Rattle.std.specs.Ordering.{nat_cmp};
-ghost use Rattle.std.specs.Prelude.{◌≡◌, List, map, flat_map, ◌++◌, MatchResult, IfOk, IsPermutation};
-ghost use Rattle.county_chart.specs.County.{link_key, five_feat, i_tlid, one_tlid, p_key, side_keys};
-ghost use Rattle.ordered_lists.specs.Keyed.{IsLeastPassing, is_repeated};
-ghost use Rattle.tl_county.specs.Marks.{all_have_names, have_names};
-ghost use Rattle.ordered_lists.specs.Marks.{AreMarksOf};
-ghost use Rattle.tl_county.specs.OrderedTables.{ordered_of, AreInOrder};
-ghost use Rattle.ordered_lists.specs.Orders.{IsInOrder, distinct};
-ghost use Rattle.county_chart.specs.Packing.{by_type};
-ghost use Rattle.county_chart.specs.PolygonKeys.{key_cmp};
-ghost use Rattle.tl_county.specs.RepeatedKeys.{AreLeastRepeated};
-ghost use Rattle.tl_county.specs.RuleOrder.{RulesHold, IsFirstFrom};
+ghost use Rattle.std.specs.Prelude.{IfOk, IsPermutation, List, MatchResult, flat_map, map, ◌++◌, ◌≡◌};
+ghost use Rattle.county_chart.specs.County.{five_feat, i_tlid, link_key, one_tlid, p_key, side_keys};
 ghost use Rattle.county_chart.specs.SequenceKeys.{is_unnamed, sequence_cmp, uses_of};
+ghost use Rattle.county_chart.specs.{Packing.by_type, PolygonKeys.key_cmp};
+ghost use Rattle.ordered_lists.specs.{Keyed.IsLeastPassing, Keyed.is_repeated, Marks.AreMarksOf, Orders.IsInOrder, Orders.distinct};
+ghost use Rattle.tl_county.specs.{Marks.all_have_names, Marks.have_names, OrderedTables.AreInOrder, OrderedTables.ordered_of};
+ghost use Rattle.tl_county.specs.{RepeatedKeys.AreLeastRepeated, RuleOrder.IsFirstFrom, RuleOrder.RulesHold};
 ghost use Rattle.tl_layout.specs.declared.record_type.Record.{Record};
 
 use crate::keys::absent::least_absent;

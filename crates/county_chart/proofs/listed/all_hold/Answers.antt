@@ -1,8 +1,5 @@
-use Rattle.std.proofs.Common.{IfSome, true, false, arith, refl, rules, slice_get, sym}
-use Rattle.county_chart.proofs.Common.{false≢true}
-use Rattle.std.specs.Bool.{Decides}
-use Rattle.std.proofs.lemmas.Iterator.{YieldsList-from_range, cases_from_all}
-use Rattle.ordered_lists.proofs.Lists.ByPlace.{places_decide}
+use Rattle.county_chart.proofs.Common.{Decides, IfSome, YieldsList-from_range, arith, cases_from_all, false, false≢true, places_decide}
+use Rattle.county_chart.proofs.Common.{refl, rules, slice_get, sym, true}
 use Rattle.county_chart.proofs.listed.all_hold.Goals as goal
 
 pub returns : goal.returns

@@ -1,5 +1,4 @@
-use Rattle.std.proofs.Common.{rules}
-use Rattle.ordered_lists.proofs.Lists.ByPlace.{same_next, same_seen}
+use Rattle.county_chart.proofs.Common.{rules, same_next, same_seen}
 use Rattle.county_chart.proofs.listed.are_same.Goals as goal
 
 pub loop-place-preserved : goal.loop-place-preserved

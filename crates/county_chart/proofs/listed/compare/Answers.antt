@@ -1,6 +1,5 @@
-use Rattle.std.proofs.Common.{◌≡◌, ◌≤◌, ◌⊎◌, inl, inr, length, sym, ap₂, ◌∙◌, arith, nat_cmp}
-use Rattle.county_chart.proofs.Common.{slice_cmp}
-use Rattle.county_chart.proofs.Lists.Compared.{at_unequal, after_equal, at_end}
+use Rattle.county_chart.proofs.Common.{ap₂, arith, inl, inr, length, nat_cmp, slice_cmp, sym, ◌∙◌, ◌≡◌, ◌≤◌, ◌⊎◌}
+use Rattle.county_chart.proofs.Lists.Compared.{after_equal, at_end, at_unequal}
 use Rattle.county_chart.proofs.listed.compare.Goals.{then-count-other_count, else-count-other_count}
 use Rattle.county_chart.proofs.listed.compare.Goals as goal
 

@@ -1,6 +1,5 @@
 -- The items so far are the same, so the rest decides.
-use Rattle.std.proofs.Common.{◌≡◌, drop}
-use Rattle.county_chart.proofs.Common.{slice_cmp}
+use Rattle.county_chart.proofs.Common.{drop, slice_cmp, ◌≡◌}
 use Rattle.county_chart.proofs.listed.compare.Given as goal
 
 abbrev pub invariant-loop-place : goal.invariant-loop-place

@@ -1,6 +1,4 @@
-use Rattle.std.proofs.Common.{rules, append_assoc}
-use Rattle.ordered_lists.proofs.Lists.Places.{one_more_taken}
-use Rattle.ordered_lists.proofs.Lists.ByPlace.{taken_all}
+use Rattle.county_chart.proofs.Common.{append_assoc, one_more_taken, rules, taken_all}
 use Rattle.county_chart.proofs.listed.push_all.Goals as goal
 
 pub loop-place-preserved : goal.loop-place-preserved

@@ -1,5 +1,4 @@
-use Rattle.std.proofs.Common.{rules}
-use Rattle.tl_shape.proofs.InPlace.{mapped_next, mapped_all}
+use Rattle.county_chart.proofs.Common.{mapped_all, mapped_next, rules}
 use Rattle.county_chart.proofs.masked_bodies.blank_bodies.Goals as goal
 
 pub loop-body-preserved : goal.loop-body-preserved

@@ -1,6 +1,5 @@
 -- The contents so far are under the mask, and the others stand as they stood.
-use Rattle.std.proofs.Common.{◌≡◌, ◌++◌, map, take, drop}
-use Rattle.county_chart.proofs.Common.{masked_body_7}
+use Rattle.county_chart.proofs.Common.{drop, map, masked_body_7, take, ◌++◌, ◌≡◌}
 use Rattle.county_chart.proofs.masked_bodies.blank_bodies.Given as goal
 
 abbrev pub invariant-loop-body : goal.invariant-loop-body

@@ -1,7 +1,5 @@
-use Rattle.std.proofs.Common.{rules}
-use Rattle.ordered_lists.proofs.Lists.Places.{one_more_taken}
+use Rattle.county_chart.proofs.Common.{one_more_taken, rules, taken_all}
 use Rattle.county_chart.proofs.Masks.MaskedReads.{masked_value_there, masked_values_count}
-use Rattle.ordered_lists.proofs.Lists.ByPlace.{taken_all}
 use Rattle.county_chart.proofs.masked_bodies.masked_lists.Goals as goal
 
 pub loop-place-preserved : goal.loop-place-preserved

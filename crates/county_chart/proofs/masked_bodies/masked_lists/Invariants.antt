@@ -1,5 +1,4 @@
-use Rattle.std.proofs.Common.{◌≡◌, take}
-use Rattle.county_chart.proofs.Common.{entry_values, masked}
+use Rattle.county_chart.proofs.Common.{entry_values, masked, take, ◌≡◌}
 use Rattle.county_chart.proofs.masked_bodies.masked_lists.Given as goal
 
 abbrev pub invariant-loop-place : goal.invariant-loop-place

@@ -1,8 +1,5 @@
-use Rattle.std.proofs.Common.{is_lt, rules}
-use Rattle.county_chart.proofs.Common.{always_returns_same, landmark_body_cmp, landmark_body_keys}
-use Rattle.std.proofs.lemmas.List.Sorted.{ranks_by}
-use Rattle.ordered_lists.proofs.ByKey.KeyedLists.{in_order-from_sorted}
-use Rattle.ordered_lists.proofs.Lists.ByPlace.{sorted_in_order}
+use Rattle.county_chart.proofs.Common.{always_returns_same, in_order-from_sorted, is_lt, landmark_body_cmp, landmark_body_keys, ranks_by}
+use Rattle.county_chart.proofs.Common.{rules, sorted_in_order}
 use Rattle.county_chart.proofs.masked_bodies.sort_bodies.Goals as goal
 
 pub returns : goal.returns

@@ -1,5 +1,5 @@
-use Rattle.renamings.proofs.Common.{◌∙◌, sym, ap, filter_map, pair_on}
-use Rattle.renamings.proofs.Tables.{joined-pairs}
+use Rattle.renamings.proofs.{Common.pair_on, Tables.joined-pairs}
+use Rattle.county_chart.proofs.Common.{ap, filter_map, sym, ◌∙◌}
 use Rattle.renamings.proofs.pairs.join_pairs.Goals as goal
 
 pub returns : goal.returns

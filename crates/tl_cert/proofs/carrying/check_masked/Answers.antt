@@ -1,5 +1,4 @@
-use Rattle.tl_cert.proofs.Common.{IfOk, ap, ◌∙◌, subst, Decides, County, Carries}
-use Rattle.county_chart.specs.MaskedCounty.{masked}
+use Rattle.tl_cert.proofs.Common.{Carries, County, Decides, IfOk, ap, masked, subst, ◌∙◌}
 use Rattle.tl_cert.proofs.carrying.check_masked.Goals as goal
 
 pub returns : goal.returns

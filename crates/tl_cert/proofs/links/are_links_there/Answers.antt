@@ -1,5 +1,4 @@
-use Rattle.county_chart.specs.Renumbering.{carried_link}
-use Rattle.tl_cert.proofs.LinksCarried.{links_decided}
+use Rattle.tl_cert.proofs.{Common.carried_link, LinksCarried.links_decided}
 use Rattle.tl_cert.proofs.links.are_links_there.Goals as goal
 
 pub returns : goal.returns

@@ -1,8 +1,5 @@
-use Rattle.tl_cert.proofs.Common.{◌++◌, take, ap, refl, sym, ◌∙◌, subst, IsPermutation, lands}
-use Rattle.std.proofs.lemmas.List.{length-map}
-use Rattle.county_chart.specs.ChartWords.{links_at}
-use Rattle.tl_cert.proofs.LinksCarried.{under_lands, next_land, all_lands}
-use Rattle.ordered_lists.proofs.Lists.ByPlace.{taken_all}
+use Rattle.tl_cert.proofs.Common.{IsPermutation, ap, lands, length-map, links_at, refl, subst, sym, take, taken_all, ◌++◌, ◌∙◌}
+use Rattle.tl_cert.proofs.LinksCarried.{all_lands, next_land, under_lands}
 use Rattle.tl_cert.proofs.links.links_of.Goals as goal
 
 pub loop-place-preserved : goal.loop-place-preserved

@@ -1,10 +1,8 @@
-use Rattle.std.proofs.Common.{◌≡◌, map, length, sym, ap, ◌∙◌, subst, nat_cmp}
-use Rattle.tl_county.proofs.Common.{chains_along, entries-equal, keys-map_values, keys-zip, length-map, map_values, one_tlid}
-use Rattle.tl_county.proofs.Common.{ordered_of, values-map_values, values-zip}
-use Rattle.std.specs.List.Sorted.{IsStrictlySortedBy}
-use Rattle.ordered_lists.specs.Places.{at_places}
-use Rattle.tl_county.proofs.Rules.BuiltTables.{tlids-ascend, beside, length-chains_along}
-use Rattle.tl_county.proofs.Rules.TlidsInOrder.{twos_in_order, fours_in_order, sixes_in_order}
+use Rattle.tl_county.proofs.Common.{IsStrictlySortedBy, ap, at_places, chains_along, entries-equal, keys-map_values, keys-zip, length}
+use Rattle.tl_county.proofs.Common.{length-map, map, map_values, nat_cmp, one_tlid, ordered_of, subst, sym, values-map_values, values-zip}
+use Rattle.tl_county.proofs.Common.{◌∙◌, ◌≡◌}
+use Rattle.tl_county.proofs.Rules.BuiltTables.{beside, length-chains_along, tlids-ascend}
+use Rattle.tl_county.proofs.Rules.TlidsInOrder.{fours_in_order, sixes_in_order, twos_in_order}
 use Rattle.tl_county.proofs.linking.build_chains.Goals as goal
 
 pub chains_of_records-requires : goal.chains_of_records-requires

@@ -1,12 +1,10 @@
-use Rattle.std.proofs.Common.{◌≡◌, map, length, sym, ap, ◌∙◌, subst, nat_cmp}
-use Rattle.tl_county.proofs.Common.{Fields5, IsCounty, IsWithinLimits, LinksUnderLands, county_along, five_feat, length-map, map_values}
-use Rattle.tl_county.proofs.Common.{most_records, nodes, ordered_of}
-use Rattle.std.specs.List.Sorted.{IsStrictlySortedBy}
-use Rattle.county_chart.specs.StoredCounty.{county_with}
-use Rattle.tl_county.proofs.Rules.BuiltTables.{as_built, built-is_county, feats-ascend, nodes-built, links_under_lands-along, names-built}
+use Rattle.tl_county.proofs.Common.{Fields5, IsCounty, IsStrictlySortedBy, IsWithinLimits, LinksUnderLands, ap, county_along, county_with}
+use Rattle.tl_county.proofs.Common.{five_feat, length, length-map, map, map_values, most_records, nat_cmp, nodes, ordered_of, subst, sym}
+use Rattle.tl_county.proofs.Common.{◌∙◌, ◌≡◌}
+use Rattle.tl_county.proofs.Rules.BuiltTables.{as_built, built-is_county, feats-ascend, links_under_lands-along, names-built, nodes-built}
+use Rattle.tl_county.proofs.linking.build_county.Given.{Over}
 use Rattle.tl_county.proofs.linking.build_county.Goals as goal
 use Rattle.tl_county.proofs.linking.build_county.Goals.{After-new-names}
-use Rattle.tl_county.proofs.linking.build_county.Given.{Over}
 
 pub new-names-requires-clause-ascending : goal.new-names-requires-clause-ascending
 new-names-requires-clause-ascending g c =

@@ -1,6 +1,5 @@
-use Rattle.std.proofs.Common.{rules, ◌≡◌, ℕ, List, map, map-id, sym, ap, ◌∙◌, nat_cmp}
-use Rattle.tl_county.proofs.Common.{distinct, distinct-strict, entries-equal, keys-map_values, landmark_of, map-map, map_values}
-use Rattle.tl_county.proofs.Common.{nat_keys, seven_land, values-map_values}
+use Rattle.tl_county.proofs.Common.{List, ap, distinct, distinct-strict, entries-equal, keys-map_values, landmark_of, map, map-id, map-map}
+use Rattle.tl_county.proofs.Common.{map_values, nat_cmp, nat_keys, rules, seven_land, sym, values-map_values, ℕ, ◌∙◌, ◌≡◌}
 use Rattle.tl_county.proofs.Rules.TlidsInOrder.{tables_in_order}
 use Rattle.tl_county.proofs.linking.build_landmarks.Goals as goal
 

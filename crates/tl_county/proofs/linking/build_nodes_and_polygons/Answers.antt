@@ -1,7 +1,5 @@
-use Rattle.std.proofs.Common.{ap, flat_map, nat_cmp, ◌∙◌}
-use Rattle.tl_county.proofs.Common.{distinct, distinct_same, link_nodes, nat_keys, ordered_of}
-use Rattle.ordered_lists.proofs.Lists.Reordered.{from_permutation}
-use Rattle.county_chart.proofs.Sameness.Carried.{pieces_alike}
+use Rattle.tl_county.proofs.Common.{ap, distinct, distinct_same, flat_map, from_permutation, link_nodes, nat_cmp, nat_keys, ordered_of}
+use Rattle.tl_county.proofs.Common.{pieces_alike, ◌∙◌}
 use Rattle.tl_county.proofs.linking.build_nodes_and_polygons.Goals as goal
 
 pub returns-clause-nodes : goal.returns-clause-nodes

@@ -1,7 +1,5 @@
-use Rattle.std.proofs.Common.{rules, ◌++◌, ◌∙◌, List, flat_map, map, map-id, sym, subst}
-use Rattle.tl_county.proofs.Common.{PolygonKey, distinct, distinct-strict, entries-equal, key_cmp, key_keys, map-map, ordered_of, p_key}
-use Rattle.tl_county.proofs.Common.{polygon_body_of, side_keys}
-use Rattle.std.specs.List.Sorted.{IsStrictlySortedBy}
+use Rattle.tl_county.proofs.Common.{IsStrictlySortedBy, PolygonKey, distinct-strict, entries-equal, ordered_of, polygon_body_of, side_keys}
+use Rattle.tl_county.proofs.Common.{List, distinct, flat_map, key_cmp, key_keys, map, map-id, map-map, p_key, rules, subst, sym, ◌++◌, ◌∙◌}
 use Rattle.tl_county.proofs.linking.build_polygons.Goals as goal
 
 pub polygon_bodies-requires-clause-polygons : goal.polygon_bodies-requires-clause-polygons

@@ -1,9 +1,6 @@
-use Rattle.std.proofs.Common.{rules, ℕ, List, Result, Ok, Err, OnOk, IfErr, MatchResult, sym, subst, arith}
-use Rattle.tl_county.proofs.Common.{IsFirstBrokenRule, IsLinked, LinkFault, Record, RulesHold}
-use Rattle.std.proofs.lemmas.Result.{err_from_is_err_and}
-use Rattle.tl_county.specs.RepeatedKeys.{AreLeastRepeated}
-use Rattle.tl_county.specs.RuleOrder.{IsFirstFrom}
-use Rattle.tl_county.proofs.Rules.RuleOrders.{rules-join, first-after, all_hold, first_of_all}
+use Rattle.tl_county.proofs.Common.{AreLeastRepeated, Err, IfErr, IsFirstBrokenRule, IsFirstFrom, IsLinked, LinkFault, List, MatchResult}
+use Rattle.tl_county.proofs.Common.{Ok, OnOk, Record, Result, RulesHold, arith, err_from_is_err_and, rules, subst, sym, ℕ}
+use Rattle.tl_county.proofs.Rules.RuleOrders.{all_hold, first-after, first_of_all, rules-join}
 use Rattle.tl_county.proofs.linking.check_rules.Goals as goal
 
 module _ (Of : List Record → Type 0) (before : (records : List Record) → Of records → RulesHold records 0 12) where

@@ -1,10 +1,6 @@
-use Rattle.std.proofs.Common.{◌≡◌, ◌&&◌, ◌++◌, List, ap, flat_map, map, not, ◌∙◌}
-use Rattle.tl_county.proofs.Common.{FieldsI, IsLeastPassing, PolygonKey, distinct, distinct_same, is_unknown, key_cmp, key_keys}
-use Rattle.tl_county.proofs.Common.{least-same, ordered_of, p_key, side_keys, stands_in}
-use Rattle.std.proofs.lemmas.Result.{IfOk-weaker}
-use Rattle.ordered_lists.proofs.Lists.Reordered.{from_permutation}
-use Rattle.county_chart.proofs.ByKey.KeySets.{distinct-more}
-use Rattle.county_chart.proofs.Sameness.Carried.{pieces_alike}
+use Rattle.tl_county.proofs.Common.{FieldsI, IfOk-weaker, IsLeastPassing, List, PolygonKey, ap, distinct, distinct-more, distinct_same}
+use Rattle.tl_county.proofs.Common.{flat_map, from_permutation, is_unknown, key_cmp, key_keys, least-same, map, not, ordered_of, p_key}
+use Rattle.tl_county.proofs.Common.{pieces_alike, side_keys, stands_in, ◌&&◌, ◌++◌, ◌∙◌, ◌≡◌}
 use Rattle.tl_county.proofs.linking.polygons_of.Goals as goal
 
 pub returns-clause-keys : goal.returns-clause-keys

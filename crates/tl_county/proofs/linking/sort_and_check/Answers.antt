@@ -1,7 +1,5 @@
-use Rattle.std.proofs.Common.{◌≢◌, List}
-use Rattle.tl_county.proofs.Common.{IsFirstBrokenRule, Memory, Record, by_type_of, ordered_of, type_after_type, typed_of}
-use Rattle.tl_layout.proofs.Exits.{exit_with}
-use Rattle.tl_layout.specs.Tables.{HoldsByType}
+use Rattle.tl_county.proofs.Common.{HoldsByType, IsFirstBrokenRule, List, Memory, Record, by_type_of, exit_with, ordered_of}
+use Rattle.tl_county.proofs.Common.{type_after_type, typed_of, ◌≢◌}
 use Rattle.tl_county.proofs.Rules.BuiltTables.{also_first, held}
 use Rattle.tl_county.proofs.linking.sort_and_check.Goals as goal
 

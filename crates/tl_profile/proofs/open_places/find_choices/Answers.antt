@@ -1,12 +1,9 @@
-use Rattle.tl_profile.proofs.Common.{◌++◌, ◌∷◌, [], map, length, sym, ap, ◌∙◌, subst, append_assoc, length-append, arith, points_cmp}
-use Rattle.tl_profile.proofs.Common.{IsInOrder, is_either_way, whole_shape}
-use Rattle.ordered_lists.proofs.ByKey.KeyedLists.{empty_list}
-use Rattle.tl_profile.specs.declared.open_places.OpenChoices.{OpenChoices}
-use Rattle.county_chart.proofs.Profile.CountedChoices.{IsCounted}
+use Rattle.tl_profile.proofs.Common.{IsCounted, IsInOrder, OpenChoices, [], ap, append_assoc, arith, empty_list, is_either_way, length}
+use Rattle.tl_profile.proofs.Common.{length-append, map, points_cmp, subst, sym, whole_shape, ◌++◌, ◌∙◌, ◌∷◌}
 use Rattle.tl_profile.proofs.FoundChoices.{IsFound, behind, counted_place, few_shapes, found_all, found_many, rest_in_order}
+use Rattle.tl_profile.proofs.open_places.find_choices.Given.{Over}
 use Rattle.tl_profile.proofs.open_places.find_choices.Goals as goal
 use Rattle.tl_profile.proofs.open_places.find_choices.Goals.{in-Some+in_ok-put_in_front+then-found-gt-MOST_CHOICES, in_default}
-use Rattle.tl_profile.proofs.open_places.find_choices.Given.{Over}
 
 pub overflow_cast-place : goal.overflow_cast-place
 overflow_cast-place g c =

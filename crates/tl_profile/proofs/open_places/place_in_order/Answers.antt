@@ -1,5 +1,4 @@
-use Rattle.tl_profile.proofs.Common.{◌≡◌, ◌+◌, cond, map, sym, ap, ◌∙◌, arith, length-map, points_keys, whole_shape}
-use Rattle.county_chart.proofs.Profile.CountedChoices.{alike-next, alike_few}
+use Rattle.tl_profile.proofs.Common.{alike-next, alike_few, ap, arith, cond, length-map, map, points_keys, sym, whole_shape, ◌+◌, ◌∙◌, ◌≡◌}
 use Rattle.tl_profile.proofs.open_places.place_in_order.Goals as goal
 use Rattle.tl_profile.proofs.open_places.place_in_order.Goals.{then-is_twin, else-is_twin}
 

@@ -1,6 +1,4 @@
-use Rattle.tl_profile.specs.PlacedShapes.{HasHead}
-use Rattle.ordered_lists.proofs.Lists.Reordered.{all_permuted}
-use Rattle.tl_profile.proofs.PlacedOrder.{sorted_by_shape}
+use Rattle.tl_profile.proofs.{Common.HasHead, Common.all_permuted, PlacedOrder.sorted_by_shape}
 use Rattle.tl_profile.proofs.shapes.ordered_shapes.Goals as goal
 
 pub returns-clause-heads : goal.returns-clause-heads

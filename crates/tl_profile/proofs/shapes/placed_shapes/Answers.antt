@@ -1,7 +1,5 @@
-use Rattle.tl_profile.proofs.Common.{◌∷◌, ◌++◌, [], map, sym, ap, ap₂, ◌∙◌, subst, arith, AllByRecursion, map-append, along_shape}
-use Rattle.tl_profile.proofs.Common.{HasHead, placed_directed, few_chains}
-use Rattle.std.proofs.lemmas.List.FromFn.{map-range_with_len_more}
-use Rattle.county_chart.proofs.Profile.Places.{all_next}
+use Rattle.tl_profile.proofs.Common.{AllByRecursion, HasHead, [], all_next, along_shape, ap, ap₂, arith, few_chains, map, map-append}
+use Rattle.tl_profile.proofs.Common.{map-range_with_len_more, placed_directed, subst, sym, ◌++◌, ◌∙◌, ◌∷◌}
 use Rattle.tl_profile.proofs.shapes.placed_shapes.Goals as goal
 
 pub loop-place-preserved : goal.loop-place-preserved

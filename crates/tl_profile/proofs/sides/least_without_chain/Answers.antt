@@ -1,7 +1,5 @@
-use Rattle.tl_profile.proofs.Common.{◌&&◌, not, map, sym, ◌∙◌, subst, has_body, polygons_along, IsLeastPassing, is_unknown, IsInOrder}
-use Rattle.tl_profile.proofs.Common.{stands_in, key_cmp, key_keys}
-use Rattle.ordered_lists.proofs.ByKey.KeyedLists.{at_lists, least-same}
-use Rattle.ordered_lists.proofs.ByKey.Numbers.{distinct-in_order}
+use Rattle.tl_profile.proofs.Common.{IsInOrder, IsLeastPassing, at_lists, distinct-in_order, has_body, is_unknown, key_cmp, key_keys}
+use Rattle.tl_profile.proofs.Common.{least-same, map, not, polygons_along, stands_in, subst, sym, ◌&&◌, ◌∙◌}
 use Rattle.tl_profile.proofs.SideKeys.{bodies_in_order, same_unknown}
 use Rattle.tl_profile.proofs.sides.least_without_chain.Goals as goal
 

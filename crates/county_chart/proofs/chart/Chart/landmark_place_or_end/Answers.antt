@@ -1,7 +1,4 @@
-use Rattle.std.proofs.Common.{rules}
-use Rattle.county_chart.proofs.Common.{nat_keys, value-stated}
-use Rattle.county_chart.proofs.Lists.LinkPlaces.{links-at_or_end}
-use Rattle.ordered_lists.proofs.Lists.Places.{length_keys}
+use Rattle.county_chart.proofs.{Common.length_keys, Common.nat_keys, Common.rules, Common.value-stated, Lists.LinkPlaces.links-at_or_end}
 use Rattle.county_chart.proofs.chart.Chart.landmark_place_or_end.Goals as goal
 
 pub returns-clause-bodies : goal.returns-clause-bodies

@@ -1,5 +1,4 @@
-use Rattle.std.proofs.Common.{rules}
-use Rattle.county_chart.proofs.Common.{nat_keys, value-stated}
+use Rattle.county_chart.proofs.Common.{nat_keys, rules, value-stated}
 use Rattle.county_chart.proofs.chart.Chart.name_place_or_end.Goals as goal
 
 pub returns-clause-name : goal.returns-clause-name

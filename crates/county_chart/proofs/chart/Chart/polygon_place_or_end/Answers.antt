@@ -1,5 +1,4 @@
-use Rattle.std.proofs.Common.{rules}
-use Rattle.county_chart.proofs.Common.{key_keys, value-stated}
+use Rattle.county_chart.proofs.Common.{key_keys, rules, value-stated}
 use Rattle.county_chart.proofs.chart.Chart.polygon_place_or_end.Goals as goal
 
 pub returns-clause-polygon : goal.returns-clause-polygon

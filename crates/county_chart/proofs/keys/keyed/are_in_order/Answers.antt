@@ -1,7 +1,4 @@
-use Rattle.std.proofs.Common.{rules}
-use Rattle.county_chart.proofs.Common.{always_returns_same, on, on_total}
-use Rattle.std.specs.Ordering.{is_le}
-use Rattle.ordered_lists.proofs.ByKey.KeyedLists.{answered-in_order, in_order-from_adjacent}
+use Rattle.county_chart.proofs.Common.{always_returns_same, answered-in_order, in_order-from_adjacent, is_le, on, on_total, rules}
 use Rattle.county_chart.proofs.keys.keyed.are_in_order.Goals as goal
 
 pub returns-clause-in_order : goal.returns-clause-in_order

@@ -1,6 +1,5 @@
-use Rattle.std.proofs.Common.{◌≡◌, Less, Greater, subst}
-use Rattle.county_chart.proofs.Common.{IsInOrder, IsKeyOrder, empty_list, on}
-use Rattle.ordered_lists.proofs.ByKey.KeyedLists.{decided-last, decided-first, left-below}
+use Rattle.county_chart.proofs.Common.{Greater, IsInOrder, IsKeyOrder, Less, decided-first, decided-last, empty_list, left-below, on, subst}
+use Rattle.county_chart.proofs.Common.{◌≡◌}
 use Rattle.county_chart.proofs.keys.keyed.least_unknown.Goals as goal
 
 pub returns-in-None : goal.returns-in-None

@@ -1,5 +1,4 @@
-use Rattle.std.proofs.Common.{◌≡◌, ◌+◌, map, length}
-use Rattle.county_chart.proofs.Common.{IsInOrder, is_unknown, on}
+use Rattle.county_chart.proofs.Common.{IsInOrder, is_unknown, length, map, on, ◌+◌, ◌≡◌}
 use Rattle.county_chart.proofs.keys.keyed.least_unknown.Given as goal
 
 abbrev pub invariant-loop-first : goal.invariant-loop-first

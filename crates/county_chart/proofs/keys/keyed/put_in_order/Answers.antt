@@ -1,6 +1,4 @@
-use Rattle.std.proofs.Common.{rules}
-use Rattle.county_chart.proofs.Common.{always_returns_same, on_ok_weaker, on_total}
-use Rattle.ordered_lists.proofs.ByKey.KeyedLists.{in_order-from_sorted}
+use Rattle.county_chart.proofs.Common.{always_returns_same, in_order-from_sorted, on_ok_weaker, on_total, rules}
 use Rattle.county_chart.proofs.keys.keyed.put_in_order.Goals as goal
 
 pub returns-clause-in_order : goal.returns-clause-in_order

@@ -1,6 +1,4 @@
-use Rattle.std.proofs.Common.{ap, ◌∙◌, drop, take}
-use Rattle.county_chart.proofs.Common.{IsKeyOrder}
-use Rattle.ordered_lists.proofs.ByKey.KeyedLists.{group_cut}
+use Rattle.county_chart.proofs.Common.{IsKeyOrder, ap, drop, group_cut, take, ◌∙◌}
 use Rattle.county_chart.proofs.keys.keyed.split_group.Goals as goal
 
 pub returns-clause-group : goal.returns-clause-group

@@ -1,8 +1,6 @@
-use Rattle.std.proofs.Common.{[], sym, ap, ◌∙◌, subst, nat_cmp, unwrap_or, flat_map, ℕ, slice_get, Option, option_map}
-use Rattle.county_chart.proofs.Common.{LandmarkParts, links_with, map_values}
-use Rattle.std.specs.List.Sorted.{IsStrictlySortedBy}
-use Rattle.county_chart.proofs.Lists.StoredLandmarks.{links-at, lands-kept}
-use Rattle.county_chart.proofs.Lists.StoredParts.{value-at-kept}
+use Rattle.county_chart.proofs.Common.{IsStrictlySortedBy, LandmarkParts, Option, [], ap, flat_map, links_with, map_values, nat_cmp}
+use Rattle.county_chart.proofs.Common.{option_map, slice_get, subst, sym, unwrap_or, ℕ, ◌∙◌}
+use Rattle.county_chart.proofs.{Lists.StoredLandmarks.lands-kept, Lists.StoredLandmarks.links-at, Lists.StoredParts.value-at-kept}
 use Rattle.county_chart.proofs.stored.StoredCounty.links_of_place.Goals as goal
 
 pub returns-in-Some : goal.returns-in-Some

@@ -1,6 +1,5 @@
-use Rattle.renamings.proofs.Common.{◌∷◌, [], Some, cond, ◌++◌, sym, ap, ◌∙◌, append_assoc, append-nil, IsKeyOrder}
-use Rattle.std.specs.Map.{lookup}
-use Rattle.renamings.proofs.Tables.{put_before}
+use Rattle.renamings.proofs.{Common.lookup, Tables.put_before}
+use Rattle.county_chart.proofs.Common.{IsKeyOrder, Some, [], ap, append-nil, append_assoc, cond, sym, ◌++◌, ◌∙◌, ◌∷◌}
 use Rattle.renamings.proofs.images.Images.new.Goals as goal
 
 pub loop-last-init : goal.loop-last-init

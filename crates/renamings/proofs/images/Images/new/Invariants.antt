@@ -1,4 +1,4 @@
-use Rattle.renamings.proofs.Common.{◌≡◌, ◌++◌, List, length, value_under}
+use Rattle.county_chart.proofs.Common.{List, length, value_under, ◌++◌, ◌≡◌}
 use Rattle.indexmap.specs.IndexMap.{get}
 use Rattle.renamings.proofs.images.Images.new.Given as goal
 

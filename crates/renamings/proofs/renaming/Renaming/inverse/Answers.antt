@@ -1,5 +1,4 @@
-use Rattle.renamings.proofs.Common.{◌∙◌, ap, ap₂, sym, subst, map, filter, nat_cmp, Carries, image, is_named}
-use Rattle.ordered_lists.specs.Pairs.{swapped}
+use Rattle.county_chart.proofs.Common.{Carries, ap, ap₂, filter, image, is_named, map, nat_cmp, subst, swapped, sym, ◌∙◌}
 use Rattle.county_chart.proofs.Sameness.Equivalence.{inverse_carries}
 use Rattle.renamings.proofs.renaming.Renaming.inverse.Goals as goal
 

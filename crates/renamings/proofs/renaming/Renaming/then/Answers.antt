@@ -1,6 +1,6 @@
-use Rattle.renamings.proofs.Common.{◌≡◌, ◌∙◌, ap₂, sym, subst, map, filter, nat_cmp, key_cmp, Carries, composed}
+use Rattle.renamings.proofs.Common.{is_turned_once}
+use Rattle.county_chart.proofs.Common.{Carries, ap₂, composed, filter, key_cmp, map, nat_cmp, subst, sym, ◌∙◌, ◌≡◌}
 use Rattle.county_chart.proofs.Sameness.Equivalence.{then_carries}
-use Rattle.renamings.specs.Images.{is_turned_once}
 use Rattle.renamings.proofs.renaming.Renaming.then.Goals as goal
 
 pub returns-clause-value : goal.returns-clause-value

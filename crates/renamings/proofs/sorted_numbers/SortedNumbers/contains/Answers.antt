@@ -1,4 +1,4 @@
-use Rattle.renamings.proofs.Common.{◌∙◌, ap, subst, nat_cmp, nat_lt, IsPermutation, stands_in, nat_keys}
+use Rattle.county_chart.proofs.Common.{IsPermutation, ap, nat_cmp, nat_keys, nat_lt, stands_in, subst, ◌∙◌}
 use Rattle.ordered_lists.proofs.ByKey.Keys.{times-permutation}
 use Rattle.renamings.proofs.sorted_numbers.SortedNumbers.contains.Goals as goal
 

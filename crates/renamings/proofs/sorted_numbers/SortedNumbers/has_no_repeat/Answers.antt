@@ -1,5 +1,5 @@
-use Rattle.renamings.proofs.Common.{◌≡◌, false, subst, nat_cmp, IsPermutation, IsPermutation-sym, Decides, has_repeat, decides_same}
-use Rattle.renamings.proofs.Repeats.{repeat_permuted}
+use Rattle.renamings.proofs.{Common.IsAllAdjacentAnswer, Common.decides_same, Common.ltb, Repeats.ascend_decides, Repeats.repeat_permuted}
+use Rattle.county_chart.proofs.Common.{IsPermutation, IsPermutation-sym, always_returns_same, rules, subst, ◌≡◌}
 use Rattle.renamings.proofs.sorted_numbers.SortedNumbers.has_no_repeat.Goals as goal
 
 pub returns : goal.returns
@@ -7,7 +7,10 @@ returns c =
     let sorted = c.self.inside.sorted.items in
     let permuted : IsPermutation c.args.self.now sorted =
     subst (λ numbers. IsPermutation numbers sorted) c.self.view_is c.self.invariant.1 in
-    decides_same c.ascend.result
-    (subst (λ numbers. Decides c.ascend.result (has_repeat nat_cmp numbers ≡ false)) c.deref.ensures.value c.ascend.ensures)
+    let ascend : IsAllAdjacentAnswer (λ x y b. b ≡ ltb x y) sorted c.is_sorted_by.result =
+    subst (λ numbers. IsAllAdjacentAnswer (λ x y b. b ≡ ltb x y) numbers c.is_sorted_by.result) c.deref.ensures.value
+    (c.is_sorted_by.ensures.cases ltb (always_returns_same _ _ _ (λ a r f' k. search rules))) in
+    decides_same c.is_sorted_by.result
+    (ascend_decides sorted c.is_sorted_by.result c.self.invariant.0 ascend)
     (repeat_permuted c.args.self.now sorted permuted)
     (repeat_permuted sorted c.args.self.now (IsPermutation-sym c.args.self.now sorted permuted))

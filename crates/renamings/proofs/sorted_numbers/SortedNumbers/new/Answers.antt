@@ -1,5 +1,4 @@
-use Rattle.renamings.proofs.Common.{subst, IsPermutation, in_order-from_sorted}
-use Rattle.std.proofs.lemmas.Cmp.{nat_cmp_total}
+use Rattle.county_chart.proofs.Common.{IsPermutation, in_order-from_sorted, nat_cmp_total, subst}
 use Rattle.renamings.proofs.sorted_numbers.SortedNumbers.new.Goals as goal
 
 pub invariant_of-result : goal.invariant_of-result

@@ -1,7 +1,5 @@
-use Rattle.tl_cert.proofs.Common.{◌≡◌, ap, ◌∙◌, nat_cmp, option_map, arith, turned_if, image, turns, renumbered, decides_over}
-use Rattle.county_chart.specs.ChartWords.{chain_at, chain_under}
-use Rattle.tl_cert.specs.PartsThere.{chain_carried}
-use Rattle.county_chart.proofs.Limits.FewChains.{few_chains}
+use Rattle.tl_cert.proofs.Common.{ap, arith, chain_at, chain_carried, chain_under, decides_over, few_chains, image, nat_cmp, option_map}
+use Rattle.tl_cert.proofs.Common.{renumbered, turned_if, turns, ◌∙◌, ◌≡◌}
 use Rattle.tl_cert.proofs.Places.{decides_entry}
 use Rattle.tl_cert.proofs.chains.ChainsTested.holds.Goals as goal
 

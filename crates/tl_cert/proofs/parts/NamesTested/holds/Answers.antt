@@ -1,5 +1,4 @@
-use Rattle.tl_cert.proofs.Common.{◌∙◌, nat_cmp, image}
-use Rattle.county_chart.specs.ChartWords.{name_under}
+use Rattle.tl_cert.proofs.Common.{image, name_under, nat_cmp, ◌∙◌}
 use Rattle.tl_cert.proofs.Places.{decides_found}
 use Rattle.tl_cert.proofs.parts.NamesTested.holds.Goals as goal
 

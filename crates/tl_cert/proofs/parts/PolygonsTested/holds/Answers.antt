@@ -1,5 +1,4 @@
-use Rattle.tl_cert.proofs.Common.{◌∙◌, key_cmp, image}
-use Rattle.county_chart.specs.ChartWords.{polygon_under}
+use Rattle.tl_cert.proofs.Common.{image, key_cmp, polygon_under, ◌∙◌}
 use Rattle.tl_cert.proofs.Places.{decides_found}
 use Rattle.tl_cert.proofs.parts.PolygonsTested.holds.Goals as goal
 

@@ -1,5 +1,4 @@
-use Rattle.std.proofs.Common.{◌≡◌, ◌∷◌, map, true, is_eq, sym, ap, ◌∙◌}
-use Rattle.tl_county.proofs.Common.{IsKeyOrder, same-true}
+use Rattle.tl_county.proofs.Common.{IsKeyOrder, ap, is_eq, map, same-true, sym, true, ◌∙◌, ◌∷◌, ◌≡◌}
 use Rattle.tl_county.proofs.keys.absent.have_same_keys.Goals as goal
 
 pub loop-item-preserved : goal.loop-item-preserved

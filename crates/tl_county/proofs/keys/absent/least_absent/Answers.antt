@@ -1,5 +1,4 @@
-use Rattle.std.proofs.Common.{◌≡◌, List, map, Bool, true, false, not, ◌&&◌, refl, sym, ap, ◌∙◌}
-use Rattle.tl_county.proofs.Common.{is_unknown, stands_in}
+use Rattle.tl_county.proofs.Common.{Bool, List, ap, false, is_unknown, map, not, refl, stands_in, sym, true, ◌&&◌, ◌∙◌, ◌≡◌}
 use Rattle.tl_county.proofs.keys.absent.least_absent.Goals as goal
 
 neither : (b : Bool) → (b && not b) ≡ false

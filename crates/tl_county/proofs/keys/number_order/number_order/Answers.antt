@@ -1,10 +1,6 @@
-use Rattle.std.proofs.Common.{◌≡◌, ℕ, List, ◌∙◌, IsPermutation, ap, length, map, nat_cmp, refl, subst, sym}
-use Rattle.tl_county.proofs.Common.{IsInOrder, IsPermutation-refl, length-map, on}
-use Rattle.std.proofs.lemmas.Result.{IfOk-weaker}
-use Rattle.std.specs.List.{range_with_len}
-use Rattle.ordered_lists.specs.Places.{at_places}
-use Rattle.ordered_lists.proofs.Lists.InOrder.{in_order-unmap}
-use Rattle.ordered_lists.proofs.Lists.AtPlaces.{all_at_places, at_all_places, map-at_places}
+use Rattle.tl_county.proofs.Common.{IfOk-weaker, IsInOrder, IsPermutation, IsPermutation-refl, List, all_at_places, ap, at_all_places}
+use Rattle.tl_county.proofs.Common.{at_places, in_order-unmap, length, length-map, map, map-at_places, nat_cmp, on, range_with_len, refl}
+use Rattle.tl_county.proofs.Common.{subst, sym, ℕ, ◌∙◌, ◌≡◌}
 use Rattle.tl_county.proofs.keys.number_order.number_order.Goals as goal
 
 pub returns-then-are_in_order-clause-permutation : goal.returns-then-are_in_order-clause-permutation

@@ -1,6 +1,4 @@
-use Rattle.std.proofs.Common.{rules, slice_get, tests}
-use Rattle.tl_county.proofs.Common.{YieldsList-from_slice, items_from_extend}
-use Rattle.std.proofs.lemmas.Iterator.Consumers.{YieldsList-from_filter_map}
+use Rattle.tl_county.proofs.Common.{YieldsList-from_filter_map, YieldsList-from_slice, items_from_extend, rules, slice_get, tests}
 use Rattle.tl_county.proofs.keys.number_order.numbers_at.Goals as goal
 
 pub returns : goal.returns

@@ -1,7 +1,5 @@
-use Rattle.std.proofs.Common.{rules, ℕ, get_or}
-use Rattle.tl_county.proofs.Common.{always_returns_same, nat_cmp_total, on_ok_weaker, on_total}
-use Rattle.std.proofs.lemmas.Option.{unwrap_or-slice_get}
-use Rattle.ordered_lists.proofs.ByKey.KeyedLists.{in_order-from_sorted}
+use Rattle.tl_county.proofs.Common.{always_returns_same, get_or, in_order-from_sorted, nat_cmp_total, on_ok_weaker, on_total, rules}
+use Rattle.tl_county.proofs.Common.{unwrap_or-slice_get, ℕ}
 use Rattle.tl_county.proofs.keys.number_order.sort_places.Goals as goal
 
 pub returns-clause-in_order : goal.returns-clause-in_order

@@ -1,8 +1,5 @@
-use Rattle.std.proofs.Common.{◌≡◌, ◌∙◌, IsPermutation, List, ap, length, nat_cmp, refl, subst, ℕ}
-use Rattle.tl_county.proofs.Common.{IsInOrder, IsPermutation-trans}
-use Rattle.std.specs.List.{range_with_len}
-use Rattle.ordered_lists.specs.Places.{at_places}
-use Rattle.ordered_lists.proofs.Lists.AtPlaces.{numbers_in_order}
+use Rattle.tl_county.proofs.Common.{IsInOrder, IsPermutation, IsPermutation-trans, List, ap, at_places, length, nat_cmp, numbers_in_order}
+use Rattle.tl_county.proofs.Common.{range_with_len, refl, subst, ℕ, ◌∙◌, ◌≡◌}
 use Rattle.tl_county.proofs.keys.number_order.sorted_order.Goals as goal
 
 -- sorted places are all places, as the unsorted ones were

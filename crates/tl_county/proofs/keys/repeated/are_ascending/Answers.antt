@@ -1,7 +1,4 @@
-use Rattle.std.proofs.Common.{rules}
-use Rattle.tl_county.proofs.Common.{IsKeyOrder, always_returns_same, on}
-use Rattle.std.specs.Ordering.{is_lt}
-use Rattle.ordered_lists.proofs.ByKey.KeysAscend.{ascend-apart, ascend-in_order}
+use Rattle.tl_county.proofs.Common.{IsKeyOrder, always_returns_same, ascend-apart, ascend-in_order, is_lt, on, rules}
 use Rattle.tl_county.proofs.keys.repeated.are_ascending.Goals as goal
 
 pub returns-clause-in_order : goal.returns-clause-in_order

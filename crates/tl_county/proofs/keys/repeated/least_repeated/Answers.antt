@@ -1,6 +1,5 @@
-use Rattle.std.proofs.Common.{rules, ◌≡◌, ◌∷◌, map, true, false, is_eq, ap, ◌∙◌, subst}
-use Rattle.tl_county.proofs.Common.{IsInOrder, IsKeyOrder, empty_list, is_repeated, on}
-use Rattle.ordered_lists.proofs.ByKey.KeyedLists.{decided-twice, left-once, left-one}
+use Rattle.tl_county.proofs.Common.{IsInOrder, IsKeyOrder, ap, decided-twice, empty_list, false, is_eq, is_repeated, left-once, left-one}
+use Rattle.tl_county.proofs.Common.{map, on, rules, subst, true, ◌∙◌, ◌∷◌, ◌≡◌}
 use Rattle.tl_county.proofs.keys.repeated.least_repeated.Goals as goal
 
 pub returns-then-is_eq : goal.returns-then-is_eq

@@ -1,5 +1,4 @@
-use Rattle.std.proofs.Common.{◌≡◌, map, length}
-use Rattle.tl_county.proofs.Common.{IsInOrder, is_repeated, on}
+use Rattle.tl_county.proofs.Common.{IsInOrder, is_repeated, length, map, on, ◌≡◌}
 use Rattle.tl_county.proofs.keys.repeated.least_repeated.Given as goal
 
 abbrev pub invariant-loop-first : goal.invariant-loop-first

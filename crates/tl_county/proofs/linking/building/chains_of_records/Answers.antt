@@ -1,11 +1,7 @@
-use Rattle.std.proofs.Common.{◌≡◌, ◌∷◌, ◌++◌, ◌+◌, ◌≤◌, ◌<◌, ◌⊎◌, List, [], append-nil, ap, arith, drop, inl, inr, is_gt, length, map, min, nat_cmp}
-use Rattle.std.proofs.Common.{refl, sym, ◌∙◌, subst, ℕ}
-use Rattle.tl_county.proofs.Common.{Fields1, Fields2, Fields4, Fields6, FieldsI, IsInOrder, chains_along, four_tlid, in_order-filter}
-use Rattle.tl_county.proofs.Common.{on, one_tlid, six_tlid, strict_tail, two_tlid}
-use Rattle.std.proofs.lemmas.Bool.{cases_lt}
-use Rattle.std.proofs.lemmas.List.{drop_all, drop_more}
-use Rattle.std.proofs.Math.Nat.{min-le_left, min-le_right, min-eq_left, min-eq_right}
-use Rattle.std.specs.List.Sorted.{IsStrictlySortedBy}
+use Rattle.tl_county.proofs.Common.{Fields1, Fields2, Fields4, Fields6, FieldsI, IsInOrder, IsStrictlySortedBy, List, [], ap, append-nil}
+use Rattle.tl_county.proofs.Common.{arith, cases_lt, chains_along, drop, drop_all, drop_more, four_tlid, in_order-filter, inl, inr, is_gt}
+use Rattle.tl_county.proofs.Common.{length, map, min, min-eq_left, min-eq_right, min-le_left, min-le_right, nat_cmp, on, one_tlid, refl}
+use Rattle.tl_county.proofs.Common.{six_tlid, strict_tail, subst, sym, two_tlid, ℕ, ◌++◌, ◌+◌, ◌<◌, ◌∙◌, ◌∷◌, ◌≡◌, ◌≤◌, ◌⊎◌}
 use Rattle.tl_county.proofs.Lists.Groups.{chains-step}
 use Rattle.tl_county.proofs.linking.building.chains_of_records.Goals as goal
 

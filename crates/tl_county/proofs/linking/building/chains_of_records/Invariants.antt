@@ -1,6 +1,5 @@
-use Rattle.std.proofs.Common.{◌≡◌, ◌++◌, drop, map, nat_cmp}
-use Rattle.tl_county.proofs.Common.{IsInOrder, chains_along, four_tlid, on, one_tlid, six_tlid, two_tlid}
-use Rattle.std.specs.List.Sorted.{IsStrictlySortedBy}
+use Rattle.tl_county.proofs.Common.{IsInOrder, IsStrictlySortedBy, chains_along, drop, four_tlid, map, nat_cmp, on, one_tlid, six_tlid}
+use Rattle.tl_county.proofs.Common.{two_tlid, ◌++◌, ◌≡◌}
 use Rattle.tl_county.proofs.linking.building.chains_of_records.Given as goal
 
 abbrev pub invariant-loop-place : goal.invariant-loop-place

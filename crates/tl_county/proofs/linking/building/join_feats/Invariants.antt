@@ -1,5 +1,4 @@
-use Rattle.std.proofs.Common.{◌≡◌, ◌++◌, flat_map, take}
-use Rattle.tl_county.proofs.Common.{AllByRecursion, Fields4, IsNumber}
+use Rattle.tl_county.proofs.Common.{AllByRecursion, Fields4, IsNumber, flat_map, take, ◌++◌, ◌≡◌}
 use Rattle.tl_county.proofs.linking.building.join_feats.Given as goal
 
 abbrev pub invariant-loop-names : goal.invariant-loop-names

@@ -1,5 +1,4 @@
-use Rattle.std.proofs.Common.{◌≡◌, ◌++◌, flat_map, take}
-use Rattle.tl_county.proofs.Common.{Fields2}
+use Rattle.tl_county.proofs.Common.{Fields2, flat_map, take, ◌++◌, ◌≡◌}
 use Rattle.tl_county.proofs.linking.building.join_points.Given as goal
 
 abbrev pub invariant-loop-shape : goal.invariant-loop-shape

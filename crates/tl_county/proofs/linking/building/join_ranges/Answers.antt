@@ -1,5 +1,4 @@
-use Rattle.std.proofs.Common.{rules, tests}
-use Rattle.tl_county.proofs.Common.{Fields6, YieldsList-from_map, YieldsList-from_slice, items_from_extend}
+use Rattle.tl_county.proofs.Common.{Fields6, YieldsList-from_map, YieldsList-from_slice, items_from_extend, rules, tests}
 use Rattle.tl_county.proofs.linking.building.join_ranges.Goals as goal
 
 pub returns : goal.returns

@@ -1,6 +1,5 @@
-use Rattle.std.proofs.Common.{◌≡◌, [], ◌∷◌, ◌++◌, map, is_gt, refl, sym, ap, ◌∙◌, subst, nat_cmp}
-use Rattle.tl_county.proofs.Common.{IsInOrder, eight_land, in_order-filter, landmark_of, map-append, on, seven_land, strict_tail}
-use Rattle.std.specs.List.Sorted.{IsStrictlySortedBy}
+use Rattle.tl_county.proofs.Common.{IsInOrder, IsStrictlySortedBy, [], ap, eight_land, in_order-filter, is_gt, landmark_of, map, map-append}
+use Rattle.tl_county.proofs.Common.{nat_cmp, on, refl, seven_land, strict_tail, subst, sym, ◌++◌, ◌∙◌, ◌∷◌, ◌≡◌}
 use Rattle.tl_county.proofs.Lists.Groups.{landmarks-step}
 use Rattle.tl_county.proofs.linking.building.landmarks_of.Goals as goal
 

@@ -1,6 +1,4 @@
-use Rattle.std.proofs.Common.{◌≡◌, ◌++◌, map, length, nat_cmp}
-use Rattle.tl_county.proofs.Common.{IsInOrder, eight_land, landmark_of, on, seven_land}
-use Rattle.std.specs.List.Sorted.{IsStrictlySortedBy}
+use Rattle.tl_county.proofs.Common.{IsInOrder, IsStrictlySortedBy, eight_land, landmark_of, length, map, nat_cmp, on, seven_land, ◌++◌, ◌≡◌}
 use Rattle.tl_county.proofs.linking.building.landmarks_of.Given as goal
 
 abbrev pub invariant-loop-land : goal.invariant-loop-land

@@ -1,6 +1,5 @@
-use Rattle.std.proofs.Common.{is_eq, rules, sym, ap, ◌∙◌, nat_cmp, subst}
-use Rattle.tl_county.proofs.Common.{IsInOrder, distinct, in_order-map, nat_keys, seven_land}
-use Rattle.std.proofs.lemmas.Fn.{dedup_same}
+use Rattle.tl_county.proofs.Common.{IsInOrder, ap, dedup_same, distinct, in_order-map, is_eq, nat_cmp, nat_keys, rules, seven_land, subst}
+use Rattle.tl_county.proofs.Common.{sym, ◌∙◌}
 use Rattle.tl_county.proofs.Rules.GatheredLists.{dedup-distinct}
 use Rattle.tl_county.proofs.linking.building.lands_of.Goals as goal
 

@@ -1,5 +1,4 @@
-use Rattle.std.proofs.Common.{◌≡◌, flat_map, take, nat_cmp}
-use Rattle.tl_county.proofs.Common.{distinct, link_nodes}
+use Rattle.tl_county.proofs.Common.{distinct, flat_map, link_nodes, nat_cmp, take, ◌≡◌}
 use Rattle.tl_county.proofs.linking.building.nodes_of.Given as goal
 
 abbrev pub invariant-loop-link : goal.invariant-loop-link

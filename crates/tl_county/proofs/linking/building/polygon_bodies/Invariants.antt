@@ -1,6 +1,4 @@
-use Rattle.std.proofs.Common.{◌≡◌, ◌++◌, map, length}
-use Rattle.tl_county.proofs.Common.{IsInOrder, key_cmp, on, p_key, polygon_body_of}
-use Rattle.std.specs.List.Sorted.{IsStrictlySortedBy}
+use Rattle.tl_county.proofs.Common.{IsInOrder, IsStrictlySortedBy, key_cmp, length, map, on, p_key, polygon_body_of, ◌++◌, ◌≡◌}
 use Rattle.tl_county.proofs.linking.building.polygon_bodies.Given as goal
 
 abbrev pub invariant-loop-key : goal.invariant-loop-key

@@ -1,5 +1,4 @@
-use Rattle.std.proofs.Common.{[], ◌∷◌, ◌++◌, map, ap, ◌∙◌}
-use Rattle.tl_county.proofs.Common.{map-append}
+use Rattle.tl_county.proofs.Common.{[], ap, map, map-append, ◌++◌, ◌∙◌, ◌∷◌}
 use Rattle.tl_county.proofs.Lists.Groups.{chain-of_groups}
 use Rattle.tl_county.proofs.linking.building.push_chain.Goals as goal
 

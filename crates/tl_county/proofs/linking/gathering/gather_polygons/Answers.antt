@@ -1,8 +1,6 @@
-use Rattle.std.proofs.Common.{◌≡◌, ◌++◌, List, map, flat_map, ap, sym, ◌∙◌, subst}
-use Rattle.tl_county.proofs.Common.{IsInOrder, IsLeastPassing, PolygonKey, distinct, distinct-in_order, distinct_same, is_unknown}
-use Rattle.tl_county.proofs.Common.{key_cmp, key_keys, least-same, p_key, side_keys}
-use Rattle.county_chart.proofs.ByKey.KeySets.{distinct-more, stands_in-distinct}
-use Rattle.county_chart.proofs.ByKey.PolygonSets.{keys_themselves}
+use Rattle.tl_county.proofs.Common.{IsInOrder, IsLeastPassing, List, PolygonKey, ap, distinct, distinct-in_order, distinct-more}
+use Rattle.tl_county.proofs.Common.{distinct_same, flat_map, is_unknown, key_cmp, key_keys, keys_themselves, least-same, map, p_key}
+use Rattle.tl_county.proofs.Common.{side_keys, stands_in-distinct, subst, sym, ◌++◌, ◌∙◌, ◌≡◌}
 use Rattle.tl_county.proofs.Rules.WithoutChain.{distinct-all_known, none_passes, unknown-distinct}
 use Rattle.tl_county.proofs.linking.gathering.gather_polygons.Goals as goal
 use Rattle.tl_county.proofs.linking.gathering.gather_polygons.Goals.{then-is_some+in_ok-push_points+in_ok-cenids-2+in_ok-keys-2, else-is_some}

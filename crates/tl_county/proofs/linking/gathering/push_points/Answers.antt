@@ -1,5 +1,4 @@
-use Rattle.std.proofs.Common.{rules, tests}
-use Rattle.tl_county.proofs.Common.{YieldsList-from_map, YieldsList-from_slice, items_from_extend, p_key}
+use Rattle.tl_county.proofs.Common.{YieldsList-from_map, YieldsList-from_slice, items_from_extend, p_key, rules, tests}
 use Rattle.tl_county.proofs.linking.gathering.push_points.Goals as goal
 
 pub returns : goal.returns

@@ -1,5 +1,4 @@
-use Rattle.std.proofs.Common.{rules, tests}
-use Rattle.tl_county.proofs.Common.{YieldsList-from_map, YieldsList-from_slice, items_from_extend}
+use Rattle.tl_county.proofs.Common.{YieldsList-from_map, YieldsList-from_slice, items_from_extend, rules, tests}
 use Rattle.tl_county.proofs.linking.gathering.push_uses.Goals as goal
 
 pub returns : goal.returns

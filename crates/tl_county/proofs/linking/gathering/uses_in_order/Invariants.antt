@@ -1,5 +1,4 @@
-use Rattle.std.proofs.Common.{◌≡◌, flat_map, take}
-use Rattle.tl_county.proofs.Common.{uses_of}
+use Rattle.tl_county.proofs.Common.{flat_map, take, uses_of, ◌≡◌}
 use Rattle.tl_county.proofs.linking.gathering.uses_in_order.Given as goal
 
 abbrev pub invariant-loop-record4 : goal.invariant-loop-record4

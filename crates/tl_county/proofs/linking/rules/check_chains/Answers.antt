@@ -1,4 +1,7 @@
-use Rattle.std.proofs.Common.{rules}
+use Rattle.tl_county.proofs.Common.{IsLeastPassing, List, None, Option, Record, RulesHold, Some, arith, four_tlid, is_repeated, is_unknown, map}
+use Rattle.tl_county.proofs.Common.{map-id, nat_cmp, ordered_of, rules, six_tlid, subst, two_tlid, ℕ, ◌∙◌, ◌≡◌}
+use Rattle.tl_county.proofs.Rules.{RuleOrders.first-after, RuleOrders.rule-broken, RuleOrders.rule-holds, RuleOrders.rules-join}
+use Rattle.tl_county.proofs.Rules.RuleTests.{rule_11, rule_12_four, rule_12_i, rule_12_six, rule_12_two}
 use Rattle.tl_county.proofs.Rules.TlidsInOrder.{tables_in_order}
 use Rattle.tl_county.proofs.linking.rules.check_chains.Goals as goal
 
@@ -16,3 +19,54 @@ least_unknown-requires-3 c = search (rules, tables_in_order)
 
 pub least_absent-requires : goal.least_absent-requires
 least_absent-requires c = search (rules, tables_in_order)
+
+-- the least TLID that occurs twice, and the least one of other records that the chains lack, or none
+abbrev Twice : List ℕ → Option ℕ → Type 0
+Twice tlids found = IsLeastPassing nat_cmp (is_repeated nat_cmp tlids) found
+
+abbrev Unknown : List ℕ → List ℕ → Option ℕ → Type 0
+Unknown tlids known found = IsLeastPassing nat_cmp (is_unknown nat_cmp tlids known) found
+
+-- a list that is searched is the records' TLIDs
+twice_in : (tlids known : List ℕ) (found : Option ℕ) → tlids ≡ known → Twice (map (λ k. k) tlids) found → Twice known found
+twice_in tlids known found e h = subst (λ ks. Twice ks found) (map-id tlids ∙ e) h
+
+unknown_in : {X : Type 0} (f : X → ℕ) (xs ys : List X) (tlids known : List ℕ) (found : Option ℕ) → xs ≡ ys → tlids ≡ known
+    → Unknown (map f xs) (map (λ k. k) tlids) found → Unknown (map f ys) known found
+unknown_in f xs ys tlids known found same e h =
+    subst (λ zs. Unknown (map f zs) known found) same (subst (λ ks. Unknown (map f xs) ks found) (map-id tlids ∙ e) h)
+
+absent_in : (linked others tlids known : List ℕ) (found : Option ℕ) → linked ≡ others → tlids ≡ known
+    → Unknown (map (λ k. k) linked) (map (λ k. k) tlids) found → Unknown others known found
+absent_in linked others tlids known found same e h =
+    subst (λ ks. Unknown ks known found) (map-id linked ∙ same) (subst (λ ks. Unknown (map (λ k. k) linked) ks found) (map-id tlids ∙ e) h)
+
+pub returns-in-Some-least_absent : goal.returns-in-Some-least_absent
+returns-in-Some-least_absent c records e =
+    let t = ordered_of c.args.tables.now in
+    let ones : RulesHold records 0 1 =
+    rule-holds (rule_11 records t e) (twice_in c.args.tlids.now _ None c.requires.tlids c.in_default.ensures) in
+    let twos : RulesHold records 1 2 =
+    rule-holds (rule_12_two records t e) (unknown_in two_tlid _ _ _ _ None c.deref.ensures.value c.requires.tlids c.in_default-least_unknown.ensures) in
+    let fours : RulesHold records 2 3 =
+    rule-holds (rule_12_four records t e) (unknown_in four_tlid _ _ _ _ None c.deref-2.ensures.value c.requires.tlids c.in_default-least_unknown-2.ensures) in
+    let sixes : RulesHold records 3 4 =
+    rule-holds (rule_12_six records t e) (unknown_in six_tlid _ _ _ _ None c.deref-3.ensures.value c.requires.tlids c.in_default-least_unknown-3.ensures) in
+    let before : RulesHold records 0 4 = rules-join records (rules-join records (rules-join records ones twos) fours) sixes in
+    first-after records (omega arith) before (rule-broken (rule_12_i records t e) c.in-Some-least_absent.tlid
+    (absent_in c.args.linked.now _ _ _ (Some c.in-Some-least_absent.tlid) c.requires.linked c.requires.tlids c.in-Some-least_absent.ensures))
+
+pub returns : goal.returns
+returns c records e =
+    let t = ordered_of c.args.tables.now in
+    let ones : RulesHold records 0 1 =
+    rule-holds (rule_11 records t e) (twice_in c.args.tlids.now _ None c.requires.tlids c.in_default.ensures) in
+    let twos : RulesHold records 1 2 =
+    rule-holds (rule_12_two records t e) (unknown_in two_tlid _ _ _ _ None c.deref.ensures.value c.requires.tlids c.in_default-least_unknown.ensures) in
+    let fours : RulesHold records 2 3 =
+    rule-holds (rule_12_four records t e) (unknown_in four_tlid _ _ _ _ None c.deref-2.ensures.value c.requires.tlids c.in_default-least_unknown-2.ensures) in
+    let sixes : RulesHold records 3 4 =
+    rule-holds (rule_12_six records t e) (unknown_in six_tlid _ _ _ _ None c.deref-3.ensures.value c.requires.tlids c.in_default-least_unknown-3.ensures) in
+    let links : RulesHold records 4 5 =
+    rule-holds (rule_12_i records t e) (absent_in c.args.linked.now _ _ _ None c.requires.linked c.requires.tlids c.in_default-least_absent.ensures) in
+    rules-join records (rules-join records (rules-join records (rules-join records ones twos) fours) sixes) links

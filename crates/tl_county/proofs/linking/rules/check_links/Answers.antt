@@ -1,5 +1,4 @@
-use Rattle.std.proofs.Common.{rules}
-use Rattle.tl_county.proofs.Rules.TlidsInOrder.{tables_in_order}
+use Rattle.tl_county.proofs.{Common.rules, Rules.TlidsInOrder.tables_in_order}
 use Rattle.tl_county.proofs.linking.rules.check_links.Goals as goal
 
 pub least_absent-requires : goal.least_absent-requires

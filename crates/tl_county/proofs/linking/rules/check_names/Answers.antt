@@ -1,7 +1,6 @@
-use Rattle.std.proofs.Common.{ℕ, List, map, flat_map, subst, nat_cmp, Option, Some, None, arith}
-use Rattle.tl_county.proofs.Common.{Fields4, Fields5, IsLeastPassing, RulesHold, five_feat, is_repeated, is_unnamed, ordered_of}
-use Rattle.tl_county.proofs.Common.{sequence_cmp, uses_of}
-use Rattle.tl_county.proofs.Rules.RuleOrders.{rule-holds, rule-broken, rules-join, first-after}
+use Rattle.tl_county.proofs.Common.{Fields4, Fields5, IsLeastPassing, List, None, Option, RulesHold, Some, arith, five_feat, flat_map}
+use Rattle.tl_county.proofs.Common.{is_repeated, is_unnamed, map, nat_cmp, ordered_of, sequence_cmp, subst, uses_of, ℕ}
+use Rattle.tl_county.proofs.Rules.RuleOrders.{first-after, rule-broken, rule-holds, rules-join}
 use Rattle.tl_county.proofs.Rules.RuleTests.{rule_16, rule_17}
 use Rattle.tl_county.proofs.linking.rules.check_names.Goals as goal
 

@@ -1,9 +1,8 @@
-use Rattle.std.proofs.Common.{rules, ℕ, List, map, refl, subst, Option, None, arith}
-use Rattle.tl_county.proofs.Common.{IsLeastPassing, Record, RulesHold, Typed, by_type, four_rtsq, four_tlid, is_repeated, sequence_cmp}
-use Rattle.tl_county.proofs.Common.{six_rtsq, six_tlid, two_rtsq, two_tlid}
-use Rattle.county_chart.specs.SequenceKeys.{two_sequence, four_sequence, six_sequence}
-use Rattle.tl_county.proofs.Rules.RuleOrders.{rule-holds, rule-broken, rules-join, first-after}
-use Rattle.tl_county.proofs.Rules.RuleTests.{least-repeat, no_repeat, rule_13_two, rule_13_four, rule_13_six}
+use Rattle.tl_county.proofs.Common.{IsLeastPassing, List, None, Option, Record, RulesHold, Typed, arith, by_type, four_rtsq, four_sequence}
+use Rattle.tl_county.proofs.Common.{four_tlid, is_repeated, map, refl, rules, sequence_cmp, six_rtsq, six_sequence, six_tlid, subst}
+use Rattle.tl_county.proofs.Common.{two_rtsq, two_sequence, two_tlid, ℕ}
+use Rattle.tl_county.proofs.Rules.RuleOrders.{first-after, rule-broken, rule-holds, rules-join}
+use Rattle.tl_county.proofs.Rules.RuleTests.{least-repeat, no_repeat, rule_13_four, rule_13_six, rule_13_two}
 use Rattle.tl_county.proofs.linking.rules.check_sequences.Goals as goal
 
 -- the least pair that occurs twice in a table, or none

@@ -1,8 +1,5 @@
-use Rattle.std.proofs.Common.{◌∙◌, not, nat_cmp, rules, subst, sym, tests}
-use Rattle.tl_county.proofs.Common.{IsLeastPassing, YieldsList-from_slice, is_unnamed, sequence_cmp, stands_in}
-use Rattle.std.proofs.lemmas.Iterator.Adapters.{option_map_id}
-use Rattle.std.proofs.lemmas.Iterator.Consumers.{YieldsList-from_copied}
-use Rattle.std.proofs.lemmas.Iterator.Search.{find_from_yields_List}
+use Rattle.tl_county.proofs.Common.{IsLeastPassing, YieldsList-from_copied, YieldsList-from_slice, find_from_yields_List, is_unnamed}
+use Rattle.tl_county.proofs.Common.{nat_cmp, not, option_map_id, rules, sequence_cmp, stands_in, subst, sym, tests, ◌∙◌}
 use Rattle.tl_county.proofs.Rules.RuleTests.{unnamed-found}
 use Rattle.tl_county.proofs.linking.rules.least_unnamed.Goals as goal
 

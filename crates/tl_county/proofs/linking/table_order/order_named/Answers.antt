@@ -1,8 +1,4 @@
-use Rattle.std.proofs.Common.{refl}
-use Rattle.tl_county.proofs.Common.{on_ok_weaker}
-use Rattle.std.specs.Option.{option_cmp}
-use Rattle.tl_shape.specs.PointOrder.{point_cmp}
-use Rattle.tl_county.proofs.Rules.GatheredLists.{landmarks-in_order}
+use Rattle.tl_county.proofs.{Common.on_ok_weaker, Common.option_cmp, Common.point_cmp, Common.refl, Rules.GatheredLists.landmarks-in_order}
 use Rattle.tl_county.proofs.linking.table_order.order_named.Goals as goal
 
 pub returns-clause-landmarks : goal.returns-clause-landmarks

@@ -1,7 +1,5 @@
-use Rattle.std.proofs.Common.{map, sym, subst}
-use Rattle.tl_county.proofs.Common.{IsLeastPassing, is_repeated, key_cmp, p_key}
-use Rattle.county_chart.specs.SequenceKeys.{sequence_cmp, two_sequence, four_sequence, six_sequence}
-use Rattle.tl_layout.specs.declared.tables.Tables.{Tables}
+use Rattle.tl_county.proofs.Common.{IsLeastPassing, Tables, four_sequence, is_repeated, key_cmp, map, p_key, sequence_cmp, six_sequence}
+use Rattle.tl_county.proofs.Common.{subst, sym, two_sequence}
 use Rattle.tl_county.proofs.linking.table_order.order_tables.Goals as goal
 
 pub returns-clause-repeated : goal.returns-clause-repeated

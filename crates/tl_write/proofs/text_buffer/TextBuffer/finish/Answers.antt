@@ -1,6 +1,5 @@
-use Rattle.std.proofs.Common.{◌≡◌, ◌++◌, ◌∙◌, ℕ, List, [], ap, subst, sym, length, append-nil}
-use Rattle.std.proofs.Common.{arith}
-use Rattle.std.proofs.lemmas.Result.{err_from_is_err_and}
+use Rattle.arranged_county.proofs.Common.{List, [], ap, append-nil, arith, length, subst, sym, ℕ, ◌++◌, ◌∙◌, ◌≡◌}
+use Rattle.record_groups.proofs.Common.{err_from_is_err_and}
 use Rattle.tl_write.specs.GoingOut.{IsGoingOut, Waiting, up_to_most}
 use Rattle.tl_write.proofs.text_buffer.TextBuffer.finish.Goals as goal
 

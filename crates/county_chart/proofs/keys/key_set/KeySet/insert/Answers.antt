@@ -1,5 +1,4 @@
-use Rattle.std.proofs.Common.{rules}
-use Rattle.county_chart.proofs.ByKey.KeySets.{inserted-distinct}
+use Rattle.county_chart.proofs.{ByKey.KeySets.inserted-distinct, Common.rules}
 use Rattle.county_chart.proofs.keys.key_set.KeySet.insert.Goals as goal
 
 pub returns-clause-inserted : goal.returns-clause-inserted

@@ -1,5 +1,4 @@
-use Rattle.std.proofs.Common.{rules}
-use Rattle.ordered_lists.proofs.Lists.EntryLists.{none-under, value-at_place}
+use Rattle.county_chart.proofs.Common.{none-under, rules, value-at_place}
 use Rattle.county_chart.proofs.stored.table.Table.get.Goals as goal
 
 pub returns-in-Some : goal.returns-in-Some
