@@ -1,2 +1,3 @@
 -- Lemmas on lists of any elements.
 pub mod ItemByItem
+pub mod Classes

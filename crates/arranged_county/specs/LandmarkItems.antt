@@ -1,19 +1,12 @@
 -- The links of landmarks with new numbers, and the order of landmarks.
-use Rattle.std.specs.Prelude.{ℕ, ◌≡◌, ◌<◌, List, filter_map, get_or, length, map, slice_get}
-use Rattle.std.specs.declared.cmp.Ordering.{Ordering}
-use Rattle.std.specs.declared.cmp.Ordering.TheVariants.{Equal}
-use Rattle.std.specs.Cmp.Lexicographic.{slice_cmp}
-use Rattle.std.specs.Ordering.{nat_cmp, ordering_then}
+use Rattle.std.specs.Prelude.{IsPermutation, List, filter_map, length, map, slice_get, ℕ, ◌≡◌}
+use Rattle.std.specs.{Cmp.Lexicographic.slice_cmp, Ordering.nat_cmp, Ordering.ordering_then, declared.cmp.Ordering.Ordering}
 use Rattle.tl_layout.specs.Fields.{Fields8}
-use Rattle.county_chart.specs.BodyOrder.{landmark_body_cmp, link_cmp, link_part, link_part_cmp}
-use Rattle.county_chart.specs.ChartWords.{bodies_at, links_with}
-use Rattle.county_chart.specs.County.{County, link_key}
-use Rattle.county_chart.specs.CountyRules.{lands}
-use Rattle.ordered_lists.specs.Orders.{in_order}
-use Rattle.county_chart.specs.PolygonKeys.{PolygonKey, key_cmp}
-use Rattle.ordered_lists.specs.Pairs.{image}
-use Rattle.canonical_form.specs.Arrangement.{under_cenid}
-use Rattle.canonical_form.specs.Growth.{numbered, up_to}
+use Rattle.county_chart.specs.{BodyOrder.link_cmp, BodyOrder.link_part, BodyOrder.link_part_cmp, ChartWords.links_with, County.County}
+use Rattle.county_chart.specs.{County.link_key, CountyRules.lands, PolygonKeys.PolygonKey, PolygonKeys.key_cmp}
+use Rattle.ordered_lists.specs.{Orders.IsInOrder, Orders.in_order, Pairs.image}
+use Rattle.canonical_form.specs.{Arrangement.under_cenid, Growth.numbered, Growth.up_to}
+use Rattle.arranged_county.specs.ContentItems.{classed_place, landmark_bodies_cmp}
 
 -- a link with its polygon and its landmark numbered by their positions in these lists, from 1
 abbrev pub link_under : List PolygonKey → List ℕ → Fields8 → Fields8
@@ -39,7 +32,7 @@ own_links links count place = links_with links (slice_get (up_to count) place)
 -- in the order of the bodies, the links, the places
 abbrev pub landmark_place_cmp : County → List Fields8 → ℕ → ℕ → ℕ → Ordering
 landmark_place_cmp county links count a b =
-    ordering_then (slice_cmp landmark_body_cmp (bodies_at county a) (bodies_at county b))
+    ordering_then (landmark_bodies_cmp county a b)
     (ordering_then (slice_cmp link_part_cmp (map link_part (own_links links count a)) (map link_part (own_links links count b)))
     (nat_cmp a b))
 
@@ -47,7 +40,16 @@ landmark_place_cmp county links count a b =
 abbrev pub place_cmp_under : County → List PolygonKey → ℕ → ℕ → Ordering
 place_cmp_under county polygons = landmark_place_cmp county (numbered_links county polygons (lands county)) (length county.landmarks)
 
--- each of these numbers is the place of a landmark with the same bodies as the landmark at the number's own place
-abbrev pub HaveSameBodies : County → List ℕ → Type 0
-HaveSameBodies county same = (place : ℕ) → place < length same
-    → slice_cmp landmark_body_cmp (bodies_at county place) (bodies_at county (get_or same place 0)) ≡ Equal
+-- in the order of the classes, the links, the places
+abbrev pub classed_landmark_cmp : List Fields8 → ℕ → ℕ × ℕ → ℕ × ℕ → Ordering
+classed_landmark_cmp links count a b =
+    ordering_then (nat_cmp a.0 b.0)
+    (ordering_then (slice_cmp link_part_cmp (map link_part (own_links links count a.1)) (map link_part (own_links links count b.1)))
+    (nat_cmp a.1 b.1))
+
+-- these are the places of landmarks in that order
+pub record AreSortedLandmarks (links : List Fields8) (count : ℕ) (classed : List (ℕ × ℕ)) (places : List ℕ) : Type 0 where
+  pub items : List (ℕ × ℕ)
+  pub all : IsPermutation classed items
+  pub in_order : IsInOrder (classed_landmark_cmp links count) items
+  pub places_of : places ≡ map classed_place items

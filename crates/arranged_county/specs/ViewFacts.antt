@@ -1,19 +1,13 @@
 -- Facts about the tables of a county in an arrangement.
-use Rattle.std.specs.Prelude.{◌≡◌, ◌<◌, ◌^◌, List, map, length}
-use Rattle.county_chart.specs.County.{County}
-use Rattle.county_chart.specs.CountyRules.{polygon_keys}
+use Rattle.std.specs.Prelude.{List, length, map, ◌<◌, ◌^◌, ◌≡◌}
+use Rattle.county_chart.specs.{County.County, CountyRules.polygon_keys, declared.directed_chain.DirectedChain.DirectedChain}
 use Rattle.ordered_lists.specs.Entries.{entry_keys, entry_values}
-use Rattle.canonical_form.specs.Arrangement.{nodes_in_order, polygons_in_order, names_in_order, landmarks_in_order}
-use Rattle.canonical_form.specs.EndsAndSides.{ends_of, sides_of}
-use Rattle.canonical_form.specs.ByNumber.{polygons_by_number, under_number}
-use Rattle.canonical_form.specs.Growth.{numbered}
-use Rattle.canonical_form.specs.DirectedChains.{arrangement_of}
+use Rattle.canonical_form.specs.Arrangement.{landmarks_in_order, names_in_order, nodes_in_order, polygons_in_order}
 use Rattle.canonical_form.specs.WholeArrangements.{AreReadAt, arranged_by, link_bounds}
-use Rattle.county_chart.specs.declared.directed_chain.DirectedChain.{DirectedChain}
-use Rattle.arranged_county.specs.declared.arranged_tables.LandmarkTables.{LandmarkTables}
-use Rattle.arranged_county.specs.declared.arranged_tables.NameTables.{NameTables}
-use Rattle.arranged_county.specs.declared.arranged_tables.NodeTables.{NodeTables}
-use Rattle.arranged_county.specs.declared.arranged_tables.PolygonTables.{PolygonTables}
+use Rattle.canonical_form.specs.{ByNumber.polygons_by_number, ByNumber.under_number, DirectedChains.arrangement_of, EndsAndSides.ends_of}
+use Rattle.canonical_form.specs.{EndsAndSides.sides_of, Growth.numbered}
+use Rattle.arranged_county.specs.{declared.arranged_tables.LandmarkTables.LandmarkTables, declared.arranged_tables.NameTables.NameTables}
+use Rattle.arranged_county.specs.{declared.arranged_tables.NodeTables.NodeTables, declared.arranged_tables.PolygonTables.PolygonTables}
 
 -- the nodes by first appearance, and the ends of each chain
 pub record MatchesNodes (county : County) (arrangement : List DirectedChain) (tables : NodeTables) : Type 0 where
@@ -40,3 +34,11 @@ pub record MatchesLandmarks (county : County) (arrangement : List DirectedChain)
   pub landmarks : AreReadAt county.landmarks tables.places.items (landmarks_in_order county (arrangement_of county arrangement))
   pub links : tables.links.items ≡ (arranged_by county arrangement).links
   pub bounds : tables.bounds.items ≡ link_bounds (arranged_by county arrangement).links (length tables.places.items)
+
+-- all tables
+pub record MatchTables (county : County) (arrangement : List DirectedChain)
+    (tables : NodeTables × PolygonTables × NameTables × LandmarkTables) : Type 0 where
+  pub nodes : MatchesNodes county arrangement tables.0
+  pub polygons : MatchesPolygons county arrangement tables.1
+  pub names : MatchesNames county arrangement tables.2
+  pub landmarks : MatchesLandmarks county arrangement tables.3

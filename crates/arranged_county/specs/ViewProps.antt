@@ -1,18 +1,13 @@
--- The facts about a county in an arrangement, and about its landmarks, have at most one proof each.
-use Rattle.std.specs.Prelude.{ℕ, List}
+-- The facts about a county in an arrangement, and about classes of contents, have at most one proof each.
+use Rattle.std.specs.{Prelude.List, Prelude.ℕ, declared.cmp.Ordering.Ordering}
 use Rattle.std.proofs.Props.{props}
-use Rattle.county_chart.specs.County.{County}
-use Rattle.county_chart.specs.CountyProps.{IsCounty-prop}
-use Rattle.county_chart.specs.CountyRules.{AllKeysStandIn, polygon_keys, polygons_along}
-use Rattle.county_chart.specs.LimitsProps.{IsWithinLimits-prop}
-use Rattle.arranged_county.specs.LandmarkItems.{HaveSameBodies}
-use Rattle.canonical_form.specs.WholeArrangements.{AreWhole}
-use Rattle.arranged_county.specs.ViewFacts.{MatchesNodes, MatchesPolygons, MatchesNames, MatchesLandmarks}
-use Rattle.county_chart.specs.declared.directed_chain.DirectedChain.{DirectedChain}
-use Rattle.arranged_county.specs.declared.arranged_tables.LandmarkTables.{LandmarkTables}
-use Rattle.arranged_county.specs.declared.arranged_tables.NameTables.{NameTables}
-use Rattle.arranged_county.specs.declared.arranged_tables.NodeTables.{NodeTables}
+use Rattle.county_chart.specs.{County.County, LimitsProps.IsWithinLimits-prop, declared.directed_chain.DirectedChain.DirectedChain}
+use Rattle.county_chart.specs.{CountyProps.IsCounty-prop, CountyRules.AllKeysStandIn, CountyRules.polygon_keys, CountyRules.polygons_along}
+use Rattle.arranged_county.specs.ViewFacts.{MatchesLandmarks, MatchesNames, MatchesNodes, MatchesPolygons}
+use Rattle.arranged_county.specs.{ContentItems.AreClasses, declared.arranged_tables.LandmarkTables.LandmarkTables}
+use Rattle.arranged_county.specs.{declared.arranged_tables.NameTables.NameTables, declared.arranged_tables.NodeTables.NodeTables}
 use Rattle.arranged_county.specs.declared.arranged_tables.PolygonTables.{PolygonTables}
+use Rattle.canonical_form.specs.WholeArrangements.{AreWhole}
 
 pub AreWhole-prop : (county : County) (arrangement : List DirectedChain) → IsProp (AreWhole county arrangement)
 AreWhole-prop county arrangement = hlevel (props, IsCounty-prop, IsWithinLimits-prop)
@@ -32,5 +27,5 @@ MatchesNames-prop county arrangement tables = hlevel props
 pub MatchesLandmarks-prop : (county : County) (arrangement : List DirectedChain) (tables : LandmarkTables) → IsProp (MatchesLandmarks county arrangement tables)
 MatchesLandmarks-prop county arrangement tables = hlevel props
 
-pub HaveSameBodies-prop : (county : County) (same : List ℕ) → IsProp (HaveSameBodies county same)
-HaveSameBodies-prop county same = hlevel props
+pub AreClasses-prop : (count : ℕ) (cmp : ℕ → ℕ → Ordering) (classed : List (ℕ × ℕ)) → IsProp (AreClasses count cmp classed)
+AreClasses-prop count cmp classed = hlevel props

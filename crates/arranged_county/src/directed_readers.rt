@@ -9,7 +9,7 @@ use county_chart::{Chart, DirectedChain};
 use tl_layout::NumberOrNone;
 
 /// The nodes at the start and the end of a directed chain. Its place is below the number of chains.
-pub fn ends_of_directed<C: Chart>(chart: &C, directed: DirectedChain) -> Ends
+pub(crate) fn ends_of_directed<C: Chart>(chart: &C, directed: DirectedChain) -> Ends
     requires { directed.place < length (C.county chart.now).chains }
     ensures { Some result ≡ option_map ends_of (directed_chain (C.county chart.now) directed) }
 {
@@ -24,7 +24,7 @@ pub fn ends_of_directed<C: Chart>(chart: &C, directed: DirectedChain) -> Ends
 }
 
 /// The left and the right side of a directed chain. Its place is below the number of chains.
-pub fn sides_of_directed<C: Chart>(chart: &C, directed: DirectedChain) -> Sides
+pub(crate) fn sides_of_directed<C: Chart>(chart: &C, directed: DirectedChain) -> Sides
     requires { directed.place < length (C.county chart.now).chains }
     ensures { Some result ≡ option_map sides_of (directed_chain (C.county chart.now) directed) }
 {

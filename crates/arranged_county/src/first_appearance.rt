@@ -4,14 +4,12 @@
 //! chain doesn't wait until another's number is found. They are stored with their new numbers, and no number is looked up
 //! again.
 
-ghost use Rattle.std.specs.Prelude.{◌≡◌, [], Some, IfOk, OnOk, flat_map, length, map, option_map};
+ghost use Rattle.std.specs.Prelude.{IfOk, OnOk, Some, [], flat_map, length, map, option_map, ◌≡◌};
 ghost use Rattle.ordered_lists.specs.Entries.{entry_values};
-ghost use Rattle.canonical_form.specs.Arrangement.{polygons_in_order};
 ghost use Rattle.canonical_form.specs.EndsAndSides.{changed_both, ends_of, keys_at, sides_of};
-ghost use Rattle.canonical_form.specs.Growth.{first_seen};
-ghost use Rattle.canonical_form.specs.DirectedChains.{HasChainsOf, arrangement_of};
+ghost use Rattle.canonical_form.specs.{Arrangement.polygons_in_order, DirectedChains.HasChainsOf, DirectedChains.arrangement_of};
+ghost use Rattle.canonical_form.specs.{Growth.first_seen, WholeArrangements.AreWhole, WholeArrangements.arranged_by};
 ghost use Rattle.county_chart.specs.DirectedChains.{directed_chain};
-ghost use Rattle.canonical_form.specs.WholeArrangements.{AreWhole, arranged_by};
 ghost use Rattle.arranged_county.specs.ViewFacts.{MatchesNodes};
 
 use crate::arranged_tables::{Ends, NodeTables, Sides};

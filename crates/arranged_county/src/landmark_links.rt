@@ -1,19 +1,16 @@
 //! The links of a county's landmarks with new numbers, in order, and the links of one landmark among them.
 
-ghost use Rattle.std.specs.List.{range_with_len};
-ghost use Rattle.std.specs.Ordering.{nat_cmp, on};
-ghost use Rattle.std.specs.Prelude.{◌≡◌, ◌++◌, ◌+◌, ◌-◌, ◌<◌, ◌^◌, IfOk, IsPermutation, OnOk, flat_map, length, map, slice_get};
-ghost use Rattle.county_chart.specs.BodyOrder.{link_cmp};
-ghost use Rattle.county_chart.specs.ChartWords.{links_at, links_with};
-ghost use Rattle.county_chart.specs.County.{eight_land};
+ghost use Rattle.std.specs.Prelude.{IfOk, IsPermutation, OnOk, flat_map, length, map, slice_get, ◌++◌, ◌+◌, ◌-◌, ◌<◌, ◌^◌, ◌≡◌};
+ghost use Rattle.std.specs.{List.range_with_len, Ordering.nat_cmp, Ordering.on};
+ghost use Rattle.county_chart.specs.{BodyOrder.link_cmp, ChartWords.links_at, ChartWords.links_with, County.eight_land};
 ghost use Rattle.ordered_lists.specs.Orders.{IsInOrder, in_order};
-ghost use Rattle.canonical_form.specs.Growth.{up_to};
+ghost use Rattle.canonical_form.specs.{Growth.up_to, WholeArrangements.link_bounds};
 ghost use Rattle.arranged_county.specs.LandmarkItems.{link_under};
-ghost use Rattle.canonical_form.specs.WholeArrangements.{link_bounds};
 
 use crate::numbers::Interner;
-use crate::renumbering::{PolygonNumbers, new_land};
-use county_chart::{Chart, put_in_order, split_group};
+use crate::renumbering::{new_key, new_land};
+use county_chart::{Chart, PolygonKey, are_in_order, put_in_order, split_group};
+use ordered_lists::bring_close;
 use std::alloc::{AllocError, Global};
 use tl_layout::Rec8;
 
@@ -22,32 +19,38 @@ type LinkKey = (u64, (u64, ([u8; 5], [u8; 5])));
 
 /// The new numbers of polygons, and the landmarks of a county in the order of their new numbers.
 #[derive(Drop)]
-struct NewOrder<'a, P: PolygonNumbers> {
-    polygons: &'a P,
+struct NewOrder<'a> {
+    polygons: &'a Interner<PolygonKey>,
     lands: &'a Interner<u64>,
-    ghost few_polygons: { length (P.in_order polygons.now) < 10 ^ 10 },
+    ghost few_polygons: { length polygons.now < 10 ^ 10 },
     ghost few_lands: { length lands.now < 10 ^ 10 },
 }
 
 /// A link with the new numbers of its polygon and its landmark.
-fn renumbered_link<P: PolygonNumbers>(order: &NewOrder<'_, P>, link: &Rec8) -> Rec8
-    ensures { result ≡ link_under (P.in_order order.now.polygons.now) order.now.lands.now link.now }
+fn renumbered_link(order: &NewOrder<'_>, link: &Rec8) -> Rec8
+    ensures { result ≡ link_under order.now.polygons.now order.now.lands.now link.now }
 {
     let cenid = link.cenid();
-    let key = order.polygons.key_of((cenid, link.polyid()));
+    let key = new_key(order.polygons, (cenid, link.polyid()));
     let land = new_land(order.lands, link.land());
     Rec8::new(link.file(), cenid, key.1, land)
 }
 
+/// A number that is in the order of links by LAND and POLYID, unless it overflows. POLYIDs are up to `polygons`.
+fn near_number(link: &Rec8, polygons: u64) -> u64 {
+    let lands = link.land().wrapping_mul(polygons.wrapping_add(1));
+    lands.wrapping_add(link.polyid())
+}
+
 /// Appends the links of the landmark at a place with their new numbers.
-fn push_links<C: Chart, P: PolygonNumbers>(
+fn push_links<C: Chart>(
     links: &mut Vec<Rec8>,
     chart: &C,
-    order: &NewOrder<'_, P>,
+    order: &NewOrder<'_>,
     place: usize,
 ) -> Result<(), AllocError>
     ensures { OnOk result (links.new.items
-        ≡ links.old.items ++ map (link_under (P.in_order order.now.polygons.now) order.now.lands.now) (links_at (C.county chart.now) place)) }
+        ≡ links.old.items ++ map (link_under order.now.polygons.now order.now.lands.now) (links_at (C.county chart.now) place)) }
 {
     let own = (0..chart.link_count_at(place)).filter_map(|link| chart.landmark_link_at(
         place, link,
@@ -56,13 +59,13 @@ fn push_links<C: Chart, P: PolygonNumbers>(
 }
 
 /// The links of the landmarks at places with their new numbers, landmark after landmark.
-fn gather_links<C: Chart, P: PolygonNumbers>(
+fn gather_links<C: Chart>(
     alloc: Global,
     chart: &C,
-    order: &NewOrder<'_, P>,
+    order: &NewOrder<'_>,
     places: &[u32],
 ) -> Result<Vec<Rec8>, AllocError>
-    ensures { IfOk result (λ links. links.items ≡ flat_map (λ place. map (link_under (P.in_order order.now.polygons.now) order.now.lands.now)
+    ensures { IfOk result (λ links. links.items ≡ flat_map (λ place. map (link_under order.now.polygons.now order.now.lands.now)
         (links_at (C.county chart.now) place)) places.now) }
 {
     let mut links = Vec::new(alloc);
@@ -72,22 +75,49 @@ fn gather_links<C: Chart, P: PolygonNumbers>(
     Ok(links)
 }
 
+/// Brings links close to the order of their LANDs and POLYIDs. POLYIDs are up to `polygons`.
+fn bring_close_by_land(
+    alloc: Global,
+    links: &mut Vec<Rec8>,
+    polygons: u64,
+) -> Result<(), AllocError>
+    ensures { IsPermutation links.old.items links.new.items }
+{
+    let numbers = links
+        .iter()
+        .map(|link| near_number(link, polygons))
+        .collect(alloc)?;
+    bring_close(links, numbers)
+}
+
+/// Puts links in order. POLYIDs are up to `polygons`. Links that aren't in order yet are first brought close to it.
+fn order_links(alloc: Global, links: &mut Vec<Rec8>, polygons: u64) -> Result<(), AllocError>
+    ensures permutation { IsPermutation links.old.items links.new.items }
+    ensures in_order { OnOk result (IsInOrder link_cmp links.new.items) }
+{
+    if are_in_order::<LinkKey, Rec8>(links) {
+        return Ok(());
+    }
+    bring_close_by_land(alloc, links, polygons)?;
+    put_in_order::<LinkKey, Rec8>(links)
+}
+
 /// The links of a county in order, with these numbers of their polygons, and with their landmarks numbered by their places in a table.
 /// They are gathered along `places`, all places of landmarks in any order. If it's the order of the table, there is little to sort.
-pub(crate) fn links_under<C: Chart, P: PolygonNumbers>(
+pub(crate) fn links_under<C: Chart>(
     alloc: Global,
     chart: &C,
-    polygons: &P,
+    polygons: &Interner<PolygonKey>,
     lands: &Interner<u64>,
     places: &[u32],
 ) -> Result<Vec<Rec8>, AllocError>
-    requires few_polygons { length (P.in_order polygons.now) < 10 ^ 10 }
+    requires few_polygons { length polygons.now < 10 ^ 10 }
     requires few_lands { length lands.now < 10 ^ 10 }
     requires all { IsPermutation (range_with_len 0 (length (C.county chart.now).landmarks)) places.now }
-    ensures { IfOk result (λ links. links.items ≡ in_order link_cmp (map (link_under (P.in_order polygons.now) lands.now) (C.county chart.now).links)) }
+    ensures { IfOk result (λ links. links.items ≡ in_order link_cmp (map (link_under polygons.now lands.now) (C.county chart.now).links)) }
 {
     let mut links = gather_links(alloc, chart, &NewOrder { polygons, lands }, places)?;
-    put_in_order::<LinkKey, Rec8>(&mut links)?;
+    order_links(alloc, &mut links, polygons.len() as u64)?;
     Ok(links)
 }
 

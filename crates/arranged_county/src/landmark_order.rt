@@ -1,25 +1,19 @@
 //! The landmarks of a county in their new order: by their bodies, and then by their links with the new numbers.
 
-ghost use Rattle.std.specs.Cmp.Lexicographic.{slice_cmp};
-ghost use Rattle.std.specs.List.{range_with_len};
-ghost use Rattle.std.specs.Ordering.{nat_cmp, on};
-ghost use Rattle.std.specs.Prelude.{◌≡◌, ◌<◌, ◌^◌, ◌-◌, IfOk, IsPermutation, false, length, map};
-ghost use Rattle.county_chart.specs.BodyOrder.{link_part, link_part_cmp};
-ghost use Rattle.county_chart.specs.County.{eight_land};
-ghost use Rattle.county_chart.specs.CountyProps.{IsInOrder-prop};
+ghost use Rattle.std.specs.Prelude.{IfOk, IsPermutation, false, length, map, ◌-◌, ◌<◌, ◌^◌, ◌≡◌};
+ghost use Rattle.std.specs.{Cmp.Lexicographic.slice_cmp, List.range_with_len, Ordering.nat_cmp, Ordering.on};
+ghost use Rattle.county_chart.specs.{BodyOrder.link_part, BodyOrder.link_part_cmp, County.eight_land, CountyProps.IsInOrder-prop};
 ghost use Rattle.ordered_lists.specs.Orders.{IsInOrder, has_repeat};
-ghost use Rattle.canonical_form.specs.Arrangement.{polygons_in_order};
-ghost use Rattle.arranged_county.specs.LandmarkItems.{HaveSameBodies, landmark_place_cmp, lands_at, numbered_links, place_cmp_under};
-ghost use Rattle.canonical_form.specs.DirectedChains.{arrangement_of};
 ghost use Rattle.canonical_form.specs.WholeArrangements.{AreWhole, link_bounds};
-ghost use Rattle.arranged_county.specs.ViewFacts.{MatchesLandmarks};
+ghost use Rattle.canonical_form.specs.{Arrangement.polygons_in_order, DirectedChains.arrangement_of};
+ghost use Rattle.arranged_county.specs.LandmarkItems.{AreSortedLandmarks, classed_landmark_cmp, lands_at, numbered_links, place_cmp_under};
+ghost use Rattle.arranged_county.specs.{ContentItems.classed_place, ViewFacts.MatchesLandmarks, Views.classed_county};
 
 use crate::arranged_tables::LandmarkTables;
-use crate::landmark_bodies::{KnownBodies, all_places, cmp_known_bodies};
+use crate::content_classes::{ClassedPlace, Classes};
 use crate::landmark_links::{bounds_of, links_of_landmark, links_under};
 use crate::numbers::Interner;
-use crate::renumbering::PolygonNumbers;
-use county_chart::{Chart, DirectedChain};
+use county_chart::{Chart, DirectedChain, PolygonKey};
 use std::alloc::{AllocError, Global};
 use std::cmp::Ordering;
 use tl_layout::Rec8;
@@ -54,26 +48,21 @@ struct LinkLists<'a> {
     ghost bounded: { bounds.now ≡ link_bounds links.now (length bounds.now - 1) },
 }
 
-/// Compares the landmarks at two places: by their bodies, their links, their places.
-fn cmp_landmarks<C: Chart>(
-    known: &KnownBodies<'_, C>,
-    lists: &LinkLists<'_>,
-    a: u32,
-    b: u32,
-) -> Ordering
-    ensures { result ≡ landmark_place_cmp (C.county known.now.chart.now) lists.now.links.now (length lists.now.bounds.now - 1) a b }
+/// Compares two landmarks: by their classes, their links, their places.
+fn cmp_landmarks(lists: &LinkLists<'_>, a: ClassedPlace, b: ClassedPlace) -> Ordering
+    ensures { result ≡ classed_landmark_cmp lists.now.links.now (length lists.now.bounds.now - 1) a b }
 {
-    let bodies = cmp_known_bodies(known, a as usize, b as usize);
-    if bodies.is_ne() {
-        return bodies;
+    let classes = a.0.cmp(&b.0);
+    if classes.is_ne() {
+        return classes;
     }
-    let own = links_of_landmark(lists.links, lists.bounds, a as usize);
-    let others = links_of_landmark(lists.links, lists.bounds, b as usize);
+    let own = links_of_landmark(lists.links, lists.bounds, a.1 as usize);
+    let others = links_of_landmark(lists.links, lists.bounds, b.1 as usize);
     let links = cmp_links(own, others);
     if links.is_ne() {
         return links;
     }
-    a.cmp(&b)
+    a.1.cmp(&b.1)
 }
 
 /// The LANDs at places, one after another.
@@ -104,34 +93,47 @@ fn number_lands<C: Chart>(
     Ok(numbers)
 }
 
-/// Sorts the places of the landmarks of a county into their new order.
-fn sort_places<C: Chart>(
+/// The places of landmarks, one after another.
+fn places_of(alloc: Global, landmarks: &[ClassedPlace]) -> Result<Vec<u32>, AllocError>
+    ensures { IfOk result (λ places. places.items ≡ map classed_place landmarks.now) }
+{
+    landmarks.iter().map(|landmark| landmark.1).collect(alloc)
+}
+
+/// The places of landmarks, given their classes and their places, in their new order.
+fn sorted_places(
     alloc: Global,
-    known: &KnownBodies<'_, C>,
+    landmarks: &[ClassedPlace],
     lists: &LinkLists<'_>,
 ) -> Result<Vec<u32>, AllocError>
-    requires { length (C.county known.now.chart.now).landmarks < 2 ^ 32 }
-    ensures permutation { IfOk result (λ places. IsPermutation (range_with_len 0 (length (C.county known.now.chart.now).landmarks)) places.items) }
-    ensures in_order { IfOk result (λ places. IsInOrder (landmark_place_cmp (C.county known.now.chart.now) lists.now.links.now (length lists.now.bounds.now - 1)) places.items) }
+    ensures { IfOk result (λ places. AreSortedLandmarks lists.now.links.now (length lists.now.bounds.now - 1) landmarks.now places.items) }
 {
-    let mut places = all_places(alloc, known.chart)?;
-    places.sort_unstable_by(|a, b| cmp_landmarks(known, lists, *a, *b));
-    Ok(places)
+    let mut sorted = Vec::from_slice(alloc, landmarks)?;
+    sorted.sort_unstable_by(|a, b| cmp_landmarks(lists, *a, *b));
+    places_of(alloc, &sorted)
+}
+
+/// The places of the landmarks of a county, ascending.
+fn all_places<C: Chart>(alloc: Global, chart: &C) -> Result<Vec<u32>, AllocError>
+    requires { length (C.county chart.now).landmarks < 2 ^ 32 }
+    ensures { IfOk result (λ places. places.items ≡ range_with_len 0 (length (C.county chart.now).landmarks)) }
+{
+    (0..chart.landmark_count() as u32).collect(alloc)
 }
 
 /// The links of a county with its landmarks in the order of these places, and how many have a LAND up to each of 0, 1, 2, ..
-fn links_by_land<C: Chart, P: PolygonNumbers>(
+fn links_by_land<C: Chart>(
     alloc: Global,
     chart: &C,
-    polygons: &P,
+    polygons: &Interner<PolygonKey>,
     places: &[u32],
 ) -> Result<(Vec<Rec8>, Vec<usize>), AllocError>
-    requires few_polygons { length (P.in_order polygons.now) < 10 ^ 10 }
+    requires few_polygons { length polygons.now < 10 ^ 10 }
     requires few_places { length places.now < 2 ^ 32 }
     requires once { has_repeat nat_cmp (lands_at (C.county chart.now) places.now) ≡ false }
     requires all { IsPermutation (range_with_len 0 (length (C.county chart.now).landmarks)) places.now }
     ensures links { IfOk result
-        (λ lists. lists.0.items ≡ numbered_links (C.county chart.now) (P.in_order polygons.now) (lands_at (C.county chart.now) places.now)) }
+        (λ lists. lists.0.items ≡ numbered_links (C.county chart.now) polygons.now (lands_at (C.county chart.now) places.now)) }
     ensures bounds { IfOk result (λ lists. lists.1.items ≡ link_bounds lists.0.items (length places.now)) }
 {
     let lands = number_lands(alloc, chart, places)?;
@@ -143,51 +145,41 @@ fn links_by_land<C: Chart, P: PolygonNumbers>(
     Ok((links, bounds))
 }
 
-/// The places of the landmarks of a county in their new order, with these numbers of its polygons. `same` are the places of landmarks with
-/// the same bodies as the first ones, as far as these are known.
-fn places_in_order<C: Chart, P: PolygonNumbers>(
+/// The places of the landmarks of a county in their new order, with these numbers of its polygons.
+fn places_in_order<C: Chart>(
     alloc: Global,
-    chart: &C,
-    polygons: &P,
-    same: &[u32],
+    classes: &Classes<'_, C>,
+    polygons: &Interner<PolygonKey>,
 ) -> Result<Vec<u32>, AllocError>
-    requires few_polygons { length (P.in_order polygons.now) < 10 ^ 10 }
-    requires same { HaveSameBodies (C.county chart.now) same.now }
-    requires few { length (C.county chart.now).landmarks < 2 ^ 32 }
-    ensures permutation { IfOk result (λ places. IsPermutation (range_with_len 0 (length (C.county chart.now).landmarks)) places.items) }
-    ensures in_order { IfOk result (λ places. IsInOrder (place_cmp_under (C.county chart.now) (P.in_order polygons.now)) places.items) }
+    requires few_polygons { length polygons.now < 10 ^ 10 }
+    requires few { length (classed_county classes.now).landmarks < 2 ^ 32 }
+    ensures permutation { IfOk result (λ places. IsPermutation (range_with_len 0 (length (classed_county classes.now).landmarks)) places.items) }
+    ensures in_order { IfOk result (λ places. IsInOrder (place_cmp_under (classed_county classes.now) polygons.now) places.items) }
 {
-    let unordered = all_places(alloc, chart)?;
-    let (links, bounds) = links_by_land(alloc, chart, polygons, &unordered)?;
+    let unordered = all_places(alloc, classes.chart)?;
+    let (links, bounds) = links_by_land(alloc, classes.chart, polygons, &unordered)?;
     let lists = LinkLists {
         links: links.as_slice(),
         bounds: bounds.as_slice(),
     };
-    sort_places(alloc, &KnownBodies { chart, same }, &lists)
+    sorted_places(alloc, &classes.landmarks, &lists)
 }
 
-/// The landmarks of a county in this arrangement, which numbers its polygons in this way. `same` are the places of landmarks with the same
-/// bodies as the first ones, as far as these are known.
-///
-/// # Errors
-///
-/// `AllocError` if an allocation failed.
-pub fn arrange_landmarks<C: Chart, P: PolygonNumbers>(
+/// The landmarks of a county in this arrangement, which numbers its polygons in this way.
+pub(crate) fn arrange_landmarks<C: Chart>(
     alloc: Global,
-    chart: &C,
+    classes: &Classes<'_, C>,
     arrangement: &[DirectedChain],
-    polygons: &P,
-    same: &[u32],
+    polygons: &Interner<PolygonKey>,
 ) -> Result<LandmarkTables, AllocError>
-    requires whole { AreWhole (C.county chart.now) arrangement.now }
-    requires polygons { P.in_order polygons.now ≡ polygons_in_order (C.county chart.now) (arrangement_of (C.county chart.now) arrangement.now) }
-    requires few_polygons { length (P.in_order polygons.now) < 10 ^ 10 }
-    requires same { HaveSameBodies (C.county chart.now) same.now }
-    requires few { length (C.county chart.now).landmarks < 2 ^ 32 }
-    ensures { IfOk result (MatchesLandmarks (C.county chart.now) arrangement.now) }
+    requires whole { AreWhole (classed_county classes.now) arrangement.now }
+    requires polygons { polygons.now ≡ polygons_in_order (classed_county classes.now) (arrangement_of (classed_county classes.now) arrangement.now) }
+    requires few_polygons { length polygons.now < 10 ^ 10 }
+    requires few { length (classed_county classes.now).landmarks < 2 ^ 32 }
+    ensures { IfOk result (MatchesLandmarks (classed_county classes.now) arrangement.now) }
 {
-    let places = places_in_order(alloc, chart, polygons, same)?;
-    let (links, bounds) = links_by_land(alloc, chart, polygons, &places)?;
+    let places = places_in_order(alloc, classes, polygons)?;
+    let (links, bounds) = links_by_land(alloc, classes.chart, polygons, &places)?;
     Ok(LandmarkTables {
         places,
         links,

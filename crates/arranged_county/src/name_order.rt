@@ -1,68 +1,28 @@
 //! The names of a county in their new order: by their 43 bytes, and then by where chains first use them.
 //!
 //! Each use belongs to one name. If two names have the same content, the one that chains use first comes first, and one that no
-//! chain uses comes before both. A rank for each name is therefore enough, and no list of uses is made.
+//! chain uses comes before both. A rank for each name is therefore enough, and no list of uses is made. Names with the same content are in
+//! one class, so ordering names compares only numbers.
 
-ghost use Rattle.std.specs.List.{range_with_len};
-ghost use Rattle.std.specs.Option.{option_cmp};
 ghost use Rattle.std.specs.Ordering.{nat_cmp};
-ghost use Rattle.std.specs.Prelude.{◌≡◌, ◌<◌, ◌^◌, IfOk, false, filter_map, length, map, slice_get};
-ghost use Rattle.county_chart.specs.BodyOrder.{name_body_cmp};
+ghost use Rattle.std.specs.Prelude.{IfOk, IsPermutation, false, filter_map, length, map, slice_get, ◌<◌, ◌^◌, ◌≡◌};
 ghost use Rattle.county_chart.specs.CountyRules.{feats};
 ghost use Rattle.ordered_lists.specs.Orders.{has_repeat};
-ghost use Rattle.canonical_form.specs.Arrangement.{names_in_order};
-ghost use Rattle.canonical_form.specs.Growth.{first_seen};
-ghost use Rattle.arranged_county.specs.NameItems.{AreSortedNames, feats_along_arrangement, rank_of, ranked_at, ranked_cmp, ranked_place};
-ghost use Rattle.canonical_form.specs.DirectedChains.{arrangement_of};
 ghost use Rattle.canonical_form.specs.WholeArrangements.{AreReadAt, AreWhole};
-ghost use Rattle.arranged_county.specs.ViewFacts.{MatchesNames};
+ghost use Rattle.canonical_form.specs.{Arrangement.names_in_order, DirectedChains.arrangement_of, Growth.first_seen};
+ghost use Rattle.arranged_county.specs.NameItems.{AreSortedNames, feats_along_arrangement, name_key_at, rank_of};
+ghost use Rattle.arranged_county.specs.{ViewFacts.MatchesNames, Views.classed_county};
 
 use crate::arranged_tables::NameTables;
+use crate::content_classes::{ClassedPlace, Classes};
 use crate::numbers::{Interner, marks_for};
 use county_chart::{Chart, DirectedChain};
+use ordered_lists::{bring_close, sort_keys};
 use std::alloc::{AllocError, Global};
-use std::cmp::Ordering;
-use tl_layout::Body5;
 
-/// A name, given by its place, with the rank of its first use.
-#[derive(Clone, Copy)]
-pub struct RankedName {
-    /// The number of the name by its first use along the chains, counted from 1, or 0 if no chain uses it.
-    pub rank: usize,
-    /// Its place in the ascending list of FEATs, counted from 0.
-    pub place: u32,
-}
-
-/// The 43 bytes of a name, field by field: FILE, FEDIRP, FENAME, FETYPE, FEDIRS.
-type NameBytes = ([u8; 5], ([u8; 2], ([u8; 30], ([u8; 4], [u8; 2]))));
-
-/// The fields of a name in the order of comparison.
-fn bytes_of(body: &Body5) -> NameBytes
-    ensures { result ≡ (body.now.file, (body.now.name.fedirp, (body.now.name.fename, (body.now.name.fetype, body.now.name.fedirs)))) }
-{
-    let file = body.file();
-    let fedirp = body.fedirp();
-    let fename = body.fename();
-    let fetype = body.fetype();
-    let fedirs = body.fedirs();
-    (file, (fedirp, (fename, (fetype, fedirs))))
-}
-
-/// Compares two names by their bytes; a missing one comes first.
-fn cmp_bodies(a: Option<Body5>, b: Option<Body5>) -> Ordering
-    ensures { result ≡ option_cmp name_body_cmp a b }
-{
-    match a {
-        Some(a) => match b {
-            Some(b) => bytes_of(&a).cmp(&bytes_of(&b)),
-            None => Ordering::Greater,
-        },
-        None => match b {
-            Some(_) => Ordering::Less,
-            None => Ordering::Equal,
-        },
-    }
-}
+/// What orders names: the class, the number by first use, counted from 1, or 0 if no chain uses the name, and the place in the ascending list
+/// of FEATs, counted from 0.
+type NameKey = (u32, (u64, u32));
 
 /// The FEATs that chains list, in the order of their first appearance along these directed chains.
 fn number_uses<C: Chart>(
@@ -94,53 +54,64 @@ fn rank(uses: &Interner<u32>, feat: Option<u32>) -> usize
     }
 }
 
-/// The name at a place with its rank by its first use, counted from 1, or 0 without a use.
-pub fn ranked_name<C: Chart>(chart: &C, uses: &Interner<u32>, place: u32) -> RankedName
-    ensures { result ≡ ranked_at (C.county chart.now) uses.now place }
+/// The key of a name, given its class and its place.
+fn name_key<C: Chart>(chart: &C, uses: &Interner<u32>, classed: ClassedPlace) -> NameKey
+    ensures { result ≡ name_key_at (C.county chart.now) uses.now classed }
 {
-    RankedName {
-        rank: rank(uses, chart.feat_at(place as usize)),
-        place,
-    }
+    let (class, place) = classed;
+    (
+        class,
+        (rank(uses, chart.feat_at(place as usize)) as u64, place),
+    )
 }
 
-/// The names of a county with their ranks, in the order of their places.
-fn ranked_names<C: Chart>(
+/// The keys of names, given their classes and their places.
+fn name_keys<C: Chart>(
     alloc: Global,
     chart: &C,
     uses: &Interner<u32>,
-) -> Result<Vec<RankedName>, AllocError>
-    requires { length (C.county chart.now).names < 2 ^ 32 }
-    ensures { IfOk result (λ names. names.items ≡ map (ranked_at (C.county chart.now) uses.now) (range_with_len 0 (length (C.county chart.now).names))) }
+    classed: &[ClassedPlace],
+) -> Result<Vec<NameKey>, AllocError>
+    ensures { IfOk result (λ keys. keys.items ≡ map (name_key_at (C.county chart.now) uses.now) classed.now) }
 {
-    (0..chart.name_count() as u32)
-        .map(|place| ranked_name(chart, uses, place))
+    classed
+        .iter()
+        .map(|name| name_key(chart, uses, *name))
         .collect(alloc)
 }
 
-/// Compares two names: by their bytes, their ranks, their places.
-fn cmp_names<C: Chart>(chart: &C, a: &RankedName, b: &RankedName) -> Ordering
-    ensures { result ≡ ranked_cmp (C.county chart.now) a.now b.now }
+/// A number that is in the order of the keys of names, unless it overflows. Ranks are less than `ranks`.
+fn near_number(key: NameKey, ranks: u64) -> u64 {
+    let (class, (rank, _)) = key;
+    u64::from(class).wrapping_mul(ranks).wrapping_add(rank)
+}
+
+/// Brings keys of names close to their order. Ranks are less than `ranks`.
+fn bring_close_by_rank(alloc: Global, keys: &mut Vec<NameKey>, ranks: u64) -> Result<(), AllocError>
+    ensures { IsPermutation keys.old.items keys.new.items }
 {
-    let bodies = cmp_bodies(
-        chart.name_body_at(a.place as usize),
-        chart.name_body_at(b.place as usize),
-    );
-    if bodies.is_ne() {
-        return bodies;
-    }
-    let ranks = a.rank.cmp(&b.rank);
-    if ranks.is_ne() {
-        return ranks;
-    }
-    a.place.cmp(&b.place)
+    let numbers = keys
+        .iter()
+        .map(|key| near_number(*key, ranks))
+        .collect(alloc)?;
+    bring_close(keys, numbers)
 }
 
 /// The places of names, one after another.
-fn places_of(alloc: Global, names: &[RankedName]) -> Result<Vec<u32>, AllocError>
-    ensures { IfOk result (λ places. places.items ≡ map ranked_place names.now) }
+fn places_of(alloc: Global, keys: &[NameKey]) -> Result<Vec<u32>, AllocError>
+    ensures { IfOk result (λ places. places.items ≡ map (λ key. key.1.1) keys.now) }
 {
-    names.iter().map(|name| name.place).collect(alloc)
+    keys.iter().map(|key| key.1.1).collect(alloc)
+}
+
+/// The places of names in the order of their keys. Ranks are less than `ranks`.
+fn sorted_places(alloc: Global, keys: Vec<NameKey>, ranks: u64) -> Result<Vec<u32>, AllocError>
+    ensures { IfOk result (λ places. AreSortedNames keys.items places.items) }
+{
+    let mut keys = keys;
+    bring_close_by_rank(alloc, &mut keys, ranks)?;
+    sort_keys::<NameKey>(&mut keys);
+    places_of(alloc, &keys)
 }
 
 /// The FEATs at places, one after another.
@@ -154,11 +125,7 @@ fn feats_there<C: Chart>(alloc: Global, chart: &C, places: &[u32]) -> Result<Vec
 }
 
 /// The FEATs at places, numbered in this order. No FEAT is at two of the places.
-///
-/// # Errors
-///
-/// `AllocError` if an allocation failed.
-pub fn number_feats<C: Chart>(
+fn number_feats<C: Chart>(
     alloc: Global,
     chart: &C,
     places: &[u32],
@@ -171,54 +138,34 @@ pub fn number_feats<C: Chart>(
     Ok(numbers)
 }
 
-/// The places of ranked names in their order: by content, by rank, and then by place.
-///
-/// # Errors
-///
-/// `AllocError` if an allocation failed.
-pub fn sorted_places<C: Chart>(
-    alloc: Global,
-    chart: &C,
-    names: Vec<RankedName>,
-) -> Result<Vec<u32>, AllocError>
-    ensures { IfOk result (λ places. AreSortedNames (C.county chart.now) names.items places.items) }
-{
-    let mut names = names;
-    names.sort_unstable_by(|a, b| cmp_names(chart, a, b));
-    places_of(alloc, &names)
-}
-
-/// Sorts the places of the names of a county into their new order.
+/// The places of the names of a county in their new order.
 fn places_in_order<C: Chart>(
     alloc: Global,
-    chart: &C,
+    classes: &Classes<'_, C>,
     arrangement: &[DirectedChain],
 ) -> Result<Vec<u32>, AllocError>
-    requires whole { AreWhole (C.county chart.now) arrangement.now }
-    requires few { length (C.county chart.now).names < 2 ^ 32 }
-    ensures { IfOk result (λ places. AreReadAt (C.county chart.now).names places.items
-        (names_in_order (C.county chart.now) (arrangement_of (C.county chart.now) arrangement.now))) }
+    requires { AreWhole (classed_county classes.now) arrangement.now }
+    ensures { IfOk result (λ places. AreReadAt (classed_county classes.now).names places.items
+        (names_in_order (classed_county classes.now) (arrangement_of (classed_county classes.now) arrangement.now))) }
 {
+    let chart = classes.chart;
     let uses = number_uses(alloc, chart, arrangement)?;
-    let names = ranked_names(alloc, chart, &uses)?;
-    sorted_places(alloc, chart, names)
+    let keys = name_keys(alloc, chart, &uses, &classes.names)?;
+    let ranks = uses.len() as u64 + 1;
+    sorted_places(alloc, keys, ranks)
 }
 
 /// The names of a county in this arrangement. There are fewer than 2^32.
-///
-/// # Errors
-///
-/// `AllocError` if an allocation failed.
-pub fn arrange_names<C: Chart>(
+pub(crate) fn arrange_names<C: Chart>(
     alloc: Global,
-    chart: &C,
+    classes: &Classes<'_, C>,
     arrangement: &[DirectedChain],
 ) -> Result<NameTables, AllocError>
-    requires whole { AreWhole (C.county chart.now) arrangement.now }
-    requires few { length (C.county chart.now).names < 2 ^ 32 }
-    ensures { IfOk result (MatchesNames (C.county chart.now) arrangement.now) }
+    requires whole { AreWhole (classed_county classes.now) arrangement.now }
+    requires few { length (classed_county classes.now).names < 2 ^ 32 }
+    ensures { IfOk result (MatchesNames (classed_county classes.now) arrangement.now) }
 {
-    let places = places_in_order(alloc, chart, arrangement)?;
-    let feats = number_feats(alloc, chart, &places)?;
+    let places = places_in_order(alloc, classes, arrangement)?;
+    let feats = number_feats(alloc, classes.chart, &places)?;
     Ok(NameTables { feats, places })
 }

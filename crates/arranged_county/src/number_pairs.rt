@@ -1,13 +1,12 @@
 //! The renaming that carries a county onto its arrangement.
 
-ghost use Rattle.std.specs.Prelude.{◌≡◌, ◌<◌, ◌^◌, ℕ, List, IfOk, length, map};
+ghost use Rattle.std.specs.Prelude.{IfOk, List, length, map, ℕ, ◌<◌, ◌^◌, ◌≡◌};
 ghost use Rattle.ordered_lists.specs.Entries.{entry_keys};
 ghost use Rattle.county_chart.specs.Renumbering.{Carries};
 ghost use Rattle.tl_layout.specs.declared.type7.Body7.{Body7};
 ghost use Rattle.canonical_form.specs.Arrangement.{arranged_tlids, renaming_of, turned_tlids, under_cenid};
-ghost use Rattle.canonical_form.specs.Growth.{numbered};
 ghost use Rattle.canonical_form.specs.DirectedChains.{HasChainsOf, arrangement_of};
-ghost use Rattle.canonical_form.specs.WholeArrangements.{AreReadAt};
+ghost use Rattle.canonical_form.specs.{Growth.numbered, WholeArrangements.AreReadAt};
 ghost use Rattle.arranged_county.specs.Views.{arranged_county, arrangement_in, source_of};
 
 use crate::arranged::{Arranged, Evidence};

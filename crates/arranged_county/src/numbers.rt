@@ -6,9 +6,9 @@
 
 ghost use Rattle.indexmap.specs.IndexMap.{get as found_by_hash};
 ghost use Rattle.std.specs.BTreeMap.{get as found_in_order};
-ghost use Rattle.std.specs.List.{position};
-ghost use Rattle.std.specs.Ordering.{is_eq};
-ghost use Rattle.std.specs.Prelude.{◌≡◌, ◌∷◌, [], ◌++◌, ◌+◌, ◌%◌, ◌<◌, ◌^◌, ◌↔◌, ℕ, false, length, is_some, IfSome, Some, IfOk, IsTrue, OnOk, OnErr, slice_get, slice_index};
+ghost use Rattle.std.specs.Prelude.{IfOk, IfSome, IsTrue, OnErr, OnOk, Some, [], false, is_some, length, slice_get, slice_index, ℕ, ◌%◌};
+ghost use Rattle.std.specs.Prelude.{◌++◌, ◌+◌, ◌<◌, ◌^◌, ◌↔◌, ◌∷◌, ◌≡◌};
+ghost use Rattle.std.specs.{List.position, Ordering.is_eq};
 ghost use Rattle.ordered_lists.specs.Orders.{has_repeat, stands_in};
 ghost use Rattle.canonical_form.specs.Growth.{first_seen_after};
 ghost use Rattle.arranged_county.specs.PlacedKeys.{AreApart, ArePlaced, found_by_either};
@@ -27,12 +27,22 @@ const MOST_KEYS: usize = isize::MAX as usize;
 /// How many slots there are for each item that may have a key: numbers that run on are hardly more than the items.
 const MARKS_AN_ITEM: usize = 2;
 
+/// The same if there are few items. These may be numbered many times, and then fewer keys share a slot, even if the numbers are spread.
+const MARKS_OF_FEW: usize = 8;
+
+/// Fewer items than these are few.
+const MANY_ITEMS: usize = 1 << 13;
+
 /// The most items that slots are counted for.
 const MOST_ITEMS: usize = 1 << 40;
 
 /// The number of slots for marks for this many items.
 pub fn marks_for(items: usize) -> usize {
-    MARKS_AN_ITEM * items.min(MOST_ITEMS)
+    if items < MANY_ITEMS {
+        MARKS_OF_FEW * items
+    } else {
+        MARKS_AN_ITEM * items.min(MOST_ITEMS)
+    }
 }
 
 /// A key with a number that finds it in a table. Other keys may have the same number.

@@ -1,38 +1,14 @@
 //! New numbers for old ones, by first appearance. A number that wasn't seen stays the same.
 
 ghost use Rattle.std.specs.Ordering.{nat_cmp};
-ghost use Rattle.std.specs.Prelude.{◌≡◌, ◌<◌, ◌^◌, length, map};
+ghost use Rattle.std.specs.Prelude.{length, map, ◌<◌, ◌^◌, ◌≡◌};
 ghost use Rattle.county_chart.specs.PolygonKeys.{key_cmp};
 ghost use Rattle.ordered_lists.specs.Pairs.{image};
 ghost use Rattle.tl_layout.specs.Numbers.{IsNumber};
-ghost use Rattle.canonical_form.specs.Arrangement.{under_cenid};
-ghost use Rattle.canonical_form.specs.Growth.{numbered};
+ghost use Rattle.canonical_form.specs.{Arrangement.under_cenid, Growth.numbered};
 
 use crate::numbers::Interner;
 use county_chart::PolygonKey;
-
-/// New numbers of polygons.
-pub trait PolygonNumbers {
-    ghost use Rattle.std.specs.Prelude.{ℕ, List};
-
-    /// The polygons in the order of their new numbers.
-    ghost in_order: { Self → List (List ℕ × ℕ) };
-
-    /// The new key of a polygon: its CENID with its new POLYID.
-    fn key_of(&self, key: PolygonKey) -> PolygonKey
-        ensures image { result ≡ image key_cmp (map under_cenid (numbered (in_order self.now))) key }
-        ensures cenid { result.0 ≡ key.0 }
-        ensures in_range { IsNumber 10 key.1 → length (in_order self.now) < 10 ^ 10 → IsNumber 10 result.1 };
-}
-
-/// Polygons are numbered by first appearance.
-impl PolygonNumbers for Interner<PolygonKey> {
-    ghost in_order = { λ numbers. numbers };
-
-    fn key_of(&self, key: PolygonKey) -> PolygonKey {
-        new_key(self, key)
-    }
-}
 
 /// The new LAND of a landmark.
 pub(crate) fn new_land(lands: &Interner<u64>, land: u64) -> u64
@@ -57,7 +33,7 @@ pub(crate) fn new_feat(feats: &Interner<u32>, feat: u32) -> u32
 }
 
 /// The new key of a polygon: its CENID with its new POLYID. A polygon that wasn't seen keeps its key.
-pub fn new_key(polygons: &Interner<PolygonKey>, key: PolygonKey) -> PolygonKey
+pub(crate) fn new_key(polygons: &Interner<PolygonKey>, key: PolygonKey) -> PolygonKey
     ensures image { result ≡ image key_cmp (map under_cenid (numbered polygons.now)) key }
     ensures cenid { result.0 ≡ key.0 }
     ensures in_range { IsNumber 10 key.1 → length polygons.now < 10 ^ 10 → IsNumber 10 result.1 }

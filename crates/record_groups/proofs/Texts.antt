@@ -1,7 +1,6 @@
 -- Comparing the texts of two arrangements, type by type.
 pub mod NumberTexts
 pub mod PartOrder
-pub mod OpenRecords
 pub mod OpenPlaces
 pub mod RecordExact
 pub mod TiedOnes

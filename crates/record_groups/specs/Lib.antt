@@ -2,5 +2,4 @@ pub mod Groups
 pub mod CountyGroups
 pub mod RecordOrder
 pub mod TypeOneOrder
-pub mod OpenRanges
 pub mod SharedGroups

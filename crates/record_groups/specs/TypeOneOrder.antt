@@ -1,20 +1,11 @@
 -- The order of choices by their records of type 1.
-use Rattle.std.specs.Prelude.{ℕ, ◌≡◌, ◌+◌, ◌<◌, ◌≤◌, List, map, Option, option_map, false}
-use Rattle.std.specs.Ordering.{is_gt}
-use Rattle.std.specs.declared.cmp.Ordering.{Ordering}
-use Rattle.tl_layout.specs.declared.record_type.Record.{Record}
-use Rattle.tl_layout.specs.declared.record_type.Record.TheVariants.{One}
-use Rattle.county_chart.specs.County.{County}
-use Rattle.county_chart.specs.Packing.{packed_one}
+use Rattle.std.specs.Prelude.{List, Option, false, map, option_map, ℕ, ◌+◌, ◌<◌, ◌≡◌, ◌≤◌}
+use Rattle.std.specs.{Ordering.is_gt, declared.cmp.Ordering.Ordering}
+use Rattle.tl_layout.specs.{declared.record_type.Record.Record, declared.record_type.Record.TheVariants.One}
+use Rattle.county_chart.specs.{County.County, DirectedChains.directed_chain, Packing.packed_one}
 use Rattle.county_chart.specs.declared.directed_chain.DirectedChain.{DirectedChain}
-use Rattle.canonical_form.specs.Arrangement.{arranged}
-use Rattle.record_groups.specs.CountyGroups.{type_1_by_chain}
-use Rattle.record_groups.specs.Groups.{grouped}
-use Rattle.canonical_form.specs.LeastNumber.{choice_list}
-use Rattle.record_groups.specs.RecordOrder.{groups_cmp}
-use Rattle.county_chart.specs.DirectedChains.{directed_chain}
-use Rattle.canonical_form.specs.Canonical.{IsNotAfter}
-use Rattle.canonical_form.specs.Tidy.{numbered_choice}
+use Rattle.canonical_form.specs.{Arrangement.arranged, Canonical.IsNotAfter, LeastNumber.choice_list, Tidy.numbered_choice}
+use Rattle.record_groups.specs.{CountyGroups.type_1_by_chain, Groups.grouped, RecordOrder.groups_cmp}
 
 -- the record of type 1 of a directed chain, if there is one at a place
 abbrev pub one_at : County → DirectedChain → ℕ → Option Record

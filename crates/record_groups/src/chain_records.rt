@@ -58,8 +58,7 @@ struct ShapePoints<'a, C> {
 }
 
 impl<C: Chart> Listed for ShapePoints<'_, C> {
-    ghost use Rattle.county_chart.specs.ChartWords.{chain_at, points_of};
-    ghost use Rattle.county_chart.specs.Packing.{inner_points};
+    ghost use Rattle.county_chart.specs.{ChartWords.chain_at, ChartWords.points_of, Packing.inner_points};
 
     type Item = Point;
 

@@ -4,17 +4,15 @@
 //! arrangements needn't line up, because a chain can have more records of a type than the chain at its place in the other
 //! arrangement. Each side is therefore read with its own cursor.
 
-ghost use Rattle.std.specs.Cmp.Lexicographic.{slice_cmp};
-ghost use Rattle.std.specs.declared.cmp.Ordering.TheVariants.{Greater};
-ghost use Rattle.std.specs.Ordering.{nat_cmp};
-ghost use Rattle.std.specs.Prelude.{◌≡◌, MatchOption, map};
-ghost use Rattle.record_groups.specs.RecordOrder.{groups_cmp, records_cmp, spelling_cmp};
+ghost use Rattle.std.specs.Prelude.{MatchOption, ◌≡◌};
+ghost use Rattle.std.specs.{Cmp.Lexicographic.slice_cmp, Ordering.nat_cmp, declared.cmp.Ordering.TheVariants.Greater};
+ghost use Rattle.record_groups.specs.RecordOrder.{groups_cmp, spelling_cmp};
 
 use crate::cursor::{Cursor, next};
-use crate::groups::{CountedGroups, RecordGroups};
+use crate::groups::RecordGroups;
 use crate::record_eq::RecordEq;
 use std::cmp::Ordering;
-use tl_layout::{LONGEST_LINE, Layout, Tabled};
+use tl_layout::{LONGEST_LINE, Layout};
 
 /// Compares two records of one type by their lines.
 fn compare_lines<L: Layout>(a: &L, b: &L) -> Ordering
@@ -67,35 +65,4 @@ pub fn compare_groups<L: RecordEq, G: RecordGroups<Item = L>, H: RecordGroups<It
         Some(_) => Ordering::Less,
         None => Ordering::Equal,
     }
-}
-
-/// Records of a type, in one group.
-#[derive(Drop)]
-struct RecordList<'a, L: Tabled>(&'a [L]);
-
-impl<L: Tabled + Copy> CountedGroups for RecordList<'_, L> {
-    ghost use Rattle.std.specs.Prelude.{◌∷◌, []};
-
-    type Record = L;
-
-    ghost counted = { λ list. list.0.now ∷ [] };
-
-    fn group_count(&self) -> usize {
-        1
-    }
-
-    fn record_count(&self, _group: usize) -> usize {
-        self.0.len()
-    }
-
-    fn record_at(&self, _group: usize, place: usize) -> L {
-        self.0[place]
-    }
-}
-
-/// Compares two lists of records, record by record, like `compare_groups`.
-pub fn compare_lists<L: RecordEq + Copy>(a: &[L], b: &[L]) -> Ordering
-    ensures { result ≡ records_cmp (map L.as_record a.now) (map L.as_record b.now) }
-{
-    compare_groups(&RecordList(a), &RecordList(b))
 }

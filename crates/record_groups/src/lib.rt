@@ -11,7 +11,6 @@ mod group_order;
 mod groups;
 mod heads;
 mod name_records;
-mod open_ranges;
 mod record_eq;
 mod same_groups;
 mod type_1_order;
@@ -21,11 +20,10 @@ pub use chain_records::{
     ChainRecords, NAMES_A_RECORD, SequencedRecord, SequencedRecords, TopologyRecords, items_from,
     sequence_number,
 };
-pub use group_order::{compare_groups, compare_lists, compare_records};
+pub use group_order::{compare_groups, compare_records};
 pub use groups::{CountedGroups, RecordGroups, read_heads, visit_three};
 pub use heads::HeadBuffers;
 pub use name_records::{LandmarkRecords, NameRecords};
-pub use open_ranges::{OpenRangeRecords, open_chain_of};
 pub use record_eq::RecordEq;
 pub use same_groups::{are_same_groups, have_same_chains};
 pub use type_1_order::compare_ones;

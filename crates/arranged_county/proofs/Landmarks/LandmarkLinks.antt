@@ -1,19 +1,14 @@
 -- Links gathered landmark by landmark, and counted LAND by LAND.
-use Rattle.arranged_county.proofs.Common.{◌≡◌, ◌⊎◌, ◌<◌, ◌≤◌, ◌+◌, ◌-◌, ℕ, zero, suc, nat_le, List, [], ◌∷◌, ◌++◌, map, filter, filter_map}
-use Rattle.arranged_county.proofs.Common.{flat_map, length, Bool, true, false, Ordering, Less, Equal, Greater, is_gt, Option, None, Some}
-use Rattle.arranged_county.proofs.Common.{slice_get, refl, sym, ap, ap₂, ◌∙◌, subst, inl, inr, arith, nat_cmp, append-nil, append_assoc}
-use Rattle.arranged_county.proofs.Common.{IsPermutation, IsTrue, County, Fields8, IsCounty, IsInOrder, IsPermutation-map, IsPermutation-sym}
-use Rattle.arranged_county.proofs.Common.{IsPermutation-trans, Known, all_weaker, apart-permutation, apart_from_sorted, cons_option, eight_land}
-use Rattle.arranged_county.proofs.Common.{in_order, in_order-in_order, in_order-is_permutation, in_order-permutation, lands, lands_at}
-use Rattle.arranged_county.proofs.Common.{length-map, link_cmp, link_keys, links_at, links_up_to, links_with, ltb-true, map-append, nat_keys}
-use Rattle.arranged_county.proofs.Common.{range_with_len, stands_in, times}
-use Rattle.canonical_form.proofs.Common.{◌&&◌, not, MatchOrdering, known-permutation_to, of_number, ranked, true≢false}
-use Rattle.std.proofs.lemmas.Bool.Decides.{leb_tells}
+use Rattle.arranged_county.proofs.Common.{Bool, IsPermutation-sym, apart-permutation, apart_from_sorted, filter-filtered, in_order-in_order}
+use Rattle.arranged_county.proofs.Common.{County, Fields8, Greater, IsTrue, Option, filter, length, links_at, ltb-true, nat_cmp, nat_keys}
+use Rattle.arranged_county.proofs.Common.{Equal, Known, List, None, Some, arith, false, is_gt, lands, nat_le, ranked, refl, subst, times, ℕ}
+use Rattle.arranged_county.proofs.Common.{IsCounty, Less, Ordering, flat_map, in_order, lands_at, link_cmp, link_keys, slice_get, stands_in}
+use Rattle.arranged_county.proofs.Common.{IsInOrder, ap₂, eight_land, filter_map, leb_tells, length-map, links_with, map-append, true≢false}
+use Rattle.arranged_county.proofs.Common.{IsPermutation, all_at_places, append-nil, append_assoc, cons_option, links_up_to, range_with_len}
+use Rattle.arranged_county.proofs.Common.{IsPermutation-map, IsPermutation-trans, all_weaker, in_order-is_permutation, in_order-permutation}
+use Rattle.arranged_county.proofs.Common.{[], ap, inl, inr, map, suc, sym, true, zero, ◌++◌, ◌+◌, ◌-◌, ◌<◌, ◌∙◌, ◌∷◌, ◌≡◌, ◌≤◌, ◌⊎◌}
+use Rattle.canonical_form.proofs.Common.{MatchOrdering, filter-agree, groups-permutation, known-permutation_to, not, of_number, ◌&&◌}
 use Rattle.std.proofs.lemmas.List.Filters.{length-filter_both}
-use Rattle.county_chart.proofs.Lists.OfNumber.{groups-permutation}
-use Rattle.ordered_lists.proofs.Lists.AtPlaces.{all_at_places}
-use Rattle.ordered_lists.proofs.Lists.Counted.{filter-agree}
-use Rattle.canonical_form.proofs.Lists.Filtered.{filter-filtered}
 
 -- one more piece
 piece_more : {Y : Type 0} (f : ℕ → List Y) (a n : ℕ) → flat_map f (range_with_len a (suc n)) ≡ flat_map f (range_with_len a n) ++ f (a + n)

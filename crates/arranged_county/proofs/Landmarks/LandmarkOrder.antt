@@ -1,35 +1,27 @@
 -- Landmarks sorted by their bodies, their links and their places are in their new order.
-use Rattle.arranged_county.proofs.Common.{◌≡◌, ◌≤◌, ℕ, suc, List, [], ◌∷◌, map, filter_map, length, Option, Some, None, arith, option_map}
-use Rattle.arranged_county.proofs.Common.{unwrap_or, slice_get, Ordering, refl, sym, ap, ap₂, ◌∙◌, subst, nat_cmp, IsPermutation, IsTrue, false}
-use Rattle.arranged_county.proofs.Common.{AllByRecursion, AreReadAt, AreWhole, Arrangement, Body7, County, DirectedChain, Fields8, IsApart}
-use Rattle.arranged_county.proofs.Common.{IsCounty, IsInOrder, IsPermutation-map, IsPermutation-sym, IsTotalOrder, Known, PolygonKey, all_weaker}
-use Rattle.arranged_county.proofs.Common.{among_known, apart-permutation, apart_from_sorted, arranged_by, arrangement_of, bodies_at, cons_option}
-use Rattle.arranged_county.proofs.Common.{eight_land, entry_keys, has_repeat, has_repeat-apart, image, in_order, in_order-in_order}
-use Rattle.arranged_county.proofs.Common.{in_order-is_permutation, key_cmp, landmark_body_cmp, landmark_place_cmp, landmarks_in_order, lands}
-use Rattle.arranged_county.proofs.Common.{lands_at, length-map, length-range_with_len, length_permutation, link_cmp, link_keys, link_part}
-use Rattle.arranged_county.proofs.Common.{link_part_cmp, link_under, links_with, ltb-true, map-map, nat_cmp_total, nat_keys, numbered}
-use Rattle.arranged_county.proofs.Common.{numbered_links, on, on_total, ordering_then, polygons_in_order, range_with_len, slice_cmp}
-use Rattle.arranged_county.proofs.Common.{slice_get-map, stands_in, then_total, times, up_to}
-use Rattle.canonical_form.proofs.Common.{all_map, in_order-equal, landmark_key, landmark_key_cmp, link_key, link_part_keys, links_relinked}
-use Rattle.canonical_form.proofs.Common.{new_keys, relinked}
-use Rattle.std.proofs.lemmas.Cmp.{lists_total}
-use Rattle.county_chart.specs.Laws.KeyOrders.{landmark_body_keys}
-use Rattle.ordered_lists.proofs.ByKey.Keys.{image-injective}
-use Rattle.arranged_county.specs.LandmarkItems.{own_links}
-use Rattle.canonical_form.specs.Uses.{links_of}
-use Rattle.canonical_form.proofs.Arrangements.Carrying.{landmarks_permutation, links_arranged, lands_renamed, images-numbered}
-use Rattle.canonical_form.proofs.Lists.Counting.{up_to-strict}
-use Rattle.arranged_county.proofs.Names.NameOrder.{filter_map_all}
-use Rattle.canonical_form.proofs.Lists.ListPlaces.{then_assoc}
-use Rattle.canonical_form.proofs.Arrangements.Placed.{lefts-numbered, rights-numbered}
-use Rattle.arranged_county.proofs.Polygons.PolygonOrder.{read_mapped}
-use Rattle.canonical_form.proofs.Unique.SameLandmarks.{landmark_key_keys, relanded, count-permutation, is_link, times-links, links_of-in_order}
-use Rattle.canonical_form.proofs.Unique.SameLandmarks.{count-relanded}
-use Rattle.canonical_form.proofs.Lists.SortedPlaces.{sorted_places}
-use Rattle.canonical_form.proofs.Views.DirectedChains.{among-get}
-use Rattle.canonical_form.proofs.Views.ViewChains.{arranges}
-use Rattle.arranged_county.proofs.Landmarks.LandmarkLinks.{listed}
+use Rattle.arranged_county.proofs.Common.{AllByRecursion, AreWhole, arrangement_of, in_order-in_order, landmark_body_cmp, polygons_in_order}
+use Rattle.arranged_county.proofs.Common.{AreClasses, Arrangement, IsTrue, among_known, arranged_by, cons_option, lists_total, up_to-strict}
+use Rattle.arranged_county.proofs.Common.{AreReadAt, IsTotalOrder, in_order-map, nat_cmp_total, ordering_then, slice_get-map, sorted_places}
+use Rattle.arranged_county.proofs.Common.{AreSortedLandmarks, has_repeat-apart, landmark_bodies_cmp, landmark_place_cmp, landmarks_in_order}
+use Rattle.arranged_county.proofs.Common.{Body7, DirectedChain, IsPermutation, classed_place, link_part_cmp, numbered_links, range_with_len}
+use Rattle.arranged_county.proofs.Common.{County, IsPermutation-trans, classed_landmark_cmp, in_order-is_permutation, length-range_with_len}
+use Rattle.arranged_county.proofs.Common.{Fields8, IsApart, all_map, in_order, lands_at, link_cmp, ltb-true, nat_keys, numbered, on_total}
+use Rattle.arranged_county.proofs.Common.{IsCounty, Ordering, arranges, link_part, own_links, slice_cmp, slice_get, stands_in, unwrap_or}
+use Rattle.arranged_county.proofs.Common.{IsInOrder, Known, among-get, bodies_at, link_keys, links_with, option_map, then_assoc}
+use Rattle.arranged_county.proofs.Common.{IsPermutation-map, IsPermutation-sym, apart-permutation, apart_from_sorted, length_permutation, ℕ}
+use Rattle.arranged_county.proofs.Common.{List, Option, arith, false, image, key_cmp, lands, length, map-map, nat_cmp, subst, times, up_to}
+use Rattle.arranged_county.proofs.Common.{None, Some, [], ap, ap₂, map, on, refl, suc, sym, ◌∙◌, ◌∷◌, ◌≡◌, ◌≤◌}
+use Rattle.arranged_county.proofs.Common.{PolygonKey, all_weaker, eight_land, entry_keys, filter_map, has_repeat, length-map, link_under}
+use Rattle.std.proofs.lemmas.Cmp.{then_total}
+use Rattle.arranged_county.proofs.Lists.Classes.{agree_in_order, agree_permuted, agree_weaker, classes_all}
 use Rattle.arranged_county.proofs.Views.ViewTables.{by_land, keys_paired}
+use Rattle.arranged_county.proofs.{Landmarks.LandmarkLinks.listed, Names.NameOrder.filter_map_all, Polygons.PolygonOrder.read_mapped}
+use Rattle.canonical_form.proofs.Common.{image-injective, in_order-equal, landmark_key, landmark_key_cmp, link_key, link_part_keys}
+use Rattle.canonical_form.proofs.Common.{links_of, links_relinked, new_keys, relinked}
+use Rattle.canonical_form.proofs.Arrangements.Carrying.{images-numbered, landmarks_permutation, lands_renamed, links_arranged}
+use Rattle.canonical_form.proofs.Arrangements.Placed.{lefts-numbered, rights-numbered}
+use Rattle.canonical_form.proofs.Unique.SameLandmarks.{count-permutation, count-relanded, is_link, landmark_key_keys, links_of-in_order}
+use Rattle.canonical_form.proofs.Unique.SameLandmarks.{relanded, times-links}
 
 -- lists compared by images of their elements
 pub cmp_mapped : {X K : Type 0} (f : X → K) (cmp : K → K → Ordering) (xs ys : List X)
@@ -39,11 +31,33 @@ cmp_mapped f cmp [] (y ∷ ys) = refl
 cmp_mapped f cmp (x ∷ xs) [] = refl
 cmp_mapped f cmp (x ∷ xs) (y ∷ ys) = ap (ordering_then (cmp (f x) (f y))) (cmp_mapped f cmp xs ys)
 
--- the comparison of landmarks by their places is an order
-pub landmark_places_total : (county : County) (links : List Fields8) (count : ℕ) → IsTotalOrder (landmark_place_cmp county links count)
-landmark_places_total county links count =
-    then_total (on_total (bodies_at county) (lists_total landmark_body_keys.total))
-    (then_total (on_total (λ i. map link_part (own_links links count i)) (lists_total link_part_keys.total)) nat_cmp_total)
+-- landmarks are compared by an order
+pub classed_landmarks_total : (links : List Fields8) (count : ℕ) → IsTotalOrder (classed_landmark_cmp links count)
+classed_landmarks_total links count =
+    then_total (on_total (λ (a : ℕ × ℕ). a.0) nat_cmp_total)
+    (then_total (on_total (λ (a : ℕ × ℕ). map link_part (own_links links count a.1)) (lists_total link_part_keys.total))
+    (on_total (λ (a : ℕ × ℕ). a.1) nat_cmp_total))
+
+-- sorted landmarks are in the order of their bodies, their links and their places
+module _ (county : County) (links : List Fields8) (count : ℕ) (classed : List (ℕ × ℕ))
+    (known : AreClasses (length county.landmarks) (landmark_bodies_cmp county) classed) (places : List ℕ)
+    (sorted : AreSortedLandmarks links count classed places) where
+  pub all_sorted : IsPermutation (range_with_len 0 (length county.landmarks)) places
+  all_sorted = subst (IsPermutation (range_with_len 0 (length county.landmarks))) (sym sorted.places_of)
+      (IsPermutation-trans (range_with_len 0 (length county.landmarks)) (map classed_place classed) (map classed_place sorted.items)
+      (classes_all (length county.landmarks) (landmark_bodies_cmp county) classed known)
+      (IsPermutation-map classed_place classed sorted.items sorted.all))
+
+  pub sorted_in_order : IsInOrder (landmark_place_cmp county links count) places
+  sorted_in_order = subst (IsInOrder (landmark_place_cmp county links count)) (sym sorted.places_of)
+      (in_order-map (landmark_place_cmp county links count) classed_place sorted.items
+      (agree_in_order (classed_landmark_cmp links count) (λ a b. landmark_place_cmp county links count a.1 b.1) sorted.items
+      (agree_permuted (classed_landmark_cmp links count) (λ a b. landmark_place_cmp county links count a.1 b.1) classed sorted.items sorted.all
+      (agree_weaker (λ (a b : ℕ × ℕ). nat_cmp a.0 b.0) (λ a b. landmark_bodies_cmp county a.1 b.1) (classed_landmark_cmp links count)
+      (λ a b. landmark_place_cmp county links count a.1 b.1)
+      (λ a b e. ap (λ o. ordering_then o (ordering_then (slice_cmp link_part_cmp (map link_part (own_links links count a.1))
+      (map link_part (own_links links count b.1))) (nat_cmp a.1 b.1))) e)
+      classed known.agree)) sorted.in_order))
 
 -- the LANDs at all places are all LANDs
 pub all_lands : (county : County) → lands_at county (range_with_len 0 (length county.landmarks)) ≡ lands county

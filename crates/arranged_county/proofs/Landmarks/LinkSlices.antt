@@ -1,13 +1,9 @@
 -- In a list in the order of its numbers, the elements with one number are between two counts.
-use Rattle.arranged_county.proofs.Common.{◌≡◌, ◌⊎◌, ◌≢◌, ◌<◌, ◌≤◌, ◌+◌, ◌-◌, ◌==◌, ℕ, suc, nat_le, List, [], ◌∷◌, filter, length, take, drop}
-use Rattle.arranged_county.proofs.Common.{Bool, true, false, cond, is_gt, get_or, slice_get, nat_cmp, refl, sym, ap, ap₂, ◌∙◌, subst, inl, inr}
-use Rattle.arranged_county.proofs.Common.{arith, AllByRecursion, Fields8, IsInOrder, all_weaker, eight_land, link_bounds, links_up_to}
-use Rattle.arranged_county.proofs.Common.{links_with, on, up_to}
-use Rattle.std.proofs.Common.{eqb}
-use Rattle.std.proofs.lemmas.Bool.Decides.{leb_tells, eqb_tells}
-use Rattle.std.proofs.lemmas.List.FromFn.{get_or-map-range_with_len}
+use Rattle.arranged_county.proofs.Common.{AllByRecursion, Bool, all_weaker, eight_land, get_or-map-range_with_len, link_bounds, links_up_to}
+use Rattle.arranged_county.proofs.Common.{Fields8, IsInOrder, at_most, eqb_tells, filter, get_or, leb_tells, links_with, nat_cmp, slice_get}
+use Rattle.arranged_county.proofs.Common.{List, ap₂, arith, cond, drop, false, is_gt, length, nat_le, refl, subst, take, true, up_to, ◌==◌}
+use Rattle.arranged_county.proofs.Common.{[], ap, eqb, inl, inr, on, suc, sym, ℕ, ◌+◌, ◌-◌, ◌<◌, ◌∙◌, ◌∷◌, ◌≡◌, ◌≢◌, ◌≤◌, ◌⊎◌}
 use Rattle.arranged_county.proofs.Views.ViewNumbers.{get_up_to}
-use Rattle.canonical_form.proofs.Lists.Grouping.{at_most}
 
 module _ {X : Type 0} (number : X → ℕ) where
   -- how many elements have a number up to this one

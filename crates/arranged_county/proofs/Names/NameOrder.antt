@@ -1,35 +1,19 @@
 -- Names sorted by their bytes, the ranks of their first uses and their places are in their new order.
-use Rattle.arranged_county.proofs.Common.{◌≡◌, ℕ, suc, List, [], ◌∷◌, ◌++◌, map, flat_map, filter_map, length, Bool, true, false, cond}
-use Rattle.arranged_county.proofs.Common.{Ordering, Option, Some, option_map, slice_get, sym, refl, ap, ap₂, ◌∙◌, subst}
-use Rattle.arranged_county.proofs.Common.{arith, nat_cmp, IsPermutation, append-nil, append_assoc, AreReadAt, AreWhole, Arrangement, Body5, Chain}
-use Rattle.arranged_county.proofs.Common.{County, DirectedChain, IsApart, IsCounty, IsInOrder, IsKeyOrder, IsPermutation-map}
-use Rattle.canonical_form.proofs.Common.{IsStrictlySortedBy}
-use Rattle.arranged_county.proofs.Common.{IsTotalOrder, Use, apart-permutation, apart_from_sorted, arranged_tlids, arrangement_of}
-use Rattle.canonical_form.proofs.Common.{all_uses}
-use Rattle.arranged_county.proofs.Common.{cons_option, entry_keys, feats, feats_along_arrangement, first_seen, first_seen_after, has_repeat}
-use Rattle.arranged_county.proofs.Common.{has_repeat-apart, length-map, length_permutation, ltb-true, map-append}
-use Rattle.canonical_form.proofs.Common.{name_key, name_key_cmp}
-use Rattle.arranged_county.proofs.Common.{names_in_order, nat_cmp_total, nat_keys, on_total, option_cmp, ordering_then, placed, range_with_len}
-use Rattle.arranged_county.proofs.Common.{slice_cmp, slice_get-map, stands_in, then_total, times-append, use_cmp}
-use Rattle.canonical_form.proofs.Common.{times-yes, uses_from}
-use Rattle.arranged_county.proofs.Common.{uses_of_name}
-use Rattle.county_chart.specs.BodyOrder.{name_body_cmp}
-use Rattle.county_chart.specs.ChartWords.{name_at}
-use Rattle.county_chart.specs.Laws.KeyOrders.{name_body_keys}
-use Rattle.arranged_county.specs.NameItems.{rank_of, ranked_at, ranked_cmp, ranked_place}
-use Rattle.arranged_county.specs.declared.name_order.RankedName.{RankedName}
-use Rattle.canonical_form.proofs.Choices.AscendingArrangement.{options_total}
-use Rattle.canonical_form.proofs.Arrangements.Carrying.{names_permutation}
-use Rattle.canonical_form.proofs.Lists.Counting.{up_to-strict}
-use Rattle.arranged_county.proofs.Names.NameRanks.{ranks_decide}
-use Rattle.canonical_form.proofs.Arrangements.Placed.{placed_tlids}
-use Rattle.arranged_county.proofs.Polygons.PolygonOrder.{read_mapped}
-use Rattle.canonical_form.proofs.Unique.SameNames.{name_key_keys}
-use Rattle.canonical_form.proofs.Lists.ListPlaces.{then_assoc}
-use Rattle.canonical_form.proofs.Lists.SortedPlaces.{sorted_items}
-use Rattle.canonical_form.proofs.Views.DirectedChains.{feats_placed}
-use Rattle.canonical_form.proofs.Names.UsesOrder.{all_uses-strict}
-use Rattle.canonical_form.proofs.Views.ViewChains.{arranges}
+use Rattle.arranged_county.proofs.Common.{AreClasses, AreWhole, Arrangement, IsKeyOrder, RankedName, cons_option, name_key_at, uses_of_name}
+use Rattle.arranged_county.proofs.Common.{AreReadAt, County, IsInOrder, key_place, option_map, ranked_at, ranked_cmp, slice_cmp, then_assoc}
+use Rattle.arranged_county.proofs.Common.{Body5, apart-permutation, apart_from_sorted, first_seen_after, has_repeat-apart, name_content_cmp}
+use Rattle.arranged_county.proofs.Common.{Bool, Option, Use, arith, false, feats, length, map-map, nat_cmp, placed, rank_of, subst, use_cmp}
+use Rattle.arranged_county.proofs.Common.{Chain, IsCounty, Ordering, arranges, flat_map, ltb-true, nat_keys, on_total, slice_get, stands_in}
+use Rattle.arranged_county.proofs.Common.{DirectedChain, all_uses-strict, arranged_tlids, arrangement_of, names_in_order, range_with_len, ℕ}
+use Rattle.arranged_county.proofs.Common.{IsApart, IsPermutation, classed_place, name_body_cmp, name_key_keys, name_keys_cmp, ordering_then}
+use Rattle.arranged_county.proofs.Common.{IsPermutation-map, IsPermutation-trans, append_assoc, feats_along_arrangement, length_permutation}
+use Rattle.arranged_county.proofs.Common.{List, Some, [], ap, ap₂, cond, map, refl, suc, sym, true, ◌++◌, ◌∙◌, ◌∷◌, ◌≡◌}
+use Rattle.arranged_county.proofs.Common.{append-nil, entry_keys, filter_map, first_seen, has_repeat, length-map, map-append, option_cmp}
+use Rattle.arranged_county.proofs.Common.{feats_placed, in_order-map, ranked_place, slice_get-map, sorted_items, times-append, up_to-strict}
+use Rattle.arranged_county.proofs.Lists.Classes.{agree_in_order, agree_map, agree_permuted, agree_weaker, classes_all}
+use Rattle.arranged_county.proofs.{Names.NameRanks.ranks_decide, Polygons.PolygonOrder.read_mapped}
+use Rattle.canonical_form.proofs.Common.{IsStrictlySortedBy, all_uses, name_key, name_key_cmp, times-yes, uses_from}
+use Rattle.canonical_form.proofs.{Arrangements.Carrying.names_permutation, Arrangements.Placed.placed_tlids}
 
 -- distinct keys are each seen once
 module _ {K : Type 0} {cmp : K → K → Ordering} (o : IsKeyOrder cmp) where
@@ -66,11 +50,6 @@ named : (cs : List (ℕ × Chain)) → map (λ (u : Use × ℕ). u.1) (all_uses 
 named [] = refl
 named (c ∷ cs) = map-append (λ (u : Use × ℕ). u.1) (uses_from c.0 1 c.1.feats) (all_uses cs)
     ∙ ap₂ (λ xs ys. xs ++ ys) (named_from c.0 1 c.1.feats) (named cs)
-
-pub ranked_total : (county : County) → IsTotalOrder (ranked_cmp county)
-ranked_total county =
-    then_total (on_total (λ (n : RankedName). name_at county n.place) (options_total name_body_keys.total))
-    (then_total (on_total (λ (n : RankedName). n.rank) nat_cmp_total) (on_total (λ (n : RankedName). n.place) nat_cmp_total))
 
 module _ (county : County) (arrangement : List DirectedChain) (is : IsCounty county) (whole : AreWhole county arrangement) (seen : List ℕ)
     (uses : seen ≡ first_seen nat_cmp (feats_along_arrangement county arrangement)) where
@@ -112,9 +91,42 @@ module _ (county : County) (arrangement : List DirectedChain) (is : IsCounty cou
         ∙ then_assoc (name_body_cmp x.1 y.1) (slice_cmp use_cmp (uses_of_name used x.0) (uses_of_name used y.0)) (nat_cmp i j)
 
     -- the sorted names are in their new order
-    pub names_stated : AreReadAt county.names (map ranked_place items) (names_in_order county order)
+    names_stated : AreReadAt county.names (map ranked_place items) (names_in_order county order)
     names_stated = sorted_items (ranked_at county seen) ranked_place (λ i. refl) (ranked_cmp county)
         (on_total (name_key used) name_key_keys.total) county.names agrees items p ordered
+
+  -- a key without its class
+  abbrev to_ranked : ℕ × (ℕ × ℕ) → RankedName
+  to_ranked key = record { rank = key.1.0; place = key.1.1 }
+
+  module _ (classed : List (ℕ × ℕ)) (known : AreClasses (length county.names) (name_content_cmp county) classed) (keys : List (ℕ × (ℕ × ℕ)))
+      (p : IsPermutation (map (name_key_at county seen) classed) keys) (ordered : IsInOrder name_keys_cmp keys) where
+    each_name : IsPermutation (map (ranked_at county seen) (range_with_len 0 (length county.names))) (map to_ranked keys)
+    each_name =
+        let all = range_with_len 0 (length county.names) in
+        let unsorted = map (name_key_at county seen) classed in
+        IsPermutation-trans (map (ranked_at county seen) all) (map to_ranked unsorted) (map to_ranked keys)
+        (subst (IsPermutation (map (ranked_at county seen) all))
+        (map-map (ranked_at county seen) classed_place classed ∙ sym (map-map to_ranked (name_key_at county seen) classed))
+        (IsPermutation-map (ranked_at county seen) all (map classed_place classed) (classes_all (length county.names) (name_content_cmp county) classed known)))
+        (IsPermutation-map to_ranked unsorted keys p)
+
+    ranked_in_order : IsInOrder (ranked_cmp county) (map to_ranked keys)
+    ranked_in_order = in_order-map (ranked_cmp county) to_ranked keys
+        (agree_in_order name_keys_cmp (λ a b. ranked_cmp county (to_ranked a) (to_ranked b)) keys
+        (agree_permuted name_keys_cmp (λ a b. ranked_cmp county (to_ranked a) (to_ranked b)) (map (name_key_at county seen) classed) keys p
+        (agree_map name_keys_cmp (λ a b. ranked_cmp county (to_ranked a) (to_ranked b)) (name_key_at county seen) classed
+        (agree_weaker (λ (a b : ℕ × ℕ). nat_cmp a.0 b.0) (λ a b. name_content_cmp county a.1 b.1)
+        (λ a b. name_keys_cmp (name_key_at county seen a) (name_key_at county seen b))
+        (λ a b. ranked_cmp county (to_ranked (name_key_at county seen a)) (to_ranked (name_key_at county seen b)))
+        (λ a b e. ap (λ o. ordering_then o (ordering_then
+        (nat_cmp (rank_of seen (slice_get (feats county) a.1)) (rank_of seen (slice_get (feats county) b.1))) (nat_cmp a.1 b.1))) e)
+        classed known.agree))) ordered)
+
+    -- names whose keys are in order are in their new order
+    pub keys_stated : AreReadAt county.names (map key_place keys) (names_in_order county order)
+    keys_stated = subst (λ places. AreReadAt county.names places (names_in_order county order)) (map-map ranked_place to_ranked keys)
+        (names_stated (map to_ranked keys) each_name ranked_in_order)
 
 -- the tables of the names at these places, if they are those in their new order
 module _ (county : County) (arrangement : List DirectedChain) (is : IsCounty county) (whole : AreWhole county arrangement) (places : List ℕ)

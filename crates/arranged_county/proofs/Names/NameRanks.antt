@@ -1,20 +1,14 @@
 -- The first uses of two names along the chains decide as all their uses do.
-use Rattle.arranged_county.proofs.Common.{◌≡◌, ◌⊎◌, ◌<◌, ◌≤◌, ◌+◌, ◌==◌, ℕ, zero, suc, List, [], ◌∷◌, ◌++◌, map, filter, length, Bool, true}
-use Rattle.arranged_county.proofs.Common.{false, cond, Less, Greater, is_eq, sym, refl, ap, ap₂, ◌∙◌, subst, inl, inr, arith, nat_cmp}
-use Rattle.arranged_county.proofs.Common.{length-append, AllByRecursion, IsTotalOrder, Known, Use, all_among, first_seen_after, length-map}
-use Rattle.arranged_county.proofs.Common.{nat_cmp_total, nat_keys, ordering_then, slice_cmp, stands_in, tied_itself, times, times-append}
-use Rattle.arranged_county.proofs.Common.{use_cmp, uses_of_name, None, Some, ltb-true}
-use Rattle.canonical_form.proofs.Common.{nat_lt, Among, among-map, eq-eqb, known-here, known-right, lists_keys, ne_eqb, ordering_reverse}
-use Rattle.canonical_form.proofs.Common.{same_or_not, times-no, times-of_number, position_or_len}
+use Rattle.arranged_county.proofs.Common.{AllByRecursion, Bool, Greater, IsTotalOrder, Known, Less, List, None, Some, Use, [], all_after}
+use Rattle.arranged_county.proofs.Common.{all_among, ap, ap₂, arith, cond, false, false_from_ne_true, filter, first_seen_after, from_one}
+use Rattle.arranged_county.proofs.Common.{inl, inr, is_eq, known_after, known_within, length, length-append, length-map, less, ltb-true}
+use Rattle.arranged_county.proofs.Common.{map, nat_cmp, nat_cmp_total, nat_keys, ordering_reverse, ordering_then, place-append, place-new}
+use Rattle.arranged_county.proofs.Common.{place_behind, place_from, rank_of, refl, seen_stays, slice_cmp, stands_in, subst, suc, sym}
+use Rattle.arranged_county.proofs.Common.{tied_itself, times, times-append, to_position, true, under_use, unknown_at_end, use_cmp, use_keys}
+use Rattle.arranged_county.proofs.Common.{uses_of_name, zero, ℕ, ◌++◌, ◌+◌, ◌<◌, ◌==◌, ◌∙◌, ◌∷◌, ◌≡◌, ◌≤◌, ◌⊎◌}
+use Rattle.canonical_form.proofs.Common.{Among, among-map, differ_apart, eq-eqb, known-here, known-left, known-right, lists_keys, nat_lt}
+use Rattle.canonical_form.proofs.Common.{ne_eqb, position_or_len, same_or_not, times-no, times-of_number}
 use Rattle.std.specs.List.Sorted.{IsStrictlySortedBy}
-use Rattle.ordered_lists.proofs.ByKey.Keys.{differ_apart, known-left}
-use Rattle.ordered_lists.proofs.Lists.Ranges.{less}
-use Rattle.canonical_form.proofs.Numbering.FirstSeen.{known_within, place_from, place-append, place-new, seen_stays, unknown_at_end, known_after}
-use Rattle.canonical_form.proofs.Numbering.FirstSeen.{all_after}
-use Rattle.canonical_form.proofs.Numbering.FoundPlaces.{place_behind, to_position}
-use Rattle.arranged_county.specs.NameItems.{from_one, rank_of}
-use Rattle.std.proofs.lemmas.Bool.{false_from_ne_true}
-use Rattle.canonical_form.proofs.Names.UsesOrder.{use_keys, under_use}
 
 -- the number of a FEAT among those seen, or 0
 abbrev rank : List ℕ → ℕ → ℕ

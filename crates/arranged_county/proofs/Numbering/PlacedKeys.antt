@@ -1,16 +1,10 @@
 -- Keys in a list that are found by marks or in a table of others: that one more key is found too, and where a key stands.
-use Rattle.arranged_county.proofs.Common.{◌≡◌, ◌⊎◌, ◌<◌, ◌+◌, ◌%◌, ℕ, zero, suc, List, [], ◌∷◌, ◌++◌, length, set, get_or, slice_get, Bool, true}
-use Rattle.arranged_county.proofs.Common.{false, Ordering, Option, Some, None, IfSome, is_eq, is_some, refl, sym, ap, ◌∙◌, subst, inl, inr}
-use Rattle.arranged_county.proofs.Common.{arith, length-append, Result, Ok, Err, IfOk, IsKeyOrder, lt-ltb, position, stands_in, times}
-use Rattle.std.proofs.Common.{length-set}
+use Rattle.arranged_county.proofs.Common.{AreApart, ArePlaced, Bool, Err, IfOk, IfSome, IsKeyOrder, List, None, Ok, OnOk, Option, Ordering}
+use Rattle.arranged_county.proofs.Common.{Result, Some, [], any_within, ap, arith, false, get_or, get_or-set_other, get_or-set_same, inl}
+use Rattle.arranged_county.proofs.Common.{inr, is_eq, is_some, known_at, length, length-append, length-set, lt-ltb, none-some, none_within}
+use Rattle.arranged_county.proofs.Common.{place_found, position, refl, same_Some, set, slice_get, stands_in, subst, suc, sym, times}
+use Rattle.arranged_county.proofs.Common.{to_position, true, zero, ℕ, ◌%◌, ◌++◌, ◌+◌, ◌<◌, ◌∙◌, ◌∷◌, ◌≡◌, ◌⊎◌}
 use Rattle.canonical_form.proofs.Common.{any-stands_in, false≢true, list_any, same-itself}
-use Rattle.std.specs.Prelude.{OnOk}
-use Rattle.std.proofs.lemmas.List.{get_or-set_other, get_or-set_same}
-use Rattle.std.proofs.lemmas.Option.{none-some, same_Some}
-use Rattle.county_chart.proofs.ByKey.PlacesOfCenids.{known_at}
-use Rattle.arranged_county.specs.PlacedKeys.{AreApart, ArePlaced}
-use Rattle.canonical_form.proofs.Numbering.SeenKeys.{place_found}
-use Rattle.canonical_form.proofs.Numbering.FoundPlaces.{any_within, none_within, to_position}
 
 module _ {K : Type 0} where
   -- an element of a list with one more key is that key, or was in the list before

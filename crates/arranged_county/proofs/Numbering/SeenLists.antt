@@ -1,7 +1,6 @@
 -- The keys first seen along a list that is walked piece by piece.
-use Rattle.arranged_county.proofs.Common.{◌≡◌, ◌+◌, ℕ, zero, suc, List, [], ◌∷◌, ◌++◌, drop, Bool, true, false, cond, Ordering, Option}
-use Rattle.arranged_county.proofs.Common.{slice_get, sym, refl, ap, ap₂, ◌∙◌, arith, drop_all, first_seen_after, stands_in}
-use Rattle.canonical_form.proofs.Common.{option_to_list}
+use Rattle.arranged_county.proofs.Common.{Bool, List, Option, Ordering, [], ap, ap₂, arith, cond, drop, drop_all, false, first_seen_after}
+use Rattle.arranged_county.proofs.Common.{option_to_list, refl, slice_get, stands_in, suc, sym, true, zero, ℕ, ◌++◌, ◌+◌, ◌∙◌, ◌∷◌, ◌≡◌}
 
 module _ {K : Type 0} (cmp : K → K → Ordering) where
   -- one list after another

@@ -1,8 +1,6 @@
 -- A key that was seen stays at its place.
-use Rattle.arranged_county.proofs.Common.{◌≡◌, ◌≤◌, ℕ, List, ◌++◌, length, Ordering, Some, is_eq, sym, ap, ◌∙◌, arith, length-append, IsKeyOrder}
-use Rattle.arranged_county.proofs.Common.{first_seen_after, position}
-use Rattle.canonical_form.proofs.Numbering.FirstSeen.{seen_stays}
-use Rattle.canonical_form.proofs.Numbering.FoundPlaces.{place_stays}
+use Rattle.arranged_county.proofs.Common.{IsKeyOrder, List, Ordering, Some, ap, arith, first_seen_after, is_eq, length, length-append}
+use Rattle.arranged_county.proofs.Common.{place_stays, position, seen_stays, sym, ℕ, ◌++◌, ◌∙◌, ◌≡◌, ◌≤◌}
 
 module _ {K : Type 0} {cmp : K → K → Ordering} (o : IsKeyOrder cmp) where
   -- a key that was seen keeps its place, whatever is seen later

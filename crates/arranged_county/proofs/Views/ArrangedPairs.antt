@@ -1,17 +1,11 @@
 -- The ends and the sides of chains, numbered in order of appearance.
-use Rattle.arranged_county.proofs.Common.{◌≡◌, ◌≤◌, ℕ, zero, suc, List, [], ◌∷◌, ◌++◌, map, flat_map, drop, take, length, Ordering, Option, Some}
-use Rattle.arranged_county.proofs.Common.{slice_get, sym, ap, ◌∙◌, arith, ◌+◌, Equal, ◌<◌, ◌^◌, get_or, is_eq, nat_cmp, set, IsKeyOrder}
-use Rattle.arranged_county.proofs.Common.{IsTotalOrder, PolygonKey, PolygonSide, changed_both, first_seen_after, key_cmp, key_keys, keys_at}
-use Rattle.arranged_county.proofs.Common.{map-append, nat_keys, position, side_of}
+use Rattle.arranged_county.proofs.Common.{Equal, Option, Some, arith, get_or, is_eq, key_cmp, keys_at, length, nat_cmp, position, side_of}
+use Rattle.arranged_county.proofs.Common.{IsKeyOrder, Ordering, PolygonKey, PolygonSide, drop-set-lt, get_dropped, number_seen, seen_within}
+use Rattle.arranged_county.proofs.Common.{IsTotalOrder, List, changed_both, drop_more_same, first_seen_after, one_more_taken, polygon_among}
+use Rattle.arranged_county.proofs.Common.{[], ap, drop, map, set, suc, sym, take, zero, ℕ, ◌++◌, ◌+◌, ◌<◌, ◌^◌, ◌∙◌, ◌∷◌, ◌≡◌, ◌≤◌}
+use Rattle.arranged_county.proofs.Common.{drop_more, flat_map, key_keys, key_seen, map-append, nat_keys, node_among, side_among, slice_get}
+use Rattle.arranged_county.proofs.{Numbering.SeenLists.seen_append, Numbering.SeenPlaces.seen_fewer, Numbering.SeenPlaces.seen_keeps}
 use Rattle.canonical_form.proofs.Common.{key_on, key_under}
-use Rattle.canonical_form.specs.EndsAndSides.{node_among, polygon_among, side_among}
-use Rattle.std.proofs.lemmas.Grind.{drop_more_same}
-use Rattle.std.proofs.lemmas.List.{drop_more, drop-set-lt}
-use Rattle.ordered_lists.proofs.Lists.Places.{one_more_taken}
-use Rattle.canonical_form.proofs.Lists.ListPlaces.{get_dropped}
-use Rattle.arranged_county.proofs.Numbering.SeenLists.{seen_append}
-use Rattle.arranged_county.proofs.Numbering.SeenPlaces.{seen_fewer, seen_keeps}
-use Rattle.canonical_form.proofs.Numbering.NewNumbers.{number_seen, key_seen, seen_within}
 
 -- the element at a place comes before those after it
 next_dropped : {X : Type 0} (xs : List X) (i : ℕ) (x : X) → Some x ≡ slice_get xs i → drop i xs ≡ x ∷ drop (suc i) xs

@@ -1,12 +1,8 @@
 -- The numbers from 1.
-use Rattle.arranged_county.proofs.Common.{◌≡◌, ◌⊎◌, ◌<◌, ◌≤◌, ◌+◌, ◌-◌, ℕ, zero, suc, true, false, Some, None, sym, ap, ◌∙◌, inl, inr, arith}
-use Rattle.arranged_county.proofs.Common.{nat_cmp, slice_get, all_among, among_known, length-range_with_len, lt-ltb, ltb-true, nat_keys}
-use Rattle.arranged_county.proofs.Common.{range_with_len, stands_in, times, up_to}
-use Rattle.canonical_form.proofs.Common.{known_is_among}
-use Rattle.std.proofs.lemmas.Option.{slice_get_past}
-use Rattle.std.proofs.lemmas.Bool.{false_from_ne_true}
-use Rattle.ordered_lists.proofs.Lists.Ranges.{range_bounds}
-use Rattle.canonical_form.proofs.Views.DirectedChains.{among-get}
+use Rattle.arranged_county.proofs.Common.{None, Some, all_among, among-get, among_known, ap, arith, false, false_from_ne_true, inl, inr}
+use Rattle.arranged_county.proofs.Common.{length-range_with_len, lt-ltb, ltb-true, nat_cmp, nat_keys, range_with_len, slice_get, stands_in}
+use Rattle.arranged_county.proofs.Common.{suc, sym, times, true, up_to, zero, ℕ, ◌+◌, ◌-◌, ◌<◌, ◌∙◌, ◌≡◌, ◌≤◌, ◌⊎◌}
+use Rattle.canonical_form.proofs.Common.{known_is_among, range_bounds, slice_get_past}
 
 get_range : (a n p : ℕ) → p < n → slice_get (range_with_len a n) p ≡ Some (a + p)
 get_range a zero p h = absurd (omega (arith, h))

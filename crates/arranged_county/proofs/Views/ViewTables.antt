@@ -1,23 +1,17 @@
 -- Nodes, names, polygons and landmarks of a county in an arrangement, read from its tables.
-use Rattle.arranged_county.proofs.Common.{◌≡◌, ℕ, suc, List, [], ◌∷◌, map, length, Option, Some, None, option_map, Less, is_gt, false, ◌+◌, ◌-◌}
-use Rattle.arranged_county.proofs.Common.{ap₂, Ordering, slice_get, unwrap_or, sym, ap, ◌∙◌, subst, arith, nat_cmp, IsPermutation, AreReadAt}
-use Rattle.arranged_county.proofs.Common.{AreWhole, Arrangement, Body5, Body7, County, DirectedChain, Fields8, IsCounty, IsInOrder, PolygonKey}
-use Rattle.arranged_county.proofs.Common.{all_weaker, arranged_by, arrangement_of, eight_land, entry_values, feats, in_order-permutation}
-use Rattle.arranged_county.proofs.Common.{landmarks_in_order, lands, length-map, link_bounds, link_cmp, link_part, link_part_cmp, links_at}
-use Rattle.arranged_county.proofs.Common.{links_up_to, links_with, map-map, names_in_order, nat_keys, nodes_in_order, numbered, on}
-use Rattle.arranged_county.proofs.Common.{polygons_in_order, renaming_of, slice_get-map, under_cenid, up_to}
+use Rattle.arranged_county.proofs.Common.{AreReadAt, distinct-in_order, in_order-permutation, landmarks_in_order, length-map-range_with_len}
+use Rattle.arranged_county.proofs.Common.{AreWhole, Fields8, IsCounty, Ordering, arranges, link_cmp, links_at, map-map, nat_keys, numbered}
+use Rattle.arranged_county.proofs.Common.{Arrangement, LandmarkTables, MatchesLandmarks, arrangement_of, in_order-weaker, polygons_in_order}
+use Rattle.arranged_county.proofs.Common.{Body5, DirectedChain, IsPermutation, link_part_cmp, names_in_order, nodes_in_order, slice_get-map}
+use Rattle.arranged_county.proofs.Common.{Body7, IsInOrder, link_part, links_with, option_map, read_there, slice_get, then-first, unwrap_or}
+use Rattle.arranged_county.proofs.Common.{County, Less, List, Option, ap₂, arith, false, feats, is_gt, lands, length, nat_cmp, subst, up_to}
+use Rattle.arranged_county.proofs.Common.{MatchesNames, [], arranged_by, entry_values, link_bounds, links_up_to, read_nowhere, up_to-strict}
+use Rattle.arranged_county.proofs.Common.{NameTables, PolygonKey, all_weaker, eight_land, length-map, read_length, renaming_of, under_cenid}
+use Rattle.arranged_county.proofs.Common.{None, Some, ap, map, on, suc, sym, ℕ, ◌+◌, ◌-◌, ◌∙◌, ◌∷◌, ◌≡◌}
 use Rattle.canonical_form.proofs.Common.{carried_landmark, carried_name, nodes, nodes_along}
-use Rattle.std.proofs.lemmas.List.FromFn.{length-map-range_with_len}
+use Rattle.canonical_form.proofs.Arrangements.Carrying.{feats_arranged, landmarks_arranged, lands_arranged, names_arranged, names_renamed}
+use Rattle.canonical_form.proofs.Arrangements.Carrying.{node_rights, nodes_renamed, paired_nodes, polygons_renamed}
 use Rattle.std.specs.List.Sorted.{IsStrictlySortedBy}
-use Rattle.ordered_lists.proofs.ByKey.Numbers.{distinct-in_order}
-use Rattle.arranged_county.specs.ViewFacts.{MatchesNames, MatchesLandmarks}
-use Rattle.arranged_county.specs.declared.arranged_tables.LandmarkTables.{LandmarkTables}
-use Rattle.arranged_county.specs.declared.arranged_tables.NameTables.{NameTables}
-use Rattle.canonical_form.proofs.Arrangements.Carrying.{names_arranged, landmarks_arranged, feats_arranged, lands_arranged, paired_nodes}
-use Rattle.canonical_form.proofs.Arrangements.Carrying.{node_rights, nodes_renamed, names_renamed, polygons_renamed}
-use Rattle.canonical_form.proofs.Lists.Grouping.{in_order-weaker, then-first}
-use Rattle.canonical_form.proofs.Lists.Counting.{up_to-strict}
-use Rattle.canonical_form.proofs.Views.ViewChains.{arranges, read_there, read_nowhere, read_length}
 
 -- a strictly ascending list is in order
 pub order_from_strict : {K : Type 0} (cmp : K → K → Ordering) (ks : List K) → IsStrictlySortedBy cmp ks → IsInOrder cmp ks

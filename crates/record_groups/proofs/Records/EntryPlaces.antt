@@ -1,12 +1,8 @@
 -- The name, the landmark and the polygon at a place of a county within its limits.
-use Rattle.record_groups.proofs.Common.{AllByRecursion, ◌≡◌, ◌<◌, ℕ, List, length, map, Option, Some, option_map, option_to_list, slice_get, sym}
-use Rattle.record_groups.proofs.Common.{ap, ◌∙◌, subst, nat_cmp, Body7, BodyP, County, IsNumber, IsWithinLimits, PolygonKey, entry_polyid}
-use Rattle.record_groups.proofs.Common.{group_at, length-map, most_records, on, packed_p, polygons_by_number, slice_get-map, type_p_by_number}
-use Rattle.ordered_lists.specs.Entries.{entry_values}
-use Rattle.canonical_form.proofs.Common.{Body5, all-in_order}
-use Rattle.tl_layout.specs.Bytes.{IsText}
-use Rattle.ordered_lists.proofs.ByKey.Numbers.{length-in_order}
-use Rattle.canonical_form.proofs.Views.ChainPlaces.{all_at, some_at}
+use Rattle.record_groups.proofs.Common.{AllByRecursion, IsWithinLimits, all-in_order, length-in_order, polygons_by_number, type_p_by_number}
+use Rattle.record_groups.proofs.Common.{Body5, Body7, BodyP, Some, all_at, length, map, on, subst, sym, ℕ, ◌<◌, ◌∙◌, ◌≡◌}
+use Rattle.record_groups.proofs.Common.{County, IsNumber, IsText, List, Option, group_at, nat_cmp, option_map, packed_p, slice_get, some_at}
+use Rattle.record_groups.proofs.Common.{PolygonKey, ap, entry_polyid, entry_values, length-map, most_records, option_to_list, slice_get-map}
 use Rattle.record_groups.proofs.Records.Grouped.{group_of}
 
 -- the entry at a place, with its number and its value

@@ -1,8 +1,7 @@
 -- The records of groups that were passed so far, and the rest.
-use Rattle.record_groups.proofs.Common.{◌≡◌, ◌+◌, ◌<◌, ◌≤◌, ◌++◌, ◌∙◌, ℕ, suc, List, length, map, take, drop, ap, arith, add-one, group_at}
-use Rattle.record_groups.proofs.Common.{grouped}
+use Rattle.record_groups.proofs.Common.{List, add-one, ap, arith, drop, group_at, grouped, length, length_headed, map, map-append, suc}
+use Rattle.record_groups.proofs.Common.{take, ℕ, ◌++◌, ◌+◌, ◌<◌, ◌∙◌, ◌≡◌, ◌≤◌}
 use Rattle.record_groups.proofs.Records.Grouped.{group_headed, grouped_around, grouped_parted, grouped_up_to, next_grouped}
-use Rattle.canonical_form.proofs.Lists.ListPlaces.{length_headed, map-append}
 
 module _ {X Y : Type 0} (f : X → Y) (groups : List (List X)) where
   -- some consecutive groups: the records before and after one of them, and the records passed with it

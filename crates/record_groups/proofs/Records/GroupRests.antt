@@ -1,9 +1,7 @@
 -- The rest of records in groups, from a place.
-use Rattle.record_groups.proofs.Common.{◌≡◌, ◌≤◌, ◌+◌, ◌∙◌, ℕ, zero, suc, List, [], ◌∷◌, ◌++◌, length, drop, Some, Option, Bool, true, false}
-use Rattle.record_groups.proofs.Common.{nat_lt, slice_get, unwrap_or, sym, refl, ap, ap₂, add-one, arith, group_at, grouped, ltb-false, rest_of}
-use Rattle.record_groups.proofs.Common.{slice_get_past}
-use Rattle.canonical_form.proofs.Common.{drop_all}
-use Rattle.std.specs.Bool.{if◌then◌else◌}
+use Rattle.record_groups.proofs.Common.{Bool, List, Option, Some, [], add-one, ap, ap₂, arith, drop, drop_all, false, group_at, grouped}
+use Rattle.record_groups.proofs.Common.{if◌then◌else◌, length, ltb-false, nat_lt, refl, rest_of, slice_get, slice_get_past, suc, sym, true}
+use Rattle.record_groups.proofs.Common.{unwrap_or, zero, ℕ, ◌++◌, ◌+◌, ◌∙◌, ◌∷◌, ◌≡◌, ◌≤◌}
 
 -- an element, then the rest after it
 dropped_before : {X : Type 0} (xs : List X) (n : ℕ) (x : X) → Some x ≡ slice_get xs n → drop n xs ≡ x ∷ drop (suc n) xs

@@ -1,11 +1,7 @@
 -- Groups made from the entries of a list, and lists read by place.
-use Rattle.record_groups.proofs.Common.{◌≡◌, ◌+◌, ◌<◌, ◌≤◌, ℕ, zero, suc, List, [], ◌∷◌, ◌++◌, length, take, drop, map, flat_map, Option, Some}
-use Rattle.record_groups.proofs.Common.{None, option_map, unwrap_or, slice_get, min, append-nil, append_assoc, sym, refl, ap, ◌∙◌, arith}
-use Rattle.record_groups.proofs.Common.{group_at, grouped, length-take, slice_get-map}
-use Rattle.canonical_form.proofs.Lists.ListPlaces.{get_dropped, get_taken}
-use Rattle.std.proofs.Math.Seq.{take-add}
-use Rattle.std.proofs.lemmas.Grind.{flat_map-append}
-use Rattle.std.proofs.lemmas.List.{take-append-drop}
+use Rattle.record_groups.proofs.Common.{List, Option, Some, [], ap, append-nil, append_assoc, arith, drop, flat_map, flat_map-append}
+use Rattle.record_groups.proofs.Common.{get_dropped, get_taken, group_at, grouped, length, map, option_map, refl, slice_get, slice_get-map}
+use Rattle.record_groups.proofs.Common.{suc, sym, take, take-add, take-append-drop, unwrap_or, zero, ℕ, ◌++◌, ◌+◌, ◌<◌, ◌∙◌, ◌∷◌, ◌≡◌}
 
 -- the group of an entry
 pub group_of : {X Y : Type 0} (f : X → List Y) (xs : List X) (place : ℕ) (x : X) → slice_get xs place ≡ Some x → group_at (map f xs) place ≡

@@ -1,13 +1,11 @@
 -- The groups of a county's records, joined, are its packing.
-use Rattle.record_groups.proofs.Common.{◌≡◌, List, ◌++◌, map, flat_map, filter_map, Option, Some, None, ap, ◌∙◌, nat_cmp, append-nil}
-use Rattle.record_groups.proofs.Common.{append_assoc, BodyP, County, Eight, FieldsP, Five, Four, I, One, P, PolygonKey, Seven, Six, Two}
-use Rattle.record_groups.proofs.Common.{entry_polyid, grouped, in_order, on, packed, packed_five, packed_i, packed_one, packed_p, packed_sevens}
-use Rattle.record_groups.proofs.Common.{polygons_by_number, type_1_by_chain, type_2_by_chain, type_4_by_chain, type_5_by_name, type_6_by_chain}
-use Rattle.record_groups.proofs.Common.{type_7_by_landmark, type_8_together, type_i_by_chain, type_p_by_number, types_1_to_4, types_5_to_7}
-use Rattle.record_groups.proofs.Common.{types_8_to_p}
-use Rattle.canonical_form.proofs.Common.{p_polyid, packed_body, packed_fours, packed_sixes, packed_twos}
-use Rattle.record_groups.proofs.Records.Grouped.{grouped_map, grouped_lone}
-use Rattle.record_groups.proofs.Records.Selected.{grouped_selected, selected_in_order}
+use Rattle.record_groups.proofs.Common.{BodyP, County, Eight, One, Option, grouped, in_order, nat_cmp, p_polyid, packed, packed_i, packed_p}
+use Rattle.record_groups.proofs.Common.{FieldsP, polygons_by_number, type_1_by_chain, type_2_by_chain, type_7_by_landmark, type_p_by_number}
+use Rattle.record_groups.proofs.Common.{Five, Four, List, None, P, Seven, Six, Some, Two, map, on, ◌++◌, ◌∙◌, ◌≡◌}
+use Rattle.record_groups.proofs.Common.{I, append_assoc, entry_polyid, packed_fours, packed_sixes, types_1_to_4, types_5_to_7, types_8_to_p}
+use Rattle.record_groups.proofs.Common.{PolygonKey, ap, append-nil, filter_map, flat_map, packed_body, packed_five, packed_one, packed_twos}
+use Rattle.record_groups.proofs.Common.{packed_sevens, type_4_by_chain, type_5_by_name, type_6_by_chain, type_8_together, type_i_by_chain}
+use Rattle.record_groups.proofs.Records.{Grouped.grouped_lone, Grouped.grouped_map, Selected.grouped_selected, Selected.selected_in_order}
 
 same_polyid : (entry : PolygonKey × Option BodyP) (r : FieldsP) → packed_p entry ≡ Some r → entry_polyid entry ≡ p_polyid r
 same_polyid entry r e = go entry.1 e

@@ -1,11 +1,7 @@
 -- Pieces of a list, read by place.
-use Rattle.record_groups.proofs.Common.{◌≡◌, ◌+◌, ◌*◌, ◌-◌, ◌<◌, ◌≤◌, ◌/◌, ◌%◌, ℕ, zero, suc, List, [], ◌∷◌, length, take, drop, min, Some}
-use Rattle.record_groups.proofs.Common.{option_map, slice_get, map, refl, ap, ◌∙◌, arith, in_pieces, length-map, numbered_from, slice_get-map}
-use Rattle.canonical_form.proofs.Common.{pieces}
-use Rattle.std.proofs.lemmas.Grind.{div_ceil_times}
-use Rattle.std.proofs.lemmas.List.{length-drop, drop-drop}
-use Rattle.county_chart.proofs.Packing.Pieces.{length-numbered_from}
-use Rattle.canonical_form.proofs.Arrangements.PolygonNumbers.{numbered_at}
+use Rattle.record_groups.proofs.Common.{List, Some, [], ap, arith, div_ceil_times, drop, drop-drop, in_pieces, length, length-drop}
+use Rattle.record_groups.proofs.Common.{length-map, length-numbered_from, map, min, numbered_at, numbered_from, option_map, pieces, refl}
+use Rattle.record_groups.proofs.Common.{slice_get, slice_get-map, suc, take, zero, ℕ, ◌%◌, ◌*◌, ◌+◌, ◌-◌, ◌/◌, ◌<◌, ◌∙◌, ◌∷◌, ◌≡◌, ◌≤◌}
 
 module _ {X : Type 0} (n : ℕ) where
   -- as many pieces as needed, and not one more

@@ -1,8 +1,5 @@
 -- Comparing the fields of records.
-use Rattle.record_groups.proofs.Common.{◌≡◌, Bool, true, false, refl, ap, Coordinates, Decides}
-use Rattle.canonical_form.proofs.Common.{◌&&◌}
-use Rattle.std.proofs.lemmas.Bool.Decides.{Decides-int_eq}
-use Rattle.std.specs.Ordering.{int_eq}
+use Rattle.record_groups.proofs.Common.{Bool, Coordinates, Decides, Decides-int_eq, ap, false, int_eq, refl, true, ◌&&◌, ◌≡◌}
 
 -- both of two tests
 decides_both : {P Q : Type 0} (b d : Bool) → Decides b P → Decides d Q → Decides (b && d) (P × Q)

@@ -1,12 +1,9 @@
 -- A record at a place among those of a chain.
-use Rattle.record_groups.proofs.Common.{◌≡◌, ◌+◌, ◌*◌, ◌/◌, ◌%◌, ◌<◌, ◌≤◌, ◌∙◌, ℕ, suc, List, [], ◌∷◌, Option, Some, None, length, map, min}
-use Rattle.record_groups.proofs.Common.{take, drop, slice_get, option_map, sym, ap, subst, Chain, Coordinates, County, Fields4, FieldsI}
-use Rattle.record_groups.proofs.Common.{IsCounty, IsNumberOrNone, IsWithinLimits, Ranges, chain_at, group_at, in_pieces, length-map}
-use Rattle.record_groups.proofs.Common.{most_records, numbered_from, packed_i, points_of, tlids}
-use Rattle.canonical_form.proofs.Common.{IfSome, Fields2, Fields6, FitsNumbers}
-use Rattle.canonical_form.proofs.Views.ChainPlaces.{ChainThere, chain_there, part_of}
+use Rattle.record_groups.proofs.Common.{Chain, County, Fields2, Fields4, Fields6, FieldsI, Option, Ranges, length, part_of, subst, tlids, ℕ}
+use Rattle.record_groups.proofs.Common.{ChainThere, Coordinates, IsWithinLimits, List, chain_there, length-map, most_records, numbered_from}
+use Rattle.record_groups.proofs.Common.{IsCounty, chain_at, group_at, in_pieces, map, option_map, packed_i, points_of, slice_get, some-same}
+use Rattle.record_groups.proofs.Common.{Some, [], ap, drop, lone, min, suc, sym, take, ◌%◌, ◌*◌, ◌+◌, ◌/◌, ◌<◌, ◌∙◌, ◌∷◌, ◌≡◌, ◌≤◌}
 use Rattle.record_groups.proofs.Records.Grouped.{group_of}
-use Rattle.canonical_form.proofs.Lists.ListPlaces.{lone, some-same}
 use Rattle.record_groups.proofs.Records.Pieces.{numbered_list_at, numbered_list_length, piece_begins, pieces_at, pieces_counted}
 
 -- the TLID read at a place belongs to the chain there

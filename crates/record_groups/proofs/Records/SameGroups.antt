@@ -1,12 +1,9 @@
 -- Lists that are compared place by place, and tests that decide whether they are the same.
-use Rattle.record_groups.proofs.Common.{◌≡◌, ◌<◌, ◌≤◌, ℕ, zero, suc, List, [], ◌∷◌, length, take, Bool, Some, slice_get, map, ◌++◌, sym}
-use Rattle.record_groups.proofs.Common.{ap, ◌∙◌, arith, County, Decides, Eight, Five, Four, I, IsCounty, One, P, Seven, Six, Two}
-use Rattle.canonical_form.proofs.Common.{county_of}
-use Rattle.record_groups.proofs.Common.{group_at, grouped, packed, type_1_by_chain, type_2_by_chain, type_4_by_chain}
-use Rattle.canonical_form.proofs.Common.{take_all}
-use Rattle.canonical_form.proofs.Packing.PackedCounty.{packed_county}
-use Rattle.record_groups.proofs.Common.{type_5_by_name, type_6_by_chain, type_7_by_landmark, type_8_together, type_i_by_chain, type_p_by_number}
-use Rattle.record_groups.specs.SharedGroups.{HaveSameCounts, HaveSameChains, HaveSameEntries}
+use Rattle.record_groups.proofs.Common.{Bool, County, Decides, Eight, Five, Four, HaveSameChains, HaveSameCounts, HaveSameEntries, I}
+use Rattle.record_groups.proofs.Common.{IsCounty, List, One, P, Seven, Six, Some, Two, [], ap, arith, county_of, group_at, grouped, length}
+use Rattle.record_groups.proofs.Common.{map, packed, packed_county, slice_get, suc, sym, take, take_all, type_1_by_chain, type_2_by_chain}
+use Rattle.record_groups.proofs.Common.{type_4_by_chain, type_5_by_name, type_6_by_chain, type_7_by_landmark, type_8_together}
+use Rattle.record_groups.proofs.Common.{type_i_by_chain, type_p_by_number, zero, ℕ, ◌++◌, ◌<◌, ◌∙◌, ◌∷◌, ◌≡◌, ◌≤◌}
 use Rattle.record_groups.proofs.Records.PackedGroups.{all_groups}
 
 module _ {X : Type 0} where

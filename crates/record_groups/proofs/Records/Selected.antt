@@ -1,9 +1,7 @@
 -- Selecting from a list that is put in order.
-use Rattle.record_groups.proofs.Common.{◌≡◌, ℕ, List, [], ◌∷◌, ◌++◌, map, filter_map, Bool, true, false, cond, Option, Some, None}
-use Rattle.record_groups.proofs.Common.{option_to_list, Ordering, sym, refl, ap, ◌∙◌, nat_cmp, AllByRecursion, all_weaker, cons_option, grouped}
-use Rattle.record_groups.proofs.Common.{in_order, on, on_total}
-use Rattle.canonical_form.proofs.Common.{is_gt, IsInOrder, in_order-in_order, nat_cmp_total, upto}
-use Rattle.ordered_lists.specs.Orders.{put_in_order}
+use Rattle.record_groups.proofs.Common.{AllByRecursion, Option, cons_option, in_order-in_order, nat_cmp_total, option_to_list, put_in_order}
+use Rattle.record_groups.proofs.Common.{Bool, List, None, Some, ap, cond, map, on, refl, sym, true, upto, ℕ, ◌++◌, ◌∙◌, ◌∷◌, ◌≡◌}
+use Rattle.record_groups.proofs.Common.{IsInOrder, Ordering, [], all_weaker, false, filter_map, grouped, in_order, is_gt, nat_cmp, on_total}
 
 pub grouped_selected : {X Y : Type 0} (h : X → Option Y) (xs : List X) → grouped (map (λ x. option_to_list (h x)) xs) ≡ filter_map h xs
 grouped_selected h [] = refl

@@ -1,8 +1,7 @@
 -- Records in groups, compared one by one.
-use Rattle.record_groups.proofs.Common.{◌≡◌, ◌∙◌, List, map, Ordering, Less, Equal, Greater, sym, ap, refl, Record, grouped, groups_cmp}
-use Rattle.record_groups.proofs.Common.{nat_list_cmp_total, on_total, ordering_then, records_cmp, spelling_cmp, spelling_of, tied_itself}
-use Rattle.canonical_form.proofs.Common.{IsTotalOrder}
-use Rattle.std.proofs.lemmas.Cmp.{lists_total}
+use Rattle.record_groups.proofs.Common.{Equal, Greater, IsTotalOrder, Less, List, Ordering, Record, ap, grouped, groups_cmp, lists_total}
+use Rattle.record_groups.proofs.Common.{map, nat_list_cmp_total, on_total, ordering_then, records_cmp, refl, spelling_cmp, spelling_of, sym}
+use Rattle.record_groups.proofs.Common.{tied_itself, ◌∙◌, ◌≡◌}
 
 pub records_total : IsTotalOrder records_cmp
 records_total = lists_total (on_total spelling_of nat_list_cmp_total)

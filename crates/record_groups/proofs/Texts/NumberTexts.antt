@@ -1,16 +1,10 @@
 -- Numbers are in the order of their canonical texts of one width.
-use Rattle.record_groups.proofs.Common.{◌≡◌, ◌==◌, ◌<◌, ◌+◌, ◌/◌, ◌%◌, ◌≢◌, ◌∙◌, ℕ, zero, suc, List, [], ◌∷◌, ◌++◌, length, length-append, Bool}
-use Rattle.record_groups.proofs.Common.{true, false, cond, Ordering, Less, Equal, Greater, nat_cmp, refl, sym, ap, ap₂, arith, exact_unsigned}
-use Rattle.record_groups.proofs.Common.{joined, nat_list_cmp_total, ordering_then, slice_cmp, tied_itself}
-use Rattle.std.proofs.Common.{◌^◌, nat_eq}
-use Rattle.canonical_form.proofs.Common.{MatchOrdering, eqb-true, ranked}
-use Rattle.std.proofs.lemmas.Bool.{eqb-false}
-use Rattle.std.specs.Cmp.{nat_cmp_is}
-use Rattle.tl_layout.specs.FieldTexts.{number_text}
-use Rattle.tl_layout.specs.Laws.NumberTextLaws.{length-number_text, tenth_below}
-use Rattle.tl_layout.specs.Laws.ColumnLaws.{joined-before}
-use Rattle.record_groups.proofs.Texts.GroupOrders.{decided}
-use Rattle.record_groups.proofs.Texts.RecordTexts.{cmp-append, then_equal}
+use Rattle.record_groups.proofs.Common.{Bool, Equal, Greater, Less, List, MatchOrdering, Ordering, [], ap, ap₂, arith, cond, eqb-false}
+use Rattle.record_groups.proofs.Common.{eqb-true, exact_unsigned, false, joined, joined-before, length, length-append, nat_cmp, nat_cmp_is}
+use Rattle.record_groups.proofs.Common.{nat_eq, nat_list_cmp_total, ordering_then, ranked, refl, slice_cmp, suc, sym, tied_itself, true}
+use Rattle.record_groups.proofs.Common.{zero, ℕ, ◌%◌, ◌++◌, ◌+◌, ◌/◌, ◌<◌, ◌==◌, ◌^◌, ◌∙◌, ◌∷◌, ◌≡◌, ◌≢◌}
+use Rattle.record_groups.proofs.{Texts.GroupOrders.decided, Texts.RecordTexts.cmp-append, Texts.RecordTexts.then_equal}
+use Rattle.tl_layout.specs.{FieldTexts.number_text, Laws.NumberTextLaws.length-number_text, Laws.NumberTextLaws.tenth_below}
 
 -- two pairs of numbers in one order
 pub record InOneOrder (a b x y : ℕ) : Type 0 where

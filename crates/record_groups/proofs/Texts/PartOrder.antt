@@ -1,9 +1,8 @@
 -- Lists of records that are compared at some of their places alone.
-use Rattle.record_groups.proofs.Common.{◌≡◌, ◌<◌, ◌+◌, ℕ, zero, suc, List, [], ◌∷◌, filter, length, Bool, true, false, cond, Ordering, Less}
-use Rattle.record_groups.proofs.Common.{Equal, Greater, Option, Some, None, refl, sym, ap, ap₂, ◌∙◌, arith, cons_option, is_some, subst, nat_lt}
-use Rattle.record_groups.proofs.Common.{ltb-false, ltb-true, option_cmp, ordering_then, range_with_len, slice_cmp, slice_get, slice_get_past}
-use Rattle.ordered_lists.proofs.Lists.AtPlaces.{at_all_places}
-use Rattle.ordered_lists.specs.Places.{at_places}
+use Rattle.record_groups.proofs.Common.{Bool, Equal, Greater, Less, List, None, Option, Ordering, Some, [], ap, ap₂, arith, at_all_places}
+use Rattle.record_groups.proofs.Common.{at_places, cond, cons_option, false, filter, is_some, length, ltb-false, ltb-true, nat_lt}
+use Rattle.record_groups.proofs.Common.{option_cmp, ordering_then, range_with_len, refl, slice_cmp, slice_get, slice_get_past, subst, suc}
+use Rattle.record_groups.proofs.Common.{sym, true, zero, ℕ, ◌+◌, ◌<◌, ◌∙◌, ◌∷◌, ◌≡◌}
 
 slice_get_within_some : {X : Type 0} (xs : List X) (place : ℕ) → place < length xs → is_some (slice_get xs place) ≡ true
 slice_get_within_some [] place h = absurd (omega (arith, h))

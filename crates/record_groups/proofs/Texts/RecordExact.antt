@@ -1,14 +1,11 @@
 -- Records of types 4, I and P that fit and have the same spelling are the same.
-use Rattle.record_groups.proofs.Common.{◌≡◌, ◌∙◌, ◌++◌, map, Equal, Ok, Result, sym, ap, subst, AllByRecursion, County, Eight, Fields4, FieldsI, FieldsP, Four, I}
-use Rattle.record_groups.proofs.Common.{IsCounty, IsWithinLimits, P, grouped, most_records, spelling_cmp}
-use Rattle.canonical_form.proofs.Common.{all_left, all_right, all_unmap, lists_keys, nat_keys}
-use Rattle.record_groups.proofs.Common.{One, Two, topologies_of, type_1_by_chain, type_2_by_chain, type_4_by_chain, type_8_together}
-use Rattle.record_groups.proofs.Common.{type_p_by_number, types_1_to_4, types_5_to_7, types_8_to_p}
-use Rattle.county_chart.proofs.Limits.FitsPacked.{packed-fits}
-use Rattle.tl_layout.specs.Laws.TypeLaws.{layout_laws}
-use Rattle.tl_layout.specs.RecordText.{FitsRecord, spelling_of}
-use Rattle.tl_layout.specs.RecordTypes.{Type4, TypeI, TypeP, fields_spelling, reading_of}
+use Rattle.record_groups.proofs.Common.{AllByRecursion, County, Eight, Equal, Fields4, FieldsI, FieldsP, Four, I, IsCounty, IsWithinLimits}
+use Rattle.record_groups.proofs.Common.{Ok, One, P, Result, Two, Type4, TypeI, TypeP, all_left, all_right, all_unmap, ap, fields_spelling}
+use Rattle.record_groups.proofs.Common.{grouped, layout_laws, lists_keys, map, most_records, nat_keys, packed-fits, reading_of}
+use Rattle.record_groups.proofs.Common.{spelling_cmp, subst, sym, topologies_of, type_1_by_chain, type_2_by_chain, type_4_by_chain}
+use Rattle.record_groups.proofs.Common.{type_8_together, type_p_by_number, types_1_to_4, types_5_to_7, types_8_to_p, ◌++◌, ◌∙◌, ◌≡◌}
 use Rattle.record_groups.proofs.Records.PackedGroups.{all_groups}
+use Rattle.tl_layout.specs.RecordText.{FitsRecord, spelling_of}
 
 ok_value : {A E : Type 0} (x y : A) → ◌≡◌ {A = Result A E} (Ok x) (Ok y) → x ≡ y
 ok_value x y e = cc

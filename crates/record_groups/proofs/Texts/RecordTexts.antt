@@ -1,12 +1,9 @@
 -- Texts are ordered by the spellings of their records, one after the other.
-use Rattle.record_groups.proofs.Common.{◌≡◌, ◌==◌, ◌+◌, ℕ, List, [], ◌∷◌, ◌++◌, length, cond, Ordering, Less, Equal, Greater, nat_cmp, refl, sym}
-use Rattle.record_groups.proofs.Common.{ap, ◌∙◌, subst, length-append, arith, AllByRecursion, Eight, Five, Four, I, One, P, Record, Seven, Six}
-use Rattle.record_groups.proofs.Common.{Two, exact_unsigned, ordering_then, records_cmp, slice_cmp, spelling_of, text_of}
-use Rattle.canonical_form.proofs.Common.{◌⊎◌, inl, inr}
-use Rattle.tl_layout.specs.Bytes.{IsLine}
-use Rattle.tl_layout.specs.Laws.RecordLaws.{spelling_is_line}
-use Rattle.tl_layout.specs.RecordText.{FitsRecord, len_of, type_of}
-use Rattle.canonical_form.proofs.Lists.ListPlaces.{then_assoc}
+use Rattle.record_groups.proofs.Common.{AllByRecursion, Eight, Equal, FitsRecord, Five, Four, Greater, I, IsLine, Less, List, One, Ordering}
+use Rattle.record_groups.proofs.Common.{P, Record, Seven, Six, Two, [], ap, arith, cond, exact_unsigned, inl, inr, length, length-append}
+use Rattle.record_groups.proofs.Common.{nat_cmp, ordering_then, records_cmp, refl, slice_cmp, spelling_is_line, spelling_of, subst, sym}
+use Rattle.record_groups.proofs.Common.{text_of, then_assoc, ℕ, ◌++◌, ◌+◌, ◌==◌, ◌∙◌, ◌∷◌, ◌≡◌, ◌⊎◌}
+use Rattle.tl_layout.specs.RecordText.{len_of, type_of}
 
 -- a second comparison that finds both equal decides nothing
 pub then_equal : (a : Ordering) → ordering_then a Equal ≡ a

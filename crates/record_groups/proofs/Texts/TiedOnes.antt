@@ -1,10 +1,9 @@
 -- The type 1 records of two arrangements, compared only at open places.
-use Rattle.record_groups.proofs.Common.{◌≡◌, ◌≢◌, ◌≤◌, ℕ, zero, suc, nat_lt, List, [], ◌∷◌, length, get_or, Bool, true, false, Less, Equal}
-use Rattle.record_groups.proofs.Common.{Greater, Some, slice_get, sym, refl, ap, ap₂, ◌∙◌, arith, AreTiedAt, AreTiedBelow, AreWhole, County}
-use Rattle.record_groups.proofs.Common.{DirectedChain, IsCounty, Record, arranged_by, ltb-false, ltb-true, one_at, ones_of, option_cmp}
-use Rattle.record_groups.proofs.Common.{ordering_then, records_cmp, slice_get-get_or, slice_get_past, spelling_cmp}
-use Rattle.record_groups.proofs.Texts.GroupOrders.{decided}
-use Rattle.record_groups.proofs.Texts.TypeOnes.{length-ones_arranged_by, ones_arranged_by, same_one}
+use Rattle.record_groups.proofs.Common.{AreTiedAt, AreTiedBelow, AreWhole, Bool, County, DirectedChain, Equal, Greater, IsCounty, Less}
+use Rattle.record_groups.proofs.Common.{List, Record, Some, [], ap, ap₂, arith, arranged_by, false, get_or, length, ltb-false, ltb-true}
+use Rattle.record_groups.proofs.Common.{nat_lt, one_at, ones_of, option_cmp, ordering_then, records_cmp, refl, slice_get, slice_get-get_or}
+use Rattle.record_groups.proofs.Common.{slice_get_past, spelling_cmp, suc, sym, true, zero, ℕ, ◌∙◌, ◌∷◌, ◌≡◌, ◌≢◌, ◌≤◌}
+use Rattle.record_groups.proofs.Texts.{GroupOrders.decided, TypeOnes.length-ones_arranged_by, TypeOnes.ones_arranged_by, TypeOnes.same_one}
 
 -- the first place where two lists aren't tied decides
 pub first_untied : (rs ss : List Record) (place : ℕ) → AreTiedBelow place rs ss

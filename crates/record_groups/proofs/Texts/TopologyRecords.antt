@@ -1,15 +1,9 @@
 -- The records of type I of a county in an arrangement.
-use Rattle.record_groups.proofs.Common.{◌≡◌, ◌≤◌, ◌+◌, ℕ, List, map, length, Option, Some, None, option_map}
-use Rattle.record_groups.proofs.Common.{slice_get, refl, ap, ◌∙◌, AreWhole, Chain}
-use Rattle.record_groups.proofs.Common.{County, DirectedChain, I, IsCounty, arranged_by, arrangement_of, directed_chain, topologies_of}
-use Rattle.record_groups.proofs.Common.{packed_i, placed, renaming_of, slice_get-map}
-use Rattle.record_groups.proofs.Common.{slice_get_past}
-use Rattle.canonical_form.proofs.Common.{renumbered}
-use Rattle.canonical_form.proofs.Arrangements.Carrying.{chains_arranged}
+use Rattle.record_groups.proofs.Common.{AreWhole, Chain, County, DirectedChain, I, IsCounty, List, None, Option, Some, ap, arranged_by}
+use Rattle.record_groups.proofs.Common.{arrangement_of, arranges, bodies_read, chains, chains_arranged, directed_chain, kept_entry, length}
+use Rattle.record_groups.proofs.Common.{map, numbered_at, option_map, packed_i, placed, read_there, refl, renaming_of, renumbered}
+use Rattle.record_groups.proofs.Common.{slice_get, slice_get-map, slice_get_past, topologies_of, ℕ, ◌+◌, ◌∙◌, ◌≡◌, ◌≤◌}
 use Rattle.record_groups.proofs.Records.PackedGroups.{is}
-use Rattle.canonical_form.proofs.Unique.SameNumbers.{kept_entry}
-use Rattle.canonical_form.proofs.Views.ViewChains.{arranges, bodies_read, chains, read_there}
-use Rattle.canonical_form.proofs.Arrangements.PolygonNumbers.{numbered_at}
 
 -- the type I record of a chain
 pub topology_record_there : (county : County) (place : ℕ) → slice_get (topologies_of county) place ≡ option_map (λ entry. I (packed_i entry))

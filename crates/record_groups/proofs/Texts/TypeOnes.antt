@@ -1,19 +1,12 @@
 -- The type 1 records of a county in an arrangement.
-use Rattle.record_groups.proofs.Common.{◌≡◌, ◌<◌, ◌≤◌, ◌+◌, ℕ, List, map, length, Bool, true, false, Option, Some, None, option_map, slice_get}
-use Rattle.record_groups.proofs.Common.{Equal, sym, refl, ap, ◌∙◌, subst, arith, AreWhole, Chain, County, DirectedChain, IsCounty}
-use Rattle.record_groups.proofs.Common.{IsWithinLimits, One, Record, arranged_by, arrangement_of, directed_chain, length-map, most_records}
-use Rattle.record_groups.proofs.Common.{nat_list_cmp_total, one_at, ones_of, option_cmp, packed_one, placed, renaming_of, slice_get-map}
-use Rattle.record_groups.proofs.Common.{spelling_cmp, spelling_of, tied_itself, tlids, turned_if}
-use Rattle.canonical_form.proofs.Common.{arranged_tlids}
-use Rattle.std.proofs.lemmas.List.Sorted.{length_permutation}
-use Rattle.canonical_form.specs.DirectedChains.{tlid_at}
-use Rattle.std.proofs.lemmas.List.{length-reverse}
-use Rattle.canonical_form.proofs.Arrangements.Carrying.{chains_arranged}
-use Rattle.canonical_form.proofs.Views.ChainPlaces.{chain_there}
+use Rattle.record_groups.proofs.Common.{AreWhole, Bool, Chain, County, DirectedChain, Equal, IsCounty, IsWithinLimits, List, None, One}
+use Rattle.record_groups.proofs.Common.{Option, Record, Some, ap, arith, arranged_by, arranged_tlids, arrangement_of, arranges, bodies_read}
+use Rattle.record_groups.proofs.Common.{chain_there, chains, chains_arranged, chains_arranged_by, directed_chain, false, kept_entry, length}
+use Rattle.record_groups.proofs.Common.{length-map, length-reverse, length_permutation, map, most_records, nat_list_cmp_total, numbered_at}
+use Rattle.record_groups.proofs.Common.{one_at, ones_of, option_cmp, option_map, packed_one, placed, read_there, refl, renaming_of}
+use Rattle.record_groups.proofs.Common.{slice_get, slice_get-map, spelling_cmp, spelling_of, subst, sym, tied_itself, tlid_at, tlids, true}
+use Rattle.record_groups.proofs.Common.{turned_if, ℕ, ◌+◌, ◌<◌, ◌∙◌, ◌≡◌, ◌≤◌}
 use Rattle.record_groups.proofs.Records.PackedGroups.{ones}
-use Rattle.canonical_form.proofs.Unique.SameNumbers.{kept_entry}
-use Rattle.canonical_form.proofs.Views.ViewChains.{arranges, bodies_read, chains, chains_arranged_by, read_there}
-use Rattle.canonical_form.proofs.Arrangements.PolygonNumbers.{numbered_at}
 
 -- a record compared with itself, if there is one
 pub same_one : (r : Option Record) → Equal ≡ option_cmp spelling_cmp r r

@@ -1,5 +1,4 @@
-use Rattle.arranged_county.proofs.Common.{sym}
-use Rattle.arranged_county.proofs.Views.ViewNumbers.{get_up_to, none_up_to}
+use Rattle.arranged_county.proofs.{Common.sym, Views.ViewNumbers.get_up_to, Views.ViewNumbers.none_up_to}
 use Rattle.arranged_county.proofs.arranged_chart.number_at.Goals as goal
 
 pub returns-then-place-count : goal.returns-then-place-count

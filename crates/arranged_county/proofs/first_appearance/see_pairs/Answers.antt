@@ -1,5 +1,4 @@
-use Rattle.arranged_county.proofs.Common.{◌<◌, ◌∙◌, length, arith}
-use Rattle.std.proofs.lemmas.List.{take_more_set}
+use Rattle.arranged_county.proofs.Common.{arith, length, take_more_set, ◌<◌, ◌∙◌}
 use Rattle.arranged_county.proofs.Views.ArrangedPairs.{first_few, left_later, pair_numbered, pair_seen, second_few}
 use Rattle.arranged_county.proofs.first_appearance.see_pairs.Goals as goal
 

@@ -1,7 +1,6 @@
-use Rattle.arranged_county.proofs.Common.{◌∷◌, [], ◌++◌, sym, ap₂, ◌∙◌, subst, arith, is_gt, nat_cmp, IsInOrder, eight_land, links_up_to, on}
-use Rattle.std.proofs.lemmas.List.FromFn.{map-range_with_len_more}
-use Rattle.ordered_lists.proofs.ByKey.KeyedLists.{in_order-filter}
-use Rattle.arranged_county.proofs.Landmarks.LandmarkLinks.{fewer_later, bound_stated, later_next}
+use Rattle.arranged_county.proofs.Common.{IsInOrder, [], ap₂, arith, eight_land, in_order-filter, is_gt, links_up_to}
+use Rattle.arranged_county.proofs.Common.{map-range_with_len_more, nat_cmp, on, subst, sym, ◌++◌, ◌∙◌, ◌∷◌}
+use Rattle.arranged_county.proofs.Landmarks.LandmarkLinks.{bound_stated, fewer_later, later_next}
 use Rattle.arranged_county.proofs.landmark_links.bounds_of.Goals as goal
 
 pub overflow_sub-links : goal.overflow_sub-links

@@ -1,15 +1,13 @@
-use Rattle.arranged_county.proofs.Common.{◌≡◌, ◌++◌, OnOk, arith, length, map, rules, slice_get, subst, tests, YieldsList-at}
-use Rattle.arranged_county.proofs.Common.{YieldsList-from_filter_map, YieldsList-from_map, YieldsList-from_range, link_under, links_at}
-use Rattle.arranged_county.proofs.Common.{range_with_len}
-use Rattle.std.proofs.lemmas.Iterator.Adapters.{items_from_extend}
-use Rattle.arranged_county.proofs.Landmarks.LandmarkLinks.{listed}
-use Rattle.arranged_county.proofs.Names.NameOrder.{filter_map_all}
+use Rattle.arranged_county.proofs.Common.{OnOk, YieldsList-at, arith, length, link_under, links_at, map, rules, subst, tests, ◌++◌, ◌≡◌}
+use Rattle.arranged_county.proofs.Common.{YieldsList-from_filter_map, YieldsList-from_map, YieldsList-from_range, range_with_len, slice_get}
+use Rattle.arranged_county.proofs.{Landmarks.LandmarkLinks.listed, Names.NameOrder.filter_map_all}
+use Rattle.county_chart.proofs.Common.{items_from_extend}
 use Rattle.arranged_county.proofs.landmark_links.push_links.Goals as goal
 
 pub returns : goal.returns
 returns g c =
     let own = links_at (g.C.Chart.county c.args.chart.now) c.args.place in
-    let renumbered = link_under (g.P.PolygonNumbers.in_order c.args.order.now.polygons.now) c.args.order.now.lands.now in
+    let renumbered = link_under c.args.order.now.polygons.now c.args.order.now.lands.now in
     let pushed = items_from_extend c.extend.result c.extend.ensures.ran
     (YieldsList-from_map _ renumbered
     (YieldsList-at c.map.ensures.source

@@ -1,7 +1,6 @@
-use Rattle.arranged_county.proofs.Common.{◌≡◌, ◌∙◌, ℕ, List, Ordering, ap, nat_cmp, refl, rules, sym, Fields8, YieldsList-from_map}
-use Rattle.arranged_county.proofs.Common.{YieldsList-from_slice, link_part, link_part_cmp, ordering_then, slice_cmp}
-use Rattle.std.proofs.lemmas.Iterator.Search.{cmp_from_yields_List}
-use Rattle.std.specs.Iterator.Adapters.{map_callee}
+use Rattle.arranged_county.proofs.Common.{Fields8, List, Ordering, YieldsList-from_map, YieldsList-from_slice, ap, cmp_from_yields_List}
+use Rattle.arranged_county.proofs.Common.{link_part, link_part_cmp, map_callee, nat_cmp, ordering_then, refl, rules, slice_cmp, sym, ℕ, ◌∙◌}
+use Rattle.arranged_county.proofs.Common.{◌≡◌}
 use Rattle.arranged_county.proofs.Landmarks.LandmarkOrder.{cmp_mapped}
 use Rattle.arranged_county.proofs.landmark_order.cmp_links.Goals as goal
 

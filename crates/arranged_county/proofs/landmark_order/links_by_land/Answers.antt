@@ -12,4 +12,4 @@ links_under-links-requires-clause-few_lands g c =
 pub bounds_of-requires-clause-in_order : goal.bounds_of-requires-clause-in_order
 bounds_of-requires-clause-in_order g c =
     subst (IsInOrder (on eight_land nat_cmp)) (sym (c.deref.ensures.value ∙ c.in_ok-links.ensures))
-    (numbered_by_land (g.C.Chart.county c.args.chart.now) (g.P.PolygonNumbers.in_order c.args.polygons.now) c.in_ok-lands.lands)
+    (numbered_by_land (g.C.Chart.county c.args.chart.now) c.args.polygons.now c.in_ok-lands.lands)

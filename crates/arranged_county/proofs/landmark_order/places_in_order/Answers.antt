@@ -1,31 +1,30 @@
-use Rattle.arranged_county.proofs.Common.{◌≡◌, ◌+◌, ◌-◌, ℕ, List, length, nat_cmp, false, sym, ap, ◌∙◌, subst, arith, County, Fields8}
-use Rattle.arranged_county.proofs.Common.{IfOk-weaker, IsInOrder, IsPermutation, PolygonKey, eight_land, has_repeat, landmark_place_cmp, lands}
-use Rattle.arranged_county.proofs.Common.{lands_at, length-range_with_len, link_bounds, links_up_to, numbered_links, on, range_with_len}
-use Rattle.std.proofs.lemmas.List.Sorted.{IsPermutation-refl}
-use Rattle.std.proofs.lemmas.List.FromFn.{length-map-range_with_len}
-use Rattle.arranged_county.specs.LandmarkItems.{place_cmp_under}
-use Rattle.arranged_county.proofs.Landmarks.LandmarkOrder.{all_lands, all_lands_once, numbered_by_land}
+use Rattle.arranged_county.proofs.Common.{AreSortedLandmarks, County, Fields8, IfOk-weaker, IsInOrder, IsPermutation, List, PolygonKey, ap}
+use Rattle.arranged_county.proofs.Common.{arith, eight_land, false, has_repeat, landmark_place_cmp, lands, lands_at, length}
+use Rattle.arranged_county.proofs.Common.{length-map-range_with_len, length-range_with_len, link_bounds, links_up_to, nat_cmp}
+use Rattle.arranged_county.proofs.Common.{numbered_links, on, place_cmp_under, range_with_len, subst, sym, ℕ, ◌+◌, ◌-◌, ◌∙◌, ◌≡◌}
+use Rattle.arranged_county.proofs.Landmarks.LandmarkOrder.{all_lands, all_lands_once, all_sorted, numbered_by_land, sorted_in_order}
 use Rattle.arranged_county.proofs.landmark_order.places_in_order.Given.{Over}
+use Rattle.canonical_form.proofs.Common.{IsPermutation-refl}
 use Rattle.arranged_county.proofs.landmark_order.places_in_order.Goals.{After-as_slice-2}
 use Rattle.arranged_county.proofs.landmark_order.places_in_order.Goals as goal
 
 pub links_by_land-requires-clause-few_places : goal.links_by_land-requires-clause-few_places
 links_by_land-requires-clause-few_places g c =
-    let county = g.C.Chart.county c.args.chart.now in
+    let county = g.C.Chart.county c.args.classes.now.chart.now in
     let count = ap length (c.deref.ensures.value ∙ c.in_ok-unordered.ensures) ∙ length-range_with_len 0 (length county.landmarks) in
     let few = c.requires.few in
     omega (arith, count, few)
 
 pub links_by_land-requires-clause-all : goal.links_by_land-requires-clause-all
 links_by_land-requires-clause-all g c =
-    let all = range_with_len 0 (length (g.C.Chart.county c.args.chart.now).landmarks) in
+    let all = range_with_len 0 (length (g.C.Chart.county c.args.classes.now.chart.now).landmarks) in
     subst (IsPermutation all) (sym (c.deref.ensures.value ∙ c.in_ok-unordered.ensures)) (IsPermutation-refl all)
 
 pub links_by_land-requires-clause-once : goal.links_by_land-requires-clause-once
 links_by_land-requires-clause-once g c =
-    let county = g.C.Chart.county c.args.chart.now in
+    let county = g.C.Chart.county c.args.classes.now.chart.now in
     subst (λ places. has_repeat nat_cmp (lands_at county places) ≡ false) (sym (c.deref.ensures.value ∙ c.in_ok-unordered.ensures))
-    (all_lands_once county (g.met.C.Chart.is_county c.args.chart.now))
+    (all_lands_once county (g.met.C.Chart.is_county c.args.classes.now.chart.now))
 
 -- the facts about the lists by which landmarks are sorted
 record AreListed (county : County) (polygons : List PolygonKey) (links : List Fields8) (bounds : List ℕ) : Type 0 where
@@ -53,29 +52,43 @@ are_listed county polygons places links bounds all numbered bounded =
     }
 
 listed : (g : Over) (c : After-as_slice-2 g)
-    → AreListed (g.C.Chart.county c.args.chart.now) (g.P.PolygonNumbers.in_order c.args.polygons.now) c.as_slice.result.now c.as_slice-2.result.now
-listed g c = are_listed (g.C.Chart.county c.args.chart.now) (g.P.PolygonNumbers.in_order c.args.polygons.now) c.deref.result.now c.as_slice.result.now c.as_slice-2.result.now
+    → AreListed (g.C.Chart.county c.args.classes.now.chart.now) c.args.polygons.now c.as_slice.result.now c.as_slice-2.result.now
+listed g c = are_listed (g.C.Chart.county c.args.classes.now.chart.now) c.args.polygons.now c.deref.result.now c.as_slice.result.now c.as_slice-2.result.now
     (c.deref.ensures.value ∙ c.in_ok-unordered.ensures) (c.as_slice.ensures.value ∙ c.in_ok-links.ensures.links)
     (c.as_slice-2.ensures.value ∙ c.in_ok-links.ensures.bounds
     ∙ ap (λ ls. link_bounds ls (length c.deref.result.now)) (sym c.as_slice.ensures.value))
 
 pub invariant_of-lists : goal.invariant_of-lists
 invariant_of-lists g c =
-    let county = g.C.Chart.county c.args.chart.now in
+    let county = g.C.Chart.county c.args.classes.now.chart.now in
     let h = listed g (goal.at.invariant_of-lists g c).After-as_slice-2 in
     record {
-      in_order = subst (IsInOrder (on eight_land nat_cmp)) (sym h.numbered) (numbered_by_land county (g.P.PolygonNumbers.in_order c.args.polygons.now) (lands county));
+      in_order = subst (IsInOrder (on eight_land nat_cmp)) (sym h.numbered) (numbered_by_land county c.args.polygons.now (lands county));
       some = omega (arith, h.long);
       bounded = h.bounded;
     }
 
+pub returns-clause-permutation : goal.returns-clause-permutation
+returns-clause-permutation g c =
+    let county = g.C.Chart.county c.args.classes.now.chart.now in
+    let links = c.as_slice.result.now in
+    let count = length c.as_slice-2.result.now - 1 in
+    let classed = c.args.classes.now.landmarks.items in
+    IfOk-weaker c.sorted_places.result (λ places. AreSortedLandmarks links count c.deref-2.result.now places.items)
+    (λ places. IsPermutation (range_with_len 0 (length county.landmarks)) places.items)
+    (λ places sorted. all_sorted county links count classed c.args.classes.now.landmarks_stated places.items
+    (subst (λ ls. AreSortedLandmarks links count ls places.items) c.deref-2.ensures.value sorted)) c.sorted_places.ensures
+
 pub returns-clause-in_order : goal.returns-clause-in_order
 returns-clause-in_order g c =
-    let county = g.C.Chart.county c.args.chart.now in
+    let county = g.C.Chart.county c.args.classes.now.chart.now in
     let links = c.as_slice.result.now in
     let bounds = c.as_slice-2.result.now in
+    let classed = c.args.classes.now.landmarks.items in
     let h = listed g (goal.at.returns-clause-in_order g c).After-as_slice-2 in
-    IfOk-weaker c.sort_places.result (λ places. IsInOrder (landmark_place_cmp county links (length bounds - 1)) places.items)
-    (λ places. IsInOrder (place_cmp_under county (g.P.PolygonNumbers.in_order c.args.polygons.now)) places.items)
-    (λ places ordered. subst (λ ls. IsInOrder (landmark_place_cmp county ls (length county.landmarks)) places.items) h.numbered
-    (subst (λ n. IsInOrder (landmark_place_cmp county links n) places.items) h.counted ordered)) c.sort_places.ensures.in_order
+    IfOk-weaker c.sorted_places.result (λ places. AreSortedLandmarks links (length bounds - 1) c.deref-2.result.now places.items)
+    (λ places. IsInOrder (place_cmp_under county c.args.polygons.now) places.items)
+    (λ places sorted. subst (λ ls. IsInOrder (landmark_place_cmp county ls (length county.landmarks)) places.items) h.numbered
+    (subst (λ n. IsInOrder (landmark_place_cmp county links n) places.items) h.counted
+    (sorted_in_order county links (length bounds - 1) classed c.args.classes.now.landmarks_stated places.items
+    (subst (λ ls. AreSortedLandmarks links (length bounds - 1) ls places.items) c.deref-2.ensures.value sorted)))) c.sorted_places.ensures

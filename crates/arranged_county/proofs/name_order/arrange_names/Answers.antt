@@ -4,15 +4,15 @@ use Rattle.arranged_county.proofs.name_order.arrange_names.Goals as goal
 
 pub number_feats-requires : goal.number_feats-requires
 number_feats-requires g c =
-    let county = g.C.Chart.county c.args.chart.now in
+    let county = g.C.Chart.county c.args.classes.now.chart.now in
     subst (λ places. has_repeat nat_cmp (filter_map (slice_get (feats county)) places) ≡ false) (sym c.deref.ensures.value)
-    (feats_once county c.args.arrangement.now (g.met.C.Chart.is_county c.args.chart.now) c.requires.whole c.in_ok-places.places.items
+    (feats_once county c.args.arrangement.now (g.met.C.Chart.is_county c.args.classes.now.chart.now) c.requires.whole c.in_ok-places.places.items
     c.in_ok-places.ensures)
 
 pub returns : goal.returns
 returns g c =
-    let county = g.C.Chart.county c.args.chart.now in
-    let is = g.met.C.Chart.is_county c.args.chart.now in
+    let county = g.C.Chart.county c.args.classes.now.chart.now in
+    let is = g.met.C.Chart.is_county c.args.classes.now.chart.now in
     let places = c.in_ok-places.places.items in
     let found : c.in_ok-feats.feats ≡ filter_map (slice_get (feats county)) places =
     c.in_ok-feats.ensures ∙ ap (filter_map (slice_get (feats county))) c.deref.ensures.value in

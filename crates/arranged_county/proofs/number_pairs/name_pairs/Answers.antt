@@ -1,6 +1,5 @@
-use Rattle.arranged_county.proofs.Common.{◌≡◌, ◌+◌, ℕ, IfOk, rules, subst, tests, YieldsList-at, YieldsList-from_map, YieldsList-from_slice}
-use Rattle.arranged_county.proofs.Common.{items_from_collect}
-use Rattle.std.proofs.lemmas.Iterator.Consumers.{YieldsList-from_enumerate}
+use Rattle.arranged_county.proofs.Common.{IfOk, YieldsList-at, YieldsList-from_enumerate, YieldsList-from_map, YieldsList-from_slice}
+use Rattle.arranged_county.proofs.Common.{items_from_collect, rules, subst, tests, ℕ, ◌+◌, ◌≡◌}
 use Rattle.arranged_county.proofs.Views.RenamingPairs.{enumerated}
 use Rattle.arranged_county.proofs.number_pairs.name_pairs.Goals as goal
 

@@ -1,7 +1,6 @@
-use Rattle.arranged_county.proofs.Common.{◌≡◌, ◌+◌, IfOk, ap, arith, length, map, rules, subst, tests, YieldsList-at, YieldsList-from_map}
-use Rattle.arranged_county.proofs.Common.{YieldsList-from_range, YieldsList-from_slice, items_from_collect, under_cenid}
-use Rattle.std.proofs.lemmas.Iterator.{YieldsList-from_zip}
-use Rattle.std.proofs.lemmas.Iterator.Consumers.{YieldsList-from_copied}
+use Rattle.arranged_county.proofs.Common.{IfOk, YieldsList-at, YieldsList-from_copied, YieldsList-from_map, YieldsList-from_range}
+use Rattle.arranged_county.proofs.Common.{YieldsList-from_slice, YieldsList-from_zip, ap, arith, items_from_collect, length, map, rules}
+use Rattle.arranged_county.proofs.Common.{subst, tests, under_cenid, ◌+◌, ◌≡◌}
 use Rattle.arranged_county.proofs.Views.RenamingPairs.{zip_numbered}
 use Rattle.arranged_county.proofs.number_pairs.polygon_pairs.Goals as goal
 

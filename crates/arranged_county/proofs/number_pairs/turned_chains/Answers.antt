@@ -1,6 +1,5 @@
-use Rattle.arranged_county.proofs.Common.{◌≡◌, IfOk, rules, slice_get, subst, tests, YieldsList-at, YieldsList-from_filter_map}
-use Rattle.arranged_county.proofs.Common.{YieldsList-from_slice, items_from_collect, tlids}
-use Rattle.std.proofs.lemmas.Iterator.Consumers.{YieldsList-from_filter}
+use Rattle.arranged_county.proofs.Common.{IfOk, YieldsList-at, YieldsList-from_filter, YieldsList-from_filter_map, YieldsList-from_slice}
+use Rattle.arranged_county.proofs.Common.{items_from_collect, rules, slice_get, subst, tests, tlids, ◌≡◌}
 use Rattle.arranged_county.proofs.Views.RenamingPairs.{turned_found}
 use Rattle.arranged_county.proofs.number_pairs.turned_chains.Goals as goal
 

@@ -1,5 +1,4 @@
-use Rattle.arranged_county.proofs.Common.{sym}
-use Rattle.canonical_form.proofs.Numbering.NewNumbers.{number_seen, number_unseen}
+use Rattle.arranged_county.proofs.Common.{number_seen, number_unseen, sym}
 use Rattle.arranged_county.proofs.renumbering.new_feat.Goals as goal
 
 pub returns-in-Some : goal.returns-in-Some

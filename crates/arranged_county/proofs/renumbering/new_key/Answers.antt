@@ -1,5 +1,4 @@
-use Rattle.arranged_county.proofs.Common.{sym}
-use Rattle.canonical_form.proofs.Numbering.NewNumbers.{key_seen, key_unseen}
+use Rattle.arranged_county.proofs.Common.{key_seen, key_unseen, sym}
 use Rattle.arranged_county.proofs.renumbering.new_key.Goals as goal
 
 pub returns-in-Some-clause-image : goal.returns-in-Some-clause-image

@@ -1,7 +1,4 @@
-use Rattle.record_groups.proofs.Common.{◌≡◌, ◌+◌, ◌∙◌, drop, suc, take, sym, ap, arith}
-use Rattle.std.specs.List.{push}
-use Rattle.ordered_lists.proofs.Lists.Places.{next_taken}
-use Rattle.canonical_form.proofs.Lists.ListPlaces.{get_dropped}
+use Rattle.record_groups.proofs.Common.{ap, arith, drop, get_dropped, next_taken, push, suc, sym, take, ◌+◌, ◌∙◌, ◌≡◌}
 use Rattle.record_groups.proofs.chain_records.items_from.Goals as goal
 
 pub loop-ahead-preserved : goal.loop-ahead-preserved

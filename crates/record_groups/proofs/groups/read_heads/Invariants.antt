@@ -1,5 +1,4 @@
-use Rattle.record_groups.proofs.Common.{◌≡◌, length, take}
-use Rattle.record_groups.specs.Groups.{AreHeads}
+use Rattle.record_groups.proofs.Common.{AreHeads, length, take, ◌≡◌}
 use Rattle.record_groups.proofs.groups.read_heads.Given as goal
 
 -- the heads up to this one were read

@@ -1,9 +1,6 @@
-use Rattle.record_groups.proofs.Common.{◌≡◌, ◌+◌, ◌++◌, ◌∷◌, ◌∙◌, [], Ok, map, take, drop, suc, subst, sym, ap, arith, add-one}
-use Rattle.record_groups.proofs.Common.{err_from_is_err_and, group_at}
+use Rattle.record_groups.proofs.Common.{Ok, [], add-one, ap, arith, drop, err_from_is_err_and, group_at, map, map-append, next_taken}
+use Rattle.record_groups.proofs.Common.{parted, some_at, subst, suc, sym, take, ◌++◌, ◌+◌, ◌∙◌, ◌∷◌, ◌≡◌}
 use Rattle.record_groups.proofs.Records.OneAfterAnother.{second_stops}
-use Rattle.ordered_lists.proofs.Lists.Places.{next_taken}
-use Rattle.canonical_form.proofs.Views.ChainPlaces.{some_at}
-use Rattle.canonical_form.proofs.Lists.ListPlaces.{map-append, parted}
 use Rattle.record_groups.proofs.groups.visit_whole_group.Goals as goal
 
 pub returns-in_err-visit_group-clause-given : goal.returns-in_err-visit_group-clause-given

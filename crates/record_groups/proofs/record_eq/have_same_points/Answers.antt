@@ -1,5 +1,4 @@
-use Rattle.std.proofs.lemmas.Slice.Eq.{slice_eq-Decides}
-use Rattle.record_groups.proofs.Records.RecordFields.{points_decide}
+use Rattle.record_groups.proofs.{Common.slice_eq-Decides, Records.RecordFields.points_decide}
 use Rattle.record_groups.proofs.record_eq.have_same_points.Goals as goal
 
 pub returns : goal.returns

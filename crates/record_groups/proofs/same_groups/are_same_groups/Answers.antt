@@ -1,5 +1,4 @@
-use Rattle.record_groups.proofs.Common.{◌≡◌, ◌∙◌, ◌++◌, true, rules, drop, length, take, sym, ap, arith, length-take}
-use Rattle.std.proofs.Math.Seq.{take-add}
+use Rattle.record_groups.proofs.Common.{ap, arith, drop, length, length-take, rules, sym, take, take-add, true, ◌++◌, ◌∙◌, ◌≡◌}
 use Rattle.record_groups.proofs.same_groups.are_same_groups.Goals as goal
 
 pub loop-first-preserved : goal.loop-first-preserved

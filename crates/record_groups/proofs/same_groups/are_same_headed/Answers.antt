@@ -1,8 +1,5 @@
-use Rattle.record_groups.proofs.Common.{◌≡◌, ◌∙◌, true, rules, drop, length, take, sym, arith}
-use Rattle.ordered_lists.proofs.Lists.ByPlace.{same_next}
-use Rattle.record_groups.proofs.Records.Grouped.{group_headed}
-use Rattle.canonical_form.proofs.Lists.ListPlaces.{length_headed}
-use Rattle.record_groups.proofs.Records.SameGroups.{same_group}
+use Rattle.record_groups.proofs.Common.{arith, drop, length, length_headed, rules, same_next, sym, take, true, ◌∙◌, ◌≡◌}
+use Rattle.record_groups.proofs.{Records.Grouped.group_headed, Records.SameGroups.same_group}
 use Rattle.record_groups.proofs.same_groups.are_same_headed.Goals as goal
 
 pub loop-ahead-preserved : goal.loop-ahead-preserved

@@ -1,8 +1,5 @@
-use Rattle.record_groups.proofs.Common.{◌≡◌, ◌∙◌, ◌-◌, ℕ, Decides, group_at, refl, rules, slice_get, sym, true, false, arith}
-use Rattle.std.proofs.lemmas.Iterator.{YieldsList-from_range, cases_from_all}
-use Rattle.canonical_form.proofs.Common.{false≢true}
-use Rattle.canonical_form.proofs.Choices.FixedPlaces.{decides_equal}
-use Rattle.canonical_form.proofs.Lists.Counting.{places_from_decide}
+use Rattle.record_groups.proofs.Common.{Decides, YieldsList-from_range, arith, cases_from_all, decides_equal, false, false≢true, group_at}
+use Rattle.record_groups.proofs.Common.{places_from_decide, refl, rules, slice_get, sym, true, ℕ, ◌-◌, ◌∙◌, ◌≡◌}
 use Rattle.record_groups.proofs.same_groups.is_same_group.Goals as goal
 
 pub returns-then-count_in-count : goal.returns-then-count_in-count

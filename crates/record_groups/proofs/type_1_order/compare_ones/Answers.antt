@@ -1,6 +1,4 @@
-use Rattle.record_groups.proofs.Common.{sym, subst, AllByRecursion, StandInOrder, arranged_by, ones_of}
-use Rattle.canonical_form.proofs.Choices.FixedPlaces.{nothing_left, before_apart}
-use Rattle.canonical_form.specs.MovedChains.{IsApart}
+use Rattle.record_groups.proofs.Common.{AllByRecursion, IsApart, StandInOrder, arranged_by, before_apart, nothing_left, ones_of, subst, sym}
 use Rattle.record_groups.proofs.Texts.TiedOnes.{all_tied, same_tied}
 use Rattle.record_groups.proofs.type_1_order.compare_ones.Goals as goal
 

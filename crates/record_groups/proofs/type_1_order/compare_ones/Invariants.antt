@@ -1,6 +1,5 @@
 -- The records apart from the remaining open places are tied.
-use Rattle.record_groups.proofs.Common.{ℕ, length, AllByRecursion, AreTiedAt, StandInOrder, arranged_by, ones_of}
-use Rattle.canonical_form.specs.MovedChains.{AreWithin, IsApart}
+use Rattle.record_groups.proofs.Common.{AllByRecursion, AreTiedAt, AreWithin, IsApart, StandInOrder, arranged_by, length, ones_of, ℕ}
 use Rattle.record_groups.proofs.type_1_order.compare_ones.Given as goal
 
 abbrev pub invariant-loop-at : goal.invariant-loop-at

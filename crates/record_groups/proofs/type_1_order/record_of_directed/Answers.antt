@@ -1,8 +1,5 @@
-use Rattle.record_groups.proofs.Common.{◌≡◌, ◌+◌, ◌-◌, Some, is_some, length, option_map, slice_get, sym, ap, ◌∙◌, arith}
-use Rattle.county_chart.proofs.Limits.FewChains.{few_chains}
-use Rattle.record_groups.proofs.Common.{first_point, last_point, packed_one, points_of}
-use Rattle.canonical_form.proofs.Lists.ListPlaces.{some-same}
-use Rattle.canonical_form.proofs.Views.ChainPlaces.{first_at, last_at}
+use Rattle.record_groups.proofs.Common.{Some, ap, arith, few_chains, first_at, first_point, is_some, last_at, last_point, length}
+use Rattle.record_groups.proofs.Common.{option_map, packed_one, points_of, slice_get, some-same, sym, ◌+◌, ◌-◌, ◌∙◌, ◌≡◌}
 use Rattle.record_groups.proofs.Texts.TypeOnes.{directed_there}
 use Rattle.record_groups.proofs.type_1_order.record_of_directed.Goals as goal
 

@@ -1,6 +1,4 @@
-use Rattle.arranged_county.proofs.Common.{arith, false}
-use Rattle.county_chart.proofs.Limits.FewChains.{few_chains}
-use Rattle.canonical_form.proofs.Views.ViewChains.{numbered_past, numbered_there}
+use Rattle.arranged_county.proofs.Common.{arith, false, few_chains, numbered_past, numbered_there}
 use Rattle.arranged_county.proofs.arranged.Arranged.directed_or_past.Goals as goal
 
 pub returns-in-Some : goal.returns-in-Some

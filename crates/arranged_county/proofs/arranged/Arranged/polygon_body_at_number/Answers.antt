@@ -1,7 +1,5 @@
-use Rattle.arranged_county.proofs.Common.{◌+◌, ◌∙◌, slice_get, option_map, sym, ap, PolygonKey, arranged_by, numbered, slice_get-map}
-use Rattle.arranged_county.proofs.Common.{under_number}
-use Rattle.std.specs.Option.{option_flatten}
-use Rattle.canonical_form.proofs.Arrangements.PolygonNumbers.{content_at_number, key_numbered}
+use Rattle.arranged_county.proofs.Common.{PolygonKey, ap, arranged_by, content_at_number, key_numbered, numbered, option_flatten}
+use Rattle.arranged_county.proofs.Common.{option_map, slice_get, slice_get-map, sym, under_number, ◌+◌, ◌∙◌}
 use Rattle.arranged_county.proofs.arranged.Arranged.polygon_body_at_number.Goals as goal
 
 pub returns : goal.returns

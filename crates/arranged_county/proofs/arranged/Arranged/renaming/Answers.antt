@@ -1,8 +1,6 @@
-use Rattle.arranged_county.proofs.Common.{◌∙◌, ap, subst, sym, arranged_by, arrangement_of, numbered}
-use Rattle.canonical_form.proofs.Common.{Carries}
-use Rattle.canonical_form.proofs.Arrangements.Carrying.{arrangement_carries}
+use Rattle.arranged_county.proofs.Common.{ap, arranged_by, arrangement_of, arranges, numbered, subst, sym, ◌∙◌}
+use Rattle.canonical_form.proofs.{Arrangements.Carrying.arrangement_carries, Common.Carries}
 use Rattle.canonical_form.specs.Arrangement.{renaming_of}
-use Rattle.canonical_form.proofs.Views.ViewChains.{arranges}
 use Rattle.arranged_county.proofs.arranged.Arranged.renaming.Goals as goal
 
 pub returns-clause-value : goal.returns-clause-value

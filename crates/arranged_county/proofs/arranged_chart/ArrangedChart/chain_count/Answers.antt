@@ -1,5 +1,4 @@
-use Rattle.arranged_county.proofs.Common.{sym, ap, ◌∙◌, length}
-use Rattle.canonical_form.proofs.Views.ViewChains.{chains_arranged_by}
+use Rattle.arranged_county.proofs.Common.{ap, chains_arranged_by, length, sym, ◌∙◌}
 use Rattle.arranged_county.proofs.arranged_chart.ArrangedChart.chain_count.Goals as goal
 
 pub returns : goal.returns

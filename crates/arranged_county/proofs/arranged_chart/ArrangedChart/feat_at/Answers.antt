@@ -1,6 +1,5 @@
-use Rattle.arranged_county.proofs.Common.{◌≡◌, ◌≤◌, slice_get, sym, ap, ◌∙◌, arith, arranged_by, feats, up_to}
-use Rattle.arranged_county.proofs.Views.ViewNumbers.{within_up_to}
-use Rattle.arranged_county.proofs.Views.ViewTables.{feats_arranged_by}
+use Rattle.arranged_county.proofs.Common.{ap, arith, arranged_by, feats, slice_get, sym, up_to, ◌∙◌, ◌≡◌, ◌≤◌}
+use Rattle.arranged_county.proofs.{Views.ViewNumbers.within_up_to, Views.ViewTables.feats_arranged_by}
 use Rattle.arranged_county.proofs.arranged_chart.ArrangedChart.feat_at.Given.{Over}
 use Rattle.arranged_county.proofs.arranged_chart.ArrangedChart.feat_at.Goals.{After-len}
 use Rattle.arranged_county.proofs.arranged_chart.ArrangedChart.feat_at.Goals as goal

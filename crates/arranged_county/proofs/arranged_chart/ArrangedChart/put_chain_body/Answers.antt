@@ -1,9 +1,5 @@
-use Rattle.arranged_county.proofs.Common.{◌≡◌, ◌∙◌, List, ℕ, Option, Some, option_map, take, refl, ap, is_some, false, Chain, arranged_by}
-use Rattle.tl_layout.specs.Columns.{joined}
-use Rattle.canonical_form.proofs.Views.ChainPlaces.{chain_there}
-use Rattle.tl_layout.specs.Turned.{body_towards}
-use Rattle.tl_layout.specs.Type1Groups.{body_1_texts}
-use Rattle.canonical_form.proofs.Views.ViewChains.{stated, unstated}
+use Rattle.arranged_county.proofs.Common.{Chain, List, Option, Some, ap, arranged_by, body_1_texts, body_towards, chain_there, false}
+use Rattle.arranged_county.proofs.Common.{is_some, joined, option_map, refl, stated, take, unstated, ℕ, ◌∙◌, ◌≡◌}
 use Rattle.arranged_county.proofs.arranged_chart.ArrangedChart.put_chain_body.Goals as goal
 
 pub returns-in-Some : goal.returns-in-Some

@@ -1,5 +1,4 @@
-use Rattle.arranged_county.proofs.Common.{slice_get, sym, ap, ◌∙◌, length, up_to}
-use Rattle.canonical_form.proofs.Views.ViewChains.{tlids_arranged_by}
+use Rattle.arranged_county.proofs.Common.{ap, length, slice_get, sym, tlids_arranged_by, up_to, ◌∙◌}
 use Rattle.arranged_county.proofs.arranged_chart.ArrangedChart.tlid_at.Goals as goal
 
 pub returns : goal.returns

@@ -1,9 +1,8 @@
-use Rattle.arranged_county.proofs.Common.{◌≡◌, ◌<◌, ◌^◌, ◌+◌, ◌∷◌, [], ◌++◌, Some, ◌%◌, get_or, length, length-append, ap, sym, subst, ◌∙◌}
-use Rattle.arranged_county.proofs.Common.{arith, IsKeyOrder, stands_in}
+use Rattle.arranged_county.proofs.Common.{AreApart, ArePlaced, IsKeyOrder, Some, [], ap, arith, found_by_either, get_or, length}
+use Rattle.arranged_county.proofs.Common.{length-append, stands_in, subst, sym, ◌%◌, ◌++◌, ◌+◌, ◌<◌, ◌^◌, ◌∙◌, ◌∷◌, ◌≡◌}
+use Rattle.arranged_county.proofs.Numbering.PlacedKeys.{apart_more, nowhere, slot_marked, tabled_ahead, tabled_more}
 use Rattle.indexmap.specs.IndexMap.{get as found_by_hash}
 use Rattle.std.specs.BTreeMap.{get as found_in_order}
-use Rattle.arranged_county.specs.PlacedKeys.{AreApart, ArePlaced, found_by_either}
-use Rattle.arranged_county.proofs.Numbering.PlacedKeys.{apart_more, nowhere, slot_marked, tabled_ahead, tabled_more}
 use Rattle.arranged_county.proofs.numbers.Interner.add.Goals as goal
 
 pub invariant_of-self-then-is_free : goal.invariant_of-self-then-is_free

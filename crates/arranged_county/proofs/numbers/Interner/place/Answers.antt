@@ -1,5 +1,4 @@
-use Rattle.arranged_county.proofs.Common.{is_eq, ap, ◌∙◌, arith, IsKeyOrder, position, stands_in}
-use Rattle.std.proofs.lemmas.Option.{IfSome_then, slice_get_within}
+use Rattle.arranged_county.proofs.Common.{IfSome_then, IsKeyOrder, ap, arith, is_eq, position, slice_get_within, stands_in, ◌∙◌}
 use Rattle.arranged_county.proofs.Numbering.PlacedKeys.{stated_first}
 use Rattle.arranged_county.proofs.numbers.Interner.place.Goals as goal
 

@@ -1,5 +1,4 @@
-use Rattle.record_groups.proofs.Common.{◌∷◌, [], arith, packed_one}
-use Rattle.canonical_form.proofs.Views.ChainPlaces.{ends_at}
+use Rattle.record_groups.proofs.Common.{[], arith, ends_at, packed_one, ◌∷◌}
 use Rattle.record_groups.proofs.Records.RecordPlaces.{two_points}
 use Rattle.record_groups.proofs.chain_records.ChainRecordsRecordGroups.head.Goals as goal
 

@@ -1,12 +1,8 @@
 -- The number, the content and the points are written one after another, as the record is spelled.
-use Rattle.record_groups.proofs.Common.{◌∙◌, ◌∷◌, ◌++◌, [], Some, option_map, take, sym, ap, first_point, joined, last_point, packed_one}
-use Rattle.std.proofs.Common.{codes}
+use Rattle.record_groups.proofs.Common.{Some, Type1, [], ap, byte_of, codes, first_point, joined, last_point, number_text, option_map}
+use Rattle.record_groups.proofs.Common.{packed_one, part_of, point_texts, sym, take, ◌++◌, ◌∙◌, ◌∷◌}
 use Rattle.record_groups.proofs.Records.RecordPlaces.{chain_of_group, lone_of, tlid_of}
-use Rattle.canonical_form.proofs.Views.ChainPlaces.{part_of}
-use Rattle.tl_layout.specs.FieldTexts.{number_text}
-use Rattle.tl_layout.specs.RecordTables.{rtype_1}
-use Rattle.tl_layout.specs.RecordTypes.{Type1, fields_spelling}
-use Rattle.tl_layout.specs.Type1Groups.{body_1_texts, point_texts}
+use Rattle.tl_layout.specs.{RecordTypes.fields_spelling, Type1Groups.body_1_texts}
 use Rattle.record_groups.proofs.chain_records.ChainRecordsRecordGroups.put.Goals as goal
 
 pub returns : goal.returns
@@ -16,7 +12,7 @@ returns g c =
     let there = chain_of_group (λ entry. packed_one entry ∷ []) (g.C.Chart.county chart) (g.met.C.Chart.is_county chart)
     (g.met.C.Chart.within_limits chart) c.args.group c.requires.group in
     let tlid_is = tlid_of there c.chain_tlid.result c.chain_tlid.ensures.tlid in
-    let numbered = c.put_number.ensures ∙ ap (λ n. (rtype_1 ∷ codes "2006") ++ number_text 10 n) tlid_is in
+    let numbered = c.put_number.ensures ∙ ap (λ n. (byte_of Type1 ∷ codes "2006") ++ number_text 10 n) tlid_is in
     let body_is = part_of (λ chain. joined (take 15 c.put_number.new.out) (body_1_texts chain.body)) there
     (take 190 c.put_chain_body.new.out) c.put_chain_body.ensures in
     let ends_are = part_of (λ chain. (first_point chain.points, last_point chain.points)) there c.args.head.0 c.requires.head in

@@ -1,6 +1,5 @@
-use Rattle.record_groups.proofs.Common.{◌∙◌, ◌∷◌, [], Some, sym, ap, first_point, last_point, packed_one}
+use Rattle.record_groups.proofs.Common.{Some, [], ap, first_point, last_point, packed_one, part_of, sym, ◌∙◌, ◌∷◌}
 use Rattle.record_groups.proofs.Records.RecordPlaces.{chain_of_group, lone_of, tlid_of}
-use Rattle.canonical_form.proofs.Views.ChainPlaces.{part_of}
 use Rattle.record_groups.proofs.chain_records.ChainRecordsRecordGroups.record.Goals as goal
 
 pub returns : goal.returns

@@ -1,6 +1,6 @@
-use Rattle.record_groups.proofs.Common.{◌*◌, ◌<◌, ◌∙◌, Some, drop, length, sym, ap, subst, arith, AllByRecursion, IsNumber, chain_at, feats_of}
-use Rattle.record_groups.proofs.Records.RecordPlaces.{tlid_of, PieceThere, four_of, piece_there}
-use Rattle.ordered_lists.proofs.Lists.Counted.{all_take, all_drop}
+use Rattle.record_groups.proofs.Common.{AllByRecursion, IsNumber, Some, all_drop, all_take, ap, arith, chain_at, drop, feats_of, length}
+use Rattle.record_groups.proofs.Common.{subst, sym, ◌*◌, ◌<◌, ◌∙◌}
+use Rattle.record_groups.proofs.Records.RecordPlaces.{PieceThere, four_of, piece_there, tlid_of}
 use Rattle.record_groups.proofs.chain_records.Rec4SequencedRecord.make.Given.{Over}
 use Rattle.record_groups.proofs.chain_records.Rec4SequencedRecord.make.Goals.{Start}
 use Rattle.record_groups.proofs.chain_records.Rec4SequencedRecord.make.Goals as goal

@@ -1,5 +1,4 @@
-use Rattle.record_groups.proofs.Common.{arith, chain_at, points_of}
-use Rattle.canonical_form.proofs.Limits.CarriedLimits.{length-inner}
+use Rattle.record_groups.proofs.Common.{arith, chain_at, length-inner, points_of}
 use Rattle.record_groups.proofs.chain_records.ShapePointsListed.count.Goals as goal
 
 pub returns : goal.returns

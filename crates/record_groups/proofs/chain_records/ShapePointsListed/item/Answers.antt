@@ -1,6 +1,4 @@
-use Rattle.record_groups.proofs.Common.{◌∙◌, sym, arith, chain_at, points_of}
-use Rattle.canonical_form.proofs.Limits.CarriedLimits.{length-inner}
-use Rattle.canonical_form.proofs.Views.ChainPlaces.{few_inner, inner_at}
+use Rattle.record_groups.proofs.Common.{arith, chain_at, few_inner, inner_at, length-inner, points_of, sym, ◌∙◌}
 use Rattle.record_groups.proofs.chain_records.ShapePointsListed.item.Goals as goal
 
 pub overflow_add-place : goal.overflow_add-place

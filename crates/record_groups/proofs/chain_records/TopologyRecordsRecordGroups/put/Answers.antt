@@ -1,7 +1,6 @@
 -- The written bytes are the spelling of the chain's record.
-use Rattle.record_groups.proofs.Common.{◌∙◌, ◌∷◌, [], Some, option_map, sym, ap, packed_i}
+use Rattle.record_groups.proofs.Common.{Some, [], ap, option_map, packed_i, sym, type_i_spelling, ◌∙◌, ◌∷◌}
 use Rattle.record_groups.proofs.Records.RecordPlaces.{chain_of_group, lone_of, topology_of}
-use Rattle.tl_layout.specs.TypeI.{type_i_spelling}
 use Rattle.record_groups.proofs.chain_records.TopologyRecordsRecordGroups.put.Goals as goal
 
 pub returns : goal.returns

@@ -1,6 +1,5 @@
-use Rattle.record_groups.proofs.Common.{◌∙◌, ◌∷◌, [], Some, sym, ap, subst, IsNumberOrNone, packed_i}
+use Rattle.record_groups.proofs.Common.{IsNumberOrNone, Some, [], ap, packed_i, part_of, subst, sym, ◌∙◌, ◌∷◌}
 use Rattle.record_groups.proofs.Records.RecordPlaces.{chain_of_group, lone_of, topology_of}
-use Rattle.canonical_form.proofs.Views.ChainPlaces.{part_of}
 use Rattle.record_groups.proofs.chain_records.TopologyRecordsRecordGroups.record.Goals as goal
 
 pub new-requires-clause-nodes : goal.new-requires-clause-nodes

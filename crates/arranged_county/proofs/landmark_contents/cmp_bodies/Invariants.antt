@@ -1,5 +1,5 @@
 use Rattle.arranged_county.proofs.Common.{◌≡◌, drop, bodies_at, landmark_body_cmp, slice_cmp}
-use Rattle.arranged_county.proofs.landmark_bodies.cmp_bodies.Given as goal
+use Rattle.arranged_county.proofs.landmark_contents.cmp_bodies.Given as goal
 
 abbrev pub invariant-loop-body : goal.invariant-loop-body
 invariant-loop-body g l =

@@ -1,7 +1,7 @@
-use Rattle.arranged_county.proofs.Common.{◌≡◌, ◌<◌, ◌≤◌, ◌+◌, suc, List, length, drop, sym, ap₂, ◌∙◌, subst, arith, slice_get, Body7, bodies_at}
-use Rattle.arranged_county.proofs.Common.{landmark_body_cmp, option_cmp, slice_cmp}
-use Rattle.arranged_county.proofs.Lists.ItemByItem.{agrees_at, differs_at, beginning_less}
-use Rattle.arranged_county.proofs.landmark_bodies.cmp_bodies.Goals as goal
+use Rattle.arranged_county.proofs.Common.{Body7, List, ap₂, arith, bodies_at, drop, landmark_body_cmp, length, option_cmp, slice_cmp}
+use Rattle.arranged_county.proofs.Common.{slice_get, subst, suc, sym, ◌+◌, ◌<◌, ◌∙◌, ◌≡◌, ◌≤◌}
+use Rattle.arranged_county.proofs.Lists.ItemByItem.{agrees_at, beginning_less, differs_at}
+use Rattle.arranged_county.proofs.landmark_contents.cmp_bodies.Goals as goal
 
 pub returns-in_default : goal.returns-in_default
 returns-in_default g c =

@@ -1,5 +1,5 @@
 use Rattle.arranged_county.proofs.Common.{arith, length, YieldsList-from_range, items_from_collect}
-use Rattle.arranged_county.proofs.landmark_bodies.all_places.Goals as goal
+use Rattle.arranged_county.proofs.landmark_order.all_places.Goals as goal
 
 pub returns : goal.returns
 returns g c =
