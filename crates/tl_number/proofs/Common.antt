@@ -1,67 +1,119 @@
--- The names from below that several proofs of this crate cite, passed on from one place. Declares nothing.
-pub use Rattle.canonical_form.proofs.Common.{lists_keys, IsApart, IsKeyOrder, Known, all_known, apart-permutation, apart_from_sorted, apart_tail}
-pub use Rattle.canonical_form.proofs.Common.{known-here, known-permutation, known-permutation_to, known-right, known_all, known_cases, nat_keys}
-pub use Rattle.canonical_form.proofs.Common.{same-itself, same-true, same_or_not, times-append, times-permutation, times-yes, all-in_order, each_from}
-pub use Rattle.canonical_form.proofs.Common.{Among, all_among, apart_from_no_repeat, has_repeat-apart, all_append, all_both, all_everywhere, all_left}
-pub use Rattle.canonical_form.proofs.Common.{all_map, all_right, all_unmap, all_weaker, map-map, map_agree_all, map_agree_everywhere, in_order-equal}
-pub use Rattle.canonical_form.proofs.Common.{in_order-in_order, in_order-map, in_order-permutation, not_greater, among-permutation, among-unmap}
-pub use Rattle.canonical_form.proofs.Common.{among_known, known_is_among, apart-permutation_of, in_order-is_permutation, IsInOrder, has_repeat}
-pub use Rattle.canonical_form.proofs.Common.{in_order, stands_in, times, image, ◌%◌, ◌&&◌, ◌*◌, ◌++◌, ◌+◌, ◌-◌, ◌/◌, ◌<◌, ◌==◌, ◌||◌, ◌∙◌, ◌∷◌, ◌≡◌}
-pub use Rattle.canonical_form.proofs.Common.{◌≤◌, ◌⊎◌, Bool, Equal, Greater, IfSome, IsPermutation, IsTrue, Less, List, None, Option, Ordering, Some}
-pub use Rattle.canonical_form.proofs.Common.{[], ap, append-nil, append_assoc, ap₂, arith, cond, drop, false, filter, filter_map, flat_map, inl, inr}
-pub use Rattle.canonical_form.proofs.Common.{is_eq, is_gt, is_lt, is_some, length, length-append, map, map-id, min, nat_cmp, nat_lt, not, option_map}
-pub use Rattle.canonical_form.proofs.Common.{option_to_list, refl, slice_get, subst, suc, sym, take, true, zero, ℕ, false≢true, lt-ltb, ltb-false}
-pub use Rattle.canonical_form.proofs.Common.{ltb-true, true≢false, nat_cmp_total, on_total, ranked, tied_itself, upto, drop_all, length-map}
-pub use Rattle.canonical_form.proofs.Common.{length-take, map-append, take_all, length-range_with_len, IsPermutation-map, IsPermutation-sym}
-pub use Rattle.canonical_form.proofs.Common.{IsPermutation-trans, Decides, AllByRecursion, cons_option, insert, list_any, range_with_len}
-pub use Rattle.canonical_form.proofs.Common.{MatchOrdering, on, ordering_reverse, ordering_then, any-stands_in, rights-numbered_from}
-pub use Rattle.canonical_form.proofs.Common.{landmark_body_cmp, link_cmp, link_part_cmp, County, link_key, AllKeysStandIn, AllStandIn, IsCounty}
-pub use Rattle.canonical_form.proofs.Common.{feats, lands, nodes_along, polygon_keys, polygons_along, tlids, key_keys, points_keys, IsWithinLimits}
-pub use Rattle.canonical_form.proofs.Common.{most_records, masked, in_pieces, inner_points, numbered_from, packed, packed_body, packed_fours}
-pub use Rattle.canonical_form.proofs.Common.{packed_i, packed_p, packed_sevens, packed_sixes, packed_twos, PolygonKey, key_cmp, AreSame, Carries}
-pub use Rattle.canonical_form.proofs.Common.{Renumbering, carried_name, renumbered, renumbered_polygon, DirectedChain, Coordinates, Fields2, Fields4}
-pub use Rattle.canonical_form.proofs.Common.{Fields6, Fields8, FieldsI, FieldsP, IsNumber, IsNumberOrNone, text_of, Ranges, Record, Eight, Five, Four}
-pub use Rattle.canonical_form.proofs.Common.{I, One, P, Seven, Six, Body5, Body7, BodyP, IsArranged, IsTidy, entry_points, Arrangement, Arranges}
-pub use Rattle.canonical_form.proofs.Common.{arranged_tlids, ascending, entry_shape, landmarks_in_order, links_relinked, names_in_order, new_keys}
-pub use Rattle.canonical_form.proofs.Common.{nodes_in_order, placed, polygons_in_order, relinked, under_cenid, arranged, renaming_of, IsNotAfter}
-pub use Rattle.canonical_form.proofs.Common.{first_seen, first_seen_after, numbered, up_to, IsLeastBelow, turned_by, IsLeastChoice, numbered_choice}
-pub use Rattle.canonical_form.proofs.Common.{Use, all_uses, landmark_key, landmark_key_cmp, name_key, name_key_cmp, use_cmp, uses_of_name, choices}
-pub use Rattle.canonical_form.proofs.Common.{is_either_way, open_places, IsInProfile, AreInShapeOrder, OrderOfShapes, points_along, Chain, points_cmp}
-pub use Rattle.canonical_form.proofs.Common.{turned_if}
-pub use Rattle.ordered_lists.specs.Entries.{entry_keys, entry_values}
-pub use Rattle.std.proofs.Common.{◌^◌, ◌≢◌, Err, IfOk, Ok, Result, codes, get_or, nat_le, rules, tests, unwrap_or}
-pub use Rattle.std.proofs.lemmas.Cmp.{nat_list_cmp_total, then_total}
-pub use Rattle.std.proofs.lemmas.Iterator.{YieldsList-from_range, YieldsList-from_slice, items_from_collect}
-pub use Rattle.std.proofs.lemmas.Iterator.Consumers.{YieldsList-from_filter_map}
-pub use Rattle.std.proofs.lemmas.List.Sorted.{length_permutation}
-pub use Rattle.std.proofs.lemmas.Map.Lookups.{exact_unsigned}
-pub use Rattle.std.proofs.lemmas.Option.{slice_get-get_or, slice_get-map, slice_get_past}
-pub use Rattle.std.proofs.lemmas.Result.{IfOk-weaker}
-pub use Rattle.std.specs.Cmp.Lexicographic.{slice_cmp}
-pub use Rattle.std.specs.Option.{option_cmp}
-pub use Rattle.county_chart.proofs.Limits.FewChains.{few_chains}
-pub use Rattle.county_chart.specs.ChartWords.{chain_at, feats_of, links_at, links_with, ranges_of}
-pub use Rattle.county_chart.specs.DirectedChains.{directed_chain}
-pub use Rattle.county_chart.specs.Renumbering.{side_of}
-pub use Rattle.tl_layout.specs.Columns.{joined}
-pub use Rattle.tl_layout.specs.PolygonSide.{PolygonSide}
-pub use Rattle.tl_layout.specs.RecordText.{spelling_of}
-pub use Rattle.canonical_form.specs.ByNumber.{polygons_by_number, under_number}
-pub use Rattle.canonical_form.specs.CanonCounties.{IsCanonCounty}
-pub use Rattle.tl_number.specs.ChoiceSearch.{IsChosen, IsLesserTie, numbered_arrangement}
-pub use Rattle.record_groups.specs.CountyGroups.{type_1_by_chain, type_2_by_chain, type_4_by_chain, type_5_by_name, type_6_by_chain}
-pub use Rattle.record_groups.specs.CountyGroups.{type_7_by_landmark, type_8_together, type_i_by_chain, type_p_by_number}
-pub use Rattle.tl_number.specs.CriticalPlaces.{AreTieTables, IsOpenOrder, critical_numbers}
-pub use Rattle.tl_number.specs.OpenKeys.{AreOpenKeys, first_open, is_open, keys_along, newly_seen, open_keys, place_in}
-pub use Rattle.canonical_form.specs.DirectedChains.{HasChainsOf, arrangement_of}
-pub use Rattle.canonical_form.specs.EndsAndSides.{ends_of, nodes_at, sides_of}
-pub use Rattle.record_groups.specs.Groups.{group_at, grouped}
-pub use Rattle.canonical_form.specs.LeastNumber.{choice_list, choices_cmp}
-pub use Rattle.canonical_form.specs.MovedChains.{AgreeApart, AreWithin, StandInOrder, other_way}
-pub use Rattle.arranged_county.specs.NameItems.{feats_along_arrangement}
-pub use Rattle.canonical_form.specs.NumberedChoices.{first_stood, moved}
-pub use Rattle.record_groups.specs.RecordOrder.{groups_cmp, topologies_of, records_cmp, spelling_cmp}
-pub use Rattle.record_groups.specs.TypeOneOrder.{IsLeastFrom, ones_cmp, ones_of}
-pub use Rattle.canonical_form.specs.WholeArrangements.{AreReadAt, AreWhole, NamesEachOnce, arranged_by}
-pub use Rattle.arranged_county.specs.Views.{arranged_county}
-pub use Rattle.county_chart.specs.declared.open_place.OpenPlace.{OpenPlace}
+-- The names from below that the proofs of this crate cite, passed on from one place. Declares nothing.
+pub use Rattle.arranged_county.proofs.Common.{AllByRecursion, AllKeysStandIn, DirectedChain, arrangement_of, directed_chain, names_in_order}
+pub use Rattle.arranged_county.proofs.Common.{AreReadAt, entry_values, flat_map-map, in_order-map, polygon_keys, times-append, under_number}
+pub use Rattle.arranged_county.proofs.Common.{AreWhole, Fields8, IsCounty, link_part, same_Some, slice_cmp, slice_get, stands_in, unwrap_or}
+pub use Rattle.arranged_county.proofs.Common.{Arrangement, HasChainsOf, IfOk-weaker, PolygonSide, among_known, arranged_by, uses_of_name, ℕ}
+pub use Rattle.arranged_county.proofs.Common.{Body5, IsTotalOrder, append_assoc, nat_cmp_total, numbered_from, ordering_then, slice_get-map}
+pub use Rattle.arranged_county.proofs.Common.{Body7, Chain, Equal, Known, [], arith, get_or, joined, length, lt-ltb, nat_le, placed, ranked}
+pub use Rattle.arranged_county.proofs.Common.{Bool, filter-filtered, in_order-weaker, ordering_reverse, slice_get_within, whole_arrangement}
+pub use Rattle.arranged_county.proofs.Common.{County, IfSome, IsTrue, Option, Result, chains, filter, rank_of, side_of, tlid_at, use_cmp}
+pub use Rattle.arranged_county.proofs.Common.{Err, PolygonKey, bodies_read, cons_option, read_length, renaming_of, tied_itself, under_cenid}
+pub use Rattle.arranged_county.proofs.Common.{Greater, IsApart, all_map, is_some, key_cmp, map-map, nat_cmp, nat_keys, numbered, on_total}
+pub use Rattle.arranged_county.proofs.Common.{HasAtMost, all_weaker, append-nil, entry_keys, few_chains, filter_map, first_seen, length-map}
+pub use Rattle.arranged_county.proofs.Common.{IfOk, false, feats, image, inl, is_eq, is_gt, is_lt, lands, rules, subst, times, tlids, up_to}
+pub use Rattle.arranged_county.proofs.Common.{IsInOrder, links_with, map-append, option_cmp, option_map, places_fit, read_there, then-first}
+pub use Rattle.arranged_county.proofs.Common.{IsKeyOrder, IsPermutation-trans, false_from_ne_true, landmarks_in_order, rights-numbered_from}
+pub use Rattle.arranged_county.proofs.Common.{IsPermutation, nodes_in_order, option_flatten, option_to_list, polygons_along, range_with_len}
+pub use Rattle.arranged_county.proofs.Common.{IsPermutation-map, IsPermutation-sym, apart-permutation, first_seen_after, length_permutation}
+pub use Rattle.arranged_county.proofs.Common.{Less, List, None, Some, cond, drop, inr, less, map, refl, suc, take, true, zero, ◌++◌, ◌==◌}
+pub use Rattle.arranged_county.proofs.Common.{NamesEachOnce, Ok, length-append, link_part_cmp, name_body_cmp, name_key_keys, unknown_at_end}
+pub use Rattle.arranged_county.proofs.Common.{Ordering, ap₂, arranges, drop_all, flat_map, in_order, key_keys, link_cmp, links_at, ltb-true}
+pub use Rattle.arranged_county.proofs.Common.{Use, all_after, all_among, among-get, bodies_at, by_number, drop_more, then_assoc, true≢false}
+pub use Rattle.arranged_county.proofs.Common.{ap, on, sym, ◌%◌, ◌+◌, ◌-◌, ◌<◌, ◌^◌, ◌∙◌, ◌∷◌, ◌≡◌, ◌≢◌, ◌≤◌, ◌⊎◌}
+pub use Rattle.arranged_county.proofs.Common.{apart_from_sorted, distinct-in_order, in_order-in_order, landmark_body_cmp, polygons_in_order}
+pub use Rattle.arranged_county.proofs.Common.{feats_along_arrangement, in_order-is_permutation, in_order-permutation, length-range_with_len}
+pub use Rattle.arranged_county.proofs.Landmarks.LandmarkLinks.{permuted, pieces_next}
+pub use Rattle.arranged_county.proofs.Names.NameRanks.{greater, ranked_there, unranked}
+pub use Rattle.arranged_county.proofs.Views.ViewTables.{keys_paired, nodes_paired}
+pub use Rattle.arranged_county.proofs.{Names.NameOrder.by_uses, Numbering.SeenLists.seen_append, Views.ArrangedTables.same_somes}
+pub use Rattle.arranged_county.specs.Views.{arranged_county, arrangement_in, source_of}
+pub use Rattle.record_groups.proofs.Common.{AreSame, Fields2, Fields4, FieldsI, FieldsP, byte_of, grouped, p_polyid, packed_i, packed_p}
+pub use Rattle.record_groups.proofs.Common.{AreWithin, all-in_order, carried_many, inner_points, joined-before, most_records, packed_sevens}
+pub use Rattle.record_groups.proofs.Common.{BodyP, Eight, IsText, Ranges, Record, Seven, Type1, nat_lt, packed, pieces, some_at, text_of}
+pub use Rattle.record_groups.proofs.Common.{Coordinates, nothing_left, packed_fours, packed_sixes, put_in_order, spelling_cmp, types_1_to_4}
+pub use Rattle.record_groups.proofs.Common.{FitsRecord, chains_arranged, length-in_order, type_1_by_chain, type_2_by_chain, type_4_by_chain}
+pub use Rattle.record_groups.proofs.Common.{Five, Four, One, Six, Two, Type4, TypeI, TypeP, codes, min, upto, ◌&&◌, ◌*◌, ◌/◌}
+pub use Rattle.record_groups.proofs.Common.{I, MatchOrdering, at_all_places, exact_unsigned, packed_by_type, slice_get_past, type_5_by_name}
+pub use Rattle.record_groups.proofs.Common.{IsNumber, all_append, false≢true, groups_cmp, kept_entry, packed_twos, records_cmp, spelling_of}
+pub use Rattle.record_groups.proofs.Common.{IsNumberOrNone, IsWithinLimits, StandInOrder, type_6_by_chain, type_8_together, type_i_by_chain}
+pub use Rattle.record_groups.proofs.Common.{P, layout_laws, number_text, packed-fits, packed_body, packed_five, types_5_to_7, types_8_to_p}
+pub use Rattle.record_groups.proofs.Common.{all_left, all_take, chain_at, eqb-true, feats_of, group_at, in_pieces, ltb-false, turned_if}
+pub use Rattle.record_groups.proofs.Common.{all_right, all_unmap, at_places, lists_keys, nat_cmp_is, packed_one, reading_of, renumbered}
+pub use Rattle.record_groups.proofs.Common.{nat_list_cmp_total, polygons_by_number, slice_get-get_or, type_7_by_landmark, type_p_by_number}
+pub use Rattle.record_groups.proofs.Records.Grouped.{group_of, grouped_lone, grouped_map}
+pub use Rattle.record_groups.proofs.Records.{PackedGroups.all_groups, Selected.grouped_selected}
+pub use Rattle.record_groups.proofs.Texts.{GroupOrders.decided, GroupOrders.same_groups, NumberTexts.number_order, NumberTexts.one_cmp}
+pub use Rattle.record_groups.proofs.Texts.{PartOrder.then_same, RecordExact.fours_fit, RecordExact.polygons_fit, RecordTexts.cmp-append}
+pub use Rattle.record_groups.proofs.Texts.{TypeOnes.length_whole, TypeOrders.texts_in_order, TypeOrders.tied_texts_in_order}
+pub use Rattle.record_groups.specs.RecordOrder.{types_1_to_4_cmp, types_5_to_7_cmp, types_8_to_p_cmp}
+pub use Rattle.record_groups.specs.TypeOneOrder.{ones_cmp}
+pub use Rattle.canonical_form.proofs.Arrangements.Carrying.{arrangement_carries, feats_arranged, landmarks_arranged, lands_arranged}
+pub use Rattle.canonical_form.proofs.Arrangements.Carrying.{lands_renamed, links_arranged, names_arranged, names_permutation, names_renamed}
+pub use Rattle.canonical_form.proofs.Arrangements.Carrying.{nodes_from_placed, nodes_to_placed, polygon_lefts, polygons_from_placed}
+pub use Rattle.canonical_form.proofs.Arrangements.Carrying.{polygons_renamed, polygons_to_placed}
+pub use Rattle.canonical_form.proofs.Arrangements.Placed.{arrangement_apart, arrangement_known, lefts-numbered, one_chain}
+pub use Rattle.canonical_form.proofs.CanonicalLists.SameShapes.{points_in_order, shapes_carried, tidy_shapes}
+pub use Rattle.canonical_form.proofs.Choices.AscendingArrangement.{arrangement_ascend, arrangement_there, options_total, shapes_of_order}
+pub use Rattle.canonical_form.proofs.Choices.ChosenArrangements.{arrangement_of_number, arrangement_of_number_apart}
+pub use Rattle.canonical_form.proofs.Choices.ChosenArrangements.{arrangement_of_number_count, arrangement_of_number_once}
+pub use Rattle.canonical_form.proofs.Choices.ChosenArrangements.{arrangement_of_number_there, places_in_order, places_within}
+pub use Rattle.canonical_form.proofs.Choices.FixedPlaces.{agree_both, agree_same, moved_apart, moved_count}
+pub use Rattle.canonical_form.proofs.Choices.TidyChoices.{numbered_is_choice, shapes_arrange, shapes_ascending, stated_here}
+pub use Rattle.canonical_form.proofs.Common.{AgreeApart, IsShapeOrder, SameElements, along_shapes, among-pieces, among-turned, carried_link}
+pub use Rattle.canonical_form.proofs.Common.{AllStandIn, carried_name, comes_turned, differ_apart, directed_cmp, entry_points, filter-agree}
+pub use Rattle.canonical_form.proofs.Common.{Among, Type6, Type8, key_on, map-id, masked, moved, shapes, stood}
+pub use Rattle.canonical_form.proofs.Common.{AreInShapeOrder, Carries, from_permutation, in_order-strict, landmark_key_cmp, numbered_choice}
+pub use Rattle.canonical_form.proofs.Common.{Arranges, FieldsOf, FitsLink, ListsFit, all_both, same-true, times-yes, to_filter, turned_by}
+pub use Rattle.canonical_form.proofs.Common.{FitsChain, IsPermutation-refl, get_or_from_slice_get, known-permutation_to, landmark_body_keys}
+pub use Rattle.canonical_form.proofs.Common.{FitsLandmark, all_everywhere, all_themselves, among-unpieces, option_and_then, turned_directed}
+pub use Rattle.canonical_form.proofs.Common.{FitsNameBody, IsLeastBelow, IsTidy, map_agree_all, open_place_at, packed_within, polygon_under}
+pub use Rattle.canonical_form.proofs.Common.{FitsNumbers, FitsPolygon, IsAscending, points_along, range_bounds, running-same, strict-unmap}
+pub use Rattle.canonical_form.proofs.Common.{IsArranged, images-lefts, known-append, landmark_key, most_choices, name_key_cmp, order_itself}
+pub use Rattle.canonical_form.proofs.Common.{IsCanonCounty, IsLeastChoice, known_is_among, links_relinked, name_body_keys, order_antisymm}
+pub use Rattle.canonical_form.proofs.Common.{IsInProfile, Renumbering, among-unmap, chain_nodes, entry_shape, fill_by_all, first_stood, not}
+pub use Rattle.canonical_form.proofs.Common.{IsNotAfter, RecordType, all_at, all_filter, points_keys, same-itself, same_or_not, value_under}
+pub use Rattle.canonical_form.proofs.Common.{OpenPlace, all_known, among-map, known-left, points_cmp, strict-map, then-equal, then_total}
+pub use Rattle.canonical_form.proofs.Common.{OrderOfShapes, all_in_pieces, filter-append, from_in_order, is_either_way, length-filter, ◌||◌}
+pub use Rattle.canonical_form.proofs.Common.{all_pieces, apart_tail, by_type_of, bytes_keys, entries_of, filter_all, is_settled, known-here}
+pub use Rattle.canonical_form.proofs.Common.{all_uses, arranged, distinct, drop-map, link_key, links_of, list_any, name_key, new_keys}
+pub use Rattle.canonical_form.proofs.Common.{and_parts, ascending, chosen, each_from, key_under, known_all, one_entry, other_way, record_of}
+pub use Rattle.canonical_form.proofs.Common.{apart-permutation_of, chain_nodes-renumbered, chain_polygons-renumbered, get_or-range_with_len}
+pub use Rattle.canonical_form.proofs.Common.{by_type_within, chain_polygons, directed_shape, flat_map_agree, in_order-equal, in_order-unmap}
+pub use Rattle.canonical_form.proofs.Common.{carried_landmark, choices_of_shapes, known-permutation, renumbered_polygon, times-permutation}
+pub use Rattle.canonical_form.proofs.Common.{choices, differ, insert, not-true, or_left, or_right, relinked, running, take-map, times-no}
+pub use Rattle.canonical_form.proofs.Common.{image-keeps, known-later, known-right, known_cases, nodes_along, not_greater, open_places}
+pub use Rattle.canonical_form.proofs.Lists.Counting.{entries_equal, less_from, map-equal_all}
+pub use Rattle.canonical_form.proofs.Numbering.FirstSeen.{first_seen-apart, from_first_seen, seen_after, to_first_seen}
+pub use Rattle.canonical_form.proofs.{Arrangements.ArrangedCounties.is_arranged, CanonicalLists.TidyLists.not_after_itself}
+pub use Rattle.canonical_form.proofs.{Arrangements.ArrangedNumbers.arrangement_within, CanonicalLists.CanonLists.least_choice_county}
+pub use Rattle.canonical_form.proofs.{CanonicalLists.TidyLists.least_of_all, Masks.MaskedProfile.masked_in_profile}
+pub use Rattle.canonical_form.proofs.{Choices.Choosing.one_more, Lists.Filtered.filter-mapped, Lists.Grouping.in_order-filter}
+pub use Rattle.canonical_form.proofs.{Choices.MovedChoice.moved-last, Choices.SameChoices.choices_same, Lists.Filtered.filter-agree_all}
+pub use Rattle.canonical_form.proofs.{Lists.ListPlaces.none_past, Masks.MaskedCounties.carried_masked, Packing.PackedCounty.pieces_together}
+pub use Rattle.canonical_form.proofs.{Masks.MaskedCounties.masked_twice, Numbering.NewNumbers.image-numbered, Views.DirectedChains.one_here}
+pub use Rattle.canonical_form.proofs.{Masks.MaskedProfile.masked_shape_order, Sameness.CarriedCounty.polygons-unturned}
+pub use Rattle.canonical_form.proofs.{Numbering.NewNumbers.image-under_cenid, Unique.SameLandmarks.landmark_key_keys}
+pub use Rattle.canonical_form.specs.{LeastNumber.choice_list, LeastNumber.choices_cmp, MovedChains.AgreeButOpen, MovedChains.IsWithin}
+pub use Rattle.tl_profile.proofs.Common.{counted_choices}
+pub use Rattle.county_chart.proofs.Common.{among_any, among_left, among_right, and_from, any_among, bytes_cmp, count-map, distinct_same}
+pub use Rattle.county_chart.proofs.Common.{is_le, pow-succ', renumbered_side, stands_alike, times-same, unwrap_or-slice_get, ⊤}
+pub use Rattle.county_chart.specs.ChartWords.{name_under}
+pub use Rattle.ordered_lists.proofs.ByKey.Keys.{apart-filter, stands_in-filter, times-filter}
+pub use Rattle.ordered_lists.proofs.{Common.or_parts, Lists.AtPlaces.map-at_places, Lists.Members.contains-among}
+pub use Rattle.tl_shape.specs.Turned.{turned}
+pub use Rattle.tl_layout.proofs.Common.{lat_text, le-leb, long_text, point_place_text, take-take}
+pub use Rattle.tl_layout.specs.Laws.PlaceLaws.{number_place_is_text, places_text_is_text, point_place_is_text}
+pub use Rattle.tl_layout.specs.RecordTables.{table_1, table_4, table_6, table_8, table_p}
+pub use Rattle.tl_layout.specs.{Laws.FieldLaws.lat_text_is_text, Laws.FieldLaws.long_text_is_text, Laws.NumberTextLaws.length-number_text}
+pub use Rattle.tl_layout.specs.{Laws.RecordTypeLaws.spelling_of_record, Laws.TableLaws.joined-append, RecordTypes.table_of}
+pub use Rattle.std.proofs.lemmas.Bool.{and_cases, cases_Bool, cond-false, cond-true, cond_both, leb-false}
+pub use Rattle.std.proofs.lemmas.{Bool.Decides.nat_tests, List.Elements.filter_passes, List.Elements.recursion_from_All}
+pub use Rattle.std.proofs.lemmas.{List.Kept.AllPairs-filter, List.Kept.IsStrictlySortedBy-filter, List.Sums.count_by-le-length}
+pub use Rattle.std.specs.{List.AllPairs, Prelude.MatchResult}
+pub use Rattle.tl_number.specs.ChoiceSearch.{IsChosen, LeavesChoices, chosen_county, lesser_choice, numbered_arrangement}
+pub use Rattle.tl_number.specs.CountyParts.{HoldsPart, IsPicked, feats_along, part_of, part_with, places_among}
+pub use Rattle.tl_number.specs.CriticalKeys.{brings, fixed_keys, has_new, met_before}
+pub use Rattle.tl_number.specs.KeptPlaces.{AreSearched, IsSearchAt, link_keys, link_keys_at}
+pub use Rattle.tl_number.specs.OpenKeys.{first_open, is_open, keys_along, newly_seen, open_among, open_keys, place_in}
+pub use Rattle.tl_number.specs.SmallCounty.{is_kept, is_linked, kept_tlids, keys_at_open, wanted_feats, wanted_nodes, wanted_polygons}
+pub use Rattle.tl_number.specs.{OpenNames.chain_feats, OpenNames.feats_in_order, declared.part_tables.PartTables.PartTables}

@@ -1,15 +1,9 @@
--- Choices that tie in type 1, compared without making their counties.
+-- The small county by which choices are compared: what it keeps, and that its choices are in the order of the county's.
 pub mod NewlySeen
+pub mod KeyPlaces
 pub mod Ranks
-pub mod Counterparts
-pub mod MovedKeys
-pub mod OpenOrder
-pub mod OpenAmong
-pub mod GapOrder
 pub mod OpenChains
 pub mod OpenLinks
-pub mod ChainGroups
-pub mod RangeOrder
 pub mod WantedMoves
 pub mod TieNumbers
 pub mod FixedKeys
@@ -17,29 +11,22 @@ pub mod CriticalKeys
 pub mod TopologyOrder
 pub mod WantedKeys
 pub mod WantedNumbers
-pub mod NameRecords
-pub mod PolygonOrder
-pub mod LinkOrder
-pub mod TieOrder
-pub mod ChoiceRecords
-pub mod TakenPlaces
 pub mod SeenGroups
 pub mod CriticalNumbers
-pub mod TieReading
 pub mod NamesInOrder
-pub mod NameNumbers
 pub mod WantedNames
-pub mod NamesRead
 pub mod Alike
 pub mod ListsAlike
 pub mod ArrangedChoices
 pub mod SmallPolygons
 pub mod SmallLinks
-pub mod SmallEntries
 pub mod PickedPlaces
 pub mod PartChoices
 pub mod KeptOpen
+pub mod KeptChains
 pub mod CountyParts
+pub mod PartTables
+pub mod ReadKeys
 pub mod Columns
 pub mod KeptParts
 pub mod SmallChains
@@ -51,5 +38,4 @@ pub mod SmallTopologies
 pub mod SmallNames
 pub mod OwnOrder
 pub mod SmallNumbers
-pub mod ChainTypes
 pub mod SmallOrder

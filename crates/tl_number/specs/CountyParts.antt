@@ -1,11 +1,12 @@
--- Parts of a county: some of its chains, with their names and polygons, and all of its landmarks or none.
-use Rattle.std.specs.Prelude.{ℕ, List, [], Bool, cond, filter, flat_map}
-use Rattle.std.specs.Ordering.{nat_cmp}
-use Rattle.ordered_lists.specs.Orders.{stands_in}
+-- Parts of a county: some of its chains, with their names and polygons, and all of its landmarks or none; and what is stored of them.
+use Rattle.std.specs.Prelude.{Bool, List, [], cond, filter, flat_map, length, option_to_list, slice_get, ℕ, ◌≡◌}
+use Rattle.std.specs.{List.list_any, List.range_with_len, Ordering.nat_cmp, declared.cmp.Ordering.Ordering}
+use Rattle.ordered_lists.specs.{Orders.stands_in, Places.at_places}
 use Rattle.tl_shape.specs.Chain.{Chain}
-use Rattle.county_chart.specs.County.{County}
-use Rattle.county_chart.specs.CountyRules.{polygons_along}
-use Rattle.county_chart.specs.PolygonKeys.{key_cmp}
+use Rattle.county_chart.specs.CountyRules.{feats, nodes, polygon_keys, polygons_along, tlids}
+use Rattle.county_chart.specs.{County.County, PolygonKeys.key_cmp}
+use Rattle.canonical_form.specs.WholeArrangements.{AreReadAt}
+use Rattle.tl_number.specs.{declared.part_tables.PartTables.PartTables, declared.part_tables.Picked.Picked}
 
 -- the FEATs that chains have, one chain after another
 abbrev pub feats_along : List (ℕ × Chain) → List ℕ
@@ -20,3 +21,27 @@ part_of county keeps with_landmarks = record {
   landmarks = cond with_landmarks county.landmarks [];
   links = cond with_landmarks county.links [];
 }
+
+-- the part that tables keep of a county
+abbrev pub part_with : County → PartTables → County
+part_with county tables = part_of county (λ entry. stands_in nat_cmp entry.0 tables.kept.tlids.items) tables.kept.linked
+
+-- the places of those of the keys that are wanted
+abbrev pub places_among : {K : Type 0} → (K → K → Ordering) → List K → List K → List ℕ
+places_among cmp wanted keys =
+    filter (λ place. list_any (λ key. stands_in cmp key wanted) (option_to_list (slice_get keys place))) (range_with_len 0 (length keys))
+
+-- these are the wanted ones of all keys, and their places
+pub record IsPicked {K : Type 0} (cmp : K → K → Ordering) (wanted all : List K) (picked : Picked K) : Type 0 where
+  pub places : picked.places.items ≡ places_among cmp wanted all
+  pub keys : picked.keys.items ≡ at_places all (places_among cmp wanted all)
+
+-- tables of a county have the keys of its part, and the places of these in the county
+pub record HoldsPart (county : County) (tables : PartTables) : Type 0 where
+  pub tlids : tables.chains.keys.items ≡ tlids (part_with county tables)
+  pub chains : AreReadAt county.chains tables.chains.places.items (part_with county tables).chains
+  pub feats : tables.names.keys.items ≡ feats (part_with county tables)
+  pub names : AreReadAt county.names tables.names.places.items (part_with county tables).names
+  pub keys : tables.polygons.keys.items ≡ polygon_keys (part_with county tables)
+  pub polygons : AreReadAt county.polygons tables.polygons.places.items (part_with county tables).polygons
+  pub nodes : tables.nodes.items ≡ nodes (part_with county tables)

@@ -1,9 +1,9 @@
 -- Places at which a key appears that first appears at an open place.
-use Rattle.std.specs.Prelude.{ℕ, ◌&&◌, List, Bool, filter, map, not}
-use Rattle.std.specs.List.{list_any, range_with_len}
-use Rattle.std.specs.declared.cmp.Ordering.{Ordering}
+use Rattle.std.specs.Prelude.{Bool, List, filter, map, not, ℕ, ◌&&◌}
+use Rattle.std.specs.{List.list_any, List.range_with_len, declared.cmp.Ordering.Ordering}
 use Rattle.ordered_lists.specs.Orders.{stands_in}
 use Rattle.county_chart.specs.declared.open_place.OpenPlace.{OpenPlace}
+use Rattle.canonical_form.specs.Growth.{first_seen}
 use Rattle.record_groups.specs.Groups.{group_at, grouped}
 use Rattle.tl_number.specs.OpenKeys.{is_open}
 
@@ -18,3 +18,7 @@ has_new cmp opened met keys = list_any (λ key. stands_in cmp key opened && not 
 -- whether a place has an open key that no fixed place before it has
 abbrev pub brings : {K : Type 0} → (K → K → Ordering) → List OpenPlace → List K → List (List K) → ℕ → Bool
 brings cmp places opened along place = has_new cmp opened (fixed_keys places along place) (group_at along place)
+
+-- those of the wanted keys that fixed places before this one have
+abbrev pub met_before : {K : Type 0} → (K → K → Ordering) → List OpenPlace → List K → List (List K) → ℕ → List K
+met_before cmp places wanted along place = first_seen cmp (filter (λ key. stands_in cmp key wanted) (fixed_keys places along place))

@@ -1,17 +1,10 @@
 -- Keys that first appear at open places: nodes or polygons whose numbers differ from choice to choice.
-use Rattle.std.specs.Prelude.{ℕ, ◌≡◌, ◌+◌, ◌&&◌, List, [], ◌∷◌, ◌++◌, Bool, cond, filter, flat_map, get_or, map, nat_le, nat_lt, option_to_list}
-use Rattle.std.specs.List.{list_any, position_or_len, range_with_len}
-use Rattle.std.specs.Ordering.{is_eq}
-use Rattle.std.specs.declared.cmp.Ordering.{Ordering}
+use Rattle.std.specs.Prelude.{Bool, List, [], cond, filter, flat_map, nat_le, nat_lt, option_to_list, ℕ, ◌&&◌, ◌++◌, ◌+◌, ◌∷◌}
+use Rattle.std.specs.{List.list_any, List.position_or_len, List.range_with_len, Ordering.is_eq, declared.cmp.Ordering.Ordering}
 use Rattle.ordered_lists.specs.Orders.{stands_in}
 use Rattle.tl_shape.specs.Chain.{Chain}
-use Rattle.county_chart.specs.County.{County}
-use Rattle.county_chart.specs.declared.directed_chain.DirectedChain.{DirectedChain}
-use Rattle.county_chart.specs.declared.open_place.OpenPlace.{OpenPlace}
+use Rattle.county_chart.specs.{County.County, declared.directed_chain.DirectedChain.DirectedChain, declared.open_place.OpenPlace.OpenPlace}
 use Rattle.canonical_form.specs.DirectedChains.{parts_along}
-use Rattle.record_groups.specs.Groups.{grouped}
-use Rattle.canonical_form.specs.Growth.{first_seen}
-use Rattle.tl_number.specs.declared.open_keys.OpenKeys.{OpenKeys}
 
 -- whether an open place moves a chain to or from the place
 abbrev pub is_open : List OpenPlace → ℕ → Bool
@@ -44,27 +37,3 @@ keys_along keys county arrangement = parts_along (λ chain. flat_map keys (optio
 -- the place of a key in a list, or the list's length
 abbrev pub place_in : {K : Type 0} → (K → K → Ordering) → List K → K → ℕ
 place_in cmp keys key = position_or_len (λ other. is_eq (cmp key other)) keys
-
--- these are all keys at these places, those that first appear at an open place, and where they are among all
-pub record AreOpenKeys {K : Type 0} (cmp : K → K → Ordering) (places : List OpenPlace) (along : List (List K)) (keys : OpenKeys (List K)) : Type 0 where
-  pub all : keys.all ≡ first_seen cmp (grouped along)
-  pub opened : keys.opened ≡ first_open cmp places along
-  pub there : keys.places.items ≡ map (place_in cmp keys.all) keys.opened
-
--- The place of a key by its first appearance in a choice, given the open keys in the order of this choice: an open key has the place of
--- its counterpart in the order of shapes.
-abbrev pub place_by_order : {K : Type 0} → (K → K → Ordering) → OpenKeys (List K) → List K → K → ℕ
-place_by_order cmp keys order key =
-    cond (stands_in cmp key order) (get_or keys.places.items (place_in cmp order key) 0) (place_in cmp keys.all key)
-
--- the key that has the place in the choice which this key has in the order of shapes
-abbrev pub key_by_order : {K : Type 0} → (K → K → Ordering) → OpenKeys (List K) → List K → K → K
-key_by_order cmp keys order key = cond (stands_in cmp key keys.opened) (get_or order (place_in cmp keys.opened key) key) key
-
--- all keys in the order of the choice
-abbrev pub all_by_order : {K : Type 0} → (K → K → Ordering) → OpenKeys (List K) → List K → List K
-all_by_order cmp keys order = map (key_by_order cmp keys order) keys.all
-
--- each key is at its place among these
-abbrev pub ArePlacedBy : {K : Type 0} → (K → K → Ordering) → OpenKeys (List K) → List K → Type 0
-ArePlacedBy {K} cmp keys order = (key : K) → place_by_order cmp keys order key ≡ place_in cmp (all_by_order cmp keys order) key

@@ -1,22 +1,15 @@
 -- The part of a county by which its choices are compared: the chains at open places, the first fixed chain of each key that they have, and
 -- the landmarks if one of these has a polygon that first appears at an open place.
-use Rattle.std.specs.Prelude.{ℕ, ◌||◌, List, [], ◌++◌, Bool, cond, filter, length, map}
-use Rattle.std.specs.List.{range_with_len}
-use Rattle.std.specs.Ordering.{nat_cmp}
-use Rattle.ordered_lists.specs.Orders.{stands_in}
-use Rattle.ordered_lists.specs.Places.{at_places}
+use Rattle.std.specs.Prelude.{Bool, List, [], cond, filter, length, map, ℕ, ◌++◌, ◌||◌}
+use Rattle.std.specs.{List.range_with_len, Ordering.nat_cmp}
+use Rattle.ordered_lists.specs.{Orders.stands_in, Places.at_places}
 use Rattle.tl_shape.specs.Chain.{Chain}
-use Rattle.county_chart.specs.County.{County, link_key}
-use Rattle.county_chart.specs.CountyRules.{chain_nodes, chain_polygons}
-use Rattle.county_chart.specs.PolygonKeys.{PolygonKey, key_cmp}
-use Rattle.county_chart.specs.ShapeOrder.{OrderOfShapes}
+use Rattle.county_chart.specs.{County.County, County.link_key, CountyRules.chain_nodes, CountyRules.chain_polygons, PolygonKeys.PolygonKey}
+use Rattle.county_chart.specs.{PolygonKeys.key_cmp, ShapeOrder.OrderOfShapes}
 use Rattle.canonical_form.specs.DirectedChains.{tlid_at}
 use Rattle.record_groups.specs.Groups.{group_at, grouped}
-use Rattle.tl_number.specs.CountyParts.{part_of}
-use Rattle.tl_number.specs.CriticalKeys.{brings}
-use Rattle.tl_number.specs.CriticalPlaces.{has_open_link}
 use Rattle.tl_number.specs.OpenKeys.{first_open, is_open, keys_along, open_among}
-use Rattle.tl_number.specs.OpenNames.{chain_feats}
+use Rattle.tl_number.specs.{CountyParts.part_of, CriticalKeys.brings, CriticalPlaces.has_open_link, OpenNames.chain_feats}
 
 -- the keys of the chains at open places
 abbrev pub keys_at_open : {K : Type 0} → (Chain → List K) → County → OrderOfShapes → List K

@@ -1,12 +1,14 @@
 //! Keys of chains, chain by chain: nodes, polygons or further names.
 
-ghost use Rattle.std.specs.Prelude.{◌≡◌, ◌++◌, OnOk};
+ghost use Rattle.county_chart.specs.PolygonKeys.{key_on};
+ghost use Rattle.std.specs.Prelude.{◌≡◌, ◌++◌, OnOk, flat_map, option_to_list};
 
 use arranged_county::{Half, NumericKey};
-use county_chart::{Chart, DirectedChain, push_all};
+use county_chart::{Chart, DirectedChain, PolygonKey, push_all};
 use ordered_lists::Key;
 use std::alloc::AllocError;
 use std::hash::Hash;
+use tl_layout::Side;
 
 /// Keys of chains, chain by chain.
 pub(crate) trait KeyGroups {
@@ -29,61 +31,93 @@ pub(crate) trait KeyGroups {
         ensures { OnOk result (keys.new.items ≡ group_at (groups self.now) place) };
 }
 
-/// Adds the key of an end or a side, if it has one.
-fn push_key<T: Half>(keys: &mut Vec<T::Old>, half: T) -> Result<(), AllocError>
-    ensures { OnOk result (keys.new.items ≡ keys.old.items ++ T.keys half) }
+/// Adds a key, if there is one.
+fn push_if_some<K: Drop>(keys: &mut Vec<K>, key: Option<K>) -> Result<(), AllocError>
+    ensures { OnOk result (keys.new.items ≡ keys.old.items ++ option_to_list key) }
 {
-    if let Some(key) = half.key() {
+    if let Some(key) = key {
         keys.push(key)?;
     }
     Ok(())
 }
 
-/// The nodes at the ends of chains, start before end, or the polygons on their sides, left before right.
+/// The polygon on a side, if there is one.
+fn key_of(side: Option<Side>) -> Option<PolygonKey>
+    ensures { option_to_list result ≡ flat_map key_on (option_to_list side) }
+{
+    match side {
+        Some(side) => side.key(),
+        None => None,
+    }
+}
+
+/// The nodes at the ends of directed chains, start before end.
 #[derive(Drop)]
-pub(crate) struct PairKeys<'a, T: Half>(pub(crate) &'a [(T, T)]);
+pub(crate) struct NodeKeys<'a, C: Chart>(pub(crate) &'a C, pub(crate) &'a [DirectedChain]);
 
-impl<T: Half> KeyGroups for PairKeys<'_, T> {
-    ghost use Rattle.std.specs.Prelude.{map};
-    ghost use Rattle.canonical_form.specs.EndsAndSides.{keys_at};
+#[tactic(auto, using(crate::proofs::Ties::ReadKeys::nodes_read))]
+impl<C: Chart> KeyGroups for NodeKeys<'_, C> {
+    ghost use Rattle.county_chart.specs.CountyRules.{chain_nodes};
+    ghost use Rattle.tl_number.specs.OpenKeys.{keys_along};
 
-    type Item = T::Old;
+    type Item = u64;
 
-    ghost groups = { λ pairs. map (keys_at T.keys) pairs.0.now };
+    ghost groups = { λ nodes. keys_along chain_nodes (C.county nodes.0.now) nodes.1.now };
 
     fn count(&self) -> usize {
-        self.0.len()
+        self.1.len()
     }
 
-    fn copy_keys(&self, place: usize, keys: &mut Vec<T::Old>) -> Result<(), AllocError> {
-        let (first, second) = self.0[place];
+    fn copy_keys(&self, place: usize, keys: &mut Vec<u64>) -> Result<(), AllocError> {
+        let directed = self.1[place];
         keys.clear();
-        push_key(keys, first)?;
-        push_key(keys, second)
+        push_if_some(keys, directed.start_node(self.0).flatten())?;
+        push_if_some(keys, directed.end_node(self.0).flatten())
     }
 }
 
-/// The FEATs of the further names of these directed chains.
+/// The polygons on the sides of directed chains, left before right.
 #[derive(Drop)]
-pub(crate) struct FeatKeys<'a, C: Chart> {
-    pub(crate) chart: &'a C,
-    pub(crate) arrangement: &'a [DirectedChain],
+pub(crate) struct PolygonKeys<'a, C: Chart>(pub(crate) &'a C, pub(crate) &'a [DirectedChain]);
+
+#[tactic(auto, using(crate::proofs::Ties::ReadKeys::polygons_read))]
+impl<C: Chart> KeyGroups for PolygonKeys<'_, C> {
+    ghost use Rattle.county_chart.specs.CountyRules.{chain_polygons};
+    ghost use Rattle.tl_number.specs.OpenKeys.{keys_along};
+
+    type Item = PolygonKey;
+
+    ghost groups = { λ polygons. keys_along chain_polygons (C.county polygons.0.now) polygons.1.now };
+
+    fn count(&self) -> usize {
+        self.1.len()
+    }
+
+    fn copy_keys(&self, place: usize, keys: &mut Vec<PolygonKey>) -> Result<(), AllocError> {
+        let directed = self.1[place];
+        keys.clear();
+        push_if_some(keys, key_of(directed.left(self.0)))?;
+        push_if_some(keys, key_of(directed.right(self.0)))
+    }
 }
+
+/// The FEATs of the further names of directed chains.
+#[derive(Drop)]
+pub(crate) struct FeatKeys<'a, C: Chart>(pub(crate) &'a C, pub(crate) &'a [DirectedChain]);
 
 impl<C: Chart> KeyGroups for FeatKeys<'_, C> {
-    ghost use Rattle.tl_number.specs.OpenKeys.{keys_along};
-    ghost use Rattle.tl_number.specs.OpenNames.{chain_feats};
+    ghost use Rattle.tl_number.specs.{OpenKeys.keys_along, OpenNames.chain_feats};
 
     type Item = u32;
 
-    ghost groups = { λ names. keys_along chain_feats (C.county names.chart.now) names.arrangement.now };
+    ghost groups = { λ names. keys_along chain_feats (C.county names.0.now) names.1.now };
 
     fn count(&self) -> usize {
-        self.arrangement.len()
+        self.1.len()
     }
 
     fn copy_keys(&self, place: usize, keys: &mut Vec<u32>) -> Result<(), AllocError> {
-        let feats = self.arrangement[place].feats(self.chart);
+        let feats = self.1[place].feats(self.0);
         keys.clear();
         push_all(keys, &feats)
     }

@@ -7,21 +7,19 @@
 //! `uses` has a proved caller, in `layers.rt`. The records of a canonical county are made in `canonical_records`.
 #![tactic(auto)]
 
+mod arranged_order;
 mod ascending_order;
 mod canonising;
-mod critical_places;
+mod choice_search;
+mod county_part;
+mod kept_places;
 mod key_groups;
+mod key_search;
 mod least_choice;
 mod masking;
 mod numbered_arrangement;
 mod open_keys;
-mod open_names;
-mod same_chains;
-mod tie_links;
-mod tie_names;
-mod tie_order;
-mod tie_records;
-mod tie_tables;
+mod part_tables;
 
 pub use arranged_county::{
     Arranged, CanonCounty, CanonCountyIn, Canonical, Evidence, Interner, NumericKey, Unknown,

@@ -1,16 +1,10 @@
 -- Landmarks are ordered by their bodies first, so two arrangements of a county have the same landmarks.
-use Rattle.tl_number.proofs.Common.{◌≡◌, ◌∙◌, ℕ, List, map, length, sym, ap, Arrangement, Arranges, Body7, County, IsCounty, IsInOrder}
-use Rattle.tl_number.proofs.Common.{IsPermutation, IsPermutation-map, IsPermutation-sym, IsPermutation-trans, arranged, in_order-in_order, in_order-is_permutation}
-use Rattle.tl_number.proofs.Common.{in_order-map, in_order-permutation, landmark_body_cmp, landmark_key, landmark_key_cmp, landmarks_in_order, length-map}
-use Rattle.tl_number.proofs.Common.{link_part_cmp, links_relinked, lists_keys, map-map, on, on_total, renaming_of, slice_cmp}
-use Rattle.county_chart.specs.Laws.KeyOrders.{landmark_body_keys}
-use Rattle.county_chart.specs.Renumbering.{carried_landmark}
-use Rattle.canonical_form.specs.Growth.{up_to}
-use Rattle.canonical_form.specs.Uses.{links_of}
-use Rattle.canonical_form.proofs.Arrangements.Carrying.{lands_arranged, landmarks_arranged}
-use Rattle.canonical_form.proofs.Lists.Counting.{entries_equal}
-use Rattle.canonical_form.proofs.Lists.Grouping.{in_order-weaker, then-first}
-use Rattle.canonical_form.proofs.Unique.SameLandmarks.{landmark_key_keys}
+use Rattle.tl_number.proofs.Common.{Arrangement, entries_equal, in_order-map, landmark_key, link_part_cmp, links_relinked, map, renaming_of}
+use Rattle.tl_number.proofs.Common.{Arranges, Body7, IsCounty, IsInOrder, arranged, length-map, links_of, lists_keys, slice_cmp, then-first}
+use Rattle.tl_number.proofs.Common.{County, IsPermutation-map, IsPermutation-sym, in_order-in_order, landmarks_arranged, landmarks_in_order}
+use Rattle.tl_number.proofs.Common.{IsPermutation, carried_landmark, landmark_body_cmp, landmark_key_cmp, landmark_key_keys, lands_arranged}
+use Rattle.tl_number.proofs.Common.{IsPermutation-trans, in_order-is_permutation, in_order-permutation, in_order-weaker, landmark_body_keys}
+use Rattle.tl_number.proofs.Common.{List, ap, length, map-map, on, on_total, sym, up_to, ℕ, ◌∙◌, ◌≡◌}
 
 abbrev Landmark : Type 0
 Landmark = ℕ × List Body7

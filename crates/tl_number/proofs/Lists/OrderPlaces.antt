@@ -1,15 +1,10 @@
 -- Lists in order: elements that tie keep the order of their numbers, and the place of an element is how many come before it.
-use Rattle.tl_number.proofs.Common.{◌≡◌, ◌∙◌, ◌⊎◌, ◌<◌, ◌+◌, ℕ, zero, suc, List, [], ◌∷◌, map, filter, length, true, false, cond, not, Ordering}
-use Rattle.tl_number.proofs.Common.{Less, Equal, Greater, is_eq, is_gt, is_lt, refl, sym, ap, subst, inl, inr, arith, nat_cmp, AllByRecursion}
-use Rattle.tl_number.proofs.Common.{IsInOrder, IsKeyOrder, IsPermutation, Known, MatchOrdering, Some, all-in_order, all_unmap, false≢true}
-use Rattle.tl_number.proofs.Common.{in_order, known_all, known_cases, nat_cmp_total, ordering_reverse, ordering_then, place_in, ranked}
-use Rattle.tl_number.proofs.Common.{same-itself, slice_get, tied_itself}
-use Rattle.std.specs.Cmp.{nat_cmp_is}
+use Rattle.tl_number.proofs.Common.{AllByRecursion, Equal, Greater, IsInOrder, IsKeyOrder, IsPermutation, Known, Less, List, MatchOrdering}
+use Rattle.tl_number.proofs.Common.{Ordering, [], all-in_order, all_unmap, ap, arith, cond, differ, differ_apart, false, false≢true, filter}
+use Rattle.tl_number.proofs.Common.{from_permutation, in_order, inl, inr, is_eq, is_gt, is_lt, known_all, known_cases, length, less_from}
+use Rattle.tl_number.proofs.Common.{map, nat_cmp, nat_cmp_is, not, ordering_reverse, ordering_then, place_in, put_in_order, ranked, refl}
+use Rattle.tl_number.proofs.Common.{same-itself, subst, suc, sym, tied_itself, true, ℕ, ◌+◌, ◌<◌, ◌∙◌, ◌∷◌, ◌≡◌, ◌⊎◌}
 use Rattle.std.specs.List.Sorted.{IsStrictlySortedBy}
-use Rattle.ordered_lists.specs.Orders.{put_in_order}
-use Rattle.ordered_lists.proofs.ByKey.Keys.{differ, differ_apart}
-use Rattle.ordered_lists.proofs.Lists.Reordered.{from_permutation}
-use Rattle.canonical_form.proofs.Lists.Counting.{less_from}
 
 -- Elements whose numbers ascend are put in order as by the order and then their numbers.
 module _ {X : Type 0} (by : X → X → Ordering) (number : X → ℕ) where
@@ -101,30 +96,3 @@ module _ {K : Type 0} {cmp : K → K → Ordering} (o : IsKeyOrder cmp) {by : K 
   pub place_counted : (xs ys : List K) → IsInOrder by xs → IsPermutation xs ys → (x : K) → Known cmp xs x
       → place_in cmp xs x ≡ length (filter (λ y. is_lt (by y x)) ys)
   place_counted xs ys h p x k = place_before xs h x k ∙ (from_permutation xs ys p).counts (λ y. is_lt (by y x))
-
--- The places of numbers that ascend compare as the numbers do.
-later_number : (k : ℕ) (ks : List ℕ) → AllByRecursion (λ n. nat_cmp k n ≡ Less) ks → (i n : ℕ) → slice_get ks i ≡ Some n → nat_cmp k n ≡ Less
-later_number k [] a i n e = cc
-later_number k (m ∷ ks) a zero n e = let same : m ≡ n = cc in subst (λ j. nat_cmp k j ≡ Less) same a.0
-later_number k (m ∷ ks) a (suc i) n e = later_number k ks a.1 i n e
-
-pub places_compare : (ks : List ℕ) → IsStrictlySortedBy nat_cmp ks → (i j m n : ℕ) → slice_get ks i ≡ Some m → slice_get ks j ≡ Some n
-    → nat_cmp i j ≡ nat_cmp m n
-unfolding IsStrictlySortedBy
-places_compare [] s i j m n e f = cc
-places_compare (k ∷ ks) s zero zero m n e f =
-    let same : m ≡ n = cc in
-    sym (tied_itself nat_cmp_total m) ∙ ap (nat_cmp m) same
-places_compare (k ∷ ks) s zero (suc j) m n e f =
-    let same : k ≡ m = cc in
-    sym (nat_cmp_is 0 (suc j) Less (omega arith)) ∙ sym (later_number k ks s.0 j n f) ∙ ap (λ l. nat_cmp l n) same
-places_compare (k ∷ ks) s (suc i) zero m n e f =
-    let same : k ≡ n = cc in
-    sym (nat_cmp_is (suc i) 0 Greater (omega arith)) ∙ sym (ap ordering_reverse (later_number k ks s.0 i m e)) ∙ sym (nat_cmp_total.antisymm m k)
-    ∙ ap (nat_cmp m) same
-places_compare (k ∷ ks) s (suc i) (suc j) m n e f = next (nat_cmp i j) (ranked i j (nat_cmp i j) refl) ∙ places_compare ks s.1 i j m n e f
-  where
-    next : (o : Ordering) → MatchOrdering o (i < j) (i ≡ j) (j < i) → nat_cmp (suc i) (suc j) ≡ o
-    next Less h = sym (nat_cmp_is (suc i) (suc j) Less (omega (arith, h)))
-    next Equal h = sym (nat_cmp_is (suc i) (suc j) Equal (omega (arith, h)))
-    next Greater h = sym (nat_cmp_is (suc i) (suc j) Greater (omega (arith, h)))

@@ -1,15 +1,10 @@
 -- Names are ordered by their content first, so two arrangements of a county have the same names.
-use Rattle.tl_number.proofs.Common.{◌≡◌, ◌∙◌, ◌∷◌, [], ℕ, map, length, sym, ap, Arrangement, Arranges, Body5, County, IsCounty, IsInOrder}
-use Rattle.tl_number.proofs.Common.{IsPermutation, IsPermutation-map, IsPermutation-sym, IsPermutation-trans, all_uses, arranged, carried_name}
-use Rattle.tl_number.proofs.Common.{in_order-in_order, in_order-map, in_order-permutation, length-map, map-map, name_key, name_key_cmp}
-use Rattle.tl_number.proofs.Common.{names_in_order, on, on_total, placed, renaming_of, slice_cmp, type_5_by_name, up_to, use_cmp, uses_of_name}
-use Rattle.county_chart.specs.BodyOrder.{name_body_cmp}
-use Rattle.county_chart.specs.Laws.KeyOrders.{name_body_keys}
-use Rattle.county_chart.specs.Packing.{packed_five}
-use Rattle.canonical_form.proofs.Arrangements.Carrying.{feats_arranged, names_arranged, names_permutation}
-use Rattle.canonical_form.proofs.Lists.Counting.{entries_equal}
-use Rattle.canonical_form.proofs.Lists.Grouping.{in_order-weaker, then-first}
-use Rattle.canonical_form.proofs.Unique.SameNames.{name_key_keys}
+use Rattle.tl_number.proofs.Common.{Arrangement, Arranges, Body5, County, IsCounty, IsInOrder, IsPermutation, IsPermutation-map}
+use Rattle.tl_number.proofs.Common.{IsPermutation-sym, IsPermutation-trans, [], all_uses, ap, arranged, carried_name, entries_equal}
+use Rattle.tl_number.proofs.Common.{feats_arranged, in_order-in_order, in_order-map, in_order-permutation, in_order-weaker, length}
+use Rattle.tl_number.proofs.Common.{length-map, map, map-map, name_body_cmp, name_body_keys, name_key, name_key_cmp, name_key_keys}
+use Rattle.tl_number.proofs.Common.{names_arranged, names_in_order, names_permutation, on, on_total, packed_five, placed, renaming_of}
+use Rattle.tl_number.proofs.Common.{slice_cmp, sym, then-first, type_5_by_name, up_to, use_cmp, uses_of_name, ℕ, ◌∙◌, ◌∷◌, ◌≡◌}
 
 abbrev content : ℕ × Body5 → Body5
 content name = name.1

@@ -1,34 +1,17 @@
 -- The FEATs of names in their new order are in order by content, rank and FEAT, so a name's place is how many come before it.
-use Rattle.tl_number.proofs.Common.{◌≡◌, ◌∙◌, ◌⊎◌, ◌<◌, ℕ, zero, suc, List, [], ◌∷◌, length, false, cond, Ordering, Less, Some, is_eq, is_lt}
-use Rattle.tl_number.proofs.Common.{refl, sym, ap, ap₂, subst, inl, inr, arith, nat_cmp, AllByRecursion, AreWhole, Arrangement, Body5, County}
-use Rattle.tl_number.proofs.Common.{Use, DirectedChain, IsCounty, IsInOrder, IsKeyOrder, IsPermutation, IsPermutation-map, Known, all-in_order}
-use Rattle.tl_number.proofs.Common.{all_both, all_uses, all_unmap, all_weaker, arrangement_of, entry_keys, exact_unsigned, feats}
-use Rattle.tl_number.proofs.Common.{feats_along_arrangement, first_seen, in_order-in_order, in_order-map, known-permutation}
-use Rattle.tl_number.proofs.Common.{known-permutation_to, length_permutation, name_key, name_key_cmp, names_in_order, nat_cmp_total, nat_keys}
-use Rattle.tl_number.proofs.Common.{on, on_total, option_cmp, ordering_then, place_in, placed, same-itself, same_or_not, slice_cmp, slice_get}
-use Rattle.tl_number.proofs.Common.{then_total, tied_itself, times, use_cmp, uses_of_name}
-use Rattle.std.specs.List.Sorted.{IsStrictlySortedBy}
-use Rattle.ordered_lists.specs.Entries.{value_under}
-use Rattle.ordered_lists.proofs.ByKey.KeyOrders.{then-equal}
-use Rattle.ordered_lists.proofs.ByKey.Keys.{differ, differ_apart}
-use Rattle.ordered_lists.proofs.Lists.Counted.{filter-agree}
-use Rattle.ordered_lists.proofs.Lists.Ranges.{less}
-use Rattle.county_chart.specs.BodyOrder.{name_body_cmp}
-use Rattle.county_chart.specs.ChartWords.{name_under}
-use Rattle.county_chart.specs.Laws.KeyOrders.{name_body_keys}
-use Rattle.arranged_county.specs.NameItems.{rank_of}
-use Rattle.tl_number.specs.OpenNames.{feats_in_order}
-use Rattle.canonical_form.proofs.Arrangements.Carrying.{names_permutation}
-use Rattle.canonical_form.proofs.Choices.AscendingArrangement.{options_total}
+use Rattle.tl_number.proofs.Common.{AllByRecursion, arrangement_of, exact_unsigned, feats_in_order, known-permutation, names_permutation, ℕ}
+use Rattle.tl_number.proofs.Common.{AreWhole, Arrangement, in_order-map, name_key_cmp, ranked_there, same-itself, same_or_not, uses_of_name}
+use Rattle.tl_number.proofs.Common.{Body5, all_weaker, entry_keys, first_seen, name_under, option_cmp, then-equal, tied_itself, value_under}
+use Rattle.tl_number.proofs.Common.{County, all_uses, arranges, by_uses, greater, name_key, nat_cmp, nat_keys, on_total, place_in, unranked}
+use Rattle.tl_number.proofs.Common.{DirectedChain, IsKeyOrder, IsPermutation, name_body_cmp, name_body_keys, names_in_order, unknown_at_end}
+use Rattle.tl_number.proofs.Common.{IsCounty, IsInOrder, Known, Ordering, all_both, all_unmap, slice_cmp, slice_get, then_assoc, then_total}
+use Rattle.tl_number.proofs.Common.{IsPermutation-map, feats_along_arrangement, in_order-in_order, known-permutation_to, length_permutation}
+use Rattle.tl_number.proofs.Common.{Less, List, arith, differ, false, feats, is_eq, is_lt, length, placed, rank_of, subst, times, use_cmp}
+use Rattle.tl_number.proofs.Common.{Some, Use, [], ap, ap₂, cond, inl, inr, less, on, refl, suc, sym, zero, ◌<◌, ◌∙◌, ◌∷◌, ◌≡◌, ◌⊎◌}
+use Rattle.tl_number.proofs.Common.{all-in_order, differ_apart, filter-agree, name_key_keys, nat_cmp_total, options_total, ordering_then}
 use Rattle.tl_number.proofs.Lists.OrderPlaces.{by_number, compare_alike, in_order-among, numbered_order, place_counted}
-use Rattle.arranged_county.proofs.Names.NameOrder.{by_uses}
-use Rattle.canonical_form.proofs.Lists.ListPlaces.{then_assoc}
-use Rattle.arranged_county.proofs.Names.NameRanks.{greater, ranked_there, unranked}
-use Rattle.canonical_form.proofs.Numbering.FirstSeen.{unknown_at_end}
-use Rattle.tl_number.proofs.Ties.Counterparts.{there_found}
-use Rattle.tl_number.proofs.Ties.NewlySeen.{AreAlike}
-use Rattle.canonical_form.proofs.Unique.SameNames.{name_key_keys}
-use Rattle.canonical_form.proofs.Views.ViewChains.{arranges}
+use Rattle.tl_number.proofs.{Ties.KeyPlaces.there_found, Ties.NewlySeen.AreAlike}
+use Rattle.std.specs.List.Sorted.{IsStrictlySortedBy}
 
 -- FEATs by the content of their names, then by their ranks, then by themselves
 abbrev pub feat_cmp : County → List ℕ → ℕ → ℕ → Ordering

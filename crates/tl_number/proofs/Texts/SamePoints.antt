@@ -1,13 +1,9 @@
 -- All choices of a county have the same points, chain by chain, and so the same type 2 records.
-use Rattle.tl_number.proofs.Common.{◌≡◌, ◌∙◌, ℕ, List, [], ◌∷◌, map, length, sym, refl, ap, subst, AllKeysStandIn, AreSame, Chain, Coordinates}
-use Rattle.tl_number.proofs.Common.{County, Fields2, IsArranged, IsCounty, IsTidy, arranged, entry_points, entry_shape, in_order-equal}
-use Rattle.tl_number.proofs.Common.{in_pieces, inner_points, length-map, numbered_choice, numbered_from, packed_twos, points_cmp, points_keys}
-use Rattle.tl_number.proofs.Common.{polygon_keys, polygons_along, type_2_by_chain, up_to}
-use Rattle.ordered_lists.proofs.Lists.Reordered.{SameElements, times-same}
-use Rattle.canonical_form.proofs.Arrangements.ArrangedCounties.{is_arranged}
-use Rattle.canonical_form.proofs.Choices.SameChoices.{choices_same}
-use Rattle.canonical_form.proofs.Choices.TidyChoices.{numbered_is_choice}
-use Rattle.canonical_form.proofs.CanonicalLists.SameShapes.{points_in_order, shapes_carried, tidy_shapes}
+use Rattle.tl_number.proofs.Common.{AllKeysStandIn, AreSame, Chain, Coordinates, County, Fields2, IsArranged, IsCounty, IsTidy, List}
+use Rattle.tl_number.proofs.Common.{SameElements, [], ap, arranged, choices_same, entry_points, entry_shape, in_order-equal, in_pieces}
+use Rattle.tl_number.proofs.Common.{inner_points, is_arranged, length, length-map, map, numbered_choice, numbered_from, numbered_is_choice}
+use Rattle.tl_number.proofs.Common.{packed_twos, points_cmp, points_in_order, points_keys, polygon_keys, polygons_along, refl}
+use Rattle.tl_number.proofs.Common.{shapes_carried, subst, sym, tidy_shapes, times-same, type_2_by_chain, up_to, ℕ, ◌∙◌, ◌∷◌, ◌≡◌}
 
 -- the type 2 records of a chain, from its TLID and its points
 abbrev twos : ℕ → List Coordinates → List Fields2

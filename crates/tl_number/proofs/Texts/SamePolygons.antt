@@ -1,9 +1,8 @@
 -- Two arrangements of a county that number its polygons alike have the same polygons and links.
-use Rattle.tl_number.proofs.Common.{◌≡◌, ◌∙◌, ℕ, List, map, Option, sym, ap, nat_cmp, AllByRecursion, Arrangement, Arranges, Body7, BodyP}
-use Rattle.tl_number.proofs.Common.{County, Fields8, IsCounty, PolygonKey, Renumbering, all_everywhere, arranged, image, in_order, key_cmp}
-use Rattle.tl_number.proofs.Common.{landmark_key, landmark_key_cmp, landmarks_in_order, link_cmp, link_key, map_agree_all, new_keys, numbered}
-use Rattle.tl_number.proofs.Common.{on, relinked, renaming_of}
-use Rattle.canonical_form.proofs.Arrangements.Carrying.{lands_renamed, links_arranged, polygons_arranged, polygons_renamed}
+use Rattle.tl_number.proofs.Common.{AllByRecursion, Arrangement, Arranges, Body7, County, Fields8, IsCounty, List, PolygonKey, Renumbering}
+use Rattle.tl_number.proofs.Common.{ap, arranged, image, in_order, key_cmp, landmark_key, landmark_key_cmp, landmarks_in_order}
+use Rattle.tl_number.proofs.Common.{lands_renamed, link_cmp, link_key, links_arranged, map, map_agree_all, nat_cmp, new_keys, numbered, on}
+use Rattle.tl_number.proofs.Common.{polygons_renamed, relinked, renaming_of, sym, ℕ, ◌∙◌, ◌≡◌}
 
 module _ (county : County) (is : IsCounty county) (one other : Arrangement) (arranges_one : Arranges one county)
     (arranges_other : Arranges other county) where
@@ -48,18 +47,3 @@ module _ (county : County) (is : IsCounty county) (one other : Arrangement) (arr
         (λ link e. (λ i. record { file = link.file; cenid = (e i).0; polyid = (e i).1; land = image nat_cmp (lands_same i) link.land })) county.links alike)
         ∙ ap (λ keys. in_order link_cmp (map (under keys s.lands) county.links)) (sym (polygons_renamed county other is arranges_other))
         ∙ sym (links_arranged county other is arranges_other)
-
-  -- All polygons have the same numbers.
-  module _ (keys_same : new_keys county one ≡ new_keys county other) where
-    pub links_agree : LinksAgree
-    links_agree = all_everywhere (λ (link : Fields8). image key_cmp (new_keys county one) (link_key link) ≡ image key_cmp (new_keys county other) (link_key link))
-        (λ link. (λ i. image key_cmp (keys_same i) (link_key link))) county.links
-
-    pub new_polygons_same : r.polygons ≡ s.polygons
-    new_polygons_same = polygons_renamed county one is arranges_one ∙ keys_same ∙ sym (polygons_renamed county other is arranges_other)
-
-    pub same_polygons : (arranged county one).polygons ≡ (arranged county other).polygons
-    same_polygons = polygons_arranged county one is arranges_one
-        ∙ (λ j. in_order (on (λ (e : PolygonKey × Option BodyP). e.0) key_cmp)
-        (map (λ (e : PolygonKey × Option BodyP). (image key_cmp (new_polygons_same j) e.0, e.1)) county.polygons))
-        ∙ sym (polygons_arranged county other is arranges_other)

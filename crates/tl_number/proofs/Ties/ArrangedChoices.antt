@@ -1,19 +1,8 @@
--- Arrangements of a county within its limits: the arranged county, and the numbers of its polygons.
-use Rattle.tl_number.proofs.Common.{◌≡◌, ℕ, AllKeysStandIn, Arrangement, Arranges, County, IsCounty, IsWithinLimits, Known, PolygonKey}
-use Rattle.tl_number.proofs.Common.{all_among, arith, arranged, image, key_cmp, key_keys, known_all, ltb-true, most_records}
-use Rattle.tl_number.proofs.Common.{numbered_choice, polygon_keys, polygons_along, polygons_in_order, placed, renaming_of, stands_in, times, IsTrue}
-use Rattle.tl_number.proofs.Common.{Among, Fields8, link_key}
-use Rattle.county_chart.proofs.Sameness.Equivalence.{image-keeps}
-use Rattle.ordered_lists.proofs.Lists.Members.{among_known}
-use Rattle.canonical_form.proofs.Arrangements.ArrangedCounties.{arranged_county}
-use Rattle.canonical_form.proofs.Arrangements.ArrangedNumbers.{arrangement_within}
-use Rattle.canonical_form.proofs.Arrangements.Carrying.{arrangement_carries, polygons_from_placed}
-use Rattle.canonical_form.proofs.Choices.TidyChoices.{numbered_is_choice}
-use Rattle.canonical_form.proofs.Numbering.FirstSeen.{from_first_seen}
-
--- the new POLYID of a polygon in an arrangement
-abbrev pub polygon_number : County → Arrangement → PolygonKey → ℕ
-polygon_number county arrangement key = (image key_cmp (renaming_of county arrangement).polygons key).1
+-- Arrangements of a county within its limits, and the numbers of its polygons.
+use Rattle.tl_number.proofs.Common.{AllKeysStandIn, IsWithinLimits, PolygonKey, most_records, numbered_choice, polygon_keys, polygons_along}
+use Rattle.tl_number.proofs.Common.{Among, County, Fields8, IsTrue, Known, image, key_cmp, key_keys, link_key, ltb-true, placed, times, ℕ}
+use Rattle.tl_number.proofs.Common.{Arrangement, Arranges, IsCounty, all_among, among_known, image-keeps, known_all, renaming_of, stands_in}
+use Rattle.tl_number.proofs.Common.{arrangement_carries, from_first_seen, numbered_is_choice, polygons_from_placed, polygons_in_order, ◌≡◌}
 
 -- an arrangement of a county within its limits that has all polygons on its sides
 pub record IsArrangementOf (county : County) (arrangement : Arrangement) : Type 0 where
@@ -39,14 +28,6 @@ link_on_side county is sides link there =
     (ltb-true 0 (times key_cmp (link_key link) (polygon_keys county)) known))
 
 module _ (county : County) (arrangement : Arrangement) (h : IsArrangementOf county arrangement) where
-  -- the arranged county
-  pub arranged_is : IsCounty (arranged county arrangement)
-  arranged_is = arranged_county county arrangement h.is h.arranges h.sides
-
-  -- it is within the limits too
-  pub arranged_within : IsWithinLimits most_records (arranged county arrangement)
-  arranged_within = arrangement_within most_records (omega arith) county h.is arrangement h.arranges h.sides h.within
-
   -- a polygon keeps its CENID
   pub keeps_cenid : (k : PolygonKey) → (image key_cmp (renaming_of county arrangement).polygons k).0 ≡ k.0
   keeps_cenid = image-keeps (renaming_of county arrangement).polygons (arrangement_carries county arrangement h.is h.arranges h.sides).numbers.cenids

@@ -1,217 +1,173 @@
--- The text of a record is its columns, each of one width, so the first column that differs decides the order of two records.
-use Rattle.tl_number.proofs.Common.{◌≡◌, ◌<◌, ◌^◌, ◌+◌, ◌∙◌, ℕ, zero, suc, List, [], ◌∷◌, ◌++◌, length, length-append, Option, Some, unwrap_or}
-use Rattle.tl_number.proofs.Common.{Ordering, Equal, AllByRecursion, refl, sym, ap, ap₂, codes, joined, nat_cmp, nat_list_cmp_total}
-use Rattle.tl_number.proofs.Common.{arith, ordering_then, slice_cmp, spelling_cmp, tied_itself}
-use Rattle.tl_layout.specs.ColumnTable.{FitsRows, FitsValue, Kind, Row, ValueOf, width_of}
-use Rattle.tl_layout.specs.ColumnTable.{Number, NumberOrNone, Pair, PairOrNone, NumberPlaces, PointPlaces, Opaque, Filler}
-use Rattle.tl_layout.specs.FieldTexts.{lat_text, long_text, number_place_text, number_text, places_text, point_place_text, rows_texts, value_texts}
-use Rattle.tl_layout.specs.Laws.ByteLaws.{blanks_are_text}
-use Rattle.tl_layout.specs.Laws.ColumnLaws.{joined-before}
-use Rattle.tl_layout.specs.Laws.FieldLaws.{lat_text_is_text, long_text_is_text}
-use Rattle.tl_layout.specs.Laws.NumberTextLaws.{length-number_text}
-use Rattle.tl_layout.specs.Laws.PlaceLaws.{number_place_is_text, places_text_is_text, point_place_is_text}
-use Rattle.tl_layout.specs.Laws.TableLaws.{joined-append}
-use Rattle.tl_layout.specs.Numbers.{IsNumber}
-use Rattle.tl_layout.specs.Coordinates.{Coordinates}
-use Rattle.tl_layout.specs.RecordText.{FitsRecord, spelling_of}
-use Rattle.tl_layout.specs.RecordTypes.{FieldsOf, FitsFields, RecordType, byte_of, fields_spelling, record_of, table_of}
-use Rattle.tl_layout.specs.RecordTypes.{Type1, Type2, Type4, Type5, Type6, Type7, Type8, TypeI, TypeP}
-use Rattle.record_groups.proofs.Texts.NumberTexts.{number_order}
-use Rattle.record_groups.proofs.Texts.PartOrder.{then_same}
-use Rattle.record_groups.proofs.Texts.RecordTexts.{cmp-append}
+-- Records of one type are in the order of their columns: the first column that differs decides.
+use Rattle.tl_number.proofs.Common.{AllByRecursion, lat_text_is_text, long_text_is_text, number_order, point_place_text, spelling_of_record}
+use Rattle.tl_number.proofs.Common.{Coordinates, IsNumberOrNone, joined-append, joined-before, length-append, ordering_then, spelling_cmp}
+use Rattle.tl_number.proofs.Common.{Equal, Ordering, Result, Type1, arith, byte_of, joined, lat_text, length, nat_cmp, nat_keys, table_of}
+use Rattle.tl_number.proofs.Common.{FieldsOf, IsNumber, Option, long_text, pow-succ', record_of, slice_cmp, slice_get, then_same, unwrap_or}
+use Rattle.tl_number.proofs.Common.{List, None, Ok, Some, [], ap, codes, map, refl, suc, sym, zero, ℕ, ◌++◌, ◌+◌, ◌<◌, ◌^◌, ◌∙◌, ◌∷◌, ◌≡◌}
+use Rattle.tl_number.proofs.Common.{RecordType, ap₂, cmp-append, layout_laws, lists_keys, number_text, reading_of, spelling_of, tied_itself}
+use Rattle.tl_number.proofs.Common.{length-number_text, nat_list_cmp_total, number_place_is_text, places_text_is_text, point_place_is_text}
+use Rattle.tl_layout.specs.ColumnTable.{Filler, FitsRows, FitsValue, Kind, Number, NumberOrNone, NumberPlaces, Opaque, Pair, PairOrNone}
+use Rattle.tl_layout.specs.ColumnTable.{PointPlaces, Row, ValueOf, width_of}
+use Rattle.tl_layout.specs.FieldTexts.{number_place_text, places_text, rows_texts, value_texts}
+use Rattle.tl_layout.specs.{RecordText.FitsRecord, RecordTypes.FitsFields, RecordTypes.fields_spelling}
 
--- how many columns a value fills
-abbrev value_width : ℕ → Kind → ℕ
-value_width width Pair = 19
-value_width width PairOrNone = 19
-value_width width NumberPlaces = 40
-value_width width PointPlaces = 190
-value_width width Number = width
-value_width width NumberOrNone = width
-value_width width Opaque = width
-value_width width Filler = width
+-- ---- the order of two values of a column
+
+-- the number in a place for numbers, or 0
+abbrev pub place_number : List ℕ → ℕ → ℕ
+place_number numbers place = unwrap_or (slice_get numbers place) 0
+
+-- the order of the numbers in the first places, place by place
+abbrev pub places_cmp : ℕ → (ℕ → ℕ) → (ℕ → ℕ) → Ordering
+places_cmp zero f g = Equal
+places_cmp (suc count) f g = ordering_then (nat_cmp (f 0) (g 0)) (places_cmp count (λ place. f (suc place)) (λ place. g (suc place)))
+
+-- two pairs that compare alike in each place are in one order
+pub places_alike : (count : ℕ) (f g h k : ℕ → ℕ) → ((place : ℕ) → nat_cmp (f place) (g place) ≡ nat_cmp (h place) (k place))
+    → places_cmp count f g ≡ places_cmp count h k
+places_alike zero f g h k alike = refl
+places_alike (suc count) f g h k alike = ap₂ ordering_then (alike 0)
+    (places_alike count (λ place. f (suc place)) (λ place. g (suc place)) (λ place. h (suc place)) (λ place. k (suc place)) (λ place. alike (suc place)))
+
+-- the order of two values: that of numbers, with 0 for none, and otherwise that of their texts
+abbrev pub value_cmp : ℕ → (kind : Kind) → ValueOf kind → ValueOf kind → Ordering
+value_cmp width Number a b = nat_cmp a b
+value_cmp width NumberOrNone a b = nat_cmp (unwrap_or a 0) (unwrap_or b 0)
+value_cmp width NumberPlaces a b = places_cmp 5 (place_number a) (place_number b)
+value_cmp width kind a b = slice_cmp nat_cmp (joined [] (value_texts width kind a)) (joined [] (value_texts width kind b))
+
+-- a number that fits, or 0 for none, has at most as many digits
+few : (width : ℕ) (n : Option ℕ) → IsNumberOrNone width n → unwrap_or n 0 < 10 ^ width
+few width (Some n) h = h.1
+few width None h = some width
+  where
+    some : (w : ℕ) → 0 < 10 ^ w
+    some zero = omega arith
+    some (suc w) = rw (pow-succ' 10 w) (let rest = some w in omega (arith, rest))
+
+-- numbers decide before the texts after them
+first : (m n : ℕ) (us vs : List ℕ) (o : Ordering) → m < 10 ^ 8 → n < 10 ^ 8 → slice_cmp nat_cmp us vs ≡ o
+    → slice_cmp nat_cmp (number_text 8 m ++ us) (number_text 8 n ++ vs) ≡ ordering_then (nat_cmp m n) o
+first m n us vs o m_few n_few rest =
+    cmp-append nat_cmp (number_text 8 m) (number_text 8 n) us vs (length-number_text 8 m ∙ sym (length-number_text 8 n))
+    ∙ ap₂ ordering_then (number_order 8 m n m_few n_few) rest
+
+-- places for numbers are in the order of their numbers
+places_order : (count : ℕ) (ks ls : List ℕ) → AllByRecursion (IsNumber 8) ks → AllByRecursion (IsNumber 8) ls
+    → slice_cmp nat_cmp (places_text number_place_text count ks) (places_text number_place_text count ls)
+    ≡ places_cmp count (place_number ks) (place_number ls)
+unfolding places_text
+places_order zero ks ls f g = refl
+places_order (suc count) [] [] f g = first 0 0 _ _ _ (omega arith) (omega arith) (places_order count [] [] tt tt)
+places_order (suc count) [] (l ∷ ls) f g = first 0 l _ _ _ (omega arith) g.0.1 (places_order count [] ls tt g.1)
+places_order (suc count) (k ∷ ks) [] f g = first k 0 _ _ _ f.0.1 (omega arith) (places_order count ks [] f.1 tt)
+places_order (suc count) (k ∷ ks) (l ∷ ls) f g = first k l _ _ _ f.0.1 g.0.1 (places_order count ks ls f.1 g.1)
 
 -- a longitude and a latitude fill 19 columns
 pair_width : (point : Option Coordinates) → length (long_text point ++ lat_text point) ≡ 19
 pair_width point = length-append (long_text point) (lat_text point)
     ∙ ap₂ (λ m n. m + n) (long_text_is_text point).len (lat_text_is_text point).len
 
--- a value that fits fills its columns
-value_fills : (width : ℕ) (kind : Kind) (value : ValueOf kind) → FitsValue width kind value
-    → length (joined [] (value_texts width kind value)) ≡ value_width width kind
-value_fills width Number n f = length-number_text width n
-value_fills width NumberOrNone n f = length-number_text width (unwrap_or n 0)
-value_fills width Pair point f = pair_width (Some point)
-value_fills width PairOrNone point f = pair_width point
-value_fills width NumberPlaces numbers f = (places_text_is_text number_place_text 8 number_place_is_text 5 numbers f.0).len
-value_fills width PointPlaces points f = (places_text_is_text point_place_text 19 point_place_is_text 10 points f.0).len
-value_fills width Opaque text f = f.len
-value_fills width Filler value f = (blanks_are_text width).len
+-- the values of a column that fit have texts of one length
+same_width : (width : ℕ) (kind : Kind) (a b : ValueOf kind) → FitsValue width kind a → FitsValue width kind b
+    → length (joined [] (value_texts width kind a)) ≡ length (joined [] (value_texts width kind b))
+same_width width Number a b f g = length-number_text width a ∙ sym (length-number_text width b)
+same_width width NumberOrNone a b f g = length-number_text width (unwrap_or a 0) ∙ sym (length-number_text width (unwrap_or b 0))
+same_width width Pair a b f g = pair_width (Some a) ∙ sym (pair_width (Some b))
+same_width width PairOrNone a b f g = pair_width a ∙ sym (pair_width b)
+same_width width NumberPlaces a b f g = (places_text_is_text number_place_text 8 number_place_is_text 5 a f.0).len
+    ∙ sym (places_text_is_text number_place_text 8 number_place_is_text 5 b g.0).len
+same_width width PointPlaces a b f g = (places_text_is_text point_place_text 19 point_place_is_text 10 a f.0).len
+    ∙ sym (places_text_is_text point_place_text 19 point_place_is_text 10 b g.0).len
+same_width width Opaque a b f g = f.len ∙ sym g.len
+same_width width Filler a b f g = refl
 
--- the order of two records by the columns of one row, and of some rows
-abbrev pub row_cmp : {R : Type 0} → Row R → R → R → Ordering
-row_cmp row r s = slice_cmp nat_cmp (joined [] (value_texts (width_of row) row.kind (row.value r)))
-    (joined [] (value_texts (width_of row) row.kind (row.value s)))
+-- their texts are in the order of the values
+value_order : (width : ℕ) (kind : Kind) (a b : ValueOf kind) → FitsValue width kind a → FitsValue width kind b
+    → slice_cmp nat_cmp (joined [] (value_texts width kind a)) (joined [] (value_texts width kind b)) ≡ value_cmp width kind a b
+value_order width Number a b f g = number_order width a b f.1 g.1
+value_order width NumberOrNone a b f g = number_order width (unwrap_or a 0) (unwrap_or b 0) (few width a f) (few width b g)
+value_order width NumberPlaces a b f g = places_order 5 a b f.1 g.1
+value_order width _ a b f g = refl
 
+-- ---- the order of two records
+
+-- the order of two records by their values in some rows
 abbrev pub rows_cmp : {R : Type 0} → List (Row R) → R → R → Ordering
-rows_cmp rows r s = slice_cmp nat_cmp (joined [] (rows_texts rows r)) (joined [] (rows_texts rows s))
+rows_cmp [] r s = Equal
+rows_cmp (row ∷ rows) r s = ordering_then (value_cmp (width_of row) row.kind (row.value r) (row.value s)) (rows_cmp rows r s)
 
--- the first row decides before the rows after it
-first_row : {R : Type 0} (row : Row R) (rows : List (Row R)) (r s : R) → FitsRows (row ∷ rows) r → FitsRows (row ∷ rows) s
-    → rows_cmp (row ∷ rows) r s ≡ ordering_then (row_cmp row r s) (rows_cmp rows r s)
-first_row row rows r s f g =
+abbrev pub fields_cmp : (t : RecordType) → FieldsOf t → FieldsOf t → Ordering
+fields_cmp t = rows_cmp (table_of t)
+
+-- the texts of rows that fit are in this order
+rows_order : {R : Type 0} (rows : List (Row R)) (r s : R) → FitsRows rows r → FitsRows rows s
+    → slice_cmp nat_cmp (joined [] (rows_texts rows r)) (joined [] (rows_texts rows s)) ≡ rows_cmp rows r s
+rows_order [] r s f g = refl
+rows_order (row ∷ rows) r s f g =
     let one : List (List ℕ) = value_texts (width_of row) row.kind (row.value r) in
     let other : List (List ℕ) = value_texts (width_of row) row.kind (row.value s) in
     ap₂ (slice_cmp nat_cmp) (joined-append one (rows_texts rows r)) (joined-append other (rows_texts rows s))
     ∙ cmp-append nat_cmp (joined [] one) (joined [] other) (joined [] (rows_texts rows r)) (joined [] (rows_texts rows s))
-    (value_fills (width_of row) row.kind (row.value r) f.0 ∙ sym (value_fills (width_of row) row.kind (row.value s) g.0))
+    (same_width (width_of row) row.kind (row.value r) (row.value s) f.0 g.0)
+    ∙ ap₂ ordering_then (value_order (width_of row) row.kind (row.value r) (row.value s) f.0 g.0) (rows_order rows r s f.1 g.1)
 
--- two pairs of records compare alike in each row up to the first in which they differ
-abbrev pub AreColumnsAlike : {R : Type 0} → List (Row R) → R → R → R → R → Type 0
-AreColumnsAlike [] r s t u = Unit {0}
-AreColumnsAlike (row ∷ rows) r s t u = (row_cmp row r s ≡ row_cmp row t u) × (row_cmp row r s ≡ Equal → AreColumnsAlike rows r s t u)
+-- a record fits if its fields do
+fields_fit : (t : RecordType) (r : FieldsOf t) → FitsRecord (record_of t r) → FitsFields t r
+unfolding FitsRecord
+fields_fit Type1 r f = f
+fields_fit _ r f = f
 
--- If two pairs compare alike in the first row, and in the rows after it if that doesn't differ, they are in one order.
-pub first_column_alike : {R : Type 0} (row : Row R) (rows : List (Row R)) (r s t u : R) → FitsRows (row ∷ rows) r → FitsRows (row ∷ rows) s
-    → FitsRows (row ∷ rows) t → FitsRows (row ∷ rows) u → row_cmp row r s ≡ row_cmp row t u
-    → (row_cmp row r s ≡ Equal → rows_cmp rows r s ≡ rows_cmp rows t u) → rows_cmp (row ∷ rows) r s ≡ rows_cmp (row ∷ rows) t u
-first_column_alike row rows r s t u f g h k first later =
-    first_row row rows r s f g
-    ∙ then_same (row_cmp row r s) (rows_cmp rows r s) (rows_cmp rows t u) later
-    ∙ ap (λ o. ordering_then o (rows_cmp rows t u)) first
-    ∙ sym (first_row row rows t u h k)
+-- Records of a type that fit are in the order of their columns,
+pub columns_decide : (t : RecordType) (r s : FieldsOf t) → FitsRecord (record_of t r) → FitsRecord (record_of t s)
+    → spelling_cmp (record_of t r) (record_of t s) ≡ fields_cmp t r s
+unfolding FitsFields fields_spelling
+columns_decide t r s f g =
+    let head : List ℕ = byte_of t ∷ codes "2006" in
+    let one : List ℕ = joined [] (rows_texts (table_of t) r) in
+    let other : List ℕ = joined [] (rows_texts (table_of t) s) in
+    ap₂ (slice_cmp nat_cmp) (spelling_of_record t r ∙ joined-before head (rows_texts (table_of t) r))
+    (spelling_of_record t s ∙ joined-before head (rows_texts (table_of t) s))
+    ∙ cmp-append nat_cmp head head one other refl
+    ∙ ap (λ o. ordering_then o (slice_cmp nat_cmp one other)) (tied_itself nat_list_cmp_total head)
+    ∙ rows_order (table_of t) r s (fields_fit t r f) (fields_fit t s g)
+
+-- and so are lists of them.
+pub lists_decide : (t : RecordType) (rs ss : List (FieldsOf t)) → AllByRecursion (λ r. FitsRecord (record_of t r)) rs
+    → AllByRecursion (λ r. FitsRecord (record_of t r)) ss
+    → slice_cmp spelling_cmp (map (record_of t) rs) (map (record_of t) ss) ≡ slice_cmp (fields_cmp t) rs ss
+lists_decide t [] [] f g = refl
+lists_decide t [] (s ∷ ss) f g = refl
+lists_decide t (r ∷ rs) [] f g = refl
+lists_decide t (r ∷ rs) (s ∷ ss) f g = ap₂ ordering_then (columns_decide t r s f.0 g.0) (lists_decide t rs ss f.1 g.1)
+
+-- Those that tie are the same.
+pub tied_fields : (t : RecordType) (r s : FieldsOf t) → FitsRecord (record_of t r) → FitsRecord (record_of t s) → fields_cmp t r s ≡ Equal
+    → r ≡ s
+tied_fields t r s f g tie = ok_value r s
+    (sym ((layout_laws t).reads_spelling r (fields_fit t r f))
+    ∙ ap (reading_of t) (sym (spelling_of_record t r)
+    ∙ (lists_keys nat_keys).exact (spelling_of (record_of t r)) (spelling_of (record_of t s)) (columns_decide t r s f g ∙ tie)
+    ∙ spelling_of_record t s)
+    ∙ (layout_laws t).reads_spelling s (fields_fit t s g))
+  where
+    ok_value : {A E : Type 0} (x y : A) → ◌≡◌ {A = Result A E} (Ok x) (Ok y) → x ≡ y
+    ok_value x y e = cc
+
+-- Two pairs of records compare alike in the first rows, one by one, up to the first in which they differ, and then in all others.
+abbrev pub AreColumnsAlike : {R : Type 0} → ℕ → List (Row R) → R → R → R → R → Type 0
+AreColumnsAlike zero rows r s t u = rows_cmp rows r s ≡ rows_cmp rows t u
+AreColumnsAlike (suc count) [] r s t u = Unit {0}
+AreColumnsAlike (suc count) (row ∷ rows) r s t u =
+    (value_cmp (width_of row) row.kind (row.value r) (row.value s) ≡ value_cmp (width_of row) row.kind (row.value t) (row.value u))
+    × (value_cmp (width_of row) row.kind (row.value r) (row.value s) ≡ Equal → AreColumnsAlike count rows r s t u)
 
 -- So they are in one order.
-pub columns_alike : {R : Type 0} (rows : List (Row R)) (r s t u : R) → FitsRows rows r → FitsRows rows s → FitsRows rows t → FitsRows rows u
-    → AreColumnsAlike rows r s t u → rows_cmp rows r s ≡ rows_cmp rows t u
-columns_alike [] r s t u f g h k alike = refl
-columns_alike (row ∷ rows) r s t u f g h k alike =
-    first_column_alike row rows r s t u f g h k alike.0 (λ tie. columns_alike rows r s t u f.1 g.1 h.1 k.1 (alike.1 tie))
-
--- columns of the same values compare alike
-pub same_columns : {R : Type 0} (rows : List (Row R)) (r s t u : R) → AllByRecursion (λ row. row.value r ≡ row.value t) rows
-    → AllByRecursion (λ row. row.value s ≡ row.value u) rows → AreColumnsAlike rows r s t u
-same_columns [] r s t u e f = tt
-same_columns (row ∷ rows) r s t u e f = (
-  ap₂ (λ x y. slice_cmp nat_cmp (joined [] (value_texts (width_of row) row.kind x)) (joined [] (value_texts (width_of row) row.kind y))) e.0 f.0,
-  λ tie. same_columns rows r s t u e.1 f.1,
-)
-
--- numbers that compare alike have texts that do
-pub numbers_alike : (width a b c d : ℕ) → a < 10 ^ width → b < 10 ^ width → c < 10 ^ width → d < 10 ^ width → nat_cmp a b ≡ nat_cmp c d
-    → slice_cmp nat_cmp (number_text width a) (number_text width b) ≡ slice_cmp nat_cmp (number_text width c) (number_text width d)
-numbers_alike width a b c d a_few b_few c_few d_few alike =
-    number_order width a b a_few b_few ∙ alike ∙ sym (number_order width c d c_few d_few)
-
--- The spelling of a record is its type, the version and its columns.
-spelled : (t : RecordType) (r : FieldsOf t) → fields_spelling t r ≡ (byte_of t ∷ codes "2006") ++ joined [] (rows_texts (table_of t) r)
-unfolding fields_spelling
-spelled t r = joined-before (byte_of t ∷ codes "2006") (rows_texts (table_of t) r)
-
--- so spellings are in the order of the columns
-fields_in_order : (t : RecordType) (r s : FieldsOf t)
-    → slice_cmp nat_cmp (fields_spelling t r) (fields_spelling t s) ≡ rows_cmp (table_of t) r s
-fields_in_order t r s =
-    let head : List ℕ = byte_of t ∷ codes "2006" in
-    ap₂ (slice_cmp nat_cmp) (spelled t r) (spelled t s)
-    ∙ cmp-append nat_cmp head head (joined [] (rows_texts (table_of t) r)) (joined [] (rows_texts (table_of t) s)) refl
-    ∙ ap (λ o. ordering_then o (rows_cmp (table_of t) r s)) (tied_itself nat_list_cmp_total head)
-
--- the spelling of a record of any type
-own_spelling : (t : RecordType) (r : FieldsOf t) → spelling_of (record_of t r) ≡ fields_spelling t r
-unfolding spelling_of
-own_spelling Type1 r = refl
-own_spelling Type2 r = refl
-own_spelling Type4 r = refl
-own_spelling Type5 r = refl
-own_spelling Type6 r = refl
-own_spelling Type7 r = refl
-own_spelling Type8 r = refl
-own_spelling TypeI r = refl
-own_spelling TypeP r = refl
-
--- a record that fits has values that fit its columns
-pub rows_fit : (t : RecordType) (r : FieldsOf t) → FitsRecord (record_of t r) → FitsRows (table_of t) r
-unfolding FitsRecord FitsFields
-rows_fit Type1 r f = f
-rows_fit Type2 r f = f
-rows_fit Type4 r f = f
-rows_fit Type5 r f = f
-rows_fit Type6 r f = f
-rows_fit Type7 r f = f
-rows_fit Type8 r f = f
-rows_fit TypeI r f = f
-rows_fit TypeP r f = f
-
--- So records of one type are in the order of their columns,
-pub columns_decide : (t : RecordType) (r s : FieldsOf t) → spelling_cmp (record_of t r) (record_of t s) ≡ rows_cmp (table_of t) r s
-columns_decide t r s = ap₂ (slice_cmp nat_cmp) (own_spelling t r) (own_spelling t s) ∙ fields_in_order t r s
-
--- and two pairs of them are in one order if their columns compare alike up to the first that differs.
-pub records_alike : (t : RecordType) (r s u v : FieldsOf t) → FitsRecord (record_of t r) → FitsRecord (record_of t s) → FitsRecord (record_of t u)
-    → FitsRecord (record_of t v) → AreColumnsAlike (table_of t) r s u v
-    → spelling_cmp (record_of t r) (record_of t s) ≡ spelling_cmp (record_of t u) (record_of t v)
-records_alike t r s u v f g h k alike =
-    columns_decide t r s
-    ∙ columns_alike (table_of t) r s u v (rows_fit t r f) (rows_fit t s g) (rows_fit t u h) (rows_fit t v k) alike
-    ∙ sym (columns_decide t u v)
-
--- ---- places for numbers
-
--- the number in the first place, or 0, and the numbers in the other places
-abbrev pub first_place : List ℕ → ℕ
-first_place [] = 0
-first_place (n ∷ ns) = n
-
-abbrev pub later_places : List ℕ → List ℕ
-later_places [] = []
-later_places (n ∷ ns) = ns
-
--- the text of places is that of the first and those of the others
-places_split : (count : ℕ) (ns : List ℕ)
-    → places_text number_place_text (suc count) ns ≡ number_text 8 (first_place ns) ++ places_text number_place_text count (later_places ns)
-unfolding places_text
-places_split count [] = refl
-places_split count (n ∷ ns) = refl
-
--- two pairs of lists of numbers that compare alike, place by place
-abbrev pub ArePlacesAlike : ℕ → List ℕ → List ℕ → List ℕ → List ℕ → Type 0
-ArePlacesAlike zero ks ls ms ns = Unit {0}
-ArePlacesAlike (suc count) ks ls ms ns = (nat_cmp (first_place ks) (first_place ls) ≡ nat_cmp (first_place ms) (first_place ns))
-    × ArePlacesAlike count (later_places ks) (later_places ls) (later_places ms) (later_places ns)
-
--- the number in the first place has at most eight digits
-first_few : (ns : List ℕ) → AllByRecursion (IsNumber 8) ns → first_place ns < 10 ^ 8
-first_few [] all = omega arith
-first_few (n ∷ ns) all = all.0.1
-
--- the numbers in the other places fit too
-later_all : (ns : List ℕ) → AllByRecursion (IsNumber 8) ns → AllByRecursion (IsNumber 8) (later_places ns)
-later_all [] all = tt
-later_all (n ∷ ns) all = all.1
-
--- the first place decides before the others
-places_first : (count : ℕ) (ks ls : List ℕ)
-    → slice_cmp nat_cmp (places_text number_place_text (suc count) ks) (places_text number_place_text (suc count) ls)
-    ≡ ordering_then (slice_cmp nat_cmp (number_text 8 (first_place ks)) (number_text 8 (first_place ls)))
-    (slice_cmp nat_cmp (places_text number_place_text count (later_places ks)) (places_text number_place_text count (later_places ls)))
-places_first count ks ls = ap₂ (slice_cmp nat_cmp) (places_split count ks) (places_split count ls)
-    ∙ cmp-append nat_cmp (number_text 8 (first_place ks)) (number_text 8 (first_place ls))
-    (places_text number_place_text count (later_places ks)) (places_text number_place_text count (later_places ls))
-    (length-number_text 8 (first_place ks) ∙ sym (length-number_text 8 (first_place ls)))
-
--- Their texts compare alike too.
-pub number_places_alike : (count : ℕ) (ks ls ms ns : List ℕ) → AllByRecursion (IsNumber 8) ks → AllByRecursion (IsNumber 8) ls
-    → AllByRecursion (IsNumber 8) ms → AllByRecursion (IsNumber 8) ns → ArePlacesAlike count ks ls ms ns
-    → slice_cmp nat_cmp (places_text number_place_text count ks) (places_text number_place_text count ls)
-    ≡ slice_cmp nat_cmp (places_text number_place_text count ms) (places_text number_place_text count ns)
-unfolding places_text
-number_places_alike zero ks ls ms ns f g h k alike = refl
-number_places_alike (suc count) ks ls ms ns f g h k alike =
-    places_first count ks ls
-    ∙ ap₂ ordering_then
-    (numbers_alike 8 (first_place ks) (first_place ls) (first_place ms) (first_place ns) (first_few ks f) (first_few ls g) (first_few ms h) (first_few ns k)
-    alike.0)
-    (number_places_alike count (later_places ks) (later_places ls) (later_places ms) (later_places ns) (later_all ks f) (later_all ls g) (later_all ms h)
-    (later_all ns k) alike.1)
-    ∙ sym (places_first count ms ns)
+pub columns_alike : {R : Type 0} (count : ℕ) (rows : List (Row R)) (r s t u : R) → AreColumnsAlike count rows r s t u
+    → rows_cmp rows r s ≡ rows_cmp rows t u
+columns_alike zero rows r s t u alike = alike
+columns_alike (suc count) [] r s t u alike = refl
+columns_alike (suc count) (row ∷ rows) r s t u alike =
+    then_same (value_cmp (width_of row) row.kind (row.value r) (row.value s)) (rows_cmp rows r s) (rows_cmp rows t u)
+    (λ tie. columns_alike count rows r s t u (alike.1 tie))
+    ∙ ap (λ o. ordering_then o (rows_cmp rows t u)) alike.0

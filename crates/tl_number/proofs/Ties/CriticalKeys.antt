@@ -1,42 +1,24 @@
--- Two choices that number the keys at critical places alike number those at all other places alike.
-use Rattle.tl_number.proofs.Common.{◌≡◌, ◌<◌, ◌∙◌, ◌⊎◌, ℕ, zero, suc, List, [], ◌∷◌, ◌++◌, map, flat_map, slice_get}
-use Rattle.tl_number.proofs.Common.{Bool, true, false, Ordering, Option, Some, None, option_map, option_to_list, unwrap_or, refl, sym}
-use Rattle.tl_number.proofs.Common.{ap, subst, inl, inr, arith, AllByRecursion, AreOpenKeys, Chain, County, DirectedChain, IsCounty}
-use Rattle.tl_number.proofs.Common.{IsKeyOrder, IsWithinLimits, Known, OrderOfShapes, Renumbering, all_known, arrangement_of, directed_chain}
-use Rattle.tl_number.proofs.Common.{first_open, first_seen, group_at, grouped, is_open, keys_along, known-right, known_all}
-use Rattle.tl_number.proofs.Common.{lt-ltb, most_records, place_in, renaming_of, renumbered}
-use Rattle.tl_number.proofs.Common.{slice_get-map, stands_in, times}
-use Rattle.ordered_lists.proofs.ByKey.Keys.{known-append, known-left}
-use Rattle.tl_shape.specs.Turned.{turned}
-use Rattle.tl_number.specs.ChoiceSearch.{LeavesChoices}
-use Rattle.tl_number.specs.CriticalKeys.{brings}
-use Rattle.tl_number.specs.declared.open_keys.OpenKeys.{OpenKeys}
-use Rattle.canonical_form.proofs.Choices.ChosenArrangements.{arrangement_of_number_apart}
-use Rattle.canonical_form.proofs.Numbering.FirstSeen.{to_first_seen}
-use Rattle.tl_number.proofs.Ties.FixedKeys.{FirstFixed, fixed_before}
-use Rattle.tl_number.proofs.Ties.NewlySeen.{AreAlike}
-use Rattle.tl_number.proofs.Ties.OpenChains.{closed_apart}
-use Rattle.tl_number.proofs.Ties.TieNumbers.{chosen_chains, counterparts}
+-- If two choices number the keys alike at each fixed place that brings a key, they do so at all other fixed places.
+use Rattle.tl_number.proofs.Common.{AllByRecursion, Bool, Chain, County, DirectedChain, IsCounty, IsKeyOrder, IsWithinLimits, Known}
+use Rattle.tl_number.proofs.Common.{LeavesChoices, List, None, Option, OrderOfShapes, Ordering, Renumbering, Some, [], all_known, among-get}
+use Rattle.tl_number.proofs.Common.{among-pieces, among_known, among_left, ap, append-nil, arith, arrangement_of}
+use Rattle.tl_number.proofs.Common.{arrangement_of_number_apart, brings, directed_chain, false, first_seen, flat_map, group_at, group_of}
+use Rattle.tl_number.proofs.Common.{grouped, grouped_map, is_open, keys_along, known-left, known_all, known_is_among, map, most_records}
+use Rattle.tl_number.proofs.Common.{option_map, option_to_list, refl, renaming_of, renumbered, slice_get, slice_get-map, stands_in, subst}
+use Rattle.tl_number.proofs.Common.{sym, to_first_seen, true, unwrap_or, ℕ, ◌++◌, ◌<◌, ◌∙◌, ◌∷◌, ◌≡◌}
+use Rattle.tl_number.proofs.{Ties.FixedKeys.fixed_before, Ties.OpenChains.closed_apart, Ties.TieNumbers.chosen_chains}
 
 module _ {K : Type 0} {cmp : K → K → Ordering} (o : IsKeyOrder cmp) where
-  -- a key of one group is one of all groups, joined
-  in_group : (groups : List (List K)) (i : ℕ) (group : List K) (k : K) → slice_get groups i ≡ Some group → Known cmp group k
-      → Known cmp (grouped groups) k
-  in_group [] i group k e h = cc
-  in_group (g ∷ groups) zero group k e h = let same : g ≡ group = cc in
-      known-left o k g (grouped groups) (subst (λ l. Known cmp l k) (sym same) h)
-  in_group (g ∷ groups) (suc i) group k e h = known-right o k g (grouped groups) (in_group groups i group k e h)
-
   -- a key of a chain in an arrangement is seen along it
-  pub key_of_chain : (county : County) (arrangement : List DirectedChain) (keys : Chain → List K) (place : ℕ) (directed : DirectedChain) (chain : Chain)
-      → slice_get arrangement place ≡ Some directed → directed_chain county directed ≡ Some chain → (k : K) → Known cmp (keys chain) k
-      → Known cmp (first_seen cmp (grouped (keys_along keys county arrangement))) k
+  pub key_of_chain : (county : County) (arrangement : List DirectedChain) (keys : Chain → List K) (place : ℕ) (directed : DirectedChain)
+      (chain : Chain) → slice_get arrangement place ≡ Some directed → directed_chain county directed ≡ Some chain → (k : K)
+      → Known cmp (keys chain) k → Known cmp (first_seen cmp (grouped (keys_along keys county arrangement))) k
   key_of_chain county arrangement keys place directed chain there of_directed k h =
       let of_place : DirectedChain → List K = λ d. flat_map keys (option_to_list (directed_chain county d)) in
       to_first_seen o (grouped (keys_along keys county arrangement)) k
-      (in_group (keys_along keys county arrangement) place (keys chain ++ []) k
-      (slice_get-map of_place arrangement place ∙ ap (option_map of_place) there ∙ ap (λ c. Some (flat_map keys (option_to_list c))) of_directed)
-      (known-left o k (keys chain) [] h))
+      (subst (λ ks. Known cmp ks k) (sym (grouped_map of_place arrangement)) (among_known o k (flat_map of_place arrangement)
+      (among-pieces of_place directed k arrangement (among-get arrangement place directed there)
+      (rw of_directed (among_left k (keys chain) [] (known_is_among o k (keys chain) h))))))
 
   mapped_alike : {L : Type 0} (f g : K → L) (ks : List K) → map f ks ≡ map g ks → AllByRecursion (λ k. f k ≡ g k) ks
   mapped_alike f g [] e = tt
@@ -52,8 +34,8 @@ module _ (county : County) (shapes : OrderOfShapes) (known : LeavesChoices count
 
   -- at a fixed place each choice has the chain of the order of shapes
   pub fixed_there : (n place : ℕ) → is_open shapes.places place ≡ false → slice_get (chains_of n) place ≡ slice_get shapes.by_shape place
-  fixed_there n place fixed = arrangement_of_number_apart county is shapes.by_shape known.order.by_shape shapes.places (known.order.places known.few)
-      (chains_of n) n refl place (closed_apart place shapes.places fixed)
+  fixed_there n place fixed = arrangement_of_number_apart county is shapes.by_shape known.order.by_shape shapes.places
+      (known.order.places known.few) (chains_of n) n refl place (closed_apart place shapes.places fixed)
 
   -- Keys of one kind, and their numbers in a choice.
   module _ {K : Type 0} {cmp : K → K → Ordering} (o : IsKeyOrder cmp) (keys : Chain → List K) (new : Renumbering → K → K) where
@@ -65,17 +47,6 @@ module _ (county : County) (shapes : OrderOfShapes) (known : LeavesChoices count
     Stay opened = (n m : ℕ) (k : K) → stands_in cmp k opened ≡ false → Known cmp (all_of n) k → Known cmp (all_of m) k
         → new (new_of n) k ≡ new (new_of m) k
 
-    -- Those that aren't open do so if their numbers are their places among first appearances.
-    pub places_stay : ((chain : Chain) → AreAlike cmp (keys (turned chain)) (keys chain)) → (make : K → ℕ → K)
-        → ((n : ℕ) (k : K) → Known cmp (all_of n) k → new (new_of n) k ≡ make k (place_in cmp (all_of n) k))
-        → (tables : OpenKeys (List K)) → AreOpenKeys cmp shapes.places (keys_along keys county shapes.by_shape) tables → Stay tables.opened
-    places_stay turned_keys make new_is tables are n m k e h l =
-        let one = counterparts county shapes known is within o keys turned_keys n in
-        let other = counterparts county shapes known is within o keys turned_keys m in
-        let apart : Known cmp (first_open cmp shapes.places (keys_along keys county shapes.by_shape)) k → ⊥ =
-        λ g. (let both : false ≡ true = sym e ∙ lt-ltb 0 (times cmp k tables.opened) (subst (λ ks. Known cmp ks k) (sym are.opened) g) in cc) in
-        new_is n k h ∙ ap (make k) (sym (one.stayed k apart) ∙ other.stayed k apart) ∙ sym (new_is m k l)
-
   -- If those that aren't open have one number in all choices:
   module _ {K : Type 0} {cmp : K → K → Ordering} (o : IsKeyOrder cmp) (keys : Chain → List K) (new : Renumbering → K → K)
       (keys_renumbered : (r : Renumbering) (chain : Chain) → keys (renumbered r chain) ≡ map (new r) (keys chain)) (opened : List K)
@@ -85,43 +56,6 @@ module _ (county : County) (shapes : OrderOfShapes) (known : LeavesChoices count
 
     abbrev keys_of : DirectedChain → List K
     keys_of directed = flat_map keys (option_to_list (directed_chain county directed))
-
-    -- the keys at a place
-    keys_at_place : (place : ℕ) (directed : DirectedChain) (chain : Chain) → slice_get shapes.by_shape place ≡ Some directed
-        → directed_chain county directed ≡ Some chain → group_at along place ≡ keys chain ++ []
-    keys_at_place place directed chain e f =
-        ap (λ (g : Option (List K)). unwrap_or g []) (slice_get-map keys_of shapes.by_shape place ∙ ap (option_map keys_of) e)
-        ∙ ap (λ c. flat_map keys (option_to_list c)) f
-
-    -- a key at a place belongs to the chain there
-    record AtPlace (place : ℕ) (k : K) : Type 0 where
-      directed : DirectedChain
-      chain : Chain
-      there : slice_get shapes.by_shape place ≡ Some directed
-      of_directed : directed_chain county directed ≡ Some chain
-      key : Known cmp (keys chain) k
-
-    at_place : (place : ℕ) (k : K) → Known cmp (group_at along place) k → AtPlace place k
-    at_place place k h = go (slice_get shapes.by_shape place) refl
-        (subst (λ g. Known cmp (unwrap_or g []) k) (slice_get-map keys_of shapes.by_shape place) h)
-      where
-        inside : (directed : DirectedChain) → slice_get shapes.by_shape place ≡ Some directed → (c : Option Chain) → directed_chain county directed ≡ c
-            → Known cmp (flat_map keys (option_to_list c)) k → AtPlace place k
-        inside directed e None f l = absurd (omega (arith, l))
-        inside directed e (Some chain) f l = record {
-          directed = directed;
-          chain = chain;
-          there = e;
-          of_directed = f;
-          key = first (known-append o k (keys chain) [] l);
-        } where
-          first : Known cmp (keys chain) k ⊎ Known cmp [] k → Known cmp (keys chain) k
-          first (inl m) = m
-          first (inr m) = absurd (omega (arith, m))
-
-        go : (d : Option DirectedChain) → slice_get shapes.by_shape place ≡ d → Known cmp (unwrap_or (option_map keys_of d) []) k → AtPlace place k
-        go None e l = absurd (omega (arith, l))
-        go (Some directed) e l = inside directed e (directed_chain county directed) refl l
 
     -- Two choices.
     module _ (n m : ℕ) where
@@ -134,24 +68,37 @@ module _ (county : County) (shapes : OrderOfShapes) (known : LeavesChoices count
           (before : (q : ℕ) → q < place → is_open shapes.places q ≡ false → brings cmp shapes.places opened along q ≡ true → AgreeAt q)
           (directed : DirectedChain) (chain : Chain) (there : slice_get shapes.by_shape place ≡ Some directed)
           (of_directed : directed_chain county directed ≡ Some chain) where
-        in_choice : (i : ℕ) (k : K) → Known cmp (keys chain) k → Known cmp (first_seen cmp (grouped (keys_along keys county (chains_of i)))) k
+        in_choice : (i : ℕ) (k : K) → Known cmp (keys chain) k
+            → Known cmp (first_seen cmp (grouped (keys_along keys county (chains_of i)))) k
         in_choice i k h = key_of_chain o county (chains_of i) keys place directed chain (fixed_there i place fixed ∙ there) of_directed k h
 
         same_new : (k : K) → Known cmp (keys chain) k → new (new_of n) k ≡ new (new_of m) k
         same_new k h = go (stands_in cmp k opened) refl
           where
-            by_first : FirstFixed o shapes.places along opened place k → new (new_of n) k ≡ new (new_of m) k
-            by_first f =
-                let at : AtPlace f.first k = at_place f.first k f.here in
-                let same : keys (renumbered (new_of n) at.chain) ≡ keys (renumbered (new_of m) at.chain) =
-                before f.first f.before f.fixed f.new_there at.directed at.chain at.there at.of_directed in
-                known_all o (λ j. new (new_of n) j ≡ new (new_of m) j) (keys at.chain)
-                (mapped_alike o (new (new_of n)) (new (new_of m)) (keys at.chain)
-                (sym (keys_renumbered (new_of n) at.chain) ∙ same ∙ keys_renumbered (new_of m) at.chain)) k at.key
+            -- choices that number the keys of the chain at a place alike do so for each key there
+            at_first : (q : ℕ) → AgreeAt q → Known cmp (group_at along q) k → new (new_of n) k ≡ new (new_of m) k
+            at_first q agree l = at (slice_get shapes.by_shape q) refl
+                (subst (λ g. Known cmp (unwrap_or g []) k) (slice_get-map keys_of shapes.by_shape q) l)
+              where
+                inside : (d : DirectedChain) → slice_get shapes.by_shape q ≡ Some d → (c : Option Chain) → directed_chain county d ≡ c
+                    → Known cmp (flat_map keys (option_to_list c)) k → new (new_of n) k ≡ new (new_of m) k
+                inside d e None f h = absurd (omega (arith, h))
+                inside d e (Some c) f h =
+                    known_all o (λ j. new (new_of n) j ≡ new (new_of m) j) (keys c ++ [])
+                    (rw append-nil (mapped_alike o (new (new_of n)) (new (new_of m)) (keys c)
+                    (sym (keys_renumbered (new_of n) c) ∙ agree d c e f ∙ keys_renumbered (new_of m) c))) k h
+
+                at : (d : Option DirectedChain) → slice_get shapes.by_shape q ≡ d → Known cmp (unwrap_or (option_map keys_of d) []) k
+                    → new (new_of n) k ≡ new (new_of m) k
+                at None e h = absurd (omega (arith, h))
+                at (Some d) e h = inside d e (directed_chain county d) refl h
 
             go : (b : Bool) → stands_in cmp k opened ≡ b → new (new_of n) k ≡ new (new_of m) k
-            go true e = by_first (fixed_before o shapes.places along opened place nothing_new k e
-                (subst (λ g. Known cmp g k) (sym (keys_at_place place directed chain there of_directed)) (known-left o k (keys chain) [] h)))
+            go true e =
+                let f = fixed_before o shapes.places along opened place nothing_new k e (subst (λ g. Known cmp g k)
+                (sym (group_of keys_of shapes.by_shape place directed there ∙ ap (λ c. flat_map keys (option_to_list c)) of_directed))
+                (known-left o k (keys chain) [] h)) in
+                at_first f.first (before f.first f.before f.fixed f.new_there) f.here
             go false e = stay n m k e (in_choice n k h) (in_choice m k h)
 
         -- So they number the keys of the chain at any other fixed place alike.

@@ -1,29 +1,10 @@
 -- A list that is in order and keeps its elements at open places keeps all that a choice moves or turns.
-use Rattle.ordered_lists.proofs.Common.{◌≡◌, ◌⊎◌, ◌<◌, ◌≤◌, ◌+◌, ◌∙◌, ◌==◌, ◌&&◌, ℕ, zero, suc, List, [], ◌∷◌, Bool, true, false, cond, map}
-use Rattle.ordered_lists.proofs.Common.{length, take, Ordering, is_eq, is_gt, sym, refl, ap, subst, inl, inr, arith, AllByRecursion, IsInOrder}
-use Rattle.ordered_lists.proofs.Common.{times, false≢true, on, lt-ltb}
-use Rattle.std.proofs.Common.{not, nat_le, nat_lt, ◌||◌}
-use Rattle.std.specs.List.{range_with_len}
-use Rattle.std.proofs.lemmas.Bool.{and_from, le-leb, eqb-true}
-use Rattle.ordered_lists.proofs.ByKey.Keys.{IsKeyOrder, differ_apart, order_antisymm, same-true, same_or_not, times-yes}
-use Rattle.ordered_lists.proofs.Lists.Elements.{all_weaker}
-use Rattle.county_chart.specs.Choices.{is_settled, open_place_at, open_places}
-use Rattle.county_chart.specs.declared.open_place.OpenPlace.{OpenPlace}
-use Rattle.tl_number.specs.OpenKeys.{is_open}
-use Rattle.tl_number.proofs.Ties.PartChoices.{KeepsOpen}
-
--- a place that an open place covers is open
-covered : (at : OpenPlace) (places : List OpenPlace) (place : ℕ) → at.place ≤ place → place < at.place + at.alike
-    → is_open (at ∷ places) place ≡ true
-covered at places place l m =
-    ap (λ b. b || is_open places place) (and_from _ _ (le-leb at.place place l) (lt-ltb place (at.place + at.alike) m))
-
-open_too : (at : OpenPlace) (places : List OpenPlace) (place : ℕ) → is_open places place ≡ true → is_open (at ∷ places) place ≡ true
-open_too at places place e = go (nat_le at.place place && nat_lt place (at.place + at.alike))
-  where
-    go : (b : Bool) → (b || is_open places place) ≡ true
-    go true = refl
-    go false = e
+use Rattle.tl_number.proofs.Common.{AllByRecursion, Bool, IsInOrder, IsKeyOrder, List, OpenPlace, Ordering, Some, [], all_weaker, and_parts}
+use Rattle.tl_number.proofs.Common.{ap, arith, cases_Bool, cond, cond_both, differ_apart, eqb-true, false, false≢true, inl, inr, is_eq}
+use Rattle.tl_number.proofs.Common.{is_gt, is_open, is_settled, map, not, not-true, on, open_place_at, open_places, order_antisymm}
+use Rattle.tl_number.proofs.Common.{order_itself, refl, same-true, same_or_not, slice_get, subst, suc, sym, take, times, times-yes, true}
+use Rattle.tl_number.proofs.Common.{zero, ℕ, ◌+◌, ◌<◌, ◌==◌, ◌∙◌, ◌∷◌, ◌≡◌, ◌⊎◌}
+use Rattle.tl_number.proofs.Ties.{OpenChains.covered_open, OpenChains.later_open, PartChoices.KeepsOpen, PickedPlaces.AreMarked}
 
 module _ {X K : Type 0} {cmp : K → K → Ordering} (o : IsKeyOrder cmp) (either : K → Bool) (key : X → K) (turn : X → X) (keep : X → Bool)
     (turned : (x : X) → keep (turn x) ≡ keep x) where
@@ -34,10 +15,6 @@ module _ {X K : Type 0} {cmp : K → K → Ordering} (o : IsKeyOrder cmp) (eithe
   same_kept k [] h a f = tt
   same_kept k (y ∷ ys) h a f = go (same_or_not o k (key y)) (same_kept k ys h.1 a.1)
     where
-      later : is_eq (cmp k (key y)) ≡ false → (z : X) → is_gt (cmp (key y) (key z)) ≡ false → is_eq (cmp k (key z)) ≡ true → ⊥
-      later ne z g e = differ_apart o k (key y) ne
-          (order_antisymm o k (key y) a.0 (subst (λ j. is_gt (cmp (key y) j) ≡ false) (sym (same-true o k (key z) e)) g))
-
       go : (k ≡ key y) ⊎ (is_eq (cmp k (key y)) ≡ false)
           → (AllByRecursion (λ b. b ≡ true) (take (times cmp k (map key ys)) (map keep ys))
           → AllByRecursion (λ z. is_eq (cmp k (key z)) ≡ true → keep z ≡ true) ys)
@@ -46,31 +23,25 @@ module _ {X K : Type 0} {cmp : K → K → Ordering} (o : IsKeyOrder cmp) (eithe
           let first : AllByRecursion (λ b. b ≡ true) (keep y ∷ take (times cmp k (map key ys)) (map keep ys)) =
           subst (λ n. AllByRecursion (λ b. b ≡ true) (take n (map keep (y ∷ ys)))) (times-yes o k (key y) (map key ys) same) f in
           ((λ e. first.0), ih first.1)
-      go (inr ne) ih = (
-        (λ e. absurd (false≢true (sym ne ∙ e))),
-        all_weaker (λ z. is_gt (cmp (key y) (key z)) ≡ false) (λ z. is_eq (cmp k (key z)) ≡ true → keep z ≡ true)
-            (λ z g e. absurd (later ne z g e)) ys h.0,
-      )
+      go (inr ne) ih = all_weaker (λ z. is_gt (cmp (key y) (key z)) ≡ false) (λ z. is_eq (cmp k (key z)) ≡ true → keep z ≡ true)
+          (λ z g e. absurd (differ_apart o k (key y) ne (order_antisymm o k (key y) a.0
+          (subst (λ j. is_gt (cmp (key y) j) ≡ false) (sym (same-true o k (key z) e)) g)))) (y ∷ ys) (order_itself o (key y), h.0)
 
-  -- marks of consecutive places
-  marked : (kept : ℕ → Bool) (t place n : ℕ) → ((p : ℕ) → place ≤ p → p < place + t → kept p ≡ true)
-      → AllByRecursion (λ b. b ≡ true) (take t (map kept (range_with_len place n)))
-  marked kept zero place n h = tt
-  marked kept (suc t) place zero h = tt
-  marked kept (suc t) place (suc n) h = (
-    h place (omega arith) (omega arith),
-    marked kept t (place + 1) n
-        (λ p l m. h p (omega (arith, l)) (omega (arith, m))),
-  )
+  first_kept : (t : ℕ) (xs : List X) → ((i : ℕ) (x : X) → i < t → slice_get xs i ≡ Some x → keep x ≡ true)
+      → AllByRecursion (λ b. b ≡ true) (take t (map keep xs))
+  first_kept zero xs h = tt
+  first_kept (suc t) [] h = tt
+  first_kept (suc t) (x ∷ xs) h = (h 0 x (omega arith) refl, first_kept t xs (λ i y l e. h (suc i) y (omega (arith, l)) e))
 
-  pub keeps_open : (kept : ℕ → Bool) (place : ℕ) (xs : List X) → IsInOrder (on key cmp) xs
-      → map keep xs ≡ map kept (range_with_len place (length xs))
+  pub keeps_open : (kept : ℕ → Bool) (place : ℕ) (xs : List X) → IsInOrder (on key cmp) xs → AreMarked keep (λ i. kept (place + i)) xs
       → ((p : ℕ) → is_open (open_places cmp either place (map key xs)) p ≡ true → kept p ≡ true)
       → KeepsOpen o either key turn keep turned xs
-  keeps_open kept place [] h flags opened = tt
-  keeps_open kept place (x ∷ xs) h flags opened = (
+  keeps_open kept place [] h marked opened = tt
+  keeps_open kept place (x ∷ xs) h marked opened = (
     record { settled = settled; first = first; same = same_kept (key x) xs h.1 h.0 first },
-    keeps_open kept (suc place) xs h.1 marks (λ p e. opened p (later (is_settled at) p e)),
+    keeps_open kept (suc place) xs h.1
+        (λ i y e. marked (suc i) y e ∙ ap kept (let t : place + suc i ≡ suc place + i = omega arith in t))
+        (λ p e. opened p (cond_both (is_settled at) rest (at ∷ rest) (λ l. is_open l p ≡ true) (λ s. e) (λ s. later_open p at rest e))),
   )
     where
       t : ℕ
@@ -82,40 +53,24 @@ module _ {X K : Type 0} {cmp : K → K → Ordering} (o : IsKeyOrder cmp) (eithe
       rest : List OpenPlace
       rest = open_places cmp either (suc place) (map key xs)
 
-      mark : keep x ≡ kept place
-      mark = cc
-
-      next : map keep xs ≡ map kept (range_with_len (place + 1) (length xs))
-      next = cc
-
-      marks : map keep xs ≡ map kept (range_with_len (suc place) (length xs))
-      marks = next ∙ ap (λ q. map kept (range_with_len q (length xs))) (let one : place + 1 ≡ suc place = omega arith in one)
-
-      later : (s : Bool) (p : ℕ) → is_open rest p ≡ true → is_open (cond s rest (at ∷ rest)) p ≡ true
-      later true p e = e
-      later false p e = open_too at rest p e
-
       alone : is_settled at ≡ true → (t ≡ 0) × (either (key x) ≡ false)
-      alone e = go (suc t == 1) (either (key x)) refl refl e
-        where
-          go : (a b : Bool) → (suc t == 1) ≡ a → either (key x) ≡ b → (a && not b) ≡ true → (t ≡ 0) × (either (key x) ≡ false)
-          go true true f g h = absurd (false≢true h)
-          go true false f g h = (let one : suc t ≡ 1 = eqb-true (suc t) 1 f in omega (arith, one), g)
-          go false b f g h = absurd (false≢true h)
+      alone e = let parts = and_parts (suc t == 1) (not (either (key x))) e in
+          let one : suc t ≡ 1 = eqb-true (suc t) 1 parts.0 in (omega (arith, one), not-true (either (key x)) parts.1)
+
+      covered : is_settled at ≡ false → (i : ℕ) (y : X) → i < suc t → slice_get (x ∷ xs) i ≡ Some y → keep y ≡ true
+      covered s i y l e = marked i y e ∙ opened (place + i) (ap (λ b. is_open (cond b rest (at ∷ rest)) (place + i)) s
+          ∙ covered_open (place + i) at rest (omega arith, omega (arith, l)))
 
       settled : keep x ≡ false → (t ≡ 0) × (either (key x) ≡ false)
-      settled e = go (is_settled at) refl
+      settled e = go (cases_Bool (is_settled at))
         where
-          go : (s : Bool) → is_settled at ≡ s → (t ≡ 0) × (either (key x) ≡ false)
-          go true f = alone f
-          go false f =
-              let there : kept place ≡ true =
-              opened place (ap (λ s. is_open (cond s rest (at ∷ rest)) place) f ∙ covered at rest place (omega arith) (omega arith)) in
-              absurd (false≢true (sym e ∙ mark ∙ there))
+          go : (is_settled at ≡ true) ⊎ (is_settled at ≡ false) → (t ≡ 0) × (either (key x) ≡ false)
+          go (inl s) = alone s
+          go (inr s) = absurd (false≢true (sym e ∙ covered s 0 x (omega arith) refl))
 
       first : AllByRecursion (λ b. b ≡ true) (take t (map keep xs))
-      first = subst (λ bs. AllByRecursion (λ b. b ≡ true) (take t bs)) (sym marks) (marked kept t (suc place) (length xs) (go (is_settled at) refl))
+      first = first_kept t xs (λ i y l e. go i y l e (cases_Bool (is_settled at)))
         where
-          go : (s : Bool) → is_settled at ≡ s → (p : ℕ) → suc place ≤ p → p < suc place + t → kept p ≡ true
-          go true f p l m = absurd (omega (arith, l, m, (alone f).0))
-          go false f p l m = opened p (ap (λ s. is_open (cond s rest (at ∷ rest)) p) f ∙ covered at rest p (omega (arith, l)) (omega (arith, m)))
+          go : (i : ℕ) (y : X) → i < t → slice_get xs i ≡ Some y → (is_settled at ≡ true) ⊎ (is_settled at ≡ false) → keep y ≡ true
+          go i y l e (inl s) = absurd (omega (arith, l, (alone s).0))
+          go i y l e (inr s) = covered s (suc i) y (omega (arith, l)) e

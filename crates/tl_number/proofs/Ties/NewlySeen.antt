@@ -1,11 +1,8 @@
 -- Keys that weren't seen before: which these are depends only on the members of the list of seen keys.
-use Rattle.tl_number.proofs.Common.{◌≡◌, ◌⊎◌, List, [], ◌∷◌, ◌++◌, Bool, true, false, cond, Ordering, is_eq, refl, sym, ap, ◌∙◌, subst, inl, inr}
-use Rattle.tl_number.proofs.Common.{arith, append_assoc, append-nil, length, IsApart, IsKeyOrder, Known, known_cases, known-right, first_seen}
-use Rattle.tl_number.proofs.Common.{first_seen_after, length_permutation, newly_seen, stands_in, times, apart-permutation_of, ltb-false}
-use Rattle.tl_number.proofs.Common.{times-append}
-use Rattle.ordered_lists.proofs.ByKey.Keys.{known-append, known-left}
-use Rattle.ordered_lists.proofs.Lists.Reordered.{stands_alike}
-use Rattle.canonical_form.proofs.Numbering.FirstSeen.{all_after, first_seen-apart, known_after}
+use Rattle.tl_number.proofs.Common.{Bool, IsApart, IsKeyOrder, Known, List, Ordering, [], ap, append-nil, append_assoc, arith, cond, false}
+use Rattle.tl_number.proofs.Common.{first_seen_after, inl, inr, is_eq, known-append, known-left, known-right, ltb-false, ltb-true, min}
+use Rattle.tl_number.proofs.Common.{newly_seen, refl, same_or_not, stands_alike, stands_in, subst, suc, sym, times, times-append, times-no}
+use Rattle.tl_number.proofs.Common.{times-yes, true, zero, ℕ, ◌++◌, ◌+◌, ◌-◌, ◌∙◌, ◌∷◌, ◌≡◌, ◌≤◌, ◌⊎◌}
 
 -- two lists have the same members
 abbrev pub AreAlike : {K : Type 0} → (K → K → Ordering) → List K → List K → Type 0
@@ -14,16 +11,13 @@ AreAlike {K} cmp xs ys = (k : K) → (Known cmp xs k → Known cmp ys k) × (Kno
 module _ {K : Type 0} {cmp : K → K → Ordering} (o : IsKeyOrder cmp) where
   pub alike_append : (xs ys us vs : List K) → AreAlike cmp xs ys → AreAlike cmp us vs → AreAlike cmp (xs ++ us) (ys ++ vs)
   alike_append xs ys us vs first second k = (
-    (λ h. there (known-append o k xs us h)),
-    (λ h. back (known-append o k ys vs h)),
+    (λ h. there xs us ys vs (first k).0 (second k).0 (known-append o k xs us h)),
+    (λ h. there ys vs xs us (first k).1 (second k).1 (known-append o k ys vs h)),
   ) where
-    there : Known cmp xs k ⊎ Known cmp us k → Known cmp (ys ++ vs) k
-    there (inl l) = known-left o k ys vs ((first k).0 l)
-    there (inr l) = known-right o k ys vs ((second k).0 l)
-
-    back : Known cmp ys k ⊎ Known cmp vs k → Known cmp (xs ++ us) k
-    back (inl l) = known-left o k xs us ((first k).1 l)
-    back (inr l) = known-right o k xs us ((second k).1 l)
+    there : (ks ls ms ns : List K) → (Known cmp ks k → Known cmp ms k) → (Known cmp ls k → Known cmp ns k) → Known cmp ks k ⊎ Known cmp ls k
+        → Known cmp (ms ++ ns) k
+    there ks ls ms ns f g (inl l) = known-left o k ms ns (f l)
+    there ks ls ms ns f g (inr l) = known-right o k ms ns (g l)
 
   pub alike_itself : (xs : List K) → AreAlike cmp xs xs
   alike_itself xs k = ((λ h. h), (λ h. h))
@@ -60,69 +54,64 @@ module _ {K : Type 0} {cmp : K → K → Ordering} (o : IsKeyOrder cmp) where
           → cond b (newly_seen cmp seen (xs ++ ys)) (x ∷ newly_seen cmp (seen ++ (x ∷ [])) (xs ++ ys))
           ≡ cond b (newly_seen cmp seen xs) (x ∷ more) ++ newly_seen cmp (seen ++ cond b (newly_seen cmp seen xs) (x ∷ more)) ys
       go true old new = old
-      go false old new = ap (λ l. x ∷ l) new
-          ∙ ap (λ l. (x ∷ more) ++ newly_seen cmp l ys) (append_assoc seen (x ∷ []) more)
+      go false old new = ap (λ l. x ∷ l) new ∙ ap (λ l. (x ∷ more) ++ newly_seen cmp l ys) (append_assoc seen (x ∷ []) more)
+
+  pub seen_append : (seen xs ys : List K)
+      → first_seen_after cmp seen (xs ++ ys) ≡ first_seen_after cmp (first_seen_after cmp seen xs) ys
+  seen_append seen xs ys =
+      seen_newly seen (xs ++ ys) ∙ ap (λ l. seen ++ l) (newly_append seen xs ys) ∙ sym (append_assoc seen (newly_seen cmp seen xs) _)
+      ∙ sym (seen_newly (seen ++ newly_seen cmp seen xs) ys) ∙ ap (λ l. first_seen_after cmp l ys) (sym (seen_newly seen xs))
+
+  -- a key is new once if it's among the keys and wasn't seen before
+  pub times_new : (seen keys : List K) (k : K)
+      → times cmp k (newly_seen cmp seen keys) ≡ min (1 - times cmp k seen) (times cmp k keys)
+  times_new seen [] k = omega arith
+  times_new seen (x ∷ keys) k =
+      go (stands_in cmp x seen) refl (same_or_not o k x) (times_new seen keys k) (times_new (seen ++ (x ∷ [])) keys k)
+    where
+      more : List K
+      more = newly_seen cmp (seen ++ (x ∷ [])) keys
+
+      grown : times cmp k (seen ++ (x ∷ [])) ≡ times cmp k seen + times cmp k (x ∷ [])
+      grown = times-append o k seen (x ∷ [])
+
+      go : (b : Bool) → stands_in cmp x seen ≡ b → (k ≡ x) ⊎ (is_eq (cmp k x) ≡ false)
+          → times cmp k (newly_seen cmp seen keys) ≡ min (1 - times cmp k seen) (times cmp k keys)
+          → times cmp k more ≡ min (1 - times cmp k (seen ++ (x ∷ []))) (times cmp k keys)
+          → times cmp k (cond b (newly_seen cmp seen keys) (x ∷ more)) ≡ min (1 - times cmp k seen) (times cmp k (x ∷ keys))
+      go true e (inl same) old new =
+          let there : Known cmp seen k = subst (Known cmp seen) (sym same) (ltb-true 0 (times cmp x seen) e) in
+          omega (arith, there, old, times-yes o k x keys same)
+      go true e (inr differ) old new = omega (arith, old, times-no o k x keys differ)
+      go false e (inl same) old new =
+          let none : times cmp k seen ≤ 0 = subst (λ j. times cmp j seen ≤ 0) (sym same) (ltb-false 0 (times cmp x seen) e) in
+          omega (arith, none, new, grown, times-yes o k x [] same, times-yes o k x more same, times-yes o k x keys same)
+      go false e (inr differ) old new =
+          omega (arith, new, grown, times-no o k x [] differ, times-no o k x more differ, times-no o k x keys differ)
 
   -- a new key wasn't seen before
   pub newly_unseen : (seen keys : List K) (k : K) → Known cmp (newly_seen cmp seen keys) k → Known cmp seen k → ⊥
-  newly_unseen seen [] k h old = absurd (omega (arith, h))
-  newly_unseen seen (x ∷ keys) k h old =
-      go (stands_in cmp x seen) refl h (newly_unseen seen keys k) (newly_unseen (seen ++ (x ∷ [])) keys k)
-    where
-      go : (b : Bool) → stands_in cmp x seen ≡ b → Known cmp (cond b (newly_seen cmp seen keys) (x ∷ newly_seen cmp (seen ++ (x ∷ [])) keys)) k
-          → (Known cmp (newly_seen cmp seen keys) k → Known cmp seen k → ⊥)
-          → (Known cmp (newly_seen cmp (seen ++ (x ∷ [])) keys) k → Known cmp (seen ++ (x ∷ [])) k → ⊥) → ⊥
-      go true e l ih jh = ih l old
-      go false e l ih jh = cases (known_cases o k x (newly_seen cmp (seen ++ (x ∷ [])) keys) l)
-        where
-          cases : (k ≡ x) ⊎ (Known cmp (newly_seen cmp (seen ++ (x ∷ [])) keys) k × (is_eq (cmp k x) ≡ false)) → ⊥
-          cases (inl same) = let none = ltb-false 0 (times cmp x seen) e in
-              let there : Known cmp seen x = subst (Known cmp seen) same old in omega (arith, none, there)
-          cases (inr r) = jh r.0 (known-left o k seen (x ∷ []) old)
+  newly_unseen seen keys k h old = omega (arith, times_new seen keys k)
 
   -- and is one of the keys
   pub newly_known : (seen keys : List K) (k : K) → Known cmp (newly_seen cmp seen keys) k → Known cmp keys k
-  newly_known seen keys k h =
-      go (known_after o seen keys k (subst (λ l. Known cmp l k) (sym (seen_newly seen keys)) (known-right o k seen (newly_seen cmp seen keys) h)))
-    where
-      go : Known cmp seen k ⊎ Known cmp keys k → Known cmp keys k
-      go (inl old) = absurd (newly_unseen seen keys k h old)
-      go (inr l) = l
+  newly_known seen keys k h = omega (arith, times_new seen keys k)
 
   -- each key was seen before or is new
   pub seen_or_new : (seen keys : List K) (k : K) → Known cmp keys k → Known cmp seen k ⊎ Known cmp (newly_seen cmp seen keys) k
-  seen_or_new seen keys k h =
-      known-append o k seen (newly_seen cmp seen keys) (subst (λ l. Known cmp l k) (seen_newly seen keys) (all_after o seen keys k h))
+  seen_or_new seen keys k h = go (times cmp k seen) refl
+    where
+      go : (n : ℕ) → times cmp k seen ≡ n → Known cmp seen k ⊎ Known cmp (newly_seen cmp seen keys) k
+      go zero e = inr (omega (arith, e, times_new seen keys k))
+      go (suc n) e = inl (omega (arith, e))
 
+  -- lists with the same members have the same new keys, each of which occurs once
   pub newly_both : (seen xs ys : List K) → AreAlike cmp xs ys → AreAlike cmp (newly_seen cmp seen xs) (newly_seen cmp seen ys)
-  newly_both seen xs ys alike k = (
-    (λ h. new h (seen_or_new seen ys k ((alike k).0 (newly_known seen xs k h)))),
-    (λ h. new_too h (seen_or_new seen xs k ((alike k).1 (newly_known seen ys k h)))),
-  ) where
-    new : Known cmp (newly_seen cmp seen xs) k → Known cmp seen k ⊎ Known cmp (newly_seen cmp seen ys) k → Known cmp (newly_seen cmp seen ys) k
-    new h (inl old) = absurd (newly_unseen seen xs k h old)
-    new h (inr l) = l
+  newly_both seen xs ys alike k =
+      let one = times_new seen xs k in
+      let other = times_new seen ys k in
+      let both = alike k in
+      ((λ h. (omega (arith, h, one, other, both.0))), (λ h. (omega (arith, h, one, other, both.1))))
 
-    new_too : Known cmp (newly_seen cmp seen ys) k → Known cmp seen k ⊎ Known cmp (newly_seen cmp seen xs) k → Known cmp (newly_seen cmp seen xs) k
-    new_too h (inl old) = absurd (newly_unseen seen ys k h old)
-    new_too h (inr l) = l
-
-  -- new keys occur once
-  pub newly_apart : (xs ys : List K) → IsApart cmp (newly_seen cmp (newly_seen cmp [] xs) ys)
-  newly_apart xs ys k =
-      let whole = first_seen-apart o (xs ++ ys) k in
-      let parts : first_seen cmp (xs ++ ys) ≡ newly_seen cmp [] xs ++ newly_seen cmp (newly_seen cmp [] xs) ys =
-      seen_newly [] (xs ++ ys) ∙ newly_append [] xs ys in
-      let same = ap (times cmp k) parts in
-      let both = times-append o k (newly_seen cmp [] xs) (newly_seen cmp (newly_seen cmp [] xs) ys) in
-      omega (arith, whole, same, both)
-
-  -- so lists with the same members have as many new keys
-  pub as_many_new : (xs ys zs : List K) → AreAlike cmp ys zs
-      → length (newly_seen cmp (newly_seen cmp [] xs) ys) ≡ length (newly_seen cmp (newly_seen cmp [] xs) zs)
-  as_many_new xs ys zs alike =
-      let seen = newly_seen cmp [] xs in
-      let both = newly_both seen ys zs alike in
-      length_permutation (newly_seen cmp seen zs) (newly_seen cmp seen ys)
-      (apart-permutation_of o (newly_seen cmp seen zs) (newly_seen cmp seen ys) (newly_apart xs zs) (newly_apart xs ys)
-      (λ k. (both k).1) (λ k. (both k).0))
+  pub newly_apart : (seen keys : List K) → IsApart cmp (newly_seen cmp seen keys)
+  newly_apart seen keys k = omega (arith, times_new seen keys k)

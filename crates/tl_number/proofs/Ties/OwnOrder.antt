@@ -1,11 +1,7 @@
 -- Each county has an order of its chains by their shapes.
-use Rattle.tl_number.proofs.Common.{County, IsPermutation-sym, OrderOfShapes, in_order, in_order-in_order, is_either_way, map}
-use Rattle.tl_number.proofs.Common.{nat_cmp_total, on_total, open_places, points_along, points_cmp, refl, then_total}
-use Rattle.std.specs.Cmp.{IsTotalOrder}
-use Rattle.county_chart.specs.Choices.{counted_choices}
-use Rattle.county_chart.specs.ShapeOrder.{IsShapeOrder, along_shapes, directed_cmp}
-use Rattle.county_chart.specs.declared.directed_chain.DirectedChain.{DirectedChain}
-use Rattle.canonical_form.proofs.Common.{in_order-is_permutation, points_keys}
+use Rattle.tl_number.proofs.Common.{County, DirectedChain, IsPermutation-sym, IsShapeOrder, IsTotalOrder, OrderOfShapes, along_shapes}
+use Rattle.tl_number.proofs.Common.{counted_choices, directed_cmp, in_order, in_order-in_order, in_order-is_permutation, is_either_way, map}
+use Rattle.tl_number.proofs.Common.{nat_cmp_total, on_total, open_places, points_along, points_cmp, points_keys, refl, then_total}
 
 -- the chains in the directions of their shapes, put in order, their open places, and how many choices these leave
 abbrev pub own_order : County → OrderOfShapes

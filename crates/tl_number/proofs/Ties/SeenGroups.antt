@@ -1,44 +1,31 @@
 -- Keys that are seen chain by chain, and key by key.
-use Rattle.tl_number.proofs.Common.{◌≡◌, ◌<◌, ◌+◌, ◌∙◌, ℕ, zero, suc, List, [], ◌∷◌, ◌++◌, drop, filter, length, get_or, slice_get, Bool, true}
-use Rattle.tl_number.proofs.Common.{false, cond, Ordering, Some, IsKeyOrder, open_keys, refl, sym, ap, ap₂, arith, first_seen_after, group_at}
-use Rattle.tl_number.proofs.Common.{newly_seen, slice_get-get_or, append_assoc, unwrap_or}
-use Rattle.std.proofs.lemmas.List.Elements.{filter-append}
-use Rattle.arranged_county.proofs.Numbering.SeenLists.{seen_append}
+use Rattle.tl_number.proofs.Common.{Bool, IsKeyOrder, List, Ordering, [], ap, append_assoc, ap₂, cond, drop, drop_more, false, filter}
+use Rattle.tl_number.proofs.Common.{filter-append, first_seen_after, get_or, group_at, length, newly_seen, open_keys, refl, seen_append}
+use Rattle.tl_number.proofs.Common.{sym, true, unwrap_or-slice_get, ℕ, ◌++◌, ◌+◌, ◌<◌, ◌∙◌, ◌∷◌, ◌≡◌}
 use Rattle.tl_number.proofs.Ties.NewlySeen.{newly_append, seen_newly}
 
 -- the elements from a place on, the first of them apart
 pub one_dropped : {Y : Type 0} (ys : List Y) (i : ℕ) (y : Y) → i < length ys → y ≡ get_or ys i y → drop i ys ≡ y ∷ drop (i + 1) ys
-one_dropped {Y} ys i y within is = go ys i (slice_get-get_or ys i y within ∙ ap Some (sym is)) ∙ ap (λ n. y ∷ drop n ys) (let t : suc i ≡ i + 1 = omega arith in t)
-  where
-    go : (zs : List Y) (j : ℕ) → slice_get zs j ≡ Some y → drop j zs ≡ y ∷ drop (suc j) zs
-    go [] j e = cc
-    go (z ∷ zs) zero e = let same : z ≡ y = cc in ap (λ w. w ∷ zs) same
-    go (z ∷ zs) (suc j) e = go zs j e
+one_dropped ys i y within is = drop_more ys i y within ∙ ap (λ z. z ∷ drop (i + 1) ys) (sym is)
 
 -- and of groups
 pub group_dropped : {Y : Type 0} (groups : List (List Y)) (i : ℕ) (group : List Y) → i < length groups → group ≡ group_at groups i
     → drop i groups ≡ group ∷ drop (i + 1) groups
-group_dropped groups i group within is =
-    ap (λ g. g) (one_dropped groups i (group_at groups i) within (there groups i within)) ∙ ap (λ g. g ∷ drop (i + 1) groups) (sym is)
-  where
-    there : {Y : Type 0} (gs : List (List Y)) (j : ℕ) → j < length gs → group_at gs j ≡ get_or gs j (group_at gs j)
-    there gs j l = ap (λ o. unwrap_or o []) (slice_get-get_or gs j (group_at gs j) l)
-
-module _ {K : Type 0} (cmp : K → K → Ordering) (is_chosen : K → Bool) where
-  -- the chosen keys of one list, and those behind it
-  pub chosen_more : (keys rest all before after whole : List K) → all ≡ keys ++ rest → after ≡ first_seen_after cmp before (filter is_chosen keys)
-      → first_seen_after cmp before (filter is_chosen all) ≡ whole → first_seen_after cmp after (filter is_chosen rest) ≡ whole
-  chosen_more keys rest all before after whole split put is =
-      ap (λ seen. first_seen_after cmp seen (filter is_chosen rest)) put
-      ∙ sym (seen_append cmp before (filter is_chosen keys) (filter is_chosen rest))
-      ∙ ap (first_seen_after cmp before) (sym (filter-append is_chosen keys rest))
-      ∙ ap (λ l. first_seen_after cmp before (filter is_chosen l)) (sym split) ∙ is
+group_dropped groups i group within is = drop_more groups i [] within ∙ ap (λ g. g ∷ drop (i + 1) groups) (sym (is ∙ unwrap_or-slice_get groups i []))
 
 -- the keys of one list, and those behind it
 pub seen_more : {K : Type 0} (cmp : K → K → Ordering) (keys rest all before after whole : List K) → all ≡ keys ++ rest → after ≡ first_seen_after cmp before keys
     → first_seen_after cmp before all ≡ whole → first_seen_after cmp after rest ≡ whole
 seen_more cmp keys rest all before after whole split put is =
     ap (λ seen. first_seen_after cmp seen rest) put ∙ sym (seen_append cmp before keys rest) ∙ ap (first_seen_after cmp before) (sym split) ∙ is
+
+-- the same for the chosen ones of these keys
+pub chosen_more : {K : Type 0} (cmp : K → K → Ordering) (is_chosen : K → Bool) (keys rest all before after whole : List K) → all ≡ keys ++ rest
+    → after ≡ first_seen_after cmp before (filter is_chosen keys) → first_seen_after cmp before (filter is_chosen all) ≡ whole
+    → first_seen_after cmp after (filter is_chosen rest) ≡ whole
+chosen_more cmp is_chosen keys rest all before after whole split =
+    seen_more cmp (filter is_chosen keys) (filter is_chosen rest) (filter is_chosen all) before after whole
+    (ap (filter is_chosen) split ∙ filter-append is_chosen keys rest)
 
 -- Keys that are seen, and the open ones of them.
 module _ {K : Type 0} {cmp : K → K → Ordering} (o : IsKeyOrder cmp) where
@@ -65,6 +52,5 @@ module _ {K : Type 0} {cmp : K → K → Ordering} (o : IsKeyOrder cmp) where
   opened_more is_open groups rest keys i split b at before after opened next whole seen put is =
       ap₂ (λ l k. l ++ open_keys cmp is_open k (i + 1) rest) put (seen ∙ seen_newly o before keys)
       ∙ append_assoc opened (cond b (newly_seen cmp before keys) []) _
-      ∙ ap (λ d. opened ++ (cond d (newly_seen cmp before keys) []
-      ++ open_keys cmp is_open (before ++ newly_seen cmp before keys) (i + 1) rest)) at
+      ∙ (λ j. opened ++ (cond (at j) (newly_seen cmp before keys) [] ++ open_keys cmp is_open (before ++ newly_seen cmp before keys) (i + 1) rest))
       ∙ ap (λ gs. opened ++ open_keys cmp is_open before i gs) (sym split) ∙ is

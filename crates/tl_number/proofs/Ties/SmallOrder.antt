@@ -1,123 +1,162 @@
 -- Two choices are in one order in a county and in its small county.
-use Rattle.tl_number.proofs.Common.{◌≡◌, ◌<◌, ◌∙◌, ℕ, List, false, Equal, sym, ap, subst, County, DirectedChain, Eight, Five, IsCounty}
-use Rattle.tl_number.proofs.Common.{IsLeastBelow, IsWithinLimits, OrderOfShapes, P, Record, Seven, arranged, arrangement_of, choices, choices_cmp}
-use Rattle.tl_number.proofs.Common.{groups_cmp, is_gt, most_records, nat_cmp, numbered_choice, ordering_then, packed, slice_cmp, text_of}
-use Rattle.tl_number.proofs.Common.{type_2_by_chain, type_5_by_name, type_7_by_landmark, type_8_together, type_p_by_number}
-use Rattle.tl_layout.specs.declared.record_type.Record.TheVariants.{Two}
-use Rattle.tl_number.specs.ChoiceSearch.{LeavesChoices}
-use Rattle.tl_number.specs.SmallCounty.{small_county}
-use Rattle.canonical_form.proofs.Views.ViewChains.{arranges}
-use Rattle.record_groups.proofs.Texts.GroupOrders.{same_groups}
-use Rattle.record_groups.proofs.Texts.TypeOrders.{texts_in_order}
-use Rattle.record_groups.specs.RecordOrder.{types_1_to_4_cmp, types_5_to_7_cmp, types_8_to_p_cmp}
-use Rattle.tl_number.proofs.Names.ContentFirst.{same_type_5}
-use Rattle.tl_number.proofs.Texts.SamePoints.{twos_of_numbers}
-use Rattle.tl_number.proofs.Ties.ChainTypes.{type_1_small, type_4_small, type_6_small, type_i_small}
-use Rattle.tl_number.proofs.Ties.CriticalKeys.{chains_of}
-use Rattle.tl_number.proofs.Ties.NameRecords.{one_map}
-use Rattle.tl_number.proofs.Ties.SmallChains.{choice_county}
-use Rattle.tl_number.proofs.Ties.OwnOrder.{own_order, own_order_is}
-use Rattle.tl_number.proofs.Ties.SmallCounty.{small_choices, small_leaves}
-use Rattle.tl_number.proofs.Ties.SmallEntries.{landmarks_in_small, links_in_small, polygons_in_small}
-use Rattle.tl_number.proofs.Ties.SmallNumbers.{chains_small, is_small, within_small}
-use Rattle.tl_number.proofs.Ties.TieNumbers.{choice_of, whole_numbered}
+use Rattle.tl_number.proofs.Common.{Among, Bool, County, Eight, Equal, Fields8, Five, IsCounty, IsLeastBelow, IsWithinLimits, Known}
+use Rattle.tl_number.proofs.Common.{LeavesChoices, List, OrderOfShapes, P, PolygonKey, Two, [], all_among, among-map, among_known, ap}
+use Rattle.tl_number.proofs.Common.{arranged, chain_polygons, choices, choices_cmp, cond, false, first_open, groups_cmp, is_gt, is_kept}
+use Rattle.tl_number.proofs.Common.{is_linked, is_open, key_cmp, key_keys, keys_along, keys_at_open, known-right, link_key, lt-ltb, map}
+use Rattle.tl_number.proofs.Common.{most_records, nat_cmp, or_left, or_parts, or_right, ordering_then, packed, polygon_under}
+use Rattle.tl_number.proofs.Common.{polygons_along, refl, same_groups, slice_cmp, stands_in, subst, sym, text_of, texts_in_order, times}
+use Rattle.tl_number.proofs.Common.{true, type_2_by_chain, type_5_by_name, type_8_together, type_p_by_number, types_1_to_4_cmp}
+use Rattle.tl_number.proofs.Common.{types_5_to_7_cmp, types_8_to_p_cmp, wanted_feats, wanted_nodes, wanted_polygons, ℕ, ◌<◌, ◌∙◌, ◌≡◌}
+use Rattle.tl_number.proofs.Ties.SmallLinks.{eights_tie, linked_alike, sevens_tie}
+use Rattle.tl_number.proofs.Ties.SmallNumbers.{chains_small, is_small, names_small, nodes_small, open_names, open_nodes, open_polygons}
+use Rattle.tl_number.proofs.Ties.SmallNumbers.{polygons_small, within_small}
+use Rattle.tl_number.proofs.Ties.SmallRecords.{IsKeptPart, OrderedCounty, arranges_in, choice, new_in, one_map, ones_small, order_in}
+use Rattle.tl_number.proofs.Ties.SmallRecords.{sixes_small, stated, whole_in}
+use Rattle.tl_number.proofs.Ties.SmallTopologies.{node_kind, polygon_kind, polygon_number, topologies_small}
+use Rattle.tl_number.proofs.Ties.WantedNumbers.{polygons_hidden, polygons_same, polygons_stay, small_polygons_hidden}
+use Rattle.tl_number.proofs.{Names.ContentFirst.same_type_5, Texts.SamePoints.twos_of_numbers, Ties.ArrangedChoices.link_on_side}
+use Rattle.tl_number.proofs.{Ties.ListsAlike.value_filtered, Ties.OpenLinks.all_fail, Ties.OwnOrder.own_order, Ties.OwnOrder.own_order_is}
+use Rattle.tl_number.proofs.{Ties.SmallCounty.small_choices, Ties.SmallCounty.small_leaves, Ties.SmallKeys.AreWanted}
+use Rattle.tl_number.proofs.{Ties.SmallNames.fours_small, Ties.SmallNames.name_kind, Ties.SmallPolygons.polygon_records_small}
+use Rattle.tl_number.specs.{CountyParts.part_of, SmallCounty.small_county}
 
 -- Two choices of a county.
-module _ (county : County) (shapes : OrderOfShapes) (known : LeavesChoices county shapes) (is : IsCounty county)
-    (within : IsWithinLimits most_records county) (n m : ℕ) where
-  abbrev one : List DirectedChain
-  one = chains_of county shapes known is within n
-
-  abbrev other : List DirectedChain
-  other = chains_of county shapes known is within m
-
-  abbrev a : County
-  a = choice_county county shapes known is within n
-
-  abbrev b : County
-  b = choice_county county shapes known is within m
-
+module _ (c : OrderedCounty) (n k : ℕ) where
   -- their texts are in the order of their records, type by type
-  types_decide : choices_cmp county n m
-      ≡ ordering_then (types_1_to_4_cmp a b) (ordering_then (types_5_to_7_cmp a b) (types_8_to_p_cmp a b))
+  types_decide : choices_cmp c.county n k ≡ ordering_then (types_1_to_4_cmp (choice c n) (choice c k))
+      (ordering_then (types_5_to_7_cmp (choice c n) (choice c k)) (types_8_to_p_cmp (choice c n) (choice c k)))
   types_decide =
-      let whole = whole_numbered county shapes known is within n in
-      let whole_too = whole_numbered county shapes known is within m in
-      sym (λ i. slice_cmp nat_cmp (text_of (packed (arranged county (choice_of county shapes known is within n i))))
-      (text_of (packed (arranged county (choice_of county shapes known is within m i)))))
-      ∙ texts_in_order a b whole.is_county whole_too.is_county whole.within_limits whole_too.within_limits (one_map county shapes known is within n m)
+      let whole = whole_in c n in
+      let whole_too = whole_in c k in
+      sym (λ i. slice_cmp nat_cmp (text_of (packed (arranged c.county (stated c n i))))
+      (text_of (packed (arranged c.county (stated c k i)))))
+      ∙ texts_in_order (choice c n) (choice c k) whole.is_county whole_too.is_county whole.within_limits whole_too.within_limits (one_map c n k)
 
   -- they tie in types 2 and 5
-  twos_tie : Equal ≡ groups_cmp Two (type_2_by_chain a) (type_2_by_chain b)
-  twos_tie = same_groups Two (type_2_by_chain a) (type_2_by_chain b)
-      (ap (λ c. type_2_by_chain (arranged county c)) (choice_of county shapes known is within n) ∙ twos_of_numbers county is known.sides n m
-      ∙ sym (ap (λ c. type_2_by_chain (arranged county c)) (choice_of county shapes known is within m)))
+  twos_tie : Equal ≡ groups_cmp Two (type_2_by_chain (choice c n)) (type_2_by_chain (choice c k))
+  twos_tie = same_groups Two (type_2_by_chain (choice c n)) (type_2_by_chain (choice c k))
+      (ap (λ a. type_2_by_chain (arranged c.county a)) (stated c n)
+      ∙ twos_of_numbers c.county c.is c.known.sides n k
+      ∙ sym (ap (λ a. type_2_by_chain (arranged c.county a)) (stated c k)))
 
-  fives_tie : Equal ≡ groups_cmp Five (type_5_by_name a) (type_5_by_name b)
-  fives_tie = same_groups Five (type_5_by_name a) (type_5_by_name b)
-      (same_type_5 county is (arrangement_of county one) (arrangement_of county other)
-      (arranges county one is (whole_numbered county shapes known is within n)) (arranges county other is (whole_numbered county shapes known is within m)))
+  fives_tie : Equal ≡ groups_cmp Five (type_5_by_name (choice c n)) (type_5_by_name (choice c k))
+  fives_tie = same_groups Five (type_5_by_name (choice c n)) (type_5_by_name (choice c k))
+      (same_type_5 c.county c.is (order_in c n) (order_in c k) (arranges_in c n).arranges (arranges_in c k).arranges)
+
+-- a small county has all landmarks with their links, or none
+landmarks_kept : (county : County) (shapes : OrderOfShapes)
+    → (small_county county shapes).landmarks ≡ cond (is_linked county shapes) county.landmarks []
+unfolding small_county part_of
+landmarks_kept county shapes = refl
+
+links_kept : (county : County) (shapes : OrderOfShapes) → (small_county county shapes).links ≡ cond (is_linked county shapes) county.links []
+unfolding small_county part_of
+links_kept county shapes = refl
+
+-- its polygons keep their content
+contents_kept : (county : County) (shapes : OrderOfShapes) (key : PolygonKey) → Known key_cmp (polygons_along (small_county county shapes).chains) key
+    → polygon_under (small_county county shapes) key ≡ polygon_under county key
+unfolding small_county part_of
+contents_kept county shapes key known =
+    value_filtered key_keys (λ k. stands_in key_cmp k (polygons_along (small_county county shapes).chains)) county.polygons key
+    (lt-ltb 0 (times key_cmp key (polygons_along (small_county county shapes).chains)) known)
 
 -- A county and its small county, with an order of its own.
 module _ (county : County) (shapes : OrderOfShapes) (known : LeavesChoices county shapes) (is : IsCounty county)
     (within : IsWithinLimits most_records county) (order : OrderOfShapes) (small_known : LeavesChoices (small_county county shapes) order) where
-  abbrev small : County
-  small = small_county county shapes
+  abbrev whole : OrderedCounty
+  whole = record { county = county; shapes = shapes; known = known; is = is; within = within }
 
-  abbrev is_too : IsCounty small
-  is_too = is_small county shapes known is within order small_known
+  abbrev small : OrderedCounty
+  small = record {
+    county = small_county county shapes;
+    shapes = order;
+    known = small_known;
+    is = is_small county shapes known is within order small_known;
+    within = within_small county shapes known is within order small_known;
+  }
 
-  abbrev within_too : IsWithinLimits most_records small
-  within_too = within_small county shapes known is within order small_known
+  part : IsKeptPart whole small (is_kept county shapes)
+  part = record {
+    fixed = λ place out. (or_parts (is_open shapes.places place) _ out).0;
+    chains = chains_small county shapes known is within order small_known;
+  }
 
-  abbrev of_choice : ℕ → County
-  of_choice i = choice_county county shapes known is within i
+  -- the keys that are wanted
+  nodes : AreWanted node_kind whole small (is_kept county shapes)
+  nodes = record {
+    wanted = wanted_nodes county shapes;
+    alike = nodes_small county shapes known is within order small_known;
+    opened = open_nodes county shapes known is within;
+    kept = λ place e. or_right (is_open shapes.places place) _ (or_left _ _ e);
+    left_out = λ place out. (or_parts _ _ (or_parts (is_open shapes.places place) _ out).1).0;
+  }
 
-  abbrev of_small : ℕ → County
-  of_small i = choice_county small order small_known is_too within_too i
+  abbrev polygons : AreWanted polygon_kind whole small (is_kept county shapes)
+  polygons = record {
+    wanted = wanted_polygons county shapes;
+    alike = polygons_small county shapes known is within order small_known;
+    opened = open_polygons county shapes known is within;
+    kept = λ place e. or_right (is_open shapes.places place) _ (or_right _ _ (or_left _ _ e));
+    left_out = λ place out. (or_parts _ _ (or_parts _ _ (or_parts (is_open shapes.places place) _ out).1).1).0;
+  }
 
-  -- records of the choices with these numbers are those of their directed chains
-  of_numbers : {X : Type 0} (record_of : X → Record) (groups : County → List (List X)) (n m : ℕ)
-      → groups_cmp record_of (groups (arranged county (numbered_choice county n))) (groups (arranged county (numbered_choice county m)))
-      ≡ groups_cmp record_of (groups (arranged small (numbered_choice small n))) (groups (arranged small (numbered_choice small m)))
-      → groups_cmp record_of (groups (of_choice n)) (groups (of_choice m)) ≡ groups_cmp record_of (groups (of_small n)) (groups (of_small m))
-  of_numbers record_of groups n m alike =
-      (λ i. groups_cmp record_of (groups (arranged county (choice_of county shapes known is within n i)))
-      (groups (arranged county (choice_of county shapes known is within m i))))
-      ∙ alike
-      ∙ sym (λ i. groups_cmp record_of (groups (arranged small (choice_of small order small_known is_too within_too n i)))
-      (groups (arranged small (choice_of small order small_known is_too within_too m i))))
+  names : AreWanted name_kind whole small (is_kept county shapes)
+  names = record {
+    wanted = wanted_feats county shapes;
+    alike = names_small county shapes known is within order small_known;
+    opened = open_names county shapes known is within;
+    kept = λ place e. or_right (is_open shapes.places place) _ (or_right _ _ (or_right _ _ e));
+    left_out = λ place out. (or_parts _ _ (or_parts _ _ (or_parts (is_open shapes.places place) _ out).1).1).1;
+  }
 
-  -- landmarks, their links, and polygons
-  landmarks : (n m : ℕ) → groups_cmp Seven (type_7_by_landmark (of_choice n)) (type_7_by_landmark (of_choice m))
-      ≡ groups_cmp Seven (type_7_by_landmark (of_small n)) (type_7_by_landmark (of_small m))
-  landmarks n m = of_numbers Seven type_7_by_landmark n m (landmarks_in_small county shapes known is within order small_known is_too within_too
-      (chains_small county shapes known is within order small_known) n m)
+  -- Links compare alike. If the small county has landmarks, the polygons of all links are wanted.
+  wanted_links : is_linked county shapes ≡ true → (link : Fields8) → Among link county.links
+      → stands_in key_cmp (link_key link) (wanted_polygons county shapes) ≡ true
+  wanted_links linked link there = lt-ltb 0 (times key_cmp (link_key link) (wanted_polygons county shapes))
+      (known-right key_keys (link_key link) (keys_at_open chain_polygons county shapes) (cond (is_linked county shapes) (map link_key county.links) [])
+      (subst (λ b. Known key_cmp (cond b (map link_key county.links) []) (link_key link)) (sym linked)
+      (among_known key_keys (link_key link) (map link_key county.links) (among-map link_key link county.links there))))
 
-  links : (n m : ℕ) → groups_cmp Eight (type_8_together (of_choice n)) (type_8_together (of_choice m))
-      ≡ groups_cmp Eight (type_8_together (of_small n)) (type_8_together (of_small m))
-  links n m = of_numbers Eight type_8_together n m (links_in_small county shapes known is within order small_known is_too within_too
-      (chains_small county shapes known is within order small_known) n m)
+  -- otherwise no link has a polygon that first appears at an open place
+  closed_links : is_linked county shapes ≡ false → (n k : ℕ) (link : Fields8) → Among link county.links
+      → polygon_number (new_in whole n) (link_key link) ≡ polygon_number (new_in whole k) (link_key link)
+  closed_links unlinked n k link there =
+      let opened : List PolygonKey = first_open key_cmp shapes.places (keys_along chain_polygons county shapes.by_shape) in
+      polygons_stay county shapes known is within small.county order small_known small.is small.within part.chains n k (link_key link)
+      (all_among (λ l. stands_in key_cmp (link_key l) opened ≡ false) link county.links
+      (all_fail (λ (l : Fields8). stands_in key_cmp (link_key l) opened) county.links unlinked) there)
+      (link_on_side county is known.sides link there)
 
-  polygons : (n m : ℕ) → groups_cmp P (type_p_by_number (of_choice n)) (type_p_by_number (of_choice m))
-      ≡ groups_cmp P (type_p_by_number (of_small n)) (type_p_by_number (of_small m))
-  polygons n m = of_numbers P type_p_by_number n m (polygons_in_small county shapes known is within order small_known is_too within_too
-      (chains_small county shapes known is within order small_known) n m)
+  links_small : (n k : ℕ) → groups_cmp Eight (type_8_together (choice whole n)) (type_8_together (choice whole k))
+      ≡ groups_cmp Eight (type_8_together (choice small n)) (type_8_together (choice small k))
+  links_small n k = go (is_linked county shapes) refl
+    where
+      go : (b : Bool) → is_linked county shapes ≡ b → groups_cmp Eight (type_8_together (choice whole n)) (type_8_together (choice whole k))
+          ≡ groups_cmp Eight (type_8_together (choice small n)) (type_8_together (choice small k))
+      go true e = linked_alike polygons (landmarks_kept county shapes ∙ ap (λ b. cond b county.landmarks []) e)
+          (links_kept county shapes ∙ ap (λ b. cond b county.links []) e) (wanted_links e) n k
+      go false e = sym (eights_tie whole n k (closed_links e n k))
+          ∙ eights_tie small n k (λ link there. absurd (subst (Among link) (links_kept county shapes ∙ ap (λ b. cond b county.links []) e) there))
+
+  -- Records of polygons compare alike.
+  records_of_polygons : (n k : ℕ) → groups_cmp P (type_p_by_number (choice whole n)) (type_p_by_number (choice whole k))
+      ≡ groups_cmp P (type_p_by_number (choice small n)) (type_p_by_number (choice small k))
+  records_of_polygons n k = polygon_records_small polygons (contents_kept county shapes)
+      (polygons_same county shapes known is within small.county order small_known small.is small.within part.chains) n k
+      (polygons_hidden county shapes known is within small.county order small_known small.is small.within part.chains n k)
+      (small_polygons_hidden county shapes known is within small.county order small_known small.is small.within part.chains n k)
 
   -- So two choices are in one order.
-  same_order : (n m : ℕ) → choices_cmp small n m ≡ choices_cmp county n m
-  same_order n m =
-      let twos = sym (twos_tie county shapes known is within n m) ∙ twos_tie small order small_known is_too within_too n m in
-      let fives = sym (fives_tie county shapes known is within n m) ∙ fives_tie small order small_known is_too within_too n m in
-      let ones = type_1_small county shapes known is within order small_known n m in
-      let fours = type_4_small county shapes known is within order small_known n m in
-      let sixes = type_6_small county shapes known is within order small_known n m in
-      let topologies = type_i_small county shapes known is within order small_known n m in
-      types_decide small order small_known is_too within_too n m
-      ∙ sym (λ i. ordering_then (ordering_then (ones i) (ordering_then (twos i) (fours i)))
-      (ordering_then (ordering_then (fives i) (ordering_then (sixes i) (landmarks n m i)))
-      (ordering_then (links n m i) (ordering_then (topologies i) (polygons n m i)))))
-      ∙ sym (types_decide county shapes known is within n m)
+  same_order : (n k : ℕ) → choices_cmp small.county n k ≡ choices_cmp county n k
+  same_order n k =
+      types_decide small n k
+      ∙ sym (λ i. ordering_then
+      (ordering_then (ones_small part n k i) (ordering_then ((sym (twos_tie whole n k) ∙ twos_tie small n k) i) (fours_small part names n k i)))
+      (ordering_then (ordering_then ((sym (fives_tie whole n k) ∙ fives_tie small n k) i)
+      (ordering_then (sixes_small part n k i) ((sym (sevens_tie whole n k) ∙ sevens_tie small n k) i)))
+      (ordering_then (links_small n k i) (ordering_then (topologies_small part nodes polygons n k i) (records_of_polygons n k i)))))
+      ∙ sym (types_decide whole n k)
 
 module _ (county : County) (shapes : OrderOfShapes) (known : LeavesChoices county shapes) (is : IsCounty county)
     (within : IsWithinLimits most_records county) where
@@ -127,6 +166,7 @@ module _ (county : County) (shapes : OrderOfShapes) (known : LeavesChoices count
       (small_leaves county shapes known is (own_order (small_county county shapes)) (own_order_is (small_county county shapes)))
 
   -- So the least choice of the small county is the county's.
-  pub small_least : (k : ℕ) → IsLeastBelow (small_county county shapes) (choices (small_county county shapes)) k → IsLeastBelow county (choices county) k
+  pub small_least : (k : ℕ) → IsLeastBelow (small_county county shapes) (choices (small_county county shapes)) k
+      → IsLeastBelow county (choices county) k
   small_least k least m l = subst (λ o. is_gt o ≡ false) (small_same_order k m)
       (least m (subst (λ count. m < count) (sym (small_choices county shapes known is)) l))

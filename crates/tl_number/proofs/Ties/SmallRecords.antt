@@ -1,339 +1,393 @@
--- The records of types 1 and 6 of two choices are in one order in a county and in its small county.
-use Rattle.tl_number.proofs.Common.{◌≡◌, ◌+◌, ◌∙◌, ◌++◌, ℕ, suc, List, [], ◌∷◌, map, map-map, filter, length, length-map, Bool, false}
-use Rattle.tl_number.proofs.Common.{IfSome, Option, Some, None, Equal, Ordering, option_cmp, option_map, option_to_list, refl, sym, ap, ap₂, subst, arith}
-use Rattle.tl_number.proofs.Common.{AllByRecursion, Chain, County, Fields6, Five, IsCounty, IsWithinLimits, One, OrderOfShapes, Ranges, Record, Renumbering}
-use Rattle.tl_number.proofs.Common.{Seven, Six, all_append, all_both, all_left, all_right, all_unmap, drop, grouped, groups_cmp, is_open}
-use Rattle.tl_number.proofs.Common.{most_records, numbered_from, on, ones_of, packed_sixes, range_with_len, ranges_of, slice_cmp, slice_get, slice_get-map}
-use Rattle.tl_number.proofs.Common.{spelling_cmp, type_1_by_chain, type_5_by_name, type_6_by_chain, type_7_by_landmark}
-use Rattle.ordered_lists.proofs.Lists.ByPlace.{all_at}
-use Rattle.ordered_lists.specs.Places.{at_places}
-use Rattle.county_chart.proofs.Limits.FitsPacked.{packed-fits}
-use Rattle.county_chart.specs.Packing.{packed_one}
-use Rattle.tl_layout.specs.ColumnTable.{Number, row}
-use Rattle.tl_layout.specs.Fields.{Fields1}
-use Rattle.tl_layout.specs.RecordTables.{table_1, table_6}
-use Rattle.tl_layout.specs.RecordText.{FitsRecord}
-use Rattle.tl_layout.specs.RecordTypes.{Type1, Type6}
-use Rattle.tl_number.specs.ChoiceSearch.{LeavesChoices}
-use Rattle.canonical_form.proofs.Arrangements.PolygonNumbers.{numbered_at}
-use Rattle.canonical_form.proofs.Lists.ListPlaces.{none_past}
-use Rattle.canonical_form.proofs.Unique.SameNumbers.{kept_entry}
-use Rattle.record_groups.proofs.Records.PackedGroups.{all_groups, ones}
-use Rattle.record_groups.proofs.Texts.PartOrder.{part_decides}
-use Rattle.record_groups.proofs.Texts.TypeOnes.{same_one}
-use Rattle.record_groups.specs.CountyGroups.{types_1_to_4, types_5_to_7, types_8_to_p}
-use Rattle.record_groups.specs.OpenRanges.{sixes_at, sixes_of, sixes_under}
-use Rattle.arranged_county.proofs.Landmarks.LandmarkOrder.{cmp_mapped}
-use Rattle.tl_number.proofs.Ties.Columns.{columns_decide, first_column_alike, numbers_alike, rows_fit}
-use Rattle.tl_number.proofs.Ties.CriticalKeys.{chains_of, new_of}
-use Rattle.tl_number.proofs.Ties.KeptParts.{IsKept, IsThere, Kept, all_are_there, all_kept, at_place, at_rank, groups_at_places, groups_of_one, kept_order}
-use Rattle.tl_number.proofs.Ties.KeptParts.{kept_parts, lists_alike, made, place_groups, rank_groups}
-use Rattle.tl_number.proofs.Ties.NameRecords.{all_there, one_map}
-use Rattle.tl_number.proofs.Ties.RangeOrder.{ranges_at, whole_groups}
-use Rattle.tl_number.proofs.Ties.SmallChains.{chains_in, chains_numbered, choice_county, directed_at, entry_at, length_chains, same_chain}
-use Rattle.tl_number.proofs.Ties.TieNumbers.{agree_of_both, length_numbered, whole_numbered}
+-- The records of a type that are made of chains, in two choices of a county and of its small county: types 1, 4, 6 and I.
+use Rattle.tl_number.proofs.Common.{AllByRecursion, [], type_2_by_chain, type_4_by_chain, type_6_by_chain, type_8_together, type_i_by_chain}
+use Rattle.tl_number.proofs.Common.{Among, AreWhole, FieldsOf, IsCounty, Ordering, all_left, all_map, arranged, arranges, decided, table_of}
+use Rattle.tl_number.proofs.Common.{AreSame, IsWithinLimits, all_everywhere, all_themselves, arrangement_of, exact_unsigned, range_with_len}
+use Rattle.tl_number.proofs.Common.{Arrangement, nat_list_cmp_total, numbered_choice, type_1_by_chain, type_7_by_landmark, type_p_by_number}
+use Rattle.tl_number.proofs.Common.{Bool, choices_same, grouped_lone, most_records, ordering_then, packed_sixes, types_1_to_4, types_5_to_7}
+use Rattle.tl_number.proofs.Common.{Chain, Eight, Equal, Four, Less, List, None, Seven, Some, Type1, Type6, arith, drop, false, refl, subst}
+use Rattle.tl_number.proofs.Common.{County, I, Option, Ranges, Record, filter, grouped, is_open, length, map-map, nat_cmp, table_1, table_6}
+use Rattle.tl_number.proofs.Common.{DirectedChain, LeavesChoices, OrderOfShapes, carried_many, nat_cmp_total, numbered_from, type_5_by_name}
+use Rattle.tl_number.proofs.Common.{FitsRecord, RecordType, Renumbering, grouped_map, packed-fits, spelling_of, tied_itself, types_8_to_p}
+use Rattle.tl_number.proofs.Common.{Five, all_right, all_unmap, at_places, none_past, record_of, slice_cmp, slice_get, then_same, unwrap_or}
+use Rattle.tl_number.proofs.Common.{Greater, all_groups, groups_cmp, kept_entry, length-map, option_map, packed_one, renumbered, then-equal}
+use Rattle.tl_number.proofs.Common.{One, P, Six, Two, ap, ap₂, map, suc, sym, true, zero, ℕ, ◌++◌, ◌+◌, ◌<◌, ◌∙◌, ◌∷◌, ◌≡◌, ◌≢◌}
+use Rattle.tl_number.proofs.Ties.Columns.{AreColumnsAlike, columns_alike, columns_decide, fields_cmp, lists_decide, rows_cmp, tied_fields}
+use Rattle.tl_number.proofs.Ties.KeptParts.{IsKept, IsThere, Kept, all_are_there, all_kept, at_place, at_rank, kept_order, kept_parts}
+use Rattle.tl_number.proofs.Ties.KeptParts.{lists_alike, place_groups, rank_groups}
+use Rattle.tl_number.proofs.Ties.SmallChains.{chains_in, chains_numbered, choice_county, length_chains, same_chain}
+use Rattle.tl_number.proofs.{Ties.ArrangedChoices.IsArrangementOf, Ties.CriticalKeys.chains_of, Ties.CriticalKeys.new_of}
+use Rattle.tl_number.proofs.{Ties.TieNumbers.choice_of, Ties.TieNumbers.whole_numbered}
+use Rattle.record_groups.proofs.Texts.OpenPlaces.{groups_from, those_decide, those_from, those_groups}
 
--- what holds of all elements of each group holds of all elements
-all_grouped : {X : Type 0} (P : X → Type 0) (F : ℕ → List X) (Q : ℕ → Type 0) → ((place : ℕ) → Q place → AllByRecursion P (F place))
-    → (places : List ℕ) → AllByRecursion Q places → AllByRecursion P (grouped (map F places))
-all_grouped P F Q each [] all = tt
-all_grouped P F Q each (place ∷ places) all =
-    all_append P (F place) (grouped (map F places)) (each place all.0) (all_grouped P F Q each places all.1)
+-- ---- choices
 
--- the records of types 1 and 6 of a county within its limits fit
-module _ (county : County) (is : IsCounty county) (within : IsWithinLimits most_records county) where
-  -- all records fit
-  all_fit : AllByRecursion FitsRecord (types_1_to_4 county ++ (types_5_to_7 county ++ types_8_to_p county))
-  all_fit = subst (AllByRecursion FitsRecord) (sym (all_groups county))
-      (packed-fits county is.whole within.contents within.numbers within.lists)
+-- A county with an order of its shapes that leaves its choices.
+pub record OrderedCounty : Type 0 where
+  pub county : County
+  pub shapes : OrderOfShapes
+  pub known : LeavesChoices county shapes
+  pub is : IsCounty county
+  pub within : IsWithinLimits most_records county
 
-  -- so those of type 1 do
-  pub ones_fit : AllByRecursion FitsRecord (ones_of county)
-  ones_fit = all_left FitsRecord (ones_of county) _ (all_left FitsRecord (types_1_to_4 county) (types_5_to_7 county ++ types_8_to_p county) all_fit)
+-- the chains of a choice, its county, its new numbers, and its arrangement
+abbrev pub chains_at : OrderedCounty → ℕ → List Chain
+chains_at c i = chains_in c.county c.shapes c.known c.is c.within i
 
-  -- and those of type 6
-  pub sixes_fit : AllByRecursion (λ r. FitsRecord (Six r)) (grouped (type_6_by_chain county))
-  sixes_fit = all_unmap FitsRecord Six (grouped (type_6_by_chain county))
-      (all_left FitsRecord (map Six (grouped (type_6_by_chain county))) (map Seven (grouped (type_7_by_landmark county)))
-      (all_right FitsRecord (map Five (grouped (type_5_by_name county)))
-      (map Six (grouped (type_6_by_chain county)) ++ map Seven (grouped (type_7_by_landmark county)))
-      (all_left FitsRecord (types_5_to_7 county) (types_8_to_p county)
-      (all_right FitsRecord (types_1_to_4 county) (types_5_to_7 county ++ types_8_to_p county) all_fit))))
+abbrev pub choice : OrderedCounty → ℕ → County
+choice c i = choice_county c.county c.shapes c.known c.is c.within i
 
--- A county whose chains are, in each choice, those of a county at kept places. Each place that isn't kept is fixed.
-module _ (county : County) (shapes : OrderOfShapes) (known : LeavesChoices county shapes) (is : IsCounty county)
-    (within : IsWithinLimits most_records county) (small : County) (order : OrderOfShapes) (small_known : LeavesChoices small order)
-    (small_is : IsCounty small) (small_within : IsWithinLimits most_records small) (is_in : ℕ → Bool)
-    (fixed : (place : ℕ) → is_in place ≡ false → is_open shapes.places place ≡ false)
-    (small_chains : (i : ℕ) → chains_in small order small_known small_is small_within i
-    ≡ at_places (chains_in county shapes known is within i) (filter is_in (range_with_len 0 (length shapes.by_shape)))) where
-  abbrev kept : List ℕ
-  kept = filter is_in (range_with_len 0 (length shapes.by_shape))
+abbrev pub new_in : OrderedCounty → ℕ → Renumbering
+new_in c i = new_of c.county c.shapes c.known c.is c.within i
 
-  abbrev chains_at : ℕ → List Chain
-  chains_at i = chains_in county shapes known is within i
+abbrev pub directed_in : OrderedCounty → ℕ → List DirectedChain
+directed_in c i = chains_of c.county c.shapes c.known c.is c.within i
 
-  abbrev of_choice : ℕ → County
-  of_choice i = choice_county county shapes known is within i
+abbrev pub order_in : OrderedCounty → ℕ → Arrangement
+order_in c i = arrangement_of c.county (directed_in c i)
 
-  abbrev of_small : ℕ → County
-  of_small i = choice_county small order small_known small_is small_within i
+abbrev pub whole_in : (c : OrderedCounty) (i : ℕ) → AreWhole c.county (directed_in c i)
+whole_in c i = whole_numbered c.county c.shapes c.known c.is c.within i
 
-  -- each kept place has a chain
-  pub kept_there : (i : ℕ) → AllByRecursion (IsThere (chains_at i)) kept
-  kept_there i = all_are_there (chains_at i) is_in (length shapes.by_shape) (sym (length_chains county shapes known is within i))
+pub arranges_in : (c : OrderedCounty) (i : ℕ) → IsArrangementOf c.county (order_in c i)
+arranges_in c i =
+    record { is = c.is; within = c.within; sides = c.known.sides; arranges = arranges c.county (directed_in c i) c.is (whole_in c i) }
 
-  -- Records of parts of chains, made for each choice of the county and of the small county, that compare alike in pairs.
-  module _ {X Y : Type 0} (cmp : X → X → Ordering) (Fits : X → Type 0) (pieces : Chain → List Y) (make small_make : ℕ → ℕ → ℕ → Y → X)
-      (F : ℕ → ℕ → List X) (F_is : (i place : ℕ) (c : Chain) → slice_get (chains_at i) place ≡ Some c → F i place ≡ made pieces (chains_at i) (make i) (suc place) c)
-      (fit : (i place : ℕ) → IsThere (chains_at i) place → AllByRecursion Fits (F i place))
-      (small_records : ℕ → List X)
-      (small_are : (i : ℕ) → small_records i ≡ grouped (map (λ (e : ℕ × Chain). made pieces (chains_at i) (small_make i) e.0 e.1)
-      (numbered_from 1 (chains_in small order small_known small_is small_within i))))
-      (small_fit : (i : ℕ) → AllByRecursion Fits (small_records i)) where
-    abbrev parts : ℕ → List (Kept Chain Y)
-    parts i = kept_parts pieces (chains_at i) 0 kept
+-- the arrangement is the one with the choice's number
+pub stated : (c : OrderedCounty) (i : ℕ) → order_in c i ≡ numbered_choice c.county i
+stated c = choice_of c.county c.shapes c.known c.is c.within
 
-    abbrev in_county : ℕ → Kept Chain Y → X
-    in_county i = at_place pieces (chains_at i) (make i)
+-- a choice has as many chains as the order of shapes, and at each fixed place the same chain as other choices
+pub length_at : (c : OrderedCounty) (i : ℕ) → length (chains_at c i) ≡ length c.shapes.by_shape
+length_at c = length_chains c.county c.shapes c.known c.is c.within
 
-    abbrev in_small : ℕ → Kept Chain Y → X
-    in_small i = at_rank pieces (chains_at i) (small_make i)
+pub same_at : (c : OrderedCounty) (n k place : ℕ) → is_open c.shapes.places place ≡ false
+    → slice_get (chains_at c n) place ≡ slice_get (chains_at c k) place
+same_at c = same_chain c.county c.shapes c.known c.is c.within
 
-    -- a part is where it says, and its records fit
-    abbrev pub IsPart : ℕ → Kept Chain Y → Type 0
-    IsPart i k = IsKept pieces (chains_at i) kept k × (Fits (in_county i k) × Fits (in_small i k))
+-- the places of a county that pass a test
+abbrev pub places_in : OrderedCounty → (ℕ → Bool) → List ℕ
+places_in c is_in = filter is_in (range_with_len 0 (length c.shapes.by_shape))
 
-    -- the records of the county at kept places are made of the parts
-    county_are : (i : ℕ) → grouped (map (F i) kept) ≡ map (in_county i) (parts i)
-    county_are i = place_groups pieces (chains_at i) (make i) (F i) (F_is i) 0 kept (kept_there i)
+-- A small county has the chains at kept places, in each choice. Each place that isn't kept is fixed.
+pub record IsKeptPart (whole small : OrderedCounty) (is_in : ℕ → Bool) : Type 0 where
+  pub fixed : (place : ℕ) → is_in place ≡ false → is_open whole.shapes.places place ≡ false
+  pub chains : (i : ℕ) → chains_at small i ≡ at_places (chains_at whole i) (places_in whole is_in)
 
-    -- and so are those of the small county
-    small_too : (i : ℕ) → small_records i ≡ map (in_small i) (parts i)
-    small_too i = small_are i
-        ∙ ap (λ cs. grouped (map (λ (e : ℕ × Chain). made pieces (chains_at i) (small_make i) e.0 e.1) (numbered_from 1 cs))) (small_chains i)
-        ∙ rank_groups pieces (chains_at i) (small_make i) 0 kept (kept_there i)
+-- the counties of two choices are the same map
+pub one_map : (c : OrderedCounty) (n k : ℕ) → AreSame (choice c n) (choice c k)
+one_map c n k = subst (λ a. AreSame (arranged c.county a) (choice c k)) (sym (stated c n))
+    (subst (λ a. AreSame (arranged c.county (numbered_choice c.county n)) (arranged c.county a)) (sym (stated c k))
+    (choices_same c.county c.is c.known.sides n k))
 
-    -- each part is where it says, and its records fit
-    are_parts : (i : ℕ) → AllByRecursion (IsPart i) (parts i)
-    are_parts i =
-        all_both (IsKept pieces (chains_at i) kept) (λ k. Fits (in_county i k) × Fits (in_small i k)) (parts i)
-        (all_kept pieces (chains_at i) kept 0 kept (λ j. ap (slice_get kept) (let t : j ≡ 0 + j = omega arith in t)) (kept_there i))
-        (all_both (λ k. Fits (in_county i k)) (λ k. Fits (in_small i k)) (parts i)
-        (all_unmap Fits (in_county i) (parts i) (subst (AllByRecursion Fits) (county_are i) (all_grouped Fits (F i) (IsThere (chains_at i)) (fit i) kept (kept_there i))))
-        (all_unmap Fits (in_small i) (parts i) (subst (AllByRecursion Fits) (small_too i) (small_fit i))))
+-- ---- records of one type
 
-    -- So the records at kept places are in one order with those of the small county.
-    pub kept_alike : (n m : ℕ) → ((v w : Kept Chain Y) → IsPart n v → IsPart m w → cmp (in_county n v) (in_county m w) ≡ cmp (in_small n v) (in_small m w))
-        → slice_cmp cmp (grouped (map (F n) kept)) (grouped (map (F m) kept)) ≡ slice_cmp cmp (small_records n) (small_records m)
-    kept_alike n m alike =
-        ap₂ (slice_cmp cmp) (county_are n) (county_are m)
-        ∙ lists_alike cmp (in_county n) (in_small n) (in_county m) (in_small m) (IsPart n) (IsPart m) alike (parts n) (parts m) (are_parts n) (are_parts m)
-        ∙ sym (ap₂ (slice_cmp cmp) (small_too n) (small_too m))
+-- records of a type of two choices are compared by columns
+pub choices_decide : (t : RecordType) (groups : County → List (List (FieldsOf t)))
+    → ((county : County) → IsCounty county → IsWithinLimits most_records county → AllByRecursion (λ r. FitsRecord (record_of t r)) (grouped (groups county)))
+    → (c : OrderedCounty) (n k : ℕ) → groups_cmp (record_of t) (groups (choice c n)) (groups (choice c k))
+    ≡ slice_cmp (fields_cmp t) (grouped (groups (choice c n))) (grouped (groups (choice c k)))
+choices_decide t groups fit c n k = lists_decide t (grouped (groups (choice c n))) (grouped (groups (choice c k))) (fits n) (fits k)
+  where
+    fits : (i : ℕ) → AllByRecursion (λ r. FitsRecord (record_of t r)) (grouped (groups (choice c i)))
+    fits i = let whole = whole_in c i in fit (choice c i) whole.is_county whole.within_limits
 
-  -- a chain alone
-  abbrev pub whole_chain : Chain → List Chain
-  whole_chain c = c ∷ []
+-- groups made of elements and their numbers
+numbered_groups : {X Y : Type 0} (under : ℕ → X → List Y) (F : ℕ → List Y) (xs : List X) (p : ℕ)
+    → ((i : ℕ) (x : X) → slice_get xs i ≡ Some x → (q : ℕ) → q ≡ p + i → under (suc q) x ≡ F q)
+    → grouped (map (λ (e : ℕ × X). under e.0 e.1) (numbered_from (suc p) xs)) ≡ groups_from F p (length xs)
+numbered_groups under F [] p h = refl
+numbered_groups under F (x ∷ xs) p h =
+    ap₂ (λ us vs. us ++ vs) (h 0 x refl p (omega arith)) (numbered_groups under F xs (suc p) (λ i y e q f. h (suc i) y e q (omega (arith, f))))
 
-  -- One record for each chain.
-  module _ (make small_make : ℕ → ℕ → Chain → Record) (records small_records : ℕ → List Record)
-      (records_are : (i place : ℕ) (c : Chain) → slice_get (chains_at i) place ≡ Some c → slice_get (records i) place ≡ Some (make i (suc place) c))
-      (fit : (i : ℕ) → AllByRecursion FitsRecord (records i))
-      (small_are : (i : ℕ) → small_records i ≡ map (λ (e : ℕ × Chain). small_make i e.0 e.1) (numbered_from 1 (chains_in small order small_known small_is small_within i)))
-      (small_fit : (i : ℕ) → AllByRecursion FitsRecord (small_records i)) where
-    abbrev pub IsOne : ℕ → Kept Chain Chain → Type 0
-    IsOne i k = IsKept whole_chain (chains_at i) kept k × (FitsRecord (make i (suc k.place) k.piece) × FitsRecord (small_make i (suc k.rank) k.piece))
+-- what holds of all elements holds of those in each group
+all_there : {X : Type 0} (Holds : X → Type 0) (F : ℕ → List X) (p count : ℕ) → AllByRecursion Holds (groups_from F p count)
+    → (i : ℕ) → i < count → (q : ℕ) → q ≡ p + i → AllByRecursion Holds (F q)
+all_there Holds F p zero all i l q e = absurd (omega (arith, l))
+all_there Holds F p (suc count) all zero l q e = subst (λ j. AllByRecursion Holds (F j)) (let same : p ≡ q = omega (arith, e) in same)
+    (all_left Holds (F p) (groups_from F (suc p) count) all)
+all_there Holds F p (suc count) all (suc i) l q e =
+    all_there Holds F (suc p) count (all_right Holds (F p) (groups_from F (suc p) count) all) i (omega (arith, l)) q (omega (arith, e))
 
-    -- The records at kept places are in one order with those of the small county.
-    pub each_alike : (n m : ℕ)
-        → ((v w : Kept Chain Chain) → IsOne n v → IsOne m w → spelling_cmp (make n (suc v.place) v.piece) (make m (suc w.place) w.piece)
-        ≡ spelling_cmp (small_make n (suc v.rank) v.piece) (small_make m (suc w.rank) w.piece))
-        → slice_cmp spelling_cmp (at_places (records n) kept) (at_places (records m) kept) ≡ slice_cmp spelling_cmp (small_records n) (small_records m)
-    each_alike n m alike =
-        ap₂ (slice_cmp spelling_cmp) (groups_at_places (records n) kept) (groups_at_places (records m) kept)
-        ∙ kept_alike spelling_cmp FitsRecord whole_chain (λ i number part c. make i number c) (λ i number part c. small_make i number c)
-        (λ i place. option_to_list (slice_get (records i) place))
-        (λ i place c e. ap option_to_list (records_are i place c e))
-        (λ i place there. listed (slice_get (records i) place) (all_at FitsRecord (records i) (fit i) place))
-        small_records
-        (λ i. small_are i
-        ∙ sym (groups_of_one (λ (e : ℕ × Chain). small_make i e.0 e.1) (numbered_from 1 (chains_in small order small_known small_is small_within i))))
-        small_fit n m alike
+-- How the records of a type are made of parts of chains: of new numbers, the chain's TLID, the number of the part, and the part.
+pub record Making (t : RecordType) (Y : Type 0) : Type 0 where
+  pub pieces : Chain → List Y
+  pub make : Renumbering → ℕ → ℕ → Y → FieldsOf t
+  pub pack : ℕ × Chain → List (FieldsOf t)
+  pub packs : (r : Renumbering) (n : ℕ) (c : Chain) → pack (n, renumbered r c) ≡ map (λ (e : ℕ × Y). make r n e.0 e.1) (numbered_from 1 (pieces c))
+  pub tlid : FieldsOf t → ℕ
+  pub has_tlid : (r : Renumbering) (n part : ℕ) (piece : Y) → tlid (make r n part piece) ≡ n
+  pub fit : (county : County) → IsCounty county → IsWithinLimits most_records county
+      → AllByRecursion (λ r. FitsRecord (record_of t r)) (grouped (map pack county.chains))
+  pub as_many : (a b : County) → AreSame a b → length (grouped (map pack a.chains)) ≡ length (grouped (map pack b.chains))
+
+module _ {t : RecordType} {Y : Type 0} (m : Making t Y) where
+  abbrev Fits : FieldsOf t → Type 0
+  Fits r = FitsRecord (record_of t r)
+
+  -- the order of records by TLID first
+  abbrev pub by_tlid : FieldsOf t → FieldsOf t → Ordering
+  by_tlid r s = ordering_then (nat_cmp (m.tlid r) (m.tlid s)) (fields_cmp t r s)
+
+  tlids_decide : (r s : FieldsOf t) → m.tlid r ≢ m.tlid s → by_tlid r s ≡ nat_cmp (m.tlid r) (m.tlid s)
+  tlids_decide r s differ = decided (nat_cmp (m.tlid r) (m.tlid s)) (fields_cmp t r s) (λ e. differ (exact_unsigned (m.tlid r) (m.tlid s) e))
+
+  -- records tie with themselves,
+  tied : (rs : List (FieldsOf t)) → AllByRecursion Fits rs → slice_cmp by_tlid rs rs ≡ Equal
+  tied [] f = refl
+  tied (r ∷ rs) f = λ i. ordering_then (ordering_then (tied_itself nat_cmp_total (m.tlid r) i)
+      ((sym (columns_decide t r r f.0 f.0) ∙ tied_itself nat_list_cmp_total (spelling_of (record_of t r))) i)) (tied rs f.1 i)
+
+  -- and with no others
+  pub tied_same : (rs ss : List (FieldsOf t)) → AllByRecursion Fits rs → AllByRecursion Fits ss → slice_cmp by_tlid rs ss ≡ Equal → rs ≡ ss
+  tied_same [] [] f g e = refl
+  tied_same [] (s ∷ ss) f g e = cc
+  tied_same (r ∷ rs) [] f g e = cc
+  tied_same (r ∷ rs) (s ∷ ss) f g e =
+      let both = then-equal (by_tlid r s) (slice_cmp by_tlid rs ss) e in
+      ap₂ (λ x xs. x ∷ xs) (tied_fields t r s f.0 g.0 (then-equal (nat_cmp (m.tlid r) (m.tlid s)) (fields_cmp t r s) both.0).1)
+      (tied_same rs ss f.1 g.1 both.1)
+
+  -- The records of a choice.
+  module _ (c : OrderedCounty) where
+    abbrev pub made_in : ℕ → ℕ → Chain → List (FieldsOf t)
+    made_in i number chain = map (λ (e : ℕ × Y). m.make (new_in c i) number e.0 e.1) (numbered_from 1 (m.pieces chain))
+
+    -- the records of the chain at a place, if there is one
+    abbrev pub made_if : ℕ → ℕ → Option Chain → List (FieldsOf t)
+    made_if i place chain = unwrap_or (option_map (made_in i (suc place)) chain) []
+
+    abbrev pub made_at : ℕ → ℕ → List (FieldsOf t)
+    made_at i place = made_if i place (slice_get (chains_at c i) place)
+
+    abbrev pub records_in : ℕ → List (FieldsOf t)
+    records_in i = grouped (map m.pack (choice c i).chains)
+
+    -- all records are made of chains
+    pub records_are : (i : ℕ) → records_in i ≡ grouped (map (λ (e : ℕ × Chain). made_in i e.0 e.1) (numbered_from 1 (chains_at c i)))
+    records_are i =
+        ap (λ es. grouped (map m.pack es)) (chains_numbered c.county c.shapes c.known c.is c.within i)
+        ∙ ap grouped (map-map m.pack (kept_entry (new_in c i)) (numbered_from 1 (chains_at c i)))
+        ∙ (λ j. grouped (map (λ (e : ℕ × Chain). m.packs (new_in c i) e.0 e.1 j) (numbered_from 1 (chains_at c i))))
+
+    -- they are in groups by place
+    groups_are : (i : ℕ) → records_in i ≡ groups_from (made_at i) 0 (length c.shapes.by_shape)
+    groups_are i = records_are i
+        ∙ numbered_groups (made_in i) (made_at i) (chains_at c i) 0 (λ j chain e q f.
+        sym (ap (made_if i q) (ap (slice_get (chains_at c i)) (let s : q ≡ j = omega (arith, f) in s) ∙ e)))
+        ∙ ap (groups_from (made_at i) 0) (length_at c i)
+
+    -- they fit,
+    fit_in : (i : ℕ) → AllByRecursion Fits (records_in i)
+    fit_in i = let whole = whole_in c i in m.fit (choice c i) whole.is_county whole.within_limits
+
+    -- also at one place
+    pub fit_at : (i place : ℕ) → AllByRecursion Fits (made_at i place)
+    fit_at i place = go (slice_get (chains_at c i) place) refl
       where
-        listed : (o : Option Record) → IfSome o FitsRecord → AllByRecursion FitsRecord (option_to_list o)
-        listed None h = tt
-        listed (Some r) h = (h, tt)
+        go : (o : Option Chain) → slice_get (chains_at c i) place ≡ o → AllByRecursion Fits (made_at i place)
+        go None e = subst (λ o. AllByRecursion Fits (made_if i place o)) (sym e) tt
+        go (Some chain) e = all_there Fits (made_at i) 0 (length c.shapes.by_shape) (subst (AllByRecursion Fits) (groups_are i) (fit_in i))
+            place (subst (λ count. place < count) (length_at c i) (none_past (chains_at c i) place chain e))
+            place (omega arith)
 
-  -- ---- type 1
+    -- at a place their TLID is the place, counted from 1
+    keyed : (i place : ℕ) → AllByRecursion (λ r. m.tlid r ≡ suc place) (made_at i place)
+    keyed i place = go (slice_get (chains_at c i) place)
+      where
+        go : (o : Option Chain) → AllByRecursion (λ r. m.tlid r ≡ suc place) (made_if i place o)
+        go None = tt
+        go (Some chain) = all_map (λ r. m.tlid r ≡ suc place) (λ (e : ℕ × Y). m.make (new_in c i) (suc place) e.0 e.1)
+            (numbered_from 1 (m.pieces chain))
+            (all_everywhere (λ (e : ℕ × Y). m.tlid (m.make (new_in c i) (suc place) e.0 e.1) ≡ suc place)
+            (λ e. m.has_tlid (new_in c i) (suc place) e.0 e.1) (numbered_from 1 (m.pieces chain)))
 
-  ones_there : (i place : ℕ) → slice_get (ones_of (of_choice i)) place
-      ≡ option_map (λ (e : ℕ × Chain). One (packed_one e)) (slice_get (of_choice i).chains place)
-  ones_there i place =
-      ap (λ rs. slice_get rs place) (ones (of_choice i) ∙ map-map One packed_one (of_choice i).chains)
-      ∙ slice_get-map (λ (e : ℕ × Chain). One (packed_one e)) (of_choice i).chains place
+    -- a fixed place has as many in all choices
+    lengths : (n k place : ℕ) → is_open c.shapes.places place ≡ false → length (made_at n place) ≡ length (made_at k place)
+    lengths n k place fixed =
+        go (slice_get (chains_at c n) place) ∙ ap (λ o. length (made_if k place o)) (same_at c n k place fixed)
+      where
+        go : (o : Option Chain) → length (made_if n place o) ≡ length (made_if k place o)
+        go None = refl
+        go (Some chain) = length-map (numbered_from 1 (m.pieces chain)) (λ (e : ℕ × Y). m.make (new_in c n) (suc place) e.0 e.1)
+            ∙ sym (length-map (numbered_from 1 (m.pieces chain)) (λ (e : ℕ × Y). m.make (new_in c k) (suc place) e.0 e.1))
 
-  -- each place has one
-  many_ones : (i : ℕ) → length (ones_of (of_choice i)) ≡ length shapes.by_shape
-  many_ones i =
-      ap length (ones (of_choice i)) ∙ length-map (map packed_one (of_choice i).chains) One ∙ length-map (of_choice i).chains packed_one
-      ∙ ap length (chains_numbered county shapes known is within i)
-      ∙ length-map (numbered_from 1 (chains_at i)) (kept_entry (new_of county shapes known is within i))
-      ∙ counted 1 (chains_at i) ∙ length_chains county shapes known is within i
-    where
-      counted : (n : ℕ) (cs : List Chain) → length (numbered_from n cs) ≡ length cs
-      counted n [] = refl
-      counted n (c ∷ cs) = let ih = counted (suc n) cs in omega (arith, ih)
+    -- two choices have as many in all
+    as_many_in : (n k : ℕ) → length (groups_from (made_at n) 0 (length c.shapes.by_shape)) ≡ length (groups_from (made_at k) 0 (length c.shapes.by_shape))
+    as_many_in n k = sym (ap length (groups_are n)) ∙ m.as_many (choice c n) (choice c k) (one_map c n k)
+        ∙ ap length (groups_are k)
 
-  -- the records of the small county
-  small_ones : (i : ℕ) → ones_of (of_small i)
-      ≡ map (λ (e : ℕ × Chain). One (packed_one e)) (numbered_from 1 (chains_in small order small_known small_is small_within i))
-  small_ones i =
-      let r = new_of small order small_known small_is small_within i in
-      let es = numbered_from 1 (chains_in small order small_known small_is small_within i) in
-      ones (of_small i) ∙ map-map One packed_one (of_small i).chains
-      ∙ ap (map (λ (e : ℕ × Chain). One (packed_one e))) (chains_numbered small order small_known small_is small_within i)
-      ∙ map-map (λ (e : ℕ × Chain). One (packed_one e)) (kept_entry r) es
+  -- Two choices of a county and of its small county.
+  module _ {whole small : OrderedCounty} {is_in : ℕ → Bool} (part : IsKeptPart whole small is_in) (n k : ℕ) where
+    -- records at kept places before this one tie
+    abbrev pub AreTiedBefore : ℕ → Type 0
+    AreTiedBefore place = (q : ℕ) → q < place → is_in q ≡ true → slice_cmp by_tlid (made_at whole n q) (made_at whole k q) ≡ Equal
 
-  -- the record at a place, by the chain there
-  one_there : (i place : ℕ) → slice_get (ones_of (of_choice i)) place ≡ option_map (λ c. One (packed_one (1 + place, c))) (slice_get (chains_at i) place)
-  one_there i place =
-      let r = new_of county shapes known is within i in
-      ones_there i place
-      ∙ ap (λ es. option_map (λ (e : ℕ × Chain). One (packed_one e)) (slice_get es place)) (chains_numbered county shapes known is within i)
-      ∙ ap (option_map (λ (e : ℕ × Chain). One (packed_one e)))
-      (slice_get-map (kept_entry r) (numbered_from 1 (chains_at i)) place ∙ ap (option_map (kept_entry r)) (numbered_at 1 (chains_at i) place))
-      ∙ twice r (slice_get (chains_at i) place)
-    where
-      twice : (r : Renumbering) (o : Option Chain)
-          → option_map (λ (e : ℕ × Chain). One (packed_one e)) (option_map (kept_entry r) (option_map (λ c. (1 + place, c)) o))
-          ≡ option_map (λ c. One (packed_one (1 + place, c))) o
-      twice r None = refl
-      twice r (Some c) = refl
+    abbrev IsPart : ℕ → Kept Chain Y → Type 0
+    IsPart i v = IsKept m.pieces (chains_at whole i) (places_in whole is_in) v
 
-  -- a fixed place has one record
-  tie_there : (n m place : ℕ) → is_open shapes.places place ≡ false
-      → option_cmp spelling_cmp (slice_get (ones_of (of_choice n)) place) (slice_get (ones_of (of_choice m)) place) ≡ Equal
-  tie_there n m place is_fixed =
-      ap (option_cmp spelling_cmp (slice_get (ones_of (of_choice n)) place))
-      (one_there m place
-      ∙ ap (option_map (λ c. One (packed_one (1 + place, c)))) (same_chain county shapes known is within m n place is_fixed)
-      ∙ sym (one_there n place))
-      ∙ sym (same_one (slice_get (ones_of (of_choice n)) place))
+    abbrev parts : ℕ → List (Kept Chain Y)
+    parts i = kept_parts m.pieces (chains_at whole i) 0 (places_in whole is_in)
 
-  -- two records of type 1
-  one_pair : (n m : ℕ) (v w : Kept Chain Chain) → slice_get kept v.rank ≡ Some v.place → slice_get kept w.rank ≡ Some w.place
-      → FitsRecord (One (packed_one (suc v.place, v.piece))) → FitsRecord (One (packed_one (suc w.place, w.piece)))
-      → FitsRecord (One (packed_one (suc v.rank, v.piece))) → FitsRecord (One (packed_one (suc w.rank, w.piece)))
-      → spelling_cmp (One (packed_one (suc v.place, v.piece))) (One (packed_one (suc w.place, w.piece)))
-      ≡ spelling_cmp (One (packed_one (suc v.rank, v.piece))) (One (packed_one (suc w.rank, w.piece)))
-  one_pair n m v w v_ranked w_ranked f g h k =
-      let one : Fields1 = packed_one (suc v.place, v.piece) in
-      let other : Fields1 = packed_one (suc w.place, w.piece) in
-      let small_one : Fields1 = packed_one (suc v.rank, v.piece) in
-      let small_other : Fields1 = packed_one (suc w.rank, w.piece) in
-      let fit_one = rows_fit Type1 one f in
-      let fit_other = rows_fit Type1 other g in
-      let fit_small = rows_fit Type1 small_one h in
-      let fit_small_other = rows_fit Type1 small_other k in
-      columns_decide Type1 one other
-      ∙ first_column_alike (row 6 15 Number (λ (r : Fields1). r.tlid)) (drop 1 table_1) one other small_one small_other
-      fit_one fit_other fit_small fit_small_other
-      (numbers_alike 10 (suc v.place) (suc w.place) (suc v.rank) (suc w.rank) fit_one.0.1 fit_other.0.1 fit_small.0.1 fit_small_other.0.1
-      (kept_order is_in (length shapes.by_shape) v.rank w.rank v.place w.place v_ranked w_ranked))
-      (λ tie. refl)
-      ∙ sym (columns_decide Type1 small_one small_other)
+    -- the record of a part in the county and in the small county
+    abbrev in_whole : ℕ → Kept Chain Y → FieldsOf t
+    in_whole i = at_place m.pieces (chains_at whole i) (m.make (new_in whole i))
 
-  -- So the records of type 1 are in one order in both counties.
-  pub ones_small : (n m : ℕ) → groups_cmp One (type_1_by_chain (of_choice n)) (type_1_by_chain (of_choice m))
-      ≡ groups_cmp One (type_1_by_chain (of_small n)) (type_1_by_chain (of_small m))
-  ones_small n m =
-      part_decides spelling_cmp is_in (ones_of (of_choice n)) (ones_of (of_choice m)) (many_ones n ∙ sym (many_ones m))
-      (λ place out before. tie_there n m place (fixed place out))
-      ∙ ap (λ places. slice_cmp spelling_cmp (at_places (ones_of (of_choice n)) places) (at_places (ones_of (of_choice m)) places))
-      (ap (λ count. filter is_in (range_with_len 0 count)) (many_ones n))
-      ∙ each_alike (λ i number c. One (packed_one (number, c))) (λ i number c. One (packed_one (number, c)))
-      (λ i. ones_of (of_choice i)) (λ i. ones_of (of_small i))
-      (λ i place c e. ones_there i place ∙ ap (option_map (λ (f : ℕ × Chain). One (packed_one f))) (entry_at county shapes known is within i place c e))
-      (λ i. (let whole = whole_numbered county shapes known is within i in ones_fit (of_choice i) whole.is_county whole.within_limits))
-      small_ones
-      (λ i. (let whole = whole_numbered small order small_known small_is small_within i in ones_fit (of_small i) whole.is_county whole.within_limits))
-      n m
-      (λ v w p q. one_pair n m v w p.0.ranked q.0.ranked p.1.0 q.1.0 p.1.1 q.1.1)
+    abbrev in_small : ℕ → Kept Chain Y → FieldsOf t
+    in_small i = at_rank m.pieces (chains_at whole i) (m.make (new_in small i))
 
-  -- ---- type 6
+    kept_there : (i : ℕ) → AllByRecursion (IsThere (chains_at whole i)) (places_in whole is_in)
+    kept_there i = all_are_there (chains_at whole i) is_in (length whole.shapes.by_shape)
+        (sym (length_at whole i))
 
-  abbrev six_of : ℕ → ℕ → ℕ → Ranges → Fields6
-  six_of i number part ranges = record { tlid = number; rtsq = part; ranges = ranges }
+    are_parts : (i : ℕ) → AllByRecursion (IsPart i) (parts i)
+    are_parts i = all_kept m.pieces (chains_at whole i) (places_in whole is_in) 0 (places_in whole is_in)
+        (λ j. ap (slice_get (places_in whole is_in)) (let s : j ≡ 0 + j = omega arith in s)) (kept_there i)
 
-  abbrev sixes_in : ℕ → ℕ → List Fields6
-  sixes_in i place = sixes_at county (chains_of county shapes known is within i) place
+    -- the county's records at kept places are made of parts, and so are the small county's
+    whole_parts : (i : ℕ) → those_from is_in (made_at whole i) 0 (length whole.shapes.by_shape) ≡ map (in_whole i) (parts i)
+    whole_parts i = sym (those_groups is_in (made_at whole i) 0 (length whole.shapes.by_shape))
+        ∙ place_groups m.pieces (chains_at whole i) (m.make (new_in whole i)) (made_at whole i)
+        (λ place chain e. ap (made_if whole i place) e) 0 (places_in whole is_in) (kept_there i)
 
-  -- the records of a chain are made of its ranges
-  sixes_there : (i place : ℕ) (c : Chain) → slice_get (chains_at i) place ≡ Some c
-      → sixes_in i place ≡ made (λ (x : Chain). x.ranges) (chains_at i) (six_of i) (suc place) c
-  sixes_there i place c e =
-      let at = directed_at county shapes known is within i place c e in
-      ap (λ o. sixes_of county (option_map (λ d. (place, d)) o)) at.there
-      ∙ ap (λ o. sixes_under (place + 1) (ranges_of o)) at.of_directed
-      ∙ ap (λ n. sixes_under n c.ranges) (let t : place + 1 ≡ suc place = omega arith in t)
+    small_parts : (i : ℕ) → records_in small i ≡ map (in_small i) (parts i)
+    small_parts i = records_are small i
+        ∙ ap (λ cs. grouped (map (λ (e : ℕ × Chain). made_in small i e.0 e.1) (numbered_from 1 cs))) (part.chains i)
+        ∙ rank_groups m.pieces (chains_at whole i) (m.make (new_in small i)) 0 (places_in whole is_in) (kept_there i)
 
-  -- they fit
-  sixes_fit_there : (i place : ℕ) → IsThere (chains_at i) place → AllByRecursion (λ r. FitsRecord (Six r)) (sixes_in i place)
-  sixes_fit_there i place there =
-      let chosen = chains_of county shapes known is within i in
-      let whole = whole_numbered county shapes known is within i in
-      all_there (λ r. FitsRecord (Six r)) (sixes_in i) 0 (length chosen)
-      (subst (AllByRecursion (λ r. FitsRecord (Six r))) (whole_groups county is chosen whole) (sixes_fit (of_choice i) whole.is_county whole.within_limits))
-      place
-      (let past = none_past (chains_at i) place there.0 there.1 in let one = length_chains county shapes known is within i in
-      let two = length_numbered county shapes known is within i in omega (arith, past, one, two))
-      place (omega arith)
+    -- the columns of two records at kept places compare alike, the first ones one by one
+    abbrev pub AreAlike : ℕ → Type 0
+    AreAlike count = (v w : Kept Chain Y) → IsPart n v → IsPart k w → nat_cmp (suc v.place) (suc w.place) ≡ nat_cmp (suc v.rank) (suc w.rank)
+        → v.place ≡ w.place → AreColumnsAlike count (table_of t) (in_whole n v) (in_whole k w) (in_small n v) (in_small k w)
 
-  -- the records of the small county are made of its ranges, too
-  small_sixes : (i : ℕ) → grouped (type_6_by_chain (of_small i))
-      ≡ grouped (map (λ (e : ℕ × Chain). made (λ (x : Chain). x.ranges) (chains_at i) (six_of i) e.0 e.1)
-      (numbered_from 1 (chains_in small order small_known small_is small_within i)))
-  small_sixes i =
-      let r = new_of small order small_known small_is small_within i in
-      ap (λ es. grouped (map packed_sixes es)) (chains_numbered small order small_known small_is small_within i)
-      ∙ ap grouped (map-map packed_sixes (kept_entry r) (numbered_from 1 (chains_in small order small_known small_is small_within i)))
+    -- If they do, and a chain at each other place has the same records in both choices where all before tie,
+    module _ (same_there : (place : ℕ) (chain : Chain) → is_in place ≡ false → AreTiedBefore place
+        → slice_get (chains_at whole n) place ≡ Some chain → made_in whole n (suc place) chain ≡ made_in whole k (suc place) chain)
+        (count : ℕ) (alike : AreAlike count) where
+      same_records : (place : ℕ) → is_in place ≡ false → AreTiedBefore place → made_at whole n place ≡ made_at whole k place
+      same_records place out before = go (slice_get (chains_at whole n) place) refl
+          ∙ ap (made_if whole k place) (same_at whole n k place (part.fixed place out))
+        where
+          go : (o : Option Chain) → slice_get (chains_at whole n) place ≡ o → made_if whole n place o ≡ made_if whole k place o
+          go None e = refl
+          go (Some chain) e = same_there place chain out before e
 
-  -- two records of type 6
-  six_pair : (v w : Kept Chain Ranges) → slice_get kept v.rank ≡ Some v.place → slice_get kept w.rank ≡ Some w.place
-      → FitsRecord (Six (six_of 0 (suc v.place) v.part v.piece)) → FitsRecord (Six (six_of 0 (suc w.place) w.part w.piece))
-      → FitsRecord (Six (six_of 0 (suc v.rank) v.part v.piece)) → FitsRecord (Six (six_of 0 (suc w.rank) w.part w.piece))
-      → spelling_cmp (Six (six_of 0 (suc v.place) v.part v.piece)) (Six (six_of 0 (suc w.place) w.part w.piece))
-      ≡ spelling_cmp (Six (six_of 0 (suc v.rank) v.part v.piece)) (Six (six_of 0 (suc w.rank) w.part w.piece))
-  six_pair v w v_ranked w_ranked f g h k =
-      let one : Fields6 = six_of 0 (suc v.place) v.part v.piece in
-      let other : Fields6 = six_of 0 (suc w.place) w.part w.piece in
-      let small_one : Fields6 = six_of 0 (suc v.rank) v.part v.piece in
-      let small_other : Fields6 = six_of 0 (suc w.rank) w.part w.piece in
-      let fit_one = rows_fit Type6 one f in
-      let fit_other = rows_fit Type6 other g in
-      let fit_small = rows_fit Type6 small_one h in
-      let fit_small_other = rows_fit Type6 small_other k in
-      columns_decide Type6 one other
-      ∙ first_column_alike (row 6 15 Number (λ (r : Fields6). r.tlid)) (drop 1 table_6) one other small_one small_other
-      fit_one fit_other fit_small fit_small_other
-      (numbers_alike 10 (suc v.place) (suc w.place) (suc v.rank) (suc w.rank) fit_one.0.1 fit_other.0.1 fit_small.0.1 fit_small_other.0.1
-      (kept_order is_in (length shapes.by_shape) v.rank w.rank v.place w.place v_ranked w_ranked))
-      (λ tie. refl)
-      ∙ sym (columns_decide Type6 small_one small_other)
+      parts_decide : slice_cmp by_tlid (records_in whole n) (records_in whole k)
+          ≡ slice_cmp by_tlid (map (in_whole n) (parts n)) (map (in_whole k) (parts k))
+      parts_decide =
+          ap₂ (slice_cmp by_tlid) (groups_are whole n) (groups_are whole k)
+          ∙ those_decide by_tlid m.tlid (suc (length whole.shapes.by_shape)) (λ r s f g. tlids_decide r s) is_in (made_at whole n) (made_at whole k)
+          (keyed whole n) (keyed whole k)
+          (λ place out before. subst (λ rs. slice_cmp by_tlid (made_at whole n place) rs ≡ Equal) (same_records place out before)
+          (tied (made_at whole n place) (fit_at whole n place)))
+          (λ place out. lengths whole n k place (part.fixed place out)) (length whole.shapes.by_shape) (omega arith) (as_many_in whole n k)
+          ∙ ap₂ (slice_cmp by_tlid) (whole_parts n) (whole_parts k)
 
-  -- So the records of type 6 are in one order in both counties.
-  pub sixes_small : (n m : ℕ) → groups_cmp Six (type_6_by_chain (of_choice n)) (type_6_by_chain (of_choice m))
-      ≡ groups_cmp Six (type_6_by_chain (of_small n)) (type_6_by_chain (of_small m))
-  sixes_small n m =
-      let one = chains_of county shapes known is within n in
-      let other = chains_of county shapes known is within m in
-      ranges_at county is shapes.places one other (agree_of_both county shapes known is within n m) (one_map county shapes known is within n m) is_in fixed
-      ∙ ap (λ count. groups_cmp Six (map (sixes_in n) (filter is_in (range_with_len 0 count))) (map (sixes_in m) (filter is_in (range_with_len 0 count))))
-      (length_numbered county shapes known is within n)
-      ∙ cmp_mapped Six spelling_cmp (grouped (map (sixes_in n) kept)) (grouped (map (sixes_in m) kept))
-      ∙ kept_alike (on Six spelling_cmp) (λ r. FitsRecord (Six r)) (λ (x : Chain). x.ranges) six_of six_of sixes_in sixes_there sixes_fit_there
-      (λ i. grouped (type_6_by_chain (of_small i))) small_sixes
-      (λ i. (let whole = whole_numbered small order small_known small_is small_within i in sixes_fit (of_small i) whole.is_county whole.within_limits))
-      n m
-      (λ v w p q. six_pair v w p.0.ranked q.0.ranked p.1.0 q.1.0 p.1.1 q.1.1)
-      ∙ sym (cmp_mapped Six spelling_cmp (grouped (type_6_by_chain (of_small n))) (grouped (type_6_by_chain (of_small m))))
+      -- then two parts compare alike,
+      pair_alike : (v w : Kept Chain Y) → IsPart n v → IsPart k w → by_tlid (in_whole n v) (in_whole k w) ≡ by_tlid (in_small n v) (in_small k w)
+      pair_alike v w p q =
+          let order = kept_order is_in (length whole.shapes.by_shape) v.rank w.rank v.place w.place p.ranked q.ranked in
+          let tlid = m.has_tlid (new_in whole n) (suc v.place) v.part v.piece in
+          let tlid_too = m.has_tlid (new_in whole k) (suc w.place) w.part w.piece in
+          then_same (nat_cmp (m.tlid (in_whole n v)) (m.tlid (in_whole k w))) (fields_cmp t (in_whole n v) (in_whole k w))
+          (fields_cmp t (in_small n v) (in_small k w))
+          (λ tie. columns_alike count (table_of t) (in_whole n v) (in_whole k w) (in_small n v) (in_small k w)
+          (alike v w p q order (let same : suc v.place ≡ suc w.place =
+          sym tlid ∙ exact_unsigned (m.tlid (in_whole n v)) (m.tlid (in_whole k w)) tie ∙ tlid_too in omega (arith, same))))
+          ∙ ap (λ o. ordering_then o (fields_cmp t (in_small n v) (in_small k w))) (ap₂ nat_cmp tlid tlid_too ∙ order
+          ∙ sym (ap₂ nat_cmp (m.has_tlid (new_in small n) (suc v.rank) v.part v.piece) (m.has_tlid (new_in small k) (suc w.rank) w.part w.piece)))
+
+      -- and so do all records, if the order of columns is that of TLIDs first.
+      pub records_small : ((c : OrderedCounty)
+          → slice_cmp (fields_cmp t) (records_in c n) (records_in c k) ≡ slice_cmp by_tlid (records_in c n) (records_in c k))
+          → groups_cmp (record_of t) (map m.pack (choice whole n).chains) (map m.pack (choice whole k).chains)
+          ≡ groups_cmp (record_of t) (map m.pack (choice small n).chains) (map m.pack (choice small k).chains)
+      records_small tlids_first =
+          choices_decide t (λ county. map m.pack county.chains) m.fit whole n k ∙ tlids_first whole
+          ∙ parts_decide
+          ∙ lists_alike by_tlid (in_whole n) (in_small n) (in_whole k) (in_small k) (IsPart n) (IsPart k) pair_alike (parts n) (parts k)
+          (are_parts n) (are_parts k)
+          ∙ sym (choices_decide t (λ county. map m.pack county.chains) m.fit small n k ∙ tlids_first small
+          ∙ ap₂ (slice_cmp by_tlid) (small_parts n) (small_parts k))
+
+-- a TLID in the first column decides before the other columns anyway
+pub first_twice : (o p : Ordering) → ordering_then o p ≡ ordering_then o (ordering_then o p)
+first_twice Less p = refl
+first_twice Equal p = refl
+first_twice Greater p = refl
+
+pub tlid_first : {t : RecordType} {Y : Type 0} (m : Making t Y) → ((r s : FieldsOf t) → fields_cmp t r s ≡ by_tlid m r s) → (n k : ℕ) (c : OrderedCounty)
+    → slice_cmp (fields_cmp t) (records_in m c n) (records_in m c k) ≡ slice_cmp (by_tlid m) (records_in m c n) (records_in m c k)
+tlid_first m same n k c = λ i. slice_cmp (λ r s. same r s i) (records_in m c n) (records_in m c k)
+
+-- images of two lists that compare alike in pairs compare alike
+pub images_in_order : {V X : Type 0} (cmp : X → X → Ordering) (f h g k : V → X) (xs ys : List V)
+    → ((x y : V) → Among x xs → Among y ys → cmp (f x) (g y) ≡ cmp (h x) (k y))
+    → slice_cmp cmp (map f xs) (map g ys) ≡ slice_cmp cmp (map h xs) (map k ys)
+images_in_order cmp f h g k xs ys alike =
+    lists_alike cmp f h g k (λ x. Among x xs) (λ y. Among y ys) alike xs ys (all_themselves xs) (all_themselves ys)
+
+-- ---- types 1 and 6
+
+-- records of a county within its limits fit
+three_fit : (xs ys zs : List Record) → AllByRecursion FitsRecord (xs ++ (ys ++ zs))
+    → AllByRecursion FitsRecord xs × (AllByRecursion FitsRecord ys × AllByRecursion FitsRecord zs)
+three_fit xs ys zs all =
+    let later = all_right FitsRecord xs (ys ++ zs) all in
+    (all_left FitsRecord xs (ys ++ zs) all, (all_left FitsRecord ys zs later, all_right FitsRecord ys zs later))
+
+module _ (county : County) (is : IsCounty county) (within : IsWithinLimits most_records county) where
+  all_fit : AllByRecursion FitsRecord (types_1_to_4 county)
+      × (AllByRecursion FitsRecord (types_5_to_7 county) × AllByRecursion FitsRecord (types_8_to_p county))
+  all_fit = three_fit (types_1_to_4 county) (types_5_to_7 county) (types_8_to_p county)
+      (subst (AllByRecursion FitsRecord) (sym (all_groups county)) (packed-fits county is.whole within.contents within.numbers within.lists))
+
+  ones_fit : AllByRecursion (λ r. FitsRecord (One r)) (grouped (type_1_by_chain county))
+  ones_fit = all_unmap FitsRecord One (grouped (type_1_by_chain county)) (three_fit (map One (grouped (type_1_by_chain county)))
+      (map Two (grouped (type_2_by_chain county))) (map Four (grouped (type_4_by_chain county))) all_fit.0).0
+
+  sixes_fit : AllByRecursion (λ r. FitsRecord (Six r)) (grouped (type_6_by_chain county))
+  sixes_fit = all_unmap FitsRecord Six (grouped (type_6_by_chain county)) (three_fit (map Five (grouped (type_5_by_name county)))
+      (map Six (grouped (type_6_by_chain county))) (map Seven (grouped (type_7_by_landmark county))) all_fit.1.0).1.0
+
+  pub eights_fit : AllByRecursion (λ r. FitsRecord (Eight r)) (grouped (type_8_together county))
+  eights_fit = all_unmap FitsRecord Eight (grouped (type_8_together county)) (three_fit (map Eight (grouped (type_8_together county)))
+      (map I (grouped (type_i_by_chain county))) (map P (grouped (type_p_by_number county))) all_fit.1.1).0
+
+abbrev ones : Making Type1 Chain
+ones = record {
+  pieces = λ c. c ∷ [];
+  make = λ r n part c. packed_one (n, c);
+  pack = λ entry. packed_one entry ∷ [];
+  packs = λ r n c. refl;
+  tlid = λ r. r.tlid;
+  has_tlid = λ r n part c. refl;
+  fit = ones_fit;
+  as_many = λ a b same. ap length (grouped_lone packed_one a.chains) ∙ (carried_many same.by a b same.carries).of_type_1
+      ∙ sym (ap length (grouped_lone packed_one b.chains));
+}
+
+abbrev sixes : Making Type6 Ranges
+sixes = record {
+  pieces = λ c. c.ranges;
+  make = λ r n part ranges. record { tlid = n; rtsq = part; ranges = ranges };
+  pack = packed_sixes;
+  packs = λ r n c. refl;
+  tlid = λ r. r.tlid;
+  has_tlid = λ r n part ranges. refl;
+  fit = sixes_fit;
+  as_many = λ a b same. ap length (grouped_map packed_sixes a.chains) ∙ (carried_many same.by a b same.carries).of_type_6
+      ∙ sym (ap length (grouped_map packed_sixes b.chains));
+}
+
+module _ {whole small : OrderedCounty} {is_in : ℕ → Bool} (part : IsKeptPart whole small is_in) (n k : ℕ) where
+  -- The records of type 1 are in one order in both counties,
+  pub ones_small : groups_cmp One (type_1_by_chain (choice whole n)) (type_1_by_chain (choice whole k))
+      ≡ groups_cmp One (type_1_by_chain (choice small n)) (type_1_by_chain (choice small k))
+  ones_small = records_small ones part n k (λ place chain out before e. refl) 1 (λ v w p q order same. (order, λ tie. refl))
+      (tlid_first ones (λ r s. first_twice (nat_cmp r.tlid s.tlid) (rows_cmp (drop 1 table_1) r s)) n k)
+
+  -- and so are those of type 6.
+  pub sixes_small : groups_cmp Six (type_6_by_chain (choice whole n)) (type_6_by_chain (choice whole k))
+      ≡ groups_cmp Six (type_6_by_chain (choice small n)) (type_6_by_chain (choice small k))
+  sixes_small = records_small sixes part n k (λ place chain out before e. refl) 1 (λ v w p q order same. (order, λ tie. refl))
+      (tlid_first sixes (λ r s. first_twice (nat_cmp r.tlid s.tlid) (rows_cmp (drop 1 table_6) r s)) n k)

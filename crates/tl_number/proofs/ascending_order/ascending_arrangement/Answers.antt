@@ -1,5 +1,4 @@
-use Rattle.tl_number.proofs.Common.{◌≡◌, HasChainsOf, IfOk-weaker, arrangement_of, ascending}
-use Rattle.canonical_form.proofs.Choices.AscendingArrangement.{arrangement_ascend, arrangement_there}
+use Rattle.tl_number.proofs.Common.{HasChainsOf, IfOk-weaker, arrangement_ascend, arrangement_of, arrangement_there, ascending, ◌≡◌}
 use Rattle.tl_number.proofs.ascending_order.ascending_arrangement.Goals as goal
 
 pub returns-clause-arrangement : goal.returns-clause-arrangement

@@ -1,7 +1,5 @@
-use Rattle.tl_number.proofs.Common.{◌≡◌, ◌∙◌, Result, Ok, Err, IfOk, ap, sym, subst, Carries, County, IfOk-weaker, IsCanonCounty, IsLeastChoice}
-use Rattle.tl_number.proofs.Common.{arranged, arranged_county, renaming_of}
-use Rattle.std.specs.Prelude.{MatchResult}
-use Rattle.arranged_county.specs.Views.{arrangement_in, source_of}
+use Rattle.tl_number.proofs.Common.{Carries, County, Err, IfOk, IfOk-weaker, IsCanonCounty, IsLeastChoice, MatchResult, Ok, Result, ap}
+use Rattle.tl_number.proofs.Common.{arranged, arranged_county, arrangement_in, renaming_of, source_of, subst, sym, ◌∙◌, ◌≡◌}
 use Rattle.tl_number.proofs.canonising.canonise.Goals as goal
 
 -- what holds of a value holds of it beside any other

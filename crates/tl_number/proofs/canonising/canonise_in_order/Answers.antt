@@ -1,8 +1,6 @@
-use Rattle.tl_number.proofs.Common.{◌∙◌, sym, ap, subst, AreSame, Arrangement, Carries, County, IsCanonCounty, IsCounty, IsInProfile}
-use Rattle.tl_number.proofs.Common.{IsLeastChoice, arranged, arranged_by, arrangement_of, renaming_of}
-use Rattle.tl_number.proofs.Lemmas.{arrangement_carries}
+use Rattle.tl_number.proofs.Common.{AreSame, Carries, County, IsCounty, IsInProfile, arranged, arranged_by, renaming_of, subst, sym, ◌∙◌}
+use Rattle.tl_number.proofs.Common.{Arrangement, IsCanonCounty, IsLeastChoice, ap, arrangement_carries, arrangement_of, least_choice_county}
 use Rattle.canonical_form.proofs.CanonicalLists.Ascending.{few_in_profile, sides_in_profile}
-use Rattle.canonical_form.proofs.CanonicalLists.CanonLists.{least_choice_county}
 use Rattle.tl_number.proofs.canonising.canonise_in_order.Goals as goal
 
 -- the county of a choice of least text is canonical, and its renaming carries

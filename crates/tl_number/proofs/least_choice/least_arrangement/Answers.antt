@@ -1,7 +1,5 @@
-use Rattle.tl_number.proofs.Common.{◌∙◌, ap, sym, subst, IsLeastChoice, numbered_arrangement}
-use Rattle.tl_number.proofs.Lemmas.{arrangement_of_number, places_within}
-use Rattle.canonical_form.proofs.Choices.ChosenArrangements.{arrangement_of_number_there, arrangement_of_number_once}
-use Rattle.canonical_form.proofs.CanonicalLists.TidyLists.{least_of_all}
+use Rattle.tl_number.proofs.Common.{IsLeastChoice, ap, arrangement_of_number, arrangement_of_number_once, arrangement_of_number_there}
+use Rattle.tl_number.proofs.Common.{least_of_all, numbered_arrangement, places_within, subst, sym, ◌∙◌}
 use Rattle.tl_number.proofs.least_choice.least_arrangement.Goals as goal
 
 pub least_number-requires : goal.least_number-requires

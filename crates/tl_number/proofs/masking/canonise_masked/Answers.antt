@@ -1,5 +1,4 @@
-use Rattle.tl_number.proofs.Common.{subst, Carries, County, IfOk-weaker, arranged_county, masked}
-use Rattle.canonical_form.proofs.Masks.MaskedCounties.{masked_twice, carried_masked}
+use Rattle.tl_number.proofs.Common.{Carries, County, IfOk-weaker, arranged_county, carried_masked, masked, masked_twice, subst}
 use Rattle.tl_number.proofs.masking.canonise_masked.Goals as goal
 
 pub returns-clause-own : goal.returns-clause-own

@@ -1,6 +1,4 @@
-use Rattle.tl_number.proofs.Common.{sym, subst, County, IsInProfile}
-use Rattle.county_chart.specs.ShapeOrder.{IsShapeOrder}
-use Rattle.canonical_form.proofs.Masks.MaskedProfile.{masked_in_profile, masked_shape_order}
+use Rattle.tl_number.proofs.Common.{County, IsInProfile, IsShapeOrder, masked_in_profile, masked_shape_order, subst, sym}
 use Rattle.tl_number.proofs.masking.under_mask.Goals as goal
 
 pub known-requires-clause-profile : goal.known-requires-clause-profile

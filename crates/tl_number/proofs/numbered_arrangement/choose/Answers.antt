@@ -1,6 +1,4 @@
-use Rattle.tl_number.proofs.Common.{◌∷◌, [], length, sym, ap, ◌∙◌, subst, AreWithin, all_left, moved, other_way}
-use Rattle.canonical_form.specs.MovedChains.{IsWithin}
-use Rattle.canonical_form.proofs.Choices.MovedChoice.{moved-last}
+use Rattle.tl_number.proofs.Common.{AreWithin, IsWithin, [], all_left, ap, length, moved, moved-last, other_way, subst, sym, ◌∙◌, ◌∷◌}
 use Rattle.tl_number.proofs.numbered_arrangement.choose.Goals as goal
 
 pub loop-at-preserved : goal.loop-at-preserved

@@ -1,6 +1,4 @@
-use Rattle.tl_number.proofs.Common.{subst, AgreeApart}
-use Rattle.tl_number.proofs.Lemmas.{nothing_left}
-use Rattle.canonical_form.proofs.Choices.FixedPlaces.{agree_same}
+use Rattle.tl_number.proofs.Common.{AgreeApart, agree_same, nothing_left, subst}
 use Rattle.tl_number.proofs.numbered_arrangement.put_back.Goals as goal
 
 pub returns : goal.returns

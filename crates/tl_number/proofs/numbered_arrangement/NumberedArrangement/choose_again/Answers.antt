@@ -1,5 +1,4 @@
-use Rattle.tl_number.proofs.Common.{length, sym, ap, ◌∙◌, subst, AgreeApart, AreWithin, other_way, slice_get}
-use Rattle.canonical_form.proofs.Choices.FixedPlaces.{moved_apart, moved_count}
+use Rattle.tl_number.proofs.Common.{AgreeApart, AreWithin, ap, length, moved_apart, moved_count, other_way, slice_get, subst, sym, ◌∙◌}
 use Rattle.tl_number.proofs.numbered_arrangement.NumberedArrangement.choose_again.Goals as goal
 
 pub put_back-requires : goal.put_back-requires

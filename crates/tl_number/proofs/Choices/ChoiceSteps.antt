@@ -1,0 +1,58 @@
+-- The lesser of two choices, choice by choice.
+use Rattle.tl_number.proofs.Common.{AllKeysStandIn, Bool, County, Equal, Four, Greater, IfSome, IsCounty, IsLeastBelow, IsNotAfter}
+use Rattle.tl_number.proofs.Common.{IsWithinLimits, Less, None, Option, Ordering, Two, ap, arith, arrangement_within, choice_list}
+use Rattle.tl_number.proofs.Common.{choices_cmp, choices_same, chosen_county, cond, decided, false, false≢true, groups_cmp, is_gt, is_le}
+use Rattle.tl_number.proofs.Common.{lesser_choice, ltb-false, ltb-true, most_records, nat_lt, numbered_choice, numbered_is_choice, ones_cmp}
+use Rattle.tl_number.proofs.Common.{ordering_then, polygon_keys, polygons_along, refl, subst, texts_in_order, true, type_2_by_chain}
+use Rattle.tl_number.proofs.Common.{type_4_by_chain, types_5_to_7_cmp, types_8_to_p_cmp, ℕ, ◌+◌, ◌∙◌, ◌≡◌, ◌≤◌}
+use Rattle.tl_number.proofs.Choices.LeastNumbers.{lesser_of, not_after_both}
+use Rattle.canonical_form.proofs.Arrangements.ArrangedCounties.{arranged_county}
+
+pub not_greater_from : (o : Ordering) → is_le o ≡ true → is_gt o ≡ false
+not_greater_from Less e = refl
+not_greater_from Equal e = refl
+not_greater_from Greater e = absurd (false≢true e)
+
+-- What holds of two pairs holds of the pair of what is taken from both of them.
+pub of_each : {X Y : Type 0} (P : X → Y → Type 0) (b : Bool) (x y : X) (v w : Y) → P x v → P y w → P (cond b x y) (cond b v w)
+of_each P true x y v w p q = p
+of_each P false x y v w p q = q
+
+-- What is kept of the first of two, if it isn't forgotten, is kept of the one that is taken.
+pub forgotten : {V : Type 0} (P : ℕ → V → Type 0) (b : Bool) (n m : ℕ) (kept : Option V) → IfSome kept (P n)
+    → IfSome (cond b None kept) (P (cond b m n))
+forgotten P true n m kept p = tt
+forgotten P false n m kept p = p
+
+-- The lesser of the least choice below a number and the choice with that number is the least up to the number.
+pub lesser_least : (county : County) (old number : ℕ) → IsLeastBelow county number old
+    → IsLeastBelow county (number + 1) (lesser_choice county old number)
+lesser_least county old number below m l = go (nat_lt m number) refl
+  where
+    go : (b : Bool) → nat_lt m number ≡ b → IsNotAfter (choice_list county (lesser_choice county old number)) (choice_list county m)
+    go true e =
+        not_after_both county (lesser_choice county old number) old m (lesser_of county old number (choices_cmp county old number) refl).0
+        (below m (ltb-true m number e))
+    go false e =
+        let past : number ≤ m = ltb-false m number e in
+        let same : number ≡ m = omega (arith, l, past) in
+        subst (λ k. IsNotAfter (choice_list county (lesser_choice county old number)) (choice_list county k)) same
+        (lesser_of county old number (choices_cmp county old number) refl).1
+
+module _ (county : County) (is : IsCounty county) (within : IsWithinLimits most_records county)
+    (sides : AllKeysStandIn (polygons_along county.chains) (polygon_keys county)) where
+  -- If the records of type 1 of two choices differ, they decide between the texts.
+  pub ones_decide : (n m : ℕ) → (ones_cmp county n m ≡ Equal → ⊥) → choices_cmp county n m ≡ ones_cmp county n m
+  ones_decide n m differ =
+      let a = numbered_is_choice county is n in
+      let b = numbered_is_choice county is m in
+      let one = chosen_county county n in
+      let other = chosen_county county m in
+      let others = ordering_then (groups_cmp Two (type_2_by_chain one) (type_2_by_chain other)) (groups_cmp Four (type_4_by_chain one) (type_4_by_chain other)) in
+      let rest = ordering_then (types_5_to_7_cmp one other) (types_8_to_p_cmp one other) in
+      texts_in_order one other
+      (arranged_county county (numbered_choice county n) is a.arranges sides) (arranged_county county (numbered_choice county m) is b.arranges sides)
+      (arrangement_within most_records (omega arith) county is (numbered_choice county n) a.arranges sides within)
+      (arrangement_within most_records (omega arith) county is (numbered_choice county m) b.arranges sides within)
+      (choices_same county is sides n m)
+      ∙ ap (λ o. ordering_then o rest) (decided (ones_cmp county n m) others differ) ∙ decided (ones_cmp county n m) rest differ

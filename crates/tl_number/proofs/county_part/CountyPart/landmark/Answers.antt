@@ -1,0 +1,15 @@
+use Rattle.tl_number.proofs.Common.{◌∙◌, ap, cond}
+use Rattle.tl_number.proofs.Ties.PartTables.{bodies_read, land_read, links_read}
+use Rattle.tl_number.proofs.county_part.CountyPart.landmark.Goals as goal
+
+pub returns-clause-land : goal.returns-clause-land
+returns-clause-land g c = land_read (g.C.Chart.county c.args.self.now.chart.now) c.args.self.now.tables.now c.args.place c.if_linked.result
+    (c.if_linked.ensures ∙ ap (cond c.args.self.now.tables.now.kept.linked c.args.place) c.landmark_count.ensures)
+
+pub returns-clause-bodies : goal.returns-clause-bodies
+returns-clause-bodies g c = bodies_read (g.C.Chart.county c.args.self.now.chart.now) c.args.self.now.tables.now c.args.place c.if_linked.result
+    (c.if_linked.ensures ∙ ap (cond c.args.self.now.tables.now.kept.linked c.args.place) c.landmark_count.ensures)
+
+pub returns-clause-links : goal.returns-clause-links
+returns-clause-links g c = links_read (g.C.Chart.county c.args.self.now.chart.now) c.args.self.now.tables.now c.args.place c.if_linked.result
+    (c.if_linked.ensures ∙ ap (cond c.args.self.now.tables.now.kept.linked c.args.place) c.landmark_count.ensures)

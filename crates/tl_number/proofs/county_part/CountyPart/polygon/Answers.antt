@@ -1,0 +1,7 @@
+use Rattle.tl_number.proofs.Common.{◌∙◌, get_or}
+use Rattle.tl_number.proofs.Ties.PartTables.{value_there}
+use Rattle.tl_number.proofs.county_part.CountyPart.polygon.Goals as goal
+
+pub returns : goal.returns
+returns g c = value_there _ _ _ c.args.self.now.polygons c.args.place c.place_there.result
+    (c.place_there.ensures ∙ (λ i. get_or (c.deref.ensures.value i) c.args.place (c.polygon_count.ensures i)))

@@ -1,8 +1,0 @@
--- the open keys seen so far, and then those of the remaining keys, are all
-use Rattle.tl_number.proofs.Common.{◌≡◌, drop, filter, first_seen_after, stands_in}
-use Rattle.tl_number.proofs.open_keys.see_opened.Given as goal
-
-abbrev pub invariant-loop-key : goal.invariant-loop-key
-invariant-loop-key g l =
-    first_seen_after g.K.Ord.cmp l.order (filter (λ key. stands_in g.K.Ord.cmp key l.opened) (drop l.key-index l.keys))
-    ≡ first_seen_after g.K.Ord.cmp l.initial.order (filter (λ key. stands_in g.K.Ord.cmp key l.opened) l.keys)

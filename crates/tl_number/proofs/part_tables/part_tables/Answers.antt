@@ -1,0 +1,24 @@
+use Rattle.tl_number.proofs.Common.{IsPicked, ap, chain_feats, chain_nodes, chain_polygons, distinct, false, feats, first_seen, grouped}
+use Rattle.tl_number.proofs.Common.{key_cmp, keys_along, map, nat_cmp, places_fit, polygon_keys, subst, tlids, ◌∙◌}
+use Rattle.tl_number.proofs.Ties.PartTables.{tables_hold}
+use Rattle.tl_number.proofs.part_tables.part_tables.Goals as goal
+
+pub names_and_polygons-requires-clause-names : goal.names_and_polygons-requires-clause-names
+names_and_polygons-requires-clause-names g c =
+    (places_fit (g.C.Chart.county c.args.chart.now) (g.met.C.Chart.is_county c.args.chart.now) (g.met.C.Chart.within_limits c.args.chart.now) c.requires).names
+
+pub names_and_polygons-requires-clause-polygons : goal.names_and_polygons-requires-clause-polygons
+names_and_polygons-requires-clause-polygons g c =
+    (places_fit (g.C.Chart.county c.args.chart.now) (g.met.C.Chart.is_county c.args.chart.now) (g.met.C.Chart.within_limits c.args.chart.now) c.requires).polygons
+
+pub returns-clause-holds : goal.returns-clause-holds
+returns-clause-holds g c =
+    let county = g.C.Chart.county c.args.chart.now in
+    tables_hold county _ c.in_ok-there.there.items
+    (subst (λ ts. IsPicked nat_cmp (first_seen nat_cmp ts) (tlids county) c.in_ok-chains.chains) c.deref.ensures.value c.in_ok-chains.ensures)
+    (c.in_ok-there.ensures ∙ ap (map (λ place. record { place = place; turned = false })) c.deref-2.ensures.value)
+    (c.in_ok-nodes.ensures ∙ ap (λ chains. distinct nat_cmp (first_seen nat_cmp (grouped (keys_along chain_nodes county chains)))) c.deref-3.ensures.value)
+    (subst (λ chains. IsPicked nat_cmp (first_seen nat_cmp (grouped (keys_along chain_feats county chains))) (feats county) c.in_ok-names.names)
+    c.deref-4.ensures.value c.in_ok-names.ensures.names)
+    (subst (λ chains. IsPicked key_cmp (first_seen key_cmp (grouped (keys_along chain_polygons county chains))) (polygon_keys county) c.in_ok-names.polygons)
+    c.deref-4.ensures.value c.in_ok-names.ensures.polygons)

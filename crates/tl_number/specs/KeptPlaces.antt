@@ -1,0 +1,31 @@
+-- Searching the chains by which the choices of a county are compared, place by place.
+use Rattle.std.specs.Prelude.{List, flat_map, length, map, ℕ, ◌≡◌}
+use Rattle.std.specs.{List.range_with_len, Ordering.nat_cmp, declared.cmp.Ordering.Ordering}
+use Rattle.ordered_lists.specs.Orders.{stands_in}
+use Rattle.county_chart.specs.{ChartWords.links_at, County.link_key, CountyRules.chain_nodes, PolygonKeys.PolygonKey, PolygonKeys.key_cmp}
+use Rattle.county_chart.specs.{County.County, CountyRules.chain_polygons, ShapeOrder.OrderOfShapes, declared.open_place.OpenPlace.OpenPlace}
+use Rattle.tl_number.specs.SmallCounty.{wanted_feats, wanted_nodes, wanted_polygons}
+use Rattle.tl_number.specs.{CriticalKeys.met_before, OpenKeys.keys_along, OpenNames.chain_feats, declared.kept_places.Searches.Searches}
+
+-- the polygons of the landmark at a place
+abbrev pub link_keys_at : County → ℕ → List PolygonKey
+link_keys_at county place = map link_key (links_at county place)
+
+-- the polygons of landmarks, landmark by landmark
+abbrev pub link_keys : County → List PolygonKey
+link_keys county = flat_map (link_keys_at county) (range_with_len 0 (length county.landmarks))
+
+-- a search for these keys that is at a place: it has them in any order, and met those of them that fixed places before have
+pub record IsSearchAt {K : Type 0} (cmp : K → K → Ordering) (places : List OpenPlace) (keys : List K) (along : List (List K)) (place : ℕ)
+    (wanted met : List K) : Type 0 where
+  pub same : (key : K) → stands_in cmp key wanted ≡ stands_in cmp key keys
+  pub before : met ≡ met_before cmp places wanted along place
+
+-- the searches for nodes, polygons and names whose numbers can differ between choices
+pub record AreSearched (county : County) (shapes : OrderOfShapes) (place : ℕ) (searches : Searches) : Type 0 where
+  pub nodes : IsSearchAt nat_cmp shapes.places (wanted_nodes county shapes) (keys_along chain_nodes county shapes.by_shape) place
+      searches.nodes.wanted searches.nodes.met
+  pub polygons : IsSearchAt key_cmp shapes.places (wanted_polygons county shapes) (keys_along chain_polygons county shapes.by_shape) place
+      searches.polygons.wanted searches.polygons.met
+  pub names : IsSearchAt nat_cmp shapes.places (wanted_feats county shapes) (keys_along chain_feats county shapes.by_shape) place
+      searches.names.wanted searches.names.met

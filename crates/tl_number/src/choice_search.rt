@@ -1,0 +1,218 @@
+//! Searching the choice of a county with the least text.
+//!
+//! Records of type 1 come first in a text, and a choice alone determines them. So choices that differ in these aren't arranged. Of two
+//! choices with the same records of type 1 both are arranged, and compared by the records of the other types. The lesser one stays
+//! arranged for the next comparison.
+
+ghost use Rattle.std.specs.Prelude.{IfOk, IfSome, None, OnOk, Some, cond, ◌≡◌};
+ghost use Rattle.std.specs.{Ordering.is_gt, declared.cmp.Ordering.TheVariants.Equal};
+ghost use Rattle.tl_number.specs.ChoiceSearch.{IsChosen, LeavesChoices, chosen_county, lesser_choice};
+ghost use Rattle.canonical_form.specs.LeastNumber.{IsLeastBelow, choices_cmp};
+ghost use Rattle.record_groups.specs.TypeOneOrder.{ones_cmp};
+ghost use Rattle.arranged_county.specs.Views.{arranged_county, classed_county};
+ghost use Rattle.county_chart.specs.Choices.{choices};
+
+use crate::arranged_order::compare_arranged;
+use crate::county_part::Shared;
+use crate::numbered_arrangement::NumberedArrangement;
+use arranged_county::{Arranged, Classes, arrange_in_classes};
+use county_chart::Chart;
+use record_groups::compare_ones;
+use std::alloc::{AllocError, Global};
+use std::cmp::Ordering;
+use std::mem::swap;
+use tl_profile::ShapeOrder;
+
+/// Compares two choices by their records of type 1.
+fn compare_by_type_1<C: Chart>(
+    classes: &Classes<'_, C>,
+    order: &ShapeOrder,
+    one: &NumberedArrangement,
+    other: &NumberedArrangement,
+) -> Ordering
+    requires known { LeavesChoices (classed_county classes.now) order.now }
+    requires one { IsChosen order.now one.now }
+    requires other { IsChosen order.now other.now }
+    ensures { result ≡ ones_cmp (classed_county classes.now) one.now.number other.now.number }
+{
+    compare_ones(
+        classes.chart(),
+        order.open_places(),
+        &one.chains,
+        &other.chains,
+    )
+}
+
+/// Arranges the choice with this number.
+fn arrange_choice<'a, C: Shared>(
+    alloc: Global,
+    classes: &Classes<'a, C>,
+    order: &ShapeOrder,
+    number: u64,
+) -> Result<Arranged<C>, AllocError>
+    requires { LeavesChoices (classed_county classes.now) order.now }
+    ensures { IfOk result (λ view. arranged_county view ≡ chosen_county (classed_county classes.now) number) }
+{
+    let choice = NumberedArrangement::new(alloc, order, number)?;
+    arrange_in_classes(alloc, classes.chart().share(), classes, choice.chains)
+}
+
+/// The lesser of two choices, given how they compare: `other` if `one` comes after it.
+fn lesser<V: Drop>(ordering: Ordering, one: V, other: V) -> V
+    ensures { result ≡ cond (is_gt ordering) other one }
+{
+    if ordering.is_gt() { other } else { one }
+}
+
+/// Compares two choices with the same records of type 1. `first` is the first one, arranged. Returns also the lesser one, arranged.
+fn compare_with_arranged<'a, C: Shared>(
+    alloc: Global,
+    classes: &Classes<'a, C>,
+    order: &ShapeOrder,
+    first: Arranged<C>,
+    one: u64,
+    other: u64,
+) -> Result<(Ordering, Arranged<C>), AllocError>
+    requires known { LeavesChoices (classed_county classes.now) order.now }
+    requires first { arranged_county first ≡ chosen_county (classed_county classes.now) one }
+    requires tied { ones_cmp (classed_county classes.now) one other ≡ Equal }
+    ensures ordering { IfOk result (λ pair. pair.0 ≡ choices_cmp (classed_county classes.now) one other) }
+    ensures lesser { IfOk result (λ pair. arranged_county pair.1 ≡ chosen_county (classed_county classes.now) (lesser_choice (classed_county classes.now) one other)) }
+{
+    match arrange_choice(alloc, classes, order, other) {
+        Ok(second) => {
+            let ordering = compare_arranged(&first, &second);
+            Ok((ordering, lesser(ordering, first, second)))
+        }
+        Err(error) => {
+            // One call for the prover, which otherwise reads the drop of each table.
+            drop(first);
+            Err(error)
+        }
+    }
+}
+
+/// The first of two choices, arranged: as it is kept, or anew if none is.
+fn kept_or_arranged<'a, C: Shared>(
+    alloc: Global,
+    classes: &Classes<'a, C>,
+    order: &ShapeOrder,
+    kept: Option<Arranged<C>>,
+    number: u64,
+) -> Result<Arranged<C>, AllocError>
+    requires known { LeavesChoices (classed_county classes.now) order.now }
+    requires kept { IfSome kept (λ view. arranged_county view ≡ chosen_county (classed_county classes.now) number) }
+    ensures { IfOk result (λ view. arranged_county view ≡ chosen_county (classed_county classes.now) number) }
+{
+    match kept {
+        Some(view) => Ok(view),
+        None => arrange_choice(alloc, classes, order, number),
+    }
+}
+
+/// Puts a value into a place, in one call for the prover, which otherwise reads the drop of what was there.
+fn put<V: Drop>(kept: &mut Option<V>, value: Option<V>)
+    ensures { kept.new ≡ value }
+{
+    *kept = value;
+}
+
+/// Compares two choices with the same records of type 1. If `arranged` has a county, it's that of the first choice; then it has that of
+/// the lesser one.
+fn compare_ties<'a, C: Shared>(
+    alloc: Global,
+    classes: &Classes<'a, C>,
+    order: &ShapeOrder,
+    one: u64,
+    other: u64,
+    arranged: &mut Option<Arranged<C>>,
+) -> Result<Ordering, AllocError>
+    requires known { LeavesChoices (classed_county classes.now) order.now }
+    requires tied { ones_cmp (classed_county classes.now) one other ≡ Equal }
+    requires arranged { IfSome arranged.old (λ view. arranged_county view ≡ chosen_county (classed_county classes.now) one) }
+    ensures ordering { IfOk result (λ ordering. ordering ≡ choices_cmp (classed_county classes.now) one other) }
+    ensures arranged { OnOk result (IfSome arranged.new
+        (λ view. arranged_county view ≡ chosen_county (classed_county classes.now) (lesser_choice (classed_county classes.now) one other))) }
+{
+    let first = kept_or_arranged(alloc, classes, order, arranged.take(), one)?;
+    let (ordering, least) = compare_with_arranged(alloc, classes, order, first, one, other)?;
+    put(arranged, Some(least));
+    Ok(ordering)
+}
+
+/// Forgets what is kept of the first of two choices if it comes after the second one.
+fn forget_greater<V: Drop>(ordering: Ordering, kept: &mut Option<V>)
+    ensures { kept.new ≡ cond (is_gt ordering) None kept.old }
+{
+    if ordering.is_gt() {
+        put(kept, None);
+    }
+}
+
+/// Compares the texts of two choices. If `arranged` has a county, it's that of the first choice; then it's that of the lesser one.
+fn compare_choices<'a, C: Shared>(
+    alloc: Global,
+    classes: &Classes<'a, C>,
+    order: &ShapeOrder,
+    one: &NumberedArrangement,
+    other: &NumberedArrangement,
+    arranged: &mut Option<Arranged<C>>,
+) -> Result<Ordering, AllocError>
+    requires known { LeavesChoices (classed_county classes.now) order.now }
+    requires one { IsChosen order.now one.now }
+    requires other { IsChosen order.now other.now }
+    requires arranged { IfSome arranged.old (λ view. arranged_county view ≡ chosen_county (classed_county classes.now) one.now.number) }
+    ensures ordering { IfOk result (λ ordering. ordering ≡ choices_cmp (classed_county classes.now) one.now.number other.now.number) }
+    ensures arranged { OnOk result (IfSome arranged.new
+        (λ view. arranged_county view ≡ chosen_county (classed_county classes.now) (lesser_choice (classed_county classes.now) one.now.number other.now.number))) }
+{
+    match compare_by_type_1(classes, order, one, other) {
+        Ordering::Equal => compare_ties(alloc, classes, order, one.number, other.number, arranged),
+        unequal => {
+            forget_greater(unequal, arranged);
+            Ok(unequal)
+        }
+    }
+}
+
+/// The number of the choice with the least text. `arranged` has no county, and may then have that of the choice.
+fn search_least<'a, C: Shared>(
+    alloc: Global,
+    classes: &Classes<'a, C>,
+    order: &ShapeOrder,
+    arranged: &mut Option<Arranged<C>>,
+) -> Result<u64, AllocError>
+    requires known { LeavesChoices (classed_county classes.now) order.now }
+    requires none { arranged.old ≡ None }
+    ensures { IfOk result (IsLeastBelow (classed_county classes.now) (choices (classed_county classes.now))) }
+{
+    let mut least = NumberedArrangement::new(alloc, order, 0)?;
+    let mut other = NumberedArrangement::new(alloc, order, 0)?;
+    for number in 1..order.choices() {
+        other.choose_again(order, number);
+        let ordering = compare_choices(alloc, classes, order, &least, &other, arranged)?;
+        if ordering.is_le() {
+            continue;
+        }
+        swap(&mut least, &mut other);
+    }
+    Ok(least.number)
+}
+
+/// The number of the choice with the least text.
+pub(crate) fn least_among_choices<C: Shared>(
+    alloc: Global,
+    chart: &C,
+    order: &ShapeOrder,
+) -> Result<u64, AllocError>
+    requires { LeavesChoices (C.county chart.now) order.now }
+    ensures { IfOk result (IsLeastBelow (C.county chart.now) (choices (C.county chart.now))) }
+{
+    let classes = Classes::of(alloc, chart)?;
+    let mut arranged = None;
+    let least = search_least(alloc, &classes, order, &mut arranged);
+    // One call each for the prover, which otherwise reads the drop of each table.
+    drop(arranged);
+    drop(classes);
+    least
+}

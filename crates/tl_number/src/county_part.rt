@@ -1,0 +1,258 @@
+//! A part of a county as a chart. Nothing is copied: each call finds the place in the whole county, and reads it there.
+
+ghost use Rattle.std.specs.Prelude.{cond, get_or, slice_get, ◌≡◌};
+ghost use Rattle.county_chart.specs.ChartWords.{bodies_at, chain_at, links_at, name_at, polygon_at};
+ghost use Rattle.county_chart.specs.CountyRules.{IsCounty, feats, lands, nodes, polygon_keys, tlids};
+ghost use Rattle.county_chart.specs.Limits.{IsWithinLimits, most_records};
+ghost use Rattle.county_chart.specs.{CountyProps.IsCounty-prop, LimitsProps.IsWithinLimits-prop};
+ghost use Rattle.canonical_form.specs.WholeArrangements.{AreReadAt};
+ghost use Rattle.tl_number.specs.CountyParts.{HoldsPart, part_with};
+
+use crate::part_tables::PartTables;
+use county_chart::{Chart, PolygonKey};
+use ordered_lists::place_of;
+use tl_layout::{Body1, Body5, Body7, BodyI, BodyP, Point, Ranges, Rec8, Side};
+
+/// A chart that several readers can have.
+pub(crate) trait Shared: Chart + Drop {
+    ghost use Rattle.std.specs.Prelude.{◌≡◌};
+
+    /// The same county for another reader.
+    fn share(&self) -> Self
+        ensures { Self.Chart.county result ≡ Self.Chart.county self.now };
+}
+
+/// A part of a county: some of its chains, with their names and polygons, and all of its landmarks or none.
+#[derive(Drop)]
+pub(crate) struct CountyPart<'a, C: Chart> {
+    chart: &'a C,
+    tables: &'a PartTables,
+    ghost tlids: { tables.now.chains.keys.items ≡ tlids (part_with (C.county chart.now) tables.now) },
+    ghost chains: { AreReadAt (C.county chart.now).chains tables.now.chains.places.items (part_with (C.county chart.now) tables.now).chains },
+    ghost feats: { tables.now.names.keys.items ≡ feats (part_with (C.county chart.now) tables.now) },
+    ghost names: { AreReadAt (C.county chart.now).names tables.now.names.places.items (part_with (C.county chart.now) tables.now).names },
+    ghost keys: { tables.now.polygons.keys.items ≡ polygon_keys (part_with (C.county chart.now) tables.now) },
+    ghost polygons: { AreReadAt (C.county chart.now).polygons tables.now.polygons.places.items (part_with (C.county chart.now) tables.now).polygons },
+    ghost nodes: { tables.now.nodes.items ≡ nodes (part_with (C.county chart.now) tables.now) },
+    ghost is_county: { IsCounty (part_with (C.county chart.now) tables.now) } by { IsCounty-prop (part_with (C.county chart.now) tables.now) },
+    ghost within_limits: { IsWithinLimits most_records (part_with (C.county chart.now) tables.now) } by { IsWithinLimits-prop most_records (part_with (C.county chart.now) tables.now) },
+}
+
+/// The place in the whole county for one in the part, or the end past the last one.
+fn place_there(places: &[u32], place: usize, end: usize) -> usize
+    ensures { result ≡ get_or places.now place end }
+{
+    match places.get(place) {
+        Some(there) => *there as usize,
+        None => end,
+    }
+}
+
+/// One number if landmarks are kept, and the other one if they aren't.
+fn if_linked(linked: bool, one: usize, other: usize) -> usize
+    ensures { result ≡ cond linked one other }
+{
+    if linked { one } else { other }
+}
+
+impl<'a, C: Chart> CountyPart<'a, C> {
+    /// The part that tables keep of a county. The polygons of its landmarks are on its chains.
+    pub(crate) fn new(chart: &'a C, tables: &'a PartTables) -> CountyPart<'a, C>
+        requires tables { HoldsPart (C.county chart.now) tables.now }
+        requires county { IsCounty (part_with (C.county chart.now) tables.now) }
+        requires limits { IsWithinLimits most_records (part_with (C.county chart.now) tables.now) }
+        ensures { ⟦<CountyPart<'a, C> as Chart>⟧.county result ≡ part_with (C.county chart.now) tables.now }
+    {
+        CountyPart { chart, tables }
+    }
+
+    /// The place of a chain in the whole county.
+    fn chain(&self, place: usize) -> usize
+        ensures { chain_at (C.county self.now.chart.now) result ≡ chain_at (part_with (C.county self.now.chart.now) self.now.tables.now) place }
+    {
+        place_there(&self.tables.chains.places, place, self.chart.chain_count())
+    }
+
+    /// The place of a name in the whole county.
+    fn name(&self, place: usize) -> usize
+        ensures { name_at (C.county self.now.chart.now) result ≡ name_at (part_with (C.county self.now.chart.now) self.now.tables.now) place }
+    {
+        place_there(&self.tables.names.places, place, self.chart.name_count())
+    }
+
+    /// The place of a polygon in the whole county.
+    fn polygon(&self, place: usize) -> usize
+        ensures { polygon_at (C.county self.now.chart.now) result ≡ polygon_at (part_with (C.county self.now.chart.now) self.now.tables.now) place }
+    {
+        place_there(
+            &self.tables.polygons.places,
+            place,
+            self.chart.polygon_count(),
+        )
+    }
+
+    /// The place of a landmark in the whole county.
+    fn landmark(&self, place: usize) -> usize
+        ensures land { slice_get (lands (C.county self.now.chart.now)) result
+            ≡ slice_get (lands (part_with (C.county self.now.chart.now) self.now.tables.now)) place }
+        ensures bodies { bodies_at (C.county self.now.chart.now) result ≡ bodies_at (part_with (C.county self.now.chart.now) self.now.tables.now) place }
+        ensures links { links_at (C.county self.now.chart.now) result ≡ links_at (part_with (C.county self.now.chart.now) self.now.tables.now) place }
+    {
+        if_linked(self.tables.kept.linked, place, self.chart.landmark_count())
+    }
+}
+
+impl<'a, C: Chart> Shared for CountyPart<'a, C> {
+    fn share(&self) -> CountyPart<'a, C> {
+        CountyPart {
+            chart: self.chart,
+            tables: self.tables,
+        }
+    }
+}
+
+/// The part of the county.
+#[tactic(auto, using(crate::proofs::Ties::PartTables::part_reads))]
+impl<'a, C: Chart> Chart for CountyPart<'a, C> {
+    ghost county = { λ part. part_with (C.county part.chart.now) part.tables.now };
+
+    fn chain_count(&self) -> usize {
+        self.tables.chains.keys.len()
+    }
+
+    fn tlid_at(&self, place: usize) -> Option<u64> {
+        self.tables.chains.keys.as_slice().get(place).copied()
+    }
+
+    fn chain_place(&self, tlid: u64) -> Option<usize> {
+        place_of(self.tables.chains.keys.as_slice(), tlid)
+    }
+
+    fn name_count(&self) -> usize {
+        self.tables.names.keys.len()
+    }
+
+    fn feat_at(&self, place: usize) -> Option<u32> {
+        self.tables.names.keys.as_slice().get(place).copied()
+    }
+
+    fn name_place(&self, feat: u32) -> Option<usize> {
+        place_of(self.tables.names.keys.as_slice(), feat)
+    }
+
+    fn polygon_count(&self) -> usize {
+        self.tables.polygons.keys.len()
+    }
+
+    fn polygon_key_at(&self, place: usize) -> Option<PolygonKey> {
+        self.tables.polygons.keys.as_slice().get(place).copied()
+    }
+
+    fn polygon_place(&self, key: PolygonKey) -> Option<usize> {
+        place_of(self.tables.polygons.keys.as_slice(), key)
+    }
+
+    fn landmark_count(&self) -> usize {
+        if_linked(self.tables.kept.linked, self.chart.landmark_count(), 0)
+    }
+
+    fn land_at(&self, place: usize) -> Option<u64> {
+        self.chart.land_at(self.landmark(place))
+    }
+
+    fn landmark_place(&self, land: u64) -> Option<usize> {
+        if self.tables.kept.linked {
+            self.chart.landmark_place(land)
+        } else {
+            None
+        }
+    }
+
+    fn node_count(&self) -> usize {
+        self.tables.nodes.len()
+    }
+
+    fn node_at(&self, place: usize) -> Option<u64> {
+        self.tables.nodes.as_slice().get(place).copied()
+    }
+
+    fn node_place(&self, node: u64) -> Option<usize> {
+        place_of(self.tables.nodes.as_slice(), node)
+    }
+
+    fn chain_body_at(&self, place: usize) -> Option<Body1> {
+        self.chart.chain_body_at(self.chain(place))
+    }
+
+    fn point_count_at(&self, place: usize) -> usize {
+        self.chart.point_count_at(self.chain(place))
+    }
+
+    fn point_at(&self, place: usize, point: usize) -> Option<Point> {
+        self.chart.point_at(self.chain(place), point)
+    }
+
+    fn feat_count_at(&self, place: usize) -> usize {
+        self.chart.feat_count_at(self.chain(place))
+    }
+
+    fn chain_feat_at(&self, place: usize, name: usize) -> Option<u32> {
+        self.chart.chain_feat_at(self.chain(place), name)
+    }
+
+    fn range_count_at(&self, place: usize) -> usize {
+        self.chart.range_count_at(self.chain(place))
+    }
+
+    fn range_at(&self, place: usize, range: usize) -> Option<Ranges> {
+        self.chart.range_at(self.chain(place), range)
+    }
+
+    fn topology_at(&self, place: usize) -> Option<BodyI> {
+        self.chart.topology_at(self.chain(place))
+    }
+
+    fn start_node_at(&self, place: usize) -> Option<Option<u64>> {
+        self.chart.start_node_at(self.chain(place))
+    }
+
+    fn end_node_at(&self, place: usize) -> Option<Option<u64>> {
+        self.chart.end_node_at(self.chain(place))
+    }
+
+    fn left_at(&self, place: usize) -> Option<Side> {
+        self.chart.left_at(self.chain(place))
+    }
+
+    fn right_at(&self, place: usize) -> Option<Side> {
+        self.chart.right_at(self.chain(place))
+    }
+
+    fn name_body_at(&self, place: usize) -> Option<Body5> {
+        self.chart.name_body_at(self.name(place))
+    }
+
+    fn polygon_body_at(&self, place: usize) -> Option<Option<BodyP>> {
+        self.chart.polygon_body_at(self.polygon(place))
+    }
+
+    fn body_count_at(&self, place: usize) -> usize {
+        self.chart.body_count_at(self.landmark(place))
+    }
+
+    fn landmark_body_at(&self, place: usize, body: usize) -> Option<Body7> {
+        self.chart.landmark_body_at(self.landmark(place), body)
+    }
+
+    fn link_count_at(&self, place: usize) -> usize {
+        self.chart.link_count_at(self.landmark(place))
+    }
+
+    fn landmark_link_at(&self, place: usize, link: usize) -> Option<Rec8> {
+        self.chart.landmark_link_at(self.landmark(place), link)
+    }
+
+    ghost is_county = { λ part. part.is_county };
+
+    ghost within_limits = { λ part. part.within_limits };
+}

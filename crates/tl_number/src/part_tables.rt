@@ -1,0 +1,240 @@
+//! What a part of a county keeps: some of its chains, with their names and polygons, and all of its landmarks or none.
+
+ghost use Rattle.std.specs.Prelude.{IfOk, false, length, map, option_to_list, ◌<◌, ◌^◌, ◌≡◌};
+ghost use Rattle.std.specs.{List.list_any, Ordering.nat_cmp};
+ghost use Rattle.canonical_form.specs.Growth.{first_seen};
+ghost use Rattle.county_chart.specs.CountyRules.{AllKeysStandIn, chain_nodes, chain_polygons, feats, polygon_keys, polygons_along};
+ghost use Rattle.county_chart.specs.CountyRules.{tlids as all_tlids};
+ghost use Rattle.county_chart.specs.PolygonKeys.{key_cmp};
+ghost use Rattle.ordered_lists.specs.{Orders.distinct, Orders.stands_in, Places.at_places};
+ghost use Rattle.record_groups.specs.Groups.{grouped};
+ghost use Rattle.tl_number.specs.CountyParts.{HoldsPart, IsPicked, places_among};
+ghost use Rattle.tl_number.specs.{OpenKeys.keys_along, OpenNames.chain_feats};
+
+use crate::kept_places::KeptChains;
+use crate::key_groups::{FeatKeys, KeyGroups, NodeKeys, PolygonKeys};
+use crate::open_keys::{has_key, keys_of};
+use arranged_county::{Interner, NumericKey, both, if_done, marks_for};
+use county_chart::{Chart, DirectedChain, Listed, PolygonKey};
+use ordered_lists::{Key, sort_distinct};
+use std::alloc::{AllocError, Global};
+use std::hash::Hash;
+
+/// Some entries of a list under keys: their keys, ascending, and their places in the list.
+#[derive(Drop)]
+pub(crate) struct Picked<K: Drop> {
+    pub(crate) keys: Vec<K>,
+    pub(crate) places: Vec<u32>,
+}
+
+/// What a part keeps of a county.
+#[derive(Drop)]
+pub(crate) struct PartTables {
+    pub(crate) kept: KeptChains,
+    pub(crate) chains: Picked<u64>,
+    pub(crate) names: Picked<u32>,
+    pub(crate) polygons: Picked<PolygonKey>,
+    /// The nodes at the ends of its chains, ascending.
+    pub(crate) nodes: Vec<u64>,
+}
+
+/// The TLIDs of a county.
+#[derive(Drop)]
+struct Tlids<'a, C: Chart>(&'a C);
+
+impl<C: Chart> Listed for Tlids<'_, C> {
+    ghost use Rattle.county_chart.specs.CountyRules.{tlids};
+
+    type Item = u64;
+
+    ghost items = { λ l. tlids (C.county l.0.now) };
+
+    fn count(&self) -> usize {
+        self.0.chain_count()
+    }
+
+    fn item(&self, place: usize) -> u64 {
+        self.0.tlid_there(place)
+    }
+}
+
+/// The FEATs of a county.
+#[derive(Drop)]
+struct Feats<'a, C: Chart>(&'a C);
+
+impl<C: Chart> Listed for Feats<'_, C> {
+    ghost use Rattle.county_chart.specs.CountyRules.{feats};
+
+    type Item = u32;
+
+    ghost items = { λ l. feats (C.county l.0.now) };
+
+    fn count(&self) -> usize {
+        self.0.name_count()
+    }
+
+    fn item(&self, place: usize) -> u32 {
+        self.0.feat_there(place)
+    }
+}
+
+/// The keys of a county's polygons.
+#[derive(Drop)]
+struct Polygons<'a, C: Chart>(&'a C);
+
+impl<C: Chart> Listed for Polygons<'_, C> {
+    ghost use Rattle.county_chart.specs.CountyRules.{polygon_keys};
+
+    type Item = PolygonKey;
+
+    ghost items = { λ l. polygon_keys (C.county l.0.now) };
+
+    fn count(&self) -> usize {
+        self.0.polygon_count()
+    }
+
+    fn item(&self, place: usize) -> PolygonKey {
+        self.0.polygon_key_there(place)
+    }
+}
+
+/// Whether there is a key, and it is one of these.
+fn is_among<K: Key + Hash + NumericKey>(keys: &Interner<K>, key: Option<K>) -> bool
+    ensures { result ≡ list_any (λ key. stands_in K.cmp key keys.now) (option_to_list key) }
+{
+    match key {
+        Some(key) => has_key(keys, key),
+        None => false,
+    }
+}
+
+/// The keys at places.
+fn keys_at<L: Listed>(alloc: Global, all: &L, places: &[u32]) -> Result<Vec<L::Item>, AllocError>
+where
+    L::Item: Drop,
+    ensures { IfOk result (λ keys. keys.items ≡ at_places (L.items all.now) places.now) }
+{
+    places
+        .iter()
+        .filter_map(|place| all.get(*place as usize))
+        .collect(alloc)
+}
+
+/// The places of those of the keys that are among these.
+fn places_of<K: Key + Hash + NumericKey, L: Listed<Item = K>>(
+    alloc: Global,
+    all: &L,
+    wanted: &Interner<K>,
+) -> Result<Vec<u32>, AllocError>
+    requires { length (L.items all.now) < 2 ^ 32 }
+    ensures { IfOk result (λ places. places.items ≡ places_among K.cmp wanted.now (L.items all.now)) }
+{
+    (0..all.count() as u32)
+        .filter(|place| is_among(wanted, all.get(*place as usize)))
+        .collect(alloc)
+}
+
+/// Those of the keys that are among these, with their places.
+fn pick<K: Key + Hash + NumericKey, L: Listed<Item = K>>(
+    alloc: Global,
+    all: &L,
+    wanted: &Interner<K>,
+) -> Result<Picked<K>, AllocError>
+    requires { length (L.items all.now) < 2 ^ 32 }
+    ensures { IfOk result (IsPicked K.cmp wanted.now (L.items all.now)) }
+{
+    let places = places_of(alloc, all, wanted)?;
+    let keys = keys_at(alloc, all, &places)?;
+    Ok(Picked { keys, places })
+}
+
+/// Those of the keys that these chains have, with their places.
+fn pick_named<K: Key + Hash + NumericKey, L: Listed<Item = K>, G: KeyGroups<Item = K>>(
+    alloc: Global,
+    all: &L,
+    chains: &G,
+) -> Result<Picked<K>, AllocError>
+    requires { length (L.items all.now) < 2 ^ 32 }
+    ensures { IfOk result (IsPicked K.cmp (first_seen K.cmp (grouped (G.groups chains.now))) (L.items all.now)) }
+{
+    let wanted = keys_of(alloc, chains)?;
+    pick(alloc, all, &wanted)
+}
+
+/// The chains with these TLIDs, which may be in any order.
+fn chains_with<C: Chart>(alloc: Global, chart: &C, tlids: &[u64]) -> Result<Picked<u64>, AllocError>
+    ensures { IfOk result (IsPicked nat_cmp (first_seen nat_cmp tlids.now) (all_tlids (C.county chart.now))) }
+{
+    let mut wanted = Interner::with_marks(alloc, marks_for(tlids.len()))?;
+    let seen = wanted.see_all(&tlids);
+    let wanted = if_done(wanted, seen)?;
+    pick(alloc, &Tlids(chart), &wanted)
+}
+
+/// The chains at places, in the directions that they have in the county.
+fn chains_at(alloc: Global, places: &[u32]) -> Result<Vec<DirectedChain>, AllocError>
+    ensures { IfOk result (λ chains. chains.items ≡ map (λ place. record { place = place; turned = false }) places.now) }
+{
+    places
+        .iter()
+        .map(|place| DirectedChain {
+            place: *place,
+            turned: false,
+        })
+        .collect(alloc)
+}
+
+/// The nodes at the ends of chains, ascending.
+fn nodes_of<C: Chart>(
+    alloc: Global,
+    chart: &C,
+    chains: &[DirectedChain],
+) -> Result<Vec<u64>, AllocError>
+    ensures { IfOk result (λ nodes. nodes.items ≡ distinct nat_cmp (first_seen nat_cmp (grouped (keys_along chain_nodes (C.county chart.now) chains.now)))) }
+{
+    let seen = keys_of(alloc, &NodeKeys(chart, chains))?;
+    let mut nodes = Vec::from_slice(alloc, seen.keys())?;
+    sort_distinct(&mut nodes);
+    Ok(nodes)
+}
+
+/// The names and the polygons of chains.
+fn names_and_polygons<C: Chart>(
+    alloc: Global,
+    chart: &C,
+    chains: &[DirectedChain],
+) -> Result<(Picked<u32>, Picked<PolygonKey>), AllocError>
+    requires names { length (C.county chart.now).names < 2 ^ 32 }
+    requires polygons { length (C.county chart.now).polygons < 2 ^ 32 }
+    ensures names { IfOk result (λ found. IsPicked nat_cmp (first_seen nat_cmp (grouped (keys_along chain_feats (C.county chart.now) chains.now)))
+        (feats (C.county chart.now)) found.0) }
+    ensures polygons { IfOk result (λ found. IsPicked key_cmp (first_seen key_cmp (grouped (keys_along chain_polygons (C.county chart.now) chains.now)))
+        (polygon_keys (C.county chart.now)) found.1) }
+{
+    let names = pick_named(alloc, &Feats(chart), &FeatKeys(chart, chains))?;
+    let polygons = pick_named(alloc, &Polygons(chart), &PolygonKeys(chart, chains));
+    both(names, polygons)
+}
+
+/// What is kept of a county.
+pub(crate) fn part_tables<C: Chart>(
+    alloc: Global,
+    chart: &C,
+    kept: KeptChains,
+) -> Result<PartTables, AllocError>
+    requires { AllKeysStandIn (polygons_along (C.county chart.now).chains) (polygon_keys (C.county chart.now)) }
+    ensures kept { IfOk result (λ tables. tables.kept ≡ kept) }
+    ensures holds { IfOk result (HoldsPart (C.county chart.now)) }
+{
+    let chains = chains_with(alloc, chart, &kept.tlids)?;
+    let there = chains_at(alloc, &chains.places)?;
+    let nodes = nodes_of(alloc, chart, &there)?;
+    let (names, polygons) = names_and_polygons(alloc, chart, &there)?;
+    Ok(PartTables {
+        kept,
+        chains,
+        names,
+        polygons,
+        nodes,
+    })
+}
