@@ -18,7 +18,8 @@ pub use Rattle.tigercanon.specs.Normalising.{IsOnlyTextThrough, ReportsRead, Sto
 pub use Rattle.tigercanon.specs.Outcomes.{GivenOutput, GivenSet, HoldsAccepted, ReportsLine, ReportsSet}
 pub use Rattle.tigercanon.specs.Reading.{AreRead, AreReadUpTo, IsUnread, NoneFailed, OneFailed, SomeUnread}
 pub use Rattle.tigercanon.specs.Refusals.{fault_line}
-pub use Rattle.tigercanon.specs.Respelling.{IsFirstFault, record_limit}
+pub use Rattle.tl_layout.specs.Limits.{most_records}
+pub use Rattle.tigercanon.specs.Respelling.{IsFirstFault}
 pub use Rattle.tigercanon.specs.Running.{IsOfMissing, set_of_files, to_writer}
 pub use Rattle.tigercanon.specs.Sets.{CarriesSetThrough, IsAcceptedSet, IsCanonSetThrough, IsCanonicalTextThrough}
 pub use Rattle.tigercanon.specs.Sets.{IsOneCanonicalTextThrough, IsSetRefusal}

@@ -1,7 +1,7 @@
 -- The bytes read from sources over files are in the files, and what is reported for files that aren't read.
 use Rattle.tigercanon.proofs.Common.{◌≡◌, ◌<◌, ◌⊎◌, ℕ, List, [], ◌∷◌, ◌++◌, map, Option, Some, None, inl, inr, refl, sym, ap}
 use Rattle.tigercanon.proofs.Common.{arith, subst, All, IfSome, MAX, Consumes, LoadFault, Fault, Load, Opened, bytes_of}
-use Rattle.tigercanon.proofs.Common.{Job, set_of_sources, AreRead, AreReadUpTo, record_limit, IsFirstFault, set_of_files}
+use Rattle.tigercanon.proofs.Common.{Job, set_of_sources, AreRead, AreReadUpTo, most_records, IsFirstFault, set_of_files}
 use Rattle.tigercanon.proofs.Common.{empty_fault, tiger, Bool, Compare, GivenSet, Memory, ReportsFor, ReportsSet, Respell, if◌then◌else◌}
 use Rattle.std.proofs.lemmas.List.Elements.{All-cons}
 use Rattle.std.specs.Prelude.{slice_index_or}
@@ -147,7 +147,7 @@ module _ {S R : Type 0} (left : S → Option (List ℕ)) (given : S → ℕ) (re
         go (inr k) = record {
           parts = h.0;
           held = k.1;
-          refused = (empty_fault tiger record_limit h.0 fault).0
+          refused = (empty_fault tiger most_records h.0 fault).0
               (subst (λ (bytes : List ℕ). IsFirstFault (h.0 ++ (bytes ++ []) ∷ []) fault) k.0 (h.3 [] []));
         }
 

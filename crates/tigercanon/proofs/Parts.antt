@@ -1,6 +1,6 @@
 -- Slices of bytes as the parts of a set.
 use Rattle.tigercanon.proofs.Common.{◌≡◌, ℕ, suc, ◌<◌, ◌+◌, List, [], ◌∷◌, ◌++◌, length, take, get_or, map, ap, sym, ◌∙◌, subst}
-use Rattle.tigercanon.proofs.Common.{append-nil, map-append, empty_fault, tiger, IsFaultHowever, LoadFault, record_limit, IsFirstFault}
+use Rattle.tigercanon.proofs.Common.{append-nil, map-append, empty_fault, tiger, IsFaultHowever, LoadFault, most_records, IsFirstFault}
 use Rattle.std.proofs.Common.{drop, Bor, append_assoc}
 use Rattle.std.proofs.Math.Seq.{drop-cons}
 use Rattle.std.proofs.lemmas.List.{take_more, take-append-drop}
@@ -23,7 +23,7 @@ parts_so_far slices i d within =
 
 -- a fault of every continuation of the open part and the set is the fault of the slices, one of which is the open part
 pub fault_of_all : (slices : List (Bor (List ℕ))) (i : ℕ) (d : Bor (List ℕ)) (f : LoadFault) → i < length slices
-    → IsFaultHowever record_limit (parts_of (take i slices)) (get_or slices i d).now f → IsFirstFault (parts_of slices) f
+    → IsFaultHowever most_records (parts_of (take i slices)) (get_or slices i d).now f → IsFirstFault (parts_of slices) f
 fault_of_all slices i d f within however =
     let all : parts_of (take i slices) ++ ((get_or slices i d).now ++ []) ∷ parts_of (drop (suc i) slices) ≡ parts_of slices =
     ap (λ part. parts_of (take i slices) ++ part ∷ parts_of (drop (suc i) slices)) (append-nil (get_or slices i d).now)
@@ -31,12 +31,12 @@ fault_of_all slices i d f within however =
     subst (λ ps. IsFirstFault ps f) all (however [] (parts_of (drop (suc i) slices)))
 
 -- the same if that part is closed: the next ones continue it, or nothing does
-fault_of_rest : (closed rest : List (List ℕ)) (f : LoadFault) → IsFaultHowever record_limit closed [] f → IsFirstFault (closed ++ rest) f
-fault_of_rest closed [] f however = subst (λ ps. IsFirstFault ps f) (sym (append-nil closed)) ((empty_fault tiger record_limit closed f).0 (however [] []))
+fault_of_rest : (closed rest : List (List ℕ)) (f : LoadFault) → IsFaultHowever most_records closed [] f → IsFirstFault (closed ++ rest) f
+fault_of_rest closed [] f however = subst (λ ps. IsFirstFault ps f) (sym (append-nil closed)) ((empty_fault tiger most_records closed f).0 (however [] []))
 fault_of_rest closed (part ∷ rest) f however = however part rest
 
 pub fault_of_closed : (slices : List (Bor (List ℕ))) (i : ℕ) (d : Bor (List ℕ)) (f : LoadFault) → i < length slices
-    → IsFaultHowever record_limit (parts_of (take i slices) ++ (get_or slices i d).now ∷ []) [] f → IsFirstFault (parts_of slices) f
+    → IsFaultHowever most_records (parts_of (take i slices) ++ (get_or slices i d).now ∷ []) [] f → IsFirstFault (parts_of slices) f
 fault_of_closed slices i d f within however =
     let closed = parts_of (take i slices) in
     subst (λ ps. IsFirstFault ps f) (append_assoc closed ((get_or slices i d).now ∷ []) (parts_of (drop (suc i) slices))

@@ -1,7 +1,7 @@
 -- Sources that were read one after another.
 use Rattle.tigercanon.proofs.Common.{◌≡◌, ℕ, suc, ◌+◌, ◌<◌, ◌%◌, ◌^◌, List, [], ◌∷◌, ◌++◌, length, get_or, Option, Some, None, inl}
 use Rattle.tigercanon.proofs.Common.{inr, refl, sym, ap, ◌∙◌, subst, arith, Consumes, IsAtEnd, Record, LoadedInto, WasFedInto, Gave}
-use Rattle.tigercanon.proofs.Common.{AreRead, AreReadUpTo, IsUnread, NoneFailed, OneFailed, SomeUnread, record_limit}
+use Rattle.tigercanon.proofs.Common.{AreRead, AreReadUpTo, IsUnread, NoneFailed, OneFailed, SomeUnread, most_records}
 use Rattle.std.proofs.Common.{zero, add-zero}
 use Rattle.tl_load.specs.Sources.{RoseBy}
 use Rattle.tigercanon.specs.Reading.{AreReadButOnce}
@@ -18,7 +18,7 @@ module _ {R : Type 0} (remaining : R → Option (List ℕ)) (given : R → ℕ) 
   -- this many of the sources were read, and the loader was fed their bytes
   abbrev pub HasRead : {K : Type 0} → (K → List Record → Type 0) → List R → List R → ℕ → LoadedInto K → Type 0
   HasRead holds before after count loader = (parts : List (List ℕ)) × GaveParts before after parts × (length parts ≡ count)
-      × WasFedInto holds record_limit loader parts []
+      × WasFedInto holds most_records loader parts []
 
   -- the next source is unchanged
   pub next_untouched : (bs ns : List R) (parts : List (List ℕ)) (d : R) → GaveParts bs ns parts

@@ -2,7 +2,7 @@
 use Rattle.std.proofs.Common.{◌≡◌, Err, false, refl, subst}
 use Rattle.tigercanon.proofs.Common.{ℕ, List, Option, Record, tiger, SpellsWithin, spelled_fit, accepted_within}
 use Rattle.tigercanon.proofs.Common.{Fault, Load, Link, Profile, Write, Memory, ReportsRefusal, ReportsRead}
-use Rattle.tigercanon.proofs.Common.{AreRead, record_limit}
+use Rattle.tigercanon.proofs.Common.{AreRead, most_records}
 use Rattle.tl_layout.specs.Tables.{HoldsByType}
 use Rattle.tl_layout.specs.declared.tables.Tables.{Tables}
 use Rattle.county_chart.specs.Limits.{HoldsWithinLimits}
@@ -10,7 +10,7 @@ use Rattle.tigercanon.specs.Faults.{RefusesRecords, ReportsRefusalOfRead}
 use Rattle.tigercanon.specs.Normalising.{is_stopped}
 
 -- parts are refused for the fault of their records
-pub set_refused : (parts : List (List ℕ)) (records : List Record) → SpellsWithin tiger record_limit parts records → (f : Fault)
+pub set_refused : (parts : List (List ℕ)) (records : List Record) → SpellsWithin tiger most_records parts records → (f : Fault)
     → RefusesRecords records f → ReportsRefusal parts f
 set_refused parts records spelled (Load f) h = absurd h
 set_refused parts records spelled (Link f) h = λ ne. (records, spelled, h ne)
@@ -19,7 +19,7 @@ set_refused parts records spelled (Write f) h = absurd h
 set_refused parts records spelled Memory h = tt
 
 -- and the fault isn't a device's
-pub refused_of_read : (parts : List (List ℕ)) (records : List Record) → SpellsWithin tiger record_limit parts records → (f : Fault)
+pub refused_of_read : (parts : List (List ℕ)) (records : List Record) → SpellsWithin tiger most_records parts records → (f : Fault)
     → RefusesRecords records f → ReportsRefusalOfRead parts f
 refused_of_read parts records spelled f h = (set_refused parts records spelled f h, λ e. subst (RefusesRecords records) e h)
 
@@ -34,7 +34,7 @@ not_stopped records Memory h = refl
 -- the fault of the records of parts that were read is reported for what was read
 module _ {R : Type 0} (remaining : R → Option (List ℕ)) (given reads : R → ℕ) (before after : List R) (parts : List (List ℕ))
     (read : AreRead remaining given before after parts)
-    (records : List Record) (spelled : SpellsWithin tiger record_limit parts records) where
+    (records : List Record) (spelled : SpellsWithin tiger most_records parts records) where
   pub read_refused : (f : Fault) → RefusesRecords records f → ReportsRead remaining given reads before after f
   read_refused (Load f) h = absurd h
   read_refused (Link f) h = λ ne. record { parts = parts; read = read; refused = (records, spelled, h ne) }
@@ -44,10 +44,10 @@ module _ {R : Type 0} (remaining : R → Option (List ℕ)) (given reads : R →
 
 -- tables of the records that parts spell have records within their limits
 pub within_limits : (parts : List (List ℕ)) (tables : Tables) (records : List Record) → HoldsByType tables records
-    → SpellsWithin tiger record_limit parts records → HoldsWithinLimits tables
+    → SpellsWithin tiger most_records parts records → HoldsWithinLimits tables
 within_limits parts tables records holds spelled = record {
   records = records;
   holds = holds;
   fits = spelled_fit parts records spelled.spells;
-  few = accepted_within record_limit parts records spelled;
+  few = accepted_within most_records parts records spelled;
 }

@@ -1,12 +1,12 @@
 -- Sets with the same lines are accepted alike, refused alike except for a faulty line's part and line, and have one canonical text.
-use Rattle.tigercanon.proofs.Common.{◌≡◌, ℕ, List, refl, ap, Record, tiger, SpellsWithin, County, record_limit, IsAcceptedSet}
+use Rattle.tigercanon.proofs.Common.{◌≡◌, ℕ, List, refl, ap, Record, tiger, SpellsWithin, County, most_records, IsAcceptedSet}
 use Rattle.tigercanon.proofs.Common.{IsSetRefusal, IsCanonicalTextThrough, Fault, Load, Link, Profile, Write, Memory}
 use Rattle.tl_load.specs.Lines.{HaveSameLines}
 use Rattle.tl_load.proofs.CutParts.{spells_as, fault_elsewhere}
 use Rattle.tigercanon.specs.Sets.{refusal_without_place}
 
 module _ (parts others : List (List ℕ)) (same : HaveSameLines parts others) where
-  spelled_alike : (records : List Record) → SpellsWithin tiger record_limit parts records → SpellsWithin tiger record_limit others records
+  spelled_alike : (records : List Record) → SpellsWithin tiger most_records parts records → SpellsWithin tiger most_records others records
   spelled_alike records h = record { spells = spells_as tiger parts others records same h.spells; within = h.within }
 
   pub accepted_alike : (records : List Record) → IsAcceptedSet parts records → IsAcceptedSet others records
@@ -24,7 +24,7 @@ module _ (parts others : List (List ℕ)) (same : HaveSameLines parts others) wh
   pub refused_alike : (refusal : Fault) → IsSetRefusal parts refusal
       → (reported : Fault) × IsSetRefusal others reported × (refusal_without_place reported ≡ refusal_without_place refusal)
   refused_alike (Load fault) h =
-      let found = fault_elsewhere tiger record_limit parts others fault same h in
+      let found = fault_elsewhere tiger most_records parts others fault same h in
       (Load found.0, found.1, ap Load found.2)
   refused_alike (Link fault) h = (Link fault, (h.0, spelled_alike h.0 h.1, h.2), refl)
   refused_alike (Profile fault) h = (Profile fault, (h.0, spelled_alike h.0 h.1, h.2, h.3), refl)

@@ -1,7 +1,7 @@
 -- Each set is accepted or has one refusal; two sets have one canonical text exactly if their counties are the same.
 use Rattle.tigercanon.proofs.Common.{◌≡◌, ◌⊎◌, ℕ, List, [], ◌∷◌, refl, sym, ap, ◌∙◌, subst, inl, inr, All, text_of, Record}
 use Rattle.tigercanon.proofs.Common.{SpellsWithin, LoadFault, tiger_is_sound, spelled_fit, accepted_within, County, county_of, AreSame}
-use Rattle.tigercanon.proofs.Common.{IsSight, plain, IsOnlyTextThrough, record_limit, IsAcceptedSet, IsSetRefusal}
+use Rattle.tigercanon.proofs.Common.{IsSight, plain, IsOnlyTextThrough, most_records, IsAcceptedSet, IsSetRefusal}
 use Rattle.tigercanon.proofs.Common.{IsCanonicalTextThrough, Fault, Load, Link, Profile, Write, Memory, IsFirstBrokenClause}
 use Rattle.tigercanon.proofs.Common.{one_canonical_same}
 use Rattle.std.proofs.Common.{lit≤}
@@ -29,34 +29,34 @@ use Rattle.county_chart.proofs.Sameness.Equivalence.{same-reflexive}
 
 pub set_accepted_or_refused : (parts : List (List ℕ))
     → ((records : List Record) × IsAcceptedSet parts records) ⊎ ((refusal : Fault) × IsSetRefusal parts refusal)
-set_accepted_or_refused parts = go (one_verdict tiger tiger_is_sound record_limit parts)
+set_accepted_or_refused parts = go (one_verdict tiger tiger_is_sound most_records parts)
   where
-    judged : (records : List Record) → SpellsWithin tiger record_limit parts records
+    judged : (records : List Record) → SpellsWithin tiger most_records parts records
         → IsAccepted records ⊎ ((refusal : RecordsRefusal) × IsRefusal records refusal)
         → ((records : List Record) × IsAcceptedSet parts records) ⊎ ((refusal : Fault) × IsSetRefusal parts refusal)
     judged records spelled (inl accepted) = inl (records, record { spelled = spelled; accepted = accepted })
     judged records spelled (inr (Unlinked f, h)) = inr (Link f, (records, spelled, h))
     judged records spelled (inr (OutOfProfile f, h)) = inr (Profile f, (records, spelled, h.0, h.1))
 
-    go : IsSpelled tiger record_limit parts ⊎ IsFaulty tiger record_limit parts
+    go : IsSpelled tiger most_records parts ⊎ IsFaulty tiger most_records parts
         → ((records : List Record) × IsAcceptedSet parts records) ⊎ ((refusal : Fault) × IsSetRefusal parts refusal)
     go (inl s) = judged s.records s.accepts (accepted_or_refused s.records)
     go (inr f) = inr (Load f.fault, f.at)
 
 -- the records that accepted parts spell are one list, and then no line is faulty
-pub one_list : (parts : List (List ℕ)) (records others : List Record) → SpellsWithin tiger record_limit parts records
-    → SpellsWithin tiger record_limit parts others → records ≡ others
-one_list parts records others a b = go (one_verdict tiger tiger_is_sound record_limit parts)
+pub one_list : (parts : List (List ℕ)) (records others : List Record) → SpellsWithin tiger most_records parts records
+    → SpellsWithin tiger most_records parts others → records ≡ others
+one_list parts records others a b = go (one_verdict tiger tiger_is_sound most_records parts)
   where
-    go : IsSpelled tiger record_limit parts ⊎ IsFaulty tiger record_limit parts → records ≡ others
+    go : IsSpelled tiger most_records parts ⊎ IsFaulty tiger most_records parts → records ≡ others
     go (inl s) = s.only records a.spells ∙ sym (s.only others b.spells)
     go (inr f) = absurd (f.none records a)
 
-spelled_not_faulty : (parts : List (List ℕ)) (records : List Record) (fault : LoadFault) → SpellsWithin tiger record_limit parts records
-    → FaultAt tiger record_limit parts fault → ⊥
-spelled_not_faulty parts records fault a h = go (one_verdict tiger tiger_is_sound record_limit parts)
+spelled_not_faulty : (parts : List (List ℕ)) (records : List Record) (fault : LoadFault) → SpellsWithin tiger most_records parts records
+    → FaultAt tiger most_records parts fault → ⊥
+spelled_not_faulty parts records fault a h = go (one_verdict tiger tiger_is_sound most_records parts)
   where
-    go : IsSpelled tiger record_limit parts ⊎ IsFaulty tiger record_limit parts → ⊥
+    go : IsSpelled tiger most_records parts ⊎ IsFaulty tiger most_records parts → ⊥
     go (inl s) = s.none fault h
     go (inr f) = f.none records a
 
@@ -72,10 +72,10 @@ accepted_set_not_refused parts records (Profile fault) a h =
 accepted_set_not_refused parts records (Write fault) a h = h
 accepted_set_not_refused parts records Memory a h = h
 
-one_fault : (parts : List (List ℕ)) (f g : LoadFault) → FaultAt tiger record_limit parts f → FaultAt tiger record_limit parts g → f ≡ g
-one_fault parts f g h k = go (one_verdict tiger tiger_is_sound record_limit parts)
+one_fault : (parts : List (List ℕ)) (f g : LoadFault) → FaultAt tiger most_records parts f → FaultAt tiger most_records parts g → f ≡ g
+one_fault parts f g h k = go (one_verdict tiger tiger_is_sound most_records parts)
   where
-    go : IsSpelled tiger record_limit parts ⊎ IsFaulty tiger record_limit parts → f ≡ g
+    go : IsSpelled tiger most_records parts ⊎ IsFaulty tiger most_records parts → f ≡ g
     go (inl s) = absurd (s.none f h)
     go (inr t) = t.only f h ∙ sym (t.only g k)
 
@@ -102,12 +102,12 @@ one_set_refusal parts f Memory h k = absurd k
 module _ (seen : County → County) (sight : IsSight seen) where
   -- the printed records of a canonical list fit their columns and keep the limit
   fitting : (parts : List (List ℕ)) (text : List ℕ) (h : IsCanonicalTextThrough seen parts text)
-      → All FitsRecord h.canonical × IsWithinLimit record_limit h.canonical
+      → All FitsRecord h.canonical × IsWithinLimit most_records h.canonical
   fitting parts text h =
       let read : AllByRecursion FitsRecord h.records =
       recursion_from_All FitsRecord h.records (spelled_fit parts h.records h.spelled.spells) in
-      let kept = canonical_within seen sight h.records h.canonical_of.accepted h.canonical h.canonical_of read record_limit (lit≤ tt)
-      (accepted_within record_limit parts h.records h.spelled) in
+      let kept = canonical_within seen sight h.records h.canonical_of.accepted h.canonical h.canonical_of read most_records (lit≤ tt)
+      (accepted_within most_records parts h.records h.spelled) in
       (All-from_recursion FitsRecord h.canonical kept.0, kept.1)
 
   module _ (p q : List (List ℕ)) (t u : List ℕ) (h : IsCanonicalTextThrough seen p t) (k : IsCanonicalTextThrough seen q u) where
@@ -186,7 +186,7 @@ module _ (seen : County → County) (sight : IsSight seen) where
       }) h
 
   -- the text of a strict list is the only one
-  module _ (parts : List (List ℕ)) (records answer : List Record) (spelled : SpellsWithin tiger record_limit parts records)
+  module _ (parts : List (List ℕ)) (records answer : List Record) (spelled : SpellsWithin tiger most_records parts records)
       (h : IsStrictThrough seen records answer) where
     pub strict_text : IsCanonicalTextThrough seen parts (text_of answer)
     strict_text = record {

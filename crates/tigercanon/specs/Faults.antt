@@ -44,13 +44,10 @@ RefusesRecords records Memory = Unit {0}
 -- the fault is a failed allocation
 abbrev pub IsWantOfMemory : Fault → Type 0
 IsWantOfMemory (Load LoadMemory) = Unit {0}
-IsWantOfMemory (Load _) = ⊥
 IsWantOfMemory (Link LinkMemory) = Unit {0}
-IsWantOfMemory (Link _) = ⊥
 IsWantOfMemory (Profile ProfileMemory) = Unit {0}
-IsWantOfMemory (Profile _) = ⊥
-IsWantOfMemory (Write _) = ⊥
 IsWantOfMemory Memory = Unit {0}
+IsWantOfMemory _ = ⊥
 
 -- the fault is a device's, or a failed allocation for the reading itself
 abbrev pub IsOfNoLines : Fault → Type 0

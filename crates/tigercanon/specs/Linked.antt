@@ -6,7 +6,7 @@ use Rattle.tl_load.specs.Outcome.{SpellsWithin}
 use Rattle.county_chart.specs.County.{county_of}
 use Rattle.county_chart.specs.LinkRules.{IsLinked}
 use Rattle.county_chart.specs.Packing.{Typed, type_after_type}
-use Rattle.tigercanon.specs.Respelling.{record_limit}
+use Rattle.tl_layout.specs.Limits.{most_records}
 
 -- the records fit together, and their county is that of the tables
 abbrev pub AreLinkedAs : Typed → List Record → Type 0
@@ -14,4 +14,4 @@ AreLinkedAs tables records = IsLinked records × (county_of (type_after_type tab
 
 -- the parts spell records which fit together, and whose county is that of the tables
 abbrev pub IsLinkedSet : List (List ℕ) → Typed → Type 0
-IsLinkedSet parts tables = (records : List Record) × SpellsWithin tiger record_limit parts records × AreLinkedAs tables records
+IsLinkedSet parts tables = (records : List Record) × SpellsWithin tiger most_records parts records × AreLinkedAs tables records

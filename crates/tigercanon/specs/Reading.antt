@@ -6,7 +6,7 @@ use Rattle.tl_load.specs.Keeping.{LoadedInto, WasFedInto}
 use Rattle.tl_load.specs.Loaded.{IsFaultHowever, IsWellSoFar}
 use Rattle.tl_load.specs.Sources.{Gave, RoseBy}
 use Rattle.tl_load.specs.declared.fault.LoadFault.{LoadFault}
-use Rattle.tigercanon.specs.Respelling.{record_limit}
+use Rattle.tl_layout.specs.Limits.{most_records}
 
 module _ {R : Type 0} (remaining : R → Option (List ℕ)) (given : R → ℕ) where
   -- the sources were read to their ends, and gave these parts
@@ -35,12 +35,12 @@ module _ {R : Type 0} (remaining : R → Option (List ℕ)) (given reads : R →
   -- no line was faulty before the last read
   abbrev pub WasWellBefore : List R → List R → Type 0
   WasWellBefore before after = (closed : List (List ℕ)) × (bytes : List ℕ) × AreReadButOnce before after closed bytes
-      × IsWellSoFar record_limit closed bytes
+      × IsWellSoFar most_records closed bytes
 
   -- every set that begins with what was read has this fault, and the read that brought it was the last
   abbrev pub IsFaultOfRead : List R → List R → LoadFault → Type 0
   IsFaultOfRead before after fault = (closed : List (List ℕ)) × (bytes : List ℕ) × AreReadUpTo remaining given before after closed bytes
-      × IsFaultHowever record_limit closed bytes fault × WasWellBefore before after
+      × IsFaultHowever most_records closed bytes fault × WasWellBefore before after
 
 -- no source has failed
 abbrev pub NoneFailed : {R : Type 0} → (R → ℕ) → List R → List R → Type 0
@@ -63,5 +63,5 @@ SomeUnread failed reads _ _ = ⊥
 
 -- if a loader had been fed closed parts, it has now been fed this part after them, closed too
 abbrev pub TakesPart : {K : Type 0} → (K → List Record → Type 0) → LoadedInto K → LoadedInto K → List ℕ → Type 0
-TakesPart holds before after part = (closed : List (List ℕ)) → WasFedInto holds record_limit before closed []
-    → WasFedInto holds record_limit after (closed ++ part ∷ []) []
+TakesPart holds before after part = (closed : List (List ℕ)) → WasFedInto holds most_records before closed []
+    → WasFedInto holds most_records after (closed ++ part ∷ []) []

@@ -12,13 +12,14 @@ use Rattle.county_chart.specs.LinkRules.{IsLinked, IsFirstBrokenRule}
 use Rattle.county_chart.specs.Profile.{IsFirstBrokenClause}
 use Rattle.canonical_form.specs.Accepted.{IsAccepted, IsCanonicalThrough}
 use Rattle.canonical_form.specs.Sights.{plain}
-use Rattle.tigercanon.specs.Respelling.{record_limit, IsFirstFault}
+use Rattle.tl_layout.specs.Limits.{most_records}
+use Rattle.tigercanon.specs.Respelling.{IsFirstFault}
 use Rattle.tigercanon.specs.declared.fault.Fault.{Fault}
 use Rattle.tigercanon.specs.declared.fault.Fault.TheVariants.{Load, Link, Profile, Write, Memory}
 
 -- the parts spell these records, which are accepted
 pub record IsAcceptedSet (parts : List (List ℕ)) (records : List Record) : Type 0 where
-  pub spelled : SpellsWithin tiger record_limit parts records
+  pub spelled : SpellsWithin tiger most_records parts records
   pub accepted : IsAccepted records
 
 -- what a set is refused for: the fault of its first faulty line; if the lines spell records, the first rule that these break; if
@@ -26,11 +27,10 @@ pub record IsAcceptedSet (parts : List (List ℕ)) (records : List Record) : Typ
 -- no refusals of a set.
 abbrev pub IsSetRefusal : List (List ℕ) → Fault → Type 0
 IsSetRefusal parts (Load fault) = IsFirstFault parts fault
-IsSetRefusal parts (Link fault) = (records : List Record) × SpellsWithin tiger record_limit parts records × IsFirstBrokenRule records fault
-IsSetRefusal parts (Profile fault) = (records : List Record) × SpellsWithin tiger record_limit parts records × IsLinked records
+IsSetRefusal parts (Link fault) = (records : List Record) × SpellsWithin tiger most_records parts records × IsFirstBrokenRule records fault
+IsSetRefusal parts (Profile fault) = (records : List Record) × SpellsWithin tiger most_records parts records × IsLinked records
     × IsFirstBrokenClause (county_of records) fault
-IsSetRefusal parts (Write _) = ⊥
-IsSetRefusal parts Memory = ⊥
+IsSetRefusal parts _ = ⊥
 
 -- the refusal without the part and line of a faulty line
 abbrev pub refusal_without_place : Fault → Fault
@@ -50,7 +50,7 @@ pub record SaysAccepted (parts : List (List ℕ)) (text : List ℕ) : Type 0 whe
 pub record IsCanonicalTextThrough (seen : County → County) (parts : List (List ℕ)) (text : List ℕ) : Type 0 where
   pub records : List Record
   pub canonical : List Record
-  pub spelled : SpellsWithin tiger record_limit parts records
+  pub spelled : SpellsWithin tiger most_records parts records
   pub canonical_of : IsCanonicalThrough seen records canonical
   pub text_is : text_of canonical ≡ text
 

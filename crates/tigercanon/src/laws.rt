@@ -3,7 +3,7 @@
 ghost use Rattle.std.specs.Prelude.{◌≡◌, ◌⊎◌, ◌↔◌, [], ◌∷◌, ℕ, List};
 ghost use Rattle.tigercanon.specs.declared.fault.Fault.{Fault};
 ghost use Rattle.tigercanon.specs.Normalising.{IsOnlyTextThrough};
-ghost use Rattle.tigercanon.specs.Respelling.{record_limit};
+ghost use Rattle.tl_layout.specs.Limits.{most_records};
 ghost use Rattle.tigercanon.specs.Sets.{IsAcceptedSet, IsCanonicalText, IsCanonicalTextThrough, IsSetRefusal, refusal_without_place};
 ghost use Rattle.county_chart.specs.MaskedCounty.{masked};
 ghost use Rattle.county_chart.specs.County.{County, county_of};
@@ -62,10 +62,10 @@ pub fn an_accepted_set_has_one_canonical_text()
 /// is.
 pub fn strict_sets_keep_their_texts()
     ensures text { (seen : County → County) (parts : List (List ℕ)) (records answer : List Record) →
-        IsSight seen → SpellsWithin tiger record_limit parts records → IsStrictThrough seen records answer →
+        IsSight seen → SpellsWithin tiger most_records parts records → IsStrictThrough seen records answer →
         IsCanonicalTextThrough seen parts (text_of answer) }
     ensures only { (seen : County → County) (parts : List (List ℕ)) (records answer : List Record) (text : List ℕ) →
-        IsSight seen → SpellsWithin tiger record_limit parts records → IsStrictThrough seen records answer →
+        IsSight seen → SpellsWithin tiger most_records parts records → IsStrictThrough seen records answer →
         IsCanonicalTextThrough seen parts text → text ≡ text_of answer }
 {}
 

@@ -6,7 +6,8 @@ ghost use Rattle.tigercanon.specs.Faults.{IsWantOfMemory, ReportsRefusalOfRead};
 ghost use Rattle.tigercanon.specs.Fingerprints.{IsFingerprintThrough};
 ghost use Rattle.tigercanon.specs.LentParts.{bytes_of_parts};
 ghost use Rattle.tigercanon.specs.Normalising.{IsOnlyTextThrough};
-ghost use Rattle.tigercanon.specs.Respelling.{record_limit, IsRespelt};
+ghost use Rattle.tl_layout.specs.Limits.{most_records};
+ghost use Rattle.tigercanon.specs.Respelling.{IsRespelt};
 ghost use Rattle.tigercanon.specs.Sets.{IsAcceptedSet, IsCanonicalText, IsCanonicalTextThrough, IsOneCanonicalTextThrough};
 ghost use Rattle.tigercanon_c.specs.Answers.{ReportsFirstFaultOfRead, bytes_of_lent};
 ghost use Rattle.county_chart.specs.MaskedCounty.{masked};
@@ -66,7 +67,7 @@ pub(crate) fn respell_parts<'t>(alloc: Global, parts: &[Part]) -> Result<&'t [u8
     ensures respelt { IfOk result (λ text. IsRespelt (bytes_of_lent parts.now) text.now) }
     ensures faulty { IfErr result (ReportsFirstFaultOfRead (bytes_of_lent parts.now)) }
     ensures succeeds { (records : List Record) →
-        SpellsWithin tiger record_limit (bytes_of_lent parts.now) records → IfErr result IsWantOfMemory }
+        SpellsWithin tiger most_records (bytes_of_lent parts.now) records → IfErr result IsWantOfMemory }
 {
     let slices = beside(alloc, parts)?;
     match respell(alloc, slices.as_slice()) {

@@ -8,7 +8,8 @@ ghost use Rattle.tigercanon.specs.Comparing.{AreDifferentThrough, AreOneMapThrou
 ghost use Rattle.tigercanon.specs.Faults.{ReportsRefusalOfRead};
 ghost use Rattle.tigercanon.specs.Fingerprints.{IsFingerprintThrough};
 ghost use Rattle.tigercanon.specs.Normalising.{IsOnlyTextThrough};
-ghost use Rattle.tigercanon.specs.Respelling.{record_limit, IsRespelt};
+ghost use Rattle.tl_layout.specs.Limits.{most_records};
+ghost use Rattle.tigercanon.specs.Respelling.{IsRespelt};
 ghost use Rattle.tigercanon.specs.Sets.{IsAcceptedSet, IsCanonicalText, IsCanonicalTextThrough, IsOneCanonicalTextThrough};
 ghost use Rattle.tigercanon_c.specs.Answers.{ReportsFirstFaultOfRead, ReportsOne, ReportsOneOfTwo, bytes_of_lent, mask_of};
 ghost use Rattle.tigercanon_c.specs.Reported.{no_fault};
@@ -120,7 +121,7 @@ pub extern "C" fn tigercanon_respell<'t>(
     ensures unreported { result ≡ 0 → fault.new ≡ no_fault }
     // If the parts spell records, the only possible fault is out of memory.
     ensures succeeds { (records : List Record) →
-        SpellsWithin tiger record_limit (bytes_of_lent parts.now) records → (result ≡ 0) ⊎ (result ≡ 5) }
+        SpellsWithin tiger most_records (bytes_of_lent parts.now) records → (result ≡ 0) ⊎ (result ≡ 5) }
 {
     match respell_parts(alloc, parts) {
         Ok(bytes) => answer_text(bytes, text, fault),

@@ -7,17 +7,17 @@ use Rattle.county_chart.specs.Renumbering.{Renumbering, Carries}
 use Rattle.county_chart.specs.LinkRules.{IsLinked}
 use Rattle.tl_load.specs.Choice.{tiger}
 use Rattle.tl_load.specs.Outcome.{SpellsWithin, IsSpelled, IsFaulty}
-use Rattle.tigercanon.specs.Respelling.{record_limit}
+use Rattle.tl_layout.specs.Limits.{most_records}
 use Rattle.tigercanon.specs.Sets.{CarriesSet, IsAcceptedSet}
 
 -- the laws of the libraries about sets and linked records
 module _ (spelled_or_one_fault : (limit : ℕ) (parts : List (List ℕ)) → IsSpelled tiger limit parts ⊎ IsFaulty tiger limit parts)
     (well_formed : (records : List Record) → IsLinked records → IsCounty (county_of records)) where
-  one_list : (parts : List (List ℕ)) (records others : List Record) → SpellsWithin tiger record_limit parts records
-      → SpellsWithin tiger record_limit parts others → records ≡ others
-  one_list parts records others a b = go (spelled_or_one_fault record_limit parts)
+  one_list : (parts : List (List ℕ)) (records others : List Record) → SpellsWithin tiger most_records parts records
+      → SpellsWithin tiger most_records parts others → records ≡ others
+  one_list parts records others a b = go (spelled_or_one_fault most_records parts)
     where
-      go : IsSpelled tiger record_limit parts ⊎ IsFaulty tiger record_limit parts → records ≡ others
+      go : IsSpelled tiger most_records parts ⊎ IsFaulty tiger most_records parts → records ≡ others
       go (inl s) = s.only records a.spells ∙ sym (s.only others b.spells)
       go (inr f) = absurd (f.none records a)
 

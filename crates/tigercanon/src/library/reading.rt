@@ -9,7 +9,8 @@ ghost use Rattle.std.specs.Prelude.{◌≡◌, ◌≢◌, ◌<◌, ◌≤◌, �
 ghost use Rattle.tigercanon.specs.Devices.{StopsReading};
 ghost use Rattle.tigercanon.specs.LentParts.{bytes_of_parts};
 ghost use Rattle.tigercanon.specs.Reading.{AreRead, IsFaultOfRead, IsUnread, NoneFailed, OneFailed, SomeUnread, TakesPart};
-ghost use Rattle.tigercanon.specs.Respelling.{record_limit, IsFirstFault};
+ghost use Rattle.tl_layout.specs.Limits.{most_records};
+ghost use Rattle.tigercanon.specs.Respelling.{IsFirstFault};
 ghost use Rattle.tl_layout.specs.declared.record_type.Record.{Record};
 ghost use Rattle.tl_load.specs.Choice.{tiger};
 ghost use Rattle.tl_load.specs.Keeping.{WasFedInto};
@@ -24,7 +25,7 @@ use tl_load::{Collector, LoadFault, LoaderFor, Source};
 /// Collects the records that the parts spell, in the order of their lines.
 pub(crate) fn load<K: Collector>(alloc: Global, parts: &[&[u8]]) -> Result<K, LoadFault>
     ensures spelled { IfOk result (λ kept. (records : List Record) × K.holds kept records
-        × SpellsWithin tiger record_limit (bytes_of_parts parts.now) records) }
+        × SpellsWithin tiger most_records (bytes_of_parts parts.now) records) }
     ensures faulty { IfErr result (λ f. IsOfLines f → IsFirstFault (bytes_of_parts parts.now) f) }
     ensures no_device { IfErr result IsNotDevice }
 {
@@ -51,7 +52,7 @@ pub(crate) fn load_sources<K: Collector, R: Source>(
 ) -> Result<K, LoadFault>
     requires { All (λ source. R.failed source < u64.MAX) sources.old }
     ensures loaded { IfOk result (λ kept. (parts : List (List ℕ)) × AreRead R.remaining R.given sources.old sources.new parts
-        × (records : List Record) × K.holds kept records × SpellsWithin tiger record_limit parts records) }
+        × (records : List Record) × K.holds kept records × SpellsWithin tiger most_records parts records) }
     ensures faulty { IfErr result (λ f. IsOfLines f → IsFaultOfRead R.remaining R.given R.reads sources.old sources.new f) }
     ensures device { result ≡ Err LoadFault.Device → OneFailed R.failed sources.old sources.new }
     ensures no_device { result ≢ Err LoadFault.Device → NoneFailed R.failed sources.old sources.new }
@@ -110,7 +111,7 @@ pub(crate) fn read_to_ends<K: Collector, R: Source>(
 ) -> Result<LoaderFor<K>, Fault>
     requires { All (λ source. R.failed source < u64.MAX) sources.old }
     ensures fed { IfOk result (λ loader. (parts : List (List ℕ)) × AreRead R.remaining R.given sources.old sources.new parts
-        × WasFedInto K.holds record_limit loader parts []) }
+        × WasFedInto K.holds most_records loader parts []) }
     ensures reported_none { IfOk result (λ loader. IfSome loader.fault IsNotDevice) }
     ensures no_device { result ≢ Err (Fault.Load LoadFault.Device) → NoneFailed R.failed sources.old sources.new }
     ensures stopped { IfErr result (StopsReading (SomeUnread R.failed R.reads sources.old sources.new)) }

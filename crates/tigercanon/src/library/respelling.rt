@@ -3,7 +3,8 @@
 ghost use Rattle.std.specs.Prelude.{◌≢◌, Err, List, IfOk, IfErr};
 ghost use Rattle.tigercanon.specs.Faults.{ReportsFirstFault, IsWantOfMemory};
 ghost use Rattle.tigercanon.specs.LentParts.{bytes_of_parts};
-ghost use Rattle.tigercanon.specs.Respelling.{record_limit, IsRespelt};
+ghost use Rattle.tl_layout.specs.Limits.{most_records};
+ghost use Rattle.tigercanon.specs.Respelling.{IsRespelt};
 ghost use Rattle.tl_layout.specs.declared.record_type.Record.{Record};
 ghost use Rattle.tl_load.specs.Choice.{tiger};
 ghost use Rattle.tl_load.specs.Outcome.{SpellsWithin};
@@ -25,7 +26,7 @@ pub fn respell(alloc: Global, parts: &[&[u8]]) -> Result<Vec<u8>, Fault>
     ensures no_device { result ≢ Err (Fault.Load LoadFault.Device) }
     // If the parts spell records, the only fault is a failed allocation.
     ensures succeeds { (records : List Record) →
-        SpellsWithin tiger record_limit (bytes_of_parts parts.now) records → IfErr result IsWantOfMemory }
+        SpellsWithin tiger most_records (bytes_of_parts parts.now) records → IfErr result IsWantOfMemory }
 {
     let text: CanonicalText = load(alloc, parts)?;
     Ok(text.bytes)

@@ -43,15 +43,15 @@ impl<'a, 'b> UnlinkedSet for &'a [&'b [u8]] {
 
 /// What a loader was fed, if it has no fault of a device.
 impl UnlinkedSet for LoaderFor<Tables> {
-    ghost use Rattle.tigercanon.specs.Respelling.{record_limit};
+    ghost use Rattle.tl_layout.specs.Limits.{most_records};
     ghost use Rattle.tl_layout.specs.Tables.{HoldsByType};
     ghost use Rattle.tl_load.specs.Keeping.{WasFedInto};
     ghost use Rattle.tl_load.specs.Loaded.{IsNotDevice};
 
-    ghost IsReady = { λ loader. ((parts : List (List ℕ)) × WasFedInto HoldsByType record_limit loader parts [])
+    ghost IsReady = { λ loader. ((parts : List (List ℕ)) × WasFedInto HoldsByType most_records loader parts [])
         × IfSome loader.fault IsNotDevice };
 
-    ghost Says = { λ loader parts. WasFedInto HoldsByType record_limit loader parts [] };
+    ghost Says = { λ loader parts. WasFedInto HoldsByType most_records loader parts [] };
 
     fn link(self, alloc: Global) -> Result<LinkedRecords, Fault> {
         let tables = self.finish()?;

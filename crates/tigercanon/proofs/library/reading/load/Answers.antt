@@ -1,4 +1,4 @@
-use Rattle.tigercanon.proofs.Common.{◌+◌, ◌∙◌, ap, [], subst, IsOfLines, WasFedInto, record_limit, IsFirstFault}
+use Rattle.tigercanon.proofs.Common.{◌+◌, ◌∙◌, ap, [], subst, IsOfLines, WasFedInto, most_records, IsFirstFault}
 use Rattle.tl_layout.proofs.Exits.{exit_with}
 use Rattle.tigercanon.proofs.Parts.{parts_of, parts_so_far, fault_of_all, fault_of_closed}
 use Rattle.tigercanon.proofs.library.reading.load.Goals as goal
@@ -17,7 +17,7 @@ returns-in_err-end_part-clause-faulty g c =
 pub loop-part-preserved : goal.loop-part-preserved
 loop-part-preserved g c =
     let fed = c.in_ok-feed.ensures.fed _ _ _ c.loop-part.invariant.0 in (
-      subst (λ ps. WasFedInto g.K.Collector.holds record_limit c.end_part.new.self ps []) (parts_so_far _ _ _ c.loop-part-test.true)
+      subst (λ ps. WasFedInto g.K.Collector.holds most_records c.end_part.new.self ps []) (parts_so_far _ _ _ c.loop-part-test.true)
           (c.in_ok-end_part.ensures.fed _ _ _ fed),
       c.in_ok-end_part.ensures.ok,
       c.in_ok-end_part.ensures.parts

@@ -1,7 +1,7 @@
-use Rattle.tigercanon.proofs.Common.{◌≡◌, map, take, [], None, WasFedInto, record_limit}
+use Rattle.tigercanon.proofs.Common.{◌≡◌, map, take, [], None, WasFedInto, most_records}
 use Rattle.tigercanon.proofs.library.reading.load.Given as goal
 
 -- the loader was fed the parts so far, each is closed, and no fault is recorded
 abbrev pub invariant-loop-part : goal.invariant-loop-part
-invariant-loop-part g l = WasFedInto g.K.Collector.holds record_limit l.loader (map (λ p. p.now) (take l.part-index l.parts)) []
+invariant-loop-part g l = WasFedInto g.K.Collector.holds most_records l.loader (map (λ p. p.now) (take l.part-index l.parts)) []
     × (l.loader.fault ≡ None) × (l.loader.parts ≡ l.part-index)

@@ -1,5 +1,5 @@
 use Rattle.tigercanon.proofs.Common.{◌≡◌, ◌+◌, ◌∙◌, ◌<◌, ℕ, [], ◌∷◌, ◌++◌, Err, inl, inr, sym, ap, arith, subst, length-append}
-use Rattle.tigercanon.proofs.Common.{err_from_is_err_and, MAX, record_limit}
+use Rattle.tigercanon.proofs.Common.{err_from_is_err_and, MAX, most_records}
 use Rattle.tl_load.specs.declared.fault.LoadFault.TheVariants as faults
 use Rattle.tigercanon.proofs.CanonicalTexts.{if_ok_by, if_err_by}
 use Rattle.tigercanon.proofs.ReadParts.{all_read, but_once_at, nothing_more, none_more, one_failed, one_more_at, untouched_at, up_to_at}
@@ -25,7 +25,7 @@ returns-in_err-read_part_by-clause-faulty g c =
     let f = c.in_err-read_part_by.ensures.fed in
     let fault = c.in_err-read_part_by.field-0.0 in
     let s = c.in_err-read_part_by.ensures.stops c.loop-source.invariant.no_fault in
-    elim (f.3 record_limit r.0 [] r.3) [
+    elim (f.3 most_records r.0 [] r.3) [
       | inl (end, fed) ↦ (
         r.0 ++ f.0 ∷ [],
         [],
@@ -37,7 +37,7 @@ returns-in_err-read_part_by-clause-faulty g c =
           s.taken,
           but_once_at g.R.Source.remaining g.R.Source.given g.R.Source.reads _ _ r.0 i d x s.last s.taken r.1 r.2 c.loop-source-test.true
               s.gave s.one_read,
-          s.should record_limit r.0 [] r.3,
+          s.should most_records r.0 [] r.3,
         ),
       )
       | inr fed ↦ (
@@ -50,7 +50,7 @@ returns-in_err-read_part_by-clause-faulty g c =
           s.taken,
           but_once_at g.R.Source.remaining g.R.Source.given g.R.Source.reads _ _ r.0 i d x s.last s.taken r.1 r.2 c.loop-source-test.true
               s.gave s.one_read,
-          s.should record_limit r.0 [] r.3,
+          s.should most_records r.0 [] r.3,
         ),
       )
     ])
@@ -80,7 +80,7 @@ loop-source-preserved g c =
     let x = c.read_part_by.new.source in
     let r = c.loop-source.invariant.read in
     let f = c.in_ok-read_part_by.ensures.fed in
-    let p = f.3 record_limit r.0 [] r.3 in
+    let p = f.3 most_records r.0 [] r.3 in
     record {
       read = (
         r.0 ++ f.0 ∷ [],
@@ -104,11 +104,11 @@ returns-clause-loaded g c =
       h.1,
       h.2,
     ))
-    (c.finish.ensures.loaded record_limit r.0 [] r.3)
+    (c.finish.ensures.loaded most_records r.0 [] r.3)
 
 pub returns-clause-faulty : goal.returns-clause-faulty
 returns-clause-faulty g c =
     let r = c.loop-source.invariant.read in
     if_err_by c.finish.result (λ f at. λ lines.
     absurd (none_standing g.K.Collector.holds c.loop-source.loader f r.0 c.loop-source.invariant.no_fault r.3 (at lines)))
-    (c.finish.ensures.fault record_limit r.0 [] r.3)
+    (c.finish.ensures.fault most_records r.0 [] r.3)

@@ -1,4 +1,4 @@
-use Rattle.tigercanon.proofs.Common.{◌≡◌, ◌∙◌, ℕ, ◌++◌, take, length, sym, subst, arith, RoseBy, record_limit}
+use Rattle.tigercanon.proofs.Common.{◌≡◌, ◌∙◌, ℕ, ◌++◌, take, length, sym, subst, arith, RoseBy, most_records}
 use Rattle.std.proofs.lemmas.List.{length-take}
 use Rattle.tl_load.proofs.ReadSteps.{gave_more}
 use Rattle.tigercanon.proofs.FileParts.{rose_again, still_no_device}
@@ -15,7 +15,7 @@ loop-made-preserved g c =
       fed = (
         f.0 ++ piece,
         gave_more _ _ _ _ _ _ _ f.1 c.in-Ok.ensures.bytes.0 counted,
-        λ closed w. c.feed.ensures.fed record_limit closed f.0 (f.2 closed w),
+        λ closed w. c.feed.ensures.fed most_records closed f.0 (f.2 closed w),
       );
       parts = c.feed.ensures.parts ∙ c.loop-made.invariant.parts;
       no_device = still_no_device (λ l. l.fault) c.loop-made.loader c.feed.new.self c.feed.result c.loop-made.invariant.no_device

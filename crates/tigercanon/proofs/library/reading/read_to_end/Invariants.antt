@@ -1,12 +1,12 @@
-use Rattle.tigercanon.proofs.Common.{◌≡◌, List, ℕ, [], IfSome, WasFedInto, IsNotDevice, Gave, RoseBy, record_limit}
+use Rattle.tigercanon.proofs.Common.{◌≡◌, List, ℕ, [], IfSome, WasFedInto, IsNotDevice, Gave, RoseBy, most_records}
 use Rattle.tigercanon.proofs.library.reading.read_to_end.Given as goal
 
 -- the loader was fed the bytes of this many reads of the source, and the source hasn't failed
 abbrev pub invariant-loop-made : goal.invariant-loop-made
 invariant-loop-made g l = record {
   fed : (taken : List ℕ) × Gave g.R.Source.remaining g.R.Source.given l.initial.source l.source taken
-      × ((closed : List (List ℕ)) → WasFedInto g.K.Collector.holds record_limit l.initial.loader closed []
-      → WasFedInto g.K.Collector.holds record_limit l.loader closed taken);
+      × ((closed : List (List ℕ)) → WasFedInto g.K.Collector.holds most_records l.initial.loader closed []
+      → WasFedInto g.K.Collector.holds most_records l.loader closed taken);
   parts : l.loader.parts ≡ l.initial.loader.parts;
   no_device : IfSome l.loader.fault IsNotDevice;
   failures : g.R.Source.failed l.source ≡ g.R.Source.failed l.initial.source;

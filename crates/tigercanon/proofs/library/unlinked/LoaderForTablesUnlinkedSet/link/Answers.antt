@@ -1,9 +1,9 @@
-use Rattle.tigercanon.proofs.Common.{[], record_limit}
+use Rattle.tigercanon.proofs.Common.{[], most_records}
 use Rattle.tigercanon.proofs.Refusing.{within_limits}
 use Rattle.tigercanon.proofs.library.unlinked.LoaderForTablesUnlinkedSet.link.Goals as goal
 
 pub link_records-requires : goal.link_records-requires
 link_records-requires c =
     let fed = c.requires.0 in
-    let k = c.in_ok-tables.ensures.loaded record_limit fed.0 [] fed.1 in
+    let k = c.in_ok-tables.ensures.loaded most_records fed.0 [] fed.1 in
     within_limits fed.0 _ k.0 k.1 k.2
