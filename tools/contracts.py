@@ -41,8 +41,10 @@ class Scope:
     def __init__(self, text):
         imports = IMPORT.findall(text)
         self.modules = {alias: module for module, _, alias in imports if alias}
-        parts = [(module, part.split()) for module, listed, _ in imports for part in listed.split(",") if part.strip()]
-        self.names = {words[-1]: (module, words[0]) for module, words in parts}
+        self.names = {}
+        for module, part in [(module, part.split()) for module, listed, _ in imports for part in listed.split(",") if part.strip()]:
+            below, _, name = part[0].rpartition(".")  # `use Rattle.M.{N.d}` takes d of the module M.N.
+            self.names[part[-1].rpartition(".")[2]] = (f"{module}.{below}" if below else module, name)
 
 
 class Word:
