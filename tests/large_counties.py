@@ -116,6 +116,7 @@ LONG = 35_001  # The long chain.
 POINTS, FURTHER_NAMES, RANGES = 9_900, 4_900, 900
 TWINS = {500: ("Ash", "Birch", "Cedar"), 1_500: ("Main", "Main", "Main", "Main")}
 TIED_PLACE, TIED = 500, 7
+EACH = 999  # Further names or ranges of each chain made to be slow.
 OF_CHAIN = {"SOURCE": SOURCE.decode("latin-1"), "CFCC": "A41", **dict.fromkeys(("CENSUS1", "CENSUS2"), RESERVED.decode("latin-1"))}
 OF_LINK = {"FILE": maps.FILE, "SOURCE": OF_CHAIN["SOURCE"], "RS_I1": OF_CHAIN["CENSUS1"]}
 
@@ -219,10 +220,11 @@ def hostile(count: int) -> dict[str, County]:
     """Counties made to be slow: seven chains of one shape, as above, with hundreds of names or ranges each, or with hundreds of landmarks
     beside them. Each of the 5,040 orders is compared by these."""
 
-    def further_names(each: int) -> County:
-        """Names of their own, all with one content. Only the names of the last chain tell the orders apart."""
-        named = [{"names": list(range(first, first + each))} for first in range(0, TIED * each, each)]
-        return ties(count, named, [{"FILE": maps.FILE, "FENAME": "Ash"}] * (TIED * each))
+    def further_names(contents: int) -> County:
+        """Names of their own, with this many contents. Only the names of the last chain tell the orders apart."""
+        named = [{"names": list(range(first, first + EACH))} for first in range(0, TIED * EACH, EACH)]
+        each_of = [name for name in range(TIED * EACH) for _ in range(contents)][: TIED * EACH]
+        return ties(count, named, [{"FILE": maps.FILE, "FENAME": f"Ash {name:04}"} for name in each_of])
 
     def parks(number: int, links: int) -> County:
         """Landmarks, each on this many of the polygons beside the seven chains."""
@@ -231,14 +233,14 @@ def hostile(count: int) -> dict[str, County]:
         linked = [sorted((first + link) % (2 * TIED) for link in range(links)) for first in range(number)]
         return ties(count, sides, [], polygons, [maps.Landmark(landmark_fields("Park", at), polygons=on) for at, on in enumerate(linked)])
 
-    ranges = [{"FRADDL": f"{number:>11}", "FRIADDL": "1"} for number in range(1, RANGES + 1)]
+    ranges = [{"FRADDL": f"{number:>11}", "FRIADDL": "1"} for number in range(1, EACH + 1)]
     return {
-        "100 further names": further_names(100),
-        "300 further names": further_names(300),
-        "900 ranges": ties(count, [{"ranges": ranges} for _ in range(TIED)]),
+        "999 further names": further_names(TIED * EACH),
+        "999 names in pairs": further_names(2),
+        "999 ranges": ties(count, [{"ranges": ranges} for _ in range(TIED)]),
         "1,000 landmarks": parks(1_000, 1),
-        "3,000 landmarks": parks(3_000, 1),
         "300 landmarks of 14 links": parks(300, 2 * TIED),
+        "1,000 landmarks of 14 links": parks(1_000, 2 * TIED),
     }
 
 
@@ -250,11 +252,11 @@ def ties(
     landmarks: Sequence[maps.Landmark] = (),
 ) -> County:
     """A street with seven chains of one shape, all between nodes of their own unless it says otherwise: all 5,040 orders of them have the
-    same records of type 1. The last chain has all names."""
+    same records of type 1. The last chain has all names, or as many as its records hold."""
     nodes, link = itertools.count(TIED_PLACE + 1), {"FILE": maps.FILE}
     tied = [street_chain(TIED_PLACE, **{"start": next(nodes), "end": next(nodes), **more}, link=link) for more in seven]
     further = next(nodes) - TIED_PLACE - 1
     chains = [street_chain(place, place, place + 1, link=link) for place in range(TIED_PLACE)] + tied
     chains += [street_chain(place, place + further, place + further + 1, link=link) for place in range(TIED_PLACE + 1, count)]
-    chains[-1].names = list(range(len(names)))
+    chains[-1].names = list(range(min(len(names), FURTHER_NAMES)))
     return spelled(maps.County(chains, list(names), list(polygons), list(landmarks), outside=" " * 15))
